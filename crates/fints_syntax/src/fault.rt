@@ -1,0 +1,75 @@
+//! Why bytes could not be read, and want of memory.
+ghost use Rattle.std.specs.Prelude.{◌≡◌};
+ghost use Rattle.fints_syntax.specs.declared.fault.SyntaxKind.TheVariants as kind;
+
+use std::alloc::{AllocError, AllocFailed};
+use thiserror::Error;
+
+/// Want of memory: a growth was refused. All crates share this one error.
+#[derive(Clone, Copy, Debug, PartialEq, Eq, Error)]
+#[error("memory")]
+pub struct Memory;
+
+impl From<AllocError> for Memory {
+    fn from(_e: AllocError) -> Memory {
+        Memory
+    }
+}
+
+impl<T: Drop> From<AllocFailed<T>> for Memory {
+    fn from(_e: AllocFailed<T>) -> Memory {
+        Memory
+    }
+}
+
+/// What is wrong with bytes that are read as segments (FinTS 3.0, Formals, the syntax of segments).
+#[derive(Clone, Copy, Debug, PartialEq, Eq)]
+pub enum SyntaxKind {
+    /// A growth was refused. It has offset 0, and `parse_segment` never answers it.
+    Memory,
+    /// An `@` begins an item, but no binary item; its offset is that of the `@`.
+    BadBinary,
+    /// The segment that starts at the offset passes 1,048,576 bytes or 20,000 items.
+    TooLong,
+    /// The input ends within the segment that starts at the offset.
+    Incomplete,
+    /// The segment that starts at the offset is whole, and its head is bad.
+    BadHead,
+    /// A capture passes 4,194,304 bytes, which is the offset. `parse_segment` never answers it.
+    CaptureTooLong,
+}
+
+/// A fault, with its offset in the bytes that were read, counted from 0.
+#[derive(Clone, Copy, Debug, PartialEq, Eq, Error)]
+#[error("{kind:?} at {offset}")]
+pub struct SyntaxFault {
+    pub kind: SyntaxKind,
+    pub offset: usize,
+}
+
+impl From<Memory> for SyntaxFault {
+    ghost from_gives = { λ _ f. f ≡ record { kind = kind.Memory; offset = 0 } };
+
+    fn from(_e: Memory) -> SyntaxFault {
+        SyntaxFault {
+            kind: SyntaxKind::Memory,
+            offset: 0,
+        }
+    }
+}
+
+impl From<AllocError> for SyntaxFault {
+    ghost from_gives = { λ _ f. f ≡ record { kind = kind.Memory; offset = 0 } };
+
+    fn from(_e: AllocError) -> SyntaxFault {
+        SyntaxFault::from(Memory)
+    }
+}
+
+impl<T: Drop> From<AllocFailed<T>> for SyntaxFault {
+    ghost from_gives = { λ _ f. f ≡ record { kind = kind.Memory; offset = 0 } };
+
+    fn from(_e: AllocFailed<T>) -> SyntaxFault {
+        SyntaxFault::from(Memory)
+    }
+}

@@ -1,0 +1,31 @@
+//! The segment syntax: items, elements and segments, read and written.
+#![tactic(auto)]
+
+mod bytes;
+mod capture;
+mod fault;
+mod head;
+mod item;
+mod kind;
+pub mod laws;
+mod locate;
+mod owned;
+mod scan;
+mod text;
+mod view;
+mod window;
+mod writing;
+
+pub use bytes::Bytes;
+pub use capture::{MAX_CAPTURE, Placed, parse_all, parse_placed};
+pub use fault::{Memory, SyntaxFault, SyntaxKind};
+pub use head::parse_kind;
+pub use item::{Elements, Head, OwnedItem, OwnedSegment};
+pub use kind::Kind;
+pub use scan::parse_number;
+pub use text::{Item, RawText, Unescaped};
+pub use view::{SegmentView, parse_segment};
+pub use writing::{decimal_len, write_item, write_segment, written_len};
+
+#[cfg(test)]
+mod tests;
