@@ -4,15 +4,11 @@ use Rattle.std.proofs.lemmas.Option.{same_Some}
 use Rattle.fints_syntax.specs.Spelling.{Spelled}
 use Rattle.fints_syntax.specs.Segment.{values_of, head_of}
 use Rattle.fints_syntax.specs.Capture.{IsCapture}
+use Rattle.fints_syntax.specs.Laws.{OneCapture}
 use Rattle.fints_syntax.specs.Owned.{IsOwned}
 use Rattle.fints_syntax.specs.declared.item.Head.{Head}
 use Rattle.fints_syntax.specs.declared.item.OwnedSegment.{OwnedSegment}
-use Rattle.fints_syntax.specs.declared.item.OwnedItem.{OwnedItem}
 use Rattle.fints_cli.specs.Bank.{IsPairCapture}
-
--- the law that a capture is one list of segments
-abbrev pub OneCapture : Type 0
-OneCapture = (input : List ℕ) (s t : List (List (List Spelled))) → IsCapture input s → IsCapture input t → s ≡ t
 
 same_segment : (a b : OwnedSegment) → a.head ≡ b.head → a.elements ≡ b.elements → a ≡ b
 same_segment a b h e = λ i. record { head = h i; elements = e i }

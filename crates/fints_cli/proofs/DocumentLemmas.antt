@@ -4,7 +4,7 @@ use Rattle.std.proofs.lemmas.Str.{IsUtf8-from_is_utf8, is_utf8-from_IsUtf8}
 use Rattle.std.specs.Str.{IsUtf8, is_utf8}
 use Rattle.std.specs.List.{list_all}
 use Rattle.std.specs.Map.{keys_of}
-use Rattle.toml.specs.Data.{Members, Items}
+use Rattle.toml.specs.Data.{Members}
 use Rattle.toml.specs.Parse.{parse_document}
 use Rattle.toml.specs.View.{view, members_view, items_view}
 use Rattle.toml.specs.declared.value.Value.{Value}

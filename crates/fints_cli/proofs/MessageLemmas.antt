@@ -1,13 +1,12 @@
 -- The frame of a message takes 43 bytes, whatever size it states.
-use Rattle.std.proofs.Common.{◌≡◌, ℕ, zero, suc, ◌+◌, ◌-◌, ◌<◌, ◌^◌, ◌≤◌, ◌&&◌, ◌||◌, true, false, cond, nat_le, eqb, List, [], ◌∷◌, ◌++◌, length, drop, map, codes, refl, ap, ◌∙◌, sym, arith, rules, append_assoc}
+use Rattle.std.proofs.Common.{◌≡◌, ℕ, zero, suc, ◌+◌, ◌<◌, ◌^◌, ◌||◌, false, eqb, List, [], ◌∷◌, ◌++◌, length, drop, map, codes, refl, ap, ◌∙◌, sym, arith, rules, append_assoc}
 use Rattle.std.specs.Prelude.{replicate}
-use Rattle.std.specs.List.{flat_map}
 use Rattle.std.specs.Fmt.{decimal}
 use Rattle.std.specs.Char.{digit_value}
 use Rattle.std.specs.Str.Parse.{AllDigits}
 use Rattle.std.proofs.lemmas.Bool.Decides.{nat_tests}
 use Rattle.std.proofs.lemmas.Fmt.{decimal_is_IsNumeral, decimal_digit}
-use Rattle.std.proofs.lemmas.List.{length-append, length-drop, append-nil, length-replicate}
+use Rattle.std.proofs.lemmas.List.{length-append, length-drop, length-replicate}
 use Rattle.fints_syntax.specs.Spelling.{written_unit, unit_bytes, text_bytes, is_separator}
 use Rattle.fints_syntax.specs.Written.{written_segment}
 use Rattle.fints_syntax.specs.declared.item.OwnedSegment.{OwnedSegment}

@@ -1,5 +1,5 @@
 -- The values of TOML that are elements.
-use Rattle.std.proofs.Common.{◌≡◌, ◌<◌, ◌≤◌, ◌+◌, ℕ, false, nat_le, List, [], ◌∷◌, length, get_or, take, map, sum, sum_by, ap, sym, ◌∙◌, arith}
+use Rattle.std.proofs.Common.{◌≡◌, ◌<◌, ◌+◌, ℕ, false, nat_le, List, length, get_or, take, map, sum, sum_by, ap, sym, ◌∙◌, arith}
 use Rattle.std.proofs.lemmas.Bool.Decides.{nat_tests}
 use Rattle.std.proofs.lemmas.List.Sums.{sum_by_more_le, sum-map}
 use Rattle.std.proofs.lemmas.Simd.{map-map}

@@ -1,10 +1,10 @@
 -- The capture of a plain input: the bank's parameters (HIBPA version 3) and the PIN/TAN parameters (HIPINS version 1).
-use Rattle.std.specs.Prelude.{◌≡◌, ℕ, ◌-◌, ◌≤◌, Bool, ◌||◌, ◌&&◌, is_some, List, [], ◌∷◌, length, codes, Option, Some, slice_get, unwrap_or, IsTrue, ◌==◌}
+use Rattle.std.specs.Prelude.{◌≡◌, ℕ, ◌-◌, ◌≤◌, Bool, ◌||◌, ◌&&◌, is_some, List, [], ◌∷◌, length, codes, Some, slice_get, unwrap_or, IsTrue, ◌==◌}
 use Rattle.std.specs.List.{list_all}
 use Rattle.std.specs.Str.{bytes_eq}
 use Rattle.fints_syntax.specs.Spelling.{Spelled}
 use Rattle.fints_syntax.specs.Segment.{item_value, values_of, head_of}
-use Rattle.fints_syntax.specs.Head.{number_from}
+use Rattle.fints_syntax.specs.Number.{number_from}
 use Rattle.fints_syntax.specs.Capture.{IsCapture}
 use Rattle.fints_syntax.specs.Owned.{IsOwned}
 use Rattle.fints_syntax.specs.declared.item.Head.{Head}

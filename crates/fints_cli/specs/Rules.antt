@@ -3,7 +3,7 @@ use Rattle.std.specs.Prelude.{ℕ, ◌*◌, Bool, true, false, ◌&&◌, not, �
 use Rattle.std.specs.List.{list_any, flat_map}
 use Rattle.std.specs.Option.{option_map_or}
 use Rattle.fints_syntax.specs.Segment.{item_value}
-use Rattle.fints_syntax.specs.Head.{number_from}
+use Rattle.fints_syntax.specs.Number.{number_from}
 use Rattle.fints_syntax.specs.declared.item.OwnedSegment.{OwnedSegment}
 use Rattle.fints_cli.specs.Bank.{element_at, first_value}
 use Rattle.fints_cli.specs.Report.{Finding}

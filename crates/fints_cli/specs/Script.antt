@@ -1,14 +1,14 @@
 -- A plain script: one step with one segment of literals.
 use Rattle.std.specs.Prelude.{ℕ, ◌==◌, nat_le, Bool, false, ◌&&◌, ◌||◌, not, if◌then◌else◌, List, [], ◌∷◌, length, map, sum_by, codes, string_bytes, Option, Some, None, unwrap_or, is_some}
-use Rattle.std.specs.List.{list_all, list_any}
+use Rattle.std.specs.List.{list_all}
 use Rattle.std.specs.Char.{is_ascii_digit, is_ascii_lowercase}
 use Rattle.std.specs.Str.{bytes_eq}
-use Rattle.toml.specs.Data.{Data, string, Members, get_member, as_str}
+use Rattle.toml.specs.Data.{Data, Members, get_member, as_str}
 use Rattle.fints_syntax.specs.declared.item.OwnedItem.{OwnedItem}
 use Rattle.fints_syntax.specs.declared.item.OwnedItem.TheVariants.{Text}
 use Rattle.fints_syntax.specs.declared.item.Head.{Head}
 use Rattle.fints_syntax.specs.declared.item.OwnedSegment.{OwnedSegment}
-use Rattle.fints_syntax.specs.Head.{kind_from}
+use Rattle.fints_syntax.specs.Kind.{kind_from}
 use Rattle.fints_cli.specs.declared.script.Step.{Step}
 use Rattle.fints_cli.specs.Document.{◌>>=◌, document, only_keys, values_at, table_at, natural}
 

@@ -38,9 +38,5 @@ pub fn check_text(
     let name = step.name.as_str();
     let broken = findings(alloc, &bank, name, size)?;
     let figures = Some(Figures { number: 1, size });
-    Ok(report(
-        alloc,
-        &[StepLine { name, figures }],
-        broken.as_slice(),
-    )?)
+    Ok(report(alloc, &[StepLine { name, figures }], broken.as_slice())?)
 }

@@ -8,7 +8,7 @@ ghost use Rattle.fints_cli.specs.Script.{is_name_byte, is_target_word, is_step_n
 
 use crate::document::{member, natural, only_keys, read, table_at, values_at};
 use crate::fault::Fault;
-use fints_syntax::{Bytes, Elements, Head, Memory, OwnedItem, OwnedSegment, parse_kind};
+use fints_syntax::{Bytes, Elements, Head, Kind, Memory, OwnedItem, OwnedSegment};
 use std::alloc::Global;
 use toml::{Table, Value};
 
@@ -40,10 +40,7 @@ fn is_target_word(name: &str) -> bool
 fn is_step_name(name: &str) -> bool
     ensures { result ≡ is_step_name name.now }
 {
-    1 <= name.len()
-        && name.len() <= 40
-        && are_name_bytes(name.as_bytes())
-        && !is_target_word(name)
+    1 <= name.len() && name.len() <= 40 && are_name_bytes(name.as_bytes()) && !is_target_word(name)
 }
 
 #[tactic(auto, unfolding(crate::specs::Script::step_name))]
@@ -128,10 +125,7 @@ fn is_each_element(values: &[Value]) -> bool
 fn are_elements(values: &[Value]) -> bool
     ensures { result ≡ are_elements (map view values.now) }
 {
-    1 <= values.len()
-        && values.len() <= 100
-        && is_each_element(values)
-        && is_short(values, 1000)
+    1 <= values.len() && values.len() <= 100 && is_each_element(values) && is_short(values, 1000)
 }
 
 fn element_items(alloc: Global, value: &Value) -> Result<Vec<OwnedItem>, Memory>
@@ -176,7 +170,7 @@ fn head_of(table: &Table) -> Option<Head>
     ensures { result ≡ head_of (table_view table.now) }
 {
     let kind = member(table, "kind")?.as_str()?;
-    let id = parse_kind(kind.as_bytes())?;
+    let id = Kind::parse(kind.as_bytes())?;
     let version = natural(member(table, "version")?)?;
     if !is_plain_kind(kind, version) {
         return None;

@@ -1,15 +1,16 @@
 -- A capture is one list of segments, and bytes with a fault are none.
-use Rattle.std.proofs.Common.{◌≡◌, ◌≢◌, ℕ, ◌≤◌, ◌&&◌, ◌||◌, true, false, Bool, cond, nat_le, List, [], ◌∷◌, ◌++◌, length, take, map, Option, Some, None, option_and_then, refl, ap, ◌∙◌, sym, subst, arith, inl, inr, append_assoc}
+use Rattle.std.proofs.Common.{◌≡◌, ◌≢◌, ℕ, ◌≤◌, ◌||◌, true, false, Bool, cond, List, [], ◌∷◌, ◌++◌, length, map, Option, Some, None, option_and_then, refl, ap, ◌∙◌, sym, subst, arith, inl, inr, append_assoc}
 use Rattle.std.specs.Prelude.{IsSome}
 use Rattle.std.specs.Char.{is_ascii_digit, is_ascii_uppercase}
-use Rattle.std.specs.List.{AllByRecursion, flat_map, list_all}
+use Rattle.std.specs.List.{AllByRecursion, flat_map}
 use Rattle.std.proofs.lemmas.Bool.{and_parts}
 use Rattle.std.proofs.lemmas.Bool.Decides.{nat_tests}
-use Rattle.std.proofs.lemmas.List.{take_all, append-nil, append_cancel_left, length-append}
-use Rattle.fints_syntax.specs.Spelling.{Spelled, text, binary, TextUnit, escaped, plain, spelled_bytes, text_value}
-use Rattle.fints_syntax.specs.Segment.{tokens_bytes, element_tokens, segment_tokens, segment_bytes, item_value, values_of, element_head, head_of, IsSegment}
+use Rattle.std.proofs.lemmas.List.{take_all, append-nil, append_cancel_left}
+use Rattle.fints_syntax.specs.Spelling.{Spelled, text, binary, escaped, plain, spelled_bytes, text_value}
+use Rattle.fints_syntax.specs.Segment.{tokens_bytes, element_tokens, segment_tokens, segment_bytes, item_value, element_head, IsSegment}
 use Rattle.fints_syntax.specs.Spelling.{item_of}
-use Rattle.fints_syntax.specs.Head.{kind_from, head_from, head_with, number_from, reference_from}
+use Rattle.fints_syntax.specs.Kind.{kind_from}
+use Rattle.fints_syntax.specs.Head.{head_with}
 use Rattle.fints_syntax.specs.Faults.{KindAt, BeginsWithSegment, window_of}
 use Rattle.fints_syntax.specs.Capture.{MAX_CAPTURE, IsBreak, IsClean, Piece, piece_bytes, IsPiece, IsCapture, FaultsAt, IsCaptureFault, CaptureFaultAt}
 use Rattle.fints_syntax.specs.declared.fault.SyntaxFault.{SyntaxFault}

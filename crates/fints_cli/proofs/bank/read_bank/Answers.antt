@@ -1,4 +1,4 @@
-use Rattle.std.proofs.Common.{◌≡◌, true, false, Err, ap, sym, ◌∙◌}
+use Rattle.std.proofs.Common.{◌≡◌, Err, ap, sym, ◌∙◌}
 use Rattle.std.proofs.lemmas.Bool.{false≢true}
 use Rattle.fints_cli.specs.Bank.{is_plain_pair}
 use Rattle.fints_cli.specs.declared.fault.Fault.TheVariants.{NotYet}

@@ -1,5 +1,4 @@
-use Rattle.std.proofs.Common.{arith, ◌≡◌, ◌+◌, ◌<◌, ◌^◌, length}
-use Rattle.fints_syntax.specs.Written.{written_segment}
+use Rattle.std.proofs.Common.{arith, ◌+◌}
 use Rattle.fints_cli.proofs.MessageLemmas.{is_size}
 use Rattle.fints_cli.proofs.message.message_size.Goals as goal
 
