@@ -19,7 +19,6 @@ mod writing;
 pub use bytes::Bytes;
 pub use capture::{MAX_CAPTURE, Placed, parse_all, parse_placed};
 pub use fault::{Memory, SyntaxFault, SyntaxKind};
-pub use head::parse_kind;
 pub use item::{Elements, Head, OwnedItem, OwnedSegment};
 pub use kind::Kind;
 pub use scan::parse_number;
