@@ -2,5 +2,9 @@ pub mod Protocols
 pub mod Pairs
 pub mod Mapped
 pub mod Lists
+pub mod Offsets
 pub mod Refusing
 pub mod RowsSoFar
+pub mod FoundCodes
+pub mod Sizes
+pub mod Bounds

@@ -1,13 +1,17 @@
 -- What is read so far, and where a reader stops.
-use Rattle.std.proofs.Common.{◌≡◌, ℕ, ◌+◌, ◌<◌, ◌≤◌, List, [], ◌∷◌, ◌++◌, length, take, drop, map, get_or, refl, ap, ◌∙◌, sym, subst, arith, inl, inr, append_assoc, Some, None}
+use Rattle.std.proofs.Common.{◌≡◌, ℕ, ◌+◌, ◌<◌, ◌≤◌, List, [], ◌∷◌, ◌++◌, length, take, drop, map, get_or, refl, ap, ◌∙◌, sym, subst, arith, inl, inr, append_assoc, true, false, Option, Some, None}
 use Rattle.std.proofs.lemmas.List.{append-nil, map-append, length-append, take_all}
 use Rattle.fints_syntax.specs.declared.item.OwnedSegment.{OwnedSegment}
 use Rattle.fints_params.specs.declared.fault.ParamFault.{ParamFault}
 use Rattle.fints_params.specs.declared.placed.PlacedSegment.{PlacedSegment}
-use Rattle.fints_params.specs.Faults.{IsMemoryOr}
+use Rattle.fints_syntax.specs.declared.fault.SyntaxKind.{SyntaxKind}
+use Rattle.fints_syntax.specs.declared.fault.SyntaxKind.TheVariants as kinds
+use Rattle.fints_syntax.specs.Capture.{CaptureFaultAt}
+use Rattle.fints_params.specs.Sealed.{is_sealed, data_of}
+use Rattle.fints_params.specs.Faults.{IsMemoryOr, fault_from}
 use Rattle.fints_params.specs.Opened.{Part, part, closed, StandsFor, StandFor}
 use Rattle.fints_params.specs.Captures.{Rule, NoneRefused, part_fault, IsRefusedAfter, IsRefusedIn}
-use Rattle.fints_params.specs.Steps.{Continues, StopsIn, ContinuesOver, StopsAt, ReadsAll, IsClosedBy}
+use Rattle.fints_params.specs.Steps.{Continues, StopsIn, ContinuesOver, StopsAt, ReadsAll, OpensTo, IsClosedBy}
 use Rattle.fints_params.proofs.Lists.{split_at, next_is, push_split}
 
 pub none_nil : (rule : Rule) → NoneRefused rule []
@@ -100,3 +104,29 @@ stop_read rule Good a placed i p f lt e h m = memory_or (StopsAt rule Good a p) 
 -- data that can't be opened
 pub closed_stops : {S : Type 0} (rule : Rule) (Good : List OwnedSegment → S → Type 0) (a : S) (f : ParamFault) → ((seen : List OwnedSegment) → Good seen a → NoneRefused rule seen) → StopsIn rule Good a (closed f ∷ []) f
 closed_stops rule Good a f none = λ seen g. record { before = []; at = closed f; after = []; split = refl; none = subst (NoneRefused rule) (sym (append-nil seen)) (none seen g); fault = refl }
+
+-- ---- a segment, and an HNVSD
+
+pub single_ok : {S : Type 0} (Good : List OwnedSegment → S → Type 0) (a b : S) (p : PlacedSegment) → is_sealed p.segment ≡ false → Continues Good a b (p.segment ∷ []) → ContinuesOver Good a b p
+single_ok Good a b p e k = (p.segment ∷ [], inl (e, refl), k)
+
+pub single_stop : {S : Type 0} (rule : Rule) (Good : List OwnedSegment → S → Type 0) (a : S) (p : PlacedSegment) (f : ParamFault) → is_sealed p.segment ≡ false → IsMemoryOr (StopsIn rule Good a (part p.segment ∷ [])) f → IsMemoryOr (StopsAt rule Good a p) f
+single_stop rule Good a p f e m = memory_or (StopsIn rule Good a (part p.segment ∷ [])) (StopsAt rule Good a p) f (λ g k. (part p.segment ∷ [], inl (e, refl), k)) m
+
+pub opened_ok : {S : Type 0} (Good : List OwnedSegment → S → Type 0) (a b : S) (p : PlacedSegment) (xs : List OwnedSegment) → is_sealed p.segment ≡ true → OpensTo p xs → Continues Good a b xs → ContinuesOver Good a b p
+opened_ok Good a b p xs e o k = (xs, inr (e, o), k)
+
+pub opened_stop : {S : Type 0} (rule : Rule) (Good : List OwnedSegment → S → Type 0) (a : S) (p : PlacedSegment) (xs : List OwnedSegment) (f : ParamFault) → is_sealed p.segment ≡ true → OpensTo p xs → IsMemoryOr (StopsIn rule Good a (map part xs)) f → IsMemoryOr (StopsAt rule Good a p) f
+opened_stop rule Good a p xs f e o m = memory_or (StopsIn rule Good a (map part xs)) (StopsAt rule Good a p) f (λ g k. (map part xs, inr (e, o), k)) m
+
+pub closed_stop : {S : Type 0} (rule : Rule) (Good : List OwnedSegment → S → Type 0) (a : S) (p : PlacedSegment) (f : ParamFault) → ((seen : List OwnedSegment) → Good seen a → NoneRefused rule seen) → is_sealed p.segment ≡ true → IsMemoryOr (IsClosedBy p) f → IsMemoryOr (StopsAt rule Good a p) f
+closed_stop rule Good a p f none e m = memory_or (IsClosedBy p) (StopsAt rule Good a p) f (λ g k. (closed g ∷ [], inr (e, k), closed_stops rule Good a g none)) m
+
+-- the fault of data, counted in the capture
+pub closed_by : (p : PlacedSegment) (bytes : List ℕ) (kind : SyntaxKind) (o : ℕ) → data_of p.segment ≡ Some bytes → CaptureFaultAt kind o bytes → IsMemoryOr (IsClosedBy p) (fault_from kind (p.place + o))
+closed_by p bytes kinds.Memory o e h = inl refl
+closed_by p bytes kinds.BadBinary o e h = inr (rw e (inr (record { kind = kinds.BadBinary; offset = o }, (h, λ q. cc), refl)))
+closed_by p bytes kinds.TooLong o e h = inr (rw e (inr (record { kind = kinds.TooLong; offset = o }, (h, λ q. cc), refl)))
+closed_by p bytes kinds.Incomplete o e h = inr (rw e (inr (record { kind = kinds.Incomplete; offset = o }, (h, λ q. cc), refl)))
+closed_by p bytes kinds.BadHead o e h = inr (rw e (inr (record { kind = kinds.BadHead; offset = o }, (h, λ q. cc), refl)))
+closed_by p bytes kinds.CaptureTooLong o e h = inr (rw e (inr (record { kind = kinds.CaptureTooLong; offset = o }, (h, λ q. cc), refl)))

@@ -1,5 +1,5 @@
 -- The rows, as far as the segments are read.
-use Rattle.std.proofs.Common.{◌≡◌, ℕ, ◌+◌, min, ◌<◌, ◌≤◌, Bool, true, false, ◌||◌, not, List, [], ◌∷◌, ◌++◌, length, map, refl, ap, ◌∙◌, sym, subst, arith, inl, inr, Option, Some, None}
+use Rattle.std.proofs.Common.{◌≡◌, ℕ, ◌+◌, min, ◌<◌, ◌≤◌, Bool, true, false, ◌||◌, ◌&&◌, not, List, [], ◌∷◌, ◌++◌, length, map, refl, ap, ◌∙◌, sym, subst, arith, inl, inr, Option, Some, None}
 use Rattle.std.specs.Prelude.{IfErr}
 use Rattle.std.specs.List.{filter, filter_map, flat_map, cons_option, count_by}
 use Rattle.std.proofs.lemmas.List.{append-nil, map-append, length-map}
@@ -75,3 +75,39 @@ same_bank (Some b) (x ∷ xs) f e = refl
 -- what the bank so far says of a fault
 fault_is : (before : List OwnedSegment) (g : Gathered) (s : OwnedSegment) → IsGathered before g → fault_with g.bank s ≡ fault_after before s
 fault_is before g s h = let e = same_bank g.bank (filter is_bank before) bank_row h.bank in rw e refl
+
+no_second : (o n : Option BankRow) (s : OwnedSegment) (b : Bool) → is_bank s ≡ b → cons_option n [] ≡ cons_option o [] ++ read_each is_bank bank_row (s ∷ []) → (is_bank s && tells o) ≡ false
+no_second o n s false e h = rw e refl
+no_second None n s true e h = rw e refl
+no_second (Some r) None s true e h = absurd cc
+no_second (Some r) (Some x) s true e h = let k = rw e at h in absurd cc
+
+-- a segment that adds its rows isn't refused
+not_refused : (seen : List OwnedSegment) (s : OwnedSegment) (old new : Gathered) → IsGathered seen old → Adds s old new → fault_after seen s ≡ None
+not_refused seen s old new h a =
+    let no = no_second old.bank new.bank s (is_bank s) refl a.bank in
+    let fine = a.fine in
+    let own : fault_with old.bank s ≡ None = rw (no, fine) refl in
+    sym (fault_is seen old s h) ∙ own
+
+pub so_far_more : (s : OwnedSegment) (old new : Gathered) → Adds s old new → Continues SoFar old new (s ∷ [])
+so_far_more s old new a = λ seen h. record { none = none_push fault_after seen s h.none (not_refused seen s old new h.rows a); rows = rows_more seen s old new h.rows a }
+
+refused_here : (s : OwnedSegment) (old : Gathered) (f : ParamFault) → fault_with old.bank s ≡ Some f → StopsIn fault_after SoFar old (part s ∷ []) f
+refused_here s old f e = λ seen h.
+    record {
+      before = [];
+      at = part s;
+      after = [];
+      split = refl;
+      none = subst (NoneRefused fault_after) (sym (append-nil seen)) h.none;
+      fault = ap (λ (zs : List OwnedSegment). fault_after zs s) (append-nil seen) ∙ sym (fault_is seen old s h.rows) ∙ e;
+    }
+
+pub so_far_stop : (s : OwnedSegment) (old : Gathered) (f : ParamFault) → IsTakeFault s old.bank f → IsMemoryOr (StopsIn fault_after SoFar old (part s ∷ [])) f
+so_far_stop s old Memory h = inl refl
+so_far_stop s old (Syntax x) h = inr (refused_here s old (Syntax x) h)
+so_far_stop s old (BadElement n m) h = inr (refused_here s old (BadElement n m) h)
+so_far_stop s old TwoBankParameters h = inr (refused_here s old TwoBankParameters h)
+so_far_stop s old NoBankParameters h = inr (refused_here s old NoBankParameters h)
+so_far_stop s old NoPinParameters h = inr (refused_here s old NoPinParameters h)

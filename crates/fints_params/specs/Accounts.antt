@@ -6,7 +6,7 @@ use Rattle.fints_syntax.specs.declared.item.OwnedItem.{OwnedItem}
 use Rattle.fints_syntax.specs.declared.item.OwnedItem.TheVariants.{Text}
 use Rattle.fints_syntax.specs.declared.item.OwnedSegment.{OwnedSegment}
 use Rattle.fints_syntax.specs.Segment.{item_value}
-use Rattle.fints_syntax.specs.Head.{kind_from}
+use Rattle.fints_syntax.specs.Kind.{kind_from}
 use Rattle.fints_params.specs.declared.rows.Entry.{Entry}
 use Rattle.fints_params.specs.declared.rows.AccountRow.{AccountRow}
 use Rattle.fints_params.specs.Reading.{is_named, value_at, number_in, number_or_zero, is_empty, tells}

@@ -1,5 +1,8 @@
 -- What a reader that goes from segment to segment has read so far, and where it stops.
-use Rattle.std.specs.Prelude.{◌≡◌, ◌<◌, ◌^◌, ◌∷◌, [], ◌++◌, List, map}
+use Rattle.std.specs.Prelude.{◌+◌, ◌<◌, ◌≤◌, ◌^◌, ◌∷◌, [], ◌++◌, List, length, map}
+use Rattle.fints_syntax.specs.Segment.{segment_bytes}
+use Rattle.fints_syntax.specs.Capture.{MAX_CAPTURE}
+use Rattle.fints_syntax.specs.declared.capture.Placed as syntax
 use Rattle.fints_syntax.specs.declared.item.OwnedSegment.{OwnedSegment}
 use Rattle.fints_params.specs.declared.fault.ParamFault.{ParamFault}
 use Rattle.fints_params.specs.declared.placed.PlacedSegment.{PlacedSegment}
@@ -7,7 +10,7 @@ use Rattle.fints_params.specs.Faults.{IsMemoryOr}
 use Rattle.fints_params.specs.Parameters.{skipped_in}
 use Rattle.fints_params.specs.Sealed.{data_of}
 use Rattle.fints_params.specs.Opened.{Part, part, closed, StandsFor, SealedStandsFor, StandFor}
-use Rattle.fints_params.specs.Captures.{Rule, IsRefusedAfter, IsRefusedIn, IsAccepted}
+use Rattle.fints_params.specs.Captures.{Rule, IsRefusedAfter}
 
 -- a state that is right for what was seen is right after these segments too
 abbrev pub Continues : {S : Type 0} → (List OwnedSegment → S → Type 0) → S → S → List OwnedSegment → Type 0
@@ -34,6 +37,10 @@ OpensTo p segments = SealedStandsFor p (data_of p.segment) (map part segments)
 
 abbrev pub IsClosedBy : PlacedSegment → ParamFault → Type 0
 IsClosedBy p f = SealedStandsFor p (data_of p.segment) (closed f ∷ [])
+
+-- the segment ends within the longest capture
+abbrev pub IsWithin : syntax.Placed → Type 0
+IsWithin view = view.start + length (segment_bytes view.segment) ≤ MAX_CAPTURE
 
 -- fewer things than a number can count are skipped
 abbrev pub CanCountSkipped : List PlacedSegment → Type 0

@@ -8,7 +8,7 @@ ghost use Rattle.fints_params.specs.Faults.{IsBad};
 use crate::fault::{ParamFault, bad_element};
 use crate::reading::{copy, value_in, value_of};
 use crate::rows::{AccountRow, Entries, Entry, National};
-use fints_syntax::{Kind, OwnedItem, OwnedSegment, parse_kind, parse_number};
+use fints_syntax::{Kind, OwnedItem, OwnedSegment, parse_number};
 use std::alloc::{AllocError, Global};
 
 /// What HIUPA says: 0 or 1.
@@ -34,7 +34,7 @@ fn entry_kind_of(text: &[u8]) -> Option<Kind>
     if text.len() != 5 && text.len() != 6 {
         return None;
     }
-    parse_kind(text)
+    Kind::parse(text)
 }
 
 fn read_entry(items: &[OwnedItem]) -> Option<Entry>

@@ -1,6 +1,6 @@
 //! The rows of a capture, gathered segment by segment.
-ghost use Rattle.std.specs.Prelude.{◌≡◌, IfOk, IfErr};
-ghost use Rattle.fints_params.specs.Taken.{Adds, IsTakeFault};
+ghost use Rattle.std.specs.Prelude.{[], IfOk, IfErr};
+ghost use Rattle.fints_params.specs.Taken.{Adds, IsTakeFault, SoFar};
 
 use crate::fault::ParamFault;
 use crate::gathered::Gathered;
@@ -8,6 +8,21 @@ use crate::opening::Reader;
 use crate::taking::{take_account, take_bank, take_order, take_pins, take_skipped, take_usage};
 use fints_syntax::OwnedSegment;
 use std::alloc::Global;
+
+/// The rows of no segment.
+pub fn no_rows(alloc: Global) -> Gathered
+    ensures { SoFar [] result }
+{
+    Gathered {
+        bank: None,
+        orders: Vec::new(alloc),
+        pins: Vec::new(alloc),
+        has_pins: false,
+        usages: Vec::new(alloc),
+        accounts: Vec::new(alloc),
+        skipped: 0,
+    }
+}
 
 fn take(alloc: Global, segment: &OwnedSegment, rows: &mut Gathered) -> Result<(), ParamFault>
     ensures adds { IfOk result (λ _. Adds segment.now rows.old rows.new) }
@@ -24,7 +39,6 @@ fn take(alloc: Global, segment: &OwnedSegment, rows: &mut Gathered) -> Result<()
 
 impl Reader for Gathered {
     ghost use Rattle.fints_params.specs.Parameters.{fault_after};
-    ghost use Rattle.fints_params.specs.Taken.{SoFar};
 
     ghost rule = { fault_after };
 

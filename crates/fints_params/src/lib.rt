@@ -3,14 +3,17 @@
 
 mod accounts;
 mod bank;
+mod capture;
 
 mod code;
 mod fault;
+mod feedback;
 
 mod gathered;
 mod gathering;
 mod opening;
 mod orders;
+mod params;
 
 mod pins;
 mod placed;
@@ -20,6 +23,8 @@ mod taking;
 
 pub use code::Code;
 pub use fault::ParamFault;
+pub use feedback::feedback_codes;
+pub use params::Params;
 pub use rows::{
     AccountRow, BankRow, Entries, Entry, National, Numbers, OrderParam, PinRow, Usage,
 };

@@ -3,7 +3,7 @@ ghost use Rattle.std.specs.Prelude.{◌≡◌, [], ◌∷◌, List, map, option_
 ghost use Rattle.std.specs.List.{AllZip};
 ghost use Rattle.fints_syntax.specs.Owned.{IsOwned};
 ghost use Rattle.fints_syntax.specs.declared.item.OwnedSegment.{OwnedSegment};
-ghost use Rattle.fints_params.specs.Sealed.{data_of};
+ghost use Rattle.fints_params.specs.Sealed.{is_sealed, data_of};
 ghost use Rattle.fints_params.specs.Faults.{IsMemoryOr};
 ghost use Rattle.fints_params.specs.Opened.{part};
 ghost use Rattle.fints_params.specs.Captures.{Rule, NoneRefused, IsRefusedIn};
@@ -40,12 +40,18 @@ fn owned_of(alloc: Global, views: &[SegmentView<'_>]) -> Result<Vec<OwnedSegment
     Ok(owned)
 }
 
+fn is_sealed(segment: &OwnedSegment) -> bool
+    ensures { result ≡ is_sealed segment.now }
+{
+    has_name(segment, b"HNVSD".as_slice(), 1)
+}
+
 // The data of an HNVSD, where item 1 of its element 2 is binary.
 fn data(segment: &OwnedSegment) -> Option<&[u8]>
     ensures { option_copied result ≡ data_of segment.now }
 {
-    match items_at(segment, 2) {
-        [OwnedItem::Bin(bytes), ..] => Some(bytes.as_slice()),
+    match items_at(segment, 2).first() {
+        Some(OwnedItem::Bin(bytes)) => Some(bytes.as_slice()),
         _ => None,
     }
 }
@@ -91,7 +97,7 @@ fn add_placed<R: Reader>(
     ensures ok { IfOk result (λ _. ContinuesOver R.good reader.old reader.new placed.now) }
     ensures stopped { IfErr result (λ f. IsMemoryOr (StopsAt R.rule R.good reader.old placed.now) f) }
 {
-    if !has_name(&placed.segment, b"HNVSD".as_slice(), 1) {
+    if !is_sealed(&placed.segment) {
         return reader.add(alloc, &placed.segment);
     }
     let segments = open(alloc, placed)?;

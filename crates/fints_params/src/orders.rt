@@ -5,7 +5,7 @@ ghost use Rattle.fints_params.specs.Reading.{tells};
 
 use crate::reading::value_of;
 use crate::rows::OrderParam;
-use fints_syntax::{Kind, OwnedSegment, parse_kind, parse_number};
+use fints_syntax::{Kind, OwnedSegment, parse_number};
 
 /// The kind of the orders that the identifier speaks of.
 pub fn kind_of(id: Kind) -> Option<Kind>
@@ -22,7 +22,7 @@ pub fn kind_of(id: Kind) -> Option<Kind>
             if id.as_bytes() == b"HIPINS".as_slice() {
                 return None;
             }
-            parse_kind(&[*first, b'K', *x, *y, *z])
+            Kind::parse(&[*first, b'K', *x, *y, *z])
         }
         _ => None,
     }

@@ -8,7 +8,7 @@ ghost use Rattle.fints_params.specs.Faults.{IsBad};
 use crate::fault::{ParamFault, bad_element};
 use crate::reading::{items_at, value_in};
 use crate::rows::PinRow;
-use fints_syntax::{OwnedSegment, parse_kind};
+use fints_syntax::{Kind, OwnedSegment};
 use std::alloc::AllocError;
 
 // A pair may stand in HIPINS.
@@ -21,7 +21,7 @@ fn is_good(kind: &[u8], flag: &[u8]) -> bool
 fn row_of(kind: &[u8], flag: &[u8]) -> Option<PinRow>
     ensures { result ≡ pin_row (record { kind = kind.now; flag = flag.now }) }
 {
-    let kind = parse_kind(kind)?;
+    let kind = Kind::parse(kind)?;
     Some(PinRow {
         kind,
         tan: flag == b"J".as_slice(),

@@ -1,7 +1,7 @@
 //! Elements and items by value: both count from 1, the head is element 1, and what is absent is empty.
 ghost use Rattle.std.specs.Prelude.{◌≡◌, ◌≤◌, ◌-◌, [], get_or, map, IfOk};
 ghost use Rattle.fints_syntax.specs.Segment.{item_value};
-ghost use Rattle.fints_params.specs.Reading.{is_named, values_at, value_at, number_or_zero};
+ghost use Rattle.fints_params.specs.Reading.{is_named, items_in, values_at, value_at, number_or_zero};
 
 use fints_syntax::{Bytes, OwnedItem, OwnedSegment};
 use std::alloc::{AllocError, Global};
@@ -16,7 +16,8 @@ pub fn has_name(segment: &OwnedSegment, id: &[u8], version: u16) -> bool
 /// The items of an element after the head.
 pub fn items_at(segment: &OwnedSegment, element: usize) -> &[OwnedItem]
     requires { 2 ≤ element }
-    ensures { map item_value result.now ≡ values_at segment.now element }
+    ensures items { result.now ≡ items_in segment.now element }
+    ensures values { map item_value result.now ≡ values_at segment.now element }
 {
     match segment.elements.as_slice().get(element - 2) {
         Some(items) => items.as_slice(),
