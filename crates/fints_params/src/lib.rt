@@ -29,3 +29,5 @@ pub use rows::{
     AccountRow, BankRow, Entries, Entry, National, Numbers, OrderParam, PinRow, Usage,
 };
 
+#[cfg(test)]
+mod tests;
