@@ -2,3 +2,5 @@ pub mod DocumentLemmas
 pub mod BankLemmas
 pub mod MessageLemmas
 pub mod ScriptLemmas
+pub mod StreamLemmas
+pub mod ShowLemmas

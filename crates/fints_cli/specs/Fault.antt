@@ -1,10 +1,22 @@
 -- What an answer says of the value that is looked for.
 use Rattle.std.specs.Prelude.{◌≡◌, Option, None, Some, Result, Ok, Err}
+use Rattle.fints_params.specs.declared.fault.ParamFault.{ParamFault}
+use Rattle.fints_params.specs.declared.fault.ParamFault.TheVariants as params
 use Rattle.fints_cli.specs.declared.fault.Fault.{Fault}
-use Rattle.fints_cli.specs.declared.fault.Fault.TheVariants.{NotYet, Memory}
+use Rattle.fints_cli.specs.declared.fault.Fault.TheVariants.{NotYet, Memory, Params}
 
 -- the value was found; or there is none; or memory ran out
 abbrev pub Gives : {X Y : Type 0} → (X → Y) → Result X Fault → Option Y → Type 0
 Gives view (Ok x) found = found ≡ Some (view x)
 Gives view (Err NotYet) found = found ≡ None
 Gives view (Err Memory) found = Unit {0}
+Gives view (Err (Params f)) found = ⊥
+
+-- want of memory is one fault, wherever it is met
+abbrev pub fault_of : ParamFault → Fault
+fault_of params.Memory = Memory
+fault_of (params.Syntax f) = Params (params.Syntax f)
+fault_of (params.BadElement segment element) = Params (params.BadElement segment element)
+fault_of params.TwoBankParameters = Params params.TwoBankParameters
+fault_of params.NoBankParameters = Params params.NoBankParameters
+fault_of params.NoPinParameters = Params params.NoPinParameters

@@ -6,3 +6,7 @@ pub mod Script
 pub mod Message
 pub mod Rules
 pub mod Thin
+pub mod Streams
+pub mod Show
+pub mod BuiltIn
+pub mod Commands

@@ -4,12 +4,24 @@
 mod bank;
 pub mod built_in;
 mod checking;
+mod commands;
 mod document;
+mod emitting;
 mod fault;
 mod message;
+mod reading;
 mod report;
 mod rules;
 mod script;
+mod showing;
+mod streams;
+mod words;
 
 pub use checking::check_text;
+pub use commands::{Failure, Reply, execute, perform};
+pub use emitting::emit;
 pub use fault::Fault;
+pub use reading::{LoadFault, MAX_CALLS, load};
+pub use showing::show;
+pub use streams::{Files, Out, ReadFault, WriteFault};
+pub use words::Request;

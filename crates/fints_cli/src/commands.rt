@@ -1,0 +1,195 @@
+//! The commands, from words to a status.
+ghost use Rattle.std.specs.Prelude.{◌≡◌, ◌≤◌, ◌<◌, ◌+◌, ◌⊎◌, [], None, IfOk, IfErr};
+ghost use Rattle.fints_cli.specs.Streams.{Gets, GetsNothing, GetsPrefix, IsFile, one_more};
+ghost use Rattle.fints_cli.specs.BuiltIn as texts;
+ghost use Rattle.fints_cli.specs.declared.words.Request.TheVariants as request;
+ghost use Rattle.fints_cli.specs.Thin.{IsReportOf};
+ghost use Rattle.fints_cli.specs.Commands.{failure_status, ShowsFile, AnswersTo, IsUnloaded, FailsToShow, FailsFor, GetsBuiltInReport};
+
+use crate::built_in;
+use crate::checking::check_text;
+use crate::emitting::emit;
+use crate::fault::Fault;
+use crate::reading::{LoadFault, MAX_CALLS, load};
+use crate::showing::show;
+use crate::streams::{Files, Out};
+use crate::words::{Asked, Request, read_words};
+use std::alloc::Global;
+use thiserror::Error;
+
+// A capture has at most this many bytes.
+const MAX_CAPTURE: usize = 4_194_304;
+
+/// Why a command has no answer.
+#[derive(Clone, Copy, Debug, Error)]
+pub enum Failure {
+    /// An input is refused, or memory ran out.
+    #[error("{0}")]
+    Input(Fault),
+    /// The file of an option couldn't be read.
+    #[error("read --{0}")]
+    Unread(&'static str),
+}
+
+impl Failure {
+    /// The status of a command that ends so: 3 for a refused input, 4 for want of memory, and 5
+    /// for a file that couldn't be read.
+    pub fn status(&self) -> u8
+        ensures { result ≡ failure_status self.now }
+    {
+        match self {
+            Failure::Input(Fault::Memory) => 4,
+            Failure::Input(_) => 3,
+            Failure::Unread(_) => 5,
+        }
+    }
+}
+
+/// The text that a command puts on the output, with its status.
+#[derive(Debug, Drop)]
+pub struct Reply {
+    pub status: u8,
+    pub text: Vec<u8>,
+}
+
+// Loads the file of an option.
+fn load_option<F: Files>(
+    alloc: Global,
+    files: &mut F,
+    option: &'static str,
+    path: &str,
+    limit: usize,
+) -> Result<Vec<u8>, Failure>
+    ensures calls { F.calls files.new ≤ F.calls files.old + MAX_CALLS }
+    ensures keeps { F.holds files.new ≡ F.holds files.old }
+    ensures exact { IfOk result (λ bytes. IsFile (F.holds files.old path.now) bytes.items) }
+    ensures unread { IfErr result (λ f. IsUnloaded option.now f) }
+{
+    match load(alloc, files, path, limit) {
+        Ok(bytes) => Ok(bytes),
+        Err(LoadFault::Memory) => Err(Failure::Input(Fault::Memory)),
+        Err(LoadFault::Unreadable) => Err(Failure::Unread(option)),
+    }
+}
+
+#[tactic(auto, unfolding(crate::specs::BuiltIn::capture, crate::specs::BuiltIn::script))]
+fn report_built_in(alloc: Global) -> Result<Reply, Failure>
+    ensures status { IfOk result (λ reply. reply.status ≡ 0) }
+    ensures report { IfOk result (λ reply. IsReportOf texts.capture texts.script reply.text.items) }
+    ensures no_file { IfErr result (λ f. FailsFor request.BuiltIn (λ _. None) f) }
+{
+    match check_text(alloc, built_in::CAPTURE, built_in::ORDERS, built_in::SCRIPT) {
+        Ok(text) => Ok(Reply { status: 0, text }),
+        Err(fault) => Err(Failure::Input(fault)),
+    }
+}
+
+#[tactic(auto, using(crate::proofs::ShowLemmas::file_fault))]
+fn show_file<F: Files>(alloc: Global, files: &mut F, params: &str) -> Result<Reply, Failure>
+    ensures status { IfOk result (λ reply. reply.status ≡ 0) }
+    ensures shown { IfOk result (λ reply. ShowsFile (F.holds files.old params.now) reply.text.items) }
+    ensures refused { IfErr result (λ f. FailsToShow (F.holds files.old params.now) f) }
+    ensures calls { F.calls files.new ≤ F.calls files.old + MAX_CALLS }
+    ensures keeps { F.holds files.new ≡ F.holds files.old }
+{
+    let capture = load_option(alloc, files, "params", params, MAX_CAPTURE)?;
+    match show(alloc, capture.as_slice()) {
+        Ok(text) => Ok(Reply { status: 0, text }),
+        Err(fault) => Err(Failure::Input(fault)),
+    }
+}
+
+/// Answers a request over the files, all of which are read before any is looked at.
+pub fn perform<F: Files>(
+    alloc: Global,
+    request: &Request<'_>,
+    files: &mut F,
+) -> Result<Reply, Failure>
+    ensures status { IfOk result (λ reply. reply.status ≡ 0) }
+    ensures answers { IfOk result (λ reply. AnswersTo request.now (F.holds files.old) reply.text.items) }
+    ensures refused { IfErr result (λ f. FailsFor request.now (F.holds files.old) f) }
+    ensures calls { F.calls files.new ≤ F.calls files.old + MAX_CALLS }
+    ensures keeps { F.holds files.new ≡ F.holds files.old }
+{
+    match request {
+        Request::BuiltIn => report_built_in(alloc),
+        Request::Show { params } => show_file(alloc, files, params),
+    }
+}
+
+// Writes a line to the errors; a fault there changes nothing.
+fn tell<E: Out>(line: &[u8], err: &mut E) {
+    let _ = emit(line, err);
+}
+
+fn tell_memory<E: Out>(err: &mut E) -> u8
+    ensures { result ≡ 4 }
+{
+    tell(b"error: memory\n", err);
+    4
+}
+
+// Says on the errors why there is no answer.
+fn tell_failure<E: Out>(alloc: Global, failure: &Failure, err: &mut E) -> u8
+    ensures { (result ≡ failure_status failure.now) ⊎ (result ≡ 4) }
+{
+    match format!(in alloc; "error: {failure}\n") {
+        Ok(line) => {
+            tell(line.as_bytes(), err);
+            failure.status()
+        }
+        Err(_) => tell_memory(err),
+    }
+}
+
+// Writes the text to the output.
+fn deliver<O: Out, E: Out>(text: &[u8], status: u8, out: &mut O, err: &mut E) -> u8
+    requires { status < 5 }
+    ensures statuses { (result ≡ status) ⊎ (result ≡ 5) }
+    ensures written { result ≡ status → Gets (O.told out.old) (O.told out.new) text.now }
+    ensures fine { result ≡ status → O.failed_calls out.new ≡ O.failed_calls out.old }
+    ensures cut { result ≡ 5 → GetsPrefix (O.told out.old) (O.told out.new) text.now }
+    ensures failed { result ≡ 5 → O.failed_calls out.new ≡ one_more (O.failed_calls out.old) }
+{
+    if emit(text, out).is_err() {
+        tell(b"error: write\n", err);
+        return 5;
+    }
+    status
+}
+
+/// Does what the words after the program's name ask for, and gives the status: 0 where the answer
+/// or the help stands on the output, 2 for bad words, 3 for a refused input, 4 for want of memory,
+/// and 5 where a file couldn't be read or the output failed. Each status from 2 on has its line on
+/// the errors, where those take it.
+pub fn execute<F: Files, O: Out, E: Out>(
+    alloc: Global,
+    words: &[&str],
+    files: &mut F,
+    out: &mut O,
+    err: &mut E,
+) -> u8
+    ensures status { result ≤ 5 }
+    ensures silent { (result ≡ 2) ⊎ ((result ≡ 3) ⊎ (result ≡ 4))
+        → GetsNothing (O.told out.old) (O.told out.new) }
+    ensures fine { result ≤ 4 → O.failed_calls out.new ≡ O.failed_calls out.old }
+    ensures failed { result ≡ 5 → GetsNothing (O.told out.old) (O.told out.new)
+        ⊎ (O.failed_calls out.new ≡ one_more (O.failed_calls out.old)) }
+    ensures built_in { words.now ≡ [] → result ≡ 0
+        → GetsBuiltInReport (O.told out.old) (O.told out.new) }
+    ensures unread { result ≡ 2 → F.calls files.new ≡ F.calls files.old }
+    ensures calls { F.calls files.new ≤ F.calls files.old + MAX_CALLS }
+{
+    match read_words(alloc, words) {
+        Asked::Help(text) => deliver(text.as_bytes(), 0, out, err),
+        Asked::Usage(text) => {
+            tell(text.as_bytes(), err);
+            2
+        }
+        Asked::Memory => tell_memory(err),
+        Asked::Run(request) => match perform(alloc, &request, files) {
+            Ok(reply) => deliver(reply.text.as_slice(), reply.status, out, err),
+            Err(failure) => tell_failure(alloc, &failure, err),
+        },
+    }
+}

@@ -1,0 +1,99 @@
+//! What the words of the command line ask for.
+ghost use Rattle.std.specs.Prelude.{◌≡◌, []};
+ghost use Rattle.fints_cli.specs.declared.words.Asked.TheVariants as asked;
+ghost use Rattle.fints_cli.specs.declared.words.Request.TheVariants as request;
+
+use clap::error::ErrorKind;
+use clap::{Arg, ArgAction, ArgMatches, Command, Error};
+use std::alloc::{AllocError, Global};
+
+/// A command with its files.
+#[derive(Debug, Drop)]
+pub enum Request<'a> {
+    /// The report of the built-in texts.
+    BuiltIn,
+    /// What a capture says.
+    Show { params: &'a str },
+}
+
+/// What the words ask for.
+#[derive(Debug, Drop)]
+pub enum Asked<'a> {
+    /// Help, which goes to the output.
+    Help(String),
+    /// A usage fault, which goes to the errors.
+    Usage(String),
+    /// There was no memory to tell.
+    Memory,
+    /// A command.
+    Run(Request<'a>),
+}
+
+// An option that takes a file.
+fn file_option<'a>(alloc: Global, name: &'a str, help: &'a str) -> Arg<'a> {
+    Arg::new(alloc, name)
+        .long(name)
+        .value_name("FILE")
+        .help(help)
+        .required(true)
+        .action(ArgAction::Set)
+}
+
+fn command_line<'a>(alloc: Global) -> Result<Command<'a>, AllocError> {
+    let show = Command::new(alloc, "show")
+        .about("Shows what a capture says of the bank and the user")
+        .arg(file_option(alloc, "params", "The capture"))?;
+    Command::new(alloc, "fints")
+        .bin_name("fints")?
+        .about("Checks FinTS 3.0 dialogue scripts")
+        .no_binary_name(true)
+        .disable_help_subcommand(true)
+        .subcommand_required(true)
+        .subcommand(show)
+}
+
+// What is told in place of a command.
+fn told<'a>(alloc: Global, error: &Error) -> Asked<'a> {
+    if error.kind() == ErrorKind::OutOfMemory {
+        return Asked::Memory;
+    }
+    match error.to_string(alloc) {
+        Ok(text) if error.use_stderr() => Asked::Usage(text),
+        Ok(text) => Asked::Help(text),
+        Err(_) => Asked::Memory,
+    }
+}
+
+/// What the words after the program's name ask for: with no words, the report of the built-in
+/// texts.
+pub fn read_words<'a>(alloc: Global, words: &'a [&'a str]) -> Asked<'a>
+    ensures { words.now ≡ [] → result ≡ asked.Run request.BuiltIn }
+{
+    if words.is_empty() {
+        return Asked::Run(Request::BuiltIn);
+    }
+    let Ok(command) = command_line(alloc) else {
+        return Asked::Memory;
+    };
+    let matches = match command.try_get_matches_from(words) {
+        Ok(matches) => matches,
+        Err(error) => return told(alloc, &error),
+    };
+    let Some((name, options)) = matches.subcommand() else {
+        return Asked::Memory;
+    };
+    match named_request(name, options) {
+        Some(request) => Asked::Run(request),
+        None => Asked::Memory,
+    }
+}
+
+// The command with its options, each of which the command line requires.
+fn named_request<'a>(name: &str, options: &ArgMatches<'a>) -> Option<Request<'a>> {
+    let params = options.get_str("params")?;
+    if name == "show" {
+        Some(Request::Show { params })
+    } else {
+        None
+    }
+}
