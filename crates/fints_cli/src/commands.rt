@@ -21,7 +21,7 @@ use thiserror::Error;
 const MAX_CAPTURE: usize = 4_194_304;
 
 /// Why a command has no answer.
-#[derive(Clone, Copy, Debug, Error)]
+#[derive(Clone, Copy, Debug, PartialEq, Eq, Error)]
 pub enum Failure {
     /// An input is refused, or memory ran out.
     #[error("{0}")]

@@ -1,5 +1,16 @@
-//! Tests that cross crates: whole inputs with the outputs that they must have.
+//! Tests that cross crates: whole inputs with the outputs that they must have, over files and
+//! streams in memory that fail when they are told to.
 #![tactic(auto)]
 
+mod shelf;
+mod tape;
+
+pub use shelf::{Quirk, Shelf};
+pub use tape::Tape;
+
+#[cfg(test)]
+mod captures;
+#[cfg(test)]
+mod commands;
 #[cfg(test)]
 mod reports;

@@ -1,0 +1,296 @@
+//! The commands over files and streams that fail.
+use crate::{Quirk, Shelf, Tape};
+use fints_cli::{Failure, LoadFault, Request, emit, execute, load, perform};
+use std::alloc::{AllocError, Global};
+use std::process::Abort;
+use std::test::Fail;
+
+const C1: &[u8] =
+    b"HIBPA:3:3+12+280:10020030+Bank+1+1+300+0'\nHIPINS:9:1+1+1+0+5:38:6:::HKSAL:N:HKKAZ:N:HKCCS:J'\n";
+
+const SHOWN: &[u8] = b"bank 280 10020030 kinds 1 kilobytes 0 protocols 300
+pin HKSAL N
+pin HKKAZ N
+pin HKCCS J
+usage 0
+skipped 0
+";
+
+const REPORT: &[u8] = b"step end number 1 size 55\nclean\n";
+
+// C1 with LFs up to so many bytes.
+fn padded(alloc: Global, len: usize) -> Result<Vec<u8>, AllocError> {
+    let mut bytes = C1.to_vec(alloc)?;
+    for _ in C1.len()..len {
+        bytes.push(b'\n')?;
+    }
+    Ok(bytes)
+}
+
+// Runs `show` over the quirk.
+fn assert_shown(rt: &impl Abort, alloc: Global, capture: &[u8], quirk: Quirk, is_read: bool) {
+    let files = [("c", capture)];
+    let mut shelf = Shelf::new(&files, quirk);
+    let mut out = Tape::new(4096, 4096);
+    let mut err = Tape::new(4096, 4096);
+    let words = ["show", "--params", "c"];
+    let status = execute(alloc, &words, &mut shelf, &mut out, &mut err);
+    let (want, output, errors) = if is_read {
+        (0, SHOWN, b"".as_slice())
+    } else {
+        (5, b"".as_slice(), b"error: read --params\n".as_slice())
+    };
+    assert_eq!(rt; status, want, "{quirk:?}");
+    assert_eq!(rt; out.bytes(), output, "{quirk:?}");
+    assert_eq!(rt; err.bytes(), errors, "{quirk:?}");
+}
+
+#[test]
+fn statuses(rt: HostRuntime) {
+    let files = [("c1", C1), ("bad", b"x")];
+    let rows: [(&[&str], u8, &[u8], &[u8]); 6] = [
+        (&[], 0, REPORT, b""),
+        (&["show", "--params", "c1"], 0, SHOWN, b""),
+        (&["show", "--params=c1"], 0, SHOWN, b""),
+        (
+            &["show", "--params", "bad"],
+            3,
+            b"",
+            b"error: params Incomplete at 0\n",
+        ),
+        (
+            &["show", "--params", "none"],
+            5,
+            b"",
+            b"error: read --params\n",
+        ),
+        (&["show", "--params", ""], 5, b"", b"error: read --params\n"),
+    ];
+    for (words, status, output, errors) in rows {
+        let mut shelf = Shelf::new(&files, Quirk::None);
+        let mut out = Tape::new(4096, 4096);
+        let mut err = Tape::new(4096, 4096);
+        let got = execute(rt.alloc(), words, &mut shelf, &mut out, &mut err);
+        assert_eq!(rt; got, status, "{words:?}");
+        assert_eq!(rt; out.bytes(), output, "{words:?}");
+        assert_eq!(rt; err.bytes(), errors, "{words:?}");
+    }
+}
+
+// Bad words are refused before any file is read. A command that isn't there yet is a bad word.
+#[test]
+fn usage_faults(rt: HostRuntime) {
+    let rows: [(&[&str], &[u8]); 12] = [
+        (&["bogus"], b"error: unrecognized subcommand 'bogus'"),
+        (&["check"], b"error: unrecognized subcommand 'check'"),
+        (&[""], b"error: unrecognized subcommand ''"),
+        (
+            &["show"],
+            b"error: the following required arguments were not provided:\n  --params <FILE>",
+        ),
+        (
+            &["show", "--params"],
+            b"error: a value is required for '--params <FILE>' but none was supplied",
+        ),
+        (
+            &["show", "--params", "c1", "--params", "c1"],
+            b"error: the argument '--params <FILE>' cannot be used multiple times",
+        ),
+        (
+            &["show", "--params=c1", "--params=c1"],
+            b"error: the argument '--params <FILE>' cannot be used multiple times",
+        ),
+        (
+            &["show", "--params", "c1", "more"],
+            b"error: unexpected argument 'more' found",
+        ),
+        (
+            &["show", "--orders", "c1"],
+            b"error: unexpected argument '--orders' found",
+        ),
+        (
+            &["show", "--par", "c1"],
+            b"error: unexpected argument '--par' found",
+        ),
+        (
+            &["--version"],
+            b"error: unexpected argument '--version' found",
+        ),
+        (&["help"], b"error: unrecognized subcommand 'help'"),
+    ];
+    for (words, line) in rows {
+        let files = [("c1", C1)];
+        let mut shelf = Shelf::new(&files, Quirk::None);
+        let mut out = Tape::new(4096, 4096);
+        let mut err = Tape::new(4096, 4096);
+        let status = execute(rt.alloc(), words, &mut shelf, &mut out, &mut err);
+        assert_eq!(rt; status, 2, "{words:?}");
+        assert_eq!(rt; shelf.calls(), 0, "{words:?}");
+        assert!(rt; out.bytes().is_empty(), "{words:?}");
+        assert!(rt; err.bytes().starts_with(line), "{words:?}");
+        assert!(rt; err.bytes().ends_with(b"\n"), "{words:?}");
+    }
+}
+
+#[test]
+fn help(rt: HostRuntime) {
+    let rows: [(&[&str], &[u8]); 3] = [
+        (&["--help"], b"Checks FinTS 3.0 dialogue scripts\n"),
+        (&["-h"], b"Checks FinTS 3.0 dialogue scripts\n"),
+        (
+            &["show", "--help"],
+            b"Shows what a capture says of the bank and the user\n\nUsage: fints show --params <FILE>\n",
+        ),
+    ];
+    for (words, start) in rows {
+        let mut shelf = Shelf::new(&[], Quirk::None);
+        let mut out = Tape::new(4096, 7);
+        let mut err = Tape::new(4096, 4096);
+        let status = execute(rt.alloc(), words, &mut shelf, &mut out, &mut err);
+        assert_eq!(rt; status, 0, "{words:?}");
+        assert!(rt; out.bytes().starts_with(start), "{words:?}");
+        assert!(rt; err.bytes().is_empty(), "{words:?}");
+    }
+}
+
+// The output that fails after each byte of the built-in report keeps what came before.
+#[test]
+fn output_fails_after_each_byte(rt: HostRuntime) {
+    for room in 0..REPORT.len() {
+        for piece in [1, 5, 4096] {
+            let mut shelf = Shelf::new(&[], Quirk::None);
+            let mut out = Tape::new(room, piece);
+            let mut err = Tape::new(4096, 1);
+            let status = execute(rt.alloc(), &[], &mut shelf, &mut out, &mut err);
+            assert_eq!(rt; status, 5, "{room}");
+            assert_eq!(rt; out.bytes(), &REPORT[..room], "{room}");
+            assert_eq!(rt; err.bytes(), b"error: write\n".as_slice(), "{room}");
+        }
+    }
+}
+
+#[test]
+fn whole_output(rt: HostRuntime) {
+    for piece in [1, 5, 31, 32] {
+        let mut out = Tape::new(REPORT.len(), piece);
+        assert!(rt; emit(REPORT, &mut out).is_ok(), "{piece}");
+        assert_eq!(rt; out.bytes(), REPORT, "{piece}");
+    }
+    let mut full = Tape::new(0, 1);
+    assert!(rt; emit(b"", &mut full).is_ok());
+    assert!(rt; emit(b"x", &mut full).is_err());
+}
+
+// A fault of the errors changes no status.
+#[test]
+fn errors_may_fail(rt: HostRuntime) {
+    let files = [("bad", b"x".as_slice())];
+    let rows: [(&[&str], u8); 3] = [
+        (&["show", "--params", "bad"], 3),
+        (&["show", "--params", "none"], 5),
+        (&["bogus"], 2),
+    ];
+    for (words, status) in rows {
+        let mut shelf = Shelf::new(&files, Quirk::None);
+        let mut out = Tape::new(4096, 4096);
+        let mut err = Tape::new(3, 4096);
+        let got = execute(rt.alloc(), words, &mut shelf, &mut out, &mut err);
+        assert_eq!(rt; got, status);
+        assert!(rt; out.bytes().is_empty());
+        assert_eq!(rt; err.bytes(), b"err".as_slice());
+    }
+}
+
+// 9,000 bytes are read by four calls, the last of which tells the end.
+#[test]
+fn reads_fail(rt: HostRuntime) -> Result<(), Fail> {
+    let capture = padded(rt.alloc(), 9000)?;
+    for call in 1..5 {
+        assert_shown(
+            &rt,
+            rt.alloc(),
+            capture.as_slice(),
+            Quirk::FailsAt(call),
+            false,
+        );
+    }
+    assert_shown(&rt, rt.alloc(), capture.as_slice(), Quirk::FailsAt(5), true);
+    assert_shown(&rt, rt.alloc(), capture.as_slice(), Quirk::Claims, false);
+    for size in [1, 7, 4095, 4096] {
+        assert_shown(
+            &rt,
+            rt.alloc(),
+            capture.as_slice(),
+            Quirk::Pieces(size),
+            true,
+        );
+    }
+    Ok(())
+}
+
+#[test]
+fn longest_capture(rt: HostRuntime) -> Result<(), Fail> {
+    let mut capture = padded(rt.alloc(), 4_194_304)?;
+    assert_shown(&rt, rt.alloc(), capture.as_slice(), Quirk::None, true);
+    capture.push(b'\n')?;
+    assert_shown(&rt, rt.alloc(), capture.as_slice(), Quirk::None, false);
+    Ok(())
+}
+
+#[test]
+fn limits(rt: HostRuntime) {
+    let bytes = [7; 100];
+    let files = [("f", bytes.as_slice())];
+    for (limit, is_read) in [(99, false), (100, true), (101, true)] {
+        let mut shelf = Shelf::new(&files, Quirk::None);
+        match load(rt.alloc(), &mut shelf, "f", limit) {
+            Ok(read) => {
+                assert!(rt; is_read, "{limit}");
+                assert_eq!(rt; read.as_slice(), bytes.as_slice(), "{limit}");
+            }
+            Err(fault) => assert!(rt; !is_read && fault == LoadFault::Unreadable, "{limit}"),
+        }
+    }
+}
+
+// A file that gives a byte a call is read by 5,000,000 calls, and by no further one.
+#[test]
+fn most_calls(rt: HostRuntime) -> Result<(), Fail> {
+    let mut bytes = padded(rt.alloc(), 4_999_999)?;
+    for is_read in [true, false] {
+        let files = [("f", bytes.as_slice())];
+        let mut shelf = Shelf::new(&files, Quirk::Pieces(1));
+        let read = load(rt.alloc(), &mut shelf, "f", 6_000_000);
+        assert_eq!(rt; read.is_ok(), is_read);
+        assert_eq!(rt; shelf.calls(), 5_000_000);
+        bytes.push(b'\n')?;
+    }
+    Ok(())
+}
+
+#[test]
+fn replies(rt: HostRuntime) {
+    let files = [("c1", C1)];
+    let rows: [(Request<'_>, &[u8]); 2] = [
+        (Request::BuiltIn, REPORT),
+        (Request::Show { params: "c1" }, SHOWN),
+    ];
+    for (request, text) in rows {
+        let mut shelf = Shelf::new(&files, Quirk::None);
+        match perform(rt.alloc(), &request, &mut shelf) {
+            Ok(reply) => {
+                assert_eq!(rt; reply.status, 0);
+                assert_eq!(rt; reply.text.as_slice(), text);
+            }
+            Err(failure) => assert!(rt; false, "{failure}"),
+        }
+    }
+    let mut shelf = Shelf::new(&[], Quirk::None);
+    match perform(rt.alloc(), &Request::Show { params: "c1" }, &mut shelf) {
+        Ok(_) => assert!(rt; false, "no file"),
+        Err(failure) => {
+            assert_eq!(rt; failure.status(), 5);
+            assert!(rt; failure == Failure::Unread("params"));
+        }
+    }
+}

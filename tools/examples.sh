@@ -1,0 +1,63 @@
+#!/usr/bin/env bash
+# Runs the built program on the examples of README.md: of each fenced block that begins with
+# '$ fints ..', the further lines are what the command must print (on either stream).
+set -uo pipefail
+cd "$(dirname "$0")/.."
+program=crates/fints/out/fints
+if [ ! -x "$program" ]; then
+    echo "examples: $program isn't built" >&2
+    exit 1
+fi
+fints() { "$program" "$@"; }
+
+blocks=0
+failed=0
+
+# Runs the block's command and compares what it prints.
+check_block() {
+    local line=$1 command=$2 want=$3 got
+    blocks=$((blocks + 1))
+    got=$(eval "$command" 2>&1)
+    if [ "$got" != "$want" ]; then
+        failed=$((failed + 1))
+        echo "examples: README.md line $line: '$command' prints something else (< shown, > printed):" >&2
+        diff <(printf '%s\n' "$want") <(printf '%s\n' "$got") >&2
+    fi
+}
+
+number=0
+open=0     # the line of the command of the block, 0 outside of such blocks
+fenced=0
+while IFS= read -r line || [ -n "$line" ]; do
+    number=$((number + 1))
+    case $line in
+    '```'*)
+        if [ "$open" -ne 0 ]; then
+            check_block "$open" "$command" "$want"
+        fi
+        open=0
+        first=$((1 - fenced))
+        fenced=$((1 - fenced))
+        continue
+        ;;
+    esac
+    if [ "$open" -ne 0 ]; then
+        want+=${want:+$'\n'}$line
+    elif [ "$fenced" -eq 1 ] && [ "$first" -eq 1 ]; then
+        case $line in
+        '$ fints' | '$ fints '*)
+            open=$number
+            command=${line#'$ '}
+            want=
+            ;;
+        esac
+    fi
+    first=0
+done < README.md
+
+if [ "$blocks" -eq 0 ]; then
+    echo "examples: README.md shows no run of fints" >&2
+    exit 1
+fi
+echo "examples: $blocks run, $failed failed"
+[ "$failed" -eq 0 ]
