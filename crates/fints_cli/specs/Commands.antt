@@ -1,10 +1,12 @@
 -- What the commands answer, and why they have no answer.
-use Rattle.std.specs.Prelude.{◌≡◌, ℕ, List, Option, IfSome, codes}
+use Rattle.std.specs.Prelude.{◌≡◌, ℕ, List, Option, IfSome, codes, string_bytes}
 use Rattle.fints_cli.specs.declared.fault.Fault.TheVariants.{NotYet, Memory, Params}
 use Rattle.fints_cli.specs.declared.commands.Failure.{Failure}
 use Rattle.fints_cli.specs.declared.commands.Failure.TheVariants.{Input, Unread}
 use Rattle.fints_cli.specs.declared.words.Request.{Request}
 use Rattle.fints_cli.specs.declared.words.Request.TheVariants.{BuiltIn, Show}
+use Rattle.fints_cli.specs.declared.words.Asked.{Asked}
+use Rattle.fints_cli.specs.declared.words.Asked.TheVariants.{Help, Usage, NoMemory, Run}
 use Rattle.fints_cli.specs.BuiltIn as built_in
 use Rattle.fints_cli.specs.Thin.{IsReportOf}
 use Rattle.fints_cli.specs.Streams.{Gets}
@@ -44,6 +46,22 @@ FailsFor BuiltIn holds (Unread named) = ⊥
 FailsFor BuiltIn holds (Input f) = Unit {0}
 FailsFor (Show params) holds failure = FailsToShow (holds params.now) failure
 
--- a stream got a report of the built-in texts
-abbrev pub GetsBuiltInReport : Option (List ℕ) → Option (List ℕ) → Type 0
-GetsBuiltInReport old new = (text : List ℕ) × IsReportOf built_in.capture built_in.script text × Gets old new text
+-- The output got what was asked for: the help, or the request's answer.
+abbrev pub IsAnswered : Asked → (List ℕ → Option (List ℕ)) → Option (List ℕ) → Option (List ℕ) → Type 0
+IsAnswered (Help text) holds old new = Gets old new (string_bytes text)
+IsAnswered (Usage text) holds old new = ⊥
+IsAnswered NoMemory holds old new = ⊥
+IsAnswered (Run request) holds old new = (text : List ℕ) × AnswersTo request holds text × Gets old new text
+
+abbrev pub IsUsage : Asked → Type 0
+IsUsage (Help text) = ⊥
+IsUsage (Usage text) = Unit {0}
+IsUsage NoMemory = ⊥
+IsUsage (Run request) = ⊥
+
+-- a command was asked for, and an input of it is refused
+abbrev pub IsRefused : Asked → (List ℕ → Option (List ℕ)) → Type 0
+IsRefused (Help text) holds = ⊥
+IsRefused (Usage text) holds = ⊥
+IsRefused NoMemory holds = ⊥
+IsRefused (Run request) holds = (f : Failure) × (failure_status f ≡ 3) × FailsFor request holds f

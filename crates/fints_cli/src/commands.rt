@@ -1,10 +1,11 @@
 //! The commands, from words to a status.
-ghost use Rattle.std.specs.Prelude.{◌≡◌, ◌≤◌, ◌<◌, ◌+◌, ◌⊎◌, [], None, IfOk, IfErr};
+ghost use Rattle.std.specs.Prelude.{◌≡◌, ◌≤◌, ◌<◌, ◌+◌, ◌⊎◌, ◌↔◌, [], None, IfOk, IfErr};
 ghost use Rattle.fints_cli.specs.Streams.{Gets, GetsNothing, GetsPrefix, IsFile, one_more};
 ghost use Rattle.fints_cli.specs.BuiltIn as texts;
 ghost use Rattle.fints_cli.specs.declared.words.Request.TheVariants as request;
 ghost use Rattle.fints_cli.specs.Thin.{IsReportOf};
-ghost use Rattle.fints_cli.specs.Commands.{failure_status, ShowsFile, AnswersTo, IsUnloaded, FailsToShow, FailsFor, GetsBuiltInReport};
+ghost use Rattle.fints_cli.specs.Commands.{failure_status, ShowsFile, AnswersTo, IsUnloaded, FailsToShow, FailsFor, IsAnswered, IsUsage, IsRefused};
+ghost use Rattle.fints_cli.specs.declared.words.Asked.TheVariants as asked;
 
 use crate::built_in;
 use crate::checking::check_text;
@@ -158,6 +159,41 @@ fn deliver<O: Out, E: Out>(text: &[u8], status: u8, out: &mut O, err: &mut E) ->
     status
 }
 
+/// Does what is asked, and gives the status as `execute` does.
+pub fn respond<F: Files, O: Out, E: Out>(
+    alloc: Global,
+    asked: &Asked<'_>,
+    files: &mut F,
+    out: &mut O,
+    err: &mut E,
+) -> u8
+    ensures status { result ≤ 5 }
+    ensures answered { result ≡ 0
+        → IsAnswered asked.now (F.holds files.old) (O.told out.old) (O.told out.new) }
+    ensures usage { (result ≡ 2) ↔ IsUsage asked.now }
+    ensures refused { result ≡ 3 → IsRefused asked.now (F.holds files.old) }
+    ensures silent { (result ≡ 2) ⊎ ((result ≡ 3) ⊎ (result ≡ 4))
+        → GetsNothing (O.told out.old) (O.told out.new) }
+    ensures fine { result ≤ 4 → O.failed_calls out.new ≡ O.failed_calls out.old }
+    ensures failed { result ≡ 5 → GetsNothing (O.told out.old) (O.told out.new)
+        ⊎ (O.failed_calls out.new ≡ one_more (O.failed_calls out.old)) }
+    ensures unread { result ≡ 2 → F.calls files.new ≡ F.calls files.old }
+    ensures calls { F.calls files.new ≤ F.calls files.old + MAX_CALLS }
+{
+    match asked {
+        Asked::Help(text) => deliver(text.as_bytes(), 0, out, err),
+        Asked::Usage(text) => {
+            tell(text.as_bytes(), err);
+            2
+        }
+        Asked::NoMemory => tell_memory(err),
+        Asked::Run(request) => match perform(alloc, request, files) {
+            Ok(reply) => deliver(reply.text.as_slice(), reply.status, out, err),
+            Err(failure) => tell_failure(alloc, &failure, err),
+        },
+    }
+}
+
 /// Does what the words after the program's name ask for, and gives the status: 0 where the answer
 /// or the help stands on the output, 2 for bad words, 3 for a refused input, 4 for want of memory,
 /// and 5 where a file couldn't be read or the output failed. Each status from 2 on has its line on
@@ -170,26 +206,16 @@ pub fn execute<F: Files, O: Out, E: Out>(
     err: &mut E,
 ) -> u8
     ensures status { result ≤ 5 }
+    ensures built_in { words.now ≡ [] → result ≡ 0
+        → IsAnswered (asked.Run request.BuiltIn) (F.holds files.old) (O.told out.old) (O.told out.new) }
     ensures silent { (result ≡ 2) ⊎ ((result ≡ 3) ⊎ (result ≡ 4))
         → GetsNothing (O.told out.old) (O.told out.new) }
     ensures fine { result ≤ 4 → O.failed_calls out.new ≡ O.failed_calls out.old }
     ensures failed { result ≡ 5 → GetsNothing (O.told out.old) (O.told out.new)
         ⊎ (O.failed_calls out.new ≡ one_more (O.failed_calls out.old)) }
-    ensures built_in { words.now ≡ [] → result ≡ 0
-        → GetsBuiltInReport (O.told out.old) (O.told out.new) }
     ensures unread { result ≡ 2 → F.calls files.new ≡ F.calls files.old }
     ensures calls { F.calls files.new ≤ F.calls files.old + MAX_CALLS }
 {
-    match read_words(alloc, words) {
-        Asked::Help(text) => deliver(text.as_bytes(), 0, out, err),
-        Asked::Usage(text) => {
-            tell(text.as_bytes(), err);
-            2
-        }
-        Asked::Memory => tell_memory(err),
-        Asked::Run(request) => match perform(alloc, &request, files) {
-            Ok(reply) => deliver(reply.text.as_slice(), reply.status, out, err),
-            Err(failure) => tell_failure(alloc, &failure, err),
-        },
-    }
+    let asked = read_words(alloc, words);
+    respond(alloc, &asked, files, out, err)
 }

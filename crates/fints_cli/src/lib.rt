@@ -18,10 +18,10 @@ mod streams;
 mod words;
 
 pub use checking::check_text;
-pub use commands::{Failure, Reply, execute, perform};
+pub use commands::{Failure, Reply, execute, perform, respond};
 pub use emitting::emit;
 pub use fault::Fault;
 pub use reading::{LoadFault, MAX_CALLS, load};
 pub use showing::show;
 pub use streams::{Files, Out, ReadFault, WriteFault};
-pub use words::Request;
+pub use words::{Asked, Request, read_words};

@@ -24,7 +24,7 @@ pub enum Asked<'a> {
     /// A usage fault, which goes to the errors.
     Usage(String),
     /// There was no memory to tell.
-    Memory,
+    NoMemory,
     /// A command.
     Run(Request<'a>),
 }
@@ -55,12 +55,12 @@ fn command_line<'a>(alloc: Global) -> Result<Command<'a>, AllocError> {
 // What is told in place of a command.
 fn told<'a>(alloc: Global, error: &Error) -> Asked<'a> {
     if error.kind() == ErrorKind::OutOfMemory {
-        return Asked::Memory;
+        return Asked::NoMemory;
     }
     match error.to_string(alloc) {
         Ok(text) if error.use_stderr() => Asked::Usage(text),
         Ok(text) => Asked::Help(text),
-        Err(_) => Asked::Memory,
+        Err(_) => Asked::NoMemory,
     }
 }
 
@@ -73,18 +73,18 @@ pub fn read_words<'a>(alloc: Global, words: &'a [&'a str]) -> Asked<'a>
         return Asked::Run(Request::BuiltIn);
     }
     let Ok(command) = command_line(alloc) else {
-        return Asked::Memory;
+        return Asked::NoMemory;
     };
     let matches = match command.try_get_matches_from(words) {
         Ok(matches) => matches,
         Err(error) => return told(alloc, &error),
     };
     let Some((name, options)) = matches.subcommand() else {
-        return Asked::Memory;
+        return Asked::NoMemory;
     };
     match named_request(name, options) {
         Some(request) => Asked::Run(request),
-        None => Asked::Memory,
+        None => Asked::NoMemory,
     }
 }
 
