@@ -1,2 +1,11 @@
 pub mod DocumentLemmas
 pub mod OrderLemmas
+pub mod Ranks
+pub mod Texts
+pub mod Fronts
+pub mod Forms
+pub mod Tails
+pub mod Seals
+pub mod ItemValues
+pub mod Uniques
+pub mod Wholes

@@ -3,3 +3,8 @@ pub mod Accounts
 pub mod Document
 pub mod Orders
 pub mod OrderFaults
+pub mod Segments
+pub mod Parts
+pub mod Messages
+pub mod Read
+pub mod Front

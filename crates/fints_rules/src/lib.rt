@@ -3,7 +3,18 @@
 
 mod account;
 pub mod document;
+mod frame;
+mod front;
+mod inner;
+pub mod laws;
+mod message;
 mod orders;
+mod part;
+mod plain;
+mod sealed;
+mod tail;
+mod values;
 
 pub use account::AccountKey;
+pub use message::{JudgeFault, Message, read_message};
 pub use orders::{AccountForm, OrderRow, OrderTable, TableFault};

@@ -1,0 +1,134 @@
+//! Messages, as they are read.
+ghost use Rattle.std.specs.Prelude.{◌≡◌, ◌<◌, ◌≤◌, ◌^◌, ℕ, List, length, map, Option, Some, IfOk, IfErr, IfSome, IfNone};
+ghost use Rattle.fints_rules.specs.Segments.{segment_of, value_at, number_of};
+ghost use Rattle.fints_rules.specs.Messages.{IsMessage, IsFirst};
+ghost use Rattle.fints_rules.specs.Front.{IsNumber};
+ghost use Rattle.fints_rules.specs.Read.{IsRefusal};
+
+use crate::inner::next_segment;
+use crate::part::is_segment;
+use crate::plain::read_tail;
+use crate::tail::Tail;
+use crate::values::number_at;
+use fints_syntax::SegmentView;
+use fints_syntax::laws::one_segment_text;
+use std::alloc::{AllocError, Global};
+use std::marker::Model;
+
+/// A message; a contract sees its values.
+#[derive(Drop)]
+pub struct Message<'a> {
+    size: usize,
+    protocol: Option<u64>,
+    number: u64,
+    body: Vec<SegmentView<'a>>,
+    ends: Vec<SegmentView<'a>>,
+}
+
+impl<'a> Model for Message<'a> {
+    ghost use Rattle.fints_rules.specs.Messages.{MessageView};
+    ghost use Rattle.fints_rules.specs.Segments.{segments_of};
+
+    ghost Value = { MessageView };
+
+    ghost view = { λ m. record { size = m.size; protocol = m.protocol; number = m.number; body = segments_of m.body.items; ends = segments_of m.ends.items } };
+}
+
+impl<'a> Message<'a> {
+    pub fn size(&self) -> usize
+        ensures { result ≡ self.now.size }
+    {
+        self.size
+    }
+
+    pub fn protocol(&self) -> Option<u64>
+        ensures { result ≡ self.now.protocol }
+    {
+        self.protocol
+    }
+
+    pub fn number(&self) -> u64
+        ensures { result ≡ self.now.number }
+    {
+        self.number
+    }
+
+    pub fn body(&self) -> &[SegmentView<'a>]
+        ensures { map segment_of result.now ≡ self.now.body }
+    {
+        self.body.as_slice()
+    }
+
+    pub fn ends(&self) -> &[SegmentView<'a>]
+        ensures { map segment_of result.now ≡ self.now.ends }
+    {
+        self.ends.as_slice()
+    }
+}
+
+/// Why bytes could not be judged.
+#[derive(Clone, Copy, Debug, PartialEq, Eq)]
+pub enum JudgeFault {
+    Memory,
+    /// The bytes are no message from there on.
+    NotAMessage { offset: usize },
+}
+
+impl From<AllocError> for JudgeFault {
+    ghost use Rattle.fints_rules.specs.declared.message.JudgeFault.TheVariants.{Memory};
+
+    ghost from_gives = { λ _ f. f ≡ Memory };
+
+    fn from(_e: AllocError) -> JudgeFault {
+        JudgeFault::Memory
+    }
+}
+
+/// The number of the message, where the segment is a good HNHBK.
+fn read_first(view: &SegmentView<'_>, size: usize) -> Option<u64>
+    ensures some { IfSome result (λ n. IsFirst size n (segment_of view.now)) }
+    ensures none { IfNone result ((n : ℕ) → IsFirst size n (segment_of view.now) → ⊥) }
+{
+    if !is_segment(view, b"HNHBK", 3) {
+        return None;
+    }
+    if view.number() != 1 {
+        return None;
+    }
+    match number_at(view, 2, 1, 12, 12) {
+        None => None,
+        Some(found) => {
+            if found != size as u64 {
+                return None;
+            }
+            number_at(view, 5, 1, 1, 9)
+        }
+    }
+}
+
+/// The message that the bytes are.
+pub fn read_message(alloc: Global, bytes: &[u8]) -> Result<Message<'_>, JudgeFault>
+    ensures message { IfOk result (λ m. IsMessage bytes.now m) }
+    ensures refusal { IfErr result (λ f. IsRefusal bytes.now f) }
+{
+    one_segment_text();
+    match next_segment(bytes) {
+        None => Err(JudgeFault::NotAMessage { offset: 0 }),
+        Some((first, len)) => match read_first(&first, bytes.len()) {
+            None => Err(JudgeFault::NotAMessage { offset: 0 }),
+            Some(number) => {
+                let (_, rest) = bytes.split_at(len);
+                match read_tail(alloc, rest, number)? {
+                    Tail::Stop(at) => Err(JudgeFault::NotAMessage { offset: len + at }),
+                    Tail::Whole(body, ends) => Ok(Message {
+                        size: bytes.len(),
+                        protocol: number_at(&first, 3, 1, 1, 9),
+                        number,
+                        body,
+                        ends,
+                    }),
+                }
+            }
+        },
+    }
+}
