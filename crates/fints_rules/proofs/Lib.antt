@@ -9,3 +9,4 @@ pub mod Seals
 pub mod ItemValues
 pub mod Uniques
 pub mod Wholes
+pub mod LimitLemmas

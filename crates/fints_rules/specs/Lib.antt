@@ -8,3 +8,5 @@ pub mod Parts
 pub mod Messages
 pub mod Read
 pub mod Front
+pub mod Permits
+pub mod LimitMaps

@@ -7,14 +7,18 @@ mod frame;
 mod front;
 mod inner;
 pub mod laws;
+mod limits;
 mod message;
 mod orders;
 mod part;
+mod permissions;
 mod plain;
 mod sealed;
 mod tail;
 mod values;
 
 pub use account::AccountKey;
+pub use limits::{Demand, Limits, OrderKey};
 pub use message::{JudgeFault, Message, read_message};
 pub use orders::{AccountForm, OrderRow, OrderTable, TableFault};
+pub use permissions::{Permissions, Permit};
