@@ -10,3 +10,4 @@ pub mod ItemValues
 pub mod Uniques
 pub mod Wholes
 pub mod LimitLemmas
+pub mod PermitLemmas

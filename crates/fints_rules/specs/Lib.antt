@@ -1,5 +1,6 @@
 pub mod AccountFields
 pub mod Accounts
+pub mod AccountRows
 pub mod Document
 pub mod Orders
 pub mod OrderFaults

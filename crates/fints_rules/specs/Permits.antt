@@ -13,7 +13,8 @@ use Rattle.fints_rules.specs.declared.limits.Demand.TheVariants as demand
 use Rattle.fints_rules.specs.declared.permissions.Permit.{Permit}
 use Rattle.fints_rules.specs.declared.permissions.Permit.TheVariants as permit
 use Rattle.fints_rules.specs.declared.orders.OrderRow.{OrderRow}
-use Rattle.fints_rules.specs.Accounts.{Account, nobody, by_items, by_iban}
+use Rattle.fints_rules.specs.Accounts.{Account}
+use Rattle.fints_rules.specs.AccountRows.{Matches}
 
 -- what `Permissions` stands for: the rows of a capture and of an order table
 pub record Granted : Type 0 where
@@ -63,13 +64,6 @@ DemandIs pins kind demand.No = IsListed pins kind × (IsListedWithTan pins kind 
 DemandIs pins kind demand.Tan = IsListedWithTan pins kind
 
 -- ---- accounts
-
--- a row of HIUPD is the account's
-abbrev pub Matches : Account → AccountRow → Type 0
-Matches nobody row = ⊥
-Matches (by_items number subaccount country bank) row =
-    (row.national.number ≡ number) × (row.national.subaccount ≡ subaccount) × (row.national.country ≡ country) × (row.national.bank ≡ bank)
-Matches (by_iban iban) row = row.iban ≡ iban
 
 -- an entry of the kind, in a row of the account
 pub record IsEntryOf (rows : Rows) (account : Account) (kind : List ℕ) (entry : Entry) : Type 0 where

@@ -1,9 +1,11 @@
 //! The account that an order names.
-ghost use Rattle.std.specs.Prelude.{◌≡◌, ◌<◌, map, slice_index_or, []};
+ghost use Rattle.std.specs.Prelude.{◌≡◌, ◌<◌, ◌↔◌, IsTrue, map, slice_index_or, []};
 ghost use Rattle.fints_rules.specs.Accounts.{account_of, national_of};
 ghost use Rattle.fints_rules.specs.AccountFields.{named_account};
+ghost use Rattle.fints_rules.specs.AccountRows.{Matches};
 
 use crate::orders::AccountForm;
+use fints_params::{AccountRow, National};
 use std::marker::Model;
 
 // An account by what names it.
@@ -81,4 +83,37 @@ impl<'a> AccountKey<'a> {
         };
         AccountKey { named }
     }
+
+    /// Whether a row of HIUPD is the account's: by its IBAN where the order has one, else by all
+    /// four national items.
+    pub fn matches(&self, row: &AccountRow) -> bool
+        ensures { IsTrue result ↔ Matches self.now row.now }
+    {
+        match self.named {
+            Named::Nobody => false,
+            Named::National {
+                number,
+                subaccount,
+                country,
+                bank,
+            } => is_national(&row.national, number, subaccount, country, bank),
+            Named::Iban(iban) => row.iban.as_slice() == iban,
+        }
+    }
+}
+
+// Whether the four items are these.
+fn is_national(
+    row: &National,
+    number: &[u8],
+    subaccount: &[u8],
+    country: &[u8],
+    bank: &[u8],
+) -> bool
+    ensures { IsTrue result ↔ ((row.now.number ≡ number.now) × (row.now.subaccount ≡ subaccount.now) × (row.now.country ≡ country.now) × (row.now.bank ≡ bank.now)) }
+{
+    row.number.as_slice() == number
+        && row.subaccount.as_slice() == subaccount
+        && row.country.as_slice() == country
+        && row.bank.as_slice() == bank
 }

@@ -2,7 +2,8 @@
 ghost use Rattle.std.specs.Prelude.{◌≡◌, ◌≤◌, ◌↔◌, IsTrue, Any, IfOk};
 ghost use Rattle.fints_params.specs.declared.rows.AccountRow.{AccountRow};
 ghost use Rattle.fints_rules.specs.Orders.{form_of};
-ghost use Rattle.fints_rules.specs.Permits.{LimitsAre, params_of, DemandIs, Matches, PermitIs};
+ghost use Rattle.fints_rules.specs.AccountRows.{Matches};
+ghost use Rattle.fints_rules.specs.Permits.{LimitsAre, params_of, DemandIs, PermitIs};
 
 use crate::account::AccountKey;
 use crate::limits::{Demand, Limits, OrderKey, limit_map, pin_map};
@@ -99,4 +100,70 @@ impl<'a> Permissions<'a> {
             Some(false) => Demand::No,
         }
     }
+
+    // Whether an entry of the kind, in a row of the account, needs no more signatures.
+    fn has_fitting_entry(&self, account: &AccountKey<'_>, kind: Kind, signatures: usize) -> bool
+        ensures { IsTrue result ↔ Any (λ row. Matches account.now row × Any (λ e. (e.kind ≡ kind) × (e.signatures ≤ signatures)) row.entries) self.now.rows.accounts }
+    {
+        self.params
+            .accounts()
+            .iter()
+            .any(|row| account.matches(row) && has_fitting_entry(row, kind, signatures))
+    }
+
+    // Whether an entry of the kind stands in a row of the account.
+    fn has_entry(&self, account: &AccountKey<'_>, kind: Kind) -> bool
+        ensures { IsTrue result ↔ Any (λ row. Matches account.now row × Any (λ e. e.kind ≡ kind) row.entries) self.now.rows.accounts }
+    {
+        self.params
+            .accounts()
+            .iter()
+            .any(|row| account.matches(row) && has_entry(row, kind))
+    }
+
+    /// Whether an account permits an order of this kind with so many signatures.
+    pub fn permit(&self, kind: Kind, account: &AccountKey<'_>, signatures: usize) -> Permit
+        ensures { PermitIs self.now.rows account.now kind signatures result }
+    {
+        if self.has_fitting_entry(account, kind, signatures) {
+            return Permit::Allowed;
+        }
+        if self.has_entry(account, kind) {
+            return Permit::MoreSignatures;
+        }
+        match self.params.usage() {
+            Usage::Locked => Permit::Refused,
+            Usage::Unsaid => Permit::Allowed,
+        }
+    }
+}
+
+fn has_entry(row: &AccountRow, kind: Kind) -> bool
+    ensures { IsTrue result ↔ Any (λ e. e.kind ≡ kind) row.now.entries }
+{
+    row.entries
+        .as_slice()
+        .iter()
+        .any(|entry| is_entry(entry, kind))
+}
+
+fn is_entry(entry: &Entry, kind: Kind) -> bool
+    ensures { IsTrue result ↔ (entry.now.kind ≡ kind) }
+{
+    entry.kind == kind
+}
+
+fn has_fitting_entry(row: &AccountRow, kind: Kind, signatures: usize) -> bool
+    ensures { IsTrue result ↔ Any (λ e. (e.kind ≡ kind) × (e.signatures ≤ signatures)) row.now.entries }
+{
+    row.entries
+        .as_slice()
+        .iter()
+        .any(|entry| fits(entry, kind, signatures))
+}
+
+fn fits(entry: &Entry, kind: Kind, signatures: usize) -> bool
+    ensures { IsTrue result ↔ ((entry.now.kind ≡ kind) × (entry.now.signatures ≤ signatures)) }
+{
+    is_entry(entry, kind) && entry.signatures as usize <= signatures
 }
