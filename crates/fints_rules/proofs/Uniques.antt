@@ -6,7 +6,8 @@ use Rattle.std.proofs.lemmas.Bool.Decides.{nat_tests}
 use Rattle.fints_syntax.specs.declared.item.OwnedSegment.{OwnedSegment}
 use Rattle.fints_syntax.specs.Laws.{OneSegmentText}
 use Rattle.fints_rules.specs.Messages.{MessageView, IsInner, IsTail, IsForm, IsMessage, IsPlainTail, IsEnvelope}
-use Rattle.fints_rules.specs.Segments.{value_at, number_of}
+use Rattle.fints_rules.specs.Segments.{number_of}
+use Rattle.fints_syntax.specs.Values.{value_at}
 use Rattle.fints_rules.proofs.Ranks.{IsRanked}
 use Rattle.fints_rules.proofs.Forms.{rank_of, inner_ranked, split, at_end, inside, key_not_plain}
 use Rattle.fints_rules.proofs.Seals.{text_one, envelope_text}
@@ -83,10 +84,10 @@ form_one law ss m n h g size =
     let both = sym h.together ∙ g.together in
     let first : g.first ≡ h.first = cc in
     let tail : g.tail ≡ h.tail = cc in
-    let number : Some m.number ≡ Some n.number = sym h.is_first.number_is ∙ ap (λ (s : OwnedSegment). number_of (value_at 5 1 s)) (sym first) ∙ g.is_first.number_is in
+    let number : Some m.number ≡ Some n.number = sym h.is_first.number_is ∙ ap (λ (s : OwnedSegment). number_of (value_at s 5 1)) (sym first) ∙ g.is_first.number_is in
     let same : n.number ≡ m.number = cc in
     let parts = tail_one law m.number h.tail m.body m.ends n.body n.ends h.is_tail (subst (λ z. IsTail m.number z n.body n.ends) tail (subst (λ k. IsTail k g.tail n.body n.ends) same g.is_tail)) in
-    let protocol : m.protocol ≡ n.protocol = sym h.protocol ∙ ap (λ (s : OwnedSegment). number_of (value_at 3 1 s)) (sym first) ∙ g.protocol in
+    let protocol : m.protocol ≡ n.protocol = sym h.protocol ∙ ap (λ (s : OwnedSegment). number_of (value_at s 3 1)) (sym first) ∙ g.protocol in
     let body = parts.0 in
     let ends = parts.1 in
     λ i. record { size = size i; protocol = protocol i; number = sym same i; body = body i; ends = ends i }

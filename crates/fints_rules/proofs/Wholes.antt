@@ -6,7 +6,8 @@ use Rattle.fints_syntax.specs.Spelling.{Spelled}
 use Rattle.fints_syntax.specs.Segment.{segment_bytes, IsSegment}
 use Rattle.fints_syntax.specs.declared.item.OwnedSegment.{OwnedSegment}
 use Rattle.fints_syntax.specs.Laws.{OneSegmentText}
-use Rattle.fints_rules.specs.Segments.{segment_of, segments_of, text_of, value_at, number_of}
+use Rattle.fints_rules.specs.Segments.{segment_of, segments_of, text_of, number_of}
+use Rattle.fints_syntax.specs.Values.{value_at}
 use Rattle.fints_rules.specs.Messages.{MessageView, IsFirst, IsTail, IsForm, IsMessage, IsWhole, Begins, Stops, IsNoMessage}
 use Rattle.fints_rules.specs.Front.{IsNext, HasNoNext, BeginsBy, IsWholeBy, IsReadBy}
 use Rattle.fints_rules.proofs.Texts.{segments-snoc, rest_of}
@@ -60,7 +61,7 @@ refused_head law bytes t n h none = refused law bytes 0 (stop_zero bytes (λ u m
 -- ---- after HNHBK
 
 abbrev view_with : ℕ → ℕ → OwnedSegment → List OwnedSegment → List OwnedSegment → MessageView
-view_with size number first body ends = record { size = size; protocol = number_of (value_at 3 1 first); number = number; body = body; ends = ends }
+view_with size number first body ends = record { size = size; protocol = number_of (value_at first 3 1); number = number; body = body; ends = ends }
 
 form_with : (size number : ℕ) (first : OwnedSegment) (tail body ends : List OwnedSegment) → IsFirst size number first → IsTail number tail body ends → IsForm (first ∷ tail) (view_with size number first body ends)
 form_with size number first tail body ends f t = record { first = first; tail = tail; is_first = f; protocol = refl; is_tail = t; together = refl }
@@ -90,7 +91,7 @@ refused_tail law bytes n at number t h f s = refused law bytes (n + at) (record 
   unfinished = λ e w. s.unfinished e (w.0.body, w.0.ends, tail_in (length bytes) number (segment_of t) (segments_of s.front) w.0 f w.1);
 })
 
-pub is_message : (bytes : List ℕ) (n number : ℕ) (protocol : Option ℕ) (body ends : List (List (List Spelled))) (t : List (List Spelled)) → IsNext bytes t n → IsFirst (length bytes) number (segment_of t) → protocol ≡ number_of (value_at 3 1 (segment_of t))
+pub is_message : (bytes : List ℕ) (n number : ℕ) (protocol : Option ℕ) (body ends : List (List (List Spelled))) (t : List (List Spelled)) → IsNext bytes t n → IsFirst (length bytes) number (segment_of t) → protocol ≡ number_of (value_at (segment_of t) 3 1)
     → IsReadBy (IsTail number) (drop n bytes) body ends → IsMessage bytes (record { size = length bytes; protocol = protocol; number = number; body = segments_of body; ends = segments_of ends })
 is_message bytes n number protocol body ends t h f p r = record {
   segments = segments_of (t ∷ r.trees);

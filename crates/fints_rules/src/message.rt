@@ -1,6 +1,7 @@
 //! Messages, as they are read.
 ghost use Rattle.std.specs.Prelude.{◌≡◌, ◌<◌, ◌≤◌, ◌^◌, ℕ, List, length, map, Option, Some, IfOk, IfErr, IfSome, IfNone};
-ghost use Rattle.fints_rules.specs.Segments.{segment_of, value_at, number_of};
+ghost use Rattle.fints_rules.specs.Segments.{segment_of, number_of};
+ghost use Rattle.fints_syntax.specs.Values.{value_at};
 ghost use Rattle.fints_rules.specs.Messages.{IsMessage, IsFirst};
 ghost use Rattle.fints_rules.specs.Front.{IsNumber};
 ghost use Rattle.fints_rules.specs.Read.{IsRefusal};
