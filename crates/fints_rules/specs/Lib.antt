@@ -11,3 +11,5 @@ pub mod Read
 pub mod Front
 pub mod Permits
 pub mod LimitMaps
+pub mod RuleNames
+pub mod Breaks

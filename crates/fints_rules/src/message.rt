@@ -1,6 +1,6 @@
 //! Messages, as they are read.
 ghost use Rattle.std.specs.Prelude.{◌≡◌, ◌<◌, ◌≤◌, ◌^◌, ℕ, List, length, map, Option, Some, IfOk, IfErr, IfSome, IfNone};
-ghost use Rattle.fints_rules.specs.Segments.{segment_of, number_of};
+ghost use Rattle.fints_rules.specs.Segments.{segment_of, segments_of, number_of};
 ghost use Rattle.fints_syntax.specs.Values.{value_at};
 ghost use Rattle.fints_rules.specs.Messages.{IsMessage, IsFirst};
 ghost use Rattle.fints_rules.specs.Front.{IsNumber};
@@ -11,57 +11,61 @@ use crate::part::is_segment;
 use crate::plain::read_tail;
 use crate::tail::Tail;
 use crate::values::number_at;
-use fints_syntax::SegmentView;
 use fints_syntax::laws::one_segment_text;
+use fints_syntax::{OwnedSegment, SegmentView};
 use std::alloc::{AllocError, Global};
 use std::marker::Model;
 
 /// A message; a contract sees its values.
 #[derive(Drop)]
-pub struct Message<'a> {
+pub struct Message {
     size: usize,
     protocol: Option<u64>,
     number: u64,
-    body: Vec<SegmentView<'a>>,
-    ends: Vec<SegmentView<'a>>,
+    body: Vec<OwnedSegment>,
+    ends: Vec<OwnedSegment>,
 }
 
-impl<'a> Model for Message<'a> {
+impl Model for Message {
     ghost use Rattle.fints_rules.specs.Messages.{MessageView};
-    ghost use Rattle.fints_rules.specs.Segments.{segments_of};
 
     ghost Value = { MessageView };
 
-    ghost view = { λ m. record { size = m.size; protocol = m.protocol; number = m.number; body = segments_of m.body.items; ends = segments_of m.ends.items } };
+    ghost view = { λ m. record { size = m.size; protocol = m.protocol; number = m.number; body = m.body.items; ends = m.ends.items } };
 }
 
-impl<'a> Message<'a> {
+impl Message {
+    /// The length of the whole message in bytes.
     pub fn size(&self) -> usize
         ensures { result ≡ self.now.size }
     {
         self.size
     }
 
+    /// The protocol version of HNHBK, where it is a number.
     pub fn protocol(&self) -> Option<u64>
         ensures { result ≡ self.now.protocol }
     {
         self.protocol
     }
 
+    /// The message number of HNHBK and HNHBS.
     pub fn number(&self) -> u64
         ensures { result ≡ self.now.number }
     {
         self.number
     }
 
-    pub fn body(&self) -> &[SegmentView<'a>]
-        ensures { map segment_of result.now ≡ self.now.body }
+    /// The segments of the body, in order.
+    pub fn body(&self) -> &[OwnedSegment]
+        ensures { result.now ≡ self.now.body }
     {
         self.body.as_slice()
     }
 
-    pub fn ends(&self) -> &[SegmentView<'a>]
-        ensures { map segment_of result.now ≡ self.now.ends }
+    /// The HNSHA, one for each signature.
+    pub fn ends(&self) -> &[OwnedSegment]
+        ensures { result.now ≡ self.now.ends }
     {
         self.ends.as_slice()
     }
@@ -85,7 +89,53 @@ impl From<AllocError> for JudgeFault {
     }
 }
 
-/// The number of the message, where the segment is a good HNHBK.
+// The segments by their values.
+fn owned_segments(
+    alloc: Global,
+    views: &[SegmentView<'_>],
+) -> Result<Vec<OwnedSegment>, AllocError>
+    ensures { IfOk result (λ v. v.items ≡ segments_of views.now) }
+{
+    let mut owned = Vec::new(alloc);
+    for view in views {
+        owned.push(view.to_owned(alloc)?)?;
+    }
+    Ok(owned)
+}
+
+// What HNHBK says of a message.
+struct Frame {
+    size: usize,
+    protocol: Option<u64>,
+    number: u64,
+}
+
+// The message with these segments.
+fn with_segments(
+    alloc: Global,
+    frame: Frame,
+    body: &[SegmentView<'_>],
+    ends: &[SegmentView<'_>],
+) -> Result<Message, AllocError>
+    ensures { IfOk result (λ m. m ≡ record { size = frame.size; protocol = frame.protocol; number = frame.number; body = segments_of body.now; ends = segments_of ends.now }) }
+{
+    let Frame {
+        size,
+        protocol,
+        number,
+    } = frame;
+    let body = owned_segments(alloc, body)?;
+    let ends = owned_segments(alloc, ends)?;
+    Ok(Message {
+        size,
+        protocol,
+        number,
+        body,
+        ends,
+    })
+}
+
+// The number of the message, where the segment is a good HNHBK.
 fn read_first(view: &SegmentView<'_>, size: usize) -> Option<u64>
     ensures some { IfSome result (λ n. IsFirst size n (segment_of view.now)) }
     ensures none { IfNone result ((n : ℕ) → IsFirst size n (segment_of view.now) → ⊥) }
@@ -108,7 +158,7 @@ fn read_first(view: &SegmentView<'_>, size: usize) -> Option<u64>
 }
 
 /// The message that the bytes are.
-pub fn read_message(alloc: Global, bytes: &[u8]) -> Result<Message<'_>, JudgeFault>
+pub fn read_message(alloc: Global, bytes: &[u8]) -> Result<Message, JudgeFault>
     ensures message { IfOk result (λ m. IsMessage bytes.now m) }
     ensures refusal { IfErr result (λ f. IsRefusal bytes.now f) }
 {
@@ -121,13 +171,20 @@ pub fn read_message(alloc: Global, bytes: &[u8]) -> Result<Message<'_>, JudgeFau
                 let (_, rest) = bytes.split_at(len);
                 match read_tail(alloc, rest, number)? {
                     Tail::Stop(at) => Err(JudgeFault::NotAMessage { offset: len + at }),
-                    Tail::Whole(body, ends) => Ok(Message {
-                        size: bytes.len(),
-                        protocol: number_at(&first, 3, 1, 1, 9),
-                        number,
-                        body,
-                        ends,
-                    }),
+                    Tail::Whole(body, ends) => {
+                        let protocol = number_at(&first, 3, 1, 1, 9);
+                        let frame = Frame {
+                            size: bytes.len(),
+                            protocol,
+                            number,
+                        };
+                        Ok(with_segments(
+                            alloc,
+                            frame,
+                            body.as_slice(),
+                            ends.as_slice(),
+                        )?)
+                    }
                 }
             }
         },
