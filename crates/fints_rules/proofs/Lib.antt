@@ -11,3 +11,6 @@ pub mod Uniques
 pub mod Wholes
 pub mod LimitLemmas
 pub mod PermitLemmas
+pub mod RuleLemmas
+pub mod RowLemmas
+pub mod AccountLemmas

@@ -13,3 +13,4 @@ pub mod Permits
 pub mod LimitMaps
 pub mod RuleNames
 pub mod Breaks
+pub mod AccountTests

@@ -6,6 +6,7 @@ pub mod document;
 mod frame;
 mod front;
 mod inner;
+mod kinds;
 pub mod laws;
 mod limits;
 mod message;
@@ -15,8 +16,10 @@ mod permissions;
 mod plain;
 mod rule;
 mod sealed;
+mod segments;
 mod tail;
 mod values;
+mod whole;
 
 pub use account::AccountKey;
 pub use limits::{Demand, Limits, OrderKey};
