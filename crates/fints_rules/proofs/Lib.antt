@@ -14,3 +14,5 @@ pub mod PermitLemmas
 pub mod RuleLemmas
 pub mod RowLemmas
 pub mod AccountLemmas
+pub mod Judged
+pub mod Risings

@@ -24,7 +24,7 @@ key_decides a b =
 
 -- ---- what holds of some row still does
 
-any_more : {X : Type 0} (P : X → Type 0) (xs : List X) (x : X) → Any P xs → Any P (xs ++ x ∷ [])
+pub any_more : {X : Type 0} (P : X → Type 0) (xs : List X) (x : X) → Any P xs → Any P (xs ++ x ∷ [])
 any_more P xs x (k, y, lt, at, h) = let c = Contains-append_left xs (x ∷ []) y (k, lt, at) in (c.0, y, c.1, c.2, h)
 
 pub any_cases : {X : Type 0} (P : X → Type 0) (xs : List X) (x : X) → Any P (xs ++ x ∷ []) → Any P xs ⊎ P x

@@ -14,3 +14,4 @@ pub mod LimitMaps
 pub mod RuleNames
 pub mod Breaks
 pub mod AccountTests
+pub mod Judging

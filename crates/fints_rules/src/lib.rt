@@ -6,6 +6,7 @@ pub mod document;
 mod frame;
 mod front;
 mod inner;
+mod judging;
 mod kinds;
 pub mod laws;
 mod limits;
@@ -22,6 +23,7 @@ mod values;
 mod whole;
 
 pub use account::AccountKey;
+pub use judging::judge;
 pub use limits::{Demand, Limits, OrderKey};
 pub use message::{JudgeFault, Message, read_message};
 pub use orders::{AccountForm, OrderRow, OrderTable, TableFault};

@@ -12,9 +12,10 @@ use crate::plain::read_tail;
 use crate::tail::Tail;
 use crate::values::number_at;
 use fints_syntax::laws::one_segment_text;
-use fints_syntax::{OwnedSegment, SegmentView};
+use fints_syntax::{Memory, OwnedSegment, SegmentView};
 use std::alloc::{AllocError, Global};
 use std::marker::Model;
+use thiserror::Error;
 
 /// A message; a contract sees its values.
 #[derive(Drop)]
@@ -72,11 +73,24 @@ impl Message {
 }
 
 /// Why bytes could not be judged.
-#[derive(Clone, Copy, Debug, PartialEq, Eq)]
+#[derive(Clone, Copy, Debug, PartialEq, Eq, Error)]
 pub enum JudgeFault {
+    #[error("memory")]
     Memory,
-    /// The bytes are no message from there on.
+    /// The bytes are no message. The offset, from 0, is that of the first outer segment that isn't
+    /// read or can't stand at its place, or the end of the last one that can.
+    #[error("NotAMessage at {offset}")]
     NotAMessage { offset: usize },
+}
+
+impl From<Memory> for JudgeFault {
+    ghost use Rattle.fints_rules.specs.declared.message.JudgeFault.TheVariants.{Memory};
+
+    ghost from_gives = { λ _ f. f ≡ Memory };
+
+    fn from(_e: Memory) -> JudgeFault {
+        JudgeFault::Memory
+    }
 }
 
 impl From<AllocError> for JudgeFault {
