@@ -82,5 +82,12 @@ elements_of (e ∷ es) s o = omega (arith, ap length o.elements_are, length-map 
 -- no more is skipped than the text has bytes
 pub skipped_within : (es : List (List Spelled)) (s : OwnedSegment) → IsSegment es → IsOwned es s → skipped_in (s ∷ []) ≤ length (segment_bytes es)
 skipped_within es s seg o =
-    omega (arith, segment_size es, elements_within es seg.framed.nonempty, elements_of es s o, account_within s (is_account s) refl,
-        count_by-le-length is_odd_order (s ∷ []), count_by-le-length is_odd_element (flat_map entry_elements (filter is_account (s ∷ []))))
+    omega (
+      arith,
+      segment_size es,
+      elements_within es seg.framed.nonempty,
+      elements_of es s o,
+      account_within s (is_account s) refl,
+      count_by-le-length is_odd_order (s ∷ []),
+      count_by-le-length is_odd_element (flat_map entry_elements (filter is_account (s ∷ []))),
+    )
