@@ -1,0 +1,10 @@
+pub mod Protocols
+pub mod Pairs
+pub mod Mapped
+pub mod Lists
+pub mod Offsets
+pub mod Refusing
+pub mod RowsSoFar
+pub mod FoundCodes
+pub mod Sizes
+pub mod Bounds

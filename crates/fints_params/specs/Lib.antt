@@ -1,2 +1,13 @@
 pub mod Reading
+pub mod Bank
+pub mod Pins
+pub mod Orders
+pub mod Accounts
+pub mod Faults
+pub mod Feedback
 pub mod Parameters
+pub mod Sealed
+pub mod Opened
+pub mod Captures
+pub mod Taken
+pub mod Steps

@@ -1,8 +1,28 @@
-//! stub
+//! The parameters of a bank and its user as a capture tells them, and the codes of feedback.
 #![tactic(auto)]
 
+mod accounts;
+mod bank;
+mod capture;
+mod code;
+mod fault;
+mod feedback;
+mod gathered;
+mod gathering;
+mod opening;
+mod orders;
 mod params;
+mod pins;
+mod placed;
+mod reading;
 mod rows;
+mod taking;
 
+pub use code::Code;
+pub use fault::ParamFault;
+pub use feedback::feedback_codes;
 pub use params::Params;
 pub use rows::{AccountRow, BankRow, Entries, Entry, National, Numbers, OrderParam, PinRow, Usage};
+
+#[cfg(test)]
+mod tests;

@@ -1,7 +1,21 @@
-//! stub
-ghost use Rattle.std.specs.Prelude.{◌≡◌};
+//! What a capture says of the bank and the user.
+ghost use Rattle.std.specs.Prelude.{◌≡◌, ◌<◌, ◌^◌, ◌==◌, List, [], None, Some, IfOk, IfErr};
+ghost use Rattle.std.specs.List.{list_all};
+ghost use Rattle.fints_syntax.specs.declared.item.OwnedSegment.{OwnedSegment};
+ghost use Rattle.fints_params.specs.Faults.{IsMemoryOr};
+ghost use Rattle.fints_params.specs.Parameters.{IsRowsOf, end_fault, usage_from};
+ghost use Rattle.fints_params.specs.Captures.{IsParamsIn, IsParamFaultIn, IsParamsOf, IsParamFault};
+ghost use Rattle.fints_params.specs.Steps.{CanCountSkipped};
+ghost use Rattle.fints_params.specs.Taken.{IsGathered};
 
+use crate::capture::read_capture;
+use crate::fault::ParamFault;
+use crate::gathered::Gathered;
+use crate::gathering::no_rows;
+use crate::opening::read_into;
+use crate::placed::PlacedSegment;
 use crate::rows::{AccountRow, BankRow, OrderParam, PinRow, Usage};
+use std::alloc::Global;
 use std::marker::Model;
 
 /// The parameters of a capture; a contract sees the rows.
@@ -24,6 +38,18 @@ impl Model for Params {
 }
 
 impl Params {
+    /// Reads a capture: segments with CR and LF between them, where an HNVSD version 1 stands for
+    /// the segments of its data. The answer is the first refusal, in this order: the capture's
+    /// syntax fault; then segment by segment a bad element, the least first, the syntax fault of
+    /// data, or a second HIBPA, before its elements; then no HIBPA, then no HIPINS.
+    pub fn read(alloc: Global, capture: &[u8]) -> Result<Params, ParamFault>
+        ensures rows { IfOk result (λ p. IsParamsOf capture.now p) }
+        ensures refused { IfErr result (λ f. IsMemoryOr (IsParamFault capture.now) f) }
+    {
+        let placed = read_capture(alloc, capture)?;
+        read_rows(alloc, placed.as_slice())
+    }
+
     /// The bank's row, of the one HIBPA version 3.
     pub fn bank(&self) -> &BankRow
         ensures { result.now ≡ self.now.bank }
@@ -68,4 +94,68 @@ impl Params {
     {
         self.skipped
     }
+}
+
+fn all_unsaid(usages: &[u32]) -> bool
+    ensures { result ≡ list_all (λ u. u == 1) usages.now }
+{
+    usages.iter().all(|u| *u == 1)
+}
+
+fn usage_of_all(usages: &[u32]) -> Usage
+    ensures { result ≡ usage_from usages.now }
+{
+    if usages.is_empty() {
+        return Usage::Locked;
+    }
+    if all_unsaid(usages) {
+        Usage::Unsaid
+    } else {
+        Usage::Locked
+    }
+}
+
+// The rows of all segments, if no part is missing.
+fn finish(rows: Gathered) -> Result<Params, ParamFault>
+    requires { rows.skipped < 2 ^ 32 }
+    ensures complete { IfOk result (λ p. (segments : List OwnedSegment) → IsGathered segments rows → end_fault segments ≡ None) }
+    ensures rows { IfOk result (λ p. (segments : List OwnedSegment) → IsGathered segments rows → IsRowsOf segments p) }
+    ensures missing { IfErr result (λ f. (segments : List OwnedSegment) → IsGathered segments rows → end_fault segments ≡ Some f) }
+{
+    let Gathered {
+        bank,
+        orders,
+        pins,
+        has_pins,
+        usages,
+        accounts,
+        skipped,
+    } = rows;
+    match bank {
+        None => return Err(ParamFault::NoBankParameters),
+        Some(bank) => {
+            if !has_pins {
+                return Err(ParamFault::NoPinParameters);
+            }
+            Ok(Params {
+                bank,
+                orders,
+                pins,
+                usage: usage_of_all(usages.as_slice()),
+                accounts,
+                skipped: skipped as u32,
+            })
+        }
+    }
+}
+
+// The rows of placed segments, or the first refusal.
+fn read_rows(alloc: Global, placed: &[PlacedSegment]) -> Result<Params, ParamFault>
+    requires { CanCountSkipped placed.now }
+    ensures rows { IfOk result (λ p. IsParamsIn placed.now p) }
+    ensures refused { IfErr result (λ f. IsMemoryOr (IsParamFaultIn placed.now) f) }
+{
+    let mut rows = no_rows(alloc);
+    read_into(alloc, placed, &mut rows)?;
+    finish(rows)
 }

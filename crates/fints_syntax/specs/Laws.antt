@@ -1,9 +1,12 @@
 -- The laws of segment texts. Each is the contract of a public function, which a proof in a crate above calls for it.
-use Rattle.std.specs.Prelude.{◌≡◌, ◌≤◌, ◌++◌, ℕ, List, length, take, Some}
+use Rattle.std.specs.Prelude.{◌≡◌, ◌≢◌, ◌≤◌, ◌++◌, ℕ, List, length, take, Some}
 use Rattle.fints_syntax.specs.Spelling.{Spelled}
 use Rattle.fints_syntax.specs.Segment.{segment_bytes, values_of, head_of, IsFramed, IsSegment}
 use Rattle.fints_syntax.specs.Faults.{BeginsWithSegment, window_of}
+use Rattle.fints_syntax.specs.Capture.{IsCapture, IsCaptureFault, MAX_CAPTURE}
 use Rattle.fints_syntax.specs.Written.{segment_values, written_tree, written_segment, IsWritable}
+use Rattle.fints_syntax.specs.declared.fault.SyntaxFault.{SyntaxFault}
+use Rattle.fints_syntax.specs.declared.fault.SyntaxKind.TheVariants.{Memory}
 use Rattle.fints_syntax.specs.declared.item.OwnedSegment.{OwnedSegment}
 
 -- a byte list begins with at most one segment text, and that is the text of one segment
@@ -32,3 +35,11 @@ abbrev pub NothingElseIsRead : Type 0
 NothingElseIsRead =
     (s : OwnedSegment) (rest : List ℕ) (es : List (List Spelled)) (len : ℕ) → IsWritable s → IsSegment es → len ≤ length (written_segment s ++ rest) → take len (written_segment s ++ rest) ≡ segment_bytes es
     → (es ≡ written_tree s) × (len ≡ length (written_segment s))
+
+-- a capture is one list of segments
+abbrev pub OneCapture : Type 0
+OneCapture = (input : List ℕ) (s t : List (List (List Spelled))) → IsCapture input s → IsCapture input t → s ≡ t
+
+-- bytes with a fault, but for want of memory, are no capture
+abbrev pub NoCaptureAtFault : Type 0
+NoCaptureAtFault = (input : List ℕ) (f : SyntaxFault) (s : List (List (List Spelled))) → IsCaptureFault input f → f.kind ≢ Memory → length input ≤ MAX_CAPTURE → IsCapture input s → ⊥

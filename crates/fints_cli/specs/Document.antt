@@ -1,0 +1,51 @@
+-- Which TOML data a text denotes, and look-ups in them.
+use Rattle.std.specs.Prelude.{ℕ, pos, Bool, true, ◌&&◌, if◌then◌else◌, List, [], ◌∷◌, Option, Some, None, option_and_then}
+use Rattle.std.specs.List.{list_any}
+use Rattle.std.specs.Str.{is_utf8, bytes_eq}
+use Rattle.toml.specs.Parse.{parse_document}
+use Rattle.toml.specs.Data.{Data, integer, array, table, Items, no_items, item, Members, no_members, member, get_member}
+
+infixl 10 ◌>>=◌
+abbrev pub ◌>>=◌ : {A B : Type 0} → Option A → (A → Option B) → Option B
+o >>= f = option_and_then f o
+
+-- the top table of the text, as `toml` reads it; bytes that aren't UTF-8 are no text
+unfoldable pub document : List ℕ → Option Members
+document text = if is_utf8 text then parse_document text else None
+
+-- the key is one of the names
+abbrev pub is_among : List (List ℕ) → List ℕ → Bool
+is_among names key = list_any (λ name. bytes_eq name key) names
+
+-- each key is one of the names
+abbrev pub only_keys : List (List ℕ) → Members → Bool
+only_keys names no_members = true
+only_keys names (member key d ms) = is_among names key && only_keys names ms
+
+-- the items as a list
+abbrev pub item_list : Items → List Data
+item_list no_items = []
+item_list (item d ds) = d ∷ item_list ds
+
+-- the values of an array
+abbrev pub values_in : Data → Option (List Data)
+values_in (array ds) = Some (item_list ds)
+values_in _ = None
+
+-- the table that is the one value
+abbrev pub only_table : List Data → Option Members
+only_table (table ms ∷ []) = Some ms
+only_table _ = None
+
+-- the values of the array at a key
+unfoldable pub values_at : List ℕ → Members → Option (List Data)
+values_at key ms = get_member key ms >>= values_in
+
+-- the one table of the array at a key
+unfoldable pub table_at : List ℕ → Members → Option Members
+table_at key ms = values_at key ms >>= only_table
+
+-- an integer that isn't negative
+abbrev pub natural : Data → Option ℕ
+natural (integer (pos n)) = Some n
+natural _ = None

@@ -1,0 +1,93 @@
+-- What a segment tells takes no less room in its text.
+use Rattle.std.proofs.Common.{◌≡◌, ℕ, ◌+◌, ◌<◌, ◌≤◌, Bool, true, false, List, [], ◌∷◌, ◌++◌, length, drop, map, refl, ap, ◌∙◌, sym, subst, arith, Option, Some, None}
+use Rattle.std.specs.Prelude.{slice_get}
+use Rattle.std.specs.List.{AllByRecursion, filter, flat_map, count_by}
+use Rattle.std.specs.Option.{option_and_then}
+use Rattle.std.proofs.lemmas.List.{append-nil, length-append, length-drop, length-map}
+use Rattle.std.proofs.lemmas.List.Concat.{flat_map-append}
+use Rattle.std.proofs.lemmas.List.Sums.{sum_by-cons, count_by-le-length}
+use Rattle.fints_syntax.specs.Spelling.{Spelled, text, binary, spelled_bytes, item_of}
+use Rattle.fints_syntax.specs.Segment.{Token, token_bytes, tokens_bytes, element_tokens, segment_tokens, segment_bytes, values_of, head_of, IsSegment}
+use Rattle.fints_syntax.specs.Places.{item_size, items_size, elements_size, data_offset, start_of}
+use Rattle.fints_syntax.specs.Owned.{IsOwned}
+use Rattle.fints_syntax.specs.declared.item.Head.{Head}
+use Rattle.fints_syntax.specs.declared.item.OwnedItem.{OwnedItem}
+use Rattle.fints_syntax.specs.declared.item.OwnedSegment.{OwnedSegment}
+use Rattle.fints_params.specs.Reading.{is_empty}
+use Rattle.fints_params.specs.Sealed.{binary_bytes, data_of}
+use Rattle.fints_params.specs.Orders.{is_odd_order}
+use Rattle.fints_params.specs.Accounts.{is_account, entry_elements, is_odd_element}
+use Rattle.fints_params.specs.Parameters.{skipped_in}
+
+element_size : (end : ℕ) (items : List Spelled) → length (tokens_bytes (element_tokens end items)) ≡ items_size items
+element_size end [] = refl
+element_size end (s ∷ []) = omega (arith, length-append (spelled_bytes s ++ end ∷ []) [], length-append (spelled_bytes s) (end ∷ []))
+element_size end (s ∷ t ∷ ss) =
+    omega (arith, length-append (spelled_bytes s ++ 58 ∷ []) (tokens_bytes (element_tokens end (t ∷ ss))), length-append (spelled_bytes s) (58 ∷ []), element_size end (t ∷ ss), sum_by-cons item_size s (t ∷ ss))
+
+pub segment_size : (es : List (List Spelled)) → length (segment_bytes es) ≡ elements_size es
+segment_size [] = refl
+segment_size (e ∷ []) = omega (arith, element_size 39 e, sum_by-cons items_size e [])
+segment_size (e ∷ f ∷ es) =
+    let joined = ap length (flat_map-append token_bytes (element_tokens 43 e) (segment_tokens (f ∷ es))) in
+    omega (arith, joined, length-append (tokens_bytes (element_tokens 43 e)) (tokens_bytes (segment_tokens (f ∷ es))), element_size 43 e, segment_size (f ∷ es), sum_by-cons items_size e (f ∷ es))
+
+offset_within : (s : Spelled) → data_offset s ≤ length (spelled_bytes s)
+offset_within (text us) = omega arith
+offset_within (binary digits bytes) = omega (arith, length-append digits (64 ∷ bytes))
+
+some_same : {A : Type 0} (x y : A) → Some x ≡ Some y → x ≡ y
+some_same x y e = cc
+
+-- an item starts in the text
+pub start_within : (es : List (List Spelled)) (o : ℕ) → start_of es 2 1 ≡ Some o → o ≤ length (segment_bytes es)
+start_within [] o e = absurd cc
+start_within (h ∷ []) o e = absurd cc
+start_within (h ∷ [] ∷ rest) o e = absurd cc
+start_within (h ∷ (s ∷ ss) ∷ rest) o e =
+    let at : elements_size (h ∷ []) + 0 + data_offset s ≡ o = some_same (elements_size (h ∷ []) + 0 + data_offset s) o e in
+    omega (arith, at, segment_size (h ∷ (s ∷ ss) ∷ rest), offset_within s, sum_by-cons items_size h ((s ∷ ss) ∷ rest), sum_by-cons items_size h [], sum_by-cons items_size (s ∷ ss) rest, sum_by-cons item_size s ss)
+
+abbrev data_in : List (List OwnedItem) → Option (List ℕ)
+data_in [] = None
+data_in (x ∷ xs) = option_and_then binary_bytes (slice_get x 0)
+
+data_first : (s : OwnedSegment) (elements : List (List OwnedItem)) → s.elements ≡ elements → data_of s ≡ data_in elements
+data_first s [] e = rw e refl
+data_first s (x ∷ xs) e = rw e refl
+
+-- the data of a segment stand in its text
+pub data_within : (es : List (List Spelled)) (s : OwnedSegment) (bytes : List ℕ) → IsOwned es s → data_of s ≡ Some bytes → length bytes ≤ length (segment_bytes es)
+data_within [] s bytes o e = absurd (let k = sym e ∙ data_first s [] o.elements_are in cc)
+data_within (h ∷ []) s bytes o e = absurd (let k = sym e ∙ data_first s [] o.elements_are in cc)
+data_within (h ∷ [] ∷ rest) s bytes o e = absurd (let k = sym e ∙ data_first s ([] ∷ values_of rest) o.elements_are in cc)
+data_within (h ∷ (text us ∷ ss) ∷ rest) s bytes o e = absurd (let k = sym e ∙ data_first s (values_of ((text us ∷ ss) ∷ rest)) o.elements_are in cc)
+data_within (h ∷ (binary digits data' ∷ ss) ∷ rest) s bytes o e =
+    let same : bytes ≡ data' = some_same bytes data' (sym e ∙ data_first s (values_of ((binary digits data' ∷ ss) ∷ rest)) o.elements_are) in
+    omega (arith, ap length same, segment_size (h ∷ (binary digits data' ∷ ss) ∷ rest), length-append digits (64 ∷ data'), sum_by-cons items_size h ((binary digits data' ∷ ss) ∷ rest), sum_by-cons items_size (binary digits data' ∷ ss) rest, sum_by-cons item_size (binary digits data') ss)
+
+elements_within : (es : List (List Spelled)) → AllByRecursion (λ e. 0 < length e) es → length es ≤ elements_size es
+elements_within [] h = omega arith
+elements_within ([] ∷ es) h = absurd (omega (arith, h.0))
+elements_within ((s ∷ ss) ∷ es) h = omega (arith, elements_within es h.1, sum_by-cons items_size (s ∷ ss) es, sum_by-cons item_size s ss)
+
+account_within : (s : OwnedSegment) (b : Bool) → is_account s ≡ b → length (flat_map entry_elements (filter is_account (s ∷ []))) ≤ length s.elements
+account_within s true e = rw e (omega (arith, length-append (drop 9 s.elements) [], length-drop 9 s.elements))
+account_within s false e = rw e (omega arith)
+
+elements_of : (es : List (List Spelled)) (s : OwnedSegment) → IsOwned es s → length es ≡ 1 + length s.elements
+elements_of [] s o = let h = o.head in absurd cc
+elements_of (e ∷ es) s o = omega (arith, ap length o.elements_are, length-map es (λ x. map item_of x))
+
+-- no more is skipped than the text has bytes
+pub skipped_within : (es : List (List Spelled)) (s : OwnedSegment) → IsSegment es → IsOwned es s → skipped_in (s ∷ []) ≤ length (segment_bytes es)
+skipped_within es s seg o =
+    omega (
+      arith,
+      segment_size es,
+      elements_within es seg.framed.nonempty,
+      elements_of es s o,
+      account_within s (is_account s) refl,
+      count_by-le-length is_odd_order (s ∷ []),
+      count_by-le-length is_odd_element (flat_map entry_elements (filter is_account (s ∷ []))),
+    )

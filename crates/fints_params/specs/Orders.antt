@@ -1,0 +1,28 @@
+-- HIabcS and DIabcS, but for HIPINS, are for order HKabc or DKabc of the segment's version: element 2 greatest number of orders, 3 least number of signatures. One without these two numbers is skipped and counted.
+use Rattle.std.specs.Prelude.{ℕ, ◌==◌, ◌||◌, ◌&&◌, Bool, not, List, [], ◌∷◌, length, get_or, codes, if◌then◌else◌, Option, Some, None}
+use Rattle.std.specs.Option.{option_and_then, option_map}
+use Rattle.std.specs.Str.{bytes_eq}
+use Rattle.fints_syntax.specs.declared.item.OwnedSegment.{OwnedSegment}
+use Rattle.fints_syntax.specs.Kind.{kind_from}
+use Rattle.fints_params.specs.declared.rows.OrderParam.{OrderParam}
+use Rattle.fints_params.specs.Reading.{value_at, number_in, tells}
+
+-- the kind of the orders that the identifier speaks of
+abbrev pub is_order_identifier : List ℕ → Bool
+is_order_identifier id = length id == 6 && (get_or id 0 0 == 72 || get_or id 0 0 == 68) && get_or id 1 0 == 73 && get_or id 5 0 == 83 && not (bytes_eq id (codes "HIPINS"))
+
+abbrev pub order_kind : List ℕ → Option (List ℕ)
+order_kind id = if is_order_identifier id then kind_from (get_or id 0 0 ∷ 75 ∷ get_or id 2 0 ∷ get_or id 3 0 ∷ get_or id 4 0 ∷ []) else None
+
+-- what the segment says of the kind, if it has both numbers
+abbrev pub order_of : OwnedSegment → List ℕ → Option OrderParam
+order_of s kind =
+    option_and_then (λ n. option_map (λ k. record { kind = kind; version = s.head.version; orders = n; signatures = k }) (number_in (value_at s 3 1))) (number_in (value_at s 2 1))
+
+-- of a parameter segment
+abbrev pub order_in : OwnedSegment → Option OrderParam
+order_in s = option_and_then (λ k. order_of s k) (order_kind s.head.id)
+
+-- a parameter segment without the numbers
+abbrev pub is_odd_order : OwnedSegment → Bool
+is_odd_order s = tells (order_kind s.head.id) && not (tells (order_in s))

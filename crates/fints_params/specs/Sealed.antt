@@ -1,0 +1,23 @@
+-- HNVSD 1: item 1 of its element 2 is binary, and its data are segments.
+use Rattle.std.specs.Prelude.{ℕ, Bool, List, length, slice_get, codes, Option, Some, None}
+use Rattle.std.specs.Option.{option_and_then, option_map_or}
+use Rattle.fints_syntax.specs.declared.item.OwnedItem.{OwnedItem}
+use Rattle.fints_syntax.specs.declared.item.OwnedItem.TheVariants.{Text, Bin}
+use Rattle.fints_syntax.specs.declared.item.OwnedSegment.{OwnedSegment}
+use Rattle.fints_params.specs.Reading.{is_named, items_in}
+
+abbrev pub is_sealed : OwnedSegment → Bool
+is_sealed s = is_named s (codes "HNVSD") 1
+
+-- the bytes of a binary item
+abbrev pub binary_bytes : OwnedItem → Option (List ℕ)
+binary_bytes (Bin bytes) = Some bytes
+binary_bytes (Text bytes) = None
+
+-- the data, where item 1 of element 2 is binary
+abbrev pub data_of : OwnedSegment → Option (List ℕ)
+data_of s = option_and_then binary_bytes (slice_get (items_in s 2) 0)
+
+-- how many bytes the data have
+abbrev pub data_len : OwnedSegment → ℕ
+data_len s = option_map_or length (data_of s) 0

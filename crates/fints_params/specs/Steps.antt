@@ -1,0 +1,47 @@
+-- What a reader that goes from segment to segment has read so far, and where it stops.
+use Rattle.std.specs.Prelude.{◌+◌, ◌<◌, ◌≤◌, ◌^◌, ◌∷◌, [], ◌++◌, List, length, map}
+use Rattle.fints_syntax.specs.Segment.{segment_bytes}
+use Rattle.fints_syntax.specs.Capture.{MAX_CAPTURE}
+use Rattle.fints_syntax.specs.declared.capture.Placed as syntax
+use Rattle.fints_syntax.specs.declared.item.OwnedSegment.{OwnedSegment}
+use Rattle.fints_params.specs.declared.fault.ParamFault.{ParamFault}
+use Rattle.fints_params.specs.declared.placed.PlacedSegment.{PlacedSegment}
+use Rattle.fints_params.specs.Faults.{IsMemoryOr}
+use Rattle.fints_params.specs.Parameters.{skipped_in}
+use Rattle.fints_params.specs.Sealed.{data_of}
+use Rattle.fints_params.specs.Opened.{Part, part, closed, StandsFor, SealedStandsFor, StandFor}
+use Rattle.fints_params.specs.Captures.{Rule, IsRefusedAfter}
+
+-- a state that is right for what was seen is right after these segments too
+abbrev pub Continues : {S : Type 0} → (List OwnedSegment → S → Type 0) → S → S → List OwnedSegment → Type 0
+Continues Good old new segments = (seen : List OwnedSegment) → Good seen old → Good (seen ++ segments) new
+
+-- the first refusal among these parts after what was seen
+abbrev pub StopsIn : {S : Type 0} → Rule → (List OwnedSegment → S → Type 0) → S → List Part → ParamFault → Type 0
+StopsIn rule Good old parts f = (seen : List OwnedSegment) → Good seen old → IsRefusedAfter rule seen parts f
+
+-- the same for what a placed segment stands for
+abbrev pub ContinuesOver : {S : Type 0} → (List OwnedSegment → S → Type 0) → S → S → PlacedSegment → Type 0
+ContinuesOver Good old new p = (segments : List OwnedSegment) × StandsFor p (map part segments) × Continues Good old new segments
+
+abbrev pub StopsAt : {S : Type 0} → Rule → (List OwnedSegment → S → Type 0) → S → PlacedSegment → ParamFault → Type 0
+StopsAt rule Good old p f = (parts : List Part) × StandsFor p parts × StopsIn rule Good old parts f
+
+-- the state is right for all that the placed segments stand for
+abbrev pub ReadsAll : {S : Type 0} → (List OwnedSegment → S → Type 0) → List PlacedSegment → S → Type 0
+ReadsAll Good placed new = (segments : List OwnedSegment) × StandFor placed (map part segments) × Good segments new
+
+-- the data of a placed segment, opened, and why they can't be
+abbrev pub OpensTo : PlacedSegment → List OwnedSegment → Type 0
+OpensTo p segments = SealedStandsFor p (data_of p.segment) (map part segments)
+
+abbrev pub IsClosedBy : PlacedSegment → ParamFault → Type 0
+IsClosedBy p f = SealedStandsFor p (data_of p.segment) (closed f ∷ [])
+
+-- the segment ends within the longest capture
+abbrev pub IsWithin : syntax.Placed → Type 0
+IsWithin view = view.start + length (segment_bytes view.segment) ≤ MAX_CAPTURE
+
+-- fewer things than a number can count are skipped
+abbrev pub CanCountSkipped : List PlacedSegment → Type 0
+CanCountSkipped placed = (segments : List OwnedSegment) → StandFor placed (map part segments) → skipped_in segments < 2 ^ 32

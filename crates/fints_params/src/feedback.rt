@@ -1,0 +1,84 @@
+//! The codes of a message's feedback: HIRMG and HIRMS version 2.
+ghost use Rattle.std.specs.Prelude.{◌≡◌, ◌++◌, [], ◌∷◌, None, IfOk, IfErr};
+ghost use Rattle.fints_params.specs.Faults.{IsBad, IsMemoryOr};
+ghost use Rattle.fints_params.specs.Feedback.{is_feedback, first_value, codes_of, codes_in, codes_fault, bad_code, feedback_fault};
+ghost use Rattle.fints_params.specs.Captures.{IsCodesOf, IsCodeFault};
+ghost use Rattle.fints_params.specs.Taken.{CodesSoFar};
+
+use crate::capture::read_capture;
+use crate::code::Code;
+use crate::fault::{ParamFault, bad_element};
+use crate::opening::{Reader, read_into};
+use crate::reading::{has_name, value_in};
+use fints_syntax::OwnedSegment;
+use std::alloc::Global;
+
+/// The codes so far.
+#[derive(Drop)]
+struct Found {
+    codes: Vec<Code>,
+}
+
+fn is_feedback(segment: &OwnedSegment) -> bool
+    ensures { result ≡ is_feedback segment.now }
+{
+    has_name(segment, b"HIRMG".as_slice(), 2) || has_name(segment, b"HIRMS".as_slice(), 2)
+}
+
+// Adds the codes of a segment of feedback.
+fn read_codes(segment: &OwnedSegment, codes: &mut Vec<Code>) -> Result<(), ParamFault>
+    ensures fine { IfOk result (λ _. codes_fault segment.now ≡ None) }
+    ensures codes { IfOk result (λ _. codes.new.items ≡ codes.old.items ++ codes_of segment.now) }
+    ensures fault { IfErr result (λ f. IsBad segment.now (codes_fault segment.now) f) }
+{
+    for (i, items) in segment.elements.as_slice().iter().enumerate() {
+        let text = value_in(items.as_slice(), 1);
+        if !text.is_empty() {
+            match Code::parse(text) {
+                None => return Err(bad_element(segment, i + 2)),
+                Some(code) => codes.push(code)?,
+            }
+        }
+    }
+    Ok(())
+}
+
+// Adds the codes of a segment, if it is feedback.
+fn take_codes(segment: &OwnedSegment, codes: &mut Vec<Code>) -> Result<(), ParamFault>
+    ensures fine { IfOk result (λ _. bad_code segment.now ≡ None) }
+    ensures codes { IfOk result (λ _. codes.new.items ≡ codes.old.items ++ codes_in (segment.now ∷ [])) }
+    ensures fault { IfErr result (λ f. IsBad segment.now (bad_code segment.now) f) }
+{
+    if !is_feedback(segment) {
+        return Ok(());
+    }
+    read_codes(segment, codes)
+}
+
+impl Reader for Found {
+    ghost rule = { feedback_fault };
+
+    ghost good = { λ seen found. CodesSoFar seen found.codes.items };
+
+    fn add(&mut self, _alloc: Global, segment: &OwnedSegment) -> Result<(), ParamFault> {
+        take_codes(segment, &mut self.codes)
+    }
+
+    ghost none_refused = { λ seen found h. h.none };
+}
+
+/// The codes of a message in their order: item 1 of each element from 2 on of HIRMG and HIRMS
+/// version 2, where it isn't empty. An HNVSD version 1 stands for the segments of its data, and
+/// the first refusal is found in the order of `Params::read`; an item that is no code is a bad
+/// element.
+pub fn feedback_codes(alloc: Global, message: &[u8]) -> Result<Vec<Code>, ParamFault>
+    ensures codes { IfOk result (λ v. IsCodesOf message.now v.items) }
+    ensures refused { IfErr result (λ f. IsMemoryOr (IsCodeFault message.now) f) }
+{
+    let placed = read_capture(alloc, message)?;
+    let mut found = Found {
+        codes: Vec::new(alloc),
+    };
+    read_into(alloc, placed.as_slice(), &mut found)?;
+    Ok(found.codes)
+}

@@ -1,0 +1,59 @@
+//! Parameter segments: what a bank allows of a kind of orders.
+ghost use Rattle.std.specs.Prelude.{◌≡◌, Some, None};
+ghost use Rattle.fints_params.specs.Orders.{order_kind, order_of, order_in, is_odd_order};
+ghost use Rattle.fints_params.specs.Reading.{tells};
+
+use crate::reading::value_of;
+use crate::rows::OrderParam;
+use fints_syntax::{Kind, OwnedSegment, parse_number};
+
+/// The kind of the orders that the identifier speaks of.
+pub fn kind_of(id: Kind) -> Option<Kind>
+    ensures { result ≡ order_kind id }
+{
+    match id.as_bytes() {
+        [first, middle, x, y, z, last] => {
+            if *first != b'H' && *first != b'D' {
+                return None;
+            }
+            if *middle != b'I' || *last != b'S' {
+                return None;
+            }
+            if id.as_bytes() == b"HIPINS".as_slice() {
+                return None;
+            }
+            Kind::parse(&[*first, b'K', *x, *y, *z])
+        }
+        _ => None,
+    }
+}
+
+/// What a parameter segment says of the kind of orders, if it has both numbers.
+pub fn read_order(segment: &OwnedSegment, kind: Kind) -> Option<OrderParam>
+    ensures { result ≡ order_of segment.now kind }
+{
+    let orders = parse_number(value_of(segment, 2, 1))?;
+    let signatures = parse_number(value_of(segment, 3, 1))?;
+    Some(OrderParam {
+        kind,
+        version: segment.head.version,
+        orders,
+        signatures,
+    })
+}
+
+fn has_order(segment: &OwnedSegment) -> bool
+    ensures { result ≡ tells (order_in segment.now) }
+{
+    match kind_of(segment.head.id) {
+        None => false,
+        Some(kind) => read_order(segment, kind).is_some(),
+    }
+}
+
+/// A parameter segment without both numbers.
+pub fn is_odd(segment: &OwnedSegment) -> bool
+    ensures { result ≡ is_odd_order segment.now }
+{
+    kind_of(segment.head.id).is_some() && !has_order(segment)
+}

@@ -1,0 +1,5 @@
+use Rattle.fints_syntax.proofs.OneCapture.{one_capture}
+use Rattle.fints_syntax.proofs.laws.one_capture.Goals as goal
+
+pub returns : goal.returns
+returns c = one_capture
