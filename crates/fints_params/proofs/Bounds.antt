@@ -4,7 +4,7 @@ use Rattle.std.specs.List.{AllByRecursion, AllZip, flat_map}
 use Rattle.std.proofs.lemmas.List.{length-append}
 use Rattle.fints_syntax.specs.Spelling.{Spelled}
 use Rattle.fints_syntax.specs.Segment.{segment_bytes}
-use Rattle.fints_syntax.specs.Capture.{Piece, piece_bytes, IsPiece, placed_from, ReadsPlaced, IsPlacedCapture, MAX_CAPTURE}
+use Rattle.fints_syntax.specs.Capture.{Piece, piece_bytes, IsPiece, placed_from, IsPlacedCapture, MAX_CAPTURE}
 use Rattle.fints_syntax.specs.Places.{start_of}
 use Rattle.fints_syntax.specs.Owned.{IsOwned}
 use Rattle.fints_syntax.specs.declared.capture.Placed as syntax

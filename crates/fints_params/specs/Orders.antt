@@ -1,5 +1,5 @@
 -- HIabcS and DIabcS, but for HIPINS, are for order HKabc or DKabc of the segment's version: element 2 greatest number of orders, 3 least number of signatures. One without these two numbers is skipped and counted.
-use Rattle.std.specs.Prelude.{ℕ, ◌==◌, ◌||◌, ◌&&◌, Bool, not, List, [], ◌∷◌, length, get_or, codes, if◌then◌else◌, Option, Some, None}
+use Rattle.std.specs.Prelude.{ℕ, ◌==◌, ◌||◌, ◌&&◌, Bool, not, List, [], ◌∷◌, length, get_or, codes, if◌then◌else◌, Option, None}
 use Rattle.std.specs.Option.{option_and_then, option_map}
 use Rattle.std.specs.Str.{bytes_eq}
 use Rattle.fints_syntax.specs.declared.item.OwnedSegment.{OwnedSegment}

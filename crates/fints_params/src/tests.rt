@@ -39,7 +39,8 @@ fn whole(alloc: Global) -> Result<Params, Fail> {
 
 // A bank's and a PIN segment, and more.
 fn with(alloc: Global, more: &[u8]) -> Result<Params, Fail> {
-    let capture = joined(alloc, &[bank(), pins(), more])?;
+    let mut capture = joined(alloc, &[bank(), pins()])?;
+    capture.extend_from_slice(more)?;
     Ok(
         Params::read(alloc, capture.as_slice())
             .ok()
