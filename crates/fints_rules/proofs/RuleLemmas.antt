@@ -21,9 +21,9 @@ pub not_among : (r : Bool) (protocols : List ℕ) (protocol : Option ℕ) (n : �
 not_among true protocols protocol n is same = (λ h. let no_match : false ≡ true = h in cc, λ none. absurd (none n (sym is) (contains_any protocols n (same.0 refl))))
 not_among false protocols protocol n is same = (
   λ _ k at among.
-  let both : Some n ≡ Some k = is ∙ at in
-  let here : n ≡ k = cc in
-  let no_match : false ≡ true = same.1 (any_contains protocols n (subst (Contains protocols) (sym here) among)) in cc,
+      let both : Some n ≡ Some k = is ∙ at in
+      let here : n ≡ k = cc in
+      let no_match : false ≡ true = same.1 (any_contains protocols n (subst (Contains protocols) (sym here) among)) in cc,
   λ _. refl,
 )
 

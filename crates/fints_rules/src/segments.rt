@@ -53,11 +53,7 @@ fn row_allows_fewer(permissions: &Permissions<'_>, segment: &OwnedSegment, count
     }
 }
 
-fn breaks_orders(
-    permissions: &Permissions<'_>,
-    message: &Message,
-    segment: &OwnedSegment,
-) -> bool
+fn breaks_orders(permissions: &Permissions<'_>, message: &Message, segment: &OwnedSegment) -> bool
     ensures { IsTrue result ↔ BreaksOrders permissions.now.rows message.now segment.now }
 {
     let kind = segment.head.id;
@@ -178,11 +174,7 @@ fn breaks_signatures(
     by_row || (is_plain_order(kind) && account_needs_more(permissions, message, segment))
 }
 
-fn breaks_account(
-    permissions: &Permissions<'_>,
-    message: &Message,
-    segment: &OwnedSegment,
-) -> bool
+fn breaks_account(permissions: &Permissions<'_>, message: &Message, segment: &OwnedSegment) -> bool
     ensures { IsTrue result ↔ BreaksAccount permissions.now.rows permissions.now.orders segment.now }
 {
     let head = segment.head;
