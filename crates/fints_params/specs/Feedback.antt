@@ -9,7 +9,8 @@ use Rattle.fints_syntax.specs.declared.item.OwnedSegment.{OwnedSegment}
 use Rattle.fints_syntax.specs.Segment.{item_value}
 use Rattle.fints_params.specs.declared.fault.ParamFault.{ParamFault}
 use Rattle.fints_params.specs.declared.fault.ParamFault.TheVariants.{BadElement}
-use Rattle.fints_params.specs.Reading.{is_named, is_empty, tells}
+use Rattle.fints_syntax.specs.Values.{is_named}
+use Rattle.fints_params.specs.Reading.{is_empty, tells}
 
 -- the number that exactly four digits spell
 abbrev pub code_in : List ℕ → Option ℕ

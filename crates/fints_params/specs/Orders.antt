@@ -5,7 +5,8 @@ use Rattle.std.specs.Str.{bytes_eq}
 use Rattle.fints_syntax.specs.declared.item.OwnedSegment.{OwnedSegment}
 use Rattle.fints_syntax.specs.Kind.{kind_from}
 use Rattle.fints_params.specs.declared.rows.OrderParam.{OrderParam}
-use Rattle.fints_params.specs.Reading.{value_at, number_in, tells}
+use Rattle.fints_syntax.specs.Values.{value_at}
+use Rattle.fints_params.specs.Reading.{number_in, tells}
 
 -- the kind of the orders that the identifier speaks of
 abbrev pub is_order_identifier : List ℕ → Bool
