@@ -4,7 +4,7 @@ use Rattle.std.specs.List.{AllByRecursion, AllZip, flat_map}
 use Rattle.std.proofs.lemmas.List.{length-append}
 use Rattle.fints_syntax.specs.Spelling.{Spelled}
 use Rattle.fints_syntax.specs.Segment.{segment_bytes}
-use Rattle.fints_syntax.specs.Capture.{Piece, piece_bytes, IsPiece, placed_from, ReadsPlaced, IsPlacedCapture, MAX_CAPTURE}
+use Rattle.fints_syntax.specs.Capture.{Piece, piece_bytes, IsPiece, placed_from, IsPlacedCapture, MAX_CAPTURE}
 use Rattle.fints_syntax.specs.Places.{start_of}
 use Rattle.fints_syntax.specs.Owned.{IsOwned}
 use Rattle.fints_syntax.specs.declared.capture.Placed as syntax
@@ -80,8 +80,15 @@ all_skips at [] [] parts each zip h = omega (arith, same_skips parts [] (ap segm
 all_skips at [] (p ∷ ps) parts each zip h = absurd zip
 all_skips at (q ∷ qs) [] parts each zip h = absurd zip
 all_skips at (q ∷ qs) (p ∷ ps) parts each zip (mine, more, own, rest, e) =
-    omega (arith, same_skips parts (segments_of mine ++ segments_of more) (ap segments_of e ∙ segments_of-append mine more), skipped_more (segments_of mine) (segments_of more),
-        one_skips q p mine each.0 zip.0.0 own, all_skips (at + length (piece_bytes q)) qs ps more each.1 zip.1 rest, length-append (piece_bytes q) (flat_map piece_bytes qs), length-append q.gap (segment_bytes q.elements))
+    omega (
+      arith,
+      same_skips parts (segments_of mine ++ segments_of more) (ap segments_of e ∙ segments_of-append mine more),
+      skipped_more (segments_of mine) (segments_of more),
+      one_skips q p mine each.0 zip.0.0 own,
+      all_skips (at + length (piece_bytes q)) qs ps more each.1 zip.1 rest,
+      length-append (piece_bytes q) (flat_map piece_bytes qs),
+      length-append q.gap (segment_bytes q.elements),
+    )
 
 read_skips : (capture : List ℕ) (placed : List PlacedSegment) (parts : List Part) → IsValuesOf capture placed → StandFor placed parts → skipped_in (segments_of parts) ≤ length capture
 read_skips capture placed parts v h =

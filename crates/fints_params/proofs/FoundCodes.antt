@@ -1,9 +1,9 @@
 -- The codes of feedback, as far as they are read.
-use Rattle.std.proofs.Common.{◌≡◌, ℕ, zero, suc, ◌+◌, ◌<◌, ◌≤◌, Bool, true, false, not, List, [], ◌∷◌, ◌++◌, length, take, map, get_or, refl, ap, ◌∙◌, sym, subst, arith, append_assoc, inl, inr, below_more, Option, Some, None}
+use Rattle.std.proofs.Common.{◌≡◌, ℕ, zero, suc, ◌+◌, ◌<◌, Bool, true, false, not, List, [], ◌∷◌, ◌++◌, length, take, map, get_or, refl, ap, ◌∙◌, sym, subst, arith, append_assoc, inl, inr, below_more, Option, Some, None}
 use Rattle.std.specs.Prelude.{position}
 use Rattle.std.specs.List.{filter_map, cons_option, position_or_len, filter, flat_map}
 use Rattle.std.proofs.lemmas.Bool.{lt-ltb, le-ltb}
-use Rattle.std.proofs.lemmas.List.{append-nil, take_more, take_all, length-map}
+use Rattle.std.proofs.lemmas.List.{append-nil, take_more, take_all}
 use Rattle.std.proofs.lemmas.List.Elements.{filter_map-append, filter-append}
 use Rattle.std.proofs.lemmas.List.Concat.{flat_map-append}
 use Rattle.std.proofs.lemmas.List.Sums.{prefix_len_is}
@@ -13,7 +13,7 @@ use Rattle.fints_params.specs.declared.fault.ParamFault.{ParamFault}
 use Rattle.fints_params.specs.declared.fault.ParamFault.TheVariants.{Memory, Syntax, BadElement, TwoBankParameters, NoBankParameters, NoPinParameters}
 use Rattle.fints_params.specs.Feedback.{code_in, first_value, is_bad_code, is_feedback, codes_of, codes_in, bad_code, feedback_fault}
 use Rattle.fints_params.specs.Faults.{IsBad, IsMemoryOr}
-use Rattle.fints_params.specs.Opened.{Part, part}
+use Rattle.fints_params.specs.Opened.{part}
 use Rattle.fints_params.specs.Captures.{NoneRefused}
 use Rattle.fints_params.specs.Steps.{Continues, StopsIn}
 use Rattle.fints_params.specs.Taken.{CodesSoFar}

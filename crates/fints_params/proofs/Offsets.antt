@@ -1,8 +1,8 @@
 -- Where faults stand.
-use Rattle.std.proofs.Common.{◌≡◌, ℕ, ◌+◌, ◌<◌, ◌≤◌, List, ◌∷◌, length, take, arith, Some}
+use Rattle.std.proofs.Common.{◌≡◌, ℕ, ◌≤◌, List, ◌∷◌, length, take, arith, Some}
 use Rattle.std.proofs.lemmas.List.{length-take}
 use Rattle.fints_syntax.specs.Faults.{KindAt}
-use Rattle.fints_syntax.specs.Capture.{FaultsAt, CaptureFaultAt, MAX_CAPTURE}
+use Rattle.fints_syntax.specs.Capture.{FaultsAt, CaptureFaultAt}
 use Rattle.fints_syntax.specs.declared.fault.SyntaxKind.{SyntaxKind}
 use Rattle.fints_syntax.specs.declared.fault.SyntaxKind.TheVariants.{Memory, BadBinary, TooLong, Incomplete, BadHead, CaptureTooLong}
 use Rattle.fints_syntax.specs.declared.item.OwnedSegment.{OwnedSegment}

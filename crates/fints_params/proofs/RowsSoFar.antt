@@ -1,8 +1,7 @@
 -- The rows, as far as the segments are read.
-use Rattle.std.proofs.Common.{◌≡◌, ℕ, ◌+◌, min, ◌<◌, ◌≤◌, Bool, true, false, ◌||◌, ◌&&◌, not, List, [], ◌∷◌, ◌++◌, length, map, refl, ap, ◌∙◌, sym, subst, arith, inl, inr, Option, Some, None}
-use Rattle.std.specs.Prelude.{IfErr}
+use Rattle.std.proofs.Common.{◌≡◌, ℕ, ◌+◌, min, Bool, true, false, ◌||◌, ◌&&◌, not, List, [], ◌∷◌, ◌++◌, map, refl, ap, ◌∙◌, sym, subst, arith, inl, inr, Option, Some, None}
 use Rattle.std.specs.List.{filter, filter_map, flat_map, cons_option, count_by}
-use Rattle.std.proofs.lemmas.List.{append-nil, map-append, length-map}
+use Rattle.std.proofs.lemmas.List.{append-nil, map-append}
 use Rattle.std.proofs.lemmas.List.Elements.{filter-append, filter_map-append}
 use Rattle.std.proofs.lemmas.List.Concat.{flat_map-append}
 use Rattle.std.proofs.lemmas.List.Sums.{sum_by-append}
@@ -17,10 +16,10 @@ use Rattle.fints_params.specs.Bank.{is_bank, bank_row}
 use Rattle.fints_params.specs.Pins.{is_pins, pin_rows}
 use Rattle.fints_params.specs.Orders.{order_in, is_odd_order}
 use Rattle.fints_params.specs.Accounts.{is_usage, usage_of, is_account, account_row, is_odd_element, entry_elements}
-use Rattle.fints_params.specs.Parameters.{bad_element, own_fault, fault_after, read_each, skipped_in}
+use Rattle.fints_params.specs.Parameters.{fault_after, read_each, skipped_in}
 use Rattle.fints_params.specs.Faults.{IsMemoryOr}
-use Rattle.fints_params.specs.Opened.{Part, part}
-use Rattle.fints_params.specs.Captures.{NoneRefused, IsRefusedAfter}
+use Rattle.fints_params.specs.Opened.{part}
+use Rattle.fints_params.specs.Captures.{NoneRefused}
 use Rattle.fints_params.specs.Steps.{Continues, StopsIn}
 use Rattle.fints_params.specs.Taken.{fault_with, IsTakeFault, Adds, IsGathered, SoFar, capped_sum, MOST}
 use Rattle.fints_params.proofs.Refusing.{none_push}

@@ -1,19 +1,17 @@
 -- What a segment tells takes no less room in its text.
-use Rattle.std.proofs.Common.{◌≡◌, ℕ, ◌+◌, ◌<◌, ◌≤◌, Bool, true, false, List, [], ◌∷◌, ◌++◌, length, drop, map, refl, ap, ◌∙◌, sym, subst, arith, Option, Some, None}
+use Rattle.std.proofs.Common.{◌≡◌, ℕ, ◌+◌, ◌<◌, ◌≤◌, Bool, true, false, List, [], ◌∷◌, ◌++◌, length, drop, map, refl, ap, ◌∙◌, sym, arith, Option, Some, None}
 use Rattle.std.specs.Prelude.{slice_get}
-use Rattle.std.specs.List.{AllByRecursion, filter, flat_map, count_by}
+use Rattle.std.specs.List.{AllByRecursion, filter, flat_map}
 use Rattle.std.specs.Option.{option_and_then}
-use Rattle.std.proofs.lemmas.List.{append-nil, length-append, length-drop, length-map}
+use Rattle.std.proofs.lemmas.List.{length-append, length-drop, length-map}
 use Rattle.std.proofs.lemmas.List.Concat.{flat_map-append}
 use Rattle.std.proofs.lemmas.List.Sums.{sum_by-cons, count_by-le-length}
 use Rattle.fints_syntax.specs.Spelling.{Spelled, text, binary, spelled_bytes, item_of}
-use Rattle.fints_syntax.specs.Segment.{Token, token_bytes, tokens_bytes, element_tokens, segment_tokens, segment_bytes, values_of, head_of, IsSegment}
+use Rattle.fints_syntax.specs.Segment.{token_bytes, tokens_bytes, element_tokens, segment_tokens, segment_bytes, values_of, IsSegment}
 use Rattle.fints_syntax.specs.Places.{item_size, items_size, elements_size, data_offset, start_of}
 use Rattle.fints_syntax.specs.Owned.{IsOwned}
-use Rattle.fints_syntax.specs.declared.item.Head.{Head}
 use Rattle.fints_syntax.specs.declared.item.OwnedItem.{OwnedItem}
 use Rattle.fints_syntax.specs.declared.item.OwnedSegment.{OwnedSegment}
-use Rattle.fints_params.specs.Reading.{is_empty}
 use Rattle.fints_params.specs.Sealed.{binary_bytes, data_of}
 use Rattle.fints_params.specs.Orders.{is_odd_order}
 use Rattle.fints_params.specs.Accounts.{is_account, entry_elements, is_odd_element}
@@ -82,5 +80,12 @@ elements_of (e ∷ es) s o = omega (arith, ap length o.elements_are, length-map 
 -- no more is skipped than the text has bytes
 pub skipped_within : (es : List (List Spelled)) (s : OwnedSegment) → IsSegment es → IsOwned es s → skipped_in (s ∷ []) ≤ length (segment_bytes es)
 skipped_within es s seg o =
-    omega (arith, segment_size es, elements_within es seg.framed.nonempty, elements_of es s o, account_within s (is_account s) refl,
-        count_by-le-length is_odd_order (s ∷ []), count_by-le-length is_odd_element (flat_map entry_elements (filter is_account (s ∷ []))))
+    omega (
+      arith,
+      segment_size es,
+      elements_within es seg.framed.nonempty,
+      elements_of es s o,
+      account_within s (is_account s) refl,
+      count_by-le-length is_odd_order (s ∷ []),
+      count_by-le-length is_odd_element (flat_map entry_elements (filter is_account (s ∷ []))),
+    )

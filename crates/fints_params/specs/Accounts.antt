@@ -9,7 +9,8 @@ use Rattle.fints_syntax.specs.Segment.{item_value}
 use Rattle.fints_syntax.specs.Kind.{kind_from}
 use Rattle.fints_params.specs.declared.rows.Entry.{Entry}
 use Rattle.fints_params.specs.declared.rows.AccountRow.{AccountRow}
-use Rattle.fints_params.specs.Reading.{is_named, value_at, number_in, number_or_zero, is_empty, tells}
+use Rattle.fints_syntax.specs.Values.{is_named, value_at}
+use Rattle.fints_params.specs.Reading.{number_in, number_or_zero, is_empty, tells}
 
 abbrev pub is_usage : OwnedSegment → Bool
 is_usage s = is_named s (codes "HIUPA") 4

@@ -1,5 +1,5 @@
 -- What is refused, and which refusal is the first.
-use Rattle.std.specs.Prelude.{◌≡◌, ◌⊎◌, ℕ, List, [], ◌∷◌, ◌++◌, map, Option, Some}
+use Rattle.std.specs.Prelude.{◌≡◌, ◌⊎◌, ℕ, Option, Some}
 use Rattle.fints_syntax.specs.declared.fault.SyntaxFault.{SyntaxFault}
 use Rattle.fints_syntax.specs.declared.fault.SyntaxKind.{SyntaxKind}
 use Rattle.fints_syntax.specs.declared.fault.SyntaxKind.TheVariants as kinds

@@ -1,5 +1,5 @@
 -- HIRMG 2 and HIRMS 2: in each element from 2 on, item 1 is a code of four digits; where it is empty, the element is skipped.
-use Rattle.std.specs.Prelude.{ℕ, ◌+◌, ◌==◌, ◌&&◌, ◌||◌, Bool, not, if◌then◌else◌, List, [], ◌∷◌, map, length, get_or, codes, Option, Some, None, position}
+use Rattle.std.specs.Prelude.{ℕ, ◌+◌, ◌==◌, ◌&&◌, ◌||◌, Bool, not, if◌then◌else◌, List, [], map, length, get_or, codes, Option, Some, None, position}
 use Rattle.std.specs.List.{filter, filter_map, flat_map}
 use Rattle.std.specs.Option.{option_map}
 use Rattle.std.specs.Str.{all_ascii_digits}
@@ -9,7 +9,8 @@ use Rattle.fints_syntax.specs.declared.item.OwnedSegment.{OwnedSegment}
 use Rattle.fints_syntax.specs.Segment.{item_value}
 use Rattle.fints_params.specs.declared.fault.ParamFault.{ParamFault}
 use Rattle.fints_params.specs.declared.fault.ParamFault.TheVariants.{BadElement}
-use Rattle.fints_params.specs.Reading.{is_named, is_empty, tells}
+use Rattle.fints_syntax.specs.Values.{is_named}
+use Rattle.fints_params.specs.Reading.{is_empty, tells}
 
 -- the number that exactly four digits spell
 abbrev pub code_in : List ℕ → Option ℕ

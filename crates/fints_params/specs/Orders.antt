@@ -1,11 +1,12 @@
 -- HIabcS and DIabcS, but for HIPINS, are for order HKabc or DKabc of the segment's version: element 2 greatest number of orders, 3 least number of signatures. One without these two numbers is skipped and counted.
-use Rattle.std.specs.Prelude.{ℕ, ◌==◌, ◌||◌, ◌&&◌, Bool, not, List, [], ◌∷◌, length, get_or, codes, if◌then◌else◌, Option, Some, None}
+use Rattle.std.specs.Prelude.{ℕ, ◌==◌, ◌||◌, ◌&&◌, Bool, not, List, [], ◌∷◌, length, get_or, codes, if◌then◌else◌, Option, None}
 use Rattle.std.specs.Option.{option_and_then, option_map}
 use Rattle.std.specs.Str.{bytes_eq}
 use Rattle.fints_syntax.specs.declared.item.OwnedSegment.{OwnedSegment}
 use Rattle.fints_syntax.specs.Kind.{kind_from}
 use Rattle.fints_params.specs.declared.rows.OrderParam.{OrderParam}
-use Rattle.fints_params.specs.Reading.{value_at, number_in, tells}
+use Rattle.fints_syntax.specs.Values.{value_at}
+use Rattle.fints_params.specs.Reading.{number_in, tells}
 
 -- the kind of the orders that the identifier speaks of
 abbrev pub is_order_identifier : List ℕ → Bool

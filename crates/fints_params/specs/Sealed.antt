@@ -4,7 +4,7 @@ use Rattle.std.specs.Option.{option_and_then, option_map_or}
 use Rattle.fints_syntax.specs.declared.item.OwnedItem.{OwnedItem}
 use Rattle.fints_syntax.specs.declared.item.OwnedItem.TheVariants.{Text, Bin}
 use Rattle.fints_syntax.specs.declared.item.OwnedSegment.{OwnedSegment}
-use Rattle.fints_params.specs.Reading.{is_named, items_in}
+use Rattle.fints_syntax.specs.Values.{is_named, items_in}
 
 abbrev pub is_sealed : OwnedSegment → Bool
 is_sealed s = is_named s (codes "HNVSD") 1

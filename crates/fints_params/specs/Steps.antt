@@ -6,7 +6,6 @@ use Rattle.fints_syntax.specs.declared.capture.Placed as syntax
 use Rattle.fints_syntax.specs.declared.item.OwnedSegment.{OwnedSegment}
 use Rattle.fints_params.specs.declared.fault.ParamFault.{ParamFault}
 use Rattle.fints_params.specs.declared.placed.PlacedSegment.{PlacedSegment}
-use Rattle.fints_params.specs.Faults.{IsMemoryOr}
 use Rattle.fints_params.specs.Parameters.{skipped_in}
 use Rattle.fints_params.specs.Sealed.{data_of}
 use Rattle.fints_params.specs.Opened.{Part, part, closed, StandsFor, SealedStandsFor, StandFor}

@@ -6,7 +6,7 @@ ghost use Rattle.fints_params.specs.Accounts.{is_empty_element, entry_kind, entr
 ghost use Rattle.fints_params.specs.Faults.{IsBad};
 
 use crate::fault::{ParamFault, bad_element};
-use crate::reading::{copy, value_in, value_of};
+use crate::reading::{copy, value_in};
 use crate::rows::{AccountRow, Entries, Entry, National};
 use fints_syntax::{Kind, OwnedItem, OwnedSegment, parse_number};
 use std::alloc::{AllocError, Global};
@@ -17,7 +17,7 @@ pub fn read_usage(segment: &OwnedSegment) -> Result<u32, ParamFault>
     ensures value { IfOk result (λ n. n ≡ usage_of segment.now) }
     ensures fault { IfErr result (λ f. IsBad segment.now (usage_fault segment.now) f) }
 {
-    match parse_number(value_of(segment, 4, 1)) {
+    match parse_number(segment.value(4, 1)) {
         None => Err(bad_element(segment, 4)),
         Some(number) => {
             if number != 0 && number != 1 {
@@ -105,12 +105,12 @@ pub fn read_account(alloc: Global, segment: &OwnedSegment) -> Result<AccountRow,
     let entries = read_entries(alloc, segment)?;
     Ok(AccountRow {
         national: National {
-            number: copy(alloc, value_of(segment, 2, 1))?,
-            subaccount: copy(alloc, value_of(segment, 2, 2))?,
-            country: copy(alloc, value_of(segment, 2, 3))?,
-            bank: copy(alloc, value_of(segment, 2, 4))?,
+            number: copy(alloc, segment.value(2, 1))?,
+            subaccount: copy(alloc, segment.value(2, 2))?,
+            country: copy(alloc, segment.value(2, 3))?,
+            bank: copy(alloc, segment.value(2, 4))?,
         },
-        iban: copy(alloc, value_of(segment, 3, 1))?,
+        iban: copy(alloc, segment.value(3, 1))?,
         entries,
     })
 }

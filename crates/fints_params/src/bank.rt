@@ -5,7 +5,7 @@ ghost use Rattle.fints_params.specs.Faults.{IsBad};
 ghost use Rattle.fints_syntax.specs.Segment.{item_value};
 
 use crate::fault::{ParamFault, bad_element};
-use crate::reading::{copy, items_at, value_of};
+use crate::reading::copy;
 use crate::rows::{BankRow, Numbers};
 use fints_syntax::{OwnedItem, OwnedSegment, parse_number};
 use std::alloc::{AllocError, Global};
@@ -43,18 +43,18 @@ pub fn read_bank(alloc: Global, segment: &OwnedSegment) -> Result<BankRow, Param
     ensures row { IfOk result (λ r. r ≡ bank_row segment.now) }
     ensures fault { IfErr result (λ f. IsBad segment.now (bank_fault segment.now) f) }
 {
-    let Some(kinds) = parse_number(value_of(segment, 5, 1)) else {
+    let Some(kinds) = parse_number(segment.value(5, 1)) else {
         return Err(bad_element(segment, 5));
     };
-    let Some(protocols) = read_protocols(alloc, items_at(segment, 7))? else {
+    let Some(protocols) = read_protocols(alloc, segment.items(7))? else {
         return Err(bad_element(segment, 7));
     };
-    let Some(kilobytes) = read_size(value_of(segment, 8, 1)) else {
+    let Some(kilobytes) = read_size(segment.value(8, 1)) else {
         return Err(bad_element(segment, 8));
     };
     Ok(BankRow {
-        country: copy(alloc, value_of(segment, 3, 1))?,
-        code: copy(alloc, value_of(segment, 3, 2))?,
+        country: copy(alloc, segment.value(3, 1))?,
+        code: copy(alloc, segment.value(3, 2))?,
         kinds,
         protocols,
         kilobytes,

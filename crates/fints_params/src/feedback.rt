@@ -9,7 +9,7 @@ use crate::capture::read_capture;
 use crate::code::Code;
 use crate::fault::{ParamFault, bad_element};
 use crate::opening::{Reader, read_into};
-use crate::reading::{has_name, value_in};
+use crate::reading::value_in;
 use fints_syntax::OwnedSegment;
 use std::alloc::Global;
 
@@ -22,7 +22,7 @@ struct Found {
 fn is_feedback(segment: &OwnedSegment) -> bool
     ensures { result ≡ is_feedback segment.now }
 {
-    has_name(segment, b"HIRMG".as_slice(), 2) || has_name(segment, b"HIRMS".as_slice(), 2)
+    segment.is_named(b"HIRMG", 2) || segment.is_named(b"HIRMS", 2)
 }
 
 // Adds the codes of a segment of feedback.

@@ -4,17 +4,14 @@
 mod accounts;
 mod bank;
 mod capture;
-
 mod code;
 mod fault;
 mod feedback;
-
 mod gathered;
 mod gathering;
 mod opening;
 mod orders;
 mod params;
-
 mod pins;
 mod placed;
 mod reading;
@@ -25,9 +22,7 @@ pub use code::Code;
 pub use fault::ParamFault;
 pub use feedback::feedback_codes;
 pub use params::Params;
-pub use rows::{
-    AccountRow, BankRow, Entries, Entry, National, Numbers, OrderParam, PinRow, Usage,
-};
+pub use rows::{AccountRow, BankRow, Entries, Entry, National, Numbers, OrderParam, PinRow, Usage};
 
 #[cfg(test)]
 mod tests;

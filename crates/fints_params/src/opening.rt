@@ -11,7 +11,6 @@ ghost use Rattle.fints_params.specs.Steps.{Continues, StopsIn, ContinuesOver, St
 
 use crate::fault::{ParamFault, bad_element};
 use crate::placed::PlacedSegment;
-use crate::reading::{has_name, items_at};
 use fints_syntax::{Memory, OwnedItem, OwnedSegment, SegmentView, SyntaxFault, parse_all};
 use std::alloc::Global;
 
@@ -43,14 +42,14 @@ fn owned_of(alloc: Global, views: &[SegmentView<'_>]) -> Result<Vec<OwnedSegment
 fn is_sealed(segment: &OwnedSegment) -> bool
     ensures { result ≡ is_sealed segment.now }
 {
-    has_name(segment, b"HNVSD".as_slice(), 1)
+    segment.is_named(b"HNVSD", 1)
 }
 
 // The data of an HNVSD, where item 1 of its element 2 is binary.
 fn data(segment: &OwnedSegment) -> Option<&[u8]>
     ensures { option_copied result ≡ data_of segment.now }
 {
-    match items_at(segment, 2).first() {
+    match segment.items(2).first() {
         Some(OwnedItem::Bin(bytes)) => Some(bytes.as_slice()),
         _ => None,
     }

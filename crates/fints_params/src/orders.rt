@@ -3,7 +3,6 @@ ghost use Rattle.std.specs.Prelude.{◌≡◌, Some, None};
 ghost use Rattle.fints_params.specs.Orders.{order_kind, order_of, order_in, is_odd_order};
 ghost use Rattle.fints_params.specs.Reading.{tells};
 
-use crate::reading::value_of;
 use crate::rows::OrderParam;
 use fints_syntax::{Kind, OwnedSegment, parse_number};
 
@@ -32,8 +31,8 @@ pub fn kind_of(id: Kind) -> Option<Kind>
 pub fn read_order(segment: &OwnedSegment, kind: Kind) -> Option<OrderParam>
     ensures { result ≡ order_of segment.now kind }
 {
-    let orders = parse_number(value_of(segment, 2, 1))?;
-    let signatures = parse_number(value_of(segment, 3, 1))?;
+    let orders = parse_number(segment.value(2, 1))?;
+    let signatures = parse_number(segment.value(3, 1))?;
     Some(OrderParam {
         kind,
         version: segment.head.version,

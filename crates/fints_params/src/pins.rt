@@ -6,7 +6,7 @@ ghost use Rattle.fints_params.specs.Pins.{Pair, pairs, pin_pairs, is_good_pair, 
 ghost use Rattle.fints_params.specs.Faults.{IsBad};
 
 use crate::fault::{ParamFault, bad_element};
-use crate::reading::{items_at, value_in};
+use crate::reading::value_in;
 use crate::rows::PinRow;
 use fints_syntax::{Kind, OwnedSegment};
 use std::alloc::AllocError;
@@ -43,7 +43,7 @@ pub fn read_pins(segment: &OwnedSegment, rows: &mut Vec<PinRow>) -> Result<(), P
     ensures rows { IfOk result (λ _. rows.new.items ≡ rows.old.items ++ pin_rows segment.now) }
     ensures fault { IfErr result (λ f. IsBad segment.now (pins_fault segment.now) f) }
 {
-    let items = items_at(segment, 5);
+    let items = segment.items(5);
     let mut at = 5;
     while at < items.len() {
         let kind = value_in(items, at + 1);

@@ -96,7 +96,7 @@ impl Entries {
     pub fn as_slice(&self) -> &[Entry]
         ensures { result.now ≡ self.now }
     {
-        self.items.as_slice()
+        &self.items
     }
 }
 

@@ -14,7 +14,6 @@ use crate::bank::read_bank;
 use crate::fault::ParamFault;
 use crate::orders::{is_odd, kind_of, read_order};
 use crate::pins::read_pins;
-use crate::reading::has_name;
 use crate::rows::{AccountRow, BankRow, OrderParam, PinRow};
 use fints_syntax::OwnedSegment;
 use std::alloc::{AllocError, Global};
@@ -29,7 +28,7 @@ pub fn take_bank(
     ensures row { IfOk result (λ _. cons_option bank.new [] ≡ cons_option bank.old [] ++ read_each is_bank bank_row (segment.now ∷ [])) }
     ensures fault { IfErr result (λ f. IsBankFault segment.now bank.old f) }
 {
-    if !has_name(segment, b"HIBPA".as_slice(), 3) {
+    if !segment.is_named(b"HIBPA", 3) {
         return Ok(());
     }
     if bank.is_some() {
@@ -63,7 +62,7 @@ pub fn take_pins(
     ensures seen { IfOk result (λ _. seen.new ≡ (seen.old || is_pins segment.now)) }
     ensures fault { IfErr result (λ f. IsBad segment.now (bad_pins segment.now) f) }
 {
-    if !has_name(segment, b"HIPINS".as_slice(), 1) {
+    if !segment.is_named(b"HIPINS", 1) {
         return Ok(());
     }
     read_pins(segment, rows)?;
@@ -79,7 +78,7 @@ pub fn take_account(
 ) -> Result<(), AllocError>
     ensures { IfOk result (λ _. rows.new.items ≡ rows.old.items ++ read_each is_account account_row (segment.now ∷ [])) }
 {
-    if !has_name(segment, b"HIUPD".as_slice(), 6) {
+    if !segment.is_named(b"HIUPD", 6) {
         return Ok(());
     }
     rows.push(read_account(alloc, segment)?)?;
@@ -92,7 +91,7 @@ pub fn take_usage(segment: &OwnedSegment, usages: &mut Vec<u32>) -> Result<(), P
     ensures rows { IfOk result (λ _. usages.new.items ≡ usages.old.items ++ read_each is_usage usage_of (segment.now ∷ [])) }
     ensures fault { IfErr result (λ f. IsBad segment.now (bad_usage segment.now) f) }
 {
-    if !has_name(segment, b"HIUPA".as_slice(), 4) {
+    if !segment.is_named(b"HIUPA", 4) {
         return Ok(());
     }
     usages.push(read_usage(segment)?)?;
@@ -103,7 +102,7 @@ pub fn take_usage(segment: &OwnedSegment, usages: &mut Vec<u32>) -> Result<(), P
 fn skipped_entries(segment: &OwnedSegment) -> usize
     ensures { result ≡ count_by is_odd_element (flat_map entry_elements (filter is_account (segment.now ∷ []))) }
 {
-    if has_name(segment, b"HIUPD".as_slice(), 6) {
+    if segment.is_named(b"HIUPD", 6) {
         odd_entries(segment)
     } else {
         0

@@ -1,8 +1,11 @@
--- Numbers, which are read from at most so many digits; leading zeros are accepted.
+-- Numbers of so many digits; leading zeros are accepted.
 use Rattle.std.specs.Prelude.{ℕ, ◌&&◌, nat_le, if◌then◌else◌, List, length, Option, Some, None}
 use Rattle.std.specs.Str.{all_ascii_digits}
 use Rattle.std.specs.Str.Parse.{digits_value}
 
--- the number that 1 to `most` digits spell
+-- the number that `least` to `most` digits spell
+abbrev pub number_in : ℕ → ℕ → List ℕ → Option ℕ
+number_in least most bytes = if (all_ascii_digits bytes && nat_le least (length bytes) && nat_le (length bytes) most) then Some (digits_value 10 bytes) else None
+
 abbrev pub number_from : ℕ → List ℕ → Option ℕ
-number_from most bytes = if (all_ascii_digits bytes && nat_le 1 (length bytes) && nat_le (length bytes) most) then Some (digits_value 10 bytes) else None
+number_from most bytes = number_in 1 most bytes

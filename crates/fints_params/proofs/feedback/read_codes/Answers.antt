@@ -1,9 +1,9 @@
-use Rattle.std.proofs.Common.{◌≡◌, ◌∙◌, ◌<◌, ◌+◌, ℕ, List, [], map, length, get_or, Some, None, ap, sym, subst, refl, arith}
+use Rattle.std.proofs.Common.{◌≡◌, ◌∙◌, ◌<◌, ◌+◌, List, [], map, length, get_or, Some, None, ap, sym, subst, refl, arith}
 use Rattle.std.specs.Prelude.{position}
 use Rattle.std.specs.Option.{option_map}
 use Rattle.std.proofs.lemmas.List.{length-map}
 use Rattle.fints_syntax.specs.declared.item.OwnedItem.{OwnedItem}
-use Rattle.fints_params.specs.Feedback.{first_value, codes_fault, code_in, is_bad_code}
+use Rattle.fints_params.specs.Feedback.{first_value, codes_fault, is_bad_code}
 use Rattle.fints_params.proofs.FoundCodes.{left_skip, left_more, left_bad, left_end, value_is}
 use Rattle.fints_params.proofs.feedback.read_codes.Goals as goal
 use Rattle.fints_params.proofs.feedback.read_codes.Goals.{then-not-is_empty+in-Some+in_ok-push-in-Some, else-not-is_empty}

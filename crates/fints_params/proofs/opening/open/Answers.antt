@@ -1,7 +1,5 @@
-use Rattle.std.proofs.Common.{◌≡◌, ◌∙◌, ap, sym, arith, Some}
-use Rattle.fints_params.specs.Sealed.{data_of, data_len}
-use Rattle.fints_params.specs.Faults.{IsMemoryOr}
-use Rattle.fints_params.specs.Steps.{IsClosedBy}
+use Rattle.std.proofs.Common.{◌≡◌, sym, arith, Some}
+use Rattle.fints_params.specs.Sealed.{data_of}
 use Rattle.fints_params.proofs.Offsets.{fault_within, len_is}
 use Rattle.fints_params.proofs.Refusing.{closed_by}
 use Rattle.fints_params.proofs.opening.open.Goals as goal

@@ -1,4 +1,4 @@
-use Rattle.std.proofs.Common.{◌≡◌, ◌≤◌, ◌∙◌, ◌+◌, ◌-◌, length, take, ap, sym, subst, arith}
+use Rattle.std.proofs.Common.{◌≡◌, ◌∙◌, ◌+◌, ◌-◌, length, take, ap, sym, subst, arith}
 use Rattle.fints_syntax.specs.Spelling.{spelled_bytes}
 use Rattle.fints_syntax.specs.declared.text.Item.TheVariants.{Text, Bin}
 use Rattle.fints_syntax.specs.ItemIs.{IsItem}

@@ -1,6 +1,6 @@
 use Rattle.std.proofs.Common.{◌≡◌, ◌+◌, ◌++◌, get_or, drop, map, arith, ap, ◌∙◌, rules}
 use Rattle.fints_syntax.specs.Written.{element_text, elements_text, KeepsFront}
-use Rattle.fints_syntax.proofs.Fronts.{kept_more, kept_same, kept_after}
+use Rattle.fints_syntax.proofs.Fronts.{kept_more, kept_after}
 use Rattle.fints_syntax.proofs.WrittenLaws.{elements_text-plus, elements_text-end, moves}
 use Rattle.fints_syntax.proofs.writing.append_elements.Goals as goal
 use Rattle.fints_syntax.proofs.writing.append_elements.Goals.{then-elements-i-gt1, else-elements-i-gt1}

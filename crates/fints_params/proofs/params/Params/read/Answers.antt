@@ -1,4 +1,3 @@
-use Rattle.fints_params.specs.Steps.{CanCountSkipped}
 use Rattle.fints_params.proofs.Bounds.{can_count}
 use Rattle.fints_params.proofs.params.Params.read.Goals as goal
 

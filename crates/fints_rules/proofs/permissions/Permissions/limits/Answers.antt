@@ -1,0 +1,5 @@
+use Rattle.std.proofs.Common.{◌≡◌, ◌∙◌}
+use Rattle.fints_rules.proofs.permissions.Permissions.limits.Goals as goal
+
+pub returns : goal.returns
+returns c = rw (c.copied.ensures, c.get.ensures.value, ← c.self.view_is) (c.self.invariant.0 _)

@@ -1,0 +1,17 @@
+pub mod AccountFields
+pub mod Accounts
+pub mod AccountRows
+pub mod Document
+pub mod Orders
+pub mod OrderFaults
+pub mod Segments
+pub mod Parts
+pub mod Messages
+pub mod Read
+pub mod Front
+pub mod Permits
+pub mod LimitMaps
+pub mod RuleNames
+pub mod Breaks
+pub mod AccountTests
+pub mod Judging

@@ -1,0 +1,108 @@
+//! The judge: one message, the rules that it breaks.
+ghost use Rattle.std.specs.Prelude.{OnOk, IfOk, IfErr, length};
+ghost use Rattle.fints_rules.specs.Breaks.{IsJudged};
+ghost use Rattle.fints_rules.specs.Judging.{IsRising, AddsWhole, AddsSegments, AddsRule, Covers};
+ghost use Rattle.fints_rules.specs.Read.{IsRefusal};
+
+use crate::message::{JudgeFault, Message, read_message};
+use crate::permissions::Permissions;
+use crate::rule::{Broken, Rule};
+use crate::segments::breaks_at;
+use crate::whole::breaks_whole;
+use fints_syntax::Memory;
+use std::alloc::Global;
+
+// The rules in the order of their numbers.
+const RULES: [Rule; 10] = [
+    Rule::Protocol,
+    Rule::Number,
+    Rule::Size,
+    Rule::Kinds,
+    Rule::Version,
+    Rule::Orders,
+    Rule::Listed,
+    Rule::Signatures,
+    Rule::Account,
+    Rule::Tan,
+];
+
+// Adds the rule at place 0, where the message as a whole breaks it.
+fn push_whole(
+    out: &mut Vec<Broken>,
+    permissions: &Permissions<'_>,
+    message: &Message,
+    rule: Rule,
+) -> Result<(), Memory>
+    ensures { OnOk result (AddsWhole permissions.now message.now rule out.old.items out.new.items) }
+{
+    if breaks_whole(permissions, message, rule) {
+        out.push(Broken { rule, segment: 0 })?;
+    }
+    Ok(())
+}
+
+// Adds the rule at each segment that breaks it.
+fn push_segments(
+    out: &mut Vec<Broken>,
+    permissions: &Permissions<'_>,
+    message: &Message,
+    rule: Rule,
+) -> Result<(), Memory>
+    requires { IsRising message.now.body }
+    ensures { OnOk result (AddsSegments permissions.now message.now rule out.old.items out.new.items) }
+{
+    for segment in message.body() {
+        if breaks_at(permissions, message, rule, segment) {
+            out.push(Broken {
+                rule,
+                segment: segment.head.number,
+            })?;
+        }
+    }
+    Ok(())
+}
+
+// Adds the rule at each place where it is broken.
+fn push_rule(
+    out: &mut Vec<Broken>,
+    permissions: &Permissions<'_>,
+    message: &Message,
+    rule: Rule,
+) -> Result<(), Memory>
+    requires { IsRising message.now.body }
+    ensures { OnOk result (AddsRule permissions.now message.now rule out.old.items out.new.items) }
+{
+    push_whole(out, permissions, message, rule)?;
+    push_segments(out, permissions, message, rule)?;
+    Ok(())
+}
+
+// The rules that a message breaks.
+fn broken_rules(
+    alloc: Global,
+    permissions: &Permissions<'_>,
+    message: &Message,
+) -> Result<Vec<Broken>, Memory>
+    requires { IsRising message.now.body }
+    ensures { IfOk result (λ broken. Covers permissions.now message.now 10 broken.items) }
+{
+    let mut broken = Vec::new(alloc);
+    for rule in RULES {
+        push_rule(&mut broken, permissions, message, rule)?;
+    }
+    Ok(broken)
+}
+
+/// The rules that the message breaks, in order of rule, then of segment, each once.
+pub fn judge(
+    alloc: Global,
+    permissions: &Permissions<'_>,
+    bytes: &[u8],
+) -> Result<Vec<Broken>, JudgeFault>
+    ensures judged { IfOk result (λ broken. IsJudged permissions.now bytes.now broken.items) }
+    ensures refusal { IfErr result (λ f. IsRefusal bytes.now f) }
+{
+    let message = read_message(alloc, bytes)?;
+    let broken = broken_rules(alloc, permissions, &message)?;
+    Ok(broken)
+}

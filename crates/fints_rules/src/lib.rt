@@ -1,0 +1,34 @@
+//! What a bank permits, by its captured parameters and an order table, and the judge of messages.
+#![tactic(auto)]
+
+mod account;
+pub mod document;
+mod frame;
+mod front;
+mod inner;
+mod judging;
+mod kinds;
+pub mod laws;
+mod limits;
+mod message;
+mod orders;
+mod part;
+mod permissions;
+mod plain;
+mod rule;
+mod sealed;
+mod segments;
+mod tail;
+mod values;
+mod whole;
+
+pub use account::AccountKey;
+pub use judging::judge;
+pub use limits::{Demand, Limits, OrderKey};
+pub use message::{JudgeFault, Message, read_message};
+pub use orders::{AccountForm, OrderRow, OrderTable, TableFault};
+pub use permissions::{Permissions, Permit};
+pub use rule::{Broken, Rule};
+
+#[cfg(test)]
+mod tests;

@@ -1,0 +1,244 @@
+//! The order table: which orders name an account, and how.
+ghost use Rattle.std.specs.Prelude.{◌≡◌, ◌≤◌, ◌↔◌, IsTrue, length, map, Any, Some, IfOk, IfErr};
+ghost use Rattle.std.specs.List.{list_any};
+ghost use Rattle.std.specs.Str.{bytes_eq};
+ghost use Rattle.toml.specs.Data.{array};
+ghost use Rattle.toml.specs.View.{view, table_view, items_view};
+ghost use Rattle.fints_rules.specs.declared.orders.TableFault.TheVariants.{Memory};
+ghost use Rattle.fints_rules.specs.Orders.{row_of, order_kind, is_order_kind, reserved, account_form, IsSameOrder, AreRows, IsTableAt, DenotesTable, IsTableFault, form_of};
+ghost use Rattle.fints_rules.specs.OrderFaults.{IsRowFault, IsFaultAt, IsTableIn, IsFaultIn};
+
+use crate::document;
+use crate::document::Unread;
+use fints_syntax::{Kind, Memory};
+use std::alloc::{AllocFailed, Global};
+use std::marker::Model;
+use thiserror::Error;
+use toml::{Table, Value};
+
+// The most rows of a table.
+const MAX_ROWS: usize = 1000;
+
+/// How element 2 of an order names an account.
+#[derive(Clone, Copy, Debug, PartialEq, Eq)]
+pub enum AccountForm {
+    /// It names none.
+    Nameless,
+    /// By number, subaccount, country and bank code.
+    National,
+    /// By IBAN, BIC, and then as a national one.
+    International,
+}
+
+/// A row of the order table.
+#[derive(Clone, Copy, Debug, PartialEq, Eq)]
+pub struct OrderRow {
+    pub kind: Kind,
+    pub version: u16,
+    pub form: AccountForm,
+}
+
+/// Why a text is no order table. Rows count from 1.
+#[derive(Clone, Copy, Debug, PartialEq, Eq, Error)]
+pub enum TableFault {
+    /// Over 1 MiB, no UTF-8, or refused by `toml` for another cause than memory.
+    #[error("NotToml")]
+    NotToml,
+    /// A key at the top other than `order`.
+    #[error("UnknownKey")]
+    UnknownKey,
+    /// An entry that is no row; 0 where `order` is no array, 1,001 where it has too many entries.
+    #[error("BadRow {row}")]
+    BadRow { row: u16 },
+    /// A row of a kind and version that an earlier row has.
+    #[error("TwoRows {row}")]
+    TwoRows { row: u16 },
+    #[error("memory")]
+    Memory,
+}
+
+impl From<Memory> for TableFault {
+    ghost from_gives = { λ _ e. e ≡ Memory };
+
+    fn from(_e: Memory) -> TableFault {
+        TableFault::Memory
+    }
+}
+
+impl<T: Drop> From<AllocFailed<T>> for TableFault {
+    ghost from_gives = { λ _ e. e ≡ Memory };
+
+    fn from(_e: AllocFailed<T>) -> TableFault {
+        TableFault::Memory
+    }
+}
+
+/// Which orders name an account, and how; a contract sees the rows.
+#[derive(Drop)]
+pub struct OrderTable {
+    rows: Vec<OrderRow>,
+}
+
+impl Model for OrderTable {
+    ghost use Rattle.std.specs.Prelude.{List};
+    ghost use Rattle.fints_rules.specs.declared.orders.OrderRow.{OrderRow};
+
+    ghost Value = { List OrderRow };
+
+    ghost view = { λ t. t.rows.items };
+}
+
+impl OrderTable {
+    /// The table that a text denotes, or the first refusal.
+    pub fn read(alloc: Global, text: &[u8]) -> Result<OrderTable, TableFault>
+        ensures table { IfOk result (λ t. DenotesTable text.now t) }
+        ensures fault { IfErr result (λ f. IsTableFault text.now f) }
+    {
+        let table = match document::read(alloc, text) {
+            Ok(table) => table,
+            Err(Unread::NotToml) => return Err(TableFault::NotToml),
+            Err(Unread::Memory) => return Err(TableFault::Memory),
+        };
+        let rows = rows_in(alloc, &table)?;
+        Ok(OrderTable { rows })
+    }
+
+    /// Whether both tables have equal rows in equal order.
+    pub fn same(&self, other: &OrderTable) -> bool
+        ensures { IsTrue result ↔ (self.now ≡ other.now) }
+    {
+        self.rows == other.rows
+    }
+
+    /// How an order names its account, where the table has the order.
+    pub fn form(&self, kind: Kind, version: u16) -> Option<AccountForm>
+        ensures { result ≡ form_of self.now kind version }
+    {
+        for row in &self.rows {
+            if row.kind == kind && row.version == version {
+                return Some(row.form);
+            }
+        }
+        None
+    }
+}
+
+// The rows of a document.
+fn rows_in(alloc: Global, table: &Table) -> Result<Vec<OrderRow>, TableFault>
+    ensures table { IfOk result (λ v. IsTableIn (table_view table.now) v.items) }
+    ensures fault { IfErr result (λ f. IsFaultIn (table_view table.now) f) }
+{
+    if !document::only_keys(&*table, &["order"]) {
+        return Err(TableFault::UnknownKey);
+    }
+    let Some(value) = document::member(table, "order") else {
+        return Ok(Vec::new(alloc));
+    };
+    match value {
+        Value::Array(entries) => rows_at(alloc, entries.as_slice()),
+        _ => Err(TableFault::BadRow { row: 0 }),
+    }
+}
+
+// The rows of the entries of `order`, whatever their number.
+fn rows_at(alloc: Global, entries: &[Value]) -> Result<Vec<OrderRow>, TableFault>
+    ensures table { IfOk result (λ v. IsTableAt (Some (array (items_view entries.now))) v.items) }
+    ensures fault { IfErr result (λ f. IsFaultAt (Some (array (items_view entries.now))) f) }
+{
+    if entries.len() > MAX_ROWS {
+        return Err(TableFault::BadRow {
+            row: MAX_ROWS as u16 + 1,
+        });
+    }
+    rows_of(alloc, entries)
+}
+
+// The rows of the entries, each good and of another kind or version than those before it.
+fn rows_of(alloc: Global, entries: &[Value]) -> Result<Vec<OrderRow>, TableFault>
+    requires { length entries.now ≤ 1000 }
+    ensures rows { IfOk result (λ v. AreRows (map view entries.now) v.items) }
+    ensures fault { IfErr result (λ f. IsRowFault (map view entries.now) f) }
+{
+    let mut rows = Vec::new(alloc);
+    let mut number = 0;
+    for entry in entries {
+        number += 1;
+        let Some(row) = row_of(entry) else {
+            return Err(TableFault::BadRow { row: number });
+        };
+        if has_order(rows.as_slice(), &row) {
+            return Err(TableFault::TwoRows { row: number });
+        }
+        rows.push(row)?;
+    }
+    Ok(rows)
+}
+
+fn is_same_order(a: &OrderRow, b: &OrderRow) -> bool
+    ensures { IsTrue result ↔ IsSameOrder a.now b.now }
+{
+    a.kind == b.kind && a.version == b.version
+}
+
+// Whether a row of the kind and version is there.
+fn has_order(rows: &[OrderRow], row: &OrderRow) -> bool
+    ensures { IsTrue result ↔ Any (IsSameOrder row.now) rows.now }
+{
+    rows.iter().any(|r| is_same_order(row, r))
+}
+
+// The row that an entry is.
+#[tactic(auto, unfolding(crate::specs::Orders::row_of))]
+fn row_of(value: &Value) -> Option<OrderRow>
+    ensures { result ≡ row_of (view value.now) }
+{
+    let table = value.as_table()?;
+    if !document::only_keys(table, &["kind", "version", "account"]) {
+        return None;
+    }
+    let kind = order_kind(document::member(table, "kind")?)?;
+    let version = document::number_between(1, 999, document::member(table, "version")?)?;
+    let form = account_form(document::member(table, "account")?)?;
+    Some(OrderRow {
+        kind,
+        version,
+        form,
+    })
+}
+
+// The kind of an order.
+#[tactic(auto, unfolding(crate::specs::Orders::order_kind))]
+fn order_kind(value: &Value) -> Option<Kind>
+    ensures { result ≡ order_kind (view value.now) }
+{
+    let text = value.as_str()?;
+    if is_order_kind(text) {
+        Kind::parse(text.as_bytes())
+    } else {
+        None
+    }
+}
+
+fn is_order_kind(text: &str) -> bool
+    ensures { result ≡ is_order_kind text.now }
+{
+    text.len() == 5 && (text.starts_with("HK") || text.starts_with("DK")) && !is_reserved(text)
+}
+
+fn is_reserved(text: &str) -> bool
+    ensures { result ≡ list_any (bytes_eq text.now) reserved }
+{
+    matches!(text, "HKIDN" | "HKVVB" | "HKSYN" | "HKEND" | "HKTAN")
+}
+
+#[tactic(auto, unfolding(crate::specs::Orders::account_form))]
+fn account_form(value: &Value) -> Option<AccountForm>
+    ensures { result ≡ account_form (view value.now) }
+{
+    match value.as_str()? {
+        "none" => Some(AccountForm::Nameless),
+        "national" => Some(AccountForm::National),
+        "international" => Some(AccountForm::International),
+        _ => None,
+    }
+}

@@ -1,0 +1,167 @@
+//! What a bank permits, as look-ups in the rows of a capture and an order table.
+ghost use Rattle.std.specs.Prelude.{◌≡◌, ◌≤◌, ◌↔◌, IsTrue, Any, IfOk};
+ghost use Rattle.fints_params.specs.declared.rows.AccountRow.{AccountRow};
+ghost use Rattle.fints_rules.specs.Orders.{form_of};
+ghost use Rattle.fints_rules.specs.AccountRows.{Matches};
+ghost use Rattle.fints_rules.specs.Permits.{LimitsAre, params_of, DemandIs, PermitIs};
+
+use crate::account::AccountKey;
+use crate::limits::{Demand, Limits, OrderKey, limit_map, pin_map};
+use crate::orders::{AccountForm, OrderTable};
+use fints_params::{AccountRow, BankRow, Entry, Params, Usage};
+use fints_syntax::{Kind, Memory};
+use indexmap::IndexMap;
+use std::alloc::Global;
+use std::marker::Model;
+
+/// Whether an account permits an order.
+#[derive(Clone, Copy, Debug, PartialEq, Eq)]
+pub enum Permit {
+    Allowed,
+    /// No entry of the kind is there, and orders that aren't listed are locked.
+    Refused,
+    /// Every entry of the kind needs more signatures.
+    MoreSignatures,
+}
+
+/// What a bank permits, by its captured parameters and an order table; a contract sees the rows of
+/// both. Its look-ups take no memory.
+#[derive(Drop)]
+pub struct Permissions<'a> {
+    params: &'a Params,
+    orders: &'a OrderTable,
+    limits: IndexMap<OrderKey, Limits>,
+    pins: IndexMap<Kind, bool>,
+}
+
+impl<'a> Model for Permissions<'a> {
+    ghost use Rattle.fints_rules.specs.Permits.{Granted};
+
+    ghost Value = { Granted };
+
+    ghost use Rattle.std.specs.Str.{bytes_eq};
+    ghost use Rattle.indexmap.specs.IndexMap.{get};
+    ghost use Rattle.fints_rules.specs.LimitMaps.{key_eq, HoldsLimits, HoldsPins};
+
+    ghost view = { λ p. record { rows = p.params.now; orders = p.orders.now } };
+
+    ghost invariant = { λ p. HoldsLimits p.params.now.orders (get key_eq p.limits) × HoldsPins p.params.now.pins (get bytes_eq p.pins) };
+}
+
+impl<'a> Permissions<'a> {
+    /// The permissions that the parameters and the table give.
+    pub fn build(
+        alloc: Global,
+        params: &'a Params,
+        orders: &'a OrderTable,
+    ) -> Result<Permissions<'a>, Memory>
+        ensures rows { IfOk result (λ p. p.rows ≡ params.now) }
+        ensures orders { IfOk result (λ p. p.orders ≡ orders.now) }
+    {
+        let limits = limit_map(alloc, params.orders())?;
+        let pins = pin_map(alloc, params.pins())?;
+        Ok(Permissions {
+            params,
+            orders,
+            limits,
+            pins,
+        })
+    }
+
+    /// The bank's own row.
+    pub fn bank(&self) -> &BankRow
+        ensures { result.now ≡ self.now.rows.bank }
+    {
+        self.params.bank()
+    }
+
+    /// How an order names its account, where the table has the order.
+    pub fn form(&self, kind: Kind, version: u16) -> Option<AccountForm>
+        ensures { result ≡ form_of self.now.orders kind version }
+    {
+        self.orders.form(kind, version)
+    }
+
+    /// The limits of a kind and version, where the capture has a row of them: of all such rows the
+    /// least limit that isn't 0, else 0, and the greatest number of signatures.
+    pub fn limits(&self, kind: Kind, version: u16) -> Option<Limits>
+        ensures { LimitsAre (params_of kind version self.now.rows.orders) result }
+    {
+        self.limits.get(&OrderKey { kind, version }).copied()
+    }
+
+    /// Whether a kind is listed in HIPINS, and demands a TAN.
+    pub fn demand(&self, kind: Kind) -> Demand
+        ensures { DemandIs self.now.rows.pins kind result }
+    {
+        match self.pins.get(&kind) {
+            None => Demand::Unlisted,
+            Some(true) => Demand::Tan,
+            Some(false) => Demand::No,
+        }
+    }
+
+    // Whether an entry of the kind, in a row of the account, needs no more signatures.
+    fn has_fitting_entry(&self, account: &AccountKey<'_>, kind: Kind, signatures: usize) -> bool
+        ensures { IsTrue result ↔ Any (λ row. Matches account.now row × Any (λ e. (e.kind ≡ kind) × (e.signatures ≤ signatures)) row.entries) self.now.rows.accounts }
+    {
+        self.params.accounts().iter().any(|row| account.matches(row)
+            && has_fitting_entry(row, kind, signatures))
+    }
+
+    // Whether an entry of the kind stands in a row of the account.
+    fn has_entry(&self, account: &AccountKey<'_>, kind: Kind) -> bool
+        ensures { IsTrue result ↔ Any (λ row. Matches account.now row × Any (λ e. e.kind ≡ kind) row.entries) self.now.rows.accounts }
+    {
+        self.params
+            .accounts()
+            .iter()
+            .any(|row| account.matches(row) && has_entry(row, kind))
+    }
+
+    /// Whether an account permits an order of this kind with so many signatures.
+    pub fn permit(&self, kind: Kind, account: &AccountKey<'_>, signatures: usize) -> Permit
+        ensures { PermitIs self.now.rows account.now kind signatures result }
+    {
+        if self.has_fitting_entry(account, kind, signatures) {
+            return Permit::Allowed;
+        }
+        if self.has_entry(account, kind) {
+            return Permit::MoreSignatures;
+        }
+        match self.params.usage() {
+            Usage::Locked => Permit::Refused,
+            Usage::Unsaid => Permit::Allowed,
+        }
+    }
+}
+
+fn has_entry(row: &AccountRow, kind: Kind) -> bool
+    ensures { IsTrue result ↔ Any (λ e. e.kind ≡ kind) row.now.entries }
+{
+    row.entries
+        .as_slice()
+        .iter()
+        .any(|entry| is_entry(entry, kind))
+}
+
+fn is_entry(entry: &Entry, kind: Kind) -> bool
+    ensures { IsTrue result ↔ (entry.now.kind ≡ kind) }
+{
+    entry.kind == kind
+}
+
+fn has_fitting_entry(row: &AccountRow, kind: Kind, signatures: usize) -> bool
+    ensures { IsTrue result ↔ Any (λ e. (e.kind ≡ kind) × (e.signatures ≤ signatures)) row.now.entries }
+{
+    row.entries
+        .as_slice()
+        .iter()
+        .any(|entry| fits(entry, kind, signatures))
+}
+
+fn fits(entry: &Entry, kind: Kind, signatures: usize) -> bool
+    ensures { IsTrue result ↔ ((entry.now.kind ≡ kind) × (entry.now.signatures ≤ signatures)) }
+{
+    is_entry(entry, kind) && entry.signatures as usize <= signatures
+}
