@@ -3,4 +3,5 @@ pub mod BankLemmas
 pub mod MessageLemmas
 pub mod ScriptLemmas
 pub mod StreamLemmas
+pub mod JudgeLemmas
 pub mod ShowLemmas

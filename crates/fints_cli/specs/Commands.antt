@@ -1,6 +1,6 @@
 -- What the commands answer, and why they have no answer.
 use Rattle.std.specs.Prelude.{◌≡◌, ℕ, List, Option, IfSome, codes, string_bytes}
-use Rattle.fints_cli.specs.declared.fault.Fault.TheVariants.{NotYet, Memory, Params}
+use Rattle.fints_cli.specs.declared.fault.Fault.TheVariants.{NotYet, Memory, Params, Orders, Message}
 use Rattle.fints_cli.specs.declared.commands.Failure.{Failure}
 use Rattle.fints_cli.specs.declared.commands.Failure.TheVariants.{Input, Unread}
 use Rattle.fints_cli.specs.declared.words.Request.{Request}
@@ -16,6 +16,8 @@ use Rattle.fints_cli.specs.Show.{IsShowOf, IsMemoryOrShowFault}
 abbrev pub failure_status : Failure → ℕ
 failure_status (Input NotYet) = 3
 failure_status (Input (Params f)) = 3
+failure_status (Input (Orders f)) = 3
+failure_status (Input (Message f)) = 3
 failure_status (Input Memory) = 4
 failure_status (Unread option) = 5
 
@@ -34,6 +36,8 @@ IsUnloaded option (Unread named) = named.now ≡ option
 IsUnloaded option (Input Memory) = Unit {0}
 IsUnloaded option (Input NotYet) = ⊥
 IsUnloaded option (Input (Params f)) = ⊥
+IsUnloaded option (Input (Orders f)) = ⊥
+IsUnloaded option (Input (Message f)) = ⊥
 
 -- why a capture isn't shown, where its bytes are told
 abbrev pub FailsToShow : Option (List ℕ) → Failure → Type 0

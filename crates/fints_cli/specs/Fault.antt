@@ -3,7 +3,11 @@ use Rattle.std.specs.Prelude.{◌≡◌, Option, None, Some, Result, Ok, Err}
 use Rattle.fints_params.specs.declared.fault.ParamFault.{ParamFault}
 use Rattle.fints_params.specs.declared.fault.ParamFault.TheVariants as params
 use Rattle.fints_cli.specs.declared.fault.Fault.{Fault}
-use Rattle.fints_cli.specs.declared.fault.Fault.TheVariants.{NotYet, Memory, Params}
+use Rattle.fints_rules.specs.declared.orders.TableFault.{TableFault}
+use Rattle.fints_rules.specs.declared.orders.TableFault.TheVariants as orders
+use Rattle.fints_rules.specs.declared.message.JudgeFault.{JudgeFault}
+use Rattle.fints_rules.specs.declared.message.JudgeFault.TheVariants as message
+use Rattle.fints_cli.specs.declared.fault.Fault.TheVariants.{NotYet, Memory, Params, Orders, Message}
 
 -- the value was found; or there is none; or memory ran out
 abbrev pub Gives : {X Y : Type 0} → (X → Y) → Result X Fault → Option Y → Type 0
@@ -11,6 +15,8 @@ Gives view (Ok x) found = found ≡ Some (view x)
 Gives view (Err NotYet) found = found ≡ None
 Gives view (Err Memory) found = Unit {0}
 Gives view (Err (Params f)) found = ⊥
+Gives view (Err (Orders f)) found = ⊥
+Gives view (Err (Message f)) found = ⊥
 
 -- want of memory is one fault, wherever it is met
 abbrev pub fault_of : ParamFault → Fault
@@ -20,3 +26,14 @@ fault_of (params.BadElement segment element) = Params (params.BadElement segment
 fault_of params.TwoBankParameters = Params params.TwoBankParameters
 fault_of params.NoBankParameters = Params params.NoBankParameters
 fault_of params.NoPinParameters = Params params.NoPinParameters
+
+abbrev pub order_fault_of : TableFault → Fault
+order_fault_of orders.Memory = Memory
+order_fault_of orders.NotToml = Orders orders.NotToml
+order_fault_of orders.UnknownKey = Orders orders.UnknownKey
+order_fault_of (orders.BadRow row) = Orders (orders.BadRow row)
+order_fault_of (orders.TwoRows row) = Orders (orders.TwoRows row)
+
+abbrev pub message_fault_of : JudgeFault → Fault
+message_fault_of message.Memory = Memory
+message_fault_of (message.NotAMessage offset) = Message (message.NotAMessage offset)

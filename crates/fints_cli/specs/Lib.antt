@@ -7,6 +7,7 @@ pub mod Message
 pub mod Rules
 pub mod Thin
 pub mod Streams
+pub mod Judge
 pub mod Show
 pub mod BuiltIn
 pub mod Commands

@@ -12,6 +12,7 @@ use crate::checking::check_text;
 use crate::emitting::emit;
 use crate::fault::Fault;
 use crate::reading::{LoadFault, MAX_CALLS, load};
+use crate::reply::Reply;
 use crate::showing::show;
 use crate::streams::{Files, Out};
 use crate::words::{Asked, Request, read_words};
@@ -44,13 +45,6 @@ impl Failure {
             Failure::Unread(_) => 5,
         }
     }
-}
-
-/// The text that a command puts on the output, with its status.
-#[derive(Debug, Drop)]
-pub struct Reply {
-    pub status: u8,
-    pub text: Vec<u8>,
 }
 
 // Loads the file of an option.

@@ -1,9 +1,10 @@
 //! Why inputs have no answer.
 ghost use Rattle.std.specs.Prelude.{◌≡◌};
-ghost use Rattle.fints_cli.specs.Fault.{fault_of};
+ghost use Rattle.fints_cli.specs.Fault.{fault_of, order_fault_of, message_fault_of};
 ghost use Rattle.fints_cli.specs.declared.fault.Fault.TheVariants as fault;
 
 use fints_params::ParamFault;
+use fints_rules::{JudgeFault, TableFault};
 use fints_syntax::Memory;
 use std::alloc::AllocError;
 use thiserror::Error;
@@ -20,6 +21,12 @@ pub enum Fault {
     /// The capture is refused; want of memory is no such refusal.
     #[error("params {0}")]
     Params(ParamFault),
+    /// The order table is refused; want of memory is no such refusal.
+    #[error("orders {0}")]
+    Orders(TableFault),
+    /// The bytes are no message; want of memory is no such refusal.
+    #[error("message {0}")]
+    Message(JudgeFault),
 }
 
 impl From<Memory> for Fault {
@@ -45,6 +52,28 @@ impl From<ParamFault> for Fault {
         match e {
             ParamFault::Memory => Fault::Memory,
             _ => Fault::Params(e),
+        }
+    }
+}
+
+impl From<TableFault> for Fault {
+    ghost from_gives = { λ e f. f ≡ order_fault_of e };
+
+    fn from(e: TableFault) -> Fault {
+        match e {
+            TableFault::Memory => Fault::Memory,
+            _ => Fault::Orders(e),
+        }
+    }
+}
+
+impl From<JudgeFault> for Fault {
+    ghost from_gives = { λ e f. f ≡ message_fault_of e };
+
+    fn from(e: JudgeFault) -> Fault {
+        match e {
+            JudgeFault::Memory => Fault::Memory,
+            _ => Fault::Message(e),
         }
     }
 }

@@ -14,6 +14,12 @@ pub enum Request<'a> {
     BuiltIn,
     /// What a capture says.
     Show { params: &'a str },
+    /// The rules that a message breaks, by a capture and an order table.
+    Judge {
+        params: &'a str,
+        orders: &'a str,
+        message: &'a str,
+    },
 }
 
 /// What the words ask for.
@@ -43,13 +49,19 @@ fn command_line<'a>(alloc: Global) -> Result<Command<'a>, AllocError> {
     let show = Command::new(alloc, "show")
         .about("Shows what a capture says of the bank and the user")
         .arg(file_option(alloc, "params", "The capture"))?;
+    let judge = Command::new(alloc, "judge")
+        .about("Names the rules that a message breaks")
+        .arg(file_option(alloc, "params", "The capture"))?
+        .arg(file_option(alloc, "orders", "The order table"))?
+        .arg(file_option(alloc, "message", "The message"))?;
     Command::new(alloc, "fints")
         .bin_name("fints")?
         .about("Checks FinTS 3.0 dialogue scripts")
         .no_binary_name(true)
         .disable_help_subcommand(true)
         .subcommand_required(true)
-        .subcommand(show)
+        .subcommand(show)?
+        .subcommand(judge)
 }
 
 // What is told in place of a command.
@@ -91,9 +103,17 @@ pub fn read_words<'a>(alloc: Global, words: &'a [&'a str]) -> Asked<'a>
 // The command with its options, each of which the command line requires.
 fn named_request<'a>(name: &str, options: &ArgMatches<'a>) -> Option<Request<'a>> {
     let params = options.get_str("params")?;
-    if name == "show" {
-        Some(Request::Show { params })
-    } else {
-        None
+    match name {
+        "show" => Some(Request::Show { params }),
+        "judge" => {
+            let orders = options.get_str("orders")?;
+            let message = options.get_str("message")?;
+            Some(Request::Judge {
+                params,
+                orders,
+                message,
+            })
+        }
+        _ => None,
     }
 }
