@@ -9,7 +9,7 @@ use Rattle.fints_cli.specs.declared.words.Asked.{Asked}
 use Rattle.fints_cli.specs.declared.words.Asked.TheVariants.{Help, Usage, NoMemory, Run}
 use Rattle.fints_cli.specs.BuiltIn as built_in
 use Rattle.fints_cli.specs.Thin.{IsReportOf}
-use Rattle.fints_cli.specs.Streams.{Gets}
+use Rattle.fints_cli.specs.Streams.{Gets, GetsPrefix}
 use Rattle.fints_cli.specs.Show.{IsShowOf, IsMemoryOrShowFault}
 
 -- 3 for a refused input, 4 for want of memory, 5 for a file that couldn't be read
@@ -50,22 +50,30 @@ FailsFor BuiltIn holds (Unread named) = ⊥
 FailsFor BuiltIn holds (Input f) = Unit {0}
 FailsFor (Show params) holds failure = FailsToShow (holds params.now) failure
 
--- The output got what was asked for: the help, or the request's answer.
+-- the text is what was asked for: the help, or the request's answer
+abbrev pub IsTextFor : Asked → (List ℕ → Option (List ℕ)) → List ℕ → Type 0
+IsTextFor (Help help) holds text = text ≡ string_bytes help
+IsTextFor (Usage fault) holds text = ⊥
+IsTextFor NoMemory holds text = ⊥
+IsTextFor (Run request) holds text = AnswersTo request holds text
+
+-- the output got the whole text
 abbrev pub IsAnswered : Asked → (List ℕ → Option (List ℕ)) → Option (List ℕ) → Option (List ℕ) → Type 0
-IsAnswered (Help text) holds old new = Gets old new (string_bytes text)
-IsAnswered (Usage text) holds old new = ⊥
-IsAnswered NoMemory holds old new = ⊥
-IsAnswered (Run request) holds old new = (text : List ℕ) × AnswersTo request holds text × Gets old new text
+IsAnswered asked holds old new = (text : List ℕ) × IsTextFor asked holds text × Gets old new text
+
+-- the output got a prefix of the text
+abbrev pub IsCutOff : Asked → (List ℕ → Option (List ℕ)) → Option (List ℕ) → Option (List ℕ) → Type 0
+IsCutOff asked holds old new = (text : List ℕ) × IsTextFor asked holds text × GetsPrefix old new text
 
 abbrev pub IsUsage : Asked → Type 0
-IsUsage (Help text) = ⊥
-IsUsage (Usage text) = Unit {0}
+IsUsage (Help help) = ⊥
+IsUsage (Usage fault) = Unit {0}
 IsUsage NoMemory = ⊥
 IsUsage (Run request) = ⊥
 
--- a command was asked for, and an input of it is refused
-abbrev pub IsRefused : Asked → (List ℕ → Option (List ℕ)) → Type 0
-IsRefused (Help text) holds = ⊥
-IsRefused (Usage text) holds = ⊥
-IsRefused NoMemory holds = ⊥
-IsRefused (Run request) holds = (f : Failure) × (failure_status f ≡ 3) × FailsFor request holds f
+-- the request has no answer, and this status
+abbrev pub FailsWith : ℕ → Asked → (List ℕ → Option (List ℕ)) → Type 0
+FailsWith status (Help help) holds = ⊥
+FailsWith status (Usage fault) holds = ⊥
+FailsWith status NoMemory holds = ⊥
+FailsWith status (Run request) holds = (f : Failure) × (failure_status f ≡ status) × FailsFor request holds f

@@ -4,7 +4,7 @@ ghost use Rattle.fints_cli.specs.Streams.{Gets, GetsNothing, GetsPrefix, IsFile,
 ghost use Rattle.fints_cli.specs.BuiltIn as texts;
 ghost use Rattle.fints_cli.specs.declared.words.Request.TheVariants as request;
 ghost use Rattle.fints_cli.specs.Thin.{IsReportOf};
-ghost use Rattle.fints_cli.specs.Commands.{failure_status, ShowsFile, AnswersTo, IsUnloaded, FailsToShow, FailsFor, IsAnswered, IsUsage, IsRefused};
+ghost use Rattle.fints_cli.specs.Commands.{failure_status, ShowsFile, AnswersTo, IsUnloaded, FailsToShow, FailsFor, IsAnswered, IsCutOff, IsUsage, FailsWith};
 ghost use Rattle.fints_cli.specs.declared.words.Asked.TheVariants as asked;
 
 use crate::built_in;
@@ -165,12 +165,14 @@ pub fn respond<F: Files, O: Out, E: Out>(
     ensures answered { result ≡ 0
         → IsAnswered asked.now (F.holds files.old) (O.told out.old) (O.told out.new) }
     ensures usage { (result ≡ 2) ↔ IsUsage asked.now }
-    ensures refused { result ≡ 3 → IsRefused asked.now (F.holds files.old) }
+    ensures refused { result ≡ 3 → FailsWith 3 asked.now (F.holds files.old) }
     ensures silent { (result ≡ 2) ⊎ ((result ≡ 3) ⊎ (result ≡ 4))
         → GetsNothing (O.told out.old) (O.told out.new) }
     ensures fine { result ≤ 4 → O.failed_calls out.new ≡ O.failed_calls out.old }
-    ensures failed { result ≡ 5 → GetsNothing (O.told out.old) (O.told out.new)
-        ⊎ (O.failed_calls out.new ≡ one_more (O.failed_calls out.old)) }
+    ensures failed { result ≡ 5
+        → (FailsWith 5 asked.now (F.holds files.old) × GetsNothing (O.told out.old) (O.told out.new))
+        ⊎ (IsCutOff asked.now (F.holds files.old) (O.told out.old) (O.told out.new)
+        × (O.failed_calls out.new ≡ one_more (O.failed_calls out.old))) }
     ensures unread { result ≡ 2 → F.calls files.new ≡ F.calls files.old }
     ensures calls { F.calls files.new ≤ F.calls files.old + MAX_CALLS }
 {
