@@ -2,8 +2,25 @@
 use Rattle.std.proofs.Common.{◌≡◌, ℕ, List, subst, Option, None, Some, IfSome}
 use Rattle.fints_cli.specs.declared.fault.Fault.{Fault}
 use Rattle.fints_cli.specs.Streams.{IsFile}
-use Rattle.fints_cli.specs.Judge.{IsVerdictOf, IsJudgeRefusal}
-use Rattle.fints_cli.specs.Commands.{JudgesFile}
+use Rattle.std.proofs.Common.{inl, inr}
+use Rattle.fints_params.specs.declared.fault.ParamFault.{ParamFault}
+use Rattle.fints_params.specs.declared.fault.ParamFault.TheVariants as params
+use Rattle.fints_params.specs.Faults.{IsMemoryOr}
+use Rattle.fints_params.specs.Parameters.{Rows}
+use Rattle.fints_params.specs.Captures.{IsParamsOf, IsParamFault}
+use Rattle.fints_rules.specs.declared.orders.OrderRow.{OrderRow}
+use Rattle.fints_rules.specs.declared.orders.TableFault.{TableFault}
+use Rattle.fints_rules.specs.declared.orders.TableFault.TheVariants as orders
+use Rattle.fints_rules.specs.declared.message.JudgeFault.{JudgeFault}
+use Rattle.fints_rules.specs.declared.message.JudgeFault.TheVariants as message
+use Rattle.fints_rules.specs.Orders.{DenotesTable, IsTableFault}
+use Rattle.fints_rules.specs.Read.{IsRefusal}
+use Rattle.fints_cli.specs.declared.fault.Fault.TheVariants.{NotYet, Memory, Params, Orders, Message}
+use Rattle.fints_cli.specs.Fault.{fault_of, order_fault_of, message_fault_of}
+use Rattle.fints_cli.specs.Judge.{AreGood, IsVerdictOf, IsMessageRefusal, IsJudgeRefusal}
+use Rattle.fints_cli.specs.declared.commands.Failure.{Failure}
+use Rattle.fints_cli.specs.declared.commands.Failure.TheVariants.{Input, Unread}
+use Rattle.fints_cli.specs.Commands.{JudgesFile, IsJudgeFailure, FailsToJudge}
 
 -- what holds of loaded bytes holds of what the files hold
 of_files : (P : List ℕ → List ℕ → List ℕ → Type 0) (a b c : Option (List ℕ)) (x y z : List ℕ) → IsFile a x → IsFile b y → IsFile c z → P x y z → IfSome a (λ p. IfSome b (λ q. IfSome c (λ r. P p q r)))
@@ -15,5 +32,39 @@ of_files P (Some a) (Some b) (Some c) x y z h i j p = subst (λ r. P a b r) j (s
 pub files_judged : (a b c : Option (List ℕ)) (x y z : List ℕ) (status : ℕ) (text : List ℕ) → IsFile a x → IsFile b y → IsFile c z → IsVerdictOf x y z status text → JudgesFile a b c status text
 files_judged a b c x y z status text h i j p = of_files (λ q r s. IsVerdictOf q r s status text) a b c x y z h i j p
 
-pub files_refused : (a b c : Option (List ℕ)) (x y z : List ℕ) (f : Fault) → IsFile a x → IsFile b y → IsFile c z → IsJudgeRefusal x y z f → IfSome a (λ p. IfSome b (λ q. IfSome c (λ r. IsJudgeRefusal p q r f)))
-files_refused a b c x y z f h i j p = of_files (λ q r s. IsJudgeRefusal q r s f) a b c x y z h i j p
+pub files_failed : (a b c : Option (List ℕ)) (x y z : List ℕ) (f : Failure) → IsFile a x → IsFile b y → IsFile c z → IsJudgeFailure x y z f → FailsToJudge a b c f
+files_failed a b c x y z (Unread named) h i j p = absurd p
+files_failed a b c x y z (Input f) h i j p = of_files (λ q r s. IsJudgeRefusal q r s f) a b c x y z h i j p
+
+-- ---- what refuses an input is the refusal of the call
+
+pub params_refused : (capture table bytes : List ℕ) (f : ParamFault) → IsMemoryOr (IsParamFault capture) f → IsJudgeRefusal capture table bytes (fault_of f)
+params_refused capture table bytes params.Memory h = tt
+params_refused capture table bytes (params.Syntax s) (inl e) = absurd (cc)
+params_refused capture table bytes (params.Syntax s) (inr p) = p
+params_refused capture table bytes (params.BadElement s e) (inl q) = absurd (cc)
+params_refused capture table bytes (params.BadElement s e) (inr p) = p
+params_refused capture table bytes params.TwoBankParameters (inl e) = absurd (cc)
+params_refused capture table bytes params.TwoBankParameters (inr p) = p
+params_refused capture table bytes params.NoBankParameters (inl e) = absurd (cc)
+params_refused capture table bytes params.NoBankParameters (inr p) = p
+params_refused capture table bytes params.NoPinParameters (inl e) = absurd (cc)
+params_refused capture table bytes params.NoPinParameters (inr p) = p
+
+pub orders_refused : (capture table bytes : List ℕ) (rows : Rows) (f : TableFault) → IsParamsOf capture rows → IsTableFault table f → IsJudgeRefusal capture table bytes (order_fault_of f)
+orders_refused capture table bytes rows orders.Memory h p = tt
+orders_refused capture table bytes rows orders.NotToml h p = ((rows, h), p)
+orders_refused capture table bytes rows orders.UnknownKey h p = ((rows, h), p)
+orders_refused capture table bytes rows (orders.BadRow n) h p = ((rows, h), p)
+orders_refused capture table bytes rows (orders.TwoRows n) h p = ((rows, h), p)
+
+pub message_refused : (bytes : List ℕ) (f : JudgeFault) → IsRefusal bytes f → IsMessageRefusal bytes (message_fault_of f)
+message_refused bytes message.Memory h = tt
+message_refused bytes (message.NotAMessage offset) h = h
+
+pub refused_whole : (capture table bytes : List ℕ) (rows : Rows) (orders : List OrderRow) (f : Fault) → IsParamsOf capture rows → DenotesTable table orders → IsMessageRefusal bytes f → IsJudgeRefusal capture table bytes f
+refused_whole capture table bytes rows orders Memory h i p = tt
+refused_whole capture table bytes rows orders NotYet h i p = absurd p
+refused_whole capture table bytes rows orders (Params f) h i p = absurd p
+refused_whole capture table bytes rows orders (Orders f) h i p = absurd p
+refused_whole capture table bytes rows orders (Message f) h i p = (record { rows = rows; table = orders; rows_are = h; table_is = i }, p)

@@ -5,3 +5,4 @@ pub mod ScriptLemmas
 pub mod StreamLemmas
 pub mod JudgeLemmas
 pub mod ShowLemmas
+pub mod CommandLemmas

@@ -1,16 +1,17 @@
 -- What the commands answer, and why they have no answer.
-use Rattle.std.specs.Prelude.{◌≡◌, ℕ, List, Option, IfSome, codes, string_bytes}
+use Rattle.std.specs.Prelude.{◌≡◌, ◌⊎◌, ℕ, List, Option, IfSome, codes, string_bytes}
 use Rattle.fints_cli.specs.declared.fault.Fault.TheVariants.{NotYet, Memory, Params, Orders, Message}
 use Rattle.fints_cli.specs.declared.commands.Failure.{Failure}
 use Rattle.fints_cli.specs.declared.commands.Failure.TheVariants.{Input, Unread}
 use Rattle.fints_cli.specs.declared.words.Request.{Request}
-use Rattle.fints_cli.specs.declared.words.Request.TheVariants.{BuiltIn, Show}
+use Rattle.fints_cli.specs.declared.words.Request.TheVariants.{BuiltIn, Show, Judge}
 use Rattle.fints_cli.specs.declared.words.Asked.{Asked}
 use Rattle.fints_cli.specs.declared.words.Asked.TheVariants.{Help, Usage, NoMemory, Run}
 use Rattle.fints_cli.specs.BuiltIn as built_in
 use Rattle.fints_cli.specs.Thin.{IsReportOf}
 use Rattle.fints_cli.specs.Streams.{Gets, GetsPrefix}
 use Rattle.fints_cli.specs.Show.{IsShowOf, IsMemoryOrShowFault}
+use Rattle.fints_cli.specs.Judge.{IsVerdictOf, IsJudgeRefusal}
 
 -- 3 for a refused input, 4 for want of memory, 5 for a file that couldn't be read
 abbrev pub failure_status : Failure → ℕ
@@ -25,10 +26,16 @@ failure_status (Unread option) = 5
 abbrev pub ShowsFile : Option (List ℕ) → List ℕ → Type 0
 ShowsFile held text = IfSome held (λ capture. IsShowOf capture text)
 
--- the text is the request's answer
-abbrev pub AnswersTo : Request → (List ℕ → Option (List ℕ)) → List ℕ → Type 0
-AnswersTo BuiltIn holds text = IsReportOf built_in.capture built_in.script text
-AnswersTo (Show params) holds text = ShowsFile (holds params.now) text
+-- the status and the text judge the message, where the bytes of the files are told
+abbrev pub JudgesFile : Option (List ℕ) → Option (List ℕ) → Option (List ℕ) → ℕ → List ℕ → Type 0
+JudgesFile params orders message status text =
+    IfSome params (λ capture. IfSome orders (λ table. IfSome message (λ bytes. IsVerdictOf capture table bytes status text)))
+
+-- the status and the text are the request's answer
+abbrev pub AnswersTo : Request → (List ℕ → Option (List ℕ)) → ℕ → List ℕ → Type 0
+AnswersTo BuiltIn holds status text = (status ≡ 0) × IsReportOf built_in.capture built_in.script text
+AnswersTo (Show params) holds status text = (status ≡ 0) × ShowsFile (holds params.now) text
+AnswersTo (Judge params orders message) holds status text = JudgesFile (holds params.now) (holds orders.now) (holds message.now) status text
 
 -- the file of the option couldn't be read, or memory ran out
 abbrev pub IsUnloaded : List ℕ → Failure → Type 0
@@ -44,26 +51,38 @@ abbrev pub FailsToShow : Option (List ℕ) → Failure → Type 0
 FailsToShow held (Unread named) = named.now ≡ codes "params"
 FailsToShow held (Input f) = IfSome held (λ capture. IsMemoryOrShowFault capture f)
 
+-- why loaded bytes aren't judged
+abbrev pub IsJudgeFailure : List ℕ → List ℕ → List ℕ → Failure → Type 0
+IsJudgeFailure params orders message (Unread named) = ⊥
+IsJudgeFailure params orders message (Input f) = IsJudgeRefusal params orders message f
+
+-- why a message isn't judged, where the bytes of the files are told
+abbrev pub FailsToJudge : Option (List ℕ) → Option (List ℕ) → Option (List ℕ) → Failure → Type 0
+FailsToJudge params orders message (Unread named) = (named.now ≡ codes "params") ⊎ ((named.now ≡ codes "orders") ⊎ (named.now ≡ codes "message"))
+FailsToJudge params orders message (Input f) =
+    IfSome params (λ capture. IfSome orders (λ table. IfSome message (λ bytes. IsJudgeRefusal capture table bytes f)))
+
 -- why the request has no answer
 abbrev pub FailsFor : Request → (List ℕ → Option (List ℕ)) → Failure → Type 0
 FailsFor BuiltIn holds (Unread named) = ⊥
 FailsFor BuiltIn holds (Input f) = Unit {0}
 FailsFor (Show params) holds failure = FailsToShow (holds params.now) failure
+FailsFor (Judge params orders message) holds failure = FailsToJudge (holds params.now) (holds orders.now) (holds message.now) failure
 
--- the text is what was asked for: the help, or the request's answer
-abbrev pub IsTextFor : Asked → (List ℕ → Option (List ℕ)) → List ℕ → Type 0
-IsTextFor (Help help) holds text = text ≡ string_bytes help
-IsTextFor (Usage fault) holds text = ⊥
-IsTextFor NoMemory holds text = ⊥
-IsTextFor (Run request) holds text = AnswersTo request holds text
+-- the status and the text are what was asked for: the help, or the request's answer
+abbrev pub IsTextFor : Asked → (List ℕ → Option (List ℕ)) → ℕ → List ℕ → Type 0
+IsTextFor (Help help) holds status text = (status ≡ 0) × (text ≡ string_bytes help)
+IsTextFor (Usage fault) holds status text = ⊥
+IsTextFor NoMemory holds status text = ⊥
+IsTextFor (Run request) holds status text = AnswersTo request holds status text
 
 -- the output got the whole text
-abbrev pub IsAnswered : Asked → (List ℕ → Option (List ℕ)) → Option (List ℕ) → Option (List ℕ) → Type 0
-IsAnswered asked holds old new = (text : List ℕ) × IsTextFor asked holds text × Gets old new text
+abbrev pub IsAnswered : Asked → (List ℕ → Option (List ℕ)) → ℕ → Option (List ℕ) → Option (List ℕ) → Type 0
+IsAnswered asked holds status old new = (text : List ℕ) × IsTextFor asked holds status text × Gets old new text
 
 -- the output got a prefix of the text
 abbrev pub IsCutOff : Asked → (List ℕ → Option (List ℕ)) → Option (List ℕ) → Option (List ℕ) → Type 0
-IsCutOff asked holds old new = (text : List ℕ) × IsTextFor asked holds text × GetsPrefix old new text
+IsCutOff asked holds old new = (status : ℕ) × (text : List ℕ) × IsTextFor asked holds status text × GetsPrefix old new text
 
 abbrev pub IsUsage : Asked → Type 0
 IsUsage (Help help) = ⊥

@@ -28,16 +28,20 @@ abbrev pub verdict_status : List Broken → ℕ
 verdict_status [] = 0
 verdict_status (b ∷ bs) = 1
 
--- the status and the text tell the rules that the message breaks
-pub record IsVerdictOf (params orders message : List ℕ) (status : ℕ) (text : List ℕ) : Type 0 where
-  pub rows : Rows
-  pub table : List OrderRow
+-- the status and the text tell the rules that the message breaks, by these rows and this order table
+pub record IsVerdictBy (rows : Rows) (table : List OrderRow) (message : List ℕ) (status : ℕ) (text : List ℕ) : Type 0 where
   pub broken : List Broken
-  pub rows_are : IsParamsOf params rows
-  pub table_is : DenotesTable orders table
   pub judged : IsJudged (record { rows = rows; orders = table }) message broken
   pub text_is : text ≡ verdict_text broken
   pub status_is : status ≡ verdict_status broken
+
+-- they tell them by the capture and the text of an order table
+pub record IsVerdictOf (params orders message : List ℕ) (status : ℕ) (text : List ℕ) : Type 0 where
+  pub rows : Rows
+  pub table : List OrderRow
+  pub rows_are : IsParamsOf params rows
+  pub table_is : DenotesTable orders table
+  pub verdict : IsVerdictBy rows table message status text
 
 -- the capture and the order table are good
 pub record AreGood (params orders : List ℕ) : Type 0 where
@@ -45,6 +49,14 @@ pub record AreGood (params orders : List ℕ) : Type 0 where
   pub table : List OrderRow
   pub rows_are : IsParamsOf params rows
   pub table_is : DenotesTable orders table
+
+-- want of memory, or the refusal of the message
+abbrev pub IsMessageRefusal : List ℕ → Fault → Type 0
+IsMessageRefusal message Memory = Unit {0}
+IsMessageRefusal message NotYet = ⊥
+IsMessageRefusal message (Params f) = ⊥
+IsMessageRefusal message (Orders f) = ⊥
+IsMessageRefusal message (Message f) = IsRefusal message f
 
 -- want of memory, or the first refusal: of the capture, of the order table, of the message
 abbrev pub IsJudgeRefusal : List ℕ → List ℕ → List ℕ → Fault → Type 0

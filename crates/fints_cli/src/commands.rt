@@ -1,16 +1,18 @@
 //! The commands, from words to a status.
-ghost use Rattle.std.specs.Prelude.{◌≡◌, ◌≤◌, ◌<◌, ◌+◌, ◌⊎◌, ◌↔◌, [], None, IfOk, IfErr};
+ghost use Rattle.std.specs.Prelude.{◌≡◌, ◌≤◌, ◌<◌, ◌+◌, ◌*◌, ◌⊎◌, ◌↔◌, [], None, IfOk, IfErr};
 ghost use Rattle.fints_cli.specs.Streams.{Gets, GetsNothing, GetsPrefix, IsFile, one_more};
 ghost use Rattle.fints_cli.specs.BuiltIn as texts;
 ghost use Rattle.fints_cli.specs.declared.words.Request.TheVariants as request;
 ghost use Rattle.fints_cli.specs.Thin.{IsReportOf};
-ghost use Rattle.fints_cli.specs.Commands.{failure_status, ShowsFile, AnswersTo, IsUnloaded, FailsToShow, FailsFor, IsAnswered, IsCutOff, IsUsage, FailsWith};
+ghost use Rattle.fints_cli.specs.Judge.{IsVerdictOf};
+ghost use Rattle.fints_cli.specs.Commands.{failure_status, IsJudgeFailure, ShowsFile, JudgesFile, FailsToJudge, AnswersTo, IsUnloaded, FailsToShow, FailsFor, IsAnswered, IsCutOff, IsUsage, FailsWith};
 ghost use Rattle.fints_cli.specs.declared.words.Asked.TheVariants as asked;
 
 use crate::built_in;
 use crate::checking::check_text;
 use crate::emitting::emit;
 use crate::fault::Fault;
+use crate::judging::judge_message;
 use crate::reading::{LoadFault, MAX_CALLS, load};
 use crate::reply::Reply;
 use crate::showing::show;
@@ -19,8 +21,11 @@ use crate::words::{Asked, Request, read_words};
 use std::alloc::Global;
 use thiserror::Error;
 
-// A capture has at most this many bytes.
+// A capture or a message has at most this many bytes.
 const MAX_CAPTURE: usize = 4_194_304;
+
+// An order table has at most this many bytes.
+const MAX_TEXT: usize = 1_048_576;
 
 /// Why a command has no answer.
 #[derive(Clone, Copy, Debug, PartialEq, Eq, Error)]
@@ -94,21 +99,67 @@ fn show_file<F: Files>(alloc: Global, files: &mut F, params: &str) -> Result<Rep
     }
 }
 
+fn judge_loaded(
+    alloc: Global,
+    params: &[u8],
+    orders: &[u8],
+    message: &[u8],
+) -> Result<Reply, Failure>
+    ensures status { IfOk result (λ reply. reply.status ≤ 1) }
+    ensures judged { IfOk result (λ reply. IsVerdictOf params.now orders.now message.now reply.status reply.text.items) }
+    ensures refused { IfErr result (λ f. IsJudgeFailure params.now orders.now message.now f) }
+{
+    match judge_message(alloc, params, orders, message) {
+        Ok(reply) => Ok(reply),
+        Err(fault) => Err(Failure::Input(fault)),
+    }
+}
+
+#[tactic(auto, using(crate::proofs::JudgeLemmas::files_judged, crate::proofs::JudgeLemmas::files_failed))]
+fn judge_file<F: Files>(
+    alloc: Global,
+    files: &mut F,
+    params: &str,
+    orders: &str,
+    message: &str,
+) -> Result<Reply, Failure>
+    ensures status { IfOk result (λ reply. reply.status ≤ 1) }
+    ensures judged { IfOk result (λ reply. JudgesFile (F.holds files.old params.now) (F.holds files.old orders.now) (F.holds files.old message.now) reply.status reply.text.items) }
+    ensures refused { IfErr result (λ f. FailsToJudge (F.holds files.old params.now) (F.holds files.old orders.now) (F.holds files.old message.now) f) }
+    ensures calls { F.calls files.new ≤ F.calls files.old + 3 * MAX_CALLS }
+    ensures keeps { F.holds files.new ≡ F.holds files.old }
+{
+    let params = load_option(alloc, files, "params", params, MAX_CAPTURE)?;
+    let orders = load_option(alloc, files, "orders", orders, MAX_TEXT)?;
+    let message = load_option(alloc, files, "message", message, MAX_CAPTURE)?;
+    judge_loaded(
+        alloc,
+        params.as_slice(),
+        orders.as_slice(),
+        message.as_slice(),
+    )
+}
+
 /// Answers a request over the files, all of which are read before any is looked at.
 pub fn perform<F: Files>(
     alloc: Global,
     request: &Request<'_>,
     files: &mut F,
 ) -> Result<Reply, Failure>
-    ensures status { IfOk result (λ reply. reply.status ≡ 0) }
-    ensures answers { IfOk result (λ reply. AnswersTo request.now (F.holds files.old) reply.text.items) }
+    ensures status { IfOk result (λ reply. reply.status ≤ 1) }
+    ensures answers { IfOk result (λ reply. AnswersTo request.now (F.holds files.old) reply.status reply.text.items) }
     ensures refused { IfErr result (λ f. FailsFor request.now (F.holds files.old) f) }
-    ensures calls { F.calls files.new ≤ F.calls files.old + MAX_CALLS }
+    ensures calls { F.calls files.new ≤ F.calls files.old + 3 * MAX_CALLS }
     ensures keeps { F.holds files.new ≡ F.holds files.old }
 {
     match request {
         Request::BuiltIn => report_built_in(alloc),
         Request::Show { params } => show_file(alloc, files, params),
+        Request::Judge {
+            params,
+            orders,
+            message,
+        } => judge_file(alloc, files, params, orders, message),
     }
 }
 
@@ -162,8 +213,8 @@ pub fn respond<F: Files, O: Out, E: Out>(
     err: &mut E,
 ) -> u8
     ensures status { result ≤ 5 }
-    ensures answered { result ≡ 0
-        → IsAnswered asked.now (F.holds files.old) (O.told out.old) (O.told out.new) }
+    ensures answered { result ≤ 1
+        → IsAnswered asked.now (F.holds files.old) result (O.told out.old) (O.told out.new) }
     ensures usage { (result ≡ 2) ↔ IsUsage asked.now }
     ensures refused { result ≡ 3 → FailsWith 3 asked.now (F.holds files.old) }
     ensures silent { (result ≡ 2) ⊎ ((result ≡ 3) ⊎ (result ≡ 4))
@@ -174,7 +225,7 @@ pub fn respond<F: Files, O: Out, E: Out>(
         ⊎ (IsCutOff asked.now (F.holds files.old) (O.told out.old) (O.told out.new)
         × (O.failed_calls out.new ≡ one_more (O.failed_calls out.old))) }
     ensures unread { result ≡ 2 → F.calls files.new ≡ F.calls files.old }
-    ensures calls { F.calls files.new ≤ F.calls files.old + MAX_CALLS }
+    ensures calls { F.calls files.new ≤ F.calls files.old + 3 * MAX_CALLS }
 {
     match asked {
         Asked::Help(text) => deliver(text.as_bytes(), 0, out, err),
@@ -192,7 +243,7 @@ pub fn respond<F: Files, O: Out, E: Out>(
 
 /// Does what the words after the program's name ask for, and gives the status: 0 where the answer
 /// or the help stands on the output, 2 for bad words, 3 for a refused input, 4 for want of memory,
-/// and 5 where a file couldn't be read or the output failed. Each status from 2 on has its line on
+/// and 5 where a file couldn't be read or the output failed. Status 1 is that of a message that breaks a rule. Each status from 2 on has its line on
 /// the errors, where those take it.
 pub fn execute<F: Files, O: Out, E: Out>(
     alloc: Global,
@@ -203,14 +254,14 @@ pub fn execute<F: Files, O: Out, E: Out>(
 ) -> u8
     ensures status { result ≤ 5 }
     ensures built_in { words.now ≡ [] → result ≡ 0
-        → IsAnswered (asked.Run request.BuiltIn) (F.holds files.old) (O.told out.old) (O.told out.new) }
+        → IsAnswered (asked.Run request.BuiltIn) (F.holds files.old) 0 (O.told out.old) (O.told out.new) }
     ensures silent { (result ≡ 2) ⊎ ((result ≡ 3) ⊎ (result ≡ 4))
         → GetsNothing (O.told out.old) (O.told out.new) }
     ensures fine { result ≤ 4 → O.failed_calls out.new ≡ O.failed_calls out.old }
     ensures failed { result ≡ 5 → GetsNothing (O.told out.old) (O.told out.new)
         ⊎ (O.failed_calls out.new ≡ one_more (O.failed_calls out.old)) }
     ensures unread { result ≡ 2 → F.calls files.new ≡ F.calls files.old }
-    ensures calls { F.calls files.new ≤ F.calls files.old + MAX_CALLS }
+    ensures calls { F.calls files.new ≤ F.calls files.old + 3 * MAX_CALLS }
 {
     let asked = read_words(alloc, words);
     respond(alloc, &asked, files, out, err)

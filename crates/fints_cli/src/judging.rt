@@ -1,7 +1,7 @@
 //! The text of `judge`: the rules that a message breaks.
 ghost use Rattle.std.specs.Prelude.{◌≡◌, ◌++◌, OnOk, IfOk, IfErr, string_bytes};
 ghost use Rattle.std.specs.List.{flat_map};
-ghost use Rattle.fints_cli.specs.Judge.{broken_line, last_line, verdict_text, verdict_status, IsVerdictOf, IsJudgeRefusal};
+ghost use Rattle.fints_cli.specs.Judge.{broken_line, last_line, verdict_text, verdict_status, IsVerdictBy, IsVerdictOf, IsMessageRefusal, IsJudgeRefusal};
 
 use crate::fault::Fault;
 use crate::reply::Reply;
@@ -57,6 +57,22 @@ fn verdict(alloc: Global, broken: &[Broken]) -> Result<Reply, AllocError>
     })
 }
 
+// The verdict on a message, by good parameters and a good order table.
+fn judge_with(
+    alloc: Global,
+    params: &Params,
+    orders: &OrderTable,
+    message: &[u8],
+) -> Result<Reply, Fault>
+    ensures judged { IfOk result (λ reply. IsVerdictBy params.now orders.now message.now reply.status reply.text.items) }
+    ensures refused { IfErr result (λ f. IsMessageRefusal message.now f) }
+{
+    let permissions = Permissions::build(alloc, params, orders)?;
+    let broken = judge(alloc, &permissions, message)?;
+    let reply = verdict(alloc, broken.as_slice())?;
+    Ok(reply)
+}
+
 /// The rules that a message breaks, by a capture and an order table. Of the refusals that of the
 /// capture comes first, and then that of the order table.
 pub fn judge_message(
@@ -72,13 +88,7 @@ pub fn judge_message(
         Ok(params) => params,
         Err(fault) => return Err(Fault::from(fault)),
     };
-    let orders = match OrderTable::read(alloc, orders) {
-        Ok(orders) => orders,
-        Err(fault) => return Err(Fault::from(fault)),
-    };
-    let permissions = Permissions::build(alloc, &params, &orders)?;
-    match judge(alloc, &permissions, message) {
-        Ok(broken) => Ok(verdict(alloc, broken.as_slice())?),
-        Err(fault) => Err(Fault::from(fault)),
-    }
+    let orders = OrderTable::read(alloc, orders)?;
+    let reply = judge_with(alloc, &params, &orders, message)?;
+    Ok(reply)
 }

@@ -1,0 +1,11 @@
+-- What a cut output got.
+use Rattle.std.proofs.Common.{◌≡◌, ℕ, List, refl, subst, sym, Option}
+use Rattle.std.specs.Prelude.{string_bytes}
+use Rattle.fints_cli.specs.declared.words.Request.{Request}
+use Rattle.fints_cli.specs.declared.words.Asked.{Asked}
+use Rattle.fints_cli.specs.declared.words.Asked.TheVariants.{Help, Run}
+use Rattle.fints_cli.specs.Streams.{GetsPrefix}
+use Rattle.fints_cli.specs.Commands.{AnswersTo, IsCutOff}
+
+pub cut_answer : (asked : Asked) (request : Request) (holds : List ℕ → Option (List ℕ)) (status : ℕ) (text : List ℕ) (old new : Option (List ℕ)) → asked ≡ Run request → AnswersTo request holds status text → GetsPrefix old new text → IsCutOff asked holds old new
+cut_answer asked request holds status text old new is answers prefix = subst (λ a. IsCutOff a holds old new) (sym is) (status, text, answers, prefix)
