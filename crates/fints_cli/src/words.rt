@@ -13,7 +13,9 @@ pub enum Request<'a> {
     /// The report of the built-in texts.
     BuiltIn,
     /// What a capture says.
-    Show { params: &'a str },
+    Show {
+        params: &'a str,
+    },
     /// The rules that a message breaks, by a capture and an order table.
     Judge {
         params: &'a str,

@@ -13,4 +13,6 @@ mod captures;
 #[cfg(test)]
 mod commands;
 #[cfg(test)]
+mod judgements;
+#[cfg(test)]
 mod reports;
