@@ -1,6 +1,6 @@
 -- The rows of an order's kind and version.
 use Rattle.std.proofs.Common.{◌≡◌, ◌≢◌, ◌⊎◌, ℕ, zero, suc, ◌<◌, ◌≤◌, Bool, true, false, cond, not, List, [], ◌∷◌, length, Option, Some, None, refl, ap, ◌∙◌, sym, subst, arith, inl, inr}
-use Rattle.std.specs.Prelude.{All, Any, Contains, filter, is_some, IsTrue, ◌↔◌}
+use Rattle.std.specs.Prelude.{Any, filter, is_some, IsTrue, ◌↔◌}
 use Rattle.std.specs.Bool.{Decides}
 use Rattle.std.specs.Cmp.{unsigned_Decides}
 use Rattle.std.proofs.lemmas.Bool.Decides.{Decides-and}
@@ -11,7 +11,7 @@ use Rattle.fints_params.specs.Parameters.{Rows}
 use Rattle.fints_params.specs.declared.rows.OrderParam.{OrderParam}
 use Rattle.fints_rules.specs.declared.limits.Limits.{Limits}
 use Rattle.fints_rules.specs.Permits.{is_param_of, params_of, LimitsAre, IsLimits}
-use Rattle.fints_rules.specs.Breaks.{own_version, IsOrder, IsRowFor, BreaksVersion}
+use Rattle.fints_rules.specs.Breaks.{own_version, IsRowFor, BreaksVersion}
 
 -- ---- some element
 
@@ -101,13 +101,13 @@ no_row_allows s rows n none any = none_among s rows none (any_weaker (AllowsFewe
 pub limit_allows : (s : OwnedSegment) (rows : List OrderParam) (n : ℕ) (l : Limits) → IsLimits (rows_for s rows) l → (l.orders ≢ 0) × (l.orders < n) ↔ Any (AllowsFewer s n) rows
 limit_allows s rows n l h = (
   λ (ne, lt).
-  any_weaker (λ row. IsRowFor s row × (row.orders ≡ l.orders)) (AllowsFewer s n) (λ row g. let is = g.1 in (g.0, λ e. ne (sym is ∙ e), omega arith)) rows
-  (row_among s (λ row. row.orders ≡ l.orders) rows (h.orders.some ne)),
+      any_weaker (λ row. IsRowFor s row × (row.orders ≡ l.orders)) (AllowsFewer s n) (λ row g. let is = g.1 in (g.0, λ e. ne (sym is ∙ e), omega arith)) rows
+      (row_among s (λ row. row.orders ≡ l.orders) rows (h.orders.some ne)),
   λ any.
-  let found = row_for s (λ row. (row.orders ≢ 0) × (row.orders < n)) rows (any_weaker (AllowsFewer s n) (λ row. IsRowFor s row × ((row.orders ≢ 0) × (row.orders < n))) (λ row g. (g.0, (g.1, g.2))) rows any) in
-  let (k, row, lt, at, (ne, less)) = found in
-  let least = All-contains (λ r. r.orders ≢ 0 → (l.orders ≢ 0) × (l.orders ≤ r.orders)) (rows_for s rows) row h.orders.least (k, lt, at) in
-  let both = least ne in (both.0, omega (arith, both.1)),
+      let found = row_for s (λ row. (row.orders ≢ 0) × (row.orders < n)) rows (any_weaker (AllowsFewer s n) (λ row. IsRowFor s row × ((row.orders ≢ 0) × (row.orders < n))) (λ row g. (g.0, (g.1, g.2))) rows any) in
+      let (k, row, lt, at, (ne, less)) = found in
+      let least = All-contains (λ r. r.orders ≢ 0 → (l.orders ≢ 0) × (l.orders ≤ r.orders)) (rows_for s rows) row h.orders.least (k, lt, at) in
+      let both = least ne in (both.0, omega (arith, both.1)),
 )
 
 -- P8, first half
@@ -120,8 +120,8 @@ no_row_needs s rows k none any = none_among s rows none (any_weaker (NeedsMore s
 pub limit_needs : (s : OwnedSegment) (rows : List OrderParam) (n : ℕ) (l : Limits) → IsLimits (rows_for s rows) l → (n < l.signatures) ↔ Any (NeedsMore s n) rows
 limit_needs s rows n l h = (
   λ lt.
-  any_weaker (λ row. IsRowFor s row × (row.signatures ≡ l.signatures)) (NeedsMore s n) (λ row g. let is = g.1 in (g.0, omega arith)) rows (row_among s (λ row. row.signatures ≡ l.signatures) rows h.signatures.some),
+      any_weaker (λ row. IsRowFor s row × (row.signatures ≡ l.signatures)) (NeedsMore s n) (λ row g. let is = g.1 in (g.0, omega arith)) rows (row_among s (λ row. row.signatures ≡ l.signatures) rows h.signatures.some),
   λ any.
-  let (k, row, lt, at, more) = row_for s (λ row. n < row.signatures) rows any in
-  let most = All-contains (λ r. r.signatures ≤ l.signatures) (rows_for s rows) row h.signatures.greatest (k, lt, at) in omega arith,
+      let (k, row, lt, at, more) = row_for s (λ row. n < row.signatures) rows any in
+      let most = All-contains (λ r. r.signatures ≤ l.signatures) (rows_for s rows) row h.signatures.greatest (k, lt, at) in omega arith,
 )

@@ -104,10 +104,7 @@ impl From<AllocError> for JudgeFault {
 }
 
 // The segments by their values.
-fn owned_segments(
-    alloc: Global,
-    views: &[SegmentView<'_>],
-) -> Result<Vec<OwnedSegment>, AllocError>
+fn owned_segments(alloc: Global, views: &[SegmentView<'_>]) -> Result<Vec<OwnedSegment>, AllocError>
     ensures { IfOk result (λ v. v.items ≡ segments_of views.now) }
 {
     let mut owned = Vec::new(alloc);
@@ -192,12 +189,7 @@ pub fn read_message(alloc: Global, bytes: &[u8]) -> Result<Message, JudgeFault>
                             protocol,
                             number,
                         };
-                        Ok(with_segments(
-                            alloc,
-                            frame,
-                            body.as_slice(),
-                            ends.as_slice(),
-                        )?)
+                        Ok(with_segments(alloc, frame, body.as_slice(), ends.as_slice())?)
                     }
                 }
             }

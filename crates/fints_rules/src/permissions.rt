@@ -105,10 +105,8 @@ impl<'a> Permissions<'a> {
     fn has_fitting_entry(&self, account: &AccountKey<'_>, kind: Kind, signatures: usize) -> bool
         ensures { IsTrue result ↔ Any (λ row. Matches account.now row × Any (λ e. (e.kind ≡ kind) × (e.signatures ≤ signatures)) row.entries) self.now.rows.accounts }
     {
-        self.params
-            .accounts()
-            .iter()
-            .any(|row| account.matches(row) && has_fitting_entry(row, kind, signatures))
+        self.params.accounts().iter().any(|row| account.matches(row)
+            && has_fitting_entry(row, kind, signatures))
     }
 
     // Whether an entry of the kind stands in a row of the account.
