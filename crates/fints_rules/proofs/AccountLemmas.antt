@@ -1,6 +1,6 @@
 -- The account of an order.
-use Rattle.std.proofs.Common.{◌≡◌, ℕ, Bool, true, false, List, Some, Option, ap, ◌∙◌, sym, subst, refl}
-use Rattle.std.specs.Prelude.{IsTrue, ◌↔◌, length}
+use Rattle.std.proofs.Common.{◌≡◌, ℕ, true, false, List, Some, ap, ◌∙◌, sym, subst}
+use Rattle.std.specs.Prelude.{IsTrue, ◌↔◌}
 use Rattle.fints_syntax.specs.declared.item.OwnedSegment.{OwnedSegment}
 use Rattle.fints_syntax.specs.Values.{values_at}
 use Rattle.fints_params.specs.Parameters.{Rows}

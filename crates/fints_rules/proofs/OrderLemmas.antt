@@ -1,16 +1,16 @@
 -- The rows of the entries, one by one.
-use Rattle.std.proofs.Common.{◌≡◌, ℕ, ◌+◌, ◌<◌, ◌≤◌, List, [], ◌∷◌, ◌++◌, length, get_or, take, drop, map, Option, Some, None, Result, Ok, Err, refl, ap, ◌∙◌, sym, subst, arith, append_assoc, inr}
-use Rattle.std.specs.Prelude.{IfOk, IfErr, Any, AllPairs}
+use Rattle.std.proofs.Common.{◌≡◌, ℕ, ◌+◌, ◌<◌, ◌≤◌, List, [], ◌∷◌, ◌++◌, length, get_or, take, drop, map, Some, Result, Ok, Err, refl, ap, ◌∙◌, sym, arith, inr}
+use Rattle.std.specs.Prelude.{IfOk, IfErr, Any}
 use Rattle.std.proofs.lemmas.List.{take_more, drop_more, take-append-drop, map_push, map-append, length-map, length-take-le, get_or_default}
 use Rattle.std.proofs.lemmas.List.Quantifiers.{all_pairs_push}
 use Rattle.toml.specs.declared.value.Value.{Value}
-use Rattle.toml.specs.Data.{Data, Items, array}
+use Rattle.toml.specs.Data.{Data, array}
 use Rattle.toml.specs.View.{view, items_view}
 use Rattle.fints_rules.specs.Document.{item_list}
 use Rattle.fints_rules.specs.declared.orders.OrderRow.{OrderRow}
 use Rattle.fints_rules.specs.declared.orders.TableFault.{TableFault}
 use Rattle.fints_rules.specs.declared.orders.TableFault.TheVariants as faults
-use Rattle.fints_rules.specs.Orders.{row_of, IsSameOrder, AreRows, IsFirstBad, IsNoRow, IsSecondRow, IsTableAt}
+use Rattle.fints_rules.specs.Orders.{row_of, IsSameOrder, AreRows, IsFirstBad, IsTableAt}
 use Rattle.fints_rules.specs.OrderFaults.{IsRowFault, IsFaultAt}
 
 -- the values of an array are its entries

@@ -1,10 +1,9 @@
 -- The entries of a kind in the rows of an account.
-use Rattle.std.proofs.Common.{◌≡◌, ℕ, ◌<◌, ◌≤◌, Bool, true, false, List, IsTrue, refl, arith, inl, inr}
-use Rattle.std.specs.Prelude.{Any, Contains, ◌↔◌}
+use Rattle.std.proofs.Common.{◌≡◌, ℕ, ◌≤◌, List, arith, inl, inr}
+use Rattle.std.specs.Prelude.{Any}
 use Rattle.std.proofs.lemmas.Bool.{cases_lt}
 use Rattle.fints_params.specs.Parameters.{Rows}
 use Rattle.fints_params.specs.declared.rows.Entry.{Entry}
-use Rattle.fints_params.specs.declared.rows.Usage.TheVariants as usage
 use Rattle.fints_rules.specs.Accounts.{Account}
 use Rattle.fints_rules.specs.AccountRows.{Matches}
 use Rattle.fints_rules.specs.Permits.{IsEntryOf, AllNeedMore, IsLocked}

@@ -1,6 +1,6 @@
 -- The rows of an order's kind and version.
 use Rattle.std.proofs.Common.{◌≡◌, ◌≢◌, ◌⊎◌, ℕ, zero, suc, ◌<◌, ◌≤◌, Bool, true, false, cond, not, List, [], ◌∷◌, length, Option, Some, None, refl, ap, ◌∙◌, sym, subst, arith, inl, inr}
-use Rattle.std.specs.Prelude.{All, Any, Contains, filter, is_some, IsTrue, ◌↔◌}
+use Rattle.std.specs.Prelude.{Any, filter, is_some, IsTrue, ◌↔◌}
 use Rattle.std.specs.Bool.{Decides}
 use Rattle.std.specs.Cmp.{unsigned_Decides}
 use Rattle.std.proofs.lemmas.Bool.Decides.{Decides-and}
@@ -11,7 +11,7 @@ use Rattle.fints_params.specs.Parameters.{Rows}
 use Rattle.fints_params.specs.declared.rows.OrderParam.{OrderParam}
 use Rattle.fints_rules.specs.declared.limits.Limits.{Limits}
 use Rattle.fints_rules.specs.Permits.{is_param_of, params_of, LimitsAre, IsLimits}
-use Rattle.fints_rules.specs.Breaks.{own_version, IsOrder, IsRowFor, BreaksVersion}
+use Rattle.fints_rules.specs.Breaks.{own_version, IsRowFor, BreaksVersion}
 
 -- ---- some element
 

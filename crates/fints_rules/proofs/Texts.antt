@@ -1,5 +1,5 @@
 -- Segment texts, one after the other.
-use Rattle.std.proofs.Common.{◌≡◌, ℕ, ◌+◌, ◌<◌, List, [], ◌∷◌, ◌++◌, length, get_or, take, drop, unwrap_or, refl, ap, ◌∙◌, sym, arith, subst, append_assoc, length-append}
+use Rattle.std.proofs.Common.{◌≡◌, ℕ, ◌+◌, ◌<◌, List, [], ◌∷◌, ◌++◌, length, get_or, take, unwrap_or, refl, ap, ◌∙◌, sym, arith, subst, append_assoc, length-append}
 use Rattle.std.specs.List.{AllByRecursion}
 use Rattle.std.proofs.lemmas.List.{append-nil, append_cancel_left, map-append, take_more}
 use Rattle.std.proofs.lemmas.List.Concat.{flat_map-append}
@@ -7,7 +7,6 @@ use Rattle.fints_syntax.specs.Spelling.{Spelled, spelled_bytes}
 use Rattle.fints_syntax.specs.Segment.{Token, tokens_bytes, token_bytes, element_tokens, segment_bytes, IsSegment}
 use Rattle.fints_syntax.specs.Segment.{values_of, head_of}
 use Rattle.fints_syntax.specs.Owned.{IsOwned}
-use Rattle.fints_syntax.specs.declared.item.Head.{Head}
 use Rattle.fints_syntax.specs.declared.item.OwnedSegment.{OwnedSegment}
 use Rattle.fints_syntax.specs.Faults.{BeginsWithSegment, window_of}
 use Rattle.fints_syntax.specs.Laws.{OneSegmentText, SegmentIsRead}

@@ -1,5 +1,5 @@
 -- What an account key shows, and keeps.
-use Rattle.std.specs.Prelude.{◌≡◌, ℕ, List, []}
+use Rattle.std.specs.Prelude.{◌≡◌, []}
 use Rattle.fints_rules.specs.Accounts.{Account, nobody, by_items, by_iban}
 use Rattle.fints_rules.specs.declared.account.Named.{Named}
 use Rattle.fints_rules.specs.declared.account.Named.TheVariants.{Nobody, National, Iban}

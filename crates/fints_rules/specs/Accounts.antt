@@ -1,5 +1,5 @@
 -- The account that an order names in its element 2.
-use Rattle.std.specs.Prelude.{◌≡◌, ℕ, ◌+◌, ◌==◌, if◌then◌else◌, List, [], length, slice_index_or}
+use Rattle.std.specs.Prelude.{ℕ, ◌+◌, ◌==◌, if◌then◌else◌, List, [], length, slice_index_or}
 use Rattle.fints_rules.specs.declared.orders.AccountForm.{AccountForm}
 use Rattle.fints_rules.specs.declared.orders.AccountForm.TheVariants.{Nameless, National, International}
 

@@ -1,5 +1,5 @@
 -- Which rules a message breaks, and where. Place 0 is the whole message; another place is the number of a segment of its body.
-use Rattle.std.specs.Prelude.{codes, ◌≡◌, ◌≢◌, ◌⊎◌, ◌↔◌, ℕ, ◌*◌, ◌<◌, Bool, true, not, ◌&&◌, if◌then◌else◌, List, [], ◌∷◌, length, map, filter, count_by, Option, Some, None, is_some, Any, All, AllPairs, Contains}
+use Rattle.std.specs.Prelude.{codes, ◌≡◌, ◌≢◌, ◌⊎◌, ◌↔◌, ℕ, ◌*◌, ◌<◌, Bool, true, not, ◌&&◌, if◌then◌else◌, List, [], length, map, filter, count_by, Option, Some, None, is_some, Any, AllPairs, Contains}
 use Rattle.std.specs.Str.{bytes_eq}
 use Rattle.std.specs.Set.{distinct_count}
 use Rattle.fints_syntax.specs.declared.item.OwnedSegment.{OwnedSegment}

@@ -1,5 +1,5 @@
 -- How the judge's list grows, rule by rule and segment by segment.
-use Rattle.std.specs.Prelude.{◌≡◌, ℕ, ◌<◌, ◌≤◌, List, [], ◌∷◌, ◌++◌, Any, All, AllPairs, Contains}
+use Rattle.std.specs.Prelude.{◌≡◌, ℕ, ◌<◌, ◌≤◌, List, ◌++◌, Any, All, AllPairs, Contains}
 use Rattle.fints_syntax.specs.declared.item.OwnedSegment.{OwnedSegment}
 use Rattle.fints_rules.specs.declared.rule.Rule.{Rule}
 use Rattle.fints_rules.specs.declared.rule.Broken.{Broken}

@@ -15,3 +15,4 @@ pub mod RuleNames
 pub mod Breaks
 pub mod AccountTests
 pub mod Judging
+pub mod Tallies

@@ -1,5 +1,5 @@
 -- The refusals of an order table, as its parts give them.
-use Rattle.std.specs.Prelude.{◌≡◌, codes, ℕ, true, false, List, Option}
+use Rattle.std.specs.Prelude.{◌≡◌, codes, true, false, List, Option}
 use Rattle.toml.specs.Data.{Data, Members, get_member}
 use Rattle.fints_rules.specs.declared.orders.OrderRow.{OrderRow}
 use Rattle.fints_rules.specs.declared.orders.TableFault.{TableFault}

@@ -1,5 +1,5 @@
 -- What the rows of a capture permit an order, by its kind, its version and its account.
-use Rattle.std.specs.Prelude.{◌≡◌, ◌≢◌, ◌⊎◌, ℕ, ◌<◌, ◌≤◌, Bool, true, ◌&&◌, ◌==◌, List, [], length, filter, Option, Some, None, Any, All, Contains}
+use Rattle.std.specs.Prelude.{◌≡◌, ◌≢◌, ℕ, ◌<◌, ◌≤◌, Bool, true, ◌&&◌, ◌==◌, List, [], filter, Option, Some, None, Any, All, Contains}
 use Rattle.std.specs.Str.{bytes_eq}
 use Rattle.fints_params.specs.Parameters.{Rows}
 use Rattle.fints_params.specs.declared.rows.OrderParam.{OrderParam}

@@ -4,10 +4,11 @@ ghost use Rattle.fints_rules.specs.Breaks.{IsJudged};
 ghost use Rattle.fints_rules.specs.Judging.{IsRising, AddsWhole, AddsSegments, AddsRule, Covers};
 ghost use Rattle.fints_rules.specs.Read.{IsRefusal};
 
-use crate::message::{JudgeFault, Message, read_message};
+use crate::message::{JudgeFault, read_message};
 use crate::permissions::Permissions;
 use crate::rule::{Broken, Rule};
 use crate::segments::breaks_at;
+use crate::tally::Tally;
 use crate::whole::breaks_whole;
 use fints_syntax::Memory;
 use std::alloc::Global;
@@ -30,12 +31,12 @@ const RULES: [Rule; 10] = [
 fn push_whole(
     out: &mut Vec<Broken>,
     permissions: &Permissions<'_>,
-    message: &Message,
+    tally: &Tally<'_>,
     rule: Rule,
 ) -> Result<(), Memory>
-    ensures { OnOk result (AddsWhole permissions.now message.now rule out.old.items out.new.items) }
+    ensures { OnOk result (AddsWhole permissions.now tally.now rule out.old.items out.new.items) }
 {
-    if breaks_whole(permissions, message, rule) {
+    if breaks_whole(permissions, tally, rule) {
         out.push(Broken { rule, segment: 0 })?;
     }
     Ok(())
@@ -45,14 +46,14 @@ fn push_whole(
 fn push_segments(
     out: &mut Vec<Broken>,
     permissions: &Permissions<'_>,
-    message: &Message,
+    tally: &Tally<'_>,
     rule: Rule,
 ) -> Result<(), Memory>
-    requires { IsRising message.now.body }
-    ensures { OnOk result (AddsSegments permissions.now message.now rule out.old.items out.new.items) }
+    requires { IsRising tally.now.body }
+    ensures { OnOk result (AddsSegments permissions.now tally.now rule out.old.items out.new.items) }
 {
-    for segment in message.body() {
-        if breaks_at(permissions, message, rule, segment) {
+    for segment in tally.message().body() {
+        if breaks_at(permissions, tally, rule, segment) {
             out.push(Broken {
                 rule,
                 segment: segment.head.number,
@@ -66,14 +67,14 @@ fn push_segments(
 fn push_rule(
     out: &mut Vec<Broken>,
     permissions: &Permissions<'_>,
-    message: &Message,
+    tally: &Tally<'_>,
     rule: Rule,
 ) -> Result<(), Memory>
-    requires { IsRising message.now.body }
-    ensures { OnOk result (AddsRule permissions.now message.now rule out.old.items out.new.items) }
+    requires { IsRising tally.now.body }
+    ensures { OnOk result (AddsRule permissions.now tally.now rule out.old.items out.new.items) }
 {
-    push_whole(out, permissions, message, rule)?;
-    push_segments(out, permissions, message, rule)?;
+    push_whole(out, permissions, tally, rule)?;
+    push_segments(out, permissions, tally, rule)?;
     Ok(())
 }
 
@@ -81,14 +82,14 @@ fn push_rule(
 fn broken_rules(
     alloc: Global,
     permissions: &Permissions<'_>,
-    message: &Message,
+    tally: &Tally<'_>,
 ) -> Result<Vec<Broken>, Memory>
-    requires { IsRising message.now.body }
-    ensures { IfOk result (λ broken. Covers permissions.now message.now 10 broken.items) }
+    requires { IsRising tally.now.body }
+    ensures { IfOk result (λ broken. Covers permissions.now tally.now 10 broken.items) }
 {
     let mut broken = Vec::new(alloc);
     for rule in RULES {
-        push_rule(&mut broken, permissions, message, rule)?;
+        push_rule(&mut broken, permissions, tally, rule)?;
     }
     Ok(broken)
 }
@@ -103,6 +104,7 @@ pub fn judge(
     ensures refusal { IfErr result (λ f. IsRefusal bytes.now f) }
 {
     let message = read_message(alloc, bytes)?;
-    let broken = broken_rules(alloc, permissions, &message)?;
+    let tally = Tally::of(alloc, &message)?;
+    let broken = broken_rules(alloc, permissions, &tally)?;
     Ok(broken)
 }

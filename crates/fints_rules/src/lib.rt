@@ -19,6 +19,7 @@ mod rule;
 mod sealed;
 mod segments;
 mod tail;
+mod tally;
 mod values;
 mod whole;
 

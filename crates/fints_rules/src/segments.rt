@@ -9,12 +9,13 @@ ghost use Rattle.fints_rules.specs.Permits.{IsListed, IsListedWithTan, AllNeedMo
 ghost use Rattle.fints_rules.specs.Breaks.{count_of, IsOrder, IsPlainOrder, IsRowFor, HasProcess, HasTan, CarriesTan, NamesAccount, BreaksVersion, BreaksOrders, BreaksListed, BreaksSignatures, BreaksAccount, BreaksTan, BreaksAt};
 
 use crate::account::AccountKey;
-use crate::kinds::{is_order, is_plain_order, is_tan_order, own_version};
+use crate::kinds::{is_order, is_plain_order, own_version};
 use crate::limits::Demand;
 use crate::message::Message;
 use crate::orders::AccountForm;
 use crate::permissions::{Permissions, Permit};
 use crate::rule::Rule;
+use crate::tally::{Tally, has_process};
 use fints_syntax::{Kind, OwnedSegment};
 
 // ---- P5 and P6
@@ -27,14 +28,6 @@ fn breaks_version(permissions: &Permissions<'_>, segment: &OwnedSegment) -> bool
         Some(version) => head.version != version,
         None => permissions.limits(head.id, head.version).is_none(),
     }
-}
-
-fn count_kind(body: &[OwnedSegment], kind: Kind) -> usize
-    ensures { result ≡ count_of kind body.now }
-{
-    body.iter()
-        .filter(|segment| segment.head.id == kind)
-        .count()
 }
 
 fn exceeds(limit: u32, count: usize) -> bool
@@ -53,14 +46,14 @@ fn row_allows_fewer(permissions: &Permissions<'_>, segment: &OwnedSegment, count
     }
 }
 
-fn breaks_orders(permissions: &Permissions<'_>, message: &Message, segment: &OwnedSegment) -> bool
-    ensures { IsTrue result ↔ BreaksOrders permissions.now.rows message.now segment.now }
+fn breaks_orders(permissions: &Permissions<'_>, tally: &Tally<'_>, segment: &OwnedSegment) -> bool
+    ensures { IsTrue result ↔ BreaksOrders permissions.now.rows tally.now segment.now }
 {
     let kind = segment.head.id;
     if !is_order(kind) {
         return false;
     }
-    row_allows_fewer(permissions, segment, count_kind(message.body(), kind))
+    row_allows_fewer(permissions, segment, tally.count(kind))
 }
 
 // ---- P7
@@ -189,36 +182,6 @@ fn breaks_account(permissions: &Permissions<'_>, message: &Message, segment: &Ow
 
 // ---- P10
 
-fn has_process(segment: &OwnedSegment, process: &[u8]) -> bool
-    ensures { IsTrue result ↔ HasProcess process.now segment.now }
-{
-    is_tan_order(segment.head.id) && segment.value(2, 1) == process
-}
-
-fn has_tan(segment: &OwnedSegment) -> bool
-    ensures { IsTrue result ↔ HasTan segment.now }
-{
-    !segment.value(4, 2).is_empty()
-}
-
-fn has_any_tan(ends: &[OwnedSegment]) -> bool
-    ensures { IsTrue result ↔ Any HasTan ends.now }
-{
-    ends.iter().any(|segment| has_tan(segment))
-}
-
-fn submits_order(body: &[OwnedSegment]) -> bool
-    ensures { IsTrue result ↔ Any (HasProcess (codes "4")) body.now }
-{
-    body.iter().any(|segment| has_process(segment, b"4"))
-}
-
-fn carries_tan(message: &Message) -> bool
-    ensures { IsTrue result ↔ CarriesTan message.now }
-{
-    submits_order(message.body()) || has_any_tan(message.ends())
-}
-
 fn demands_tan(permissions: &Permissions<'_>, kind: Kind) -> bool
     ensures { IsTrue result ↔ IsListedWithTan permissions.now.rows.pins kind }
 {
@@ -229,30 +192,30 @@ fn demands_tan(permissions: &Permissions<'_>, kind: Kind) -> bool
     }
 }
 
-fn lacks_tan(permissions: &Permissions<'_>, message: &Message, kind: Kind) -> bool
-    ensures { IsTrue result ↔ (IsListedWithTan permissions.now.rows.pins kind × (CarriesTan message.now → ⊥)) }
+fn lacks_tan(permissions: &Permissions<'_>, tally: &Tally<'_>, kind: Kind) -> bool
+    ensures { IsTrue result ↔ (IsListedWithTan permissions.now.rows.pins kind × (CarriesTan tally.now → ⊥)) }
 {
-    demands_tan(permissions, kind) && !carries_tan(message)
+    demands_tan(permissions, kind) && !tally.carries_tan()
 }
 
-fn breaks_tan(permissions: &Permissions<'_>, message: &Message, segment: &OwnedSegment) -> bool
-    ensures { IsTrue result ↔ BreaksTan permissions.now.rows message.now segment.now }
+fn breaks_tan(permissions: &Permissions<'_>, tally: &Tally<'_>, segment: &OwnedSegment) -> bool
+    ensures { IsTrue result ↔ BreaksTan permissions.now.rows tally.now segment.now }
 {
     let kind = segment.head.id;
-    if is_plain_order(kind) && lacks_tan(permissions, message, kind) {
+    if is_plain_order(kind) && lacks_tan(permissions, tally, kind) {
         return true;
     }
-    has_process(segment, b"2") && !has_any_tan(message.ends())
+    has_process(segment, b"2") && !tally.has_tan()
 }
 
 /// Whether a segment of the body breaks the rule.
 pub fn breaks_at(
     permissions: &Permissions<'_>,
-    message: &Message,
+    tally: &Tally<'_>,
     rule: Rule,
     segment: &OwnedSegment,
 ) -> bool
-    ensures { IsTrue result ↔ BreaksAt permissions.now message.now rule segment.now }
+    ensures { IsTrue result ↔ BreaksAt permissions.now tally.now rule segment.now }
 {
     match rule {
         Rule::Protocol => false,
@@ -260,10 +223,10 @@ pub fn breaks_at(
         Rule::Size => false,
         Rule::Kinds => false,
         Rule::Version => breaks_version(permissions, segment),
-        Rule::Orders => breaks_orders(permissions, message, segment),
+        Rule::Orders => breaks_orders(permissions, tally, segment),
         Rule::Listed => breaks_listed(permissions, segment),
-        Rule::Signatures => breaks_signatures(permissions, message, segment),
-        Rule::Account => breaks_account(permissions, message, segment),
-        Rule::Tan => breaks_tan(permissions, message, segment),
+        Rule::Signatures => breaks_signatures(permissions, tally.message(), segment),
+        Rule::Account => breaks_account(permissions, tally.message(), segment),
+        Rule::Tan => breaks_tan(permissions, tally, segment),
     }
 }

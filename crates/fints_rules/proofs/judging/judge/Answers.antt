@@ -1,13 +1,16 @@
+use Rattle.std.proofs.Common.{subst, sym}
+use Rattle.fints_rules.specs.Judging.{IsRising, Covers}
+use Rattle.fints_rules.specs.Messages.{MessageView}
 use Rattle.fints_rules.proofs.Judged.{judged_all}
 use Rattle.fints_rules.proofs.Risings.{rising_body}
 use Rattle.fints_rules.proofs.judging.judge.Goals as goal
 
 pub broken_rules-requires : goal.broken_rules-requires
-broken_rules-requires c = rising_body c.args.bytes.now c.in_ok-message.message c.in_ok-message.ensures.message
+broken_rules-requires c = subst (λ (m : MessageView). IsRising m.body) (sym c.in_ok-tally.ensures) (rising_body c.args.bytes.now c.in_ok-message.message c.in_ok-message.ensures.message)
 
 pub returns-clause-judged : goal.returns-clause-judged
 returns-clause-judged c =
-    let covers = c.in_ok-broken.ensures in
+    let covers = subst (λ m. Covers c.args.permissions.now m 10 c.in_ok-broken.broken.items) c.in_ok-tally.ensures c.in_ok-broken.ensures in
     record {
       message = c.in_ok-message.message;
       is = c.in_ok-message.ensures.message;

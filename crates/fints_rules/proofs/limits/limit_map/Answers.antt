@@ -1,5 +1,4 @@
-use Rattle.std.proofs.Common.{arith, ◌≡◌, ◌∙◌, ◌<◌, length, take, subst, sym}
-use Rattle.fints_rules.specs.Permits.{LimitsAre, params_of}
+use Rattle.std.proofs.Common.{arith, ◌<◌, length}
 use Rattle.fints_rules.proofs.LimitLemmas.{limits_step}
 use Rattle.fints_rules.proofs.limits.limit_map.Goals as goal
 

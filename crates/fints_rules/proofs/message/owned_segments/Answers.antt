@@ -1,4 +1,4 @@
-use Rattle.std.proofs.Common.{arith, ◌≡◌, ◌∙◌, ◌++◌, ◌∷◌, [], ◌<◌, length, ap, sym}
+use Rattle.std.proofs.Common.{arith, ◌<◌, length}
 use Rattle.fints_rules.proofs.Texts.{segments-more}
 use Rattle.fints_rules.proofs.message.owned_segments.Goals as goal
 

@@ -1,4 +1,4 @@
-use Rattle.std.proofs.Common.{◌≡◌, arith, inl, refl, length}
+use Rattle.std.proofs.Common.{arith, inl, refl}
 use Rattle.std.proofs.lemmas.List.{length-map}
 use Rattle.toml.specs.View.{view}
 use Rattle.fints_rules.proofs.OrderLemmas.{item_list-view, faults_at, tables_at}

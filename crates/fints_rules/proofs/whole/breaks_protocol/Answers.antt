@@ -1,4 +1,4 @@
-use Rattle.std.proofs.Common.{◌≡◌, sym, ◌∙◌, subst, List, ℕ}
+use Rattle.std.proofs.Common.{◌≡◌, subst, List, ℕ}
 use Rattle.std.specs.Prelude.{Any, IsTrue, ◌↔◌}
 use Rattle.fints_rules.proofs.RuleLemmas.{not_among}
 use Rattle.fints_rules.proofs.whole.breaks_protocol.Goals as goal

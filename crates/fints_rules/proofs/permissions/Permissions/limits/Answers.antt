@@ -1,4 +1,3 @@
-use Rattle.std.proofs.Common.{◌≡◌, ◌∙◌}
 use Rattle.fints_rules.proofs.permissions.Permissions.limits.Goals as goal
 
 pub returns : goal.returns
