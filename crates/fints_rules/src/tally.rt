@@ -1,4 +1,4 @@
-//! What the rules ask of all segments of a message, found in one pass.
+//! What the rules ask of all segments of a message, found once before they are looked at.
 ghost use Rattle.std.specs.Prelude.{codes, ◌≡◌, ◌↔◌, ◌&&◌, ◌==◌, IsTrue, Any, IfOk, unwrap_or};
 ghost use Rattle.std.specs.Set.{distinct_count};
 ghost use Rattle.std.specs.Str.{bytes_eq};
@@ -80,7 +80,7 @@ fn submits_order(body: &[OwnedSegment]) -> bool
     body.iter().any(|segment| has_process(segment, b"4"))
 }
 
-// ---- both
+// ---- the tally
 
 /// A message, with what its rules count; a contract sees the message.
 #[derive(Drop)]
