@@ -1,5 +1,5 @@
 -- The refusals of a capture that is shown.
-use Rattle.std.proofs.Common.{◌≡◌, ◌⊎◌, ℕ, List, inl, inr, subst, Option, None, Some, IfSome}
+use Rattle.std.proofs.Common.{ℕ, List, inl, inr, subst, Option, None, Some, IfSome}
 use Rattle.fints_params.specs.declared.fault.ParamFault.{ParamFault}
 use Rattle.fints_params.specs.declared.fault.ParamFault.TheVariants as params
 use Rattle.fints_params.specs.Faults.{IsMemoryOr}

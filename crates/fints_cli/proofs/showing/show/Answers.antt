@@ -1,4 +1,4 @@
-use Rattle.std.proofs.Common.{◌≡◌, sym, subst}
+use Rattle.std.proofs.Common.{sym, subst}
 use Rattle.fints_cli.specs.Show.{IsMemoryOrShowFault}
 use Rattle.fints_cli.proofs.ShowLemmas.{params_fault, feedback_fault}
 use Rattle.fints_cli.proofs.showing.show.Goals as goal
