@@ -1,9 +1,8 @@
 -- What a cut output got.
-use Rattle.std.proofs.Common.{◌≡◌, ℕ, List, refl, subst, sym, Option}
-use Rattle.std.specs.Prelude.{string_bytes}
+use Rattle.std.proofs.Common.{◌≡◌, ℕ, List, subst, sym, Option}
 use Rattle.fints_cli.specs.declared.words.Request.{Request}
 use Rattle.fints_cli.specs.declared.words.Asked.{Asked}
-use Rattle.fints_cli.specs.declared.words.Asked.TheVariants.{Help, Run}
+use Rattle.fints_cli.specs.declared.words.Asked.TheVariants.{Run}
 use Rattle.fints_cli.specs.Streams.{GetsPrefix}
 use Rattle.fints_cli.specs.Commands.{AnswersTo, IsCutOff}
 

@@ -1,5 +1,5 @@
 -- What judges the bytes of files judges what they hold.
-use Rattle.std.proofs.Common.{◌≡◌, ℕ, List, subst, Option, None, Some, IfSome}
+use Rattle.std.proofs.Common.{ℕ, List, subst, Option, None, Some, IfSome}
 use Rattle.fints_cli.specs.declared.fault.Fault.{Fault}
 use Rattle.fints_cli.specs.Streams.{IsFile}
 use Rattle.std.proofs.Common.{inl, inr}
@@ -17,7 +17,7 @@ use Rattle.fints_rules.specs.Orders.{DenotesTable, IsTableFault}
 use Rattle.fints_rules.specs.Read.{IsRefusal}
 use Rattle.fints_cli.specs.declared.fault.Fault.TheVariants.{NotYet, Memory, Params, Orders, Message}
 use Rattle.fints_cli.specs.Fault.{fault_of, order_fault_of, message_fault_of}
-use Rattle.fints_cli.specs.Judge.{AreGood, IsVerdictOf, IsMessageRefusal, IsJudgeRefusal}
+use Rattle.fints_cli.specs.Judge.{IsVerdictOf, IsMessageRefusal, IsJudgeRefusal}
 use Rattle.fints_cli.specs.declared.commands.Failure.{Failure}
 use Rattle.fints_cli.specs.declared.commands.Failure.TheVariants.{Input, Unread}
 use Rattle.fints_cli.specs.Commands.{JudgesFile, IsJudgeFailure, FailsToJudge}

@@ -134,6 +134,19 @@ fn repeated() -> &'static [u8] {
     b"order = [{ kind = 'HKSAL', version = 5, account = 'national' }, { kind = 'HKKAZ', version = 5, account = 'national' }, { kind = 'HKSAL', version = 5, account = 'none' }, 7]"
 }
 
+// The table's first row stands at its end once more.
+fn first_row_again() -> &'static [u8] {
+    b"order = [{ kind = 'HKSAL', version = 5, account = 'national' }, { kind = 'HKKAZ', version = 5, account = 'national' }, { kind = 'HKSAL', version = 7, account = 'international' }, { kind = 'HKKAZ', version = 7, account = 'international' }, { kind = 'HKCCS', version = 1, account = 'international' }, { kind = 'HKSAL', version = 5, account = 'national' }]"
+}
+
+#[test]
+fn first_row_twice(rt: HostRuntime) {
+    assert_eq!(rt;
+        refusal(rt.alloc(), first_row_again()),
+        Some(TableFault::TwoRows { row: 6 })
+    );
+}
+
 #[test]
 fn two_of_one_order(rt: HostRuntime) {
     assert_eq!(rt;

@@ -1,4 +1,4 @@
-use Rattle.std.proofs.Common.{◌≡◌, sym, subst}
+use Rattle.std.proofs.Common.{sym, subst}
 use Rattle.fints_cli.specs.Judge.{IsJudgeRefusal}
 use Rattle.fints_cli.proofs.JudgeLemmas.{params_refused}
 use Rattle.fints_cli.proofs.judging.judge_message.Goals as goal
