@@ -1,5 +1,5 @@
 //! The codes of feedback.
-ghost use Rattle.std.specs.Prelude.{◌≡◌, ◌<◌};
+ghost use Rattle.std.specs.Prelude.{◌≡◌, ◌<◌, SomeIff};
 ghost use Rattle.fints_params.specs.Feedback.{code_in};
 
 use std::marker::Model;
@@ -42,6 +42,17 @@ impl Code {
                 None
             }
             _ => None,
+        }
+    }
+
+    /// The code of a number, if there is one.
+    pub fn from_number(number: u16) -> Option<Code>
+        ensures { SomeIff result (number < 10000) number }
+    {
+        if number < 10000 {
+            Some(Code { number })
+        } else {
+            None
         }
     }
 

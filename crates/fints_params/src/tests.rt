@@ -344,3 +344,11 @@ fn code_faults(rt: HostRuntime) {
         assert_eq!(rt; found, wanted, "{message:?}");
     }
 }
+
+#[test]
+fn codes_of_numbers(rt: HostRuntime) -> Result<(), Fail> {
+    assert_eq!(rt; Code::from_number(30), Code::parse(b"0030"));
+    assert_eq!(rt; Code::from_number(9999), Code::parse(b"9999"));
+    assert_eq!(rt; Code::from_number(10000), None);
+    Ok(())
+}

@@ -1,0 +1,35 @@
+use Rattle.std.proofs.Common.{subst, sym, ap, ◌∙◌, ◌<◌, length, map, arith, inr, List, [], ◌∷◌, ◌++◌}
+use Rattle.fints_script.specs.declared.fields.NamedField.{NamedField}
+use Rattle.toml.specs.View.{view}
+use Rattle.fints_script.specs.FieldTables.{IsFieldOf}
+use Rattle.fints_script.specs.Scripts.{look_at_field}
+use Rattle.fints_script.specs.RowFaults.{RefusesRow}
+use Rattle.fints_script.specs.declared.fault.Place.TheVariants as places
+use Rattle.fints_script.proofs.FieldRowLemmas.{fields_more, looked}
+use Rattle.fints_script.proofs.RowLemmas.{clean_more, refused}
+use Rattle.fints_script.proofs.field_rows.read_fields.Goals as goal
+
+pub loop-i-init : goal.loop-i-init
+loop-i-init c = record {
+  clean = λ i row lt stands. absurd (omega (arith, lt));
+  fields = record { dialog = c.dialog_field.result; others = []; all = c.in_ok-push.ensures.items ∙ ap (λ (fs : List NamedField). fs ++ c.dialog_field.result ∷ []) c.new-fields.ensures.items; built_in = c.dialog_field.ensures; each = tt };
+}
+
+pub returns-in-Some-clause-fault : goal.returns-in-Some-clause-fault
+returns-in-Some-clause-fault c =
+    let here : c.loop-i.i < length c.args.rows.now = omega arith in
+    let look = look_at_field (map view c.args.rows.now) in
+    let at = looked c.args.rows.now c.loop-i.i c.index-rows-i.result c.index-rows-i.is in
+    subst (RefusesRow (λ n. places.Field n) look (map view c.args.rows.now)) (sym c.placed.ensures)
+    (refused look (λ n. places.Field n) c.args.rows.now c.loop-i.i c.index-rows-i.result c.in-Some.kind here c.loop-i.invariant.clean (inr (sym at ∙ sym c.in-Some.ensures)))
+
+pub loop-i-preserved : goal.loop-i-preserved
+loop-i-preserved c =
+    let here : c.loop-i.i < length c.args.rows.now = omega arith in
+    let look = look_at_field (map view c.args.rows.now) in
+    let at = looked c.args.rows.now c.loop-i.i c.index-rows-i.result c.index-rows-i.is in
+    let field = subst (λ v. IsFieldOf (view v) c.in_ok-name.name c.in_ok-name.class) c.index-rows-i-in-loop-i.is c.in_ok-name.ensures in
+    record {
+      clean = clean_more look c.args.rows.now c.loop-i.i c.index-rows-i.result here c.loop-i.invariant.clean (sym at ∙ sym c.in_default.ensures);
+      fields = rw c.in_ok-push-2.ensures.items (fields_more c.args.rows.now c.loop-i.i c.index-rows-i-in-loop-i.result c.loop-i.fields.items (record { name = c.in_ok-name.name; class = c.in_ok-name.class }) here c.loop-i.invariant.fields field);
+    }

@@ -1,0 +1,13 @@
+use Rattle.std.proofs.Common.{◌≡◌, drop}
+use Rattle.std.specs.List.{find}
+use Rattle.toml.specs.View.{table_view}
+use Rattle.fints_script.specs.FaultOrder.{kind_order}
+use Rattle.fints_script.specs.Steps.{step_has}
+use Rattle.fints_script.specs.Around.{surroundings_of}
+use Rattle.fints_script.proofs.step_faults.first_kind.Given as goal
+
+abbrev pub invariant-loop-kind : goal.invariant-loop-kind
+invariant-loop-kind l = record {
+  items : l.kind-items ≡ kind_order;
+  rest : find (λ kind. step_has kind (surroundings_of l.around) l.row (table_view l.table)) (drop l.kind-index l.kind-items) ≡ find (λ kind. step_has kind (surroundings_of l.around) l.row (table_view l.table)) kind_order;
+}

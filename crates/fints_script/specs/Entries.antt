@@ -1,0 +1,36 @@
+-- What stands at the keys of a table.
+use Rattle.std.specs.Prelude.{codes, ℕ, nat_le, nat_lt, Bool, true, false, ◌&&◌, ◌||◌, not, ◌==◌, List, length, Option, Some, None, option_and_then, is_some}
+use Rattle.std.specs.List.{list_all}
+use Rattle.std.specs.Str.{bytes_eq}
+use Rattle.toml.specs.Data.{Data, string, table, Members, get_member, as_str}
+
+-- the text at a key, where it holds a text
+abbrev pub text_at : List ℕ → Members → Option (List ℕ)
+text_at key ms = option_and_then as_str (get_member key ms)
+
+abbrev pub has_key : List ℕ → Members → Bool
+has_key key ms = is_some (get_member key ms)
+
+-- there is a value, and it is this text
+abbrev pub holds_text : List ℕ → Option Data → Bool
+holds_text text (Some (string other)) = bytes_eq text other
+holds_text text _ = false
+
+-- the entry is a table with this name
+abbrev pub is_named : List ℕ → Data → Bool
+is_named name (table ms) = holds_text name (get_member (codes "name") ms)
+is_named name _ = false
+
+-- a small letter, a digit, `_` (95) or `-` (45)
+abbrev pub is_name_byte : ℕ → Bool
+is_name_byte b = ((nat_le 97 b && nat_le b 122) || (nat_le 48 b && nat_le b 57)) || (b == 95 || b == 45)
+
+-- 1 to 40 such characters: the test of `IsName`
+abbrev pub is_name : List ℕ → Bool
+is_name text = (nat_lt 0 (length text) && nat_le (length text) 40) && list_all is_name_byte text
+
+-- there is a value, and it is no name
+abbrev pub is_no_name : Option Data → Bool
+is_no_name None = false
+is_no_name (Some (string text)) = not (is_name text)
+is_no_name (Some _) = true

@@ -1,0 +1,107 @@
+-- A script with an order table: which accounts and processes are open, and which values are admitted.
+use Rattle.std.specs.Prelude.{◌≡◌, ℕ, ◌+◌, ◌<◌, Bool, true, false, ◌&&◌, ◌||◌, not, if◌then◌else◌, codes, List, [], ◌∷◌, length, slice_get, zip, All, Option, Some, None}
+use Rattle.std.specs.List.{list_all}
+use Rattle.std.specs.Str.{bytes_eq}
+use Rattle.fints_rules.specs.Orders.{form_of}
+use Rattle.fints_rules.specs.declared.orders.OrderRow.{OrderRow}
+use Rattle.fints_rules.specs.declared.orders.AccountForm.{AccountForm}
+use Rattle.fints_rules.specs.declared.orders.AccountForm.TheVariants as forms
+use Rattle.fints_script.specs.Fields.{field_domain}
+use Rattle.fints_script.specs.NamedFields.{is_account_at}
+use Rattle.fints_script.specs.Scripts.{ScriptValue}
+use Rattle.fints_script.specs.Steps.{StepValue}
+use Rattle.fints_script.specs.declared.fields.NamedField.{NamedField}
+use Rattle.fints_script.specs.declared.opens.Open.{Open}
+use Rattle.fints_script.specs.declared.opens.Open.TheVariants as opens
+use Rattle.fints_script.specs.declared.opens.PlanFault.{PlanFault}
+use Rattle.fints_script.specs.declared.opens.PlanFault.TheVariants as faults
+use Rattle.fints_script.specs.declared.template.TemplateItem.{TemplateItem}
+use Rattle.fints_script.specs.declared.template.TemplateItem.TheVariants as items
+use Rattle.fints_script.specs.declared.template.Template.{Template}
+use Rattle.fints_script.specs.declared.values.NamedValue.{NamedValue}
+
+-- what a contract sees of a plan: the script and the rows of the order table
+pub record PlanValue : Type 0 where
+  pub script : ScriptValue
+  pub orders : List OrderRow
+
+-- ---- open accounts and processes
+
+abbrev pub is_literal : TemplateItem → Bool
+is_literal (items.Literal item) = true
+is_literal _ = false
+
+-- one field of listed accounts, and nothing else
+abbrev pub is_account_field : List NamedField → List TemplateItem → Bool
+is_account_field fields (items.Field f ∷ []) = is_account_at (slice_get fields f)
+is_account_field fields _ = false
+
+-- element 2 of a segment; an absent one is empty
+abbrev pub element_two : Template → List TemplateItem
+element_two t = elim t.elements [ [] ↦ [] | e ∷ es ↦ e ]
+
+-- the order names an account
+abbrev pub names_account : Option AccountForm → Bool
+names_account (Some forms.National) = true
+names_account (Some forms.International) = true
+names_account _ = false
+
+-- its account is neither all literals nor one field of listed accounts
+abbrev pub is_open_account : List NamedField → List OrderRow → Template → Bool
+is_open_account fields orders t = names_account (form_of orders t.kind t.version) && not (list_all is_literal (element_two t) || is_account_field fields (element_two t))
+
+-- its TAN process isn't all literals
+abbrev pub is_open_process : Template → Bool
+is_open_process t = bytes_eq t.kind (codes "HKTAN") && not (list_all is_literal (element_two t))
+
+-- what a segment leaves open
+abbrev pub open_of : List NamedField → List OrderRow → Template → Option Open
+open_of fields orders t = if is_open_account fields orders t then Some opens.Account else if is_open_process t then Some opens.Process else None
+
+-- the first n segments leave nothing open
+abbrev pub AreClosed : List NamedField → List OrderRow → List Template → ℕ → Type 0
+AreClosed fields orders templates n = (i : ℕ) (t : Template) → i < n → slice_get templates i ≡ Some t → open_of fields orders t ≡ None
+
+-- this segment is the first that leaves something open; segments count from 0
+pub record IsFirstOpen (fields : List NamedField) (orders : List OrderRow) (templates : List Template) (i : ℕ) (left : Open) : Type 0 where
+  pub template : Template
+  pub stands : slice_get templates i ≡ Some template
+  pub is : open_of fields orders template ≡ Some left
+  pub earlier : AreClosed fields orders templates i
+
+-- the first n steps leave nothing open
+abbrev pub StepsAreClosed : List NamedField → List OrderRow → List StepValue → ℕ → Type 0
+StepsAreClosed fields orders steps n = (i : ℕ) (step : StepValue) → i < n → slice_get steps i ≡ Some step → AreClosed fields orders step.templates (length step.templates)
+
+-- steps count from 1, and segments as they are numbered in the message
+abbrev pub open_fault : Open → ℕ → ℕ → PlanFault
+open_fault opens.Account step segment = faults.OpenAccount step segment
+open_fault opens.Process step segment = faults.OpenProcess step segment
+
+-- the first segment of a script that leaves something open; behind HNHBK the signers' HNSHK stand before the segments
+pub record IsFirstOpenStep (fields : List NamedField) (orders : List OrderRow) (steps : List StepValue) (f : PlanFault) : Type 0 where
+  pub step : ℕ
+  pub segment : ℕ
+  pub left : Open
+  pub value : StepValue
+  pub stands : slice_get steps step ≡ Some value
+  pub first : IsFirstOpen fields orders value.templates segment left
+  pub earlier : StepsAreClosed fields orders steps step
+  pub is : f ≡ open_fault left (step + 1) (segment + (length value.signers + 2))
+
+abbrev pub IsPlanFault : ScriptValue → List OrderRow → PlanFault → Type 0
+IsPlanFault s orders f = IsFirstOpenStep s.fields orders s.steps f
+
+-- no segment of the script leaves anything open
+abbrev pub IsClosed : ScriptValue → List OrderRow → Type 0
+IsClosed s orders = StepsAreClosed s.fields orders s.steps (length s.steps)
+
+-- ---- values
+
+-- the value has the field's name, and is one of its domain
+abbrev pub IsChosen : NamedField → NamedValue → Type 0
+IsChosen field value = (value.name ≡ field.name) × field_domain field.class value.value
+
+-- exactly the fields, in order, each with a value of its domain
+abbrev pub Admits : List NamedField → List NamedValue → Type 0
+Admits fields values = (length values ≡ length fields) × All (λ (p : NamedField × NamedValue). IsChosen p.0 p.1) (zip fields values)

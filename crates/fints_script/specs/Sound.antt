@@ -1,0 +1,84 @@
+-- What holds of every script that was read.
+use Rattle.std.specs.Prelude.{◌≡◌, ℕ, ◌<◌, ◌≤◌, ◌⊎◌, false, IsTrue, List, length, map, slice_get, All, [], IfSome, IsSome}
+use Rattle.fints_syntax.specs.Kind.{IsKindText}
+use Rattle.fints_script.specs.Figures.{figures_of}
+use Rattle.fints_script.specs.NamedFields.{is_account_at}
+use Rattle.fints_script.specs.Plans.{is_account_field}
+use Rattle.fints_script.specs.Scripts.{ScriptValue, IsDialogField}
+use Rattle.fints_script.specs.Steps.{StepValue, Surroundings, step_weight, frame_kinds, MAX_WEIGHT}
+use Rattle.fints_script.specs.Weights.{items_in, MAX_ITEMS}
+use Rattle.fints_script.specs.declared.fields.NamedField.{NamedField}
+use Rattle.fints_script.specs.declared.template.TemplateItem.{TemplateItem}
+use Rattle.fints_script.specs.declared.template.TemplateItem.TheVariants.{Literal, Dialog, Field}
+use Rattle.fints_script.specs.declared.template.Template.{Template}
+use Rattle.fints_script.specs.declared.template.Signer.{Signer}
+
+-- a field of the script; the built-in one at 0 stands as the dialogue id alone
+abbrev pub IsInRange : List NamedField → TemplateItem → Type 0
+IsInRange fields (Literal item) = Unit {0}
+IsInRange fields Dialog = Unit {0}
+IsInRange fields (Field f) = (1 ≤ f) × (f < length fields)
+
+-- no field of listed accounts
+abbrev pub IsSingle : List NamedField → TemplateItem → Type 0
+IsSingle fields (Literal item) = Unit {0}
+IsSingle fields Dialog = Unit {0}
+IsSingle fields (Field f) = is_account_at (slice_get fields f) ≡ false
+
+-- an element of a signer or of the seal has an item, and no field of listed accounts
+pub record IsFrameElement (fields : List NamedField) (items : List TemplateItem) : Type 0 where
+  pub some : 0 < length items
+  pub within : All (IsInRange fields) items
+  pub single : All (IsSingle fields) items
+
+-- an element of a step's segment has an item; a field of listed accounts stands there alone
+pub record IsBodyElement (fields : List NamedField) (items : List TemplateItem) : Type 0 where
+  pub some : 0 < length items
+  pub within : All (IsInRange fields) items
+  pub alone : IsTrue (is_account_field fields items) ⊎ All (IsSingle fields) items
+
+abbrev pub HasFewItems : List NamedField → List (List TemplateItem) → Type 0
+HasFewItems fields elements = items_in (map figures_of fields) elements ≤ MAX_ITEMS
+
+-- the elements of a signer's segment, or of the seal
+pub record IsSoundFrame (fields : List NamedField) (elements : List (List TemplateItem)) : Type 0 where
+  pub each : All (IsFrameElement fields) elements
+  pub few : HasFewItems fields elements
+
+pub record IsSoundSigner (fields : List NamedField) (signer : Signer) : Type 0 where
+  pub head : IsSoundFrame fields signer.head
+  pub end : IsSoundFrame fields signer.end
+
+-- a segment of a step
+pub record IsSoundTemplate (fields : List NamedField) (t : Template) : Type 0 where
+  pub kind : IsKindText t.kind
+  pub no_frame : All (λ frame. frame ≡ t.kind → ⊥) frame_kinds
+  pub least : 1 ≤ t.version
+  pub most : t.version ≤ 999
+  pub each : All (IsBodyElement fields) t.elements
+  pub few : HasFewItems fields t.elements
+
+-- what a step of the script rests on; its weight hangs on no other row
+abbrev pub surroundings_in : ScriptValue → Surroundings
+surroundings_in s = record { fields = s.fields; figures = map figures_of s.fields; signers = s.signers; seal = s.seal; rows = [] }
+
+pub record IsSoundStep (s : ScriptValue) (step : StepValue) : Type 0 where
+  pub signers : All (λ (place : ℕ). place < length s.signers) step.signers
+  pub few_signers : length step.signers ≤ 9
+  pub some_templates : 1 ≤ length step.templates
+  pub few_templates : length step.templates ≤ 100
+  pub templates : All (IsSoundTemplate s.fields) step.templates
+  pub seal : IsTrue step.sealed → IsSome s.seal
+  pub light : step_weight (surroundings_in s) step ≤ MAX_WEIGHT
+
+-- the first field is `dialog`, a text of 1 to 30 bytes
+abbrev pub HasDialog : List NamedField → Type 0
+HasDialog fields = IfSome (slice_get fields 0) IsDialogField
+
+pub record IsSound (s : ScriptValue) : Type 0 where
+  pub some_fields : 1 ≤ length s.fields
+  pub dialog : HasDialog s.fields
+  pub signers : All (IsSoundSigner s.fields) s.signers
+  pub seal : IfSome s.seal (IsSoundFrame s.fields)
+  pub some_steps : 1 ≤ length s.steps
+  pub steps : All (IsSoundStep s) s.steps

@@ -1,0 +1,16 @@
+//! What a step rests on.
+use crate::fields::NamedField;
+use crate::template::{Signer, TemplateElements};
+use crate::weights::Figures;
+use toml::Value;
+
+/// What a step rests on: the fields of the script with their figures, its signers, its seal if any,
+/// and all rows of `step`.
+#[derive(Clone, Copy)]
+pub struct Around<'a> {
+    pub fields: &'a [NamedField],
+    pub figures: &'a [Figures],
+    pub signers: &'a [Signer],
+    pub seal: Option<&'a TemplateElements>,
+    pub rows: &'a [Value],
+}

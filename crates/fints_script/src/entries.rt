@@ -1,0 +1,89 @@
+//! What stands at the keys of a table.
+ghost use Rattle.std.specs.Prelude.{◌≡◌, map, option_map};
+ghost use Rattle.std.specs.List.{find, list_all, list_any};
+ghost use Rattle.toml.specs.View.{table_view, view};
+ghost use Rattle.fints_script.specs.Entries.{has_key, is_name, is_name_byte, is_named, is_no_name, text_at};
+
+use fints_rules::document;
+use toml::{Table, Value};
+
+/// The text at a key, where it holds a text.
+pub fn text_at<'a>(table: &'a Table, key: &str) -> Option<&'a str>
+    ensures { option_map (λ text. text.now) result ≡ text_at key.now (table_view table.now) }
+{
+    document::member(table, key)?.as_str()
+}
+
+pub fn has_key(table: &Table, key: &str) -> bool
+    ensures { result ≡ has_key key.now (table_view table.now) }
+{
+    document::member(table, key).is_some()
+}
+
+/// Whether the entry is a table with this name.
+pub fn is_named(name: &str, entry: &Value) -> bool
+    ensures { result ≡ is_named name.now (view entry.now) }
+{
+    match entry {
+        Value::Table(table) => match document::member(table, "name") {
+            Some(Value::String(other)) => name == other.as_str(),
+            _ => false,
+        },
+        _ => false,
+    }
+}
+
+/// Whether some entry is a table with this name.
+pub fn some_is_named(name: &str, entries: &[Value]) -> bool
+    ensures { result ≡ list_any (is_named name.now) (map view entries.now) }
+{
+    for entry in entries {
+        if is_named(&*name, entry) {
+            return true;
+        }
+    }
+    false
+}
+
+/// The first entry that is a table with this name.
+pub fn entry_named<'a>(name: &str, entries: &'a [Value]) -> Option<&'a Value>
+    ensures { option_map (λ v. view v.now) result ≡ find (is_named name.now) (map view entries.now) }
+{
+    for entry in entries {
+        if is_named(&*name, entry) {
+            return Some(entry);
+        }
+    }
+    None
+}
+
+fn is_name_byte(b: u8) -> bool
+    ensures { result ≡ is_name_byte b }
+{
+    matches!(b, b'a'..=b'z' | b'0'..=b'9' | b'_' | b'-')
+}
+
+fn are_name_bytes(bytes: &[u8]) -> bool
+    ensures { result ≡ list_all is_name_byte bytes.now }
+{
+    bytes.iter().all(|b| is_name_byte(*b))
+}
+
+/// Whether the text is a name.
+pub fn is_name(text: &str) -> bool
+    ensures { result ≡ is_name text.now }
+{
+    let bytes = text.as_bytes();
+    !bytes.is_empty() && bytes.len() <= 40 && are_name_bytes(bytes)
+}
+
+/// Whether there is a value that is no name.
+pub fn is_no_name(value: Option<&Value>) -> bool
+    ensures { result ≡ is_no_name (option_map (λ v. view v.now) value.entry) }
+{
+    match value {
+        None => false,
+        Some(Value::String(text)) => !is_name(text.as_str()),
+        Some(_) => true,
+    }
+}

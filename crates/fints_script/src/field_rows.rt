@@ -1,0 +1,47 @@
+//! The fields of a script, read row by row.
+ghost use Rattle.std.specs.Prelude.{◌≡◌, ◌≤◌, length, map, IfOk, IfErr};
+ghost use Rattle.toml.specs.View.{view};
+ghost use Rattle.fints_script.specs.Faults.{AreClean};
+ghost use Rattle.fints_script.specs.RowFaults.{RefusesRow};
+ghost use Rattle.fints_script.specs.Scripts.{look_at_field, AreFields, IsDialogField};
+ghost use Rattle.fints_script.specs.declared.fault.Place.TheVariants as places;
+
+use crate::counted::Text;
+use crate::fault::{Place, ScriptFault};
+use crate::field::Field;
+use crate::field_faults::field_fault;
+use crate::field_values::field_of;
+use crate::fields::NamedField;
+use crate::rows::placed;
+use crate::tables::dialog;
+use std::alloc::Global;
+use toml::Value;
+
+// The built-in field `dialog`: a text of 1 to 30 bytes.
+fn dialog_field() -> NamedField
+    ensures { IsDialogField result }
+{
+    NamedField {
+        name: dialog(),
+        class: Field::Text(Text { min: 1, max: 30 }),
+    }
+}
+
+/// The fields of the rows, behind the built-in `dialog`.
+pub fn read_fields(alloc: Global, rows: &[Value]) -> Result<Vec<NamedField>, ScriptFault>
+    requires { length rows.now ≤ 100 }
+    ensures clean { IfOk result (λ v. AreClean (look_at_field (map view rows.now)) (map view rows.now) (length rows.now)) }
+    ensures fields { IfOk result (λ v. AreFields (map view rows.now) v.items) }
+    ensures fault { IfErr result (RefusesRow (λ n. places.Field n) (look_at_field (map view rows.now)) (map view rows.now)) }
+{
+    let mut fields = Vec::new(alloc);
+    fields.push(dialog_field())?;
+    for i in 0..rows.len() {
+        if let Some(kind) = field_fault(&rows[..i], &rows[i]) {
+            return Err(placed(kind, Place::Field(i as u16 + 1)));
+        }
+        let (name, class) = field_of(alloc, &rows[i])?;
+        fields.push(NamedField { name, class })?;
+    }
+    Ok(fields)
+}

@@ -1,0 +1,155 @@
+//! Accounts and TAN processes that a script leaves open.
+ghost use Rattle.std.specs.Prelude.{◌≡◌, ◌<◌, ◌^◌, length, slice_get, IfSome, IfNone};
+ghost use Rattle.std.specs.List.{list_all};
+ghost use Rattle.fints_script.specs.Plans.{is_literal, is_account_field, element_two, names_account, is_open_account, is_open_process, open_of, AreClosed, IsFirstOpen, open_fault, StepsAreClosed, IsFirstOpenStep};
+ghost use Rattle.fints_script.specs.NamedFields.{is_account_at};
+
+use crate::fields::{NamedField, is_account};
+use crate::steps::Step;
+use crate::template::{Template, TemplateItem};
+use fints_rules::{AccountForm, OrderTable};
+use thiserror::Error;
+
+/// What a segment leaves open.
+#[derive(Clone, Copy, Debug, PartialEq, Eq)]
+pub enum Open {
+    Account,
+    Process,
+}
+
+/// Why a script can't be planned with an order table. Steps count from 1, and segments as they are
+/// numbered in the message.
+#[derive(Clone, Copy, Debug, PartialEq, Eq, Error)]
+pub enum PlanFault {
+    /// Element 2 of an order that names an account is neither literal nor one account field.
+    #[error("OpenAccount step {step} segment {segment}")]
+    OpenAccount { step: usize, segment: usize },
+    /// Element 2 of an HKTAN, the TAN process, isn't literal.
+    #[error("OpenProcess step {step} segment {segment}")]
+    OpenProcess { step: usize, segment: usize },
+}
+
+fn is_literal(item: &TemplateItem) -> bool
+    ensures { result ≡ is_literal item.now }
+{
+    matches!(item, TemplateItem::Literal(_))
+}
+
+fn are_literal(items: &[TemplateItem]) -> bool
+    ensures { result ≡ list_all is_literal items.now }
+{
+    items.iter().all(|item| is_literal(item))
+}
+
+fn is_account_at(fields: &[NamedField], place: usize) -> bool
+    ensures { result ≡ is_account_at (slice_get fields.now place) }
+{
+    match fields.get(place) {
+        Some(field) => is_account(&field.class),
+        None => false,
+    }
+}
+
+fn is_account_field(fields: &[NamedField], items: &[TemplateItem]) -> bool
+    ensures { result ≡ is_account_field fields.now items.now }
+{
+    match items {
+        [TemplateItem::Field(place)] => is_account_at(fields, *place),
+        _ => false,
+    }
+}
+
+fn element_two(template: &Template) -> &[TemplateItem]
+    ensures { result.now ≡ element_two template.now }
+{
+    match template.elements.as_slice() {
+        [first, ..] => first.as_slice(),
+        [] => &[],
+    }
+}
+
+fn names_account(form: Option<AccountForm>) -> bool
+    ensures { result ≡ names_account form }
+{
+    matches!(
+        form,
+        Some(AccountForm::National) | Some(AccountForm::International)
+    )
+}
+
+fn is_open_account(fields: &[NamedField], orders: &OrderTable, template: &Template) -> bool
+    ensures { result ≡ is_open_account fields.now orders.now template.now }
+{
+    let items = element_two(template);
+    names_account(orders.form(template.kind, template.version))
+        && !(are_literal(items) || is_account_field(fields, items))
+}
+
+fn is_open_process(template: &Template) -> bool
+    ensures { result ≡ is_open_process template.now }
+{
+    template.kind.as_bytes() == b"HKTAN".as_slice() && !are_literal(element_two(template))
+}
+
+fn open_of(fields: &[NamedField], orders: &OrderTable, template: &Template) -> Option<Open>
+    ensures { result ≡ open_of fields.now orders.now template.now }
+{
+    if is_open_account(fields, orders, template) {
+        return Some(Open::Account);
+    }
+    if is_open_process(template) {
+        return Some(Open::Process);
+    }
+    None
+}
+
+// The first segment that leaves something open, by its place counted from 0.
+fn first_open(
+    fields: &[NamedField],
+    orders: &OrderTable,
+    templates: &[Template],
+) -> Option<(usize, Open)>
+    ensures none { IfNone result (AreClosed fields.now orders.now templates.now (length templates.now)) }
+    ensures some { IfSome result (λ p. IsFirstOpen fields.now orders.now templates.now p.0 p.1) }
+    ensures within { IfSome result (λ p. p.0 < length templates.now) }
+{
+    for i in 0..templates.len() {
+        if let Some(open) = open_of(fields, orders, &templates[i]) {
+            return Some((i, open));
+        }
+    }
+    None
+}
+
+// The fault of what is left open.
+fn open_fault(left: Open, step: usize, segment: usize) -> PlanFault
+    ensures { result ≡ open_fault left step segment }
+{
+    match left {
+        Open::Account => PlanFault::OpenAccount { step, segment },
+        Open::Process => PlanFault::OpenProcess { step, segment },
+    }
+}
+
+// The first segment of a step that leaves something open.
+fn first_in_step(fields: &[NamedField], orders: &OrderTable, step: &Step) -> Option<(usize, Open)>
+    ensures none { IfNone result (AreClosed fields.now orders.now step.now.templates (length step.now.templates)) }
+    ensures some { IfSome result (λ p. IsFirstOpen fields.now orders.now step.now.templates p.0 p.1) }
+    ensures within { IfSome result (λ p. p.0 < 2 ^ 63) }
+{
+    first_open(fields, orders, step.templates())
+}
+
+/// The fault of the first segment, in order of step and segment, that leaves something open.
+pub fn first_fault(fields: &[NamedField], orders: &OrderTable, steps: &[Step]) -> Option<PlanFault>
+    ensures none { IfNone result (StepsAreClosed fields.now orders.now steps.now (length steps.now)) }
+    ensures some { IfSome result (IsFirstOpenStep fields.now orders.now steps.now) }
+{
+    for i in 0..steps.len() {
+        let step = &steps[i];
+        if let Some((place, left)) = first_in_step(fields, orders, step) {
+            return Some(open_fault(left, i + 1, place + (step.signers().len() + 2)));
+        }
+    }
+    None
+}

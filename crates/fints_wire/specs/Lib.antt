@@ -1,0 +1,4 @@
+pub mod Filling
+pub mod Messages
+pub mod Lengths
+pub mod Choices
