@@ -27,6 +27,7 @@ pub mod ScriptLemmas
 pub mod PlanLemmas
 pub mod ZipLemmas
 pub mod SoundElements
+pub mod SoundTargets
 pub mod SoundScripts
 pub mod SoundParts
 pub mod SoundSteps

@@ -49,7 +49,7 @@ some_or None h = absurd (false≢true h)
 some_or (Some x) h = (x, refl)
 
 -- either of two
-by_test : {X : Type 0} (P : X → Type 0) (b : Bool) (x y : X) → (b ≡ true → P x) → (b ≡ false → P y) → P (cond b x y)
+pub by_test : {X : Type 0} (P : X → Type 0) (b : Bool) (x y : X) → (b ≡ true → P x) → (b ≡ false → P y) → P (cond b x y)
 by_test P true x y f g = f refl
 by_test P false x y f g = g refl
 

@@ -45,6 +45,9 @@ none_missing p h = (not_found p kinds.Missing (drop 2 kind_order) (not_later p 1
 pub none_unnamed : (p : FaultKind → Bool) → first_kind p ≡ None → p kinds.NoSuchName ≡ false
 none_unnamed p h = (not_found p kinds.NoSuchName (drop 7 kind_order) (not_later p 6 kind_order h)).0
 
+pub none_backward : (p : FaultKind → Bool) → first_kind p ≡ None → p kinds.BackwardJump ≡ false
+none_backward p h = (not_found p kinds.BackwardJump (drop 8 kind_order) (not_later p 7 kind_order h)).0
+
 pub none_past : (p : FaultKind → Bool) → first_kind p ≡ None → p kinds.Limit ≡ false
 none_past p h = (not_found p kinds.Limit (drop 10 kind_order) (not_later p 9 kind_order h)).0
 

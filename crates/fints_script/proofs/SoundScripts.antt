@@ -1,10 +1,10 @@
 -- What every read script keeps.
-use Rattle.std.proofs.Common.{◌≡◌, ℕ, ◌+◌, ◌<◌, ◌≤◌, Bool, true, false, ◌&&◌, ◌||◌, not, codes, List, [], ◌∷◌, length, get_or, map, take, nat_lt, All, Option, Some, None, refl, ap, subst, ◌∙◌, sym, arith}
-use Rattle.std.specs.Prelude.{IsTrue, is_some, slice_get, IfSome, IsSome}
+use Rattle.std.proofs.Common.{◌≡◌, ℕ, ◌+◌, ◌<◌, ◌≤◌, Bool, true, false, ◌&&◌, ◌||◌, not, codes, zero, suc, List, [], ◌∷◌, length, get_or, map, take, nat_lt, All, Option, Some, None, refl, ap, subst, ◌∙◌, sym, arith}
+use Rattle.std.specs.Prelude.{IsTrue, is_some, option_map, slice_get, IfSome, IsSome}
 use Rattle.std.specs.List.{list_any}
 use Rattle.std.proofs.lemmas.Bool.{false≢true}
 use Rattle.std.proofs.lemmas.List.{get_or-map, length-map}
-use Rattle.std.proofs.lemmas.Option.{slice_get-get_or}
+use Rattle.std.proofs.lemmas.Option.{same_Some, slice_get-get_or, slice_get-map, slice_get_within}
 use Rattle.toml.specs.Data.{Data, string, integer, float, boolean, datetime, array, table, Members, get_member}
 use Rattle.fints_script.specs.declared.fault.FaultKind.{FaultKind}
 use Rattle.fints_script.specs.declared.fault.FaultKind.TheVariants as kinds
@@ -16,14 +16,16 @@ use Rattle.fints_script.specs.FaultOrder.{first_kind}
 use Rattle.fints_script.specs.Faults.{AreClean}
 use Rattle.fints_script.specs.Figures.{figures_of}
 use Rattle.fints_script.specs.Entries.{has_key}
-use Rattle.fints_script.specs.Tables.{is_set, is_no_array, is_no_list, rows_of, is_outside}
+use Rattle.fints_script.specs.Tables.{is_set, is_no_array, is_no_list, is_no_flag, is_no_integer, rows_of, is_outside}
 use Rattle.fints_script.specs.Signers.{signer_of, signer_fault}
 use Rattle.fints_script.specs.Steps.{StepValue, Surroundings, segment_has, signature_has, branch_has, target_has, keys_have, parts_have, step_has, step_value, step_fault, step_of, is_too_large, step_weight, has_large_segment, counts_are_past, values_are_wrong, lacks_keys, template_of, MAX_WEIGHT}
-use Rattle.fints_script.specs.Scripts.{ScriptValue, IsRead, IsScriptOf, AreFields, IsDialogField, top_has, top_fault, rows_are_wrong, surroundings, signer_rows, step_rows, look_at_signer}
-use Rattle.fints_script.specs.Sound.{IsSound, IsSoundStep, IsSoundSigner, IsSoundFrame}
+use Rattle.fints_script.specs.Scripts.{counts_are_past as top_past}
+use Rattle.fints_script.specs.Scripts.{ScriptValue, IsRead, IsScriptOf, AreFields, IsDialogField, field_rows, top_has, top_fault, rows_are_wrong, surroundings, signer_rows, step_rows, look_at_signer}
+use Rattle.fints_script.specs.Sound.{IsSound, IsSoundStep, IsSoundSigner, IsSoundFrame, numbered, LeadsOnward}
 use Rattle.fints_script.proofs.CleanFields.{neither, not_false, both}
-use Rattle.fints_script.proofs.SoundParts.{none_wrong, none_missing, none_unnamed, none_past, both_none, no_limit, not_past, sound_signer, sound_seal}
-use Rattle.fints_script.proofs.SoundSteps.{sound_templates, signatures_within, some_rows}
+use Rattle.fints_script.proofs.SoundParts.{none_wrong, none_missing, none_unnamed, none_backward, none_past, both_none, no_limit, not_past, sound_signer, sound_seal}
+use Rattle.fints_script.proofs.SoundSteps.{number_within, sound_templates, signatures_within, some_rows}
+use Rattle.fints_script.proofs.SoundTargets.{branches_onward, target_onward}
 
 -- no fault of a kind in the segments or the signers of a step
 parts_kept : (segments signers branches target : Bool) → ((segments || signers) || (branches || target)) ≡ false → (segments ≡ false) × (signers ≡ false)
@@ -57,12 +59,18 @@ module _ (first : NamedField) (others : List NamedField) (named : first.name ≡
       let segments = neither (is_outside 1 99 (get_member (codes "repeat") ms)) (nat_lt 100 (length (rows_of (get_member (codes "segments") ms)))) counts.0 in
       let signed = neither (nat_lt 9 (length (rows_of (get_member (codes "signers") ms)))) _ counts.1 in
       let lists = neither _ (is_no_list (get_member (codes "segments") ms)) (neither _ _ (neither _ _ wrong.0).0).0 in
+      let branches = neither (nat_lt 9 (length (rows_of (get_member (codes "signers") ms)))) (nat_lt 20 (length (rows_of (get_member (codes "branches") ms)))) counts.1 in
+      let values = neither (is_no_flag (get_member (codes "sealed") ms)) (is_no_integer (get_member (codes "repeat") ms)) (neither _ _ (neither _ _ wrong.0).0).1 in
+      let repeat = number_within 1 99 1 (omega arith) (omega arith) (get_member (codes "repeat") ms) values.1 segments.0 in
       let size = neither (has_large_segment here.figures (step_value here ms).templates) (nat_lt MAX_WEIGHT (step_weight here (step_value here ms))) (no_limit _ parts.1) in
       record {
         signers = signatures_within signers (rows_of (get_member (codes "signers") ms)) w.1 n.1;
         few_signers = at_most 9 0 (rows_of (get_member (codes "signers") ms)) _ signed.0;
         some_templates = subst (λ k. 1 ≤ k) (sym (length-map (rows_of (get_member (codes "segments") ms)) (template_of (first ∷ others)))) (some_rows (get_member (codes "segments") ms) keys.1 lists.1);
         few_templates = at_most 100 0 (rows_of (get_member (codes "segments") ms)) _ segments.1;
+        few_branches = at_most 20 0 (rows_of (get_member (codes "branches") ms)) _ branches.1;
+        once = repeat.0;
+        often = repeat.1;
         templates = sound_templates first others named (rows_of (get_member (codes "segments") ms)) m.0 w.0 n.0 l.0 size.0;
         seal = λ sealed. sealed_kept (is_set (get_member (codes "sealed") ms)) (is_some seal) lacks.1 sealed;
         light = not_past MAX_WEIGHT _ size.1;
@@ -77,6 +85,40 @@ module _ (first : NamedField) (others : List NamedField) (named : first.name ≡
   sound_step steps i (boolean b) h = cc
   sound_step steps i (datetime t) h = cc
   sound_step steps i (array ds) h = cc
+
+module _ (around : Surroundings) where
+  members_onward : (i : ℕ) (ms : Members) → i < length around.rows → step_fault around i (table ms) ≡ None → LeadsOnward (length around.rows) (i + 1) (step_of around (table ms))
+  unfolding step_has keys_have step_value
+  members_onward i ms within h =
+      let parts = both_none (first_kind (λ kind. step_has kind around i ms)) _ h in
+      let unnamed = neither (keys_have kinds.NoSuchName around i ms) (parts_have kinds.NoSuchName around i ms) (none_unnamed (λ kind. step_has kind around i ms) parts.0) in
+      let backward = neither (keys_have kinds.BackwardJump around i ms) (parts_have kinds.BackwardJump around i ms) (none_backward (λ kind. step_has kind around i ms) parts.0) in
+      let n = neither (list_any (branch_has kinds.NoSuchName around.rows i) (rows_of (get_member (codes "branches") ms))) (target_has kinds.NoSuchName around.rows i (get_member (codes "default") ms)) (neither _ _ unnamed.1).1 in
+      let b = neither (list_any (branch_has kinds.BackwardJump around.rows i) (rows_of (get_member (codes "branches") ms))) (target_has kinds.BackwardJump around.rows i (get_member (codes "default") ms)) (neither _ _ backward.1).1 in
+      record {
+        branches = branches_onward around.rows i (rows_of (get_member (codes "branches") ms)) within n.0 b.0;
+        otherwise = target_onward around.rows i (get_member (codes "default") ms) within n.1 b.1;
+      }
+
+  step_onward : (i : ℕ) (row : Data) → i < length around.rows → step_fault around i row ≡ None → LeadsOnward (length around.rows) (i + 1) (step_of around row)
+  step_onward i (table ms) within h = members_onward i ms within h
+  step_onward i (string text) within h = cc
+  step_onward i (integer z) within h = cc
+  step_onward i (float f) within h = cc
+  step_onward i (boolean b) within h = cc
+  step_onward i (datetime t) within h = cc
+  step_onward i (array ds) within h = cc
+
+  at_row : (P : StepValue → Type 0) (o : Option Data) (step : StepValue) → option_map (step_of around) o ≡ Some step → ((row : Data) → o ≡ Some row → P (step_of around row)) → P step
+  at_row P None step h f = cc
+  at_row P (Some row) step h f = subst P (same_Some _ _ h) (f row refl)
+
+  steps_onward : AreClean (step_fault around) around.rows (length around.rows) → (n : ℕ) (step : StepValue) → numbered (map (step_of around) around.rows) n ≡ Some step → LeadsOnward (length around.rows) n step
+  steps_onward clean zero step h = cc
+  steps_onward clean (suc i) step h =
+      let from : i + 1 ≡ suc i = omega arith in
+      at_row (LeadsOnward (length around.rows) (suc i)) (slice_get around.rows i) step (sym (slice_get-map (step_of around) around.rows i) ∙ h)
+      (λ row e. let within = slice_get_within around.rows i row e in subst (λ n. LeadsOnward (length around.rows) n (step_of around row)) from (step_onward i row within (clean i row within e)))
 
 -- what each row's value keeps, where each row has no fault
 each_row : {X : Type 0} (P : X → Type 0) (of : Data → X) (fault : ℕ → Data → Option FaultKind) (rows : List Data) → AreClean fault rows (length rows)
@@ -98,6 +140,13 @@ some_steps ms h =
     let lists = neither (is_no_array (get_member (codes "field") ms)) _ wrong in
     some_rows (get_member (codes "step") ms) (not_false _ missing) (neither (is_no_array (get_member (codes "signer") ms)) (is_no_list (get_member (codes "step") ms)) lists.1).1
 
+few_rows : (ms : Members) → top_fault ms ≡ None → length (step_rows ms) ≤ 200
+unfolding top_has
+few_rows ms h =
+    let past : top_past ms ≡ false = none_past (λ kind. top_has kind ms) h in
+    let others = neither (nat_lt 100 (length (field_rows ms))) _ past in
+    not_past 200 (length (step_rows ms)) (neither (nat_lt 20 (length (signer_rows ms))) (nat_lt 200 (length (step_rows ms))) others.1).1
+
 sound_parts : (ms : Members) (first : NamedField) (others : List NamedField) → IsDialogField first → (signers : List Signer) (seal : Option (List (List TemplateItem))) (steps : List StepValue)
     → IsScriptOf ms (record { fields = first ∷ others; signers = signers; seal = seal; steps = steps }) → IsSound (record { fields = first ∷ others; signers = signers; seal = seal; steps = steps })
 sound_parts ms first others dialog signers seal steps is =
@@ -113,6 +162,8 @@ sound_parts ms first others dialog signers seal steps is =
       some_steps = subst (λ n. 1 ≤ n) (sym (ap length is.are ∙ length-map rows (step_of around))) (some_steps ms is.before.before.before.top);
       steps = subst (λ (ss : List StepValue). All (IsSoundStep whole) ss) (sym is.are)
           (each_row (IsSoundStep whole) (step_of around) (step_fault around) rows is.clean (λ i row e. sound_step first others dialog.0 signers seal rows steps i row e));
+      few_steps = subst (λ n. n ≤ 200) (sym (ap length is.are ∙ length-map rows (step_of around))) (few_rows ms is.before.before.before.top);
+      onward = λ n step e. subst (λ count. LeadsOnward count n step) (sym (ap length is.are ∙ length-map rows (step_of around))) (steps_onward around is.clean n step (ap (λ (ss : List StepValue). numbered ss n) (sym is.are) ∙ e));
     }
 
 pub sound : (s : ScriptValue) → IsRead s → IsSound s

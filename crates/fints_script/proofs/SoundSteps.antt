@@ -33,28 +33,28 @@ use Rattle.fints_script.proofs.SoundParts.{not_past}
 
 -- ---- versions and kinds
 
-version_in : (n : ℕ) → not (is_some (number_between 1 999 (integer (pos n)))) ≡ false → (1 ≤ number_or 1 999 1 (Some (integer (pos n)))) × (number_or 1 999 1 (Some (integer (pos n))) ≤ 999)
-version_in n h = elim (cases_Bool (nat_le 1 n && nat_le n 999)) [
+number_in : (low high d n : ℕ) → not (is_some (number_between low high (integer (pos n)))) ≡ false → (low ≤ number_or low high d (Some (integer (pos n)))) × (number_or low high d (Some (integer (pos n))) ≤ high)
+number_in low high d n h = elim (cases_Bool (nat_le low n && nat_le n high)) [
   | inl e ↦
-      let parts = both (nat_le 1 n) (nat_le n 999) e in
-      let low : nat_le 1 n ≡ true = parts.0 in
-      let high : nat_le n 999 ≡ true = parts.1 in
-      let is : number_or 1 999 1 (Some (integer (pos n))) ≡ n = ap (λ b. unwrap_or (cond b (Some n) None) 1) e in
-      (subst (λ m. 1 ≤ m) (sym is) (grind (arith, nat_tests)), subst (λ m. m ≤ 999) (sym is) (grind (arith, nat_tests)))
+      let parts = both (nat_le low n) (nat_le n high) e in
+      let least : nat_le low n ≡ true = parts.0 in
+      let most : nat_le n high ≡ true = parts.1 in
+      let is : number_or low high d (Some (integer (pos n))) ≡ n = ap (λ b. unwrap_or (cond b (Some n) None) d) e in
+      (subst (λ m. low ≤ m) (sym is) (grind (arith, nat_tests)), subst (λ m. m ≤ high) (sym is) (grind (arith, nat_tests)))
   | inr e ↦ absurd (false≢true (sym h ∙ ap (λ b. not (is_some (cond b (Some n) None))) e))
 ]
 
--- a version that is there, an integer, and within its range
-version_of : (o : Option Data) → is_some o ≡ true → is_no_integer o ≡ false → is_outside 1 999 o ≡ false → (1 ≤ number_or 1 999 1 o) × (number_or 1 999 1 o ≤ 999)
-version_of None there integral within = absurd (false≢true there)
-version_of (Some (integer (pos n))) there integral within = version_in n within
-version_of (Some (integer (negsuc n))) there integral within = absurd (false≢true (sym within))
-version_of (Some (string text)) there integral within = absurd (false≢true (sym integral))
-version_of (Some (float f)) there integral within = absurd (false≢true (sym integral))
-version_of (Some (boolean b)) there integral within = absurd (false≢true (sym integral))
-version_of (Some (datetime t)) there integral within = absurd (false≢true (sym integral))
-version_of (Some (array ds)) there integral within = absurd (false≢true (sym integral))
-version_of (Some (table ms)) there integral within = absurd (false≢true (sym integral))
+-- an integer within its range, or what stands for an absent one
+pub number_within : (low high d : ℕ) → low ≤ d → d ≤ high → (o : Option Data) → is_no_integer o ≡ false → is_outside low high o ≡ false → (low ≤ number_or low high d o) × (number_or low high d o ≤ high)
+number_within low high d least most None integral within = (least, most)
+number_within low high d least most (Some (integer (pos n))) integral within = number_in low high d n within
+number_within low high d least most (Some (integer (negsuc n))) integral within = absurd (false≢true (sym within))
+number_within low high d least most (Some (string text)) integral within = absurd (false≢true (sym integral))
+number_within low high d least most (Some (float f)) integral within = absurd (false≢true (sym integral))
+number_within low high d least most (Some (boolean b)) integral within = absurd (false≢true (sym integral))
+number_within low high d least most (Some (datetime t)) integral within = absurd (false≢true (sym integral))
+number_within low high d least most (Some (array ds)) integral within = absurd (false≢true (sym integral))
+number_within low high d least most (Some (table ms)) integral within = absurd (false≢true (sym integral))
 
 kind_byte : (b : ℕ) → (is_ascii_uppercase b || is_ascii_digit b) ≡ true → IsKindByte b
 kind_byte b h = grind (arith, nat_tests)
@@ -118,7 +118,7 @@ module _ (first : NamedField) (others : List NamedField) (named : first.name ≡
       let outer = neither (is_no_kind (get_member (codes "kind") ms) || is_no_integer (get_member (codes "version") ms)) (elements_have kinds.WrongKind (first ∷ others) true (get_member (codes "elements") ms)) clean.wrong in
       let inner = neither (is_no_kind (get_member (codes "kind") ms)) (is_no_integer (get_member (codes "version") ms)) outer.0 in
       let kind = kind_at (get_member (codes "kind") ms) keys.0 inner.0 in
-      let version = version_of (get_member (codes "version") ms) keys.1 inner.1 clean.past in
+      let version = number_within 1 999 1 (omega arith) (omega arith) (get_member (codes "version") ms) inner.1 clean.past in
       record {
         kind = kind.text;
         no_frame = kind.no_frame;

@@ -1,5 +1,5 @@
 -- What holds of every script that was read.
-use Rattle.std.specs.Prelude.{◌≡◌, ℕ, ◌<◌, ◌≤◌, ◌⊎◌, false, IsTrue, List, length, map, slice_get, All, [], IfSome, IsSome}
+use Rattle.std.specs.Prelude.{◌≡◌, ℕ, zero, suc, ◌<◌, ◌≤◌, ◌⊎◌, false, IsTrue, List, length, map, slice_get, Option, Some, None, All, [], IfSome, IsSome}
 use Rattle.fints_syntax.specs.Kind.{IsKindText}
 use Rattle.fints_script.specs.Figures.{figures_of}
 use Rattle.fints_script.specs.NamedFields.{is_account_at}
@@ -7,6 +7,9 @@ use Rattle.fints_script.specs.Plans.{is_account_field}
 use Rattle.fints_script.specs.Scripts.{ScriptValue, IsDialogField}
 use Rattle.fints_script.specs.Steps.{StepValue, Surroundings, step_weight, frame_kinds, MAX_WEIGHT}
 use Rattle.fints_script.specs.Weights.{items_in, MAX_ITEMS}
+use Rattle.fints_script.specs.declared.answers.Branch.{Branch}
+use Rattle.fints_script.specs.declared.answers.Target.{Target}
+use Rattle.fints_script.specs.declared.answers.Target.TheVariants as targets
 use Rattle.fints_script.specs.declared.fields.NamedField.{NamedField}
 use Rattle.fints_script.specs.declared.template.TemplateItem.{TemplateItem}
 use Rattle.fints_script.specs.declared.template.TemplateItem.TheVariants.{Literal, Dialog, Field}
@@ -62,11 +65,30 @@ pub record IsSoundTemplate (fields : List NamedField) (t : Template) : Type 0 wh
 abbrev pub surroundings_in : ScriptValue → Surroundings
 surroundings_in s = record { fields = s.fields; figures = map figures_of s.fields; signers = s.signers; seal = s.seal; rows = [] }
 
+-- what has this number in a list that counts from 1
+abbrev pub numbered : {X : Type 0} → List X → ℕ → Option X
+numbered xs zero = None
+numbered xs (suc i) = slice_get xs i
+
+-- a target from step n of a script of `count` steps: a later step that exists, the same step, or the end
+abbrev pub IsOnward : ℕ → ℕ → Target → Type 0
+IsOnward count n (targets.Step to) = (n < to) × (to ≤ count)
+IsOnward count n targets.Again = Unit {0}
+IsOnward count n targets.Stop = Unit {0}
+
+-- where the branches and the default of step n lead
+pub record LeadsOnward (count n : ℕ) (step : StepValue) : Type 0 where
+  pub branches : All (λ (branch : Branch). IsOnward count n branch.to) step.branches
+  pub otherwise : IsOnward count n step.otherwise
+
 pub record IsSoundStep (s : ScriptValue) (step : StepValue) : Type 0 where
   pub signers : All (λ (place : ℕ). place < length s.signers) step.signers
   pub few_signers : length step.signers ≤ 9
   pub some_templates : 1 ≤ length step.templates
   pub few_templates : length step.templates ≤ 100
+  pub few_branches : length step.branches ≤ 20
+  pub once : 1 ≤ step.repeat
+  pub often : step.repeat ≤ 99
   pub templates : All (IsSoundTemplate s.fields) step.templates
   pub seal : IsTrue step.sealed → IsSome s.seal
   pub light : step_weight (surroundings_in s) step ≤ MAX_WEIGHT
@@ -81,4 +103,6 @@ pub record IsSound (s : ScriptValue) : Type 0 where
   pub signers : All (IsSoundSigner s.fields) s.signers
   pub seal : IfSome s.seal (IsSoundFrame s.fields)
   pub some_steps : 1 ≤ length s.steps
+  pub few_steps : length s.steps ≤ 200
   pub steps : All (IsSoundStep s) s.steps
+  pub onward : (n : ℕ) (step : StepValue) → numbered s.steps n ≡ Some step → LeadsOnward (length s.steps) n step

@@ -4,4 +4,8 @@ pub mod FilledLemmas
 pub mod Counting
 pub mod Weighing
 pub mod WorstSizes
+pub mod Onward
+pub mod Running
+pub mod Reaching
+pub mod Sending
 pub mod ChoiceLemmas

@@ -3,13 +3,16 @@
 
 mod building;
 mod copies;
+mod dialogue;
 mod filling;
 mod frame;
 mod part;
+pub mod run_laws;
 mod values;
 mod worst;
 
 pub use building::build;
+pub use dialogue::{Sent, Visit, run};
 pub use values::{least_values, worst_values};
 pub use worst::worst_size;
 

@@ -1,0 +1,128 @@
+-- Which messages a client sends under a list of answers. Steps and messages count from 1.
+use Rattle.std.specs.Prelude.{ℕ, ◌≡◌, ◌<◌, ◌≤◌, ◌+◌, Some, List, [], ◌∷◌, length}
+use Rattle.std.specs.List.{AllByRecursion}
+use Rattle.fints_script.specs.Answers.{IsAnswer, leads}
+use Rattle.fints_script.specs.Scripts.{ScriptValue}
+use Rattle.fints_script.specs.Sound.{numbered}
+use Rattle.fints_script.specs.Steps.{StepValue}
+use Rattle.fints_script.specs.declared.answers.Target.{Target}
+use Rattle.fints_script.specs.declared.answers.Target.TheVariants as targets
+use Rattle.fints_script.specs.declared.values.NamedValue.{NamedValue}
+use Rattle.fints_wire.specs.Messages.{message_bytes}
+use Rattle.fints_wire.specs.declared.dialogue.Visit.{Visit}
+use Rattle.fints_wire.specs.declared.dialogue.Sent.{Sent}
+
+-- ---- which steps follow each other
+
+-- the first message: of step 1, with number 1
+abbrev pub start : Visit
+start = record { step = 1; number = 1; times = 1 }
+
+-- where an answer to v leads to this target, w is sent next; `repeat` messages of a step may be sent in a row
+abbrev pub Enters : ℕ → Visit → Target → Visit → Type 0
+Enters repeat v (targets.Step n) w = w ≡ record { step = n; number = v.number + 1; times = 1 }
+Enters repeat v targets.Again w = (v.times < repeat) × (w ≡ record { step = v.step; number = v.number + 1; times = v.times + 1 })
+Enters repeat v targets.Stop w = ⊥
+
+-- where it leads to this target, the run is over
+abbrev pub Ends : ℕ → Visit → Target → Type 0
+Ends repeat v (targets.Step n) = ⊥
+Ends repeat v targets.Again = repeat ≤ v.times
+Ends repeat v targets.Stop = Unit {0}
+
+-- where an answer to a step's message leads
+abbrev pub answered : StepValue → List ℕ → Target
+answered step codes = leads step.branches step.otherwise codes
+
+-- the answer to v has w sent next
+pub record Follows (steps : List StepValue) (v : Visit) (codes : List ℕ) (w : Visit) : Type 0 where
+  pub step : StepValue
+  pub at : numbered steps v.step ≡ Some step
+  pub enters : Enters step.repeat v (answered step codes) w
+
+-- the answer to v ends the run
+pub record Finishes (steps : List StepValue) (v : Visit) (codes : List ℕ) : Type 0 where
+  pub step : StepValue
+  pub at : numbered steps v.step ≡ Some step
+  pub over : Ends step.repeat v (answered step codes)
+
+-- what is sent after v under these answers; answers after the end add nothing
+abbrev pub After : List StepValue → Visit → List (List ℕ) → List Visit → Type 0
+After steps v [] [] = Unit {0}
+After steps v [] (w ∷ ws) = ⊥
+After steps v (codes ∷ answers) [] = Finishes steps v codes
+After steps v (codes ∷ answers) (w ∷ ws) = Follows steps v codes w × After steps w answers ws
+
+-- the last of what is sent: v and then these
+abbrev pub last_of : Visit → List Visit → Visit
+last_of v [] = v
+last_of v (w ∷ ws) = last_of w ws
+
+-- some run sends v, as its last message
+pub record Arrives (steps : List StepValue) (v : Visit) : Type 0 where
+  pub answers : List (List ℕ)
+  pub each : AllByRecursion IsAnswer answers
+  pub later : List Visit
+  pub after : After steps start answers later
+  pub last : last_of start later ≡ v
+
+-- these answers, all of them used, lead to v
+pub record RouteTo (steps : List StepValue) (answers : List (List ℕ)) (v : Visit) : Type 0 where
+  pub each : AllByRecursion IsAnswer answers
+  pub later : List Visit
+  pub after : After steps start answers later
+  pub last : last_of start later ≡ v
+  pub used : length later ≡ length answers
+
+-- the same by steps: the first message is sent, and what follows one that is sent
+pub data Reach (steps : List StepValue) : Visit → Type 0 where
+  first : Reach steps start
+  onward : {v w : Visit} (codes : List ℕ) → IsAnswer codes → Reach steps v → Follows steps v codes w → Reach steps w
+
+-- ---- messages
+
+-- the message of v under these values
+pub record IsSent (script : ScriptValue) (values : List NamedValue) (v : Visit) (m : Sent) : Type 0 where
+  pub at : StepValue
+  pub of : numbered script.steps v.step ≡ Some at
+  pub is : m ≡ record { step = v.step; number = v.number; bytes = message_bytes script at v.number values }
+
+-- each is the message of the visit at its place
+abbrev pub AreSent : ScriptValue → List NamedValue → List Visit → List Sent → Type 0
+AreSent script values [] [] = Unit {0}
+AreSent script values [] (m ∷ ms) = ⊥
+AreSent script values (v ∷ vs) [] = ⊥
+AreSent script values (v ∷ vs) (m ∷ ms) = IsSent script values v m × AreSent script values vs ms
+
+-- the run: what is sent under these answers
+pub record Run (script : ScriptValue) (values : List NamedValue) (answers : List (List ℕ)) (sent : List Sent) : Type 0 where
+  pub later : List Visit
+  pub after : After script.steps start answers later
+  pub messages : AreSent script values (start ∷ later) sent
+
+-- m is the last of them
+abbrev pub EndsWith : List Sent → Sent → Type 0
+EndsWith [] m = ⊥
+EndsWith (x ∷ []) m = x ≡ m
+EndsWith (x ∷ y ∷ ys) m = EndsWith (y ∷ ys) m
+
+-- n is the last but one of them, and m the last
+abbrev pub EndsWithTwo : List Sent → Sent → Sent → Type 0
+EndsWithTwo [] n m = ⊥
+EndsWithTwo (x ∷ []) n m = ⊥
+EndsWithTwo (x ∷ y ∷ []) n m = (x ≡ n) × (y ≡ m)
+EndsWithTwo (x ∷ y ∷ z ∷ zs) n m = EndsWithTwo (y ∷ z ∷ zs) n m
+
+-- under these values some run ends with m
+pub record SendsLast (script : ScriptValue) (values : List NamedValue) (m : Sent) : Type 0 where
+  pub answers : List (List ℕ)
+  pub each : AllByRecursion IsAnswer answers
+  pub sent : List Sent
+  pub run : Run script values answers sent
+  pub last : EndsWith sent m
+
+-- under these values the run of these answers ends with m
+pub record EndsIn (script : ScriptValue) (values : List NamedValue) (answers : List (List ℕ)) (m : Sent) : Type 0 where
+  pub sent : List Sent
+  pub run : Run script values answers sent
+  pub last : EndsWith sent m

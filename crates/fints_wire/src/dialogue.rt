@@ -1,0 +1,105 @@
+//! Runs: the messages that a client sends under a list of answers.
+ghost use Rattle.std.specs.Prelude.{◌≡◌, ◌<◌, ◌≤◌, length, MatchOption, IfOk};
+ghost use Rattle.fints_script.specs.Answers.{IsAnswer};
+ghost use Rattle.fints_script.specs.Plans.{Admits};
+ghost use Rattle.fints_wire.specs.Runs.{Finishes, Follows, IsSent, Run};
+
+use crate::building::build;
+use fints_script::{Answer, Plan, Target, Values};
+use fints_syntax::{Bytes, Memory};
+use std::alloc::Global;
+
+/// A message before its values: its step and its number, both counted from 1, and how many messages
+/// of this step were sent in a row, itself counted.
+#[derive(Clone, Copy, Debug, PartialEq, Eq)]
+pub struct Visit {
+    pub step: u16,
+    pub number: u32,
+    pub times: u16,
+}
+
+/// A message that is sent: its step and its number, both counted from 1, and its bytes.
+#[derive(Debug, Drop)]
+pub struct Sent {
+    pub step: u16,
+    pub number: u32,
+    pub bytes: Bytes,
+}
+
+// What an answer has sent next, unless it ends the run.
+fn follow(plan: &Plan, here: Visit, answer: &Answer) -> Option<Visit>
+    requires from { 1 ≤ here.step }
+    requires to { here.step ≤ length plan.now.script.steps }
+    requires number { here.number < 99999 }
+    requires times { here.times ≤ 99 }
+    ensures { MatchOption result (Finishes plan.now.script.steps here answer.now) (Follows plan.now.script.steps here answer.now) }
+{
+    let step = plan.step(usize::from(here.step));
+    match step.choose(answer.codes()) {
+        Target::Step(to) => Some(Visit {
+            step: to,
+            number: here.number + 1,
+            times: 1,
+        }),
+        Target::Again => {
+            if here.times < step.repeat() {
+                Some(Visit {
+                    step: here.step,
+                    number: here.number + 1,
+                    times: here.times + 1,
+                })
+            } else {
+                None
+            }
+        }
+        Target::Stop => None,
+    }
+}
+
+fn message_of(alloc: Global, plan: &Plan, values: &Values, here: Visit) -> Result<Sent, Memory>
+    requires from { 1 ≤ here.step }
+    requires to { here.step ≤ length plan.now.script.steps }
+    requires first { 1 ≤ here.number }
+    requires last { here.number ≤ 99999 }
+    requires admits { Admits plan.now.script.fields values.now }
+    ensures { IfOk result (IsSent plan.now.script values.now here) }
+{
+    let bytes = build(alloc, plan, usize::from(here.step), here.number, values)?;
+    Ok(Sent {
+        step: here.step,
+        number: here.number,
+        bytes: Bytes::new(bytes),
+    })
+}
+
+/// The messages that a client sends under these answers, for values that the plan admits. The first
+/// is of step 1; each answer leads to the next, or ends the run, and what comes after the end adds
+/// nothing.
+pub fn run(
+    alloc: Global,
+    plan: &Plan,
+    values: &Values,
+    answers: &[Answer],
+) -> Result<Vec<Sent>, Memory>
+    requires { Admits plan.now.script.fields values.now }
+    ensures run { IfOk result (λ sent. Run plan.now.script values.now answers.now sent.items) }
+{
+    let _count = plan.step_count();
+    let mut sent = Vec::new(alloc);
+    let mut here = Visit {
+        step: 1,
+        number: 1,
+        times: 1,
+    };
+    sent.push(message_of(alloc, plan, values, here)?)?;
+    for answer in answers {
+        match follow(plan, here, answer) {
+            None => return Ok(sent),
+            Some(visit) => {
+                here = visit;
+                sent.push(message_of(alloc, plan, values, here)?)?;
+            }
+        }
+    }
+    Ok(sent)
+}

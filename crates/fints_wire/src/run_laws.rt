@@ -1,0 +1,49 @@
+//! Laws of runs: each function's contract is one.
+ghost use Rattle.std.specs.Prelude.{◌↔◌, ◌≡◌, ℕ, List, [], ◌∷◌, ◌++◌};
+ghost use Rattle.std.specs.List.{AllByRecursion};
+ghost use Rattle.fints_script.specs.Answers.{IsAnswer};
+ghost use Rattle.fints_script.specs.Scripts.{ScriptValue};
+ghost use Rattle.fints_script.specs.Sound.{IsSound};
+ghost use Rattle.fints_script.specs.Steps.{StepValue};
+ghost use Rattle.fints_script.specs.declared.values.NamedValue.{NamedValue};
+ghost use Rattle.fints_wire.specs.Runs.{start, After, Follows, Arrives, Reach, RouteTo, IsSent, Run, SendsLast, EndsIn};
+ghost use Rattle.fints_wire.specs.declared.dialogue.Visit.{Visit};
+ghost use Rattle.fints_wire.specs.declared.dialogue.Sent.{Sent};
+
+/// The answers determine what is sent.
+pub fn one_run()
+    ensures visits { (steps : List StepValue) (v : Visit) (answers : List (List ℕ)) (later other : List Visit) → After steps v answers later → After steps v answers other → later ≡ other }
+    ensures sent { (script : ScriptValue) (values : List NamedValue) (answers : List (List ℕ)) (sent other : List Sent) → Run script values answers sent → Run script values answers other → sent ≡ other }
+{}
+
+/// A message is the last of some run exactly where it is the first, or follows one that is the last
+/// of some run.
+pub fn runs_by_steps()
+    ensures { (steps : List StepValue) (v : Visit) → Arrives steps v ↔ Reach steps v }
+{}
+
+/// What is sent next is what the answer fires from the step of the message before it.
+pub fn each_follows()
+    ensures { (steps : List StepValue) (v : Visit) (answers : List (List ℕ)) (codes : List ℕ) (later : List Visit) (w : Visit) → After steps v (codes ∷ answers) (w ∷ later) → Follows steps v codes w }
+{}
+
+/// The last messages of runs are those of the visits that runs reach.
+pub fn last_messages()
+    ensures { (script : ScriptValue) (values : List NamedValue) (m : Sent) → IsSound script → (SendsLast script values m ↔ ((v : Visit) × Arrives script.steps v × IsSent script values v m)) }
+{}
+
+/// No answers lead to the first message, and one more answer to what follows.
+pub fn routes_grow()
+    ensures first { (steps : List StepValue) → RouteTo steps [] start }
+    ensures more { (steps : List StepValue) (answers : List (List ℕ)) (codes : List ℕ) (v w : Visit) → RouteTo steps answers v → IsAnswer codes → Follows steps v codes w → RouteTo steps (answers ++ codes ∷ []) w }
+{}
+
+/// The run of answers that lead to a visit ends with its message.
+pub fn routes_send()
+    ensures { (script : ScriptValue) (values : List NamedValue) (answers : List (List ℕ)) (v : Visit) (m : Sent) → IsSound script → RouteTo script.steps answers v → IsSent script values v m → EndsIn script values answers m }
+{}
+
+/// Each message of a run is the last message of some run.
+pub fn each_is_last()
+    ensures { (script : ScriptValue) (values : List NamedValue) (answers : List (List ℕ)) (sent : List Sent) → IsSound script → AllByRecursion IsAnswer answers → Run script values answers sent → AllByRecursion (SendsLast script values) sent }
+{}
