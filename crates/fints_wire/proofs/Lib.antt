@@ -5,3 +5,8 @@ pub mod Counting
 pub mod Weighing
 pub mod WorstSizes
 pub mod ChoiceLemmas
+pub mod ReadBack
+pub mod ItemCounts
+pub mod Writables
+pub mod MessageParts
+pub mod ViewLemmas

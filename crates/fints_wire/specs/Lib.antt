@@ -2,3 +2,4 @@ pub mod Filling
 pub mod Messages
 pub mod Lengths
 pub mod Choices
+pub mod Views

@@ -5,6 +5,7 @@ mod building;
 mod copies;
 mod filling;
 mod frame;
+pub mod laws;
 mod part;
 mod values;
 mod worst;
