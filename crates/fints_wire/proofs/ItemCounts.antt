@@ -1,5 +1,5 @@
 -- A choice puts no more items into a template than its fields have at most.
-use Rattle.std.proofs.Common.{◌≡◌, ℕ, zero, suc, ◌+◌, ◌<◌, ◌≤◌, eqb, List, [], ◌∷◌, ◌++◌, length, map, get_or, Option, Some, None, refl, ap, ◌∙◌, arith, inl, inr}
+use Rattle.std.proofs.Common.{◌≡◌, ℕ, zero, suc, ◌+◌, ◌≤◌, eqb, List, [], ◌∷◌, ◌++◌, length, map, get_or, Option, Some, None, refl, ◌∙◌, arith, inl, inr}
 use Rattle.std.specs.List.{All, zip}
 use Rattle.std.specs.Option.{IfSome}
 use Rattle.std.proofs.lemmas.Bool.{cases_Bool}
@@ -11,7 +11,7 @@ use Rattle.fints_syntax.specs.Segment.{element_tokens, segment_tokens}
 use Rattle.fints_syntax.specs.Spelling.{Spelled, written_item}
 use Rattle.fints_syntax.specs.Written.{head_items, segment_values, written_elements, written_tree}
 use Rattle.fints_script.specs.FieldLaws.{has_few_items}
-use Rattle.fints_script.specs.Fields.{field_items, field_most_items}
+use Rattle.fints_script.specs.Fields.{field_most_items}
 use Rattle.fints_script.specs.Figures.{figures_of}
 use Rattle.fints_script.specs.Plans.{Admits, IsChosen}
 use Rattle.fints_script.specs.Scripts.{ScriptValue, IsDialogClass}
@@ -28,7 +28,6 @@ use Rattle.fints_script.specs.declared.values.NamedValue.{NamedValue}
 use Rattle.fints_script.specs.declared.weights.Figures.{Figures}
 use Rattle.fints_wire.specs.Filling.{FillingValue, filled_element, filled_elements, filled_item, filling_of, items_of_fields}
 use Rattle.fints_wire.specs.Messages.{end_template, head_template, no_signer, seal_of, signer_at, signers_of, templates_of}
-use Rattle.fints_wire.proofs.Weighing.{total_mono}
 
 -- ---- tokens
 

@@ -1,5 +1,5 @@
 -- What the segments of a message are: the frame, the signatures and the body, numbered on.
-use Rattle.std.proofs.Common.{◌≡◌, ℕ, zero, suc, ◌+◌, ◌^◌, ◌<◌, ◌≤◌, Bool, true, false, codes, List, [], ◌∷◌, ◌++◌, length, map, get_or, Some, refl, ap, sym, ◌∙◌, subst, arith, inl, inr}
+use Rattle.std.proofs.Common.{◌≡◌, ℕ, ◌+◌, ◌^◌, ◌<◌, Bool, true, false, codes, List, [], ◌∷◌, ◌++◌, length, map, get_or, refl, ap, sym, ◌∙◌, arith, inl, inr}
 use Rattle.std.specs.List.{All, AllByRecursion}
 use Rattle.std.specs.Str.{bytes_eq}
 use Rattle.std.proofs.lemmas.Bool.{cases_Bool}
@@ -9,13 +9,13 @@ use Rattle.std.proofs.lemmas.Slice.Eq.{bytes_eq-Decides}
 use Rattle.fints_syntax.specs.declared.item.OwnedItem.{OwnedItem}
 use Rattle.fints_syntax.specs.declared.item.OwnedItem.TheVariants.{Bin}
 use Rattle.fints_syntax.specs.declared.item.OwnedSegment.{OwnedSegment}
-use Rattle.fints_rules.specs.Messages.{IsEnvelope, IsFirst, IsInner, IsKey, IsLast, IsNumbered, IsPlainTail, IsSealedTail, IsTail}
+use Rattle.fints_rules.specs.Messages.{IsFirst, IsInner, IsLast, IsNumbered, IsTail}
 use Rattle.fints_rules.specs.Parts.{part_of}
 use Rattle.fints_rules.specs.Segments.{IsText}
 use Rattle.fints_rules.specs.declared.part.Part.{Part}
 use Rattle.fints_rules.specs.declared.part.Part.TheVariants.{Opener, Body, Ender}
 use Rattle.fints_script.specs.Scripts.{ScriptValue}
-use Rattle.fints_script.specs.Sound.{IsSoundStep, IsSoundTemplate}
+use Rattle.fints_script.specs.Sound.{IsSoundStep}
 use Rattle.fints_script.specs.Steps.{StepValue, frame_kinds}
 use Rattle.fints_script.specs.declared.template.Signer.{Signer}
 use Rattle.fints_script.specs.declared.template.Template.{Template}

@@ -1,8 +1,7 @@
 -- The message of a step is read as what the step says.
-use Rattle.std.proofs.Common.{◌≡◌, ℕ, zero, suc, ◌+◌, ◌<◌, ◌≤◌, List, [], ◌∷◌, length, get_or, Some, refl, sym, subst, arith}
+use Rattle.std.proofs.Common.{◌≡◌, ℕ, zero, suc, ◌<◌, ◌≤◌, List, [], ◌∷◌, length, Some, refl, sym, subst, arith}
 use Rattle.std.specs.List.{slice_get}
 use Rattle.fints_syntax.specs.Laws.{WrittenIsSpelled, WrittenHasValues, WrittenHasHead}
-use Rattle.fints_syntax.specs.declared.item.OwnedItem.{OwnedItem}
 use Rattle.fints_rules.specs.Messages.{IsForm, IsMessage}
 use Rattle.fints_script.specs.Plans.{Admits}
 use Rattle.fints_script.specs.Scripts.{ScriptValue}

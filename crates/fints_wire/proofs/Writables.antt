@@ -1,5 +1,5 @@
 -- The segments of a message can be written.
-use Rattle.std.proofs.Common.{◌≡◌, ℕ, zero, suc, ◌+◌, ◌^◌, ◌<◌, ◌≤◌, Bool, true, false, codes, List, [], ◌∷◌, ◌++◌, length, map, refl, ◌∙◌, arith}
+use Rattle.std.proofs.Common.{ℕ, ◌+◌, ◌^◌, ◌<◌, ◌≤◌, Bool, true, false, codes, List, [], ◌∷◌, ◌++◌, length, map, arith}
 use Rattle.std.specs.List.{All, AllByRecursion}
 use Rattle.std.specs.Option.{IfSome}
 use Rattle.std.specs.Fmt.{decimal}
@@ -20,9 +20,9 @@ use Rattle.fints_script.specs.Weights.{total}
 use Rattle.fints_script.specs.declared.template.Template.{Template}
 use Rattle.fints_script.specs.declared.template.TemplateItem.{TemplateItem}
 use Rattle.fints_script.specs.declared.values.NamedValue.{NamedValue}
-use Rattle.fints_wire.specs.Filling.{AreFilled, FillingValue, TemplatesAreFilled, filled_element, filled_elements, filled_segments, filling_of, make_segment}
+use Rattle.fints_wire.specs.Filling.{AreFilled, FillingValue, filled_element, filled_elements, filled_segments, filling_of, make_segment}
 use Rattle.fints_wire.specs.Lengths.{sizes_of}
-use Rattle.fints_wire.specs.Messages.{first_segment, inner_segments, last_segment, later_segments, message_bytes, message_segments, message_size, message_with, middle_segments, seal_of, segments_text, templates_of, twelve_digits}
+use Rattle.fints_wire.specs.Messages.{first_segment, inner_segments, last_segment, message_segments, message_size, message_with, middle_segments, seal_of, segments_text, templates_of, twelve_digits}
 use Rattle.fints_wire.proofs.Counting.{inner-len}
 use Rattle.fints_wire.proofs.FilledLemmas.{dialog_some, sealed_filled, templates_filled}
 use Rattle.fints_wire.proofs.ItemCounts.{dialog_few, sealed_few, templates_few, tokens-len}
