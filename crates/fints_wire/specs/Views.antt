@@ -9,21 +9,19 @@ use Rattle.fints_script.specs.declared.values.NamedValue.{NamedValue}
 use Rattle.fints_wire.specs.Filling.{FillingValue, filling_of, filled_segments}
 use Rattle.fints_wire.specs.Messages.{end_template, message_bytes, message_size, signers_of}
 
--- the message of a step under a filling: the body is numbered on behind HNHBK and the signers' HNSHK, and their HNSHA behind the body
-abbrev pub view_with : ScriptValue → StepValue → FillingValue → ℕ → MessageView
-view_with script step filling number = record {
-  size = message_size script step filling number;
-  protocol = Some 300;
-  number = number;
-  body = filled_segments filling (2 + length step.signers) step.templates;
-  ends = filled_segments filling (2 + length step.signers + length step.templates) (map end_template (signers_of script step));
-}
-
--- the message of a step, of this number, under a choice: the segments are the step's templates with the choice put in
+-- what the message of a step, of this number, holds under a choice: the step's templates with the choice put in, numbered on behind HNHBK and the signers' HNSHK, and behind them the signers' HNSHA
 abbrev pub message_view : ScriptValue → StepValue → ℕ → List NamedValue → MessageView
-message_view script step number values = view_with script step (filling_of script.fields values number) number
+message_view script step number values =
+    let filling : FillingValue = filling_of script.fields values number in
+    record {
+      size = message_size script step filling number;
+      protocol = Some 300;
+      number = number;
+      body = filled_segments filling (2 + length step.signers) step.templates;
+      ends = filled_segments filling (2 + length step.signers + length step.templates) (map end_template (signers_of script step));
+    }
 
--- the bytes of a step's message are a message, and hold what the step says
+-- the bytes of a step's message are a message, and what is read in them is what the step says
 abbrev pub MessagesAreRead : Type 0
 MessagesAreRead =
     (script : ScriptValue) (i : ℕ) (step : StepValue) (number : ℕ) (values : List NamedValue) → IsSound script → slice_get script.steps i ≡ Some step → 1 ≤ number → number ≤ 99999 → Admits script.fields values
