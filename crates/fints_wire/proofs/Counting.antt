@@ -91,6 +91,10 @@ filled_segments-len filling n (t ∷ ts) =
     ap (λ (x : ℕ). head_len t.kind n t.version + x + total segment_len (filled_segments filling (n + 1) ts)) (filled_elements-len filling t.elements)
     ∙ ap (λ (x : ℕ). head_len t.kind n t.version + elements_len (sizes_of filling) t.elements + x) (filled_segments-len filling (n + 1) ts)
 
+-- the text of the inner segments is as long as the sum says
+pub inner-len : (script : ScriptValue) (step : StepValue) (filling : FillingValue) → length (segments_text (inner_segments script step filling)) ≡ segments_len (sizes_of filling) 2 (templates_of script step)
+inner-len script step filling = segments_text-len (inner_segments script step filling) ∙ filled_segments-len filling 2 (templates_of script step)
+
 -- ---- digits
 
 -- no byte that is escaped
@@ -122,7 +126,7 @@ number_text-len n small = bare_len (decimal n) (decimal_bare n small)
 fill_len : (n fill : ℕ) → length (replicate n fill) ≡ n
 fill_len n fill = length-replicate n fill
 
-twelve_digits-len : (n : ℕ) → n < 10 ^ 12 → length (twelve_digits n) ≡ 12
+pub twelve_digits-len : (n : ℕ) → n < 10 ^ 12 → length (twelve_digits n) ≡ 12
 twelve_digits-len n small =
     let short = length-decimal-le 12 n (omega arith) small (omega arith) in
     let zeros = fill_len (12 - length (decimal n)) 48 in

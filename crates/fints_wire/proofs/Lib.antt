@@ -9,3 +9,8 @@ pub mod Running
 pub mod Reaching
 pub mod Sending
 pub mod ChoiceLemmas
+pub mod ReadBack
+pub mod ItemCounts
+pub mod Writables
+pub mod MessageParts
+pub mod ViewLemmas

@@ -3,3 +3,4 @@ pub mod Messages
 pub mod Lengths
 pub mod Choices
 pub mod Runs
+pub mod Views

@@ -2,14 +2,17 @@
 ghost use Rattle.std.specs.Prelude.{◌≡◌, ◌<◌, ◌≤◌, ◌-◌, ◌+◌, ◌++◌, ◌∷◌, [], codes, length, slice_get, All, Some, IfOk, OnOk};
 ghost use Rattle.fints_syntax.specs.Written.{written_segment};
 ghost use Rattle.fints_syntax.specs.declared.item.OwnedItem.TheVariants.{Bin};
+ghost use Rattle.fints_rules.specs.Messages.{IsMessage};
 ghost use Rattle.fints_script.specs.Plans.{Admits};
 ghost use Rattle.fints_script.specs.Sound.{IsSoundStep};
 ghost use Rattle.fints_script.specs.Steps.{StepValue};
 ghost use Rattle.fints_wire.specs.Filling.{AreFilled, TemplatesAreFilled, filled_elements, filled_segment, filling_of, make_segment};
 ghost use Rattle.fints_wire.specs.Messages.{first_segment, inner_segments, later_segments, message_bytes, message_size, middle_segments, seal_of, segments_text, templates_of};
+ghost use Rattle.fints_wire.specs.Views.{message_view};
 
 use crate::filling::{Filling, filled_elements};
 use crate::frame::{data_segment, first_segment, last_segment, seal_segment, segment};
+use crate::laws::messages_are_read;
 use crate::part::{Part, part_at, part_count};
 use fints_script::{Plan, Step, Values};
 use fints_syntax::{Elements, Memory, OwnedSegment, write_segment};
@@ -159,7 +162,9 @@ pub fn build(
     ensures bytes { (s : StepValue) → slice_get plan.now.script.steps (step - 1) ≡ Some s → IfOk result (λ bytes. bytes.items ≡ message_bytes plan.now.script s number values.now) }
     ensures size { (s : StepValue) → slice_get plan.now.script.steps (step - 1) ≡ Some s → IfOk result (λ bytes. length bytes.items ≡ message_size plan.now.script s (filling_of plan.now.script.fields values.now number) number) }
     ensures short { IfOk result (λ bytes. length bytes.items < 1048576) }
+    ensures view { (s : StepValue) → slice_get plan.now.script.steps (step - 1) ≡ Some s → IfOk result (λ bytes. IsMessage bytes.items (message_view plan.now.script s number values.now)) }
 {
+    messages_are_read();
     let step = plan.step(step);
     let filling = Filling::new(alloc, plan.fields(), values.pairs(), number)?;
     let later = later_text(alloc, plan, step, &filling, number)?;

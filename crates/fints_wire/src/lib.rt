@@ -6,6 +6,7 @@ mod copies;
 mod dialogue;
 mod filling;
 mod frame;
+pub mod laws;
 mod part;
 pub mod run_laws;
 mod values;

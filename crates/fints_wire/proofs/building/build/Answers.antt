@@ -1,6 +1,7 @@
 use Rattle.std.proofs.Common.{◌≡◌, ◌+◌, ◌-◌, ◌<◌, ◌++◌, List, ℕ, length, Some, ap, subst, sym, ◌∙◌, arith}
 use Rattle.std.specs.List.{slice_get}
 use Rattle.fints_syntax.specs.Written.{written_segment}
+use Rattle.fints_rules.specs.Messages.{IsMessage}
 use Rattle.fints_script.specs.Scripts.{ScriptValue}
 use Rattle.fints_script.specs.Sound.{IsSound, IsSoundStep}
 use Rattle.fints_script.specs.Steps.{StepValue}
@@ -8,6 +9,7 @@ use Rattle.fints_script.specs.declared.fields.NamedField.{NamedField}
 use Rattle.fints_script.specs.declared.values.NamedValue.{NamedValue}
 use Rattle.fints_wire.specs.Filling.{AreFilled, FillingValue, TemplatesAreFilled, filling_of}
 use Rattle.fints_wire.specs.Messages.{first_segment, later_segments, message_bytes, message_size, message_with, seal_of, segments_text, templates_of}
+use Rattle.fints_wire.specs.Views.{message_view}
 use Rattle.fints_wire.proofs.FilledLemmas.{dialog_some, filling_is, sealed_filled, templates_filled}
 use Rattle.fints_wire.proofs.TextLemmas.{found_at, message_is}
 use Rattle.fints_wire.proofs.Weighing.{message_light}
@@ -75,3 +77,12 @@ returns-clause-short c =
     let light = message_light script step c.args.values.now c.args.number c.step-step.ensures.sound h c.requires.admits c.requires.last in
     let size = ap length (returns-clause-bytes c step c.step-step.ensures.step) in
     omega (arith, light.1)
+
+pub returns-clause-view : goal.returns-clause-view
+returns-clause-view c s found =
+    let script = c.args.plan.now.script in
+    let i : ℕ = c.args.step - 1 in
+    let number = c.args.number in
+    let values = c.args.values.now in
+    let law = c.messages_are_read.ensures script i s number values c.step-step.ensures.sound found c.requires.first c.requires.last c.requires.admits in
+    subst (λ (bytes : List ℕ). IsMessage bytes (message_view script s number values)) (sym (returns-clause-bytes c s found)) law

@@ -1,0 +1,28 @@
+-- What is read in the message of a step, and the law that it is read there.
+use Rattle.std.specs.Prelude.{◌≡◌, ℕ, ◌+◌, ◌≤◌, List, length, map, slice_get, Some}
+use Rattle.fints_rules.specs.Messages.{MessageView, IsMessage}
+use Rattle.fints_script.specs.Plans.{Admits}
+use Rattle.fints_script.specs.Scripts.{ScriptValue}
+use Rattle.fints_script.specs.Sound.{IsSound}
+use Rattle.fints_script.specs.Steps.{StepValue}
+use Rattle.fints_script.specs.declared.values.NamedValue.{NamedValue}
+use Rattle.fints_wire.specs.Filling.{FillingValue, filling_of, filled_segments}
+use Rattle.fints_wire.specs.Messages.{end_template, message_bytes, message_size, signers_of}
+
+-- what the message of a step, of this number, holds under a choice: the step's templates with the choice put in, numbered on behind HNHBK and the signers' HNSHK, and behind them the signers' HNSHA
+abbrev pub message_view : ScriptValue → StepValue → ℕ → List NamedValue → MessageView
+message_view script step number values =
+    let filling : FillingValue = filling_of script.fields values number in
+    record {
+      size = message_size script step filling number;
+      protocol = Some 300;
+      number = number;
+      body = filled_segments filling (2 + length step.signers) step.templates;
+      ends = filled_segments filling (2 + length step.signers + length step.templates) (map end_template (signers_of script step));
+    }
+
+-- the bytes of a step's message are a message, and what is read in them is what the step says
+abbrev pub MessagesAreRead : Type 0
+MessagesAreRead =
+    (script : ScriptValue) (i : ℕ) (step : StepValue) (number : ℕ) (values : List NamedValue) → IsSound script → slice_get script.steps i ≡ Some step → 1 ≤ number → number ≤ 99999 → Admits script.fields values
+    → IsMessage (message_bytes script step number values) (message_view script step number values)
