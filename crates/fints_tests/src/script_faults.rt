@@ -1,4 +1,5 @@
-use super::*;
+//! Scripts that are refused, with kind and place.
+use fints_script::{FaultKind, Place, Script, ScriptFault};
 use std::alloc::Global;
 use std::process::Abort;
 use std::test::*;

@@ -1,5 +1,6 @@
-use super::*;
-use crate::tests_script_faults::{at, fault_of, repeated};
+//! The limits of scripts, kept and passed.
+use crate::script_faults::{at, fault_of, repeated};
+use fints_script::{FaultKind, Place, ScriptFault};
 use std::alloc::Global;
 use std::test::*;
 

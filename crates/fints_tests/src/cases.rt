@@ -1,5 +1,6 @@
-use crate::{Answer, Case, CaseFault, Name, Values};
+//! The texts of cases: what they hold, and those that are refused.
 use fints_params::Code;
+use fints_script::{Answer, Case, CaseFault, Name, Values};
 use std::alloc::Global;
 use std::test::*;
 

@@ -1,29 +1,21 @@
-use super::*;
-use crate::entries::{entry_named, is_named, some_is_named};
-use crate::field_faults::field_fault;
-use crate::field_values::field_of;
-use fints_rules::document;
+//! Fields of scripts, and the faults of their rows.
+use fints_script::{FaultKind, FieldClass, NamedField, Place, Script};
 use std::alloc::Global;
 use std::test::*;
-use toml::{Table, Value};
 
-fn table(alloc: Global, text: &str) -> Result<Table, Fail> {
-    Ok(document::read(alloc, text.as_bytes()).ok().ok_or("toml")?)
-}
-
-fn rows<'a>(table: &'a Table) -> &'a [Value] {
-    match document::member(table, "field") {
-        Some(Value::Array(rows)) => rows.as_slice(),
-        _ => &[],
-    }
-}
-
-// The fault of the last row, behind those before it.
-fn last_fault(alloc: Global, text: &str) -> Result<Option<FaultKind>, Fail> {
-    let table = table(alloc, text)?;
-    match rows(&table) {
-        [earlier @ .., last] => Ok(field_fault(earlier, last)),
-        [] => Err(Fail::from("no row")),
+// The fault of a text whose rows of `field` stand before a step without faults.
+fn field_fault(alloc: Global, rows: &[u8]) -> Result<Option<FaultKind>, Fail> {
+    let mut text = Vec::new(alloc);
+    text.extend_from_slice(rows)?;
+    text.extend_from_slice(
+        b"\nstep = [{name = \"a\", segments = [{kind = \"HKEND\", version = 1}]}]",
+    )?;
+    match Script::read(alloc, text.as_slice()) {
+        Ok(_) => Ok(None),
+        Err(fault) => match fault.place {
+            Place::Field(_) => Ok(Some(fault.kind)),
+            _ => Err(Fail::from("another place")),
+        },
     }
 }
 
@@ -91,7 +83,7 @@ fn sized() -> [(&'static str, Option<FaultKind>); 14] {
 #[test]
 fn faults_of_bounds(rt: HostRuntime) -> Result<(), Fail> {
     for (text, fault) in sized().iter() {
-        assert_eq!(rt; last_fault(rt.alloc(), text)?, *fault);
+        assert_eq!(rt; field_fault(rt.alloc(), text.as_bytes())?, *fault);
     }
     Ok(())
 }
@@ -165,52 +157,43 @@ fn listed() -> [(&'static str, Option<FaultKind>); 16] {
 #[test]
 fn faults_of_listed_values(rt: HostRuntime) -> Result<(), Fail> {
     for (text, fault) in listed().iter() {
-        assert_eq!(rt; last_fault(rt.alloc(), text)?, *fault);
+        assert_eq!(rt; field_fault(rt.alloc(), text.as_bytes())?, *fault);
     }
     Ok(())
 }
 
-fn three_fields() -> &'static str {
+fn three_fields() -> &'static [u8] {
     r#"field = [
         {name = "pin", class = "digits", min = 5, max = 6},
         {name = "umlaut", class = "oneof", values = ["a", "éé"]},
         {name = "acct", class = "account", values = [["1234567", "", "280", "10020030"], ["DE111"]]},
-    ]"#
+    ]
+step = [{name = "a", segments = [{kind = "HKEND", version = 1}]}]"#
+        .as_bytes()
 }
 
-// Whether an entry without faults denotes a field of this name with this longest value.
-fn is_field(alloc: Global, entry: &Value, name: &[u8], longest: &[u8]) -> Result<bool, Fail> {
-    if field_fault(&[], entry).is_some() {
-        return Ok(false);
-    }
-    let (found, field) = field_of(alloc, entry).ok().ok_or("memory")?;
-    let most = field.longest(alloc).ok().ok_or("memory")?;
-    Ok(found.as_bytes() == name && most.as_slice() == longest)
+// Whether the field has this name and this longest value.
+fn is_field(alloc: Global, field: &NamedField, name: &[u8], longest: &[u8]) -> Result<bool, Fail> {
+    let most = field.class.longest(alloc).ok().ok_or("memory")?;
+    Ok(field.name.as_bytes() == name && most.as_slice() == longest)
 }
 
 #[test]
 fn fields_of_tables(rt: HostRuntime) -> Result<(), Fail> {
-    let table = table(rt.alloc(), three_fields())?;
-    let [pin, umlaut, acct] = rows(&table) else {
-        return Err(Fail::from("three rows"));
+    let script = Script::read(rt.alloc(), three_fields())
+        .ok()
+        .ok_or("script")?;
+    let [dialog, pin, umlaut, acct] = script.fields() else {
+        return Err(Fail::from("four fields"));
     };
+    let built_in = is_field(rt.alloc(), dialog, b"dialog", &[b'?'; 30])?;
+    assert!(rt; built_in);
     let digits = is_field(rt.alloc(), pin, b"pin", b"999999")?;
     assert!(rt; digits);
     let one_of = is_field(rt.alloc(), umlaut, b"umlaut", b"\xe9\xe9")?;
     assert!(rt; one_of);
     let account = is_field(rt.alloc(), acct, b"acct", b"1234567::280:10020030")?;
     assert!(rt; account);
-    Ok(())
-}
-
-#[test]
-fn names_of_entries(rt: HostRuntime) -> Result<(), Fail> {
-    let table = table(rt.alloc(), three_fields())?;
-    assert!(rt; some_is_named("acct", rows(&table)));
-    assert!(rt; !some_is_named("dialog", rows(&table)));
-    assert!(rt; !is_named("acct", &Value::Integer(1)));
-    assert!(rt; entry_named("pin", rows(&table)).is_some());
-    assert!(rt; entry_named("none", rows(&table)).is_none());
     Ok(())
 }
 
@@ -225,19 +208,13 @@ fn long_text(alloc: Global, unit: &str, count: usize) -> Result<Vec<u8>, Fail> {
     Ok(text)
 }
 
-fn first_fault(alloc: Global, text: &[u8]) -> Result<Option<FaultKind>, Fail> {
-    let table = document::read(alloc, text).ok().ok_or("toml")?;
-    let entry = rows(&table).first().ok_or("no row")?;
-    Ok(field_fault(&[], entry))
-}
-
 #[test]
 fn long_texts(rt: HostRuntime) -> Result<(), Fail> {
     let whole = long_text(rt.alloc(), "é", 10_000)?;
-    assert_eq!(rt; first_fault(rt.alloc(), whole.as_slice())?, None);
+    assert_eq!(rt; field_fault(rt.alloc(), whole.as_slice())?, None);
     let longer = long_text(rt.alloc(), "a", 10_001)?;
     assert_eq!(rt;
-        first_fault(rt.alloc(), longer.as_slice())?,
+        field_fault(rt.alloc(), longer.as_slice())?,
         Some(FaultKind::Limit)
     );
     Ok(())

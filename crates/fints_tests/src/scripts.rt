@@ -1,4 +1,8 @@
-use super::*;
+//! What scripts hold, part by part.
+use fints_script::{
+    Branch, Field, NamedField, Pattern, Script, Step, Target, Template, TemplateElements,
+    TemplateItem,
+};
 use fints_syntax::OwnedItem;
 use std::alloc::Global;
 use std::test::*;

@@ -1,4 +1,7 @@
-use super::*;
+//! The classes of fields: what they admit, and how long their values are written.
+use fints_script::{
+    Account, AccountValue, Accounts, Bin, Digits, Field, FieldClass, OneOf, Plain, Text, Texts,
+};
 use fints_syntax::Bytes;
 use std::alloc::Global;
 use std::test::*;

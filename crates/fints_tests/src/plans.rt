@@ -1,6 +1,7 @@
-use crate::{Name, PlanFault, Script, Target, Values};
+//! Plans: what a script leaves open, where answers lead, and which values are admitted.
 use fints_params::Code;
 use fints_rules::OrderTable;
+use fints_script::{Name, PlanFault, Script, Target, Values};
 use std::alloc::Global;
 use std::test::*;
 
