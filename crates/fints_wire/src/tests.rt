@@ -4,11 +4,11 @@ use fints_script::{Name, Script, Values};
 use std::alloc::Global;
 use std::test::*;
 
-fn script(alloc: Global, text: &[u8]) -> Result<Script, Fail> {
+pub fn script(alloc: Global, text: &[u8]) -> Result<Script, Fail> {
     Ok(Script::read(alloc, text).ok().ok_or("script")?)
 }
 
-fn orders(alloc: Global) -> Result<OrderTable, Fail> {
+pub fn orders(alloc: Global) -> Result<OrderTable, Fail> {
     let text = br#"order = [{kind = "HKSAL", version = 5, account = "national"}]"#;
     Ok(OrderTable::read(alloc, text).ok().ok_or("orders")?)
 }
