@@ -11,7 +11,7 @@ use crate::entries::text_at;
 use crate::field::Field;
 use crate::field_class::{ClassName, class_of};
 use crate::listed::AccountValue;
-use crate::listing::{Account, OneOf};
+use crate::listing::{Account, OneOf, of_accounts, of_texts};
 use crate::lists::{Accounts, Texts};
 use crate::name::Name;
 use crate::text;
@@ -111,7 +111,7 @@ fn one_of(alloc: Global, values: &[Value]) -> Result<OneOf, Memory>
     ensures { IfOk result (λ c. c.values ≡ map text_value (map view values.now)) }
 {
     let texts = texts_of(alloc, values)?;
-    Ok(OneOf { values: texts })
+    Ok(of_texts(texts))
 }
 
 fn account(alloc: Global, values: &[Value]) -> Result<Account, Memory>
@@ -119,7 +119,7 @@ fn account(alloc: Global, values: &[Value]) -> Result<Account, Memory>
     ensures { IfOk result (λ c. c.values ≡ map account_value (map view values.now)) }
 {
     let accounts = accounts_of(alloc, values)?;
-    Ok(Account { values: accounts })
+    Ok(of_accounts(accounts))
 }
 
 fn number_of(value: Option<&Value>) -> Option<u16>

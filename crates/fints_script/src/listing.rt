@@ -72,14 +72,31 @@ fn most_items(accounts: &[AccountValue]) -> usize
     most
 }
 
-/// One of the listed texts.
+/// One of the listed texts. It keeps how long the longest is written.
 #[derive(Debug, Drop)]
 pub struct OneOf {
     pub values: Texts,
+    most_written: u64,
     pub ghost some: { 1 ≤ length values },
     pub ghost few: { length values ≤ 100 },
     pub ghost short: { All IsShort values },
     pub ghost distinct: { AllPairs (λ s t. s ≢ t) values },
+    pub ghost most: { most_written ≡ text_len (first_longest text_len [] values) },
+}
+
+/// A field of texts that may be listed.
+pub fn of_texts(values: Texts) -> OneOf
+    requires some { 1 ≤ length values }
+    requires few { length values ≤ 100 }
+    requires short { All IsShort values }
+    requires distinct { AllPairs (λ s t. s ≢ t) values }
+    ensures { result.values ≡ values }
+{
+    let most_written = written_len(longest_of(values.as_slice()).as_slice());
+    OneOf {
+        values,
+        most_written,
+    }
 }
 
 impl OneOf {
@@ -92,7 +109,7 @@ impl OneOf {
         if !(is_count(texts.len()) && are_short(texts) && are_distinct(texts)) {
             return None;
         }
-        Some(OneOf { values })
+        Some(of_texts(values))
     }
 }
 
@@ -124,7 +141,7 @@ impl FieldClass for OneOf {
     }
 
     fn longest_written(&self) -> u64 {
-        written_len(longest_of(self.values.as_slice()).as_slice())
+        self.most_written
     }
 
     ghost longest_admitted = { λ c. longest_listed (λ x. x) text_len [] c.values c.some };
@@ -140,14 +157,37 @@ impl FieldClass for OneOf {
     ghost none_shorter = { λ c v h. shortest_least (λ x. x) text_len [] c.values v h };
 }
 
-/// One of the listed accounts; the value is the written text of the account's items.
+/// One of the listed accounts; the value is the written text of the account's items. It keeps how
+/// long the longest is written, and how many items the one with the most has.
 #[derive(Debug, Drop)]
 pub struct Account {
     pub values: Accounts,
+    most_written: u64,
+    most_items: u32,
     pub ghost some: { 1 ≤ length values },
     pub ghost few: { length values ≤ 100 },
     pub ghost each: { All IsAccountList values },
     pub ghost distinct: { AllPairs (λ a b. a ≢ b) values },
+    pub ghost most: { most_written ≡ account_len (first_longest account_len [] values) },
+    pub ghost items: { most_items ≡ greatest (map length values) },
+}
+
+/// A field of accounts that may be listed.
+#[tactic(auto, using(crate::proofs::Greatest::few_items))]
+pub fn of_accounts(values: Accounts) -> Account
+    requires some { 1 ≤ length values }
+    requires few { length values ≤ 100 }
+    requires each { All IsAccountList values }
+    requires distinct { AllPairs (λ a b. a ≢ b) values }
+    ensures { result.values ≡ values }
+{
+    let most_written = longest_of(values.as_slice()).size();
+    let most_items = most_items(values.as_slice()) as u32;
+    Account {
+        values,
+        most_written,
+        most_items,
+    }
 }
 
 impl Account {
@@ -160,15 +200,14 @@ impl Account {
         if !(is_count(accounts.len()) && are_accounts(accounts) && are_distinct(accounts)) {
             return None;
         }
-        Some(Account { values })
+        Some(of_accounts(values))
     }
 
     /// The greatest number of items of a value.
-    #[tactic(auto, using(crate::proofs::Greatest::few_items))]
     pub fn most_items(&self) -> u32
         ensures { result ≡ greatest (map length self.now.values) }
     {
-        most_items(self.values.as_slice()) as u32
+        self.most_items
     }
 }
 
@@ -200,7 +239,7 @@ impl FieldClass for Account {
     }
 
     fn longest_written(&self) -> u64 {
-        longest_of(self.values.as_slice()).size()
+        self.most_written
     }
 
     ghost longest_admitted = { λ c. longest_listed account_text length [] c.values c.some };

@@ -21,3 +21,5 @@ pub use worst::worst_size;
 mod tests;
 #[cfg(test)]
 mod tests_runs;
+#[cfg(test)]
+mod tests_sizes;

@@ -178,7 +178,7 @@ fn message_size<'a>(plan: &'a Plan<'a>, step: &'a Step, number: u32) -> u64
     first + last + digits + digits + 17 + dialog + middle
 }
 
-/// The length of the longest of a step's messages of this number; steps count from 1.
+/// The length in bytes of the longest of a step's messages of this number, and of those of a lower one; steps count from 1.
 pub fn worst_size(plan: &Plan, step: usize, number: u32) -> u64
     requires from { 1 ≤ step }
     requires to { step ≤ length plan.now.script.steps }
@@ -186,6 +186,7 @@ pub fn worst_size(plan: &Plan, step: usize, number: u32) -> u64
     requires last { number ≤ 99999 }
     ensures attained { (s : StepValue) → slice_get plan.now.script.steps (step - 1) ≡ Some s → result ≡ length (message_bytes plan.now.script s number (longest_choice plan.now.script.fields)) }
     ensures most { (s : StepValue) (values : List NamedValue) (lower : ℕ) → slice_get plan.now.script.steps (step - 1) ≡ Some s → Admits plan.now.script.fields values → 1 ≤ lower → lower ≤ number → length (message_bytes plan.now.script s lower values) ≤ result }
+    ensures grows { (s : StepValue) (lower : ℕ) → slice_get plan.now.script.steps (step - 1) ≡ Some s → 1 ≤ lower → lower ≤ number → length (message_bytes plan.now.script s lower (longest_choice plan.now.script.fields)) ≤ result }
 {
     message_size(plan, plan.step(step), number)
 }

@@ -3,7 +3,9 @@ use Rattle.std.specs.List.{slice_get}
 use Rattle.fints_script.specs.Scripts.{ScriptValue}
 use Rattle.fints_script.specs.Sound.{IsSound, IsSoundStep}
 use Rattle.fints_script.specs.Steps.{StepValue}
+use Rattle.fints_wire.specs.Choices.{longest_choice}
 use Rattle.fints_wire.specs.Lengths.{longest_sizes, message_len}
+use Rattle.fints_wire.proofs.ChoiceLemmas.{longest_admitted}
 use Rattle.fints_wire.proofs.TextLemmas.{found_at}
 use Rattle.fints_wire.proofs.WorstSizes.{size_attained, size_bound}
 use Rattle.fints_wire.proofs.worst.worst_size.Goals as goal
@@ -50,3 +52,8 @@ returns-clause-most c s values lower found admits low le =
     let size = c.message_size.ensures ∙ ap (λ (x : StepValue). message_len script x (longest_sizes script.fields number) number) same in
     let bound = size_bound script s number c.step.ensures.sound h c.requires.last values lower admits low le in
     omega arith
+
+pub returns-clause-grows : goal.returns-clause-grows
+returns-clause-grows c s lower found low le =
+    let fields = c.args.plan.now.script.fields in
+    returns-clause-most c s (longest_choice fields) lower found (longest_admitted fields) low le
