@@ -16,3 +16,5 @@ mod commands;
 mod judgements;
 #[cfg(test)]
 mod reports;
+#[cfg(test)]
+mod runs;
