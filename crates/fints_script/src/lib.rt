@@ -62,20 +62,3 @@ pub use script::Script;
 pub use steps::Step;
 pub use template::{Signer, Template, TemplateElements, TemplateItem};
 pub use values::{NamedValue, Values};
-
-#[cfg(test)]
-mod tests_answers;
-#[cfg(test)]
-mod tests_cases;
-#[cfg(test)]
-mod tests_classes;
-#[cfg(test)]
-mod tests_fields;
-#[cfg(test)]
-mod tests_plans;
-#[cfg(test)]
-mod tests_script_faults;
-#[cfg(test)]
-mod tests_script_limits;
-#[cfg(test)]
-mod tests_scripts;

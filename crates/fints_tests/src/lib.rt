@@ -9,12 +9,28 @@ pub use shelf::{Quirk, Shelf};
 pub use tape::Tape;
 
 #[cfg(test)]
+mod answers;
+#[cfg(test)]
 mod captures;
+#[cfg(test)]
+mod cases;
+#[cfg(test)]
+mod classes;
 #[cfg(test)]
 mod commands;
 #[cfg(test)]
+mod fields;
+#[cfg(test)]
 mod judgements;
+#[cfg(test)]
+mod plans;
 #[cfg(test)]
 mod reports;
 #[cfg(test)]
 mod runs;
+#[cfg(test)]
+mod script_faults;
+#[cfg(test)]
+mod script_limits;
+#[cfg(test)]
+mod scripts;

@@ -8,6 +8,7 @@ pub mod Onward
 pub mod Running
 pub mod Reaching
 pub mod Sending
+pub mod SentLemmas
 pub mod ChoiceLemmas
 pub mod ReadBack
 pub mod ItemCounts

@@ -22,7 +22,7 @@ pub record IsSmall (steps : List StepValue) (v : Visit) : Type 0 where
   pub low : v.times ≤ step.repeat
   pub number : v.number + 99 ≤ 99 * v.step + v.times
 
-step_of : (script : ScriptValue) (n : ℕ) (step : StepValue) → IsSound script → numbered script.steps n ≡ Some step → IsSoundStep script step
+pub step_of : (script : ScriptValue) (n : ℕ) (step : StepValue) → IsSound script → numbered script.steps n ≡ Some step → IsSoundStep script step
 step_of script n step sound at = numbered_holds (IsSoundStep script) script.steps n step sound.steps at
 
 small_enters : (script : ScriptValue) (v w : Visit) (s : IsSmall script.steps v) (t : Target) → IsSound script → IsOnward (length script.steps) v.step t → Enters s.step.repeat v t w → IsSmall script.steps w

@@ -1,5 +1,5 @@
 -- Which messages a client sends under a list of answers. Steps and messages count from 1.
-use Rattle.std.specs.Prelude.{ℕ, ◌≡◌, ◌<◌, ◌≤◌, ◌+◌, Some, List, [], ◌∷◌, length}
+use Rattle.std.specs.Prelude.{ℕ, ◌≡◌, ◌<◌, ◌≤◌, ◌+◌, ◌==◌, cond, Some, List, [], ◌∷◌, length}
 use Rattle.std.specs.List.{AllByRecursion}
 use Rattle.fints_script.specs.Answers.{IsAnswer, leads}
 use Rattle.fints_script.specs.Scripts.{ScriptValue}
@@ -58,6 +58,11 @@ abbrev pub last_of : Visit → List Visit → Visit
 last_of v [] = v
 last_of v (w ∷ ws) = last_of w ws
 
+-- how many of these are messages of step n
+abbrev pub sent_of : ℕ → List Visit → ℕ
+sent_of n [] = 0
+sent_of n (v ∷ vs) = cond (v.step == n) 1 0 + sent_of n vs
+
 -- some run sends v, as its last message
 pub record Arrives (steps : List StepValue) (v : Visit) : Type 0 where
   pub answers : List (List ℕ)
@@ -105,13 +110,6 @@ abbrev pub EndsWith : List Sent → Sent → Type 0
 EndsWith [] m = ⊥
 EndsWith (x ∷ []) m = x ≡ m
 EndsWith (x ∷ y ∷ ys) m = EndsWith (y ∷ ys) m
-
--- n is the last but one of them, and m the last
-abbrev pub EndsWithTwo : List Sent → Sent → Sent → Type 0
-EndsWithTwo [] n m = ⊥
-EndsWithTwo (x ∷ []) n m = ⊥
-EndsWithTwo (x ∷ y ∷ []) n m = (x ≡ n) × (y ≡ m)
-EndsWithTwo (x ∷ y ∷ z ∷ zs) n m = EndsWithTwo (y ∷ z ∷ zs) n m
 
 -- under these values some run ends with m
 pub record SendsLast (script : ScriptValue) (values : List NamedValue) (m : Sent) : Type 0 where

@@ -1,12 +1,13 @@
 -- What is read in the message of a step, and the law that it is read there.
-use Rattle.std.specs.Prelude.{◌≡◌, ℕ, ◌+◌, ◌≤◌, List, length, map, slice_get, Some}
+use Rattle.std.specs.Prelude.{◌≡◌, ℕ, ◌+◌, ◌<◌, ◌≤◌, List, length, map, slice_get, Some}
 use Rattle.fints_rules.specs.Messages.{MessageView, IsMessage}
 use Rattle.fints_script.specs.Plans.{Admits}
 use Rattle.fints_script.specs.Scripts.{ScriptValue}
-use Rattle.fints_script.specs.Sound.{IsSound}
+use Rattle.fints_script.specs.Sound.{IsSound, numbered}
 use Rattle.fints_script.specs.Steps.{StepValue}
 use Rattle.fints_script.specs.declared.values.NamedValue.{NamedValue}
 use Rattle.fints_wire.specs.Filling.{FillingValue, filling_of, filled_segments}
+use Rattle.fints_wire.specs.declared.dialogue.Sent.{Sent}
 use Rattle.fints_wire.specs.Messages.{end_template, message_bytes, message_size, signers_of}
 
 -- what the message of a step, of this number, holds under a choice: the step's templates with the choice put in, numbered on behind HNHBK and the signers' HNSHK, and behind them the signers' HNSHA
@@ -26,3 +27,10 @@ abbrev pub MessagesAreRead : Type 0
 MessagesAreRead =
     (script : ScriptValue) (i : ℕ) (step : StepValue) (number : ℕ) (values : List NamedValue) → IsSound script → slice_get script.steps i ≡ Some step → 1 ≤ number → number ≤ 99999 → Admits script.fields values
     → IsMessage (message_bytes script step number values) (message_view script step number values)
+
+-- what was sent is read as the message of its step, of its number, under the choice
+pub record IsReadAs (script : ScriptValue) (values : List NamedValue) (m : Sent) : Type 0 where
+  pub step : StepValue
+  pub of : numbered script.steps m.step ≡ Some step
+  pub message : IsMessage m.bytes (message_view script step m.number values)
+  pub short : length m.bytes < 1048576

@@ -2,9 +2,12 @@
 ghost use Rattle.std.specs.Prelude.{◌≡◌, ◌<◌, ◌≤◌, length, MatchOption, IfOk};
 ghost use Rattle.fints_script.specs.Answers.{IsAnswer};
 ghost use Rattle.fints_script.specs.Plans.{Admits};
+ghost use Rattle.std.specs.List.{AllByRecursion};
+ghost use Rattle.fints_wire.specs.Views.{IsReadAs};
 ghost use Rattle.fints_wire.specs.Runs.{Finishes, Follows, IsSent, Run};
 
 use crate::building::build;
+use crate::run_laws::sent_are_read;
 use fints_script::{Answer, Plan, Target, Values};
 use fints_syntax::{Bytes, Memory};
 use std::alloc::Global;
@@ -83,7 +86,9 @@ pub fn run(
 ) -> Result<Vec<Sent>, Memory>
     requires { Admits plan.now.script.fields values.now }
     ensures run { IfOk result (λ sent. Run plan.now.script values.now answers.now sent.items) }
+    ensures messages { IfOk result (λ sent. AllByRecursion (IsReadAs plan.now.script values.now) sent.items) }
 {
+    sent_are_read();
     let _count = plan.step_count();
     let mut sent = Vec::new(alloc);
     let mut here = Visit {

@@ -19,3 +19,5 @@ pub use worst::worst_size;
 
 #[cfg(test)]
 mod tests;
+#[cfg(test)]
+mod tests_runs;

@@ -2,13 +2,17 @@
 ghost use Rattle.std.specs.Prelude.{◌↔◌, ◌≡◌, ℕ, List, [], ◌∷◌, ◌++◌};
 ghost use Rattle.std.specs.List.{AllByRecursion};
 ghost use Rattle.fints_script.specs.Answers.{IsAnswer};
+ghost use Rattle.fints_script.specs.Plans.{Admits};
 ghost use Rattle.fints_script.specs.Scripts.{ScriptValue};
 ghost use Rattle.fints_script.specs.Sound.{IsSound};
 ghost use Rattle.fints_script.specs.Steps.{StepValue};
 ghost use Rattle.fints_script.specs.declared.values.NamedValue.{NamedValue};
-ghost use Rattle.fints_wire.specs.Runs.{start, After, Follows, Arrives, Reach, RouteTo, IsSent, Run, SendsLast, EndsIn};
+ghost use Rattle.fints_wire.specs.Runs.{start, last_of, sent_of, After, Follows, Arrives, Reach, RouteTo, IsSent, Run, SendsLast, EndsIn};
+ghost use Rattle.fints_wire.specs.Views.{IsReadAs};
 ghost use Rattle.fints_wire.specs.declared.dialogue.Visit.{Visit};
 ghost use Rattle.fints_wire.specs.declared.dialogue.Sent.{Sent};
+
+use crate::laws::messages_are_read;
 
 /// The answers determine what is sent.
 pub fn one_run()
@@ -25,6 +29,12 @@ pub fn runs_by_steps()
 /// What is sent next is what the answer fires from the step of the message before it.
 pub fn each_follows()
     ensures { (steps : List StepValue) (v : Visit) (answers : List (List ℕ)) (codes : List ℕ) (later : List Visit) (w : Visit) → After steps v (codes ∷ answers) (w ∷ later) → Follows steps v codes w }
+{}
+
+/// How many messages of a step were sent in a row is how many the run has sent of it: no answer leads
+/// back to an earlier step.
+pub fn times_are_counted()
+    ensures { (script : ScriptValue) (answers : List (List ℕ)) (later : List Visit) → IsSound script → After script.steps start answers later → (last_of start later).times ≡ sent_of (last_of start later).step (start ∷ later) }
 {}
 
 /// The last messages of runs are those of the visits that runs reach.
@@ -47,3 +57,10 @@ pub fn routes_send()
 pub fn each_is_last()
     ensures { (script : ScriptValue) (values : List NamedValue) (answers : List (List ℕ)) (sent : List Sent) → IsSound script → AllByRecursion IsAnswer answers → Run script values answers sent → AllByRecursion (SendsLast script values) sent }
 {}
+
+/// Each message of a run is one that a judge reads as its step's, with the values put in.
+pub fn sent_are_read()
+    ensures { (script : ScriptValue) (values : List NamedValue) (answers : List (List ℕ)) (sent : List Sent) → IsSound script → Admits script.fields values → Run script values answers sent → AllByRecursion (IsReadAs script values) sent }
+{
+    messages_are_read();
+}

@@ -4,11 +4,11 @@ use fints_script::{Name, Script, Values};
 use std::alloc::Global;
 use std::test::*;
 
-fn script(alloc: Global, text: &[u8]) -> Result<Script, Fail> {
+pub fn script(alloc: Global, text: &[u8]) -> Result<Script, Fail> {
     Ok(Script::read(alloc, text).ok().ok_or("script")?)
 }
 
-fn orders(alloc: Global) -> Result<OrderTable, Fail> {
+pub fn orders(alloc: Global) -> Result<OrderTable, Fail> {
     let text = br#"order = [{kind = "HKSAL", version = 5, account = "national"}]"#;
     Ok(OrderTable::read(alloc, text).ok().ok_or("orders")?)
 }
@@ -62,7 +62,7 @@ step = [{name = "end", sealed = true, segments = [{kind = "HKEND", version = 1, 
 "#
 }
 
-fn values(alloc: Global, pairs: &[(&[u8], &[u8])]) -> Result<Values, Fail> {
+pub fn values(alloc: Global, pairs: &[(&[u8], &[u8])]) -> Result<Values, Fail> {
     let mut values = Values::new(alloc);
     for (name, value) in pairs {
         let name = Name::parse(name).ok_or("name")?;
@@ -72,7 +72,7 @@ fn values(alloc: Global, pairs: &[(&[u8], &[u8])]) -> Result<Values, Fail> {
 }
 
 // The message of step 1, if the plan admits the values.
-fn message(
+pub fn message(
     alloc: Global,
     text: &[u8],
     number: u32,

@@ -1,4 +1,5 @@
 use Rattle.std.proofs.Common.{◌++◌, ◌∷◌, [], List, ap, ◌∙◌, arith}
+use Rattle.fints_wire.specs.Runs.{Run}
 use Rattle.fints_wire.specs.declared.dialogue.Sent.{Sent}
 use Rattle.fints_wire.proofs.Running.{running_first, running_more, running_all, running_over, small_range, follow_small}
 use Rattle.fints_wire.proofs.dialogue.run.Goals as goal
@@ -17,9 +18,13 @@ follow-requires-clause-number c = (small_range c.args.plan.now.script c.loop-ans
 pub follow-requires-clause-times : goal.follow-requires-clause-times
 follow-requires-clause-times c = (small_range c.args.plan.now.script c.loop-answer.here c.step_count-count.ensures.sound c.loop-answer.invariant.small).times
 
+run_over : (c : goal.In-None) → Run c.args.plan.now.script c.args.values.now c.args.answers.now c.loop-answer.sent.items
+run_over c =
+    running_over c.args.plan.now.script c.args.values.now c.args.answers.now c.loop-answer.answer-index c.loop-answer.here c.answer-item.result c.loop-answer.sent.items c.loop-answer-test.true c.answer-item.is c.in-None.ensures c.loop-answer.invariant
+
 pub returns-in-None : goal.returns-in-None
 returns-in-None c =
-    record { run = running_over c.args.plan.now.script c.args.values.now c.args.answers.now c.loop-answer.answer-index c.loop-answer.here c.answer-item.result c.loop-answer.sent.items c.loop-answer-test.true c.answer-item.is c.in-None.ensures c.loop-answer.invariant }
+    record { run = run_over c; messages = c.sent_are_read.ensures c.args.plan.now.script c.args.values.now c.args.answers.now c.loop-answer.sent.items c.step_count-count.ensures.sound c.requires (run_over c) }
 
 pub message_of-requires-in-Some-clause-from : goal.message_of-requires-in-Some-clause-from
 message_of-requires-in-Some-clause-from c =
@@ -43,4 +48,6 @@ loop-answer-preserved c =
     c.step_count-count.ensures.sound c.loop-answer-test.true c.answer-item.is c.in-Some.ensures c.in_ok-message_of-in-Some.ensures c.in_ok-push-in-Some.ensures.items c.loop-answer.invariant
 
 pub returns : goal.returns
-returns c = record { run = running_all c.args.plan.now.script c.args.values.now c.args.answers.now c.loop-answer.answer-index c.loop-answer.here c.loop-answer.sent.items (omega arith) c.loop-answer.invariant }
+returns c =
+    let run = running_all c.args.plan.now.script c.args.values.now c.args.answers.now c.loop-answer.answer-index c.loop-answer.here c.loop-answer.sent.items (omega arith) c.loop-answer.invariant in
+    record { run = run; messages = c.sent_are_read.ensures c.args.plan.now.script c.args.values.now c.args.answers.now c.loop-answer.sent.items c.step_count-count.ensures.sound c.requires run }
