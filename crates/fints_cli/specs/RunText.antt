@@ -85,7 +85,7 @@ pub record IsNotAdmitted (script : ScriptValue) (case : List ℕ) : Type 0 where
   pub case_is : IsCaseOf case values answers
   pub not_admitted : Admits script.fields values → ⊥
 
--- the line of the text that is no line of a case
+-- the fault is the first line that is no line of a case
 abbrev pub IsBadCase : List ℕ → CaseFault → Type 0
 IsBadCase case (cases.Bad line) = IsFirstBadLine case line
 IsBadCase case cases.Memory = ⊥
