@@ -15,7 +15,7 @@ use Rattle.fints_rules.specs.declared.message.JudgeFault.{JudgeFault}
 use Rattle.fints_rules.specs.declared.message.JudgeFault.TheVariants as message
 use Rattle.fints_rules.specs.Orders.{DenotesTable, IsTableFault}
 use Rattle.fints_rules.specs.Read.{IsRefusal}
-use Rattle.fints_cli.specs.declared.fault.Fault.TheVariants.{NotYet, Memory, Params, Orders, Message}
+use Rattle.fints_cli.specs.declared.fault.Fault.TheVariants.{Memory, Params, Orders, Message}
 use Rattle.fints_cli.specs.Fault.{fault_of, order_fault_of, message_fault_of}
 use Rattle.fints_cli.specs.Judge.{IsVerdictOf, IsMessageRefusal, IsJudgeRefusal}
 use Rattle.fints_cli.specs.declared.commands.Failure.{Failure}
@@ -23,7 +23,7 @@ use Rattle.fints_cli.specs.declared.commands.Failure.TheVariants.{Input, Unread}
 use Rattle.fints_cli.specs.Commands.{JudgesFile, IsJudgeFailure, FailsToJudge}
 
 -- what holds of loaded bytes holds of what the files hold
-of_files : (P : List ℕ → List ℕ → List ℕ → Type 0) (a b c : Option (List ℕ)) (x y z : List ℕ) → IsFile a x → IsFile b y → IsFile c z → P x y z → IfSome a (λ p. IfSome b (λ q. IfSome c (λ r. P p q r)))
+pub of_files : (P : List ℕ → List ℕ → List ℕ → Type 0) (a b c : Option (List ℕ)) (x y z : List ℕ) → IsFile a x → IsFile b y → IsFile c z → P x y z → IfSome a (λ p. IfSome b (λ q. IfSome c (λ r. P p q r)))
 of_files P None b c x y z h i j p = tt
 of_files P (Some a) None c x y z h i j p = tt
 of_files P (Some a) (Some b) None x y z h i j p = tt
@@ -64,7 +64,7 @@ message_refused bytes (message.NotAMessage offset) h = h
 
 pub refused_whole : (capture table bytes : List ℕ) (rows : Rows) (orders : List OrderRow) (f : Fault) → IsParamsOf capture rows → DenotesTable table orders → IsMessageRefusal bytes f → IsJudgeRefusal capture table bytes f
 refused_whole capture table bytes rows orders Memory h i p = tt
-refused_whole capture table bytes rows orders NotYet h i p = absurd p
+refused_whole capture table bytes rows orders (Message f) h i p = (record { rows = rows; table = orders; rows_are = h; table_is = i }, p)
 refused_whole capture table bytes rows orders (Params f) h i p = absurd p
 refused_whole capture table bytes rows orders (Orders f) h i p = absurd p
-refused_whole capture table bytes rows orders (Message f) h i p = (record { rows = rows; table = orders; rows_are = h; table_is = i }, p)
+refused_whole capture table bytes rows orders _ h i p = absurd p

@@ -4,5 +4,6 @@ pub mod MessageLemmas
 pub mod ScriptLemmas
 pub mod StreamLemmas
 pub mod JudgeLemmas
+pub mod RunLemmas
 pub mod ShowLemmas
 pub mod CommandLemmas

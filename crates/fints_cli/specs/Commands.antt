@@ -1,10 +1,11 @@
 -- What the commands answer, and why they have no answer.
 use Rattle.std.specs.Prelude.{◌≡◌, ◌⊎◌, ℕ, List, Option, IfSome, codes, string_bytes}
-use Rattle.fints_cli.specs.declared.fault.Fault.TheVariants.{NotYet, Memory, Params, Orders, Message}
+use Rattle.fints_cli.specs.declared.fault.Fault.TheVariants.{Memory}
 use Rattle.fints_cli.specs.declared.commands.Failure.{Failure}
 use Rattle.fints_cli.specs.declared.commands.Failure.TheVariants.{Input, Unread}
 use Rattle.fints_cli.specs.declared.words.Request.{Request}
 use Rattle.fints_cli.specs.declared.words.Request.TheVariants.{BuiltIn, Show, Judge}
+use Rattle.fints_cli.specs.declared.words.Request.TheVariants as requests
 use Rattle.fints_cli.specs.declared.words.Asked.{Asked}
 use Rattle.fints_cli.specs.declared.words.Asked.TheVariants.{Help, Usage, NoMemory, Run}
 use Rattle.fints_cli.specs.BuiltIn as built_in
@@ -12,14 +13,12 @@ use Rattle.fints_cli.specs.Thin.{IsReportOf}
 use Rattle.fints_cli.specs.Streams.{Gets, GetsPrefix}
 use Rattle.fints_cli.specs.Show.{IsShowOf, IsMemoryOrShowFault}
 use Rattle.fints_cli.specs.Judge.{IsVerdictOf, IsJudgeRefusal}
+use Rattle.fints_cli.specs.RunText.{IsRunOf, IsRunRefusal}
 
 -- 3 for a refused input, 4 for want of memory, 5 for a file that couldn't be read
 abbrev pub failure_status : Failure → ℕ
-failure_status (Input NotYet) = 3
-failure_status (Input (Params f)) = 3
-failure_status (Input (Orders f)) = 3
-failure_status (Input (Message f)) = 3
 failure_status (Input Memory) = 4
+failure_status (Input _) = 3
 failure_status (Unread option) = 5
 
 -- the text shows the capture, where its bytes are told
@@ -31,20 +30,23 @@ abbrev pub JudgesFile : Option (List ℕ) → Option (List ℕ) → Option (List
 JudgesFile params orders message status text =
     IfSome params (λ capture. IfSome orders (λ table. IfSome message (λ bytes. IsVerdictOf capture table bytes status text)))
 
+-- the text tells the run of the case, where the bytes of the files are told
+abbrev pub RunsFiles : Option (List ℕ) → Option (List ℕ) → Option (List ℕ) → List ℕ → Type 0
+RunsFiles orders script case text =
+    IfSome orders (λ table. IfSome script (λ steps. IfSome case (λ bytes. IsRunOf table steps bytes text)))
+
 -- the status and the text are the request's answer
 abbrev pub AnswersTo : Request → (List ℕ → Option (List ℕ)) → ℕ → List ℕ → Type 0
 AnswersTo BuiltIn holds status text = (status ≡ 0) × IsReportOf built_in.capture built_in.script text
 AnswersTo (Show params) holds status text = (status ≡ 0) × ShowsFile (holds params.now) text
 AnswersTo (Judge params orders message) holds status text = JudgesFile (holds params.now) (holds orders.now) (holds message.now) status text
+AnswersTo (requests.Run orders script case) holds status text = (status ≡ 0) × RunsFiles (holds orders.now) (holds script.now) (holds case.now) text
 
 -- the file of the option couldn't be read, or memory ran out
 abbrev pub IsUnloaded : List ℕ → Failure → Type 0
 IsUnloaded option (Unread named) = named.now ≡ option
 IsUnloaded option (Input Memory) = Unit {0}
-IsUnloaded option (Input NotYet) = ⊥
-IsUnloaded option (Input (Params f)) = ⊥
-IsUnloaded option (Input (Orders f)) = ⊥
-IsUnloaded option (Input (Message f)) = ⊥
+IsUnloaded option (Input _) = ⊥
 
 -- why a capture isn't shown, where its bytes are told
 abbrev pub FailsToShow : Option (List ℕ) → Failure → Type 0
@@ -62,12 +64,24 @@ FailsToJudge params orders message (Unread named) = (named.now ≡ codes "params
 FailsToJudge params orders message (Input f) =
     IfSome params (λ capture. IfSome orders (λ table. IfSome message (λ bytes. IsJudgeRefusal capture table bytes f)))
 
+-- why loaded bytes aren't run
+abbrev pub IsRunFailure : List ℕ → List ℕ → List ℕ → Failure → Type 0
+IsRunFailure orders script case (Unread named) = ⊥
+IsRunFailure orders script case (Input f) = IsRunRefusal orders script case f
+
+-- why a case isn't run, where the bytes of the files are told
+abbrev pub FailsToRun : Option (List ℕ) → Option (List ℕ) → Option (List ℕ) → Failure → Type 0
+FailsToRun orders script case (Unread named) = (named.now ≡ codes "orders") ⊎ ((named.now ≡ codes "script") ⊎ (named.now ≡ codes "case"))
+FailsToRun orders script case (Input f) =
+    IfSome orders (λ table. IfSome script (λ steps. IfSome case (λ bytes. IsRunRefusal table steps bytes f)))
+
 -- why the request has no answer
 abbrev pub FailsFor : Request → (List ℕ → Option (List ℕ)) → Failure → Type 0
 FailsFor BuiltIn holds (Unread named) = ⊥
 FailsFor BuiltIn holds (Input f) = Unit {0}
 FailsFor (Show params) holds failure = FailsToShow (holds params.now) failure
 FailsFor (Judge params orders message) holds failure = FailsToJudge (holds params.now) (holds orders.now) (holds message.now) failure
+FailsFor (requests.Run orders script case) holds failure = FailsToRun (holds orders.now) (holds script.now) (holds case.now) failure
 
 -- the status and the text are what was asked for: the help, or the request's answer
 abbrev pub IsTextFor : Asked → (List ℕ → Option (List ℕ)) → ℕ → List ℕ → Type 0

@@ -5,18 +5,21 @@ use Rattle.fints_params.specs.declared.fault.ParamFault.TheVariants as params
 use Rattle.fints_cli.specs.declared.fault.Fault.{Fault}
 use Rattle.fints_rules.specs.declared.orders.TableFault.{TableFault}
 use Rattle.fints_rules.specs.declared.orders.TableFault.TheVariants as orders
+use Rattle.fints_script.specs.declared.fault.FaultKind.{FaultKind}
+use Rattle.fints_script.specs.declared.fault.FaultKind.TheVariants as kinds
+use Rattle.fints_script.specs.declared.fault.ScriptFault.{ScriptFault}
+use Rattle.fints_script.specs.declared.case_fault.CaseFault.{CaseFault}
+use Rattle.fints_script.specs.declared.case_fault.CaseFault.TheVariants as cases
 use Rattle.fints_rules.specs.declared.message.JudgeFault.{JudgeFault}
 use Rattle.fints_rules.specs.declared.message.JudgeFault.TheVariants as message
-use Rattle.fints_cli.specs.declared.fault.Fault.TheVariants.{NotYet, Memory, Params, Orders, Message}
+use Rattle.fints_cli.specs.declared.fault.Fault.TheVariants.{NotYet, Memory, Params, Orders, Script, Case, Message}
 
 -- the value was found; or there is none; or memory ran out
 abbrev pub Gives : {X Y : Type 0} → (X → Y) → Result X Fault → Option Y → Type 0
 Gives view (Ok x) found = found ≡ Some (view x)
 Gives view (Err NotYet) found = found ≡ None
 Gives view (Err Memory) found = Unit {0}
-Gives view (Err (Params f)) found = ⊥
-Gives view (Err (Orders f)) found = ⊥
-Gives view (Err (Message f)) found = ⊥
+Gives view (Err _) found = ⊥
 
 -- want of memory is one fault, wherever it is met
 abbrev pub fault_of : ParamFault → Fault
@@ -37,3 +40,15 @@ order_fault_of (orders.TwoRows row) = Orders (orders.TwoRows row)
 abbrev pub message_fault_of : JudgeFault → Fault
 message_fault_of message.Memory = Memory
 message_fault_of (message.NotAMessage offset) = Message (message.NotAMessage offset)
+
+-- a fault of a script, by its kind
+abbrev pub kind_fault_of : FaultKind → ScriptFault → Fault
+kind_fault_of kinds.Memory f = Memory
+kind_fault_of _ f = Script f
+
+abbrev pub script_fault_of : ScriptFault → Fault
+script_fault_of f = kind_fault_of f.kind f
+
+abbrev pub case_fault_of : CaseFault → Fault
+case_fault_of cases.Memory = Memory
+case_fault_of (cases.Bad line) = Case (cases.Bad line)

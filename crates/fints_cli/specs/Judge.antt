@@ -11,7 +11,7 @@ use Rattle.fints_rules.specs.Breaks.{IsJudged}
 use Rattle.fints_rules.specs.Read.{IsRefusal}
 use Rattle.fints_rules.specs.RuleNames.{rule_name}
 use Rattle.fints_cli.specs.declared.fault.Fault.{Fault}
-use Rattle.fints_cli.specs.declared.fault.Fault.TheVariants.{NotYet, Memory, Params, Orders, Message}
+use Rattle.fints_cli.specs.declared.fault.Fault.TheVariants.{Memory, Params, Orders, Message}
 
 abbrev pub broken_line : Broken → List ℕ
 broken_line b = rule_name b.rule ++ codes " segment " ++ decimal b.segment ++ codes "\n"
@@ -53,15 +53,13 @@ pub record AreGood (params orders : List ℕ) : Type 0 where
 -- want of memory, or the refusal of the message
 abbrev pub IsMessageRefusal : List ℕ → Fault → Type 0
 IsMessageRefusal message Memory = Unit {0}
-IsMessageRefusal message NotYet = ⊥
-IsMessageRefusal message (Params f) = ⊥
-IsMessageRefusal message (Orders f) = ⊥
 IsMessageRefusal message (Message f) = IsRefusal message f
+IsMessageRefusal message _ = ⊥
 
 -- want of memory, or the first refusal: of the capture, of the order table, of the message
 abbrev pub IsJudgeRefusal : List ℕ → List ℕ → List ℕ → Fault → Type 0
 IsJudgeRefusal params orders message Memory = Unit {0}
-IsJudgeRefusal params orders message NotYet = ⊥
 IsJudgeRefusal params orders message (Params f) = IsParamFault params f
 IsJudgeRefusal params orders message (Orders f) = ((rows : Rows) × IsParamsOf params rows) × IsTableFault orders f
 IsJudgeRefusal params orders message (Message f) = AreGood params orders × IsRefusal message f
+IsJudgeRefusal params orders message _ = ⊥

@@ -8,6 +8,7 @@ pub mod Rules
 pub mod Thin
 pub mod Streams
 pub mod Judge
+pub mod RunText
 pub mod Show
 pub mod BuiltIn
 pub mod Commands

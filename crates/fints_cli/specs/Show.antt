@@ -15,7 +15,7 @@ use Rattle.fints_params.specs.declared.rows.Usage.{Usage}
 use Rattle.fints_params.specs.declared.rows.Usage.TheVariants.{Locked, Unsaid}
 use Rattle.fints_params.specs.Parameters.{Rows}
 use Rattle.fints_cli.specs.declared.fault.Fault.{Fault}
-use Rattle.fints_cli.specs.declared.fault.Fault.TheVariants.{NotYet, Memory, Params, Orders, Message}
+use Rattle.fints_cli.specs.declared.fault.Fault.TheVariants.{Memory, Params}
 use Rattle.fints_params.specs.Captures.{IsParamsOf, IsParamFault, IsCodesOf, IsCodeFault}
 
 -- an empty value is shown as `-`
@@ -114,6 +114,4 @@ IsShowFault capture f = IsParamFault capture f ⊎ ((rows : Rows) × IsParamsOf 
 abbrev pub IsMemoryOrShowFault : List ℕ → Fault → Type 0
 IsMemoryOrShowFault capture Memory = Unit {0}
 IsMemoryOrShowFault capture (Params f) = IsShowFault capture f
-IsMemoryOrShowFault capture NotYet = ⊥
-IsMemoryOrShowFault capture (Orders f) = ⊥
-IsMemoryOrShowFault capture (Message f) = ⊥
+IsMemoryOrShowFault capture _ = ⊥

@@ -5,7 +5,8 @@ ghost use Rattle.fints_cli.specs.BuiltIn as texts;
 ghost use Rattle.fints_cli.specs.declared.words.Request.TheVariants as request;
 ghost use Rattle.fints_cli.specs.Thin.{IsReportOf};
 ghost use Rattle.fints_cli.specs.Judge.{IsVerdictOf};
-ghost use Rattle.fints_cli.specs.Commands.{failure_status, IsJudgeFailure, ShowsFile, JudgesFile, FailsToJudge, AnswersTo, IsUnloaded, FailsToShow, FailsFor, IsAnswered, IsCutOff, IsUsage, FailsWith};
+ghost use Rattle.fints_cli.specs.RunText.{IsRunOf};
+ghost use Rattle.fints_cli.specs.Commands.{failure_status, IsJudgeFailure, ShowsFile, JudgesFile, FailsToJudge, IsRunFailure, RunsFiles, FailsToRun, AnswersTo, IsUnloaded, FailsToShow, FailsFor, IsAnswered, IsCutOff, IsUsage, FailsWith};
 ghost use Rattle.fints_cli.specs.declared.words.Asked.TheVariants as asked;
 
 use crate::built_in;
@@ -15,6 +16,7 @@ use crate::fault::Fault;
 use crate::judging::judge_message;
 use crate::reading::{LoadFault, MAX_CALLS, load};
 use crate::reply::Reply;
+use crate::running::run_case;
 use crate::showing::show;
 use crate::streams::{Files, Out};
 use crate::words::{Asked, Request, read_words};
@@ -24,7 +26,7 @@ use thiserror::Error;
 // A capture or a message has at most this many bytes.
 const MAX_CAPTURE: usize = 4_194_304;
 
-// An order table has at most this many bytes.
+// An order table, a script or a case has at most this many bytes.
 const MAX_TEXT: usize = 1_048_576;
 
 /// Why a command has no answer.
@@ -140,6 +142,37 @@ fn judge_file<F: Files>(
     )
 }
 
+fn run_loaded(alloc: Global, orders: &[u8], script: &[u8], case: &[u8]) -> Result<Reply, Failure>
+    ensures status { IfOk result (λ reply. reply.status ≡ 0) }
+    ensures told { IfOk result (λ reply. IsRunOf orders.now script.now case.now reply.text.items) }
+    ensures refused { IfErr result (λ f. IsRunFailure orders.now script.now case.now f) }
+{
+    match run_case(alloc, orders, script, case) {
+        Ok(text) => Ok(Reply { status: 0, text }),
+        Err(fault) => Err(Failure::Input(fault)),
+    }
+}
+
+#[tactic(auto, using(crate::proofs::RunLemmas::files_run, crate::proofs::RunLemmas::files_not_run))]
+fn run_files<F: Files>(
+    alloc: Global,
+    files: &mut F,
+    orders: &str,
+    script: &str,
+    case: &str,
+) -> Result<Reply, Failure>
+    ensures status { IfOk result (λ reply. reply.status ≡ 0) }
+    ensures told { IfOk result (λ reply. RunsFiles (F.holds files.old orders.now) (F.holds files.old script.now) (F.holds files.old case.now) reply.text.items) }
+    ensures refused { IfErr result (λ f. FailsToRun (F.holds files.old orders.now) (F.holds files.old script.now) (F.holds files.old case.now) f) }
+    ensures calls { F.calls files.new ≤ F.calls files.old + 3 * MAX_CALLS }
+    ensures keeps { F.holds files.new ≡ F.holds files.old }
+{
+    let orders = load_option(alloc, files, "orders", orders, MAX_TEXT)?;
+    let script = load_option(alloc, files, "script", script, MAX_TEXT)?;
+    let case = load_option(alloc, files, "case", case, MAX_TEXT)?;
+    run_loaded(alloc, orders.as_slice(), script.as_slice(), case.as_slice())
+}
+
 /// Answers a request over the files, all of which are read before any is looked at.
 pub fn perform<F: Files>(
     alloc: Global,
@@ -160,6 +193,11 @@ pub fn perform<F: Files>(
             orders,
             message,
         } => judge_file(alloc, files, params, orders, message),
+        Request::Run {
+            orders,
+            script,
+            case,
+        } => run_files(alloc, files, orders, script, case),
     }
 }
 

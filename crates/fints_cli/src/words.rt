@@ -22,6 +22,12 @@ pub enum Request<'a> {
         orders: &'a str,
         message: &'a str,
     },
+    /// The messages that a client sends under a case, by an order table and a script.
+    Run {
+        orders: &'a str,
+        script: &'a str,
+        case: &'a str,
+    },
 }
 
 /// What the words ask for.
@@ -56,6 +62,11 @@ fn command_line<'a>(alloc: Global) -> Result<Command<'a>, AllocError> {
         .arg(file_option(alloc, "params", "The capture"))?
         .arg(file_option(alloc, "orders", "The order table"))?
         .arg(file_option(alloc, "message", "The message"))?;
+    let run = Command::new(alloc, "run")
+        .about("Prints the messages that a client sends under a case")
+        .arg(file_option(alloc, "orders", "The order table"))?
+        .arg(file_option(alloc, "script", "The script"))?
+        .arg(file_option(alloc, "case", "The case"))?;
     Command::new(alloc, "fints")
         .bin_name("fints")?
         .about("Checks FinTS 3.0 dialogue scripts")
@@ -63,7 +74,8 @@ fn command_line<'a>(alloc: Global) -> Result<Command<'a>, AllocError> {
         .disable_help_subcommand(true)
         .subcommand_required(true)
         .subcommand(show)?
-        .subcommand(judge)
+        .subcommand(judge)?
+        .subcommand(run)
 }
 
 // What is told in place of a command.
@@ -104,18 +116,20 @@ pub fn read_words<'a>(alloc: Global, words: &'a [&'a str]) -> Asked<'a>
 
 // The command with its options, each of which the command line requires.
 fn named_request<'a>(name: &str, options: &ArgMatches<'a>) -> Option<Request<'a>> {
-    let params = options.get_str("params")?;
     match name {
-        "show" => Some(Request::Show { params }),
-        "judge" => {
-            let orders = options.get_str("orders")?;
-            let message = options.get_str("message")?;
-            Some(Request::Judge {
-                params,
-                orders,
-                message,
-            })
-        }
+        "show" => Some(Request::Show {
+            params: options.get_str("params")?,
+        }),
+        "judge" => Some(Request::Judge {
+            params: options.get_str("params")?,
+            orders: options.get_str("orders")?,
+            message: options.get_str("message")?,
+        }),
+        "run" => Some(Request::Run {
+            orders: options.get_str("orders")?,
+            script: options.get_str("script")?,
+            case: options.get_str("case")?,
+        }),
         _ => None,
     }
 }

@@ -80,7 +80,7 @@ fn statuses(rt: HostRuntime) {
 // Bad words are refused before any file is read. A command that isn't there yet is a bad word.
 #[test]
 fn usage_faults(rt: HostRuntime) {
-    let rows: [(&[&str], &[u8]); 12] = [
+    let rows: [(&[&str], &[u8]); 14] = [
         (&["bogus"], b"error: unrecognized subcommand 'bogus'"),
         (&["check"], b"error: unrecognized subcommand 'check'"),
         (&[""], b"error: unrecognized subcommand ''"),
@@ -113,6 +113,14 @@ fn usage_faults(rt: HostRuntime) {
             b"error: unexpected argument '--par' found",
         ),
         (
+            &["run", "--orders", "c1"],
+            b"error: the following required arguments were not provided:\n  --script <FILE>\n  --case <FILE>",
+        ),
+        (
+            &["run", "--params", "c1"],
+            b"error: unexpected argument '--params' found",
+        ),
+        (
             &["--version"],
             b"error: unexpected argument '--version' found",
         ),
@@ -134,12 +142,20 @@ fn usage_faults(rt: HostRuntime) {
 
 #[test]
 fn help(rt: HostRuntime) {
-    let rows: [(&[&str], &[u8]); 3] = [
+    let rows: [(&[&str], &[u8]); 5] = [
         (&["--help"], b"Checks FinTS 3.0 dialogue scripts\n"),
         (&["-h"], b"Checks FinTS 3.0 dialogue scripts\n"),
         (
             &["show", "--help"],
             b"Shows what a capture says of the bank and the user\n\nUsage: fints show --params <FILE>\n",
+        ),
+        (
+            &["judge", "-h"],
+            b"Names the rules that a message breaks\n\nUsage: fints judge --params <FILE> --orders <FILE> --message <FILE>\n",
+        ),
+        (
+            &["run", "-h"],
+            b"Prints the messages that a client sends under a case\n\nUsage: fints run --orders <FILE> --script <FILE> --case <FILE>\n",
         ),
     ];
     for (words, start) in rows {

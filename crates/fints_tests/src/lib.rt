@@ -27,6 +27,8 @@ mod plans;
 #[cfg(test)]
 mod reports;
 #[cfg(test)]
+mod runs;
+#[cfg(test)]
 mod script_faults;
 #[cfg(test)]
 mod script_limits;
