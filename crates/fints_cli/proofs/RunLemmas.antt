@@ -1,5 +1,5 @@
 -- The messages of a run are of the script's steps, and what refuses an input of `run` is the refusal of the call.
-use Rattle.std.proofs.Common.{◌≡◌, ◌∙◌, ◌≤◌, ◌-◌, ◌++◌, ℕ, zero, suc, codes, List, [], ◌∷◌, length, inl, inr, ap, sym, subst, Option, None, Some, IfSome, All, arith}
+use Rattle.std.proofs.Common.{◌≡◌, ◌≤◌, ◌-◌, ℕ, zero, suc, List, [], ◌∷◌, length, inl, inr, ap, sym, subst, Option, Some, All, arith}
 use Rattle.std.specs.Prelude.{slice_get}
 use Rattle.std.proofs.lemmas.Option.{slice_get_within}
 use Rattle.std.proofs.lemmas.List.Elements.{All-nil, All-cons}
@@ -8,8 +8,7 @@ use Rattle.fints_rules.specs.declared.orders.TableFault.{TableFault}
 use Rattle.fints_rules.specs.declared.orders.TableFault.TheVariants as orders
 use Rattle.fints_rules.specs.Orders.{DenotesTable, IsTableFault}
 use Rattle.fints_script.specs.Cases.{IsRefusal}
-use Rattle.fints_script.specs.Plans.{IsClosed, IsPlanFault}
-use Rattle.fints_script.specs.Scripts.{ScriptValue, Denotes, Refuses, IsFirstOf, at_top}
+use Rattle.fints_script.specs.Scripts.{ScriptValue, Refuses, IsFirstOf}
 use Rattle.fints_script.specs.Sound.{numbered}
 use Rattle.fints_script.specs.Steps.{StepValue}
 use Rattle.fints_script.specs.declared.case_fault.CaseFault.{CaseFault}
@@ -17,7 +16,6 @@ use Rattle.fints_script.specs.declared.case_fault.CaseFault.TheVariants as cases
 use Rattle.fints_script.specs.declared.fault.FaultKind.{FaultKind}
 use Rattle.fints_script.specs.declared.fault.FaultKind.TheVariants as kinds
 use Rattle.fints_script.specs.declared.fault.ScriptFault.{ScriptFault}
-use Rattle.fints_script.specs.declared.opens.PlanFault.{PlanFault}
 use Rattle.fints_script.specs.declared.values.NamedValue.{NamedValue}
 use Rattle.fints_wire.specs.Runs.{start, IsSent, AreSent, Run}
 use Rattle.fints_wire.specs.declared.dialogue.Sent.{Sent}
@@ -28,7 +26,7 @@ use Rattle.fints_cli.specs.declared.fault.Fault.{Fault}
 use Rattle.fints_cli.specs.declared.fault.Fault.TheVariants.{Memory, Orders, Script, Plan, Case, NotAdmitted}
 use Rattle.fints_cli.specs.Commands.{RunsFiles, IsRunFailure, FailsToRun}
 use Rattle.fints_cli.specs.Fault.{order_fault_of, kind_fault_of, script_fault_of, case_fault_of}
-use Rattle.fints_cli.specs.RunText.{name_in, IsOfStep, TellsRun, TellsCase, ArePlan, IsRunOf, IsCaseRefusal, IsRunRefusal}
+use Rattle.fints_cli.specs.RunText.{name_in, IsOfStep, ArePlan, IsRunOf, IsCaseRefusal, IsRunRefusal}
 use Rattle.fints_cli.specs.Streams.{IsFile}
 use Rattle.fints_cli.proofs.JudgeLemmas.{of_files}
 

@@ -1,7 +1,7 @@
 //! The text of `run`: the messages that a client sends under a case.
-ghost use Rattle.std.specs.Prelude.{◌≡◌, ◌++◌, length, OnOk, IfOk, IfErr};
+ghost use Rattle.std.specs.Prelude.{◌≡◌, ◌++◌, OnOk, IfOk, IfErr};
 ghost use Rattle.std.specs.List.{All};
-ghost use Rattle.fints_script.specs.Plans.{Admits, IsClosed};
+ghost use Rattle.fints_script.specs.Plans.{Admits};
 ghost use Rattle.fints_cli.specs.RunText.{line_of, message_text, run_text, IsOfStep, TellsRun, TellsCase, IsRunOf, IsCaseRefusal, IsRunRefusal};
 
 use crate::fault::Fault;

@@ -143,7 +143,18 @@ fn usage_faults(rt: HostRuntime) {
 #[test]
 fn help(rt: HostRuntime) {
     let rows: [(&[&str], &[u8]); 5] = [
-        (&["--help"], b"Checks FinTS 3.0 dialogue scripts\n"),
+        (
+            &["--help"],
+            b"Checks FinTS 3.0 dialogue scripts
+
+Usage: fints <COMMAND>
+
+Commands:
+  show   Shows what a capture says of the bank and the user
+  judge  Names the rules that a message breaks
+  run    Prints the messages that a client sends under a case
+",
+        ),
         (&["-h"], b"Checks FinTS 3.0 dialogue scripts\n"),
         (
             &["show", "--help"],

@@ -147,7 +147,7 @@ fn listed() -> [(&'static str, Option<FaultKind>); 16] {
             Some(FaultKind::Limit),
         ),
         (
-            r#"field = [{name = "x", class = "plain", min = 0, max = 1}, {name = "x", class = "plain", min = 0, max = 1}]"#,
+            r#"field = [{name = "x", class = "text", min = 0, max = 1}, {name = "x", class = "plain", min = 0, max = 1}]"#,
             Some(FaultKind::Duplicate),
         ),
         (r#"field = [1]"#, Some(FaultKind::WrongKind)),
