@@ -8,7 +8,7 @@ use Rattle.fints_script.specs.Steps.{StepValue}
 use Rattle.fints_script.specs.declared.values.NamedValue.{NamedValue}
 use Rattle.fints_script.specs.declared.answers.Target.{Target}
 use Rattle.fints_script.specs.declared.answers.Target.TheVariants.{Step, Again, Stop}
-use Rattle.fints_wire.specs.Runs.{start, answered, After, Follows, Finishes, Enters, Ends, IsSent, AreSent, Run}
+use Rattle.fints_wire.specs.Runs.{start, answered, After, Follows, Finishes, Enters, Ends, IsWithin, IsSent, AreSent, Run}
 use Rattle.fints_wire.specs.declared.dialogue.Visit.{Visit}
 use Rattle.fints_wire.specs.declared.dialogue.Sent.{Sent}
 use Rattle.fints_wire.proofs.Onward.{numbered_at, numbered_within, numbered_holds, answered_onward}
@@ -44,19 +44,12 @@ follow_small script v w codes sound s f =
     let same : s.step ≡ f.step = same_Some s.step f.step (sym s.at ∙ f.at) in
     small_enters script v w s (answered s.step codes) sound (answered_onward script v.step s.step codes sound s.at) (subst (λ (x : StepValue). Enters x.repeat v (answered x codes) w) (sym same) f.enters)
 
-pub record IsInRange (steps : List StepValue) (v : Visit) : Type 0 where
-  pub from : 1 ≤ v.step
-  pub to : v.step ≤ length steps
-  pub first : 1 ≤ v.number
-  pub last : v.number < 99999
-  pub times : v.times ≤ 99
-
-pub small_range : (script : ScriptValue) (v : Visit) → IsSound script → IsSmall script.steps v → IsInRange script.steps v
+pub small_range : (script : ScriptValue) (v : Visit) → IsSound script → IsSmall script.steps v → IsWithin script.steps v
 small_range script v sound s =
     let within = numbered_within script.steps v.step s.step s.at in
     let often = (step_of script v.step s.step sound s.at).often in
     let low = s.low in let number = s.number in let few = sound.few_steps in let high = within.1 in
-    record { from = within.0; to = within.1; first = s.first; last = omega (arith, often, low, number, few, high); times = omega (arith, often, low) }
+    record { from = within.0; to = within.1; first = s.first; last = omega (arith, often, low, number, few, high); often = omega (arith, often, low) }
 
 -- ---- a run as it goes
 

@@ -9,11 +9,13 @@ use Rattle.fints_script.specs.Steps.{StepValue}
 use Rattle.fints_script.specs.declared.answers.Target.{Target}
 use Rattle.fints_script.specs.declared.answers.Target.TheVariants.{Step, Again, Stop}
 use Rattle.fints_script.specs.declared.values.NamedValue.{NamedValue}
-use Rattle.fints_wire.specs.Runs.{start, answered, After, Follows, Enters, last_of, sent_of, IsSent, AreSent, Run}
+use Rattle.fints_wire.specs.Runs.{start, answered, After, Follows, Enters, last_of, sent_of, Arrives, Reach, IsWithin, IsSent, AreSent, Run}
+use Rattle.fints_wire.specs.Runs.Reach.{first, onward}
 use Rattle.fints_wire.specs.Views.{MessagesAreRead, IsReadAs}
 use Rattle.fints_wire.specs.declared.dialogue.Visit.{Visit}
 use Rattle.fints_wire.specs.declared.dialogue.Sent.{Sent}
 use Rattle.fints_wire.proofs.Onward.{numbered_from, answered_onward}
+use Rattle.fints_wire.proofs.Reaching.{reach_from_run}
 use Rattle.fints_wire.proofs.Running.{IsSmall, step_of, follow_small, small_range, small_start}
 use Rattle.fints_wire.proofs.Weighing.{message_light}
 
@@ -38,6 +40,15 @@ module _ (read : MessagesAreRead) (script : ScriptValue) (values : List NamedVal
 
 pub run_read : MessagesAreRead → (script : ScriptValue) (values : List NamedValue) (answers : List (List ℕ)) (sent : List Sent) → IsSound script → Admits script.fields values → Run script values answers sent → AllByRecursion (IsReadAs script values) sent
 run_read read script values answers sent sound admits run = all_read read script values sound admits start answers run.later sent (small_start script sound) run.after run.messages
+
+-- ---- what is reached
+
+reach_small : (script : ScriptValue) (v : Visit) → IsSound script → Reach script.steps v → IsSmall script.steps v
+reach_small script _ sound first = small_start script sound
+reach_small script w sound (onward {v} codes a r f) = follow_small script v w codes sound (reach_small script v sound r) f
+
+pub arrives_within : (script : ScriptValue) (v : Visit) → IsSound script → Arrives script.steps v → IsWithin script.steps v
+arrives_within script v sound run = small_range script v sound (reach_small script v sound (reach_from_run script.steps v run))
 
 -- ---- how many of a step
 

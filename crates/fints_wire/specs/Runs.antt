@@ -71,6 +71,14 @@ pub record Arrives (steps : List StepValue) (v : Visit) : Type 0 where
   pub after : After steps start answers later
   pub last : last_of start later ≡ v
 
+-- the step is there, the number is at most 19,800, and at most 99 messages were sent in a row
+pub record IsWithin (steps : List StepValue) (v : Visit) : Type 0 where
+  pub from : 1 ≤ v.step
+  pub to : v.step ≤ length steps
+  pub first : 1 ≤ v.number
+  pub last : v.number ≤ 19800
+  pub often : v.times ≤ 99
+
 -- these answers, all of them used, lead to v
 pub record RouteTo (steps : List StepValue) (answers : List (List ℕ)) (v : Visit) : Type 0 where
   pub each : AllByRecursion IsAnswer answers

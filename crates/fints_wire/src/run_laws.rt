@@ -7,7 +7,7 @@ ghost use Rattle.fints_script.specs.Scripts.{ScriptValue};
 ghost use Rattle.fints_script.specs.Sound.{IsSound};
 ghost use Rattle.fints_script.specs.Steps.{StepValue};
 ghost use Rattle.fints_script.specs.declared.values.NamedValue.{NamedValue};
-ghost use Rattle.fints_wire.specs.Runs.{start, last_of, sent_of, After, Follows, Arrives, Reach, RouteTo, IsSent, Run, SendsLast, EndsIn};
+ghost use Rattle.fints_wire.specs.Runs.{start, last_of, sent_of, After, Follows, Arrives, Reach, RouteTo, IsWithin, IsSent, Run, SendsLast, EndsIn};
 ghost use Rattle.fints_wire.specs.Views.{IsReadAs};
 ghost use Rattle.fints_wire.specs.declared.dialogue.Visit.{Visit};
 ghost use Rattle.fints_wire.specs.declared.dialogue.Sent.{Sent};
@@ -29,6 +29,11 @@ pub fn runs_by_steps()
 /// What is sent next is what the answer fires from the step of the message before it.
 pub fn each_follows()
     ensures { (steps : List StepValue) (v : Visit) (answers : List (List ℕ)) (codes : List ℕ) (later : List Visit) (w : Visit) → After steps v (codes ∷ answers) (w ∷ later) → Follows steps v codes w }
+{}
+
+/// What runs send is of steps that are there, with numbers of at most 19,800.
+pub fn visits_are_within()
+    ensures { (script : ScriptValue) (v : Visit) → IsSound script → Arrives script.steps v → IsWithin script.steps v }
 {}
 
 /// How many messages of a step were sent in a row is how many the run has sent of it: no answer leads

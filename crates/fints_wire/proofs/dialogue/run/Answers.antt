@@ -13,10 +13,10 @@ pub follow-requires-clause-to : goal.follow-requires-clause-to
 follow-requires-clause-to c = (small_range c.args.plan.now.script c.loop-answer.here c.step_count-count.ensures.sound c.loop-answer.invariant.small).to
 
 pub follow-requires-clause-number : goal.follow-requires-clause-number
-follow-requires-clause-number c = (small_range c.args.plan.now.script c.loop-answer.here c.step_count-count.ensures.sound c.loop-answer.invariant.small).last
+follow-requires-clause-number c = let last = (small_range c.args.plan.now.script c.loop-answer.here c.step_count-count.ensures.sound c.loop-answer.invariant.small).last in omega (arith, last)
 
 pub follow-requires-clause-times : goal.follow-requires-clause-times
-follow-requires-clause-times c = (small_range c.args.plan.now.script c.loop-answer.here c.step_count-count.ensures.sound c.loop-answer.invariant.small).times
+follow-requires-clause-times c = (small_range c.args.plan.now.script c.loop-answer.here c.step_count-count.ensures.sound c.loop-answer.invariant.small).often
 
 run_over : (c : goal.In-None) → Run c.args.plan.now.script c.args.values.now c.args.answers.now c.loop-answer.sent.items
 run_over c =
