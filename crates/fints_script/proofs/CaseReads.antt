@@ -8,7 +8,7 @@ use Rattle.std.specs.Option.{ForSome}
 use Rattle.std.proofs.lemmas.List.{append_assoc, append-nil, length-append, map-append}
 use Rattle.std.proofs.lemmas.List.Elements.{All-cons, All-nil, All-head, All-tail, All-push, All-weaker}
 use Rattle.std.proofs.lemmas.List.Quantifiers.{all_pairs_push}
-use Rattle.fints_script.specs.Names.{IsNameByte}
+use Rattle.fints_fields.specs.Names.{IsNameByte}
 use Rattle.fints_script.specs.Answers.{IsAnswer}
 use Rattle.fints_script.specs.Cases.{field_text, answer_text, case_lines, text_of_lines, case_text, AreFields, IsNamedValue, IsCase, IsCaseOf, OneCase, BeginsCase, IsFirstBadLine}
 use Rattle.fints_script.specs.CaseReading.{IsCaseLine, line_text, IsNext, values_with, answers_with, IsBegun, HasNoLine, IsLineTaken}

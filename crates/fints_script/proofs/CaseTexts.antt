@@ -13,7 +13,7 @@ use Rattle.hex.specs.Hex.{encode_lower, decode_of, lower_digits, IsBytes, is_hex
 use Rattle.hex.specs.declared.error.FromHexError.{FromHexError}
 use Rattle.hex.proofs.HexLemmas.{decode_of-encode_lower, decode_of-ok, length-encode_with}
 use Rattle.fints_params.specs.Feedback.{code_in}
-use Rattle.fints_script.specs.Names.{IsName, IsNameByte}
+use Rattle.fints_fields.specs.Names.{IsName, IsNameByte}
 use Rattle.fints_script.specs.Patterns.{code_text}
 use Rattle.fints_script.specs.Answers.{IsAnswer}
 use Rattle.fints_script.specs.Cases.{value_text, field_text, codes_text, answer_text, IsNamedValue}

@@ -14,8 +14,8 @@ use Rattle.fints_script.specs.Entries.{has_key, is_name, is_no_name, text_at}
 use Rattle.fints_script.specs.FaultOrder.{first_kind, kind_order}
 use Rattle.fints_script.specs.FieldFaults.{account_has, bounds_have, class_has, class_of, field_fault, field_has, is_bin, is_item_count, is_no_class, is_taken, is_value_count, items_have, lacks_keys, listed_have, same_text, same_texts, same_value, some_are_same, text_has, value_has, values_have}
 use Rattle.fints_script.specs.FieldTables.{account_value, listed, text_value, AreAccounts, AreBounds, AreTexts, HasName, IsCleanClass}
-use Rattle.fints_script.specs.Listed.{IsAccountList, IsShort}
-use Rattle.fints_script.specs.Names.{IsName}
+use Rattle.fints_fields.specs.Listed.{IsAccountList, IsShort}
+use Rattle.fints_fields.specs.Names.{IsName}
 use Rattle.fints_script.specs.Texts.{is_latin1, latin1}
 use Rattle.fints_script.specs.declared.fault.FaultKind.{FaultKind}
 use Rattle.fints_script.specs.declared.fault.FaultKind.TheVariants as kinds

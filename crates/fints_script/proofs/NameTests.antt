@@ -3,7 +3,7 @@ use Rattle.std.proofs.Common.{◌≡◌, ◌↔◌, ℕ, Bool, true, false, ◌&
 use Rattle.std.proofs.lemmas.Bool.Decides.{nat_tests}
 use Rattle.std.proofs.lemmas.List.Sums.{AllPass-from_list_all, list_all-from_AllPass}
 use Rattle.std.specs.List.{list_all}
-use Rattle.fints_script.specs.Names.{IsName, IsNameByte}
+use Rattle.fints_fields.specs.Names.{IsName, IsNameByte}
 use Rattle.fints_script.specs.Entries.{is_name, is_name_byte}
 
 byte_holds : (b : ℕ) → is_name_byte b ≡ true → IsNameByte b

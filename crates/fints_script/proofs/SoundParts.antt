@@ -14,8 +14,8 @@ use Rattle.fints_syntax.specs.Kind.{IsKindText, kind_from}
 use Rattle.fints_rules.specs.Document.{item_list, number_between}
 use Rattle.fints_script.specs.declared.fault.FaultKind.{FaultKind}
 use Rattle.fints_script.specs.declared.fault.FaultKind.TheVariants as kinds
-use Rattle.fints_script.specs.declared.field.Field.{Field}
-use Rattle.fints_script.specs.declared.field.Field.TheVariants as classes
+use Rattle.fints_fields.specs.declared.field.Field.{Field}
+use Rattle.fints_fields.specs.declared.field.Field.TheVariants as classes
 use Rattle.fints_script.specs.declared.fields.NamedField.{NamedField}
 use Rattle.fints_script.specs.declared.template.TemplateItem.{TemplateItem}
 use Rattle.fints_script.specs.declared.template.TemplateItem.TheVariants as items
@@ -23,7 +23,7 @@ use Rattle.fints_script.specs.declared.template.Template.{Template}
 use Rattle.fints_script.specs.declared.template.Signer.{Signer}
 use Rattle.fints_script.specs.FaultOrder.{first_kind, kind_order}
 use Rattle.fints_script.specs.Faults.{or_later}
-use Rattle.fints_script.specs.Fields.{field_most_items}
+use Rattle.fints_fields.specs.Fields.{field_most_items}
 use Rattle.fints_script.specs.Figures.{figures_of}
 use Rattle.fints_script.specs.NamedFields.{is_account, is_account_at}
 use Rattle.fints_script.specs.Entries.{has_key, text_at}

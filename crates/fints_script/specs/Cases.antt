@@ -2,7 +2,7 @@
 use Rattle.std.specs.Prelude.{ℕ, ◌+◌, ◌≡◌, ◌≢◌, ◌<◌, ◌≤◌, List, [], ◌∷◌, ◌++◌, codes, length, map, slice_get, IsSomeAnd}
 use Rattle.std.specs.List.{All, AllPairs, flat_map}
 use Rattle.hex.specs.Hex.{encode_lower}
-use Rattle.fints_script.specs.Names.{IsName}
+use Rattle.fints_fields.specs.Names.{IsName}
 use Rattle.fints_script.specs.Patterns.{code_text}
 use Rattle.fints_script.specs.Answers.{IsAnswer}
 use Rattle.fints_script.specs.declared.values.NamedValue.{NamedValue}

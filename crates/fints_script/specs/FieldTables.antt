@@ -1,15 +1,15 @@
 -- Which field an entry of `field` denotes.
 use Rattle.std.specs.Prelude.{codes, ◌≡◌, ◌≢◌, ℕ, ◌≤◌, pos, List, [], length, map, All, Option, Some, None}
 use Rattle.std.specs.List.{AllPairs}
-use Rattle.fints_script.specs.Listed.{IsAccountList, IsShort}
+use Rattle.fints_fields.specs.Listed.{IsAccountList, IsShort}
 use Rattle.toml.specs.Data.{Data, string, integer, array, table, Members, get_member}
 use Rattle.fints_rules.specs.Document.{item_list}
 use Rattle.fints_script.specs.Entries.{text_at}
 use Rattle.fints_script.specs.FieldFaults.{class_of, field_fault}
-use Rattle.fints_script.specs.Names.{IsName}
+use Rattle.fints_fields.specs.Names.{IsName}
 use Rattle.fints_script.specs.Texts.{latin1}
-use Rattle.fints_script.specs.declared.field.Field.{Field}
-use Rattle.fints_script.specs.declared.field.Field.TheVariants as fields
+use Rattle.fints_fields.specs.declared.field.Field.{Field}
+use Rattle.fints_fields.specs.declared.field.Field.TheVariants as fields
 use Rattle.fints_script.specs.declared.field_class.ClassName.{ClassName}
 use Rattle.fints_script.specs.declared.field_class.ClassName.TheVariants as names
 

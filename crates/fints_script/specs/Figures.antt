@@ -1,5 +1,5 @@
 -- What a field counts for in a limit.
-use Rattle.fints_script.specs.Fields.{field_written, field_longest, field_most_items}
+use Rattle.fints_fields.specs.Fields.{field_written, field_longest, field_most_items}
 use Rattle.fints_script.specs.declared.fields.NamedField.{NamedField}
 use Rattle.fints_script.specs.declared.weights.Figures.{Figures}
 

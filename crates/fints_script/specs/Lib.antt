@@ -1,6 +1,3 @@
-pub mod Names
-pub mod NameFields
-pub mod Fields
 pub mod ItemTexts
 pub mod Entries
 pub mod Texts
@@ -12,15 +9,7 @@ pub mod Weights
 pub mod Tables
 pub mod Signers
 pub mod Steps
-pub mod Joined
 pub mod Around
-pub mod Lengths
-pub mod Classes
-pub mod ClassLaws
-pub mod Listed
-pub mod AccountFields
-pub mod ListedLaws
-pub mod FieldLaws
 pub mod NamedFields
 pub mod Figures
 pub mod FieldFaults

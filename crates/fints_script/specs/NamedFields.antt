@@ -1,8 +1,8 @@
 -- Fields by their names.
 use Rattle.std.specs.Prelude.{ℕ, Bool, true, false, List, position, slice_get, Option, Some, None, option_and_then}
 use Rattle.std.specs.Str.{bytes_eq}
-use Rattle.fints_script.specs.declared.field.Field.{Field}
-use Rattle.fints_script.specs.declared.field.Field.TheVariants.{Account}
+use Rattle.fints_fields.specs.declared.field.Field.{Field}
+use Rattle.fints_fields.specs.declared.field.Field.TheVariants.{Account}
 use Rattle.fints_script.specs.declared.fields.NamedField.{NamedField}
 
 abbrev pub is_field_named : List ℕ → NamedField → Bool

@@ -6,7 +6,7 @@ use Rattle.fints_rules.specs.Orders.{form_of}
 use Rattle.fints_rules.specs.declared.orders.OrderRow.{OrderRow}
 use Rattle.fints_rules.specs.declared.orders.AccountForm.{AccountForm}
 use Rattle.fints_rules.specs.declared.orders.AccountForm.TheVariants as forms
-use Rattle.fints_script.specs.Fields.{field_domain}
+use Rattle.fints_fields.specs.Fields.{field_domain}
 use Rattle.fints_script.specs.NamedFields.{is_account_at}
 use Rattle.fints_script.specs.Scripts.{ScriptValue}
 use Rattle.fints_script.specs.Steps.{StepValue}

@@ -16,8 +16,8 @@ use Rattle.fints_script.specs.declared.fault.FaultKind.{FaultKind}
 use Rattle.fints_script.specs.declared.fault.FaultKind.TheVariants as kinds
 use Rattle.fints_script.specs.declared.fault.Place.TheVariants as places
 use Rattle.fints_script.specs.declared.fault.ScriptFault.{ScriptFault}
-use Rattle.fints_script.specs.declared.field.Field.{Field}
-use Rattle.fints_script.specs.declared.field.Field.TheVariants as fields
+use Rattle.fints_fields.specs.declared.field.Field.{Field}
+use Rattle.fints_fields.specs.declared.field.Field.TheVariants as fields
 use Rattle.fints_script.specs.declared.fields.NamedField.{NamedField}
 use Rattle.fints_script.specs.declared.template.TemplateItem.{TemplateItem}
 use Rattle.fints_script.specs.declared.template.Signer.{Signer}

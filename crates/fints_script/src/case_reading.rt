@@ -9,7 +9,7 @@ ghost use Rattle.fints_script.specs.CaseReading.{IsSplit, IsReadAs, IsCapital, I
 
 use crate::case::{Answer, Case};
 use crate::case_fault::CaseFault;
-use crate::name::Name;
+use fints_fields::Name;
 use crate::values::{NamedValue, Values};
 use fints_params::Code;
 use fints_syntax::{Bytes, Memory};

@@ -6,9 +6,8 @@ ghost use Rattle.fints_script.specs.RowFaults.{RefusesRow};
 ghost use Rattle.fints_script.specs.Scripts.{look_at_field, AreFields, IsDialogField};
 ghost use Rattle.fints_script.specs.declared.fault.Place.TheVariants as places;
 
-use crate::counted::Text;
+use fints_fields::{Field, Text};
 use crate::fault::{Place, ScriptFault};
-use crate::field::Field;
 use crate::field_faults::field_fault;
 use crate::field_values::field_of;
 use crate::fields::NamedField;

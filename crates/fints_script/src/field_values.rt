@@ -6,14 +6,11 @@ ghost use Rattle.fints_script.specs.Entries.{text_at};
 ghost use Rattle.fints_script.specs.FieldFaults.{class_of};
 ghost use Rattle.fints_script.specs.FieldTables.{AreAccounts, AreBounds, AreTexts, HasBounds, HasClass, HasName, IsCleanClass, IsFaultless, IsFieldOf, IsNumber, account_value, listed, text_value};
 
-use crate::counted::{Bin, Digits, Plain, Text};
 use crate::entries::text_at;
-use crate::field::Field;
 use crate::field_class::{ClassName, class_of};
-use crate::listed::AccountValue;
-use crate::listing::{Account, OneOf, of_accounts, of_texts};
-use crate::lists::{Accounts, Texts};
-use crate::name::Name;
+use fints_fields::{
+    Account, AccountValue, Accounts, Bin, Digits, Field, Name, OneOf, Plain, Text, Texts,
+};
 use crate::text;
 use fints_rules::document::{member, number_between};
 use fints_syntax::{Bytes, Memory};
@@ -111,7 +108,10 @@ fn one_of(alloc: Global, values: &[Value]) -> Result<OneOf, Memory>
     ensures { IfOk result (λ c. c.values ≡ map text_value (map view values.now)) }
 {
     let texts = texts_of(alloc, values)?;
-    Ok(of_texts(texts))
+    match OneOf::new(texts) {
+        Some(class) => Ok(class),
+        None => unreachable!(),
+    }
 }
 
 fn account(alloc: Global, values: &[Value]) -> Result<Account, Memory>
@@ -119,7 +119,10 @@ fn account(alloc: Global, values: &[Value]) -> Result<Account, Memory>
     ensures { IfOk result (λ c. c.values ≡ map account_value (map view values.now)) }
 {
     let accounts = accounts_of(alloc, values)?;
-    Ok(of_accounts(accounts))
+    match Account::new(accounts) {
+        Some(class) => Ok(class),
+        None => unreachable!(),
+    }
 }
 
 fn number_of(value: Option<&Value>) -> Option<u16>

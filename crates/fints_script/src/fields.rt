@@ -2,8 +2,7 @@
 ghost use Rattle.std.specs.Prelude.{◌≡◌};
 ghost use Rattle.fints_script.specs.NamedFields.{place_of_field, is_account_named, is_field_named, is_account};
 
-use crate::field::Field;
-use crate::name::Name;
+use fints_fields::{Field, Name};
 
 /// A field with its name.
 #[derive(Debug, Drop)]

@@ -4,7 +4,7 @@ ghost use Rattle.fints_script.specs.Plans.{IsClosed, IsPlanFault, IsChosen, Admi
 ghost use Rattle.fints_script.specs.Scripts.{IsRead};
 ghost use Rattle.fints_script.specs.Sound.{IsSound};
 
-use crate::class::FieldClass;
+use fints_fields::FieldClass;
 use crate::fields::NamedField;
 use crate::opens::{PlanFault, first_fault};
 use crate::script::Script;

@@ -13,7 +13,7 @@ use crate::around::Around;
 use crate::branches::{branches_of, target_value};
 use crate::entries::text_at;
 use crate::fault::FaultKind;
-use crate::name::Name;
+use fints_fields::Name;
 use crate::segments::templates_of;
 use crate::step_faults::{first_kind, place_of_signer};
 use crate::tables::{is_set, name_value, number_or, rows_of};

@@ -4,7 +4,7 @@ ghost use Rattle.toml.specs.View.{view, table_view};
 ghost use Rattle.fints_script.specs.Tables.{name_of, name_value, is_outside, number_or, is_no_integer, is_no_text, is_no_flag, is_no_array, is_set, rows_of, is_no_list};
 
 use crate::entries::{is_name, text_at};
-use crate::name::Name;
+use fints_fields::Name;
 use fints_rules::document;
 use toml::{Table, Value};
 

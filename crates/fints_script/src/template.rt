@@ -1,7 +1,7 @@
 //! Templates of segments: what stands in a message, with places for fields.
 ghost use Rattle.std.specs.Prelude.{◌≡◌, ◌++◌, ◌∷◌, [], map, OnOk, OnErr};
 
-use crate::name::Name;
+use fints_fields::Name;
 use fints_syntax::{Kind, Memory, OwnedItem};
 use std::alloc::Global;
 use std::marker::Model;

@@ -3,7 +3,7 @@ ghost use Rattle.std.specs.Prelude.{◌≡◌, [], ◌∷◌, ◌++◌, OnOk, On
 ghost use Rattle.std.specs.Option.{option_map, option_copied};
 ghost use Rattle.std.specs.Str.{bytes_eq};
 
-use crate::name::Name;
+use fints_fields::Name;
 use fints_syntax::{Bytes, Memory};
 use std::alloc::Global;
 use std::marker::Model;

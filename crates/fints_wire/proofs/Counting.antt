@@ -15,7 +15,7 @@ use Rattle.fints_syntax.specs.declared.item.OwnedSegment.{OwnedSegment}
 use Rattle.fints_syntax.specs.Segment.{token_bytes, element_tokens, segment_tokens}
 use Rattle.fints_syntax.specs.Spelling.{is_separator, text_bytes, unit_bytes, written, written_item, written_unit}
 use Rattle.fints_syntax.specs.Written.{element_text, elements_text, head_items, segment_values, written_elements, written_segment}
-use Rattle.fints_script.specs.Lengths.{text_len}
+use Rattle.fints_fields.specs.Lengths.{text_len}
 use Rattle.fints_script.specs.Scripts.{ScriptValue}
 use Rattle.fints_script.specs.Steps.{StepValue}
 use Rattle.fints_script.specs.Weights.{total}

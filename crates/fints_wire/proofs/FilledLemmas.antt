@@ -5,7 +5,7 @@ use Rattle.std.specs.Option.{IfSome}
 use Rattle.std.proofs.lemmas.Bool.{cases_Bool}
 use Rattle.std.proofs.lemmas.List.{length-append}
 use Rattle.std.proofs.lemmas.List.Elements.{All-append, All-head, All-map, All-nil, All-tail}
-use Rattle.fints_script.specs.FieldLaws.{has_some_item}
+use Rattle.fints_fields.specs.FieldLaws.{has_some_item}
 use Rattle.fints_script.specs.Plans.{Admits, IsChosen}
 use Rattle.fints_script.specs.Scripts.{ScriptValue}
 use Rattle.fints_script.specs.Sound.{IsInRange, IsFrameElement, IsSound, IsSoundFrame, IsSoundStep}

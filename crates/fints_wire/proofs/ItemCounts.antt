@@ -10,16 +10,16 @@ use Rattle.fints_syntax.specs.declared.item.OwnedSegment.{OwnedSegment}
 use Rattle.fints_syntax.specs.Segment.{element_tokens, segment_tokens}
 use Rattle.fints_syntax.specs.Spelling.{Spelled, written_item}
 use Rattle.fints_syntax.specs.Written.{head_items, segment_values, written_elements, written_tree}
-use Rattle.fints_script.specs.FieldLaws.{has_few_items}
-use Rattle.fints_script.specs.Fields.{field_most_items}
+use Rattle.fints_fields.specs.FieldLaws.{has_few_items}
+use Rattle.fints_fields.specs.Fields.{field_most_items}
 use Rattle.fints_script.specs.Figures.{figures_of}
 use Rattle.fints_script.specs.Plans.{Admits, IsChosen}
 use Rattle.fints_script.specs.Scripts.{ScriptValue, IsDialogClass}
 use Rattle.fints_script.specs.Sound.{HasDialog, IsSound, IsSoundFrame, IsSoundStep}
 use Rattle.fints_script.specs.Steps.{StepValue}
 use Rattle.fints_script.specs.Weights.{element_count, item_count, items_in, no_figures, total}
-use Rattle.fints_script.specs.declared.field.Field.{Field}
-use Rattle.fints_script.specs.declared.field.Field.TheVariants as classes
+use Rattle.fints_fields.specs.declared.field.Field.{Field}
+use Rattle.fints_fields.specs.declared.field.Field.TheVariants as classes
 use Rattle.fints_script.specs.declared.fields.NamedField.{NamedField}
 use Rattle.fints_script.specs.declared.template.Template.{Template}
 use Rattle.fints_script.specs.declared.template.TemplateItem.{TemplateItem}

@@ -11,19 +11,19 @@ use Rattle.std.proofs.lemmas.List.Elements.{All-append, All-from_recursion, All-
 use Rattle.fints_syntax.specs.Kind.{IsKindByte, IsKindText}
 use Rattle.fints_syntax.specs.Spelling.{is_separator, written}
 use Rattle.fints_syntax.specs.declared.item.OwnedItem.{OwnedItem}
-use Rattle.fints_script.specs.ClassLaws.{text_len_marks}
-use Rattle.fints_script.specs.Fields.{field_items, field_longest, field_written}
-use Rattle.fints_script.specs.FieldLaws.{has_some_item, is_written_as_items, none_is_longer}
+use Rattle.fints_fields.specs.ClassLaws.{text_len_marks}
+use Rattle.fints_fields.specs.Fields.{field_items, field_longest, field_written}
+use Rattle.fints_fields.specs.FieldLaws.{has_some_item, is_written_as_items, none_is_longer}
 use Rattle.fints_script.specs.Figures.{figures_of}
-use Rattle.fints_script.specs.Joined.{joined}
-use Rattle.fints_script.specs.Lengths.{text_len}
+use Rattle.fints_fields.specs.Joined.{joined}
+use Rattle.fints_fields.specs.Lengths.{text_len}
 use Rattle.fints_script.specs.Plans.{Admits, IsChosen}
 use Rattle.fints_script.specs.Scripts.{ScriptValue, IsDialogClass, IsDialogField}
 use Rattle.fints_script.specs.Sound.{HasDialog, IsSound, IsSoundStep}
 use Rattle.fints_script.specs.Steps.{StepValue, seal_weight, signature_weight, weight_of_signer}
 use Rattle.fints_script.specs.Weights.{element_weight, item_weight, no_figures, segment_weight, signer_weight, total}
-use Rattle.fints_script.specs.declared.field.Field.{Field}
-use Rattle.fints_script.specs.declared.field.Field.TheVariants as classes
+use Rattle.fints_fields.specs.declared.field.Field.{Field}
+use Rattle.fints_fields.specs.declared.field.Field.TheVariants as classes
 use Rattle.fints_script.specs.declared.fields.NamedField.{NamedField}
 use Rattle.fints_script.specs.declared.template.Signer.{Signer}
 use Rattle.fints_script.specs.declared.template.Template.{Template}

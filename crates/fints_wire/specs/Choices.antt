@@ -1,6 +1,6 @@
 -- The choices of the longest and of the shortest values.
 use Rattle.std.specs.Prelude.{List, map}
-use Rattle.fints_script.specs.Fields.{field_longest, field_shortest}
+use Rattle.fints_fields.specs.Fields.{field_longest, field_shortest}
 use Rattle.fints_script.specs.declared.fields.NamedField.{NamedField}
 use Rattle.fints_script.specs.declared.values.NamedValue.{NamedValue}
 

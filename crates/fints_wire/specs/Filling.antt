@@ -4,7 +4,7 @@ use Rattle.std.specs.List.{flat_map}
 use Rattle.fints_syntax.specs.declared.item.OwnedItem.{OwnedItem}
 use Rattle.fints_syntax.specs.declared.item.OwnedItem.TheVariants.{Text}
 use Rattle.fints_syntax.specs.declared.item.OwnedSegment.{OwnedSegment}
-use Rattle.fints_script.specs.Fields.{field_items}
+use Rattle.fints_fields.specs.Fields.{field_items}
 use Rattle.fints_script.specs.declared.fields.NamedField.{NamedField}
 use Rattle.fints_script.specs.declared.values.NamedValue.{NamedValue}
 use Rattle.fints_script.specs.declared.template.TemplateItem.{TemplateItem}

@@ -4,7 +4,7 @@ use Rattle.std.specs.Fmt.{decimal}
 use Rattle.fints_syntax.specs.declared.item.OwnedItem.{OwnedItem}
 use Rattle.fints_syntax.specs.Spelling.{written}
 use Rattle.fints_syntax.specs.Written.{head_items}
-use Rattle.fints_script.specs.Fields.{field_longest, field_written}
+use Rattle.fints_fields.specs.Fields.{field_longest, field_written}
 use Rattle.fints_script.specs.declared.fields.NamedField.{NamedField}
 use Rattle.fints_script.specs.Scripts.{ScriptValue}
 use Rattle.fints_script.specs.Steps.{StepValue}

@@ -1,0 +1,5 @@
+pub mod Paddings
+pub mod Picks
+pub mod ListedSteps
+pub mod Greatest
+pub mod FirstOf

@@ -1,0 +1,11 @@
+pub mod Names
+pub mod NameFields
+pub mod Joined
+pub mod Lengths
+pub mod Classes
+pub mod ClassLaws
+pub mod Listed
+pub mod AccountFields
+pub mod ListedLaws
+pub mod Fields
+pub mod FieldLaws

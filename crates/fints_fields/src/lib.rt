@@ -1,0 +1,19 @@
+//! Fields of messages: their names, and the classes that say which values they may have.
+#![tactic(auto)]
+
+mod class;
+pub mod class_laws;
+mod counted;
+mod field;
+mod listed;
+mod listing;
+mod lists;
+mod name;
+
+pub use class::FieldClass;
+pub use counted::{Bin, Digits, Plain, Text};
+pub use field::Field;
+pub use listed::AccountValue;
+pub use listing::{Account, OneOf};
+pub use lists::{Accounts, Texts};
+pub use name::Name;
