@@ -85,7 +85,7 @@ pub struct OneOf {
 }
 
 /// A field of texts that may be listed.
-pub fn of_texts(values: Texts) -> OneOf
+fn of_texts(values: Texts) -> OneOf
     requires some { 1 ≤ length values }
     requires few { length values ≤ 100 }
     requires short { All IsShort values }
@@ -174,7 +174,7 @@ pub struct Account {
 
 /// A field of accounts that may be listed.
 #[tactic(auto, using(crate::proofs::Greatest::few_items))]
-pub fn of_accounts(values: Accounts) -> Account
+fn of_accounts(values: Accounts) -> Account
     requires some { 1 ≤ length values }
     requires few { length values ≤ 100 }
     requires each { All IsAccountList values }

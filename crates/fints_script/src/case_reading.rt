@@ -9,8 +9,8 @@ ghost use Rattle.fints_script.specs.CaseReading.{IsSplit, IsReadAs, IsCapital, I
 
 use crate::case::{Answer, Case};
 use crate::case_fault::CaseFault;
-use fints_fields::Name;
 use crate::values::{NamedValue, Values};
+use fints_fields::Name;
 use fints_params::Code;
 use fints_syntax::{Bytes, Memory};
 use hex::FromHexError;

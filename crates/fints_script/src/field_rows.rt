@@ -6,13 +6,13 @@ ghost use Rattle.fints_script.specs.RowFaults.{RefusesRow};
 ghost use Rattle.fints_script.specs.Scripts.{look_at_field, AreFields, IsDialogField};
 ghost use Rattle.fints_script.specs.declared.fault.Place.TheVariants as places;
 
-use fints_fields::{Field, Text};
 use crate::fault::{Place, ScriptFault};
 use crate::field_faults::field_fault;
 use crate::field_values::field_of;
 use crate::fields::NamedField;
 use crate::rows::placed;
 use crate::tables::dialog;
+use fints_fields::{Field, Text};
 use std::alloc::Global;
 use toml::Value;
 

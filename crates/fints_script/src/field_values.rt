@@ -8,10 +8,10 @@ ghost use Rattle.fints_script.specs.FieldTables.{AreAccounts, AreBounds, AreText
 
 use crate::entries::text_at;
 use crate::field_class::{ClassName, class_of};
+use crate::text;
 use fints_fields::{
     Account, AccountValue, Accounts, Bin, Digits, Field, Name, OneOf, Plain, Text, Texts,
 };
-use crate::text;
 use fints_rules::document::{member, number_between};
 use fints_syntax::{Bytes, Memory};
 use std::alloc::Global;

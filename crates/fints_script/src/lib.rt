@@ -38,12 +38,12 @@ mod weights;
 pub use answers::{Branch, Target};
 pub use case::{Answer, Case};
 pub use case_fault::CaseFault;
-pub use fints_fields::{
-    Account, AccountValue, Accounts, Bin, Digits, Field, FieldClass, Name, OneOf, Plain, Text, Texts,
-    class_laws,
-};
 pub use fault::{FaultKind, Place, ScriptFault};
 pub use fields::NamedField;
+pub use fints_fields::{
+    Account, AccountValue, Accounts, Bin, Digits, Field, FieldClass, Name, OneOf, Plain, Text,
+    Texts, class_laws,
+};
 pub use opens::PlanFault;
 pub use pattern::Pattern;
 pub use plan::Plan;

@@ -4,9 +4,9 @@ ghost use Rattle.std.specs.Fmt.{decimal};
 ghost use Rattle.fints_script.specs.Weights.{Spends, total, item_weight, element_weight, segment_weight, signer_weight, item_count, element_count, items_in, no_figures, MAX_ITEMS};
 ghost use Rattle.fints_script.specs.Figures.{figures_of};
 
-use fints_fields::FieldClass;
 use crate::fields::NamedField;
 use crate::template::{Signer, TemplateElements, TemplateItem};
+use fints_fields::FieldClass;
 use fints_syntax::{Memory, OwnedItem, decimal_len, written_len};
 use std::alloc::Global;
 
