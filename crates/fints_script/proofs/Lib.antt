@@ -26,3 +26,4 @@ pub mod SoundTargets
 pub mod SoundScripts
 pub mod SoundParts
 pub mod SoundSteps
+pub mod FieldPlaces

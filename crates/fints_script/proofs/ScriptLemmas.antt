@@ -13,20 +13,16 @@ use Rattle.fints_script.specs.Signers.{signer_of, seal_fault, seal_value}
 use Rattle.fints_script.specs.Steps.{Surroundings, StepValue, step_fault, step_of}
 use Rattle.fints_script.specs.Scripts.{HasFields, HasSeal, IsScriptOf, RefusesTable, surroundings, signer_rows, step_rows, look_at_signer}
 
-pub same_around : (ms : Members) (f g : List NamedField) (s t : List Signer) (o p : Option (List (List TemplateItem))) → f ≡ g → s ≡ t → o ≡ p → surroundings ms f s o ≡ surroundings ms g t p
-same_around ms f g s t o p a b d = ap (λ (x : List NamedField). surroundings ms x s o) a ∙ ap (λ (x : List Signer). surroundings ms g x o) b ∙ ap (λ (x : Option (List (List TemplateItem))). surroundings ms g t x) d
+pub same_around : (ms : Members) (fields : List NamedField) (s t : List Signer) (o p : Option (List (List TemplateItem))) → s ≡ t → o ≡ p → surroundings ms fields s o ≡ surroundings ms fields t p
+same_around ms fields s t o p b d = ap (λ (x : List Signer). surroundings ms fields x o) b ∙ ap (λ (x : Option (List (List TemplateItem))). surroundings ms fields t x) d
 
-pub has_seal : (ms : Members) (fields f g : List NamedField) (signers : List Signer) (seal : Option (List (List TemplateItem))) → HasFields ms fields → f ≡ fields → g ≡ fields
-    → AreClean (look_at_signer f (signer_rows ms)) (signer_rows ms) (length (signer_rows ms)) → signers ≡ map (signer_of f) (signer_rows ms)
-    → seal_fault g (get_member (codes "seal") ms) ≡ None → seal ≡ seal_value g (get_member (codes "seal") ms) → HasSeal ms fields signers seal
-has_seal ms fields f g signers seal has a b signers_clean signers_are seal_clean seal_is = record {
-  before = record {
-    before = has;
-    clean = subst (λ (fs : List NamedField). AreClean (look_at_signer fs (signer_rows ms)) (signer_rows ms) (length (signer_rows ms))) a signers_clean;
-    are = signers_are ∙ ap (λ (fs : List NamedField). map (signer_of fs) (signer_rows ms)) a;
-  };
-  clean = subst (λ (fs : List NamedField). seal_fault fs (get_member (codes "seal") ms) ≡ None) b seal_clean;
-  is = seal_is ∙ ap (λ (fs : List NamedField). seal_value fs (get_member (codes "seal") ms)) b;
+pub has_seal : (ms : Members) (fields : List NamedField) (signers : List Signer) (seal : Option (List (List TemplateItem))) → HasFields ms fields
+    → AreClean (look_at_signer fields (signer_rows ms)) (signer_rows ms) (length (signer_rows ms)) → signers ≡ map (signer_of fields) (signer_rows ms)
+    → seal_fault fields (get_member (codes "seal") ms) ≡ None → seal ≡ seal_value fields (get_member (codes "seal") ms) → HasSeal ms fields signers seal
+has_seal ms fields signers seal has signers_clean signers_are seal_clean seal_is = record {
+  before = record { before = has; clean = signers_clean; are = signers_are };
+  clean = seal_clean;
+  is = seal_is;
 }
 
 pub step_refused : (ms : Members) (fields : List NamedField) (signers : List Signer) (seal : Option (List (List TemplateItem))) (around : Surroundings) (f : ScriptFault) → HasSeal ms fields signers seal
@@ -40,16 +36,13 @@ step_refused ms fields signers seal around f before same (inr fault) =
     ]
 
 -- the script of its parts
-pub whole_script : (ms : Members) (fields f g k : List NamedField) (signers t : List Signer) (seal o : Option (List (List TemplateItem))) (steps : List StepValue) → HasFields ms fields
-    → f ≡ fields → g ≡ fields → k ≡ fields → t ≡ signers → o ≡ seal
-    → AreClean (look_at_signer f (signer_rows ms)) (signer_rows ms) (length (signer_rows ms)) → signers ≡ map (signer_of f) (signer_rows ms)
-    → seal_fault g (get_member (codes "seal") ms) ≡ None → seal ≡ seal_value g (get_member (codes "seal") ms)
-    → AreClean (step_fault (surroundings ms k t o)) (step_rows ms) (length (step_rows ms)) → steps ≡ map (step_of (surroundings ms k t o)) (step_rows ms)
+pub whole_script : (ms : Members) (fields : List NamedField) (signers t : List Signer) (seal o : Option (List (List TemplateItem))) (steps : List StepValue) → HasSeal ms fields signers seal → t ≡ signers → o ≡ seal
+    → AreClean (step_fault (surroundings ms fields t o)) (step_rows ms) (length (step_rows ms)) → steps ≡ map (step_of (surroundings ms fields t o)) (step_rows ms)
     → IsScriptOf ms (record { fields = fields; signers = signers; seal = seal; steps = steps })
-whole_script ms fields f g k signers t seal o steps has a b d e q signers_clean signers_are seal_clean seal_is steps_clean steps_are =
-    let around = same_around ms k fields t signers o seal d e q in
+whole_script ms fields signers t seal o steps before e q steps_clean steps_are =
+    let around = same_around ms fields t signers o seal e q in
     record {
-      before = has_seal ms fields f g signers seal has a b signers_clean signers_are seal_clean seal_is;
+      before = before;
       clean = subst (λ (x : Surroundings). AreClean (step_fault x) (step_rows ms) (length (step_rows ms))) around steps_clean;
       are = steps_are ∙ ap (λ (x : Surroundings). map (step_of x) (step_rows ms)) around;
     }

@@ -1,12 +1,11 @@
 -- What elements without faults keep.
-use Rattle.std.proofs.Common.{◌≡◌, ◌≢◌, ℕ, ◌+◌, ◌<◌, ◌≤◌, ◌⊎◌, Bool, true, false, ◌&&◌, ◌||◌, ◌==◌, not, cond, codes, List, [], ◌∷◌, length, get_or, map, nat_lt, All, Option, Some, None, refl, ap, subst, ◌∙◌, sym, inl, inr, arith}
+use Rattle.std.proofs.Common.{◌≡◌, ℕ, ◌+◌, ◌<◌, ◌≤◌, ◌⊎◌, Bool, true, false, ◌&&◌, ◌==◌, not, cond, codes, List, [], ◌∷◌, length, map, nat_lt, All, Option, Some, None, refl, ap, subst, ◌∙◌, sym, inl, inr, arith}
 use Rattle.std.specs.Prelude.{IsTrue, option_and_then, is_some, unwrap_or, slice_get, position}
 use Rattle.std.specs.List.{list_any, position_or_len}
 use Rattle.std.specs.Str.{bytes_eq}
 use Rattle.std.proofs.lemmas.Bool.{cases_Bool, false≢true}
 use Rattle.std.proofs.lemmas.Bool.Decides.{nat_tests}
-use Rattle.std.proofs.lemmas.Slice.Eq.{bytes_eq-Decides}
-use Rattle.std.proofs.lemmas.List.Elements.{All-cons, All-nil, All-map}
+use Rattle.std.proofs.lemmas.List.Elements.{All-cons, All-nil}
 use Rattle.toml.specs.Data.{Data, string, integer, float, boolean, datetime, array, table}
 use Rattle.fints_rules.specs.Document.{item_list}
 use Rattle.fints_script.specs.declared.fault.FaultKind.TheVariants as kinds
@@ -15,10 +14,10 @@ use Rattle.fints_script.specs.declared.template.TemplateItem.{TemplateItem}
 use Rattle.fints_script.specs.declared.template.TemplateItem.TheVariants.{Literal, Dialog, Field}
 use Rattle.fints_script.specs.NamedFields.{is_field_named, place_of_field, is_account_at, is_account_named}
 use Rattle.fints_script.specs.ItemTexts.{Reading, reference, hex, literal, reading_of}
-use Rattle.fints_script.specs.Elements.{reading_has, item_has, items_have, element_has, elements_have, reference_value, reading_value, item_value, element_value, elements_value}
+use Rattle.fints_script.specs.Elements.{reading_has, item_has, element_has, elements_have, reference_value, reading_value, item_value, element_value, elements_value}
 use Rattle.fints_script.specs.Plans.{is_account_field}
 use Rattle.fints_script.specs.Sound.{IsInRange, IsSingle, IsFrameElement, IsBodyElement}
-use Rattle.fints_script.proofs.CleanFields.{neither, not_false, both, none_has}
+use Rattle.fints_script.proofs.CleanFields.{neither, not_false}
 
 -- ---- the first place that passes
 
@@ -58,10 +57,7 @@ module _ (first : NamedField) (others : List NamedField) (named : first.name ≡
   fields = first ∷ others
 
   not_first : (name : List ℕ) → bytes_eq name (codes "dialog") ≡ false → is_field_named name first ≡ false
-  not_first name h = elim (cases_Bool (bytes_eq first.name name)) [
-    | inl e ↦ absurd (false≢true (sym h ∙ (bytes_eq-Decides name (codes "dialog")).1 (sym ((bytes_eq-Decides first.name name).0 e) ∙ named)))
-    | inr e ↦ e
-  ]
+  not_first name h = ap (bytes_eq name) named ∙ h
 
   pub reference_in_range : (name : List ℕ) → not (is_some (place_of_field (first ∷ others) name)) ≡ false → IsInRange (first ∷ others) (reference_value (first ∷ others) name)
   reference_in_range name h =

@@ -1,17 +1,12 @@
 -- What signers, the seal and the steps of a read script keep.
-use Rattle.std.proofs.Common.{◌≡◌, ℕ, ◌+◌, ◌<◌, ◌≤◌, Bool, true, false, ◌&&◌, ◌||◌, ◌==◌, not, cond, codes, List, [], ◌∷◌, length, get_or, map, drop, nat_lt, nat_le, All, Option, Some, None, refl, ap, subst, ◌∙◌, sym, inl, inr, arith}
-use Rattle.std.specs.Prelude.{IsTrue, pos, negsuc, option_and_then, is_some, unwrap_or, slice_get, IfSome, IsSome}
-use Rattle.std.specs.List.{list_any, find}
-use Rattle.std.specs.Str.{bytes_eq}
-use Rattle.std.proofs.lemmas.Bool.{cases_Bool, false≢true}
+use Rattle.std.proofs.Common.{◌≡◌, ℕ, ◌+◌, ◌<◌, ◌≤◌, Bool, true, false, codes, List, [], ◌∷◌, length, get_or, map, drop, nat_lt, All, Option, Some, None, refl, ap, subst, ◌∙◌, sym, arith}
+use Rattle.std.specs.Prelude.{slice_get, IfSome}
+use Rattle.std.proofs.lemmas.Bool.{false≢true}
 use Rattle.std.proofs.lemmas.Bool.Decides.{nat_tests}
-use Rattle.std.proofs.lemmas.Slice.Eq.{bytes_eq-Decides}
-use Rattle.std.proofs.lemmas.List.{get_or-map, length-map}
-use Rattle.std.proofs.lemmas.List.Elements.{All-cons, All-nil, All-map, All-head, All-tail}
+use Rattle.std.proofs.lemmas.List.{get_or-map}
+use Rattle.std.proofs.lemmas.List.Elements.{All-head, All-tail}
 use Rattle.std.proofs.lemmas.Option.{slice_get-get_or}
 use Rattle.toml.specs.Data.{Data, string, integer, float, boolean, datetime, array, table, Members, get_member}
-use Rattle.fints_syntax.specs.Kind.{IsKindText, kind_from}
-use Rattle.fints_rules.specs.Document.{item_list, number_between}
 use Rattle.fints_script.specs.declared.fault.FaultKind.{FaultKind}
 use Rattle.fints_script.specs.declared.fault.FaultKind.TheVariants as kinds
 use Rattle.fints_fields.specs.declared.field.Field.{Field}
@@ -19,18 +14,15 @@ use Rattle.fints_fields.specs.declared.field.Field.TheVariants as classes
 use Rattle.fints_script.specs.declared.fields.NamedField.{NamedField}
 use Rattle.fints_script.specs.declared.template.TemplateItem.{TemplateItem}
 use Rattle.fints_script.specs.declared.template.TemplateItem.TheVariants as items
-use Rattle.fints_script.specs.declared.template.Template.{Template}
-use Rattle.fints_script.specs.declared.template.Signer.{Signer}
 use Rattle.fints_script.specs.FaultOrder.{first_kind, kind_order}
 use Rattle.fints_script.specs.Faults.{or_later}
 use Rattle.fints_fields.specs.Fields.{field_most_items}
 use Rattle.fints_script.specs.Figures.{figures_of}
 use Rattle.fints_script.specs.NamedFields.{is_account, is_account_at}
-use Rattle.fints_script.specs.Entries.{has_key, text_at}
 use Rattle.fints_script.specs.Elements.{elements_have, elements_value}
 use Rattle.fints_script.specs.Weights.{total, item_count, element_count, items_in, no_figures, MAX_ITEMS}
 use Rattle.fints_script.specs.Signers.{signer_has, signer_value, signer_fault, signer_of, ends_have, has_many_items, limit_of, table_fault, seal_fault, seal_value}
-use Rattle.fints_script.specs.Sound.{IsInRange, IsSingle, IsFrameElement, IsBodyElement, HasFewItems, IsSoundFrame, IsSoundSigner}
+use Rattle.fints_script.specs.Sound.{IsInRange, IsSingle, IsFrameElement, IsSoundFrame, IsSoundSigner}
 use Rattle.fints_script.proofs.CleanFields.{neither, not_found, not_later}
 use Rattle.fints_script.proofs.SoundElements.{frame_elements}
 

@@ -1,6 +1,6 @@
 -- What every read script keeps.
 use Rattle.std.proofs.Common.{◌≡◌, ℕ, ◌+◌, ◌<◌, ◌≤◌, Bool, true, false, ◌&&◌, ◌||◌, not, codes, zero, suc, List, [], ◌∷◌, length, get_or, map, take, nat_lt, All, Option, Some, None, refl, ap, subst, ◌∙◌, sym, arith}
-use Rattle.std.specs.Prelude.{IsTrue, is_some, option_map, slice_get, IfSome, IsSome}
+use Rattle.std.specs.Prelude.{is_some, option_map, slice_get, IfSome}
 use Rattle.std.specs.List.{list_any}
 use Rattle.std.proofs.lemmas.Bool.{false≢true}
 use Rattle.std.proofs.lemmas.List.{get_or-map, length-map}
@@ -9,7 +9,6 @@ use Rattle.toml.specs.Data.{Data, string, integer, float, boolean, datetime, arr
 use Rattle.fints_script.specs.declared.fault.FaultKind.{FaultKind}
 use Rattle.fints_script.specs.declared.fault.FaultKind.TheVariants as kinds
 use Rattle.fints_script.specs.declared.fields.NamedField.{NamedField}
-use Rattle.fints_script.specs.declared.template.Template.{Template}
 use Rattle.fints_script.specs.declared.template.Signer.{Signer}
 use Rattle.fints_script.specs.declared.template.TemplateItem.{TemplateItem}
 use Rattle.fints_script.specs.FaultOrder.{first_kind}
@@ -17,10 +16,10 @@ use Rattle.fints_script.specs.Faults.{AreClean}
 use Rattle.fints_script.specs.Figures.{figures_of}
 use Rattle.fints_script.specs.Entries.{has_key}
 use Rattle.fints_script.specs.Tables.{is_set, is_no_array, is_no_list, is_no_flag, is_no_integer, rows_of, is_outside}
-use Rattle.fints_script.specs.Signers.{signer_of, signer_fault}
-use Rattle.fints_script.specs.Steps.{StepValue, Surroundings, segment_has, signature_has, branch_has, target_has, keys_have, parts_have, step_has, step_value, step_fault, step_of, is_too_large, step_weight, has_large_segment, counts_are_past, values_are_wrong, lacks_keys, template_of, MAX_WEIGHT}
+use Rattle.fints_script.specs.Signers.{signer_of}
+use Rattle.fints_script.specs.Steps.{StepValue, Surroundings, branch_has, target_has, keys_have, parts_have, step_has, step_value, step_fault, step_of, step_weight, has_large_segment, template_of, MAX_WEIGHT}
 use Rattle.fints_script.specs.Scripts.{counts_are_past as top_past}
-use Rattle.fints_script.specs.Scripts.{ScriptValue, IsRead, IsScriptOf, AreFields, IsDialogField, field_rows, top_has, top_fault, rows_are_wrong, surroundings, signer_rows, step_rows, look_at_signer}
+use Rattle.fints_script.specs.Scripts.{ScriptValue, IsRead, IsScriptOf, IsDialogField, field_rows, top_has, top_fault, rows_are_wrong, surroundings, signer_rows, step_rows, look_at_signer}
 use Rattle.fints_script.specs.Sound.{IsSound, IsSoundStep, IsSoundSigner, IsSoundFrame, numbered, LeadsOnward}
 use Rattle.fints_script.proofs.CleanFields.{neither, not_false, both}
 use Rattle.fints_script.proofs.SoundParts.{none_wrong, none_missing, none_unnamed, none_backward, none_past, both_none, no_limit, not_past, sound_signer, sound_seal}

@@ -1,14 +1,13 @@
 -- What the steps of a read script keep.
-use Rattle.std.proofs.Common.{◌≡◌, ℕ, ◌+◌, ◌<◌, ◌≤◌, Bool, true, false, ◌&&◌, ◌||◌, ◌==◌, not, cond, codes, List, [], ◌∷◌, length, map, nat_lt, nat_le, All, Option, Some, None, refl, ap, subst, ◌∙◌, sym, inl, inr, arith}
-use Rattle.std.specs.Prelude.{IsTrue, pos, negsuc, option_and_then, is_some, unwrap_or, IsSome}
+use Rattle.std.proofs.Common.{◌≡◌, ℕ, ◌<◌, ◌≤◌, Bool, true, false, ◌&&◌, ◌||◌, ◌==◌, not, cond, codes, List, [], ◌∷◌, length, map, nat_lt, nat_le, All, Option, Some, None, refl, ap, subst, ◌∙◌, sym, inl, inr, arith}
+use Rattle.std.specs.Prelude.{pos, negsuc, option_and_then, is_some, unwrap_or}
 use Rattle.std.specs.List.{list_any, list_all}
 use Rattle.std.specs.Str.{bytes_eq}
 use Rattle.std.specs.Char.{is_ascii_digit, is_ascii_uppercase}
 use Rattle.std.proofs.lemmas.Bool.{cases_Bool, false≢true}
 use Rattle.std.proofs.lemmas.Bool.Decides.{nat_tests}
 use Rattle.std.proofs.lemmas.Slice.Eq.{bytes_eq-Decides}
-use Rattle.std.proofs.lemmas.List.{length-map}
-use Rattle.std.proofs.lemmas.List.Elements.{All-cons, All-nil, All-map}
+use Rattle.std.proofs.lemmas.List.Elements.{All-cons, All-nil}
 use Rattle.std.proofs.lemmas.List.Sums.{AllPass-from_list_all}
 use Rattle.toml.specs.Data.{Data, string, integer, float, boolean, datetime, array, table, Members, get_member, as_str}
 use Rattle.fints_syntax.specs.Kind.{IsKindText, IsKindByte, kind_from}
@@ -18,16 +17,14 @@ use Rattle.fints_script.specs.declared.fault.FaultKind.TheVariants as kinds
 use Rattle.fints_script.specs.declared.fields.NamedField.{NamedField}
 use Rattle.fints_script.specs.declared.template.Template.{Template}
 use Rattle.fints_script.specs.declared.template.Signer.{Signer}
-use Rattle.fints_script.specs.FaultOrder.{first_kind}
-use Rattle.fints_script.specs.Entries.{has_key, text_at}
-use Rattle.fints_script.specs.Elements.{elements_have, elements_value}
-use Rattle.fints_script.specs.Tables.{is_outside, number_or, is_no_integer, is_set, is_no_list, rows_of}
+use Rattle.fints_script.specs.Entries.{has_key}
+use Rattle.fints_script.specs.Elements.{elements_have}
+use Rattle.fints_script.specs.Tables.{is_outside, number_or, is_no_integer, is_no_list, rows_of}
 use Rattle.fints_script.specs.Weights.{items_in, MAX_ITEMS}
 use Rattle.fints_script.specs.Figures.{figures_of}
-use Rattle.fints_script.specs.Signers.{limit_of}
-use Rattle.fints_script.specs.Steps.{Surroundings, frame_kinds, is_body_kind, is_no_kind, segment_keys_have, segment_has, kind_of, template_value, template_of, place_of_signer, signature_has, signature_value}
-use Rattle.fints_script.specs.Sound.{IsBodyElement, IsSoundTemplate}
-use Rattle.fints_script.proofs.CleanFields.{neither, not_false, both, none_has}
+use Rattle.fints_script.specs.Steps.{frame_kinds, is_body_kind, is_no_kind, segment_keys_have, segment_has, kind_of, template_value, template_of, place_of_signer, signature_has, signature_value}
+use Rattle.fints_script.specs.Sound.{IsSoundTemplate}
+use Rattle.fints_script.proofs.CleanFields.{neither, not_false, both}
 use Rattle.fints_script.proofs.SoundElements.{body_elements, place_within}
 use Rattle.fints_script.proofs.SoundParts.{not_past}
 

@@ -1,17 +1,16 @@
 -- Where the targets of a read script lead.
-use Rattle.std.proofs.Common.{◌≡◌, ℕ, ◌+◌, ◌<◌, ◌≤◌, Bool, true, false, ◌&&◌, ◌||◌, not, cond, codes, zero, suc, List, [], ◌∷◌, length, map, take, nat_lt, All, Option, Some, None, refl, ap, subst, ◌∙◌, sym, inl, inr, arith}
-use Rattle.std.specs.Prelude.{option_and_then, unwrap_or, position, slice_get}
+use Rattle.std.proofs.Common.{◌≡◌, ℕ, ◌+◌, ◌<◌, ◌≤◌, Bool, true, false, ◌&&◌, ◌||◌, not, cond, codes, zero, suc, List, [], ◌∷◌, length, map, take, nat_lt, All, Option, Some, None, ap, subst, sym, arith}
+use Rattle.std.specs.Prelude.{option_and_then, unwrap_or, position}
 use Rattle.std.specs.List.{list_any, position_or_len}
 use Rattle.std.specs.Str.{bytes_eq}
-use Rattle.std.proofs.lemmas.Bool.{cases_Bool, false≢true}
+use Rattle.std.proofs.lemmas.Bool.{false≢true}
 use Rattle.std.proofs.lemmas.Bool.Decides.{nat_tests}
 use Rattle.std.proofs.lemmas.List.Elements.{All-cons, All-nil}
 use Rattle.toml.specs.Data.{Data, string, integer, float, boolean, datetime, array, table, Members, get_member, as_str}
 use Rattle.fints_script.specs.declared.fault.FaultKind.TheVariants as kinds
 use Rattle.fints_script.specs.declared.answers.Branch.{Branch}
-use Rattle.fints_script.specs.declared.answers.Target.{Target}
 use Rattle.fints_script.specs.declared.answers.Target.TheVariants as targets
-use Rattle.fints_script.specs.Entries.{is_named, text_at}
+use Rattle.fints_script.specs.Entries.{is_named}
 use Rattle.fints_script.specs.Steps.{is_word, target_name_has, target_has, target_named, target_value, branch_keys_have, branch_has, branch_value, branch_of}
 use Rattle.fints_script.specs.Sound.{IsOnward}
 use Rattle.fints_script.proofs.CleanFields.{neither, not_false}

@@ -1,5 +1,5 @@
 //! What a step rests on.
-use crate::fields::NamedField;
+use crate::fields::Fields;
 use crate::template::{Signer, TemplateElements};
 use crate::weights::Figures;
 use toml::Value;
@@ -8,7 +8,7 @@ use toml::Value;
 /// and all rows of `step`.
 #[derive(Clone, Copy)]
 pub struct Around<'a> {
-    pub fields: &'a [NamedField],
+    pub fields: &'a Fields,
     pub figures: &'a [Figures],
     pub signers: &'a [Signer],
     pub seal: Option<&'a TemplateElements>,

@@ -7,7 +7,7 @@ ghost use Rattle.fints_script.specs.ItemTexts.{read_as};
 ghost use Rattle.fints_script.specs.Elements.{is_hex, reading_has, is_wrong_kind, item_has, items_have, element_has, elements_have};
 
 use crate::fault::FaultKind;
-use crate::fields::{NamedField, is_account_named, place_of_field};
+use crate::fields::Fields;
 use crate::item_text::{ItemText, item_text};
 use crate::text::is_latin1;
 use toml::Value;
@@ -30,15 +30,12 @@ fn is_hex(digits: &str) -> bool
     digits.len() % 2 == 0 && are_hex_digits(digits.as_bytes())
 }
 
-fn reading_has(kind: FaultKind, fields: &[NamedField], free: bool, text: ItemText<'_>) -> bool
+fn reading_has(kind: FaultKind, fields: &Fields, free: bool, text: ItemText<'_>) -> bool
     ensures { result ≡ reading_has kind fields.now free (read_as text.entry) }
 {
     match (kind, text) {
-        (FaultKind::WrongKind, ItemText::Reference(name)) => !free
-            && is_account_named(fields, name),
-        (FaultKind::NoSuchName, ItemText::Reference(name)) => place_of_field(
-            fields, name,
-        ).is_none(),
+        (FaultKind::WrongKind, ItemText::Reference(name)) => !free && fields.has_account(name),
+        (FaultKind::NoSuchName, ItemText::Reference(name)) => fields.place_of(name).is_none(),
         (FaultKind::BadHex, ItemText::Hex(digits)) => !is_hex(digits),
         (FaultKind::NotLatin1, ItemText::Literal(text)) => !is_latin1(text),
         _ => false,
@@ -52,7 +49,7 @@ pub fn is_wrong_kind(kind: FaultKind) -> bool
     matches!(kind, FaultKind::WrongKind)
 }
 
-fn item_has(kind: FaultKind, fields: &[NamedField], free: bool, value: &Value) -> bool
+fn item_has(kind: FaultKind, fields: &Fields, free: bool, value: &Value) -> bool
     ensures { result ≡ item_has kind fields.now free (view value.now) }
 {
     match value {
@@ -61,7 +58,7 @@ fn item_has(kind: FaultKind, fields: &[NamedField], free: bool, value: &Value) -
     }
 }
 
-fn some_item_has(kind: FaultKind, fields: &[NamedField], values: &[Value]) -> bool
+fn some_item_has(kind: FaultKind, fields: &Fields, values: &[Value]) -> bool
     ensures { result ≡ list_any (item_has kind fields.now false) (map view values.now) }
 {
     for value in values {
@@ -72,13 +69,13 @@ fn some_item_has(kind: FaultKind, fields: &[NamedField], values: &[Value]) -> bo
     false
 }
 
-fn items_have(kind: FaultKind, fields: &[NamedField], values: &[Value]) -> bool
+fn items_have(kind: FaultKind, fields: &Fields, values: &[Value]) -> bool
     ensures { result ≡ items_have kind fields.now (map view values.now) }
 {
     is_wrong_kind(kind) && values.is_empty() || some_item_has(kind, fields, values)
 }
 
-fn element_has(kind: FaultKind, fields: &[NamedField], free: bool, value: &Value) -> bool
+fn element_has(kind: FaultKind, fields: &Fields, free: bool, value: &Value) -> bool
     ensures { result ≡ element_has kind fields.now free (view value.now) }
 {
     match value {
@@ -87,7 +84,7 @@ fn element_has(kind: FaultKind, fields: &[NamedField], free: bool, value: &Value
     }
 }
 
-fn some_element_has(kind: FaultKind, fields: &[NamedField], free: bool, values: &[Value]) -> bool
+fn some_element_has(kind: FaultKind, fields: &Fields, free: bool, values: &[Value]) -> bool
     ensures { result ≡ list_any (element_has kind fields.now free) (map view values.now) }
 {
     for value in values {
@@ -98,7 +95,7 @@ fn some_element_has(kind: FaultKind, fields: &[NamedField], free: bool, values: 
     false
 }
 
-fn list_has(kind: FaultKind, fields: &[NamedField], free: bool, value: &Value) -> bool
+fn list_has(kind: FaultKind, fields: &Fields, free: bool, value: &Value) -> bool
     ensures { result ≡ elements_have kind fields.now free (Some (view value.now)) }
 {
     match value {
@@ -109,12 +106,7 @@ fn list_has(kind: FaultKind, fields: &[NamedField], free: bool, value: &Value) -
 
 /// Whether a fault of this kind stands in a list of elements, where account fields may stand
 /// (`free`) or not.
-pub fn elements_have(
-    kind: FaultKind,
-    fields: &[NamedField],
-    free: bool,
-    value: Option<&Value>,
-) -> bool
+pub fn elements_have(kind: FaultKind, fields: &Fields, free: bool, value: Option<&Value>) -> bool
     ensures { result ≡ elements_have kind fields.now free (option_map (λ v. view v.now) value.entry) }
 {
     match value {

@@ -5,7 +5,7 @@ ghost use Rattle.hex.specs.Hex.{decode_of};
 ghost use Rattle.fints_script.specs.ItemTexts.{read_as};
 ghost use Rattle.fints_script.specs.Elements.{bytes_or_none, reference_value, reading_value, item_value, element_value, elements_value};
 
-use crate::fields::{NamedField, place_of_field};
+use crate::fields::Fields;
 use crate::item_text::{ItemText, item_text};
 use crate::template::{TemplateElements, TemplateItem};
 use crate::text::latin1;
@@ -25,20 +25,16 @@ fn bytes_of(alloc: Global, digits: &str) -> Result<Vec<u8>, Memory>
     }
 }
 
-fn reference_value(fields: &[NamedField], name: &str) -> TemplateItem
+fn reference_value(fields: &Fields, name: &str) -> TemplateItem
     ensures { result ≡ reference_value fields.now name.now }
 {
     if name == "dialog" {
         return TemplateItem::Dialog;
     }
-    TemplateItem::Field(place_of_field(fields, name).unwrap_or(0))
+    TemplateItem::Field(fields.place_of(name).unwrap_or(0))
 }
 
-fn reading_value(
-    alloc: Global,
-    fields: &[NamedField],
-    text: ItemText<'_>,
-) -> Result<TemplateItem, Memory>
+fn reading_value(alloc: Global, fields: &Fields, text: ItemText<'_>) -> Result<TemplateItem, Memory>
     ensures { IfOk result (λ i. i ≡ reading_value fields.now (read_as text.entry)) }
 {
     match text {
@@ -54,7 +50,7 @@ fn reading_value(
     }
 }
 
-fn item_value(alloc: Global, fields: &[NamedField], value: &Value) -> Result<TemplateItem, Memory>
+fn item_value(alloc: Global, fields: &Fields, value: &Value) -> Result<TemplateItem, Memory>
     ensures { IfOk result (λ i. i ≡ item_value fields.now (view value.now)) }
 {
     match value {
@@ -63,11 +59,7 @@ fn item_value(alloc: Global, fields: &[NamedField], value: &Value) -> Result<Tem
     }
 }
 
-fn items_of(
-    alloc: Global,
-    fields: &[NamedField],
-    values: &[Value],
-) -> Result<Vec<TemplateItem>, Memory>
+fn items_of(alloc: Global, fields: &Fields, values: &[Value]) -> Result<Vec<TemplateItem>, Memory>
     ensures { IfOk result (λ v. v.items ≡ map (item_value fields.now) (map view values.now)) }
 {
     let mut items = Vec::new(alloc);
@@ -77,11 +69,7 @@ fn items_of(
     Ok(items)
 }
 
-fn element_value(
-    alloc: Global,
-    fields: &[NamedField],
-    value: &Value,
-) -> Result<Vec<TemplateItem>, Memory>
+fn element_value(alloc: Global, fields: &Fields, value: &Value) -> Result<Vec<TemplateItem>, Memory>
     ensures { IfOk result (λ v. v.items ≡ element_value fields.now (view value.now)) }
 {
     match value {
@@ -94,11 +82,7 @@ fn element_value(
     }
 }
 
-fn elements_of(
-    alloc: Global,
-    fields: &[NamedField],
-    values: &[Value],
-) -> Result<TemplateElements, Memory>
+fn elements_of(alloc: Global, fields: &Fields, values: &[Value]) -> Result<TemplateElements, Memory>
     ensures { IfOk result (λ e. e ≡ map (element_value fields.now) (map view values.now)) }
 {
     let mut elements = TemplateElements::new(alloc);
@@ -108,11 +92,7 @@ fn elements_of(
     Ok(elements)
 }
 
-fn list_value(
-    alloc: Global,
-    fields: &[NamedField],
-    value: &Value,
-) -> Result<TemplateElements, Memory>
+fn list_value(alloc: Global, fields: &Fields, value: &Value) -> Result<TemplateElements, Memory>
     ensures { IfOk result (λ e. e ≡ elements_value fields.now (Some (view value.now))) }
 {
     match value {
@@ -124,7 +104,7 @@ fn list_value(
 /// The elements of a list; none where the key is absent.
 pub fn elements_value(
     alloc: Global,
-    fields: &[NamedField],
+    fields: &Fields,
     value: Option<&Value>,
 ) -> Result<TemplateElements, Memory>
     ensures { IfOk result (λ e. e ≡ elements_value fields.now (option_map (λ v. view v.now) value.entry)) }

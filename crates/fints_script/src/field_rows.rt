@@ -9,7 +9,7 @@ ghost use Rattle.fints_script.specs.declared.fault.Place.TheVariants as places;
 use crate::fault::{Place, ScriptFault};
 use crate::field_faults::field_fault;
 use crate::field_values::field_of;
-use crate::fields::NamedField;
+use crate::fields::{Fields, NamedField};
 use crate::rows::placed;
 use crate::tables::dialog;
 use fints_fields::{Field, Text};
@@ -27,10 +27,10 @@ fn dialog_field() -> NamedField
 }
 
 /// The fields of the rows, behind the built-in `dialog`.
-pub fn read_fields(alloc: Global, rows: &[Value]) -> Result<Vec<NamedField>, ScriptFault>
+pub fn read_fields(alloc: Global, rows: &[Value]) -> Result<Fields, ScriptFault>
     requires { length rows.now ≤ 100 }
     ensures clean { IfOk result (λ v. AreClean (look_at_field (map view rows.now)) (map view rows.now) (length rows.now)) }
-    ensures fields { IfOk result (λ v. AreFields (map view rows.now) v.items) }
+    ensures fields { IfOk result (AreFields (map view rows.now)) }
     ensures fault { IfErr result (RefusesRow (λ n. places.Field n) (look_at_field (map view rows.now)) (map view rows.now)) }
 {
     let mut fields = Vec::new(alloc);
@@ -42,5 +42,5 @@ pub fn read_fields(alloc: Global, rows: &[Value]) -> Result<Vec<NamedField>, Scr
         let (name, class) = field_of(alloc, &rows[i])?;
         fields.push(NamedField { name, class })?;
     }
-    Ok(fields)
+    Ok(Fields::new(alloc, fields)?)
 }

@@ -1,27 +1,20 @@
 //! The fields of a script by their names.
-ghost use Rattle.std.specs.Prelude.{◌≡◌};
-ghost use Rattle.fints_script.specs.NamedFields.{place_of_field, is_account_named, is_field_named, is_account};
+ghost use Rattle.std.specs.Prelude.{◌≡◌, IfOk};
+ghost use Rattle.std.specs.Str.{bytes_eq};
+ghost use Rattle.indexmap.specs.IndexMap.{get};
+ghost use Rattle.fints_script.specs.NamedFields.{place_of_field, is_account_named, is_account, HoldsPlaces};
 
 use fints_fields::{Field, Name};
+use fints_syntax::Memory;
+use indexmap::IndexMap;
+use std::alloc::Global;
+use std::marker::Model;
 
 /// A field with its name.
 #[derive(Debug, Drop)]
 pub struct NamedField {
     pub name: Name,
     pub class: Field,
-}
-
-fn is_field_named(field: &NamedField, name: &str) -> bool
-    ensures { result ≡ is_field_named name.now field.now }
-{
-    field.name.as_bytes() == name.as_bytes()
-}
-
-/// The place of the first field of this name, counted from 0.
-pub fn place_of_field(fields: &[NamedField], name: &str) -> Option<usize>
-    ensures { result ≡ place_of_field fields.now name.now }
-{
-    fields.iter().position(|field| is_field_named(field, name))
 }
 
 /// Whether the field is one of listed accounts.
@@ -31,12 +24,72 @@ pub fn is_account(class: &Field) -> bool
     matches!(class, Field::Account(_))
 }
 
-/// Whether the first field of this name is one of listed accounts.
-pub fn is_account_named(fields: &[NamedField], name: &str) -> bool
-    ensures { result ≡ is_account_named fields.now name.now }
+/// Fields in order, with a map from each name to the place of the first field that has it; a
+/// contract sees the fields.
+#[derive(Debug, Drop)]
+pub struct Fields {
+    list: Vec<NamedField>,
+    places: IndexMap<Name, usize>,
+}
+
+impl Model for Fields {
+    ghost use Rattle.std.specs.Prelude.{List};
+    ghost use Rattle.std.specs.Str.{bytes_eq};
+    ghost use Rattle.indexmap.specs.IndexMap.{get};
+    ghost use Rattle.fints_script.specs.NamedFields.{HoldsPlaces};
+    ghost use Rattle.fints_script.specs.declared.fields.NamedField.{NamedField};
+
+    ghost Value = { List NamedField };
+
+    ghost view = { λ f. f.list.items };
+
+    ghost invariant = { λ f. HoldsPlaces f.list.items (get bytes_eq f.places) };
+}
+
+// The place of the first field of each name.
+fn places_of(alloc: Global, fields: &[NamedField]) -> Result<IndexMap<Name, usize>, Memory>
+    ensures { IfOk result (λ m. HoldsPlaces fields.now (get bytes_eq m)) }
 {
-    match place_of_field(fields, name) {
-        Some(place) => is_account(&fields[place].class),
-        None => false,
+    let mut places = IndexMap::new(alloc);
+    for i in 0..fields.len() {
+        let name = fields[i].name;
+        if !places.contains_key(&name) {
+            places.insert(name, i)?;
+        }
+    }
+    Ok(places)
+}
+
+impl Fields {
+    /// The fields of a list.
+    pub fn new(alloc: Global, list: Vec<NamedField>) -> Result<Fields, Memory>
+        ensures { IfOk result (λ f. f ≡ list.items) }
+    {
+        let places = places_of(alloc, list.as_slice())?;
+        Ok(Fields { list, places })
+    }
+
+    /// The fields in order.
+    pub fn as_slice(&self) -> &[NamedField]
+        ensures { result.now ≡ self.now }
+    {
+        self.list.as_slice()
+    }
+
+    /// The place of the first field of this name, counted from 0.
+    pub fn place_of(&self, name: &str) -> Option<usize>
+        ensures { result ≡ place_of_field self.now name.now }
+    {
+        self.places.get(name.as_bytes()).copied()
+    }
+
+    /// Whether the first field of this name is one of listed accounts.
+    pub fn has_account(&self, name: &str) -> bool
+        ensures { result ≡ is_account_named self.now name.now }
+    {
+        match self.place_of(name) {
+            Some(place) => is_account(&self.list[place].class),
+            None => false,
+        }
     }
 }

@@ -11,7 +11,7 @@ ghost use Rattle.fints_script.specs.declared.fault.Place.TheVariants as places;
 
 use crate::around::Around;
 use crate::fault::{FaultKind, Place, ScriptFault};
-use crate::fields::NamedField;
+use crate::fields::Fields;
 use crate::signers::read_signer;
 use crate::steps::{Step, read_step};
 use crate::template::Signer;
@@ -32,7 +32,7 @@ pub fn placed(kind: FaultKind, place: Place) -> ScriptFault
 /// The signers of the rows.
 pub fn read_signers(
     alloc: Global,
-    fields: &[NamedField],
+    fields: &Fields,
     rows: &[Value],
 ) -> Result<Vec<Signer>, ScriptFault>
     requires { length rows.now ≤ 20 }

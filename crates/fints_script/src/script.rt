@@ -15,7 +15,7 @@ use crate::around::Around;
 use crate::entries::has_key;
 use crate::fault::{FaultKind, Place, ScriptFault};
 use crate::field_rows::read_fields;
-use crate::fields::NamedField;
+use crate::fields::{Fields, NamedField};
 use crate::kinds::KINDS;
 use crate::rows::{placed, read_signers, read_steps};
 use crate::signers::read_seal;
@@ -32,7 +32,7 @@ use toml::{Table, Value};
 /// and its steps; a contract sees these parts.
 #[derive(Debug, Drop)]
 pub struct Script {
-    fields: Vec<NamedField>,
+    fields: Fields,
     signers: Vec<Signer>,
     seal: Option<TemplateElements>,
     steps: Vec<Step>,
@@ -43,9 +43,9 @@ impl Model for Script {
 
     ghost Value = { ScriptValue };
 
-    ghost view = { λ s. record { fields = s.fields.items; signers = s.signers.items; seal = s.seal; steps = s.steps.items } };
+    ghost view = { λ s. record { fields = s.fields; signers = s.signers.items; seal = s.seal; steps = s.steps.items } };
 
-    ghost invariant = { λ s. IsRead (record { fields = s.fields.items; signers = s.signers.items; seal = s.seal; steps = s.steps.items }) };
+    ghost invariant = { λ s. IsRead (record { fields = s.fields; signers = s.signers.items; seal = s.seal; steps = s.steps.items }) };
 }
 
 impl Script {
@@ -151,7 +151,7 @@ fn top_fault(table: &Table) -> Option<FaultKind>
 // The seal, if there is one, or its first fault.
 fn seal_of(
     alloc: Global,
-    fields: &[NamedField],
+    fields: &Fields,
     value: Option<&Value>,
 ) -> Result<Option<TemplateElements>, FaultKind>
     ensures seal { IfOk result (λ s. (seal_fault fields.now (option_map (λ v. view v.now) value.entry) ≡ None) × (s ≡ seal_value fields.now (option_map (λ v. view v.now) value.entry))) }
@@ -167,7 +167,7 @@ fn seal_of(
 fn steps_of(
     alloc: Global,
     table: &Table,
-    fields: &[NamedField],
+    fields: &Fields,
     signers: &[Signer],
     seal: Option<&TemplateElements>,
 ) -> Result<Vec<Step>, ScriptFault>
@@ -176,7 +176,7 @@ fn steps_of(
     ensures steps { IfOk result (λ v. v.items ≡ map (step_of (surroundings (table_view table.now) fields.now signers.now (option_map (λ s. s.now) seal.entry))) (step_rows (table_view table.now))) }
     ensures fault { IfErr result (RefusesRow (λ n. places.Step n) (step_fault (surroundings (table_view table.now) fields.now signers.now (option_map (λ s. s.now) seal.entry))) (step_rows (table_view table.now))) }
 {
-    let figures = all_figures(alloc, fields)?;
+    let figures = all_figures(alloc, fields.as_slice())?;
     let around = Around {
         fields,
         figures: figures.as_slice(),
@@ -188,11 +188,7 @@ fn steps_of(
 }
 
 // The signers of a table, given its fields.
-fn signers_of(
-    alloc: Global,
-    table: &Table,
-    fields: &[NamedField],
-) -> Result<Vec<Signer>, ScriptFault>
+fn signers_of(alloc: Global, table: &Table, fields: &Fields) -> Result<Vec<Signer>, ScriptFault>
     requires { length (signer_rows (table_view table.now)) ≤ 20 }
     ensures clean { IfOk result (λ v. AreClean (look_at_signer fields.now (signer_rows (table_view table.now))) (signer_rows (table_view table.now)) (length (signer_rows (table_view table.now)))) }
     ensures signers { IfOk result (λ v. v.items ≡ map (signer_of fields.now) (signer_rows (table_view table.now))) }
@@ -205,7 +201,7 @@ fn signers_of(
 fn table_seal(
     alloc: Global,
     table: &Table,
-    fields: &[NamedField],
+    fields: &Fields,
 ) -> Result<Option<TemplateElements>, ScriptFault>
     ensures clean { IfOk result (λ s. seal_fault fields.now (get_member (codes "seal") (table_view table.now)) ≡ None) }
     ensures seal { IfOk result (λ s. s ≡ seal_value fields.now (get_member (codes "seal") (table_view table.now))) }
@@ -218,20 +214,14 @@ fn table_seal(
 }
 
 // The script of a table whose fields are these, or its first fault.
-fn script_with(alloc: Global, table: &Table, fields: Vec<NamedField>) -> Result<Script, ScriptFault>
-    requires { HasFields (table_view table.now) fields.items }
+fn script_with(alloc: Global, table: &Table, fields: Fields) -> Result<Script, ScriptFault>
+    requires { HasFields (table_view table.now) fields }
     ensures script { IfOk result (IsScriptOf (table_view table.now)) }
     ensures fault { IfErr result (RefusesTable (table_view table.now)) }
 {
-    let signers = signers_of(alloc, table, fields.as_slice())?;
-    let seal = table_seal(alloc, table, fields.as_slice())?;
-    match steps_of(
-        alloc,
-        table,
-        fields.as_slice(),
-        signers.as_slice(),
-        seal.as_ref(),
-    ) {
+    let signers = signers_of(alloc, table, &fields)?;
+    let seal = table_seal(alloc, table, &fields)?;
+    match steps_of(alloc, table, &fields, signers.as_slice(), seal.as_ref()) {
         Ok(steps) => Ok(Script {
             fields,
             signers,
@@ -243,9 +233,9 @@ fn script_with(alloc: Global, table: &Table, fields: Vec<NamedField>) -> Result<
 }
 
 // The fields of a table whose top has no fault.
-fn fields_of(alloc: Global, table: &Table) -> Result<Vec<NamedField>, ScriptFault>
+fn fields_of(alloc: Global, table: &Table) -> Result<Fields, ScriptFault>
     requires { top_fault (table_view table.now) ≡ None }
-    ensures fields { IfOk result (λ v. HasFields (table_view table.now) v.items) }
+    ensures fields { IfOk result (HasFields (table_view table.now)) }
     ensures fault { IfErr result (RefusesTable (table_view table.now)) }
 {
     let fields = read_fields(alloc, rows_of(document::member(table, "field")))?;

@@ -9,7 +9,7 @@ use crate::element_faults::{elements_have, is_wrong_kind};
 use crate::element_values::elements_value;
 use crate::entries::{has_key, text_at};
 use crate::fault::FaultKind;
-use crate::fields::NamedField;
+use crate::fields::Fields;
 use crate::tables::{is_no_integer, is_outside, number_or};
 use crate::template::{Template, TemplateElements};
 use fints_rules::document;
@@ -43,7 +43,7 @@ fn is_no_kind(value: Option<&Value>) -> bool
 }
 
 #[tactic(auto, unfolding(crate::specs::Steps::segment_keys_have))]
-fn keys_have(kind: FaultKind, fields: &[NamedField], table: &Table) -> bool
+fn keys_have(kind: FaultKind, fields: &Fields, table: &Table) -> bool
     ensures { result ≡ segment_keys_have kind fields.now (table_view table.now) }
 {
     match kind {
@@ -59,7 +59,7 @@ fn keys_have(kind: FaultKind, fields: &[NamedField], table: &Table) -> bool
     }
 }
 
-fn segment_has(kind: FaultKind, fields: &[NamedField], row: &Value) -> bool
+fn segment_has(kind: FaultKind, fields: &Fields, row: &Value) -> bool
     ensures { result ≡ segment_has kind fields.now (view row.now) }
 {
     match row {
@@ -69,7 +69,7 @@ fn segment_has(kind: FaultKind, fields: &[NamedField], row: &Value) -> bool
 }
 
 /// Whether a fault of this kind stands in some segment of a step.
-pub fn some_segment_has(kind: FaultKind, fields: &[NamedField], rows: &[Value]) -> bool
+pub fn some_segment_has(kind: FaultKind, fields: &Fields, rows: &[Value]) -> bool
     ensures { result ≡ list_any (segment_has kind fields.now) (map view rows.now) }
 {
     for row in rows {
@@ -96,7 +96,7 @@ fn kind_of(text: Option<&str>) -> Kind
     }
 }
 
-fn template_value(alloc: Global, fields: &[NamedField], table: &Table) -> Result<Template, Memory>
+fn template_value(alloc: Global, fields: &Fields, table: &Table) -> Result<Template, Memory>
     ensures { IfOk result (λ t. t ≡ template_value fields.now (table_view table.now)) }
 {
     let elements = elements_value(alloc, fields, document::member(table, "elements"))?;
@@ -107,7 +107,7 @@ fn template_value(alloc: Global, fields: &[NamedField], table: &Table) -> Result
     })
 }
 
-fn template_of(alloc: Global, fields: &[NamedField], row: &Value) -> Result<Template, Memory>
+fn template_of(alloc: Global, fields: &Fields, row: &Value) -> Result<Template, Memory>
     ensures { IfOk result (λ t. t ≡ template_of fields.now (view row.now)) }
 {
     match row {
@@ -121,11 +121,7 @@ fn template_of(alloc: Global, fields: &[NamedField], row: &Value) -> Result<Temp
 }
 
 /// The segments of a step.
-pub fn templates_of(
-    alloc: Global,
-    fields: &[NamedField],
-    rows: &[Value],
-) -> Result<Vec<Template>, Memory>
+pub fn templates_of(alloc: Global, fields: &Fields, rows: &[Value]) -> Result<Vec<Template>, Memory>
     ensures { IfOk result (λ v. v.items ≡ map (template_of fields.now) (map view rows.now)) }
 {
     let mut templates = Vec::new(alloc);

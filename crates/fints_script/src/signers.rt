@@ -10,7 +10,7 @@ use crate::element_faults::elements_have;
 use crate::element_values::elements_value;
 use crate::entries::{has_key, is_no_name, some_is_named, text_at};
 use crate::fault::FaultKind;
-use crate::fields::NamedField;
+use crate::fields::Fields;
 use crate::kinds::KINDS;
 use crate::tables::name_value;
 use crate::template::{Signer, TemplateElements};
@@ -30,7 +30,7 @@ pub fn is_taken(earlier: &[Value], name: Option<&str>) -> bool
     }
 }
 
-fn ends_have(kind: FaultKind, fields: &[NamedField], table: &Table) -> bool
+fn ends_have(kind: FaultKind, fields: &Fields, table: &Table) -> bool
     ensures { result ≡ ends_have kind fields.now (table_view table.now) }
 {
     elements_have(kind, fields, false, document::member(table, "head"))
@@ -44,7 +44,7 @@ fn lacks_keys(table: &Table) -> bool
 }
 
 #[tactic(auto, unfolding(crate::specs::Signers::signer_has))]
-fn signer_has(kind: FaultKind, fields: &[NamedField], earlier: &[Value], table: &Table) -> bool
+fn signer_has(kind: FaultKind, fields: &Fields, earlier: &[Value], table: &Table) -> bool
     ensures { result ≡ signer_has kind fields.now (map view earlier.now) (table_view table.now) }
 {
     match kind {
@@ -58,7 +58,7 @@ fn signer_has(kind: FaultKind, fields: &[NamedField], earlier: &[Value], table: 
     }
 }
 
-fn first_kind(fields: &[NamedField], earlier: &[Value], table: &Table) -> Option<FaultKind>
+fn first_kind(fields: &Fields, earlier: &[Value], table: &Table) -> Option<FaultKind>
     ensures { result ≡ first_kind (λ kind. signer_has kind fields.now (map view earlier.now) (table_view table.now)) }
 {
     for kind in KINDS {
@@ -69,7 +69,7 @@ fn first_kind(fields: &[NamedField], earlier: &[Value], table: &Table) -> Option
     None
 }
 
-fn signer_value(alloc: Global, fields: &[NamedField], table: &Table) -> Result<Signer, Memory>
+fn signer_value(alloc: Global, fields: &Fields, table: &Table) -> Result<Signer, Memory>
     ensures { IfOk result (λ s. s ≡ signer_value fields.now (table_view table.now)) }
 {
     let head = elements_value(alloc, fields, document::member(table, "head"))?;
@@ -84,7 +84,7 @@ fn signer_value(alloc: Global, fields: &[NamedField], table: &Table) -> Result<S
 // The signer of a table behind earlier rows, or its first fault.
 fn read_table(
     alloc: Global,
-    fields: &[NamedField],
+    fields: &Fields,
     earlier: &[Value],
     table: &Table,
 ) -> Result<Signer, FaultKind>
@@ -104,7 +104,7 @@ fn read_table(
 /// The signer of a row behind earlier ones, or its first fault.
 pub fn read_signer(
     alloc: Global,
-    fields: &[NamedField],
+    fields: &Fields,
     earlier: &[Value],
     row: &Value,
 ) -> Result<Signer, FaultKind>
@@ -117,7 +117,7 @@ pub fn read_signer(
     }
 }
 
-fn first_kind_of_seal(fields: &[NamedField], value: &Value) -> Option<FaultKind>
+fn first_kind_of_seal(fields: &Fields, value: &Value) -> Option<FaultKind>
     ensures { result ≡ first_kind (λ kind. elements_have kind fields.now false (Some (view value.now))) }
 {
     for kind in KINDS {
@@ -131,7 +131,7 @@ fn first_kind_of_seal(fields: &[NamedField], value: &Value) -> Option<FaultKind>
 /// The seal, or its first fault.
 pub fn read_seal(
     alloc: Global,
-    fields: &[NamedField],
+    fields: &Fields,
     value: &Value,
 ) -> Result<TemplateElements, FaultKind>
     ensures seal { IfOk result (λ s. (seal_fault fields.now (Some (view value.now)) ≡ None) × (Some s ≡ seal_value fields.now (Some (view value.now)))) }

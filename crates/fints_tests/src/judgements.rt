@@ -14,7 +14,27 @@ HIUPA:10:4+user+3+0'
 HIUPD:11:6+1234567::280:10020030+DE111+cust+1+EUR+Name++Giro++HKSAL:1'
 ";
 
-const T: &[u8] = b"[[order]]\nkind = \"HKSAL\"\nversion = 5\naccount = \"national\"\n";
+const T: &[u8] = br#"[[order]]
+kind = "HKSAL"
+version = 5
+account = "national"
+[[order]]
+kind = "HKKAZ"
+version = 5
+account = "national"
+[[order]]
+kind = "HKSAL"
+version = 7
+account = "international"
+[[order]]
+kind = "HKKAZ"
+version = 7
+account = "international"
+[[order]]
+kind = "HKCCS"
+version = 1
+account = "international"
+"#;
 
 const SIGNED: &[u8] =
     b"HNHBK:1:3+000000000188+300+D+1'HNSHK:2:4+PIN:1+999+1+1+1+1::0+1+1:20260101:120000+1:999:1+6:10:16+280:10020030:user:S:0:0'HKSAL:3:5+1234567::280:10020030+N'HNSHA:4:2+1++12345:'HNHBS:5:1+1'";
@@ -22,13 +42,17 @@ const SIGNED: &[u8] =
 const UNSIGNED: &[u8] =
     b"HNHBK:1:3+000000000077+300+D+1'HKSAL:2:5+1234567::280:10020030+N'HNHBS:3:1+1'";
 
-fn files() -> [(&'static str, &'static [u8]); 7] {
+const SEALED: &[u8] =
+    b"HNHBK:1:3+000000000168+300+0+1'HNVSK:998:3+PIN:1+998+1+1::0+1:20260101:120000+2:2:13:@8@00000000:5:1+280:10020030:user:V:0:0+0'HNVSD:999:1+@12@HKEND:2:1+0''HNHBS:3:1+1'";
+
+fn files() -> [(&'static str, &'static [u8]); 8] {
     [
         ("c", C),
         ("c1", C1),
         ("t", T),
         ("signed", SIGNED),
         ("unsigned", UNSIGNED),
+        ("sealed", SEALED),
         (
             "two",
             b"[[order]]\nkind = \"HKSAL\"\nversion = 5\naccount = \"none\"\n[[order]]\nkind = \"HKSAL\"\nversion = 5\naccount = \"none\"\n",
@@ -68,8 +92,9 @@ fn assert_judged(
 
 #[test]
 fn verdicts(rt: HostRuntime) {
-    let rows: [(&str, &str, u8, &[u8]); 3] = [
+    let rows: [(&str, &str, u8, &[u8]); 4] = [
         ("c", "signed", 0, b"permitted\n"),
+        ("c1", "sealed", 0, b"permitted\n"),
         ("c", "unsigned", 1, b"P8 signatures segment 2\nbroken 1\n"),
         (
             "c1",

@@ -19,6 +19,8 @@ mod classes;
 #[cfg(test)]
 mod commands;
 #[cfg(test)]
+mod end_faults;
+#[cfg(test)]
 mod fields;
 #[cfg(test)]
 mod judgements;

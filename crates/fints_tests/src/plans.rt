@@ -108,13 +108,13 @@ fn branches_of_fork(rt: HostRuntime) -> Result<(), Fail> {
     let script = script(rt.alloc(), fork())?;
     let orders = orders(rt.alloc())?;
     let plan = script.plan(&orders).ok().ok_or("plan")?;
-    assert_eq!(rt; plan.step_count(), 3);
-    if plan.step_count() == 3 {
-        let one = plan.step(1);
-        assert_eq!(rt; one.choose(&[code(9010)?, code(20)?]), Target::Step(3));
-        assert_eq!(rt; one.choose(&[code(9010)?]), Target::Stop);
-        assert_eq!(rt; one.choose(&[]), Target::Stop);
+    if plan.step_count() != 3 {
+        return Err(Fail::from("three steps"));
     }
+    let one = plan.step(1);
+    assert_eq!(rt; one.choose(&[code(9010)?, code(20)?]), Target::Step(3));
+    assert_eq!(rt; one.choose(&[code(9010)?]), Target::Stop);
+    assert_eq!(rt; one.choose(&[]), Target::Stop);
     assert!(rt; plan.orders().same(&orders));
     assert!(rt; plan.seal().is_none());
     Ok(())
@@ -123,16 +123,13 @@ fn branches_of_fork(rt: HostRuntime) -> Result<(), Fail> {
 #[test]
 fn openers_of_fork(rt: HostRuntime) -> Result<(), Fail> {
     let script = script(rt.alloc(), fork())?;
-    match script.steps() {
-        [one, ..] => {
-            if one.branches().len() == 2 {
-                assert_eq!(rt; one.opener(1), Some(code(0)?));
-                assert_eq!(rt; one.opener(2), None);
-                assert_eq!(rt; one.opener(3), Some(code(1000)?));
-            }
-        }
-        [] => return Err(Fail::from("no step")),
+    let one = script.steps().first().ok_or("a step")?;
+    if one.branches().len() != 2 {
+        return Err(Fail::from("two branches"));
     }
+    assert_eq!(rt; one.opener(1), Some(code(0)?));
+    assert_eq!(rt; one.opener(2), None);
+    assert_eq!(rt; one.opener(3), Some(code(1000)?));
     Ok(())
 }
 

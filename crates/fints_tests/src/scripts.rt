@@ -175,14 +175,24 @@ fn is_digits(field: &NamedField, name: &[u8], min: u16, max: u16) -> bool {
     }
 }
 
-// Whether it is a plain step of this name and these signers, without branches, that is over after
-// one message.
-fn is_plain(step: &Step, name: &[u8], signers: &[usize]) -> bool {
+// Whether it is a step of this name and these signers, without branches, that is over after one
+// message.
+fn is_single(step: &Step, name: &[u8], signers: &[usize]) -> bool {
     step.name().as_bytes() == name
         && step.signers() == signers
         && step.branches().is_empty()
-        && !step.sealed()
         && (step.repeat(), step.otherwise()) == (1, Target::Stop)
+}
+
+fn is_plain(step: &Step, name: &[u8], signers: &[usize]) -> bool {
+    is_single(step, name, signers) && !step.sealed()
+}
+
+// Whether `dialog` is the only field, and there are no signers.
+fn has_dialog_alone(script: &Script) -> bool {
+    script.fields().len() == 1
+        && script.fields().iter().all(|field| is_dialog(field))
+        && script.signers().is_empty()
 }
 
 fn only_step(script: &Script) -> Result<&Step, Fail> {
@@ -206,9 +216,7 @@ fn is_end(alloc: Global, step: &Step) -> Result<bool, Fail> {
 #[test]
 fn one_end(rt: HostRuntime) -> Result<(), Fail> {
     let script = read(rt.alloc(), end())?;
-    assert_eq!(rt; script.fields().len(), 1);
-    assert!(rt; script.fields().iter().all(|field| is_dialog(field)));
-    assert!(rt; script.signers().is_empty());
+    assert!(rt; has_dialog_alone(&script));
     assert!(rt; script.seal().is_none());
     let step = only_step(&script)?;
     assert!(rt; is_plain(step, b"end", &[]));
@@ -225,8 +233,9 @@ fn a_sealed_end(rt: HostRuntime) -> Result<(), Fail> {
     let script = read_with(rt.alloc(), seal(), b"", sealed_end())?;
     let sealing = script.seal().ok_or("seal")?;
     assert!(rt; is_shown(rt.alloc(), sealing, shown_seal())?);
+    assert!(rt; has_dialog_alone(&script));
     let step = only_step(&script)?;
-    assert!(rt; step.sealed());
+    assert!(rt; is_single(step, b"end", &[]) && step.sealed());
     assert!(rt; is_end(rt.alloc(), step)?);
     Ok(())
 }
@@ -290,14 +299,16 @@ fn has_texts(field: &NamedField, texts: &[&'static [u8]]) -> bool {
 #[test]
 fn fields_of_two_accounts(rt: HostRuntime) -> Result<(), Fail> {
     let script = read_accounts(rt.alloc())?;
-    let [_, pin, tan, account] = script.fields() else {
+    let [dialog, pin, tan, account] = script.fields() else {
         return Err(Fail::from("four fields"));
     };
+    assert!(rt; is_dialog(dialog));
     assert!(rt; is_digits(pin, b"pin", 5, 6));
     assert!(rt; is_digits(tan, b"tan", 0, 6));
     assert_eq!(rt; account.name.as_bytes(), b"acct".as_slice());
     assert!(rt; has_texts(account, &[b"DE111", b"DE222"]));
     assert!(rt; has_signer(rt.alloc(), &script)?);
+    assert!(rt; script.seal().is_none());
     Ok(())
 }
 
@@ -316,6 +327,16 @@ fn the_step_of_two_accounts(rt: HostRuntime) -> Result<(), Fail> {
 
 fn is_branch(branch: &Branch, on: &[u8], to: Target) -> bool {
     Pattern::parse(on) == Some(branch.on) && branch.to == to
+}
+
+#[test]
+fn parts_of_a_fork(rt: HostRuntime) -> Result<(), Fail> {
+    let script = read(rt.alloc(), fork())?;
+    assert!(rt; has_dialog_alone(&script));
+    assert!(rt; script.seal().is_none());
+    let one = script.steps().first().ok_or("a step")?;
+    assert!(rt; one.signers().is_empty() && !one.sealed());
+    Ok(())
 }
 
 #[test]

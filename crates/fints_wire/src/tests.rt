@@ -1,5 +1,6 @@
 use crate::{build, least_values, worst_size, worst_values};
-use fints_rules::OrderTable;
+use fints_params::Params;
+use fints_rules::{OrderTable, Permissions, judge};
 use fints_script::{Name, Script, Values};
 use std::alloc::Global;
 use std::test::*;
@@ -8,9 +9,32 @@ pub fn script(alloc: Global, text: &[u8]) -> Result<Script, Fail> {
     Ok(Script::read(alloc, text).ok().ok_or("script")?)
 }
 
+fn table() -> &'static [u8] {
+    br#"[[order]]
+kind = "HKSAL"
+version = 5
+account = "national"
+[[order]]
+kind = "HKKAZ"
+version = 5
+account = "national"
+[[order]]
+kind = "HKSAL"
+version = 7
+account = "international"
+[[order]]
+kind = "HKKAZ"
+version = 7
+account = "international"
+[[order]]
+kind = "HKCCS"
+version = 1
+account = "international"
+"#
+}
+
 pub fn orders(alloc: Global) -> Result<OrderTable, Fail> {
-    let text = br#"order = [{kind = "HKSAL", version = 5, account = "national"}]"#;
-    Ok(OrderTable::read(alloc, text).ok().ok_or("orders")?)
+    Ok(OrderTable::read(alloc, table()).ok().ok_or("orders")?)
 }
 
 fn end() -> &'static [u8] {
@@ -147,6 +171,50 @@ fn sealed_message(rt: HostRuntime) -> Result<(), Fail> {
     Ok(())
 }
 
+fn first_capture() -> &'static [u8] {
+    b"HIBPA:3:3+12+280:10020030+Bank+1+1+300+0'\nHIPINS:9:1+1+1+0+5:38:6:::HKSAL:N:HKKAZ:N:HKCCS:J'\n"
+}
+
+// Whether the bank of the first capture finds no rule broken.
+fn is_permitted(alloc: Global, message: &[u8]) -> Result<bool, Fail> {
+    let params = Params::read(alloc, first_capture()).ok().ok_or("params")?;
+    let orders = orders(alloc)?;
+    let permissions = Permissions::build(alloc, &params, &orders)
+        .ok()
+        .ok_or("permissions")?;
+    let broken = judge(alloc, &permissions, message).ok().ok_or("message")?;
+    Ok(broken.as_slice().is_empty())
+}
+
+#[test]
+fn sealed_message_is_permitted(rt: HostRuntime) -> Result<(), Fail> {
+    let bytes = message(rt.alloc(), sealed(), 1, &[(b"dialog", b"D")])?;
+    assert!(rt; is_permitted(rt.alloc(), bytes.as_slice())?);
+    Ok(())
+}
+
+// The length of the sealed message with a pad of so many zeros.
+fn padded_length(alloc: Global, text: &[u8], zeros: usize) -> Result<usize, Fail> {
+    let mut pad = Vec::new(alloc);
+    for _ in 0..zeros {
+        pad.push(b'0')?;
+    }
+    let bytes = message(
+        alloc,
+        text,
+        1,
+        &[(b"dialog", b"D"), (b"pad", pad.as_slice())],
+    )?;
+    Ok(bytes.len())
+}
+
+#[test]
+fn padded_messages(rt: HostRuntime) -> Result<(), Fail> {
+    assert_eq!(rt; padded_length(rt.alloc(), sealed_pad(), 986)?, 1156);
+    assert_eq!(rt; padded_length(rt.alloc(), longer_sealed_pad(), 987)?, 1158);
+    Ok(())
+}
+
 #[test]
 fn worst_sizes(rt: HostRuntime) -> Result<(), Fail> {
     assert_eq!(rt; worst(rt.alloc(), bal(), 1)?, 195);
@@ -172,6 +240,8 @@ fn worst_choice(rt: HostRuntime) -> Result<(), Fail> {
     let worst = worst_values(rt.alloc(), &plan).ok().ok_or("memory")?;
     match worst.pairs() {
         [dialog, pad] => {
+            assert_eq!(rt; dialog.name.as_bytes(), b"dialog".as_slice());
+            assert_eq!(rt; pad.name.as_bytes(), b"pad".as_slice());
             assert_eq!(rt;
                 dialog.value.as_slice(),
                 b"??????????????????????????????".as_slice()
@@ -192,6 +262,9 @@ fn least_choice(rt: HostRuntime) -> Result<(), Fail> {
     let least = least_values(rt.alloc(), &plan).ok().ok_or("memory")?;
     match least.pairs() {
         [dialog, pin, tan] => {
+            assert_eq!(rt; dialog.name.as_bytes(), b"dialog".as_slice());
+            assert_eq!(rt; pin.name.as_bytes(), b"pin".as_slice());
+            assert_eq!(rt; tan.name.as_bytes(), b"tan".as_slice());
             assert_eq!(rt; dialog.value.as_slice(), b"A".as_slice());
             assert_eq!(rt; pin.value.as_slice(), b"00000".as_slice());
             assert_eq!(rt; tan.value.as_slice(), b"".as_slice());

@@ -139,6 +139,35 @@ fn again(rt: HostRuntime) -> Result<(), Fail> {
     Ok(())
 }
 
+// A step that may be sent four times in a row.
+fn patient() -> &'static [u8] {
+    br#"
+[[step]]
+name = "ask"
+repeat = 4
+segments = [{kind = "HKEND", version = 1, elements = ["$dialog"]}]
+default = "again"
+"#
+}
+
+const THIRD: &[u8] = b"HNHBK:1:3+000000000055+300+D+3'HKEND:2:1+D'HNHBS:3:1+3'";
+
+const FOURTH: &[u8] = b"HNHBK:1:3+000000000055+300+D+4'HKEND:2:1+D'HNHBS:3:1+4'";
+
+#[test]
+fn again_three_times(rt: HostRuntime) -> Result<(), Fail> {
+    let other: &[u16] = &[20];
+    let sent = sent(rt.alloc(), patient(), &[other, other, other])?;
+    let [first, second, third, fourth] = sent.as_slice() else {
+        return Err(Fail::from("four messages"));
+    };
+    assert!(rt; is(first, 1, 1, ONE));
+    assert!(rt; is(second, 1, 2, DONE));
+    assert!(rt; is(third, 1, 3, THIRD));
+    assert!(rt; is(fourth, 1, 4, FOURTH));
+    Ok(())
+}
+
 // Two signers, a binary literal and field, a listed text and a text of syntax characters.
 fn rich() -> &'static [u8] {
     br#"

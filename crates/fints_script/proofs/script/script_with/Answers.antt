@@ -12,20 +12,20 @@ steps_of-requires c = (counts_kept (table_view c.args.table.now) c.requires.top)
 pub invariant_of-result : goal.invariant_of-result
 invariant_of-result c = (
   table_view c.args.table.now,
-  whole_script _ _ _ _ _ _ _ _ _ _ c.requires c.as_slice.ensures.value c.as_slice-2.ensures.value c.as_slice-3.ensures.value c.as_slice-4.ensures.value c.as_ref.ensures.value
-      c.in_ok-signers.ensures.clean c.in_ok-signers.ensures.signers c.in_ok-seal.ensures.clean c.in_ok-seal.ensures.seal c.in-Ok.ensures.clean c.in-Ok.ensures.steps,
+  whole_script _ _ _ _ _ _ _
+      (has_seal _ _ _ _ c.requires c.in_ok-signers.ensures.clean c.in_ok-signers.ensures.signers c.in_ok-seal.ensures.clean c.in_ok-seal.ensures.seal)
+      c.as_slice.ensures.value c.as_ref.ensures.value c.in-Ok.ensures.clean c.in-Ok.ensures.steps,
 )
 
 pub returns-in-Ok-clause-script : goal.returns-in-Ok-clause-script
 returns-in-Ok-clause-script c =
-    whole_script _ _ _ _ _ _ _ _ _ _ c.requires c.as_slice.ensures.value c.as_slice-2.ensures.value c.as_slice-3.ensures.value c.as_slice-4.ensures.value c.as_ref.ensures.value
-    c.in_ok-signers.ensures.clean c.in_ok-signers.ensures.signers c.in_ok-seal.ensures.clean c.in_ok-seal.ensures.seal c.in-Ok.ensures.clean c.in-Ok.ensures.steps
+    whole_script _ _ _ _ _ _ _
+    (has_seal _ _ _ _ c.requires c.in_ok-signers.ensures.clean c.in_ok-signers.ensures.signers c.in_ok-seal.ensures.clean c.in_ok-seal.ensures.seal)
+    c.as_slice.ensures.value c.as_ref.ensures.value c.in-Ok.ensures.clean c.in-Ok.ensures.steps
 
 pub returns-in-Err-clause-fault : goal.returns-in-Err-clause-fault
 returns-in-Err-clause-fault c =
     let ms = table_view c.args.table.now in
-    let around = same_around ms _ _ _ _ _ _ c.as_slice-3.ensures.value c.as_slice-4.ensures.value c.as_ref.ensures.value in
-    step_refused ms c.args.fields.items c.in_ok-signers.signers.items c.in_ok-seal.seal _ c.in-Err.fault
-    (has_seal ms c.args.fields.items _ _ c.in_ok-signers.signers.items c.in_ok-seal.seal c.requires c.as_slice.ensures.value c.as_slice-2.ensures.value
-    c.in_ok-signers.ensures.clean c.in_ok-signers.ensures.signers c.in_ok-seal.ensures.clean c.in_ok-seal.ensures.seal)
-    around c.in-Err.ensures.fault
+    step_refused ms c.args.fields c.in_ok-signers.signers.items c.in_ok-seal.seal _ c.in-Err.fault
+    (has_seal _ _ _ _ c.requires c.in_ok-signers.ensures.clean c.in_ok-signers.ensures.signers c.in_ok-seal.ensures.clean c.in_ok-seal.ensures.seal)
+    (same_around ms _ _ _ _ _ c.as_slice.ensures.value c.as_ref.ensures.value) c.in-Err.ensures.fault
