@@ -10,7 +10,6 @@ pub mod ItemLists
 pub mod Spending
 pub mod NameTests
 pub mod PatternTests
-pub mod RowLists
 pub mod FieldLemmas
 pub mod TextLemmas
 pub mod CleanFields
@@ -26,4 +25,4 @@ pub mod SoundTargets
 pub mod SoundScripts
 pub mod SoundParts
 pub mod SoundSteps
-pub mod FieldPlaces
+pub mod FirstPlaces

@@ -11,6 +11,11 @@ text_at key ms = option_and_then as_str (get_member key ms)
 abbrev pub has_key : List ℕ → Members → Bool
 has_key key ms = is_some (get_member key ms)
 
+-- the name of a row, where it is a table that has one
+abbrev pub name_in : Data → Option (List ℕ)
+name_in (table ms) = text_at (codes "name") ms
+name_in _ = None
+
 -- there is a value, and it is this text
 abbrev pub holds_text : List ℕ → Option Data → Bool
 holds_text text (Some (string other)) = bytes_eq text other

@@ -21,3 +21,4 @@ pub mod Cases
 pub mod CaseReading
 pub mod Plans
 pub mod Sound
+pub mod Places

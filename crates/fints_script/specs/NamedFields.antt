@@ -1,5 +1,5 @@
 -- Fields by their names.
-use Rattle.std.specs.Prelude.{◌≡◌, ℕ, Bool, true, false, List, position, slice_get, Option, Some, None, option_and_then}
+use Rattle.std.specs.Prelude.{ℕ, Bool, true, false, List, position, slice_get, Option, Some, None, option_and_then}
 use Rattle.std.specs.Str.{bytes_eq}
 use Rattle.fints_fields.specs.declared.field.Field.{Field}
 use Rattle.fints_fields.specs.declared.field.Field.TheVariants.{Account}
@@ -11,10 +11,6 @@ is_field_named name field = bytes_eq name field.name
 -- the place, from 0 on, of the first field of the name
 abbrev pub place_of_field : List NamedField → List ℕ → Option ℕ
 place_of_field fields name = position (is_field_named name) fields
-
--- under each name stands the place of the first field of it
-abbrev pub HoldsPlaces : List NamedField → (List ℕ → Option ℕ) → Type 0
-HoldsPlaces fields place_at = (name : List ℕ) → place_at name ≡ place_of_field fields name
 
 abbrev pub is_account : Field → Bool
 is_account (Account c) = true

@@ -90,9 +90,12 @@ pub record AreFields (rows : List Data) (fields : List NamedField) : Type 0 wher
   pub built_in : IsDialogField dialog
   pub each : AllZip (λ row (f : NamedField). IsFieldOf row f.name f.class) rows others
 
--- what the steps rest on
+-- what the steps in these rows rest on
+abbrev pub surroundings_on : List Data → List NamedField → List Signer → Option (List (List TemplateItem)) → Surroundings
+surroundings_on rows fields signers seal = record { fields = fields; figures = map figures_of fields; signers = signers; seal = seal; rows = rows }
+
 abbrev pub surroundings : Members → List NamedField → List Signer → Option (List (List TemplateItem)) → Surroundings
-surroundings ms fields signers seal = record { fields = fields; figures = map figures_of fields; signers = signers; seal = seal; rows = step_rows ms }
+surroundings ms fields signers seal = surroundings_on (step_rows ms) fields signers seal
 
 -- ---- the script that a table denotes, part by part
 

@@ -1,8 +1,8 @@
 //! What a step rests on.
 use crate::fields::Fields;
+use crate::named_rows::NamedRows;
 use crate::template::{Signer, TemplateElements};
 use crate::weights::Figures;
-use toml::Value;
 
 /// What a step rests on: the fields of the script with their figures, its signers, its seal if any,
 /// and all rows of `step`.
@@ -12,5 +12,5 @@ pub struct Around<'a> {
     pub figures: &'a [Figures],
     pub signers: &'a [Signer],
     pub seal: Option<&'a TemplateElements>,
-    pub rows: &'a [Value],
+    pub rows: &'a NamedRows<'a>,
 }

@@ -1,5 +1,5 @@
 //! Branches of steps, and where they lead.
-ghost use Rattle.std.specs.Prelude.{◌≡◌, ◌<◌, codes, length, map, option_map, position, take, IfOk, ◌+◌};
+ghost use Rattle.std.specs.Prelude.{◌≡◌, ◌<◌, codes, length, map, option_map, take, IfOk, ◌+◌};
 ghost use Rattle.std.specs.List.{list_any};
 ghost use Rattle.toml.specs.View.{view, table_view};
 ghost use Rattle.fints_script.specs.Entries.{is_named};
@@ -8,8 +8,9 @@ ghost use Rattle.fints_script.specs.Steps.{is_word, target_name_has, target_has,
 
 use crate::answers::{Branch, Target};
 use crate::element_faults::is_wrong_kind;
-use crate::entries::{has_key, is_named, some_is_named, text_at};
+use crate::entries::{has_key, text_at};
 use crate::fault::FaultKind;
+use crate::named_rows::NamedRows;
 use crate::pattern::Pattern;
 use crate::tables::is_no_text;
 use fints_rules::document;
@@ -25,26 +26,29 @@ pub fn is_word(text: &str) -> bool
 }
 
 // Whether the first row of this name is that row or an earlier one.
-fn is_backward(rows: &[Value], row: usize, text: &str) -> bool
+fn is_backward(rows: &NamedRows<'_>, row: usize, text: &str) -> bool
     requires { row < length rows.now }
     ensures { result ≡ list_any (is_named text.now) (take (row + 1) (map view rows.now)) }
 {
-    some_is_named(text, &rows[..row + 1])
+    match rows.place_of(text) {
+        Some(place) => place <= row,
+        None => false,
+    }
 }
 
-fn name_has(kind: FaultKind, rows: &[Value], row: usize, text: &str) -> bool
+fn name_has(kind: FaultKind, rows: &NamedRows<'_>, row: usize, text: &str) -> bool
     requires { row < length rows.now }
     ensures { result ≡ target_name_has kind (map view rows.now) row text.now }
 {
     match kind {
-        FaultKind::NoSuchName => !is_word(text) && !some_is_named(text, rows),
+        FaultKind::NoSuchName => !is_word(text) && !rows.has(text),
         FaultKind::BackwardJump => !is_word(text) && is_backward(rows, row, text),
         _ => false,
     }
 }
 
 /// Whether a fault of this kind stands in a target of the step in this row, counted from 0.
-pub fn target_has(kind: FaultKind, rows: &[Value], row: usize, target: Option<&Value>) -> bool
+pub fn target_has(kind: FaultKind, rows: &NamedRows<'_>, row: usize, target: Option<&Value>) -> bool
     requires { row < length rows.now }
     ensures { result ≡ target_has kind (map view rows.now) row (option_map (λ v. view v.now) target.entry) }
 {
@@ -71,7 +75,7 @@ fn is_no_pattern(text: Option<&str>) -> bool
 }
 
 #[tactic(auto, unfolding(crate::specs::Steps::branch_keys_have))]
-fn keys_have(kind: FaultKind, rows: &[Value], row: usize, table: &Table) -> bool
+fn keys_have(kind: FaultKind, rows: &NamedRows<'_>, row: usize, table: &Table) -> bool
     requires { row < length rows.now }
     ensures { result ≡ branch_keys_have kind (map view rows.now) row (table_view table.now) }
 {
@@ -87,7 +91,7 @@ fn keys_have(kind: FaultKind, rows: &[Value], row: usize, table: &Table) -> bool
     }
 }
 
-fn branch_has(kind: FaultKind, rows: &[Value], row: usize, branch: &Value) -> bool
+fn branch_has(kind: FaultKind, rows: &NamedRows<'_>, row: usize, branch: &Value) -> bool
     requires { row < length rows.now }
     ensures { result ≡ branch_has kind (map view rows.now) row (view branch.now) }
 {
@@ -98,7 +102,12 @@ fn branch_has(kind: FaultKind, rows: &[Value], row: usize, branch: &Value) -> bo
 }
 
 /// Whether a fault of this kind stands in some branch of the step in this row, counted from 0.
-pub fn some_branch_has(kind: FaultKind, rows: &[Value], row: usize, branches: &[Value]) -> bool
+pub fn some_branch_has(
+    kind: FaultKind,
+    rows: &NamedRows<'_>,
+    row: usize,
+    branches: &[Value],
+) -> bool
     requires { row < length rows.now }
     ensures { result ≡ list_any (branch_has kind (map view rows.now) row) (map view branches.now) }
 {
@@ -110,31 +119,19 @@ pub fn some_branch_has(kind: FaultKind, rows: &[Value], row: usize, branches: &[
     false
 }
 
-fn first_shown(rows: &[Value], name: &str) -> Option<usize>
-    ensures { result ≡ position (λ row. is_named name.now (view row)) rows.now }
-{
-    rows.iter().position(|row| is_named(name, row))
-}
-
-fn first_named(rows: &[Value], name: &str) -> Option<usize>
-    ensures { result ≡ position (is_named name.now) (map view rows.now) }
-{
-    first_shown(rows, name)
-}
-
-fn target_named(rows: &[Value], text: &str) -> Target
+fn target_named(rows: &NamedRows<'_>, text: &str) -> Target
     requires { length rows.now < 65535 }
     ensures { result ≡ target_named (map view rows.now) text.now }
 {
     match text {
         "again" => Target::Again,
         "stop" => Target::Stop,
-        _ => Target::Step(first_named(rows, text).unwrap_or(0) as u16 + 1),
+        _ => Target::Step(rows.place_of(text).unwrap_or(0) as u16 + 1),
     }
 }
 
 /// Where a target leads; an absent one is `stop`.
-pub fn target_value(rows: &[Value], text: Option<&str>) -> Target
+pub fn target_value(rows: &NamedRows<'_>, text: Option<&str>) -> Target
     requires { length rows.now < 65535 }
     ensures { result ≡ target_value (map view rows.now) (option_map (λ t. t.now) text.entry) }
 {
@@ -160,7 +157,7 @@ fn pattern_of(text: Option<&str>) -> Pattern
     }
 }
 
-fn branch_of(rows: &[Value], branch: &Value) -> Branch
+fn branch_of(rows: &NamedRows<'_>, branch: &Value) -> Branch
     requires { length rows.now < 65535 }
     ensures { result ≡ branch_of (map view rows.now) (view branch.now) }
 {
@@ -177,7 +174,11 @@ fn branch_of(rows: &[Value], branch: &Value) -> Branch
 }
 
 /// The branches of a step.
-pub fn branches_of(alloc: Global, rows: &[Value], branches: &[Value]) -> Result<Vec<Branch>, Memory>
+pub fn branches_of(
+    alloc: Global,
+    rows: &NamedRows<'_>,
+    branches: &[Value],
+) -> Result<Vec<Branch>, Memory>
     requires { length rows.now < 65535 }
     ensures { IfOk result (λ v. v.items ≡ map (branch_of (map view rows.now)) (map view branches.now)) }
 {

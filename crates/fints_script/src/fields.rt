@@ -1,8 +1,9 @@
 //! The fields of a script by their names.
-ghost use Rattle.std.specs.Prelude.{◌≡◌, IfOk};
+ghost use Rattle.std.specs.Prelude.{◌≡◌, ℕ, List, IfOk, OnOk};
 ghost use Rattle.std.specs.Str.{bytes_eq};
 ghost use Rattle.indexmap.specs.IndexMap.{get};
-ghost use Rattle.fints_script.specs.NamedFields.{place_of_field, is_account_named, is_account, HoldsPlaces};
+ghost use Rattle.fints_script.specs.NamedFields.{place_of_field, is_field_named, is_account_named, is_account};
+ghost use Rattle.fints_script.specs.Places.{first_place, HoldsPlaces};
 
 use fints_fields::{Field, Name};
 use fints_syntax::Memory;
@@ -36,26 +37,33 @@ impl Model for Fields {
     ghost use Rattle.std.specs.Prelude.{List};
     ghost use Rattle.std.specs.Str.{bytes_eq};
     ghost use Rattle.indexmap.specs.IndexMap.{get};
-    ghost use Rattle.fints_script.specs.NamedFields.{HoldsPlaces};
+    ghost use Rattle.fints_script.specs.NamedFields.{is_field_named};
+    ghost use Rattle.fints_script.specs.Places.{HoldsPlaces};
     ghost use Rattle.fints_script.specs.declared.fields.NamedField.{NamedField};
 
     ghost Value = { List NamedField };
 
     ghost view = { λ f. f.list.items };
 
-    ghost invariant = { λ f. HoldsPlaces f.list.items (get bytes_eq f.places) };
+    ghost invariant = { λ f. HoldsPlaces is_field_named f.list.items (get bytes_eq f.places) };
 }
 
-// The place of the first field of each name.
+// Notes the place of a name, unless one is there.
+fn note(places: &mut IndexMap<Name, usize>, name: Name, place: usize) -> Result<(), Memory>
+    ensures { OnOk result ((q : List ℕ) → get bytes_eq places.new q ≡ first_place (get bytes_eq places.old q) (bytes_eq q name) place) }
+{
+    if !places.contains_key(&name) {
+        places.insert(name, place)?;
+    }
+    Ok(())
+}
+
 fn places_of(alloc: Global, fields: &[NamedField]) -> Result<IndexMap<Name, usize>, Memory>
-    ensures { IfOk result (λ m. HoldsPlaces fields.now (get bytes_eq m)) }
+    ensures { IfOk result (λ m. HoldsPlaces is_field_named fields.now (get bytes_eq m)) }
 {
     let mut places = IndexMap::new(alloc);
     for i in 0..fields.len() {
-        let name = fields[i].name;
-        if !places.contains_key(&name) {
-            places.insert(name, i)?;
-        }
+        note(&mut places, fields[i].name, i)?;
     }
     Ok(places)
 }

@@ -20,6 +20,7 @@ mod fields;
 mod item_text;
 mod kinds;
 pub mod laws;
+mod named_rows;
 mod opens;
 mod pattern;
 mod plan;

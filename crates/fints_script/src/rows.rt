@@ -58,7 +58,7 @@ pub fn read_steps(alloc: Global, around: &Around<'_>) -> Result<Vec<Step>, Scrip
     ensures fault { IfErr result (RefusesRow (λ n. places.Step n) (step_fault (surroundings_of around.now)) (map view around.now.rows.now)) }
 {
     let mut steps = Vec::new(alloc);
-    let rows = around.rows;
+    let rows = around.rows.as_slice();
     for i in 0..rows.len() {
         match read_step(alloc, around, i, &rows[i]) {
             Ok(step) => steps.push(step)?,

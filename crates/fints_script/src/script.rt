@@ -8,7 +8,7 @@ ghost use Rattle.fints_script.specs.Faults.{Tells, AreClean};
 ghost use Rattle.fints_script.specs.RowFaults.{RefusesRow, RefusesSeal};
 ghost use Rattle.fints_script.specs.Steps.{step_fault, step_of};
 ghost use Rattle.fints_script.specs.declared.fault.Place.TheVariants as places;
-ghost use Rattle.fints_script.specs.Scripts.{ScriptValue, top_has, top_fault, rows_are_wrong, counts_are_past, IsScriptOf, HasFields, RefusesTable, IsRead, Denotes, Refuses, at_top, signer_rows, step_rows, look_at_signer, surroundings};
+ghost use Rattle.fints_script.specs.Scripts.{ScriptValue, top_has, top_fault, rows_are_wrong, counts_are_past, IsScriptOf, HasFields, RefusesTable, IsRead, Denotes, Refuses, at_top, signer_rows, step_rows, look_at_signer, surroundings, surroundings_on};
 ghost use Rattle.fints_script.specs.Signers.{signer_of, seal_fault, seal_value};
 
 use crate::around::Around;
@@ -17,6 +17,7 @@ use crate::fault::{FaultKind, Place, ScriptFault};
 use crate::field_rows::read_fields;
 use crate::fields::{Fields, NamedField};
 use crate::kinds::KINDS;
+use crate::named_rows::NamedRows;
 use crate::rows::{placed, read_signers, read_steps};
 use crate::signers::read_seal;
 use crate::steps::Step;
@@ -163,6 +164,30 @@ fn seal_of(
     }
 }
 
+// The steps of these rows, given the fields, the signers and the seal.
+fn steps_in(
+    alloc: Global,
+    rows: &NamedRows<'_>,
+    fields: &Fields,
+    signers: &[Signer],
+    seal: Option<&TemplateElements>,
+) -> Result<Vec<Step>, ScriptFault>
+    requires { length rows.now ≤ 200 }
+    ensures clean { IfOk result (λ v. AreClean (step_fault (surroundings_on (map view rows.now) fields.now signers.now (option_map (λ s. s.now) seal.entry))) (map view rows.now) (length rows.now)) }
+    ensures steps { IfOk result (λ v. v.items ≡ map (step_of (surroundings_on (map view rows.now) fields.now signers.now (option_map (λ s. s.now) seal.entry))) (map view rows.now)) }
+    ensures fault { IfErr result (RefusesRow (λ n. places.Step n) (step_fault (surroundings_on (map view rows.now) fields.now signers.now (option_map (λ s. s.now) seal.entry))) (map view rows.now)) }
+{
+    let figures = all_figures(alloc, fields.as_slice())?;
+    let around = Around {
+        fields,
+        figures: figures.as_slice(),
+        signers,
+        seal,
+        rows,
+    };
+    read_steps(alloc, &around)
+}
+
 // The steps of a table, given its fields, its signers and its seal.
 fn steps_of(
     alloc: Global,
@@ -176,15 +201,8 @@ fn steps_of(
     ensures steps { IfOk result (λ v. v.items ≡ map (step_of (surroundings (table_view table.now) fields.now signers.now (option_map (λ s. s.now) seal.entry))) (step_rows (table_view table.now))) }
     ensures fault { IfErr result (RefusesRow (λ n. places.Step n) (step_fault (surroundings (table_view table.now) fields.now signers.now (option_map (λ s. s.now) seal.entry))) (step_rows (table_view table.now))) }
 {
-    let figures = all_figures(alloc, fields.as_slice())?;
-    let around = Around {
-        fields,
-        figures: figures.as_slice(),
-        signers,
-        seal,
-        rows: rows_of(document::member(table, "step")),
-    };
-    read_steps(alloc, &around)
+    let rows = NamedRows::new(alloc, rows_of(document::member(table, "step")))?;
+    steps_in(alloc, &rows, fields, signers, seal)
 }
 
 // The signers of a table, given its fields.

@@ -20,8 +20,8 @@ use fints_syntax::Memory;
 use std::alloc::Global;
 use toml::{Table, Value};
 
-/// Whether an earlier row has the name.
-pub fn is_taken(earlier: &[Value], name: Option<&str>) -> bool
+// Whether an earlier row has the name.
+fn is_taken(earlier: &[Value], name: Option<&str>) -> bool
     ensures { result ≡ is_taken (map view earlier.now) (option_map (λ n. n.now) name.entry) }
 {
     match name {

@@ -14,8 +14,8 @@ use crate::branches::{is_word, some_branch_has, target_has};
 use crate::entries::{has_key, is_no_name, text_at};
 use crate::fault::FaultKind;
 use crate::kinds::KINDS;
+use crate::named_rows::NamedRows;
 use crate::segments::some_segment_has;
-use crate::signers::is_taken;
 use crate::tables::{
     is_no_array, is_no_flag, is_no_integer, is_no_list, is_outside, is_set, rows_of,
 };
@@ -117,15 +117,18 @@ fn lacks_keys(has_seal: bool, table: &Table) -> bool
 }
 
 // Whether an earlier row has the name.
-fn is_earlier(rows: &[Value], row: usize, name: Option<&str>) -> bool
+fn is_earlier(rows: &NamedRows<'_>, row: usize, name: Option<&str>) -> bool
     requires { row < length rows.now }
     ensures { result ≡ is_taken (take row (map view rows.now)) (option_map (λ n. n.now) name.entry) }
 {
-    is_taken(&rows[..row], name)
+    match name {
+        None => false,
+        Some(name) => rows.has_before(name, row),
+    }
 }
 
 // Whether the name may not stand here, since it is a word or that of an earlier row.
-fn is_second(rows: &[Value], row: usize, table: &Table) -> bool
+fn is_second(rows: &NamedRows<'_>, row: usize, table: &Table) -> bool
     requires { row < length rows.now }
     ensures { result ≡ is_second (map view rows.now) row (table_view table.now) }
 {

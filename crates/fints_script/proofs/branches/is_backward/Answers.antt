@@ -1,9 +1,16 @@
-use Rattle.std.proofs.Common.{ap, ◌∙◌, ◌+◌, sym}
-use Rattle.std.specs.List.{list_any}
-use Rattle.std.proofs.lemmas.List.{take-map}
+use Rattle.std.proofs.Common.{◌≡◌, ◌∙◌, ◌+◌, ℕ, map, sym, nat_lt, arith}
+use Rattle.std.specs.Prelude.{nat_le}
+use Rattle.std.proofs.lemmas.Bool.Decides.{nat_tests}
 use Rattle.toml.specs.View.{view}
 use Rattle.fints_script.specs.Entries.{is_named}
+use Rattle.fints_script.proofs.FirstPlaces.{before_some, before_none}
 use Rattle.fints_script.proofs.branches.is_backward.Goals as goal
 
-pub returns : goal.returns
-returns c = c.some_is_named.ensures ∙ ap (list_any (is_named c.args.text.now)) (sym (take-map view (c.args.row + 1) c.args.rows.now))
+up_to : (m n : ℕ) → nat_lt m (n + 1) ≡ nat_le m n
+up_to m n = grind (arith, nat_tests)
+
+pub returns-in-Some : goal.returns-in-Some
+returns-in-Some c = sym (before_some (is_named c.args.text.now) (map view c.args.rows.now) (c.args.row + 1) c.in-Some.place (sym c.place_of.ensures ∙ c.in-Some.is) ∙ up_to c.in-Some.place c.args.row)
+
+pub returns-in-None : goal.returns-in-None
+returns-in-None c = sym (before_none (is_named c.args.text.now) (map view c.args.rows.now) (c.args.row + 1) (sym c.place_of.ensures ∙ c.in-None.is))

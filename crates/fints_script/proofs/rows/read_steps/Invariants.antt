@@ -7,6 +7,6 @@ use Rattle.fints_script.proofs.rows.read_steps.Given as goal
 
 abbrev pub invariant-loop-i : goal.invariant-loop-i
 invariant-loop-i l = record {
-  clean : AreClean (step_fault (surroundings_of l.around)) (map view l.around.rows.now) l.i;
-  steps : l.steps.items ≡ map (step_of (surroundings_of l.around)) (map view (take l.i l.around.rows.now));
+  clean : AreClean (step_fault (surroundings_of l.around)) (map view l.rows) l.i;
+  steps : l.steps.items ≡ map (step_of (surroundings_of l.around)) (map view (take l.i l.rows));
 }

@@ -1,0 +1,10 @@
+-- Where the items of a list that have a name stand.
+use Rattle.std.specs.Prelude.{◌≡◌, ℕ, Bool, List, position, Option, Some, None, is_some, if◌then◌else◌}
+
+-- under each name stands the place, from 0 on, of the first item that has it
+abbrev pub HoldsPlaces : {X : Type 0} → (List ℕ → X → Bool) → List X → (List ℕ → Option ℕ) → Type 0
+HoldsPlaces has items place_of = (name : List ℕ) → place_of name ≡ position (has name) items
+
+-- the first place once item i is looked at too: the one before it, or i where the item has the name
+abbrev pub first_place : Option ℕ → Bool → ℕ → Option ℕ
+first_place earlier has i = if is_some earlier then earlier else if has then Some i else None
