@@ -1,6 +1,6 @@
 //! What stands at the keys of a table.
 ghost use Rattle.std.specs.Prelude.{◌≡◌, map, option_map};
-ghost use Rattle.std.specs.List.{find, list_all, list_any};
+ghost use Rattle.std.specs.List.{list_all, list_any};
 ghost use Rattle.toml.specs.View.{table_view, view};
 ghost use Rattle.fints_script.specs.Entries.{has_key, is_name, is_name_byte, is_named, is_no_name, text_at};
 
@@ -43,18 +43,6 @@ pub fn some_is_named(name: &str, entries: &[Value]) -> bool
         }
     }
     false
-}
-
-/// The first entry that is a table with this name.
-pub fn entry_named<'a>(name: &str, entries: &'a [Value]) -> Option<&'a Value>
-    ensures { option_map (λ v. view v.now) result ≡ find (is_named name.now) (map view entries.now) }
-{
-    for entry in entries {
-        if is_named(&*name, entry) {
-            return Some(entry);
-        }
-    }
-    None
 }
 
 fn is_name_byte(b: u8) -> bool
