@@ -1,13 +1,11 @@
 //! Names of fields, signers and steps.
 ghost use Rattle.std.specs.Prelude.{◌≡◌, ◌↔◌, ℕ, List, length, SomeIff, IsTrue};
-ghost use Rattle.std.proofs.Common.{rules, ap};
-ghost use Rattle.std.specs.Cmp.Lexicographic.{bytes_decides, nat_list_eq_equiv};
+ghost use Rattle.std.proofs.Common.{rules};
 ghost use Rattle.std.specs.Cmp.Rules.{comparing, hashing};
 ghost use Rattle.std.specs.Hash as fed;
 ghost use Rattle.std.specs.Str.{bytes_eq};
 ghost use Rattle.fints_fields.specs.Names.{IsName, IsNameByte};
 
-use indexmap::Equivalent;
 use std::hash::{Hash, Hasher};
 use std::marker::Model;
 
@@ -58,19 +56,6 @@ impl Hash for Name {
 
     fn hash<H: Hasher>(&self, state: &mut H) {
         self.as_bytes().hash(state);
-    }
-}
-
-/// A name is looked up by the bytes of any text; those of a text that is no name find nothing.
-impl Equivalent<Name> for &[u8] {
-    ghost equivalent = { λ q k. bytes_eq q.now k };
-
-    ghost respects_hash = { λ q k h. ap (fed.slice fed.u8) ((bytes_decides q.now k).0 h) };
-
-    ghost respects_eq = { λ q x y. nat_list_eq_equiv.congr q.now x y };
-
-    fn equivalent(&self, key: &Name) -> bool {
-        *self == key.as_bytes()
     }
 }
 

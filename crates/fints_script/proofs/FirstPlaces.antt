@@ -1,5 +1,5 @@
 -- Where the items of a list that have a name stand, as items are looked at.
-use Rattle.std.proofs.Common.{◌≡◌, ℕ, ◌+◌, ◌<◌, ◌≤◌, Bool, true, false, ◌&&◌, cond, List, [], ◌∷◌, ◌++◌, length, get_or, take, nat_lt, map, codes, Option, Some, None, refl, ap, subst, sym, ◌∙◌, inl, inr, arith, zero, suc}
+use Rattle.std.proofs.Common.{◌≡◌, ℕ, All, ◌+◌, ◌<◌, ◌≤◌, Bool, true, false, ◌&&◌, cond, List, [], ◌∷◌, ◌++◌, length, get_or, take, nat_lt, map, codes, Option, Some, None, refl, ap, subst, sym, ◌∙◌, inl, inr, arith, zero, suc}
 use Rattle.std.specs.Prelude.{is_some, position, option_and_then}
 use Rattle.std.specs.List.{position_or_len, list_any}
 use Rattle.std.specs.Str.{bytes_eq}
@@ -7,11 +7,15 @@ use Rattle.std.proofs.Math.Seq.{take-length}
 use Rattle.std.proofs.lemmas.Bool.{cases_Bool, false≢true}
 use Rattle.std.proofs.lemmas.Bool.Decides.{nat_tests}
 use Rattle.std.proofs.lemmas.List.{take_more, length_push, length-take-le, length-map, get_or-map}
-use Rattle.std.proofs.lemmas.List.Folds.{position_or_len_push}
+use Rattle.std.proofs.lemmas.List.Folds.{position_or_len_push, list_any_none}
+use Rattle.std.proofs.lemmas.List.Elements.{All-push}
 use Rattle.std.proofs.lemmas.Slice.Eq.{bytes_eq-Decides}
 use Rattle.toml.specs.declared.value.Value.{Value}
 use Rattle.toml.specs.Data.{Data, string, integer, float, boolean, datetime, array, table, get_member, as_str}
 use Rattle.toml.specs.View.{view}
+use Rattle.fints_fields.specs.Names.{IsName}
+use Rattle.fints_script.specs.declared.fields.NamedField.{NamedField}
+use Rattle.fints_script.specs.NamedFields.{AreNamed, is_field_named, place_of_field}
 use Rattle.fints_script.specs.Entries.{holds_text, is_named, name_in}
 use Rattle.fints_script.specs.Places.{first_place}
 
@@ -88,6 +92,14 @@ module _ {X : Type 0} (p : X → Bool) where
       never : (b : Bool) → (b && false) ≡ false
       never true = refl
       never false = refl
+
+  none_of : (o : Option ℕ) → is_some o ≡ false → o ≡ None
+  none_of None h = refl
+  none_of (Some n) h = absurd (false≢true (sym h))
+
+  -- where no item passes, there is no first
+  pub nowhere : (xs : List X) → All (λ x. p x ≡ false) xs → position p xs ≡ None
+  nowhere xs fails = none_of (position p xs) (sym (any_found xs) ∙ list_any_none p xs fails)
 
 -- an item without a name changes nothing
 pub nameless : (o : Option ℕ) (i : ℕ) → first_place o false i ≡ o
@@ -169,3 +181,18 @@ pub row_more : (rows : List Value) (i : ℕ) (d : Value) (q : List ℕ) (o : Opt
 row_more rows i d q o has here named so_far =
     ap (λ t. first_place o t i) (sym named ∙ ap (is_named q) (sym (get_or-map view rows i d (view d) here)))
     ∙ place_more (is_named q) (map view rows) i (view d) o (subst (λ n. i < n) (sym (length-map rows view)) here) so_far
+
+-- ---- names of fields
+
+-- a text that is no name is that of no field
+pub no_field : (fields : List NamedField) (text : List ℕ) → (IsName text → ⊥) → AreNamed fields → place_of_field fields text ≡ None
+no_field fields text bad named =
+    nowhere (is_field_named text) fields
+    (λ i d lt. elim (cases_Bool (bytes_eq text (get_or fields i d).name)) [
+      | inl same ↦ absurd (bad (subst IsName (sym ((bytes_eq-Decides text (get_or fields i d).name).0 same)) (named i d lt)))
+      | inr other ↦ other
+    ])
+
+pub named_more : (fields : List NamedField) (i : ℕ) (d : NamedField) → i < length fields → AreNamed (take i fields) → IsName (get_or fields i d).name → AreNamed (take (i + 1) fields)
+named_more fields i d here before is =
+    subst AreNamed (sym (take_more fields i d here)) (All-push (λ (field : NamedField). IsName field.name) (take i fields) (get_or fields i d) before is)

@@ -1,12 +1,18 @@
 -- Fields by their names.
 use Rattle.std.specs.Prelude.{ℕ, Bool, true, false, List, position, slice_get, Option, Some, None, option_and_then}
 use Rattle.std.specs.Str.{bytes_eq}
+use Rattle.std.specs.List.{All}
+use Rattle.fints_fields.specs.Names.{IsName}
 use Rattle.fints_fields.specs.declared.field.Field.{Field}
 use Rattle.fints_fields.specs.declared.field.Field.TheVariants.{Account}
 use Rattle.fints_script.specs.declared.fields.NamedField.{NamedField}
 
 abbrev pub is_field_named : List ℕ → NamedField → Bool
 is_field_named name field = bytes_eq name field.name
+
+-- each has a name, and no other text
+abbrev pub AreNamed : List NamedField → Type 0
+AreNamed fields = All (λ (field : NamedField). IsName field.name) fields
 
 -- the place, from 0 on, of the first field of the name
 abbrev pub place_of_field : List NamedField → List ℕ → Option ℕ

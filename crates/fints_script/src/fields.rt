@@ -2,7 +2,7 @@
 ghost use Rattle.std.specs.Prelude.{◌≡◌, ℕ, List, IfOk, OnOk};
 ghost use Rattle.std.specs.Str.{bytes_eq};
 ghost use Rattle.indexmap.specs.IndexMap.{get};
-ghost use Rattle.fints_script.specs.NamedFields.{place_of_field, is_field_named, is_account_named, is_account};
+ghost use Rattle.fints_script.specs.NamedFields.{place_of_field, is_field_named, is_account_named, is_account, AreNamed};
 ghost use Rattle.fints_script.specs.Places.{first_place, HoldsPlaces};
 
 use fints_fields::{Field, Name};
@@ -37,7 +37,7 @@ impl Model for Fields {
     ghost use Rattle.std.specs.Prelude.{List};
     ghost use Rattle.std.specs.Str.{bytes_eq};
     ghost use Rattle.indexmap.specs.IndexMap.{get};
-    ghost use Rattle.fints_script.specs.NamedFields.{is_field_named};
+    ghost use Rattle.fints_script.specs.NamedFields.{is_field_named, AreNamed};
     ghost use Rattle.fints_script.specs.Places.{HoldsPlaces};
     ghost use Rattle.fints_script.specs.declared.fields.NamedField.{NamedField};
 
@@ -45,7 +45,7 @@ impl Model for Fields {
 
     ghost view = { λ f. f.list.items };
 
-    ghost invariant = { λ f. HoldsPlaces is_field_named f.list.items (get bytes_eq f.places) };
+    ghost invariant = { λ f. HoldsPlaces is_field_named f.list.items (get bytes_eq f.places) × AreNamed f.list.items };
 }
 
 // Notes the place of a name, unless one is there.
@@ -68,11 +68,21 @@ fn places_of(alloc: Global, fields: &[NamedField]) -> Result<IndexMap<Name, usiz
     Ok(places)
 }
 
+// A name is a name, as its type says: so a text that is none is no field's.
+fn are_named(fields: &[NamedField])
+    ensures { AreNamed fields.now }
+{
+    for field in fields {
+        let _text = field.name.as_bytes();
+    }
+}
+
 impl Fields {
     /// The fields of a list.
     pub fn new(alloc: Global, list: Vec<NamedField>) -> Result<Fields, Memory>
         ensures { IfOk result (λ f. f ≡ list.items) }
     {
+        are_named(list.as_slice());
         let places = places_of(alloc, list.as_slice())?;
         Ok(Fields { list, places })
     }
@@ -88,7 +98,11 @@ impl Fields {
     pub fn place_of(&self, name: &str) -> Option<usize>
         ensures { result ≡ place_of_field self.now name.now }
     {
-        self.places.get(name.as_bytes()).copied()
+        let places = &self.places;
+        match Name::parse(name.as_bytes()) {
+            Some(name) => places.get(&name).copied(),
+            None => None,
+        }
     }
 
     /// Whether the first field of this name is one of listed accounts.
