@@ -1,5 +1,5 @@
 -- The longest and the shortest values are admitted.
-use Rattle.std.proofs.Common.{◌≡◌, List, [], ◌∷◌, length, map, refl, subst, sym, ◌∙◌}
+use Rattle.std.proofs.Common.{List, [], ◌∷◌, map, refl}
 use Rattle.std.specs.List.{All, zip}
 use Rattle.std.proofs.lemmas.List.{length-map}
 use Rattle.std.proofs.lemmas.List.Elements.{All-cons, All-nil}

@@ -1,5 +1,5 @@
 -- The length of a message is the sum of its parts.
-use Rattle.std.proofs.Common.{◌≡◌, ℕ, zero, suc, ◌+◌, ◌-◌, ◌*◌, ◌^◌, ◌<◌, ◌≤◌, eqb, ◌||◌, Bool, true, false, codes, List, [], ◌∷◌, ◌++◌, length, map, get_or, refl, ap, ◌∙◌, sym, arith, replicate}
+use Rattle.std.proofs.Common.{◌≡◌, ℕ, zero, suc, ◌+◌, ◌-◌, ◌^◌, ◌<◌, ◌≤◌, eqb, ◌||◌, Bool, true, false, List, [], ◌∷◌, ◌++◌, length, map, get_or, refl, ap, ◌∙◌, arith, replicate}
 use Rattle.std.specs.List.{All}
 use Rattle.std.specs.Fmt.{decimal}
 use Rattle.std.specs.Str.Parse.{AllDigits}
@@ -10,7 +10,7 @@ use Rattle.std.proofs.lemmas.Bool.Decides.{nat_tests}
 use Rattle.std.proofs.lemmas.Fmt.{length-decimal-le, decimal_is_IsNumeral}
 use Rattle.std.proofs.lemmas.Str.Parse.{digit_at}
 use Rattle.fints_syntax.specs.declared.item.OwnedItem.{OwnedItem}
-use Rattle.fints_syntax.specs.declared.item.OwnedItem.TheVariants.{Text, Bin}
+use Rattle.fints_syntax.specs.declared.item.OwnedItem.TheVariants.{Bin}
 use Rattle.fints_syntax.specs.declared.item.OwnedSegment.{OwnedSegment}
 use Rattle.fints_syntax.specs.Segment.{token_bytes, element_tokens, segment_tokens}
 use Rattle.fints_syntax.specs.Spelling.{is_separator, text_bytes, unit_bytes, written, written_item, written_unit}
@@ -22,9 +22,9 @@ use Rattle.fints_script.specs.Weights.{total}
 use Rattle.fints_script.specs.declared.template.Template.{Template}
 use Rattle.fints_script.specs.declared.template.TemplateItem.{TemplateItem}
 use Rattle.fints_script.specs.declared.template.TemplateItem.TheVariants.{Literal, Dialog, Field}
-use Rattle.fints_wire.specs.Filling.{FillingValue, filled_element, filled_elements, filled_item, filled_segments, make_segment}
-use Rattle.fints_wire.specs.Lengths.{binary_size, element_len, elements_len, head_len, item_len, item_size, items_size, message_len, middle_len, number_len, segments_len, Sizes, sizes_of}
-use Rattle.fints_wire.specs.Messages.{first_segment, inner_segments, last_segment, later_segments, message_size, message_with, middle_segments, seal_of, segments_text, templates_of, twelve_digits}
+use Rattle.fints_wire.specs.Filling.{FillingValue, filled_element, filled_elements, filled_item, filled_segments}
+use Rattle.fints_wire.specs.Lengths.{binary_size, element_len, elements_len, head_len, item_len, item_size, items_size, message_len, middle_len, segments_len, sizes_of}
+use Rattle.fints_wire.specs.Messages.{inner_segments, last_segment, message_size, message_with, middle_segments, seal_of, segments_text, templates_of, twelve_digits}
 
 -- ---- segments
 

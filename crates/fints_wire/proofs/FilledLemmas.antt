@@ -1,5 +1,5 @@
 -- A choice leaves no element of a script without an item.
-use Rattle.std.proofs.Common.{◌≡◌, ℕ, zero, suc, ◌+◌, ◌<◌, ◌≤◌, eqb, List, [], ◌∷◌, ◌++◌, length, map, get_or, Option, Some, None, ap, ◌∙◌, arith, inl, inr}
+use Rattle.std.proofs.Common.{◌≡◌, ℕ, zero, suc, ◌<◌, eqb, List, [], ◌∷◌, ◌++◌, length, map, get_or, Option, Some, None, ap, ◌∙◌, arith, inl, inr}
 use Rattle.std.specs.List.{All, zip}
 use Rattle.std.specs.Option.{IfSome}
 use Rattle.std.proofs.lemmas.Bool.{cases_Bool}
@@ -8,14 +8,14 @@ use Rattle.std.proofs.lemmas.List.Elements.{All-append, All-head, All-map, All-n
 use Rattle.fints_fields.specs.FieldLaws.{has_some_item}
 use Rattle.fints_script.specs.Plans.{Admits, IsChosen}
 use Rattle.fints_script.specs.Scripts.{ScriptValue}
-use Rattle.fints_script.specs.Sound.{IsInRange, IsFrameElement, IsSound, IsSoundFrame, IsSoundStep}
+use Rattle.fints_script.specs.Sound.{IsInRange, IsSound, IsSoundFrame, IsSoundStep}
 use Rattle.fints_script.specs.Steps.{StepValue}
 use Rattle.fints_script.specs.declared.fields.NamedField.{NamedField}
 use Rattle.fints_script.specs.declared.template.Template.{Template}
 use Rattle.fints_script.specs.declared.template.TemplateItem.{TemplateItem}
 use Rattle.fints_script.specs.declared.template.TemplateItem.TheVariants.{Literal, Dialog, Field}
 use Rattle.fints_script.specs.declared.values.NamedValue.{NamedValue}
-use Rattle.fints_wire.specs.Filling.{AreFilled, TemplatesAreFilled, FillingValue, filled_element, filled_item, filling_of, items_of_fields, dialog_items}
+use Rattle.fints_wire.specs.Filling.{AreFilled, TemplatesAreFilled, FillingValue, filled_element, filled_item, filling_of, items_of_fields}
 use Rattle.fints_wire.specs.Messages.{end_template, head_template, no_signer, seal_of, signer_at, signers_of, templates_of}
 
 pub filling_is : (filling : FillingValue) (fs fields : List NamedField) (vs values : List NamedValue) (number : ℕ) → filling ≡ filling_of fs vs number → fs ≡ fields → vs ≡ values → filling ≡ filling_of fields values number

@@ -15,3 +15,4 @@ pub mod ItemCounts
 pub mod Writables
 pub mod MessageParts
 pub mod ViewLemmas
+pub mod Following

@@ -48,8 +48,12 @@ pub small_range : (script : ScriptValue) (v : Visit) → IsSound script → IsSm
 small_range script v sound s =
     let within = numbered_within script.steps v.step s.step s.at in
     let often = (step_of script v.step s.step sound s.at).often in
-    let low = s.low in let number = s.number in let few = sound.few_steps in let high = within.1 in
-    record { from = within.0; to = within.1; first = s.first; last = omega (arith, often, low, number, few, high); often = omega (arith, often, low) }
+    let low = s.low in let number = s.number in
+    record { from = within.0; to = within.1; first = s.first; last = omega (arith, often, low, number); often = omega (arith, often, low) }
+
+-- as a number for the limit of steps
+pub small_number : (script : ScriptValue) (v : Visit) → IsSound script → IsSmall script.steps v → v.number ≤ 19800
+small_number script v sound s = let range = small_range script v sound s in let last = range.last in let to = range.to in let few = sound.few_steps in omega (arith, last, to, few)
 
 -- ---- a run as it goes
 

@@ -1,22 +1,21 @@
 -- What a run sends is read as its steps' messages, and counted by its steps.
-use Rattle.std.proofs.Common.{ℕ, ◌+◌, ◌-◌, ◌<◌, ◌≤◌, ◌≡◌, ◌==◌, Bool, true, false, cond, List, [], ◌∷◌, length, refl, ap, sym, subst, ◌∙◌, arith}
+use Rattle.std.proofs.Common.{ℕ, ◌+◌, ◌-◌, ◌<◌, ◌≤◌, ◌≡◌, ◌==◌, Bool, true, false, cond, List, [], ◌∷◌, length, refl, ap, sym, subst, arith}
 use Rattle.std.specs.List.{AllByRecursion}
 use Rattle.std.proofs.lemmas.Bool.Decides.{nat_tests}
 use Rattle.fints_script.specs.Plans.{Admits}
 use Rattle.fints_script.specs.Scripts.{ScriptValue}
 use Rattle.fints_script.specs.Sound.{IsSound, IsOnward}
-use Rattle.fints_script.specs.Steps.{StepValue}
 use Rattle.fints_script.specs.declared.answers.Target.{Target}
 use Rattle.fints_script.specs.declared.answers.Target.TheVariants.{Step, Again, Stop}
 use Rattle.fints_script.specs.declared.values.NamedValue.{NamedValue}
-use Rattle.fints_wire.specs.Runs.{start, answered, After, Follows, Enters, last_of, sent_of, Arrives, Reach, IsWithin, IsSent, AreSent, Run}
+use Rattle.fints_wire.specs.Runs.{start, answered, After, Enters, last_of, sent_of, Arrives, Reach, IsWithin, IsSent, AreSent, Run}
 use Rattle.fints_wire.specs.Runs.Reach.{first, onward}
 use Rattle.fints_wire.specs.Views.{MessagesAreRead, IsReadAs}
 use Rattle.fints_wire.specs.declared.dialogue.Visit.{Visit}
 use Rattle.fints_wire.specs.declared.dialogue.Sent.{Sent}
 use Rattle.fints_wire.proofs.Onward.{numbered_from, answered_onward}
 use Rattle.fints_wire.proofs.Reaching.{reach_from_run}
-use Rattle.fints_wire.proofs.Running.{IsSmall, step_of, follow_small, small_range, small_start}
+use Rattle.fints_wire.proofs.Running.{IsSmall, step_of, follow_small, small_number, small_range, small_start}
 use Rattle.fints_wire.proofs.Weighing.{message_light}
 
 -- ---- each message
@@ -26,7 +25,7 @@ module _ (read : MessagesAreRead) (script : ScriptValue) (values : List NamedVal
   one_read v m small is =
       let range = small_range script v sound small in
       let first = range.first in
-      let last = range.last in
+      let last = small_number script v sound small in
       let message = read script (v.step - 1) is.at v.number values sound (numbered_from script.steps v.step is.at is.of) first (omega (arith, last)) admits in
       let light = message_light script is.at values v.number sound (step_of script v.step is.at sound is.of) admits (omega (arith, last)) in
       subst (IsReadAs script values) (sym is.is) (record { step = is.at; of = is.of; message = message; short = omega (arith, light.0, light.1) })

@@ -1,15 +1,13 @@
 -- A message is no longer than the weight of its step, and what stands around it.
-use Rattle.std.proofs.Common.{◌≡◌, ℕ, zero, suc, ◌+◌, ◌*◌, ◌^◌, ◌<◌, ◌≤◌, eqb, ◌||◌, Bool, true, false, codes, List, [], ◌∷◌, ◌++◌, length, map, get_or, drop, Option, Some, None, refl, ap, ◌∙◌, sym, arith, inl, inr}
+use Rattle.std.proofs.Common.{◌≡◌, ℕ, zero, suc, ◌+◌, ◌^◌, ◌<◌, ◌≤◌, eqb, Bool, true, false, codes, List, [], ◌∷◌, ◌++◌, length, map, get_or, drop, Option, Some, None, refl, ap, ◌∙◌, sym, arith, inl, inr}
 use Rattle.std.specs.List.{All, slice_get, zip}
-use Rattle.std.specs.Option.{IfSome}
-use Rattle.std.specs.Fmt.{decimal}
 use Rattle.std.proofs.lemmas.Bool.{cases_Bool}
 use Rattle.std.proofs.lemmas.Bool.Decides.{nat_tests}
 use Rattle.std.proofs.lemmas.Fmt.{length-decimal-le}
 use Rattle.std.proofs.lemmas.List.{drop_all, drop_more, length-append}
 use Rattle.std.proofs.lemmas.List.Elements.{All-append, All-from_recursion, All-head, All-map, All-tail}
 use Rattle.fints_syntax.specs.Kind.{IsKindByte, IsKindText}
-use Rattle.fints_syntax.specs.Spelling.{is_separator, written}
+use Rattle.fints_syntax.specs.Spelling.{written}
 use Rattle.fints_syntax.specs.declared.item.OwnedItem.{OwnedItem}
 use Rattle.fints_fields.specs.ClassLaws.{text_len_marks}
 use Rattle.fints_fields.specs.Fields.{field_items, field_longest, field_written}
@@ -18,10 +16,10 @@ use Rattle.fints_script.specs.Figures.{figures_of}
 use Rattle.fints_fields.specs.Joined.{joined}
 use Rattle.fints_fields.specs.Lengths.{text_len}
 use Rattle.fints_script.specs.Plans.{Admits, IsChosen}
-use Rattle.fints_script.specs.Scripts.{ScriptValue, IsDialogClass, IsDialogField}
+use Rattle.fints_script.specs.Scripts.{ScriptValue, IsDialogClass}
 use Rattle.fints_script.specs.Sound.{HasDialog, IsSound, IsSoundStep}
 use Rattle.fints_script.specs.Steps.{StepValue, seal_weight, signature_weight, weight_of_signer}
-use Rattle.fints_script.specs.Weights.{element_weight, item_weight, no_figures, segment_weight, signer_weight, total}
+use Rattle.fints_script.specs.Weights.{element_weight, item_weight, no_figures, segment_weight, total}
 use Rattle.fints_fields.specs.declared.field.Field.{Field}
 use Rattle.fints_fields.specs.declared.field.Field.TheVariants as classes
 use Rattle.fints_script.specs.declared.fields.NamedField.{NamedField}
@@ -32,7 +30,7 @@ use Rattle.fints_script.specs.declared.template.TemplateItem.TheVariants as item
 use Rattle.fints_script.specs.declared.values.NamedValue.{NamedValue}
 use Rattle.fints_script.specs.declared.weights.Figures.{Figures}
 use Rattle.fints_wire.specs.Filling.{FillingValue, filling_of, items_of_fields}
-use Rattle.fints_wire.specs.Lengths.{element_len, elements_len, head_len, item_len, items_size, longest_size, longest_sizes, message_len, middle_len, number_len, segments_len, Sizes, sizes_of}
+use Rattle.fints_wire.specs.Lengths.{element_len, elements_len, head_len, item_len, items_size, longest_size, longest_sizes, message_len, middle_len, segments_len, Sizes, sizes_of}
 use Rattle.fints_wire.specs.Messages.{end_template, head_template, message_bytes, message_size, no_signer, seal_of, signer_at, signers_of, templates_of}
 use Rattle.fints_wire.proofs.Counting.{IsBare, bare_len, is_bare, number_text-len, size_is, total-append}
 use Rattle.fints_wire.proofs.PartLemmas.{has_parts}

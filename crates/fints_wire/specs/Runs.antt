@@ -1,5 +1,5 @@
 -- Which messages a client sends under a list of answers. Steps and messages count from 1.
-use Rattle.std.specs.Prelude.{ℕ, ◌≡◌, ◌<◌, ◌≤◌, ◌+◌, ◌==◌, cond, Some, List, [], ◌∷◌, length}
+use Rattle.std.specs.Prelude.{ℕ, ◌≡◌, ◌<◌, ◌≤◌, ◌+◌, ◌*◌, ◌==◌, cond, Some, List, [], ◌∷◌, length}
 use Rattle.std.specs.List.{AllByRecursion}
 use Rattle.fints_script.specs.Answers.{IsAnswer, leads}
 use Rattle.fints_script.specs.Scripts.{ScriptValue}
@@ -71,12 +71,12 @@ pub record Arrives (steps : List StepValue) (v : Visit) : Type 0 where
   pub after : After steps start answers later
   pub last : last_of start later ≡ v
 
--- the step is there, the number is at most 19,800, and at most 99 messages were sent in a row
+-- the step is there, the number is at most 99 for each step up to it, and at most 99 messages were sent in a row
 pub record IsWithin (steps : List StepValue) (v : Visit) : Type 0 where
   pub from : 1 ≤ v.step
   pub to : v.step ≤ length steps
   pub first : 1 ≤ v.number
-  pub last : v.number ≤ 19800
+  pub last : v.number ≤ 99 * v.step
   pub often : v.times ≤ 99
 
 -- these answers, all of them used, lead to v
@@ -132,3 +132,16 @@ pub record EndsIn (script : ScriptValue) (values : List NamedValue) (answers : L
   pub sent : List Sent
   pub run : Run script values answers sent
   pub last : EndsWith sent m
+
+-- from step m this target is step n
+abbrev pub IsTarget : Target → ℕ → ℕ → Type 0
+IsTarget (targets.Step k) m n = n ≡ k
+IsTarget targets.Again m n = n ≡ m
+IsTarget targets.Stop m n = ⊥
+
+-- n is sent next after m: of the target that the answer fires from m's step
+pub record IsNext (steps : List StepValue) (m : Sent) (codes : List ℕ) (n : Sent) : Type 0 where
+  pub step : StepValue
+  pub at : numbered steps m.step ≡ Some step
+  pub target : IsTarget (answered step codes) m.step n.step
+  pub number : n.number ≡ m.number + 1

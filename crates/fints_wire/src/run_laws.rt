@@ -1,5 +1,5 @@
 //! Laws of runs: each function's contract is one.
-ghost use Rattle.std.specs.Prelude.{◌↔◌, ◌≡◌, ℕ, List, [], ◌∷◌, ◌++◌};
+ghost use Rattle.std.specs.Prelude.{◌↔◌, ◌≡◌, ◌+◌, ℕ, List, [], ◌∷◌, ◌++◌, Some, slice_get};
 ghost use Rattle.std.specs.List.{AllByRecursion};
 ghost use Rattle.fints_script.specs.Answers.{IsAnswer};
 ghost use Rattle.fints_script.specs.Plans.{Admits};
@@ -7,7 +7,7 @@ ghost use Rattle.fints_script.specs.Scripts.{ScriptValue};
 ghost use Rattle.fints_script.specs.Sound.{IsSound};
 ghost use Rattle.fints_script.specs.Steps.{StepValue};
 ghost use Rattle.fints_script.specs.declared.values.NamedValue.{NamedValue};
-ghost use Rattle.fints_wire.specs.Runs.{start, last_of, sent_of, After, Follows, Arrives, Reach, RouteTo, IsWithin, IsSent, Run, SendsLast, EndsIn};
+ghost use Rattle.fints_wire.specs.Runs.{start, last_of, sent_of, After, Follows, Arrives, Reach, RouteTo, IsWithin, IsSent, Run, SendsLast, EndsIn, IsNext};
 ghost use Rattle.fints_wire.specs.Views.{IsReadAs};
 ghost use Rattle.fints_wire.specs.declared.dialogue.Visit.{Visit};
 ghost use Rattle.fints_wire.specs.declared.dialogue.Sent.{Sent};
@@ -31,7 +31,16 @@ pub fn each_follows()
     ensures { (steps : List StepValue) (v : Visit) (answers : List (List ℕ)) (codes : List ℕ) (later : List Visit) (w : Visit) → After steps v (codes ∷ answers) (w ∷ later) → Follows steps v codes w }
 {}
 
-/// What runs send is of steps that are there, with numbers of at most 19,800.
+/// The first message of a run is of step 1, and each later one is what the answer at its place fires
+/// from the step of the message before it.
+pub fn each_answer_leads()
+    ensures first { (script : ScriptValue) (values : List NamedValue) (answers : List (List ℕ)) (sent : List Sent) (m : Sent) → Run script values answers sent → slice_get sent 0 ≡ Some m → (m.step ≡ 1) × (m.number ≡ 1) }
+    ensures next { (script : ScriptValue) (values : List NamedValue) (answers : List (List ℕ)) (sent : List Sent) (i : ℕ) (m n : Sent) → Run script values answers sent → slice_get sent i ≡ Some m → slice_get sent (i + 1) ≡ Some n
+        → (codes : List ℕ) × (slice_get answers i ≡ Some codes) × IsNext script.steps m codes n }
+{}
+
+/// What runs send is of steps that are there, with numbers of at most 99 for each step up to theirs,
+/// so of at most 19,800.
 pub fn visits_are_within()
     ensures { (script : ScriptValue) (v : Visit) → IsSound script → Arrives script.steps v → IsWithin script.steps v }
 {}

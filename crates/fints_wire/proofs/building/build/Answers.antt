@@ -1,14 +1,11 @@
-use Rattle.std.proofs.Common.{◌≡◌, ◌+◌, ◌-◌, ◌<◌, ◌++◌, List, ℕ, length, Some, ap, subst, sym, ◌∙◌, arith}
+use Rattle.std.proofs.Common.{◌≡◌, ◌-◌, ◌<◌, List, ℕ, length, Some, ap, subst, sym, ◌∙◌, arith}
 use Rattle.std.specs.List.{slice_get}
-use Rattle.fints_syntax.specs.Written.{written_segment}
 use Rattle.fints_rules.specs.Messages.{IsMessage}
 use Rattle.fints_script.specs.Scripts.{ScriptValue}
 use Rattle.fints_script.specs.Sound.{IsSound, IsSoundStep}
 use Rattle.fints_script.specs.Steps.{StepValue}
-use Rattle.fints_script.specs.declared.fields.NamedField.{NamedField}
-use Rattle.fints_script.specs.declared.values.NamedValue.{NamedValue}
-use Rattle.fints_wire.specs.Filling.{AreFilled, FillingValue, TemplatesAreFilled, filling_of}
-use Rattle.fints_wire.specs.Messages.{first_segment, later_segments, message_bytes, message_size, message_with, seal_of, segments_text, templates_of}
+use Rattle.fints_wire.specs.Filling.{AreFilled, FillingValue, TemplatesAreFilled}
+use Rattle.fints_wire.specs.Messages.{later_segments, message_bytes, message_size, message_with, seal_of, segments_text, templates_of}
 use Rattle.fints_wire.specs.Views.{message_view}
 use Rattle.fints_wire.proofs.FilledLemmas.{dialog_some, filling_is, sealed_filled, templates_filled}
 use Rattle.fints_wire.proofs.TextLemmas.{found_at, message_is}

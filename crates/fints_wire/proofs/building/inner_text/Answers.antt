@@ -1,4 +1,4 @@
-use Rattle.std.proofs.Common.{◌≡◌, ◌+◌, ◌++◌, ◌<◌, List, ℕ, get_or, drop, length, ap, subst, sym, ◌∙◌, arith}
+use Rattle.std.proofs.Common.{◌≡◌, ◌+◌, ◌++◌, ◌<◌, get_or, drop, length, ap, subst, sym, ◌∙◌, arith}
 use Rattle.fints_syntax.specs.Written.{written_segment}
 use Rattle.fints_script.specs.declared.template.Template.{Template}
 use Rattle.fints_wire.specs.Filling.{AreFilled, filled_segment, filled_segments}

@@ -1,7 +1,7 @@
 use Rattle.std.proofs.Common.{◌++◌, ◌∷◌, [], List, ap, ◌∙◌, arith}
 use Rattle.fints_wire.specs.Runs.{Run}
 use Rattle.fints_wire.specs.declared.dialogue.Sent.{Sent}
-use Rattle.fints_wire.proofs.Running.{running_first, running_more, running_all, running_over, small_range, follow_small}
+use Rattle.fints_wire.proofs.Running.{running_first, running_more, running_all, running_over, small_number, small_range, follow_small}
 use Rattle.fints_wire.proofs.dialogue.run.Goals as goal
 
 pub loop-answer-init : goal.loop-answer-init
@@ -13,7 +13,7 @@ pub follow-requires-clause-to : goal.follow-requires-clause-to
 follow-requires-clause-to c = (small_range c.args.plan.now.script c.loop-answer.here c.step_count-count.ensures.sound c.loop-answer.invariant.small).to
 
 pub follow-requires-clause-number : goal.follow-requires-clause-number
-follow-requires-clause-number c = let last = (small_range c.args.plan.now.script c.loop-answer.here c.step_count-count.ensures.sound c.loop-answer.invariant.small).last in omega (arith, last)
+follow-requires-clause-number c = let last = small_number c.args.plan.now.script c.loop-answer.here c.step_count-count.ensures.sound c.loop-answer.invariant.small in omega (arith, last)
 
 pub follow-requires-clause-times : goal.follow-requires-clause-times
 follow-requires-clause-times c = (small_range c.args.plan.now.script c.loop-answer.here c.step_count-count.ensures.sound c.loop-answer.invariant.small).often
@@ -39,7 +39,7 @@ message_of-requires-in-Some-clause-to c =
 pub message_of-requires-in-Some-clause-last : goal.message_of-requires-in-Some-clause-last
 message_of-requires-in-Some-clause-last c =
     let sound = c.step_count-count.ensures.sound in
-    let last = (small_range c.args.plan.now.script c.in-Some.visit sound (follow_small c.args.plan.now.script c.loop-answer.here c.in-Some.visit c.answer-item.result sound c.loop-answer.invariant.small c.in-Some.ensures)).last in
+    let last = small_number c.args.plan.now.script c.in-Some.visit sound (follow_small c.args.plan.now.script c.loop-answer.here c.in-Some.visit c.answer-item.result sound c.loop-answer.invariant.small c.in-Some.ensures) in
     omega (arith, last)
 
 pub loop-answer-preserved : goal.loop-answer-preserved

@@ -1,7 +1,5 @@
-use Rattle.std.proofs.Common.{◌≡◌, ◌<◌, List, [], get_or, length, map, ap, subst, sym, ◌∙◌, arith}
+use Rattle.std.proofs.Common.{◌≡◌, [], get_or, length, map, ap, sym, ◌∙◌, arith}
 use Rattle.std.proofs.lemmas.List.{length-map, get_or-map}
-use Rattle.fints_script.specs.declared.template.TemplateItem.{TemplateItem}
-use Rattle.fints_wire.specs.Filling.{filled_element}
 use Rattle.fints_wire.proofs.filling.filled_elements.Goals as goal
 
 pub push-requires : goal.push-requires

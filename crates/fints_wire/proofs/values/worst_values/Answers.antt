@@ -1,4 +1,4 @@
-use Rattle.std.proofs.Common.{◌≡◌, List, ap, subst, sym, ◌∙◌}
+use Rattle.std.proofs.Common.{List, ap, subst, sym, ◌∙◌}
 use Rattle.fints_script.specs.Plans.{Admits}
 use Rattle.fints_script.specs.declared.fields.NamedField.{NamedField}
 use Rattle.fints_script.specs.declared.values.NamedValue.{NamedValue}

@@ -1,4 +1,4 @@
-use Rattle.std.proofs.Common.{◌≡◌, ◌+◌, ◌≤◌, length, ap, ◌∙◌, arith}
+use Rattle.std.proofs.Common.{◌≡◌, ap, ◌∙◌, arith}
 use Rattle.fints_fields.specs.Lengths.{text_len}
 use Rattle.fints_wire.proofs.Counting.{number_text-len}
 use Rattle.fints_wire.proofs.Weighing.{kind_len}

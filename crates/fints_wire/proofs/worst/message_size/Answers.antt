@@ -1,4 +1,4 @@
-use Rattle.std.proofs.Common.{◌≡◌, ◌+◌, ◌<◌, arith}
+use Rattle.std.proofs.Common.{arith}
 use Rattle.fints_wire.specs.Lengths.{longest_sizes}
 use Rattle.fints_wire.proofs.Weighing.{longest_within, step_short}
 use Rattle.fints_wire.proofs.worst.message_size.Goals as goal

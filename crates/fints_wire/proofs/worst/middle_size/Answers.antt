@@ -1,4 +1,4 @@
-use Rattle.std.proofs.Common.{◌≡◌, ◌+◌, ◌<◌, Bool, true, ℕ, ap, sym, ◌∙◌, arith}
+use Rattle.std.proofs.Common.{◌≡◌, Bool, true, ℕ, ap, sym, ◌∙◌, arith}
 use Rattle.fints_wire.specs.Lengths.{binary_size, elements_len, longest_sizes, middle_len, segments_len}
 use Rattle.fints_wire.specs.Messages.{seal_of, templates_of}
 use Rattle.fints_wire.proofs.Weighing.{longest_within, step_short}

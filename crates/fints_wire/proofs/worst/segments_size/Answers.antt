@@ -1,4 +1,4 @@
-use Rattle.std.proofs.Common.{◌≡◌, ◌+◌, ◌<◌, ◌≤◌, ℕ, List, map, length, get_or, drop, ap, sym, subst, ◌∙◌, arith}
+use Rattle.std.proofs.Common.{◌≡◌, ◌+◌, ◌<◌, ◌≤◌, ℕ, map, length, get_or, drop, ap, sym, subst, arith}
 use Rattle.fints_syntax.specs.Kind.{IsKindText}
 use Rattle.fints_script.specs.Figures.{figures_of}
 use Rattle.fints_script.specs.declared.template.Template.{Template}
