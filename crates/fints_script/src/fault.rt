@@ -20,8 +20,9 @@ pub enum FaultKind {
     UnknownKey,
     /// A required key is absent, or a sealed step stands in a script without a seal.
     Missing,
-    /// A value of another TOML type, a bad name, class or identifier, an empty list where one entry
-    /// is needed, or an account field where it may not stand.
+    /// A value of another TOML type, a bad name, class or identifier, an empty array as an element,
+    /// an empty `segments` or `step`, an account of no or more than 6 texts, or an account field
+    /// where it may not stand.
     WrongKind,
     /// A text with a character that is not one byte of ISO 8859-1, or is a control.
     NotLatin1,
@@ -35,7 +36,8 @@ pub enum FaultKind {
     BackwardJump,
     /// A pattern that isn't four characters, each a digit or `*`.
     BadPattern,
-    /// A number outside its range, or too many or too long entries.
+    /// A number outside its range, `min` over `max`, a `bin` with `min` 0, an empty `values`, or
+    /// too many or too long entries.
     Limit,
 }
 

@@ -76,7 +76,8 @@ impl Step {
         self.signers.as_slice()
     }
 
-    /// How many messages of the step `again` may make.
+    /// The most messages of the step in a row in a run, the first counted: with 1, `again` makes
+    /// none.
     pub fn repeat(&self) -> u16
         ensures { result ≡ self.now.repeat }
     {
