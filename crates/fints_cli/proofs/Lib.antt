@@ -1,9 +1,3 @@
-pub mod DocumentLemmas
-pub mod BankLemmas
-pub mod MessageLemmas
-pub mod ScriptLemmas
+pub mod FileLemmas
 pub mod StreamLemmas
-pub mod JudgeLemmas
-pub mod RunLemmas
-pub mod ShowLemmas
 pub mod CommandLemmas

@@ -1,6 +1,6 @@
 -- What the commands answer, and why they have no answer.
 use Rattle.std.specs.Prelude.{◌≡◌, ◌⊎◌, ℕ, List, Option, IfSome, codes, string_bytes}
-use Rattle.fints_cli.specs.declared.fault.Fault.TheVariants.{Memory}
+use Rattle.fints_texts.specs.declared.fault.Fault.TheVariants.{Memory}
 use Rattle.fints_cli.specs.declared.commands.Failure.{Failure}
 use Rattle.fints_cli.specs.declared.commands.Failure.TheVariants.{Input, Unread}
 use Rattle.fints_cli.specs.declared.words.Request.{Request}
@@ -9,11 +9,11 @@ use Rattle.fints_cli.specs.declared.words.Request.TheVariants as requests
 use Rattle.fints_cli.specs.declared.words.Asked.{Asked}
 use Rattle.fints_cli.specs.declared.words.Asked.TheVariants.{Help, Usage, NoMemory, Run}
 use Rattle.fints_cli.specs.BuiltIn as built_in
-use Rattle.fints_cli.specs.Thin.{IsReportOf}
+use Rattle.fints_thin.specs.Thin.{IsReportOf}
 use Rattle.fints_cli.specs.Streams.{Gets, GetsPrefix}
-use Rattle.fints_cli.specs.Show.{IsShowOf, IsMemoryOrShowFault}
-use Rattle.fints_cli.specs.Judge.{IsVerdictOf, IsJudgeRefusal}
-use Rattle.fints_cli.specs.RunText.{IsRunOf, IsRunRefusal}
+use Rattle.fints_texts.specs.Show.{IsShowOf, IsMemoryOrShowFault}
+use Rattle.fints_texts.specs.Judge.{IsVerdictOf, IsJudgeRefusal}
+use Rattle.fints_texts.specs.RunText.{IsRunOf, IsRunRefusal}
 
 -- 3 for a refused input, 4 for want of memory, 5 for a file that couldn't be read
 abbrev pub failure_status : Failure → ℕ

@@ -1,14 +1,3 @@
-pub mod Report
-pub mod Fault
-pub mod Bank
-pub mod Document
-pub mod Script
-pub mod Message
-pub mod Rules
-pub mod Thin
 pub mod Streams
-pub mod Judge
-pub mod RunText
-pub mod Show
 pub mod BuiltIn
 pub mod Commands

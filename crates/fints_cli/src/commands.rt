@@ -3,21 +3,21 @@ ghost use Rattle.std.specs.Prelude.{◌≡◌, ◌≤◌, ◌<◌, ◌+◌, ◌*
 ghost use Rattle.fints_cli.specs.Streams.{Gets, GetsNothing, GetsPrefix, IsFile, one_more};
 ghost use Rattle.fints_cli.specs.BuiltIn as texts;
 ghost use Rattle.fints_cli.specs.declared.words.Request.TheVariants as request;
-ghost use Rattle.fints_cli.specs.Thin.{IsReportOf};
-ghost use Rattle.fints_cli.specs.Judge.{IsVerdictOf};
-ghost use Rattle.fints_cli.specs.RunText.{IsRunOf};
+ghost use Rattle.fints_thin.specs.Thin.{IsReportOf};
+ghost use Rattle.fints_texts.specs.Judge.{IsVerdictOf};
+ghost use Rattle.fints_texts.specs.RunText.{IsRunOf};
 ghost use Rattle.fints_cli.specs.Commands.{failure_status, IsJudgeFailure, ShowsFile, JudgesFile, FailsToJudge, IsRunFailure, RunsFiles, FailsToRun, AnswersTo, IsUnloaded, FailsToShow, FailsFor, IsAnswered, IsCutOff, IsUsage, FailsWith};
 ghost use Rattle.fints_cli.specs.declared.words.Asked.TheVariants as asked;
 
 use crate::built_in;
-use crate::checking::check_text;
+use fints_thin::check_text;
 use crate::emitting::emit;
-use crate::fault::Fault;
-use crate::judging::judge_message;
+use fints_texts::Fault;
+use fints_texts::judge_message;
 use crate::reading::{LoadFault, MAX_CALLS, load};
-use crate::reply::Reply;
-use crate::running::run_case;
-use crate::showing::show;
+use fints_texts::Reply;
+use fints_texts::run_case;
+use fints_texts::show;
 use crate::streams::{Files, Out};
 use crate::words::{Asked, Request, read_words};
 use std::alloc::Global;
@@ -86,7 +86,7 @@ fn report_built_in(alloc: Global) -> Result<Reply, Failure>
     }
 }
 
-#[tactic(auto, using(crate::proofs::ShowLemmas::file_fault))]
+#[tactic(auto, using(crate::proofs::FileLemmas::file_fault))]
 fn show_file<F: Files>(alloc: Global, files: &mut F, params: &str) -> Result<Reply, Failure>
     ensures status { IfOk result (λ reply. reply.status ≡ 0) }
     ensures shown { IfOk result (λ reply. ShowsFile (F.holds files.old params.now) reply.text.items) }
@@ -117,7 +117,7 @@ fn judge_loaded(
     }
 }
 
-#[tactic(auto, using(crate::proofs::JudgeLemmas::files_judged, crate::proofs::JudgeLemmas::files_failed))]
+#[tactic(auto, using(crate::proofs::FileLemmas::files_judged, crate::proofs::FileLemmas::files_failed))]
 fn judge_file<F: Files>(
     alloc: Global,
     files: &mut F,
@@ -153,7 +153,7 @@ fn run_loaded(alloc: Global, orders: &[u8], script: &[u8], case: &[u8]) -> Resul
     }
 }
 
-#[tactic(auto, using(crate::proofs::RunLemmas::files_run, crate::proofs::RunLemmas::files_not_run))]
+#[tactic(auto, using(crate::proofs::FileLemmas::files_run, crate::proofs::FileLemmas::files_not_run))]
 fn run_files<F: Files>(
     alloc: Global,
     files: &mut F,

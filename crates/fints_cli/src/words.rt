@@ -53,29 +53,38 @@ fn file_option<'a>(alloc: Global, name: &'a str, help: &'a str) -> Arg<'a> {
         .action(ArgAction::Set)
 }
 
-fn command_line<'a>(alloc: Global) -> Result<Command<'a>, AllocError> {
-    let show = Command::new(alloc, "show")
+fn show_command<'a>(alloc: Global) -> Result<Command<'a>, AllocError> {
+    Command::new(alloc, "show")
         .about("Shows what a capture says of the bank and the user")
-        .arg(file_option(alloc, "params", "The capture"))?;
-    let judge = Command::new(alloc, "judge")
+        .arg(file_option(alloc, "params", "The capture"))
+}
+
+fn judge_command<'a>(alloc: Global) -> Result<Command<'a>, AllocError> {
+    Command::new(alloc, "judge")
         .about("Names the rules that a message breaks")
         .arg(file_option(alloc, "params", "The capture"))?
         .arg(file_option(alloc, "orders", "The order table"))?
-        .arg(file_option(alloc, "message", "The message"))?;
-    let run = Command::new(alloc, "run")
+        .arg(file_option(alloc, "message", "The message"))
+}
+
+fn run_command<'a>(alloc: Global) -> Result<Command<'a>, AllocError> {
+    Command::new(alloc, "run")
         .about("Prints the messages that a client sends under a case")
         .arg(file_option(alloc, "orders", "The order table"))?
         .arg(file_option(alloc, "script", "The script"))?
-        .arg(file_option(alloc, "case", "The case"))?;
+        .arg(file_option(alloc, "case", "The case"))
+}
+
+fn command_line<'a>(alloc: Global) -> Result<Command<'a>, AllocError> {
     Command::new(alloc, "fints")
         .bin_name("fints")?
         .about("Checks FinTS 3.0 dialogue scripts")
         .no_binary_name(true)
         .disable_help_subcommand(true)
         .subcommand_required(true)
-        .subcommand(show)?
-        .subcommand(judge)?
-        .subcommand(run)
+        .subcommand(show_command(alloc)?)?
+        .subcommand(judge_command(alloc)?)?
+        .subcommand(run_command(alloc)?)
 }
 
 // What is told in place of a command.

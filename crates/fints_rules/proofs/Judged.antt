@@ -10,7 +10,7 @@ use Rattle.fints_rules.specs.declared.rule.Rule.{Rule}
 use Rattle.fints_rules.specs.declared.rule.Rule.TheVariants as rule
 use Rattle.fints_rules.specs.declared.rule.Broken.{Broken}
 use Rattle.fints_rules.specs.Permits.{Granted}
-use Rattle.fints_rules.specs.Messages.{MessageView}
+use Rattle.fints_messages.specs.Messages.{MessageView}
 use Rattle.fints_rules.specs.Breaks.{BreaksWhole, BreaksAt, Breaks, IsBefore, rule_number}
 use Rattle.fints_rules.specs.Judging.{IsRising, pair_at, ArePairs, Adds, IsWholePair, AreRulePairs, Covers}
 use Rattle.fints_rules.proofs.LimitLemmas.{any_more}

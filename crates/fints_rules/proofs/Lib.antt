@@ -1,14 +1,4 @@
-pub mod DocumentLemmas
 pub mod OrderLemmas
-pub mod Ranks
-pub mod Texts
-pub mod Fronts
-pub mod Forms
-pub mod Tails
-pub mod Seals
-pub mod ItemValues
-pub mod Uniques
-pub mod Wholes
 pub mod LimitLemmas
 pub mod PermitLemmas
 pub mod RuleLemmas

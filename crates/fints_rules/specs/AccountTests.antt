@@ -4,7 +4,7 @@ use Rattle.fints_syntax.specs.declared.item.OwnedSegment.{OwnedSegment}
 use Rattle.fints_rules.specs.declared.permissions.Permit.{Permit}
 use Rattle.fints_rules.specs.Accounts.{Account}
 use Rattle.fints_rules.specs.Permits.{Granted, PermitIs}
-use Rattle.fints_rules.specs.Messages.{MessageView}
+use Rattle.fints_messages.specs.Messages.{MessageView}
 use Rattle.fints_rules.specs.Breaks.{NamesAccount}
 
 abbrev pub AccountPermitIs : Granted → MessageView → OwnedSegment → Option Permit → Type 0

@@ -16,7 +16,7 @@ use Rattle.fints_rules.specs.declared.rule.Broken.{Broken}
 use Rattle.fints_rules.specs.Accounts.{Account, account_of}
 use Rattle.fints_rules.specs.Orders.{form_of}
 use Rattle.fints_rules.specs.Permits.{Granted, IsListed, IsListedWithTan, AllNeedMore, IsLocked}
-use Rattle.fints_rules.specs.Messages.{MessageView, IsMessage}
+use Rattle.fints_messages.specs.Messages.{MessageView, IsMessage}
 
 -- ---- segments of the body
 

@@ -4,7 +4,7 @@ use Rattle.fints_syntax.specs.declared.item.OwnedSegment.{OwnedSegment}
 use Rattle.fints_rules.specs.declared.rule.Rule.{Rule}
 use Rattle.fints_rules.specs.declared.rule.Broken.{Broken}
 use Rattle.fints_rules.specs.Permits.{Granted}
-use Rattle.fints_rules.specs.Messages.{MessageView}
+use Rattle.fints_messages.specs.Messages.{MessageView}
 use Rattle.fints_rules.specs.Breaks.{BreaksWhole, BreaksAt, Breaks, IsBefore, rule_number}
 
 -- the segments have numbers from 1 on, each greater than those before

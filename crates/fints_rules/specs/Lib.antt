@@ -1,14 +1,8 @@
 pub mod AccountFields
 pub mod Accounts
 pub mod AccountRows
-pub mod Document
 pub mod Orders
 pub mod OrderFaults
-pub mod Segments
-pub mod Parts
-pub mod Messages
-pub mod Read
-pub mod Front
 pub mod Permits
 pub mod LimitMaps
 pub mod RuleNames

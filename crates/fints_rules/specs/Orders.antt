@@ -9,7 +9,7 @@ use Rattle.fints_rules.specs.declared.orders.AccountForm.TheVariants.{Nameless, 
 use Rattle.fints_rules.specs.declared.orders.OrderRow.{OrderRow}
 use Rattle.fints_rules.specs.declared.orders.TableFault.{TableFault}
 use Rattle.fints_rules.specs.declared.orders.TableFault.TheVariants as faults
-use Rattle.fints_rules.specs.Document.{document, item_list, only_keys, number_between}
+use Rattle.fints_documents.specs.Document.{document, item_list, only_keys, number_between}
 
 infixl 10 ◌>>=◌
 abbrev pub ◌>>=◌ : {A B : Type 0} → Option A → (A → Option B) → Option B

@@ -2,9 +2,10 @@
 ghost use Rattle.std.specs.Prelude.{OnOk, IfOk, IfErr, length};
 ghost use Rattle.fints_rules.specs.Breaks.{IsJudged};
 ghost use Rattle.fints_rules.specs.Judging.{IsRising, AddsWhole, AddsSegments, AddsRule, Covers};
-ghost use Rattle.fints_rules.specs.Read.{IsRefusal};
+ghost use Rattle.fints_messages.specs.Read.{IsRefusal};
 
-use crate::message::{JudgeFault, read_message};
+use fints_messages::laws::numbered_bodies;
+use fints_messages::{JudgeFault, read_message};
 use crate::permissions::Permissions;
 use crate::rule::{Broken, Rule};
 use crate::segments::breaks_at;
@@ -12,20 +13,6 @@ use crate::tally::Tally;
 use crate::whole::breaks_whole;
 use fints_syntax::Memory;
 use std::alloc::Global;
-
-// The rules in the order of their numbers.
-const RULES: [Rule; 10] = [
-    Rule::Protocol,
-    Rule::Number,
-    Rule::Size,
-    Rule::Kinds,
-    Rule::Version,
-    Rule::Orders,
-    Rule::Listed,
-    Rule::Signatures,
-    Rule::Account,
-    Rule::Tan,
-];
 
 // Adds the rule at place 0, where the message as a whole breaks it.
 fn push_whole(
@@ -88,7 +75,7 @@ fn broken_rules(
     ensures { IfOk result (λ broken. Covers permissions.now tally.now 10 broken.items) }
 {
     let mut broken = Vec::new(alloc);
-    for rule in RULES {
+    for rule in Rule::ALL {
         push_rule(&mut broken, permissions, tally, rule)?;
     }
     Ok(broken)
@@ -103,6 +90,7 @@ pub fn judge(
     ensures judged { IfOk result (λ broken. IsJudged permissions.now bytes.now broken.items) }
     ensures refusal { IfErr result (λ f. IsRefusal bytes.now f) }
 {
+    numbered_bodies();
     let message = read_message(alloc, bytes)?;
     let tally = Tally::of(alloc, &message)?;
     let broken = broken_rules(alloc, permissions, &tally)?;

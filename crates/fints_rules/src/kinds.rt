@@ -2,7 +2,7 @@
 ghost use Rattle.std.specs.Prelude.{◌≡◌};
 ghost use Rattle.fints_rules.specs.Breaks.{own_version, is_order, is_tan_order, is_plain_order};
 
-use crate::part::is_kind;
+use fints_messages::is_kind;
 use fints_syntax::Kind;
 
 /// The version that an administrative segment has; every other kind is an order's.

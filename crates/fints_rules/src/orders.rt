@@ -8,8 +8,8 @@ ghost use Rattle.fints_rules.specs.declared.orders.TableFault.TheVariants.{Memor
 ghost use Rattle.fints_rules.specs.Orders.{row_of, order_kind, is_order_kind, reserved, account_form, IsSameOrder, AreRows, IsTableAt, DenotesTable, IsTableFault, form_of};
 ghost use Rattle.fints_rules.specs.OrderFaults.{IsRowFault, IsFaultAt, IsTableIn, IsFaultIn};
 
-use crate::document;
-use crate::document::Unread;
+use fints_documents::document;
+use fints_documents::document::Unread;
 use fints_syntax::{Kind, Memory};
 use std::alloc::{AllocFailed, Global};
 use std::marker::Model;

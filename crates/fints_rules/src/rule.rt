@@ -29,6 +29,22 @@ pub enum Rule {
     Tan,
 }
 
+impl Rule {
+    /// Each rule once, in the order of their numbers.
+    pub const ALL: [Rule; 10] = [
+        Rule::Protocol,
+        Rule::Number,
+        Rule::Size,
+        Rule::Kinds,
+        Rule::Version,
+        Rule::Orders,
+        Rule::Listed,
+        Rule::Signatures,
+        Rule::Account,
+        Rule::Tan,
+    ];
+}
+
 /// A rule that a message breaks, and the number of the segment, or 0 for the whole message.
 #[derive(Clone, Copy, Debug, PartialEq, Eq)]
 pub struct Broken {

@@ -11,7 +11,7 @@ ghost use Rattle.fints_rules.specs.Breaks.{count_of, IsOrder, IsPlainOrder, IsRo
 use crate::account::AccountKey;
 use crate::kinds::{is_order, is_plain_order, own_version};
 use crate::limits::Demand;
-use crate::message::Message;
+use fints_messages::Message;
 use crate::orders::AccountForm;
 use crate::permissions::{Permissions, Permit};
 use crate::rule::Rule;

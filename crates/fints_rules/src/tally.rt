@@ -7,7 +7,7 @@ ghost use Rattle.fints_rules.specs.Breaks.{count_of, is_plain_order, plain_kinds
 ghost use Rattle.fints_rules.specs.Tallies.{HoldsCounts};
 
 use crate::kinds::{is_plain_order, is_tan_order};
-use crate::message::Message;
+use fints_messages::Message;
 use fints_syntax::{Kind, Memory, OwnedSegment};
 use indexmap::IndexMap;
 use std::alloc::Global;
@@ -96,7 +96,7 @@ impl<'a> Model for Tally<'a> {
     ghost use Rattle.std.specs.Set.{distinct_count};
     ghost use Rattle.std.specs.Str.{bytes_eq};
     ghost use Rattle.indexmap.specs.IndexMap.{get};
-    ghost use Rattle.fints_rules.specs.Messages.{MessageView};
+    ghost use Rattle.fints_messages.specs.Messages.{MessageView};
     ghost use Rattle.fints_rules.specs.Breaks.{plain_kinds, HasProcess, HasTan};
     ghost use Rattle.fints_rules.specs.Tallies.{HoldsCounts};
 

@@ -2,7 +2,7 @@
 ghost use Rattle.std.specs.Prelude.{◌≡◌, ◌↔◌, IsTrue, Any};
 ghost use Rattle.fints_rules.specs.Breaks.{BreaksProtocol, BreaksNumber, BreaksSize, BreaksKinds, BreaksWhole};
 
-use crate::message::Message;
+use fints_messages::Message;
 use crate::permissions::Permissions;
 use crate::rule::Rule;
 use crate::tally::Tally;

@@ -1,18 +1,3 @@
-pub mod CaseRefusals
-pub mod HexTexts
-pub mod CaseWrites
-pub mod CaseReads
-pub mod CaseLines
-pub mod CaseTexts
-pub mod Firing
-pub mod ItemTextLemmas
-pub mod ItemLists
-pub mod Spending
-pub mod NameTests
-pub mod PatternTests
-pub mod FieldLemmas
-pub mod TextLemmas
-pub mod CleanFields
 pub mod KindLemmas
 pub mod RowLemmas
 pub mod TopLemmas
@@ -25,4 +10,3 @@ pub mod SoundTargets
 pub mod SoundScripts
 pub mod SoundParts
 pub mod SoundSteps
-pub mod FirstPlaces

@@ -8,11 +8,11 @@ use Rattle.std.specs.Prelude.{option_map}
 use Rattle.toml.specs.declared.value.Value.{Value}
 use Rattle.toml.specs.Data.{Data}
 use Rattle.toml.specs.View.{view}
-use Rattle.fints_script.specs.Faults.{AreClean, IsFirstFault, Tells}
+use Rattle.fints_field_rows.specs.Faults.{AreClean, IsFirstFault, Tells}
 use Rattle.fints_script.specs.RowFaults.{placed, RefusesRow}
-use Rattle.fints_script.specs.declared.fault.FaultKind.{FaultKind}
-use Rattle.fints_script.specs.declared.fault.FaultKind.TheVariants as kinds
-use Rattle.fints_script.specs.declared.fault.Place.{Place}
+use Rattle.fints_field_rows.specs.declared.fault.FaultKind.{FaultKind}
+use Rattle.fints_field_rows.specs.declared.fault.FaultKind.TheVariants as kinds
+use Rattle.fints_field_rows.specs.declared.fault.Place.{Place}
 
 -- the row at i
 pub row_at : (vs : List Value) (i : ℕ) (d : Value) → i < length vs → slice_get (map view vs) i ≡ Some (view (get_or vs i d))

@@ -2,14 +2,14 @@
 use Rattle.std.proofs.Common.{◌≡◌, List, subst, ap, ◌∙◌, length, map, inl, inr, None, Option}
 use Rattle.std.specs.Prelude.{codes}
 use Rattle.toml.specs.Data.{Members, get_member}
-use Rattle.fints_script.specs.declared.fault.ScriptFault.{ScriptFault}
-use Rattle.fints_script.specs.declared.fault.Place.TheVariants as places
-use Rattle.fints_script.specs.declared.fields.NamedField.{NamedField}
-use Rattle.fints_script.specs.declared.template.Signer.{Signer}
-use Rattle.fints_script.specs.declared.template.TemplateItem.{TemplateItem}
-use Rattle.fints_script.specs.Faults.{AreClean}
+use Rattle.fints_field_rows.specs.declared.fault.ScriptFault.{ScriptFault}
+use Rattle.fints_field_rows.specs.declared.fault.Place.TheVariants as places
+use Rattle.fints_field_rows.specs.declared.fields.NamedField.{NamedField}
+use Rattle.fints_templates.specs.declared.template.Signer.{Signer}
+use Rattle.fints_templates.specs.declared.template.TemplateItem.{TemplateItem}
+use Rattle.fints_field_rows.specs.Faults.{AreClean}
 use Rattle.fints_script.specs.RowFaults.{RefusesRow}
-use Rattle.fints_script.specs.Signers.{signer_of, seal_fault, seal_value}
+use Rattle.fints_templates.specs.Signers.{signer_of, seal_fault, seal_value}
 use Rattle.fints_script.specs.Steps.{Surroundings, StepValue, step_fault, step_of}
 use Rattle.fints_script.specs.Scripts.{HasFields, HasSeal, IsScriptOf, RefusesTable, surroundings, signer_rows, step_rows, look_at_signer}
 

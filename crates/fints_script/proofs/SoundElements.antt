@@ -3,21 +3,20 @@ use Rattle.std.proofs.Common.{◌≡◌, ℕ, ◌+◌, ◌<◌, ◌≤◌, ◌�
 use Rattle.std.specs.Prelude.{IsTrue, option_and_then, is_some, unwrap_or, slice_get, position}
 use Rattle.std.specs.List.{list_any, position_or_len}
 use Rattle.std.specs.Str.{bytes_eq}
-use Rattle.std.proofs.lemmas.Bool.{cases_Bool, false≢true}
+use Rattle.std.proofs.lemmas.Bool.{cases_Bool, false≢true, or_parts, not-false}
 use Rattle.std.proofs.lemmas.Bool.Decides.{nat_tests}
 use Rattle.std.proofs.lemmas.List.Elements.{All-cons, All-nil}
 use Rattle.toml.specs.Data.{Data, string, integer, float, boolean, datetime, array, table}
-use Rattle.fints_rules.specs.Document.{item_list}
-use Rattle.fints_script.specs.declared.fault.FaultKind.TheVariants as kinds
-use Rattle.fints_script.specs.declared.fields.NamedField.{NamedField}
-use Rattle.fints_script.specs.declared.template.TemplateItem.{TemplateItem}
-use Rattle.fints_script.specs.declared.template.TemplateItem.TheVariants.{Literal, Dialog, Field}
-use Rattle.fints_script.specs.NamedFields.{is_field_named, place_of_field, is_account_at, is_account_named}
-use Rattle.fints_script.specs.ItemTexts.{Reading, reference, hex, literal, reading_of}
-use Rattle.fints_script.specs.Elements.{reading_has, item_has, element_has, elements_have, reference_value, reading_value, item_value, element_value, elements_value}
+use Rattle.fints_documents.specs.Document.{item_list}
+use Rattle.fints_field_rows.specs.declared.fault.FaultKind.TheVariants as kinds
+use Rattle.fints_field_rows.specs.declared.fields.NamedField.{NamedField}
+use Rattle.fints_templates.specs.declared.template.TemplateItem.{TemplateItem}
+use Rattle.fints_templates.specs.declared.template.TemplateItem.TheVariants.{Literal, Dialog, Field}
+use Rattle.fints_field_rows.specs.NamedFields.{is_field_named, place_of_field, is_account_at, is_account_named}
+use Rattle.fints_templates.specs.ItemTexts.{Reading, reference, hex, literal, reading_of}
+use Rattle.fints_templates.specs.Elements.{reading_has, item_has, element_has, elements_have, reference_value, reading_value, item_value, element_value, elements_value}
 use Rattle.fints_script.specs.Plans.{is_account_field}
 use Rattle.fints_script.specs.Sound.{IsInRange, IsSingle, IsFrameElement, IsBodyElement}
-use Rattle.fints_script.proofs.CleanFields.{neither, not_false}
 
 -- ---- the first place that passes
 
@@ -61,13 +60,13 @@ module _ (first : NamedField) (others : List NamedField) (named : first.name ≡
 
   pub reference_in_range : (name : List ℕ) → not (is_some (place_of_field (first ∷ others) name)) ≡ false → IsInRange (first ∷ others) (reference_value (first ∷ others) name)
   reference_in_range name h =
-      let at = some_or (place_of_field (first ∷ others) name) (not_false _ h) in
+      let at = some_or (place_of_field (first ∷ others) name) (not-false _ h) in
       by_test (IsInRange (first ∷ others)) (bytes_eq name (codes "dialog")) Dialog (Field (unwrap_or (place_of_field (first ∷ others) name) 0)) (λ e. tt)
       (λ other. subst (λ (o : Option ℕ). IsInRange (first ∷ others) (Field (unwrap_or o 0))) (sym at.1) (place_later (is_field_named name) first others at.0 (not_first name other) at.1, place_within (is_field_named name) (first ∷ others) at.0 at.1))
 
   pub reference_single : (name : List ℕ) → not (is_some (place_of_field (first ∷ others) name)) ≡ false → is_account_named (first ∷ others) name ≡ false → IsSingle (first ∷ others) (reference_value (first ∷ others) name)
   reference_single name h no' =
-      let at = some_or (place_of_field (first ∷ others) name) (not_false _ h) in
+      let at = some_or (place_of_field (first ∷ others) name) (not-false _ h) in
       let own : is_account_at (slice_get (first ∷ others) at.0) ≡ false = ap (λ (o : Option ℕ). is_account_at (option_and_then (slice_get (first ∷ others)) o)) (sym at.1) ∙ no' in
       by_test (IsSingle (first ∷ others)) (bytes_eq name (codes "dialog")) Dialog (Field (unwrap_or (place_of_field (first ∷ others) name) 0)) (λ e. tt)
       (λ other. subst (λ (o : Option ℕ). IsSingle (first ∷ others) (Field (unwrap_or o 0))) (sym at.1) own)
@@ -105,15 +104,15 @@ module _ (first : NamedField) (others : List NamedField) (named : first.name ≡
   items_in_range : (ds : List Data) → list_any (item_has kinds.WrongKind (first ∷ others) false) ds ≡ false → list_any (item_has kinds.NoSuchName (first ∷ others) false) ds ≡ false → All (IsInRange (first ∷ others)) (map (item_value (first ∷ others)) ds)
   items_in_range [] wrong no_name = All-nil (IsInRange (first ∷ others))
   items_in_range (d ∷ ds) wrong no_name =
-      let w = neither (item_has kinds.WrongKind (first ∷ others) false d) (list_any (item_has kinds.WrongKind (first ∷ others) false) ds) wrong in
-      let n = neither (item_has kinds.NoSuchName (first ∷ others) false d) (list_any (item_has kinds.NoSuchName (first ∷ others) false) ds) no_name in
+      let w = or_parts (item_has kinds.WrongKind (first ∷ others) false d) (list_any (item_has kinds.WrongKind (first ∷ others) false) ds) wrong in
+      let n = or_parts (item_has kinds.NoSuchName (first ∷ others) false d) (list_any (item_has kinds.NoSuchName (first ∷ others) false) ds) no_name in
       All-cons (IsInRange (first ∷ others)) (item_value (first ∷ others) d) (map (item_value (first ∷ others)) ds) (item_in_range false d w.0 n.0) (items_in_range ds w.1 n.1)
 
   items_single : (ds : List Data) → list_any (item_has kinds.WrongKind (first ∷ others) false) ds ≡ false → list_any (item_has kinds.NoSuchName (first ∷ others) false) ds ≡ false → All (IsSingle (first ∷ others)) (map (item_value (first ∷ others)) ds)
   items_single [] wrong no_name = All-nil (IsSingle (first ∷ others))
   items_single (d ∷ ds) wrong no_name =
-      let w = neither (item_has kinds.WrongKind (first ∷ others) false d) (list_any (item_has kinds.WrongKind (first ∷ others) false) ds) wrong in
-      let n = neither (item_has kinds.NoSuchName (first ∷ others) false d) (list_any (item_has kinds.NoSuchName (first ∷ others) false) ds) no_name in
+      let w = or_parts (item_has kinds.WrongKind (first ∷ others) false d) (list_any (item_has kinds.WrongKind (first ∷ others) false) ds) wrong in
+      let n = or_parts (item_has kinds.NoSuchName (first ∷ others) false d) (list_any (item_has kinds.NoSuchName (first ∷ others) false) ds) no_name in
       All-cons (IsSingle (first ∷ others)) (item_value (first ∷ others) d) (map (item_value (first ∷ others)) ds) (item_single d w.0 n.0) (items_single ds w.1 n.1)
 
   some_items : (ds : List Data) → (length ds == 0) ≡ false → 0 < length (map (item_value (first ∷ others)) ds)
@@ -126,8 +125,8 @@ module _ (first : NamedField) (others : List NamedField) (named : first.name ≡
   -- an element of a signer or of the seal
   pub frame_element : (d : Data) → element_has kinds.WrongKind (first ∷ others) false d ≡ false → element_has kinds.NoSuchName (first ∷ others) false d ≡ false → IsFrameElement (first ∷ others) (element_value (first ∷ others) d)
   frame_element (array ds) wrong no_name =
-      let w = neither (true && (length (item_list ds) == 0)) (list_any (item_has kinds.WrongKind (first ∷ others) false) (item_list ds)) wrong in
-      let n = neither (false && (length (item_list ds) == 0)) (list_any (item_has kinds.NoSuchName (first ∷ others) false) (item_list ds)) no_name in
+      let w = or_parts (true && (length (item_list ds) == 0)) (list_any (item_has kinds.WrongKind (first ∷ others) false) (item_list ds)) wrong in
+      let n = or_parts (false && (length (item_list ds) == 0)) (list_any (item_has kinds.NoSuchName (first ∷ others) false) (item_list ds)) no_name in
       record { some = some_items (item_list ds) w.0; within = items_in_range (item_list ds) w.1 n.1; single = items_single (item_list ds) w.1 n.1 }
   frame_element (string text) wrong no_name = record { some = omega arith; within = one _ (IsInRange (first ∷ others)) (item_in_range false (string text) wrong no_name); single = one _ (IsSingle (first ∷ others)) (item_single (string text) wrong no_name) }
   frame_element (integer z) wrong no_name = absurd (false≢true (sym wrong))
@@ -147,8 +146,8 @@ module _ (first : NamedField) (others : List NamedField) (named : first.name ≡
   -- an element of a step's segment
   pub body_element : (d : Data) → element_has kinds.WrongKind (first ∷ others) true d ≡ false → element_has kinds.NoSuchName (first ∷ others) true d ≡ false → IsBodyElement (first ∷ others) (element_value (first ∷ others) d)
   body_element (array ds) wrong no_name =
-      let w = neither (true && (length (item_list ds) == 0)) (list_any (item_has kinds.WrongKind (first ∷ others) false) (item_list ds)) wrong in
-      let n = neither (false && (length (item_list ds) == 0)) (list_any (item_has kinds.NoSuchName (first ∷ others) false) (item_list ds)) no_name in
+      let w = or_parts (true && (length (item_list ds) == 0)) (list_any (item_has kinds.WrongKind (first ∷ others) false) (item_list ds)) wrong in
+      let n = or_parts (false && (length (item_list ds) == 0)) (list_any (item_has kinds.NoSuchName (first ∷ others) false) (item_list ds)) no_name in
       record { some = some_items (item_list ds) w.0; within = items_in_range (item_list ds) w.1 n.1; alone = inr (items_single (item_list ds) w.1 n.1) }
   body_element (string text) wrong no_name = record { some = omega arith; within = one _ (IsInRange (first ∷ others)) (item_in_range true (string text) wrong no_name); alone = alone (item_value (first ∷ others) (string text)) }
   body_element (integer z) wrong no_name = absurd (false≢true (sym wrong))
@@ -160,15 +159,15 @@ module _ (first : NamedField) (others : List NamedField) (named : first.name ≡
   frame_list : (ds : List Data) → list_any (element_has kinds.WrongKind (first ∷ others) false) ds ≡ false → list_any (element_has kinds.NoSuchName (first ∷ others) false) ds ≡ false → All (IsFrameElement (first ∷ others)) (map (element_value (first ∷ others)) ds)
   frame_list [] wrong no_name = All-nil (IsFrameElement (first ∷ others))
   frame_list (d ∷ ds) wrong no_name =
-      let w = neither (element_has kinds.WrongKind (first ∷ others) false d) (list_any (element_has kinds.WrongKind (first ∷ others) false) ds) wrong in
-      let n = neither (element_has kinds.NoSuchName (first ∷ others) false d) (list_any (element_has kinds.NoSuchName (first ∷ others) false) ds) no_name in
+      let w = or_parts (element_has kinds.WrongKind (first ∷ others) false d) (list_any (element_has kinds.WrongKind (first ∷ others) false) ds) wrong in
+      let n = or_parts (element_has kinds.NoSuchName (first ∷ others) false d) (list_any (element_has kinds.NoSuchName (first ∷ others) false) ds) no_name in
       All-cons (IsFrameElement (first ∷ others)) (element_value (first ∷ others) d) (map (element_value (first ∷ others)) ds) (frame_element d w.0 n.0) (frame_list ds w.1 n.1)
 
   body_list : (ds : List Data) → list_any (element_has kinds.WrongKind (first ∷ others) true) ds ≡ false → list_any (element_has kinds.NoSuchName (first ∷ others) true) ds ≡ false → All (IsBodyElement (first ∷ others)) (map (element_value (first ∷ others)) ds)
   body_list [] wrong no_name = All-nil (IsBodyElement (first ∷ others))
   body_list (d ∷ ds) wrong no_name =
-      let w = neither (element_has kinds.WrongKind (first ∷ others) true d) (list_any (element_has kinds.WrongKind (first ∷ others) true) ds) wrong in
-      let n = neither (element_has kinds.NoSuchName (first ∷ others) true d) (list_any (element_has kinds.NoSuchName (first ∷ others) true) ds) no_name in
+      let w = or_parts (element_has kinds.WrongKind (first ∷ others) true d) (list_any (element_has kinds.WrongKind (first ∷ others) true) ds) wrong in
+      let n = or_parts (element_has kinds.NoSuchName (first ∷ others) true d) (list_any (element_has kinds.NoSuchName (first ∷ others) true) ds) no_name in
       All-cons (IsBodyElement (first ∷ others)) (element_value (first ∷ others) d) (map (element_value (first ∷ others)) ds) (body_element d w.0 n.0) (body_list ds w.1 n.1)
 
   pub frame_elements : (o : Option Data) → elements_have kinds.WrongKind (first ∷ others) false o ≡ false → elements_have kinds.NoSuchName (first ∷ others) false o ≡ false → All (IsFrameElement (first ∷ others)) (elements_value (first ∷ others) o)

@@ -1,47 +1,31 @@
 -- What signers, the seal and the steps of a read script keep.
 use Rattle.std.proofs.Common.{◌≡◌, ℕ, ◌+◌, ◌<◌, ◌≤◌, Bool, true, false, codes, List, [], ◌∷◌, length, get_or, map, drop, nat_lt, All, Option, Some, None, refl, ap, subst, ◌∙◌, sym, arith}
 use Rattle.std.specs.Prelude.{slice_get, IfSome}
-use Rattle.std.proofs.lemmas.Bool.{false≢true}
+use Rattle.std.proofs.lemmas.Bool.{false≢true, or_parts}
 use Rattle.std.proofs.lemmas.Bool.Decides.{nat_tests}
 use Rattle.std.proofs.lemmas.List.{get_or-map}
 use Rattle.std.proofs.lemmas.List.Elements.{All-head, All-tail}
 use Rattle.std.proofs.lemmas.Option.{slice_get-get_or}
 use Rattle.toml.specs.Data.{Data, string, integer, float, boolean, datetime, array, table, Members, get_member}
-use Rattle.fints_script.specs.declared.fault.FaultKind.{FaultKind}
-use Rattle.fints_script.specs.declared.fault.FaultKind.TheVariants as kinds
+use Rattle.fints_field_rows.specs.declared.fault.FaultKind.{FaultKind}
+use Rattle.fints_field_rows.specs.declared.fault.FaultKind.TheVariants as kinds
 use Rattle.fints_fields.specs.declared.field.Field.{Field}
 use Rattle.fints_fields.specs.declared.field.Field.TheVariants as classes
-use Rattle.fints_script.specs.declared.fields.NamedField.{NamedField}
-use Rattle.fints_script.specs.declared.template.TemplateItem.{TemplateItem}
-use Rattle.fints_script.specs.declared.template.TemplateItem.TheVariants as items
-use Rattle.fints_script.specs.FaultOrder.{first_kind, kind_order}
-use Rattle.fints_script.specs.Faults.{or_later}
+use Rattle.fints_field_rows.specs.declared.fields.NamedField.{NamedField}
+use Rattle.fints_templates.specs.declared.template.TemplateItem.{TemplateItem}
+use Rattle.fints_templates.specs.declared.template.TemplateItem.TheVariants as items
+use Rattle.fints_field_rows.specs.FaultOrder.{first_kind, none_of}
+use Rattle.fints_field_rows.specs.Faults.{or_later}
 use Rattle.fints_fields.specs.Fields.{field_most_items}
-use Rattle.fints_script.specs.Figures.{figures_of}
-use Rattle.fints_script.specs.NamedFields.{is_account, is_account_at}
-use Rattle.fints_script.specs.Elements.{elements_have, elements_value}
-use Rattle.fints_script.specs.Weights.{total, item_count, element_count, items_in, no_figures, MAX_ITEMS}
-use Rattle.fints_script.specs.Signers.{signer_has, signer_value, signer_fault, signer_of, ends_have, has_many_items, limit_of, table_fault, seal_fault, seal_value}
+use Rattle.fints_templates.specs.Figures.{figures_of}
+use Rattle.fints_field_rows.specs.NamedFields.{is_account, is_account_at}
+use Rattle.fints_templates.specs.Elements.{elements_have, elements_value}
+use Rattle.fints_templates.specs.Weights.{total, item_count, element_count, items_in, no_figures, MAX_ITEMS}
+use Rattle.fints_templates.specs.Signers.{signer_has, signer_value, signer_fault, signer_of, ends_have, has_many_items, limit_of, table_fault, seal_fault, seal_value}
 use Rattle.fints_script.specs.Sound.{IsInRange, IsSingle, IsFrameElement, IsSoundFrame, IsSoundSigner}
-use Rattle.fints_script.proofs.CleanFields.{neither, not_found, not_later}
 use Rattle.fints_script.proofs.SoundElements.{frame_elements}
 
 -- ---- kinds of faults
-
-pub none_wrong : (p : FaultKind → Bool) → first_kind p ≡ None → p kinds.WrongKind ≡ false
-none_wrong p h = (not_found p kinds.WrongKind (drop 3 kind_order) (not_later p 2 kind_order h)).0
-
-pub none_missing : (p : FaultKind → Bool) → first_kind p ≡ None → p kinds.Missing ≡ false
-none_missing p h = (not_found p kinds.Missing (drop 2 kind_order) (not_later p 1 kind_order h)).0
-
-pub none_unnamed : (p : FaultKind → Bool) → first_kind p ≡ None → p kinds.NoSuchName ≡ false
-none_unnamed p h = (not_found p kinds.NoSuchName (drop 7 kind_order) (not_later p 6 kind_order h)).0
-
-pub none_backward : (p : FaultKind → Bool) → first_kind p ≡ None → p kinds.BackwardJump ≡ false
-none_backward p h = (not_found p kinds.BackwardJump (drop 8 kind_order) (not_later p 7 kind_order h)).0
-
-pub none_past : (p : FaultKind → Bool) → first_kind p ≡ None → p kinds.Limit ≡ false
-none_past p h = (not_found p kinds.Limit (drop 10 kind_order) (not_later p 9 kind_order h)).0
 
 pub both_none : {F : Type 0} (a b : Option F) → or_later a b ≡ None → (a ≡ None) × (b ≡ None)
 both_none None b h = (refl, h)
@@ -102,10 +86,10 @@ module _ (first : NamedField) (others : List NamedField) (named : first.name ≡
   unfolding signer_has
   sound_table earlier ms h =
       let parts = both_none (first_kind (λ kind. signer_has kind (first ∷ others) earlier ms)) _ h in
-      let wrong = neither _ (ends_have kinds.WrongKind (first ∷ others) ms) (none_wrong (λ kind. signer_has kind (first ∷ others) earlier ms) parts.0) in
-      let ends_wrong = neither (elements_have kinds.WrongKind (first ∷ others) false (get_member (codes "head") ms)) _ wrong.1 in
-      let ends_unnamed = neither (elements_have kinds.NoSuchName (first ∷ others) false (get_member (codes "head") ms)) _ (none_unnamed (λ kind. signer_has kind (first ∷ others) earlier ms) parts.0) in
-      let many = neither (has_many_items (elements_value (first ∷ others) (get_member (codes "head") ms))) _ (no_limit _ parts.1) in
+      let wrong = or_parts _ (ends_have kinds.WrongKind (first ∷ others) ms) (none_of (λ kind. signer_has kind (first ∷ others) earlier ms) parts.0).wrong in
+      let ends_wrong = or_parts (elements_have kinds.WrongKind (first ∷ others) false (get_member (codes "head") ms)) _ wrong.1 in
+      let ends_unnamed = or_parts (elements_have kinds.NoSuchName (first ∷ others) false (get_member (codes "head") ms)) _ (none_of (λ kind. signer_has kind (first ∷ others) earlier ms) parts.0).nameless in
+      let many = or_parts (has_many_items (elements_value (first ∷ others) (get_member (codes "head") ms))) _ (no_limit _ parts.1) in
       record {
         head = sound_frame (get_member (codes "head") ms) ends_wrong.0 ends_unnamed.0 many.0;
         end = sound_frame (get_member (codes "end") ms) ends_wrong.1 ends_unnamed.1 many.1;
@@ -124,4 +108,4 @@ module _ (first : NamedField) (others : List NamedField) (named : first.name ≡
   sound_seal None h = tt
   sound_seal (Some d) h =
       let parts = both_none (first_kind (λ kind. elements_have kind (first ∷ others) false (Some d))) _ h in
-      sound_frame (Some d) (none_wrong (λ kind. elements_have kind (first ∷ others) false (Some d)) parts.0) (none_unnamed (λ kind. elements_have kind (first ∷ others) false (Some d)) parts.0) (no_limit _ parts.1)
+      sound_frame (Some d) (none_of (λ kind. elements_have kind (first ∷ others) false (Some d)) parts.0).wrong (none_of (λ kind. elements_have kind (first ∷ others) false (Some d)) parts.0).nameless (no_limit _ parts.1)

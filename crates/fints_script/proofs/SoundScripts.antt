@@ -2,36 +2,36 @@
 use Rattle.std.proofs.Common.{◌≡◌, ℕ, ◌+◌, ◌<◌, ◌≤◌, Bool, true, false, ◌&&◌, ◌||◌, not, codes, zero, suc, List, [], ◌∷◌, length, get_or, map, take, nat_lt, All, Option, Some, None, refl, ap, subst, ◌∙◌, sym, arith}
 use Rattle.std.specs.Prelude.{is_some, option_map, slice_get, IfSome}
 use Rattle.std.specs.List.{list_any}
-use Rattle.std.proofs.lemmas.Bool.{false≢true}
+use Rattle.std.proofs.lemmas.Bool.{false≢true, or_parts, not-false, and_parts}
 use Rattle.std.proofs.lemmas.List.{get_or-map, length-map}
 use Rattle.std.proofs.lemmas.Option.{same_Some, slice_get-get_or, slice_get-map, slice_get_within}
 use Rattle.toml.specs.Data.{Data, string, integer, float, boolean, datetime, array, table, Members, get_member}
-use Rattle.fints_script.specs.declared.fault.FaultKind.{FaultKind}
-use Rattle.fints_script.specs.declared.fault.FaultKind.TheVariants as kinds
-use Rattle.fints_script.specs.declared.fields.NamedField.{NamedField}
-use Rattle.fints_script.specs.declared.template.Signer.{Signer}
-use Rattle.fints_script.specs.declared.template.TemplateItem.{TemplateItem}
-use Rattle.fints_script.specs.FaultOrder.{first_kind}
-use Rattle.fints_script.specs.Faults.{AreClean}
-use Rattle.fints_script.specs.Figures.{figures_of}
-use Rattle.fints_script.specs.Entries.{has_key}
-use Rattle.fints_script.specs.Tables.{is_set, is_no_array, is_no_list, is_no_flag, is_no_integer, rows_of, is_outside}
-use Rattle.fints_script.specs.Signers.{signer_of}
-use Rattle.fints_script.specs.Steps.{StepValue, Surroundings, branch_has, target_has, keys_have, parts_have, step_has, step_value, step_fault, step_of, step_weight, has_large_segment, template_of, MAX_WEIGHT}
+use Rattle.fints_field_rows.specs.declared.fault.FaultKind.{FaultKind}
+use Rattle.fints_field_rows.specs.declared.fault.FaultKind.TheVariants as kinds
+use Rattle.fints_field_rows.specs.declared.fields.NamedField.{NamedField}
+use Rattle.fints_templates.specs.declared.template.Signer.{Signer}
+use Rattle.fints_templates.specs.declared.template.TemplateItem.{TemplateItem}
+use Rattle.fints_field_rows.specs.FaultOrder.{first_kind, none_of}
+use Rattle.fints_field_rows.specs.Faults.{AreClean}
+use Rattle.fints_templates.specs.Figures.{figures_of}
+use Rattle.fints_documents.specs.Entries.{has_key}
+use Rattle.fints_documents.specs.Tables.{is_set, is_no_array, is_no_list, is_no_flag, is_no_integer, rows_of, is_outside}
+use Rattle.fints_templates.specs.Signers.{signer_of}
+use Rattle.fints_script.specs.Steps.{StepValue, Surroundings, branch_has, target_has, keys_have, parts_have, step_has, step_value, step_fault, step_of, step_weight, has_large_segment, MAX_WEIGHT}
+use Rattle.fints_templates.specs.Segments.{template_of}
 use Rattle.fints_script.specs.Scripts.{counts_are_past as top_past}
 use Rattle.fints_script.specs.Scripts.{ScriptValue, IsRead, IsScriptOf, IsDialogField, field_rows, top_has, top_fault, rows_are_wrong, surroundings, signer_rows, step_rows, look_at_signer}
 use Rattle.fints_script.specs.Sound.{IsSound, IsSoundStep, IsSoundSigner, IsSoundFrame, numbered, LeadsOnward}
-use Rattle.fints_script.proofs.CleanFields.{neither, not_false, both}
-use Rattle.fints_script.proofs.SoundParts.{none_wrong, none_missing, none_unnamed, none_backward, none_past, both_none, no_limit, not_past, sound_signer, sound_seal}
+use Rattle.fints_script.proofs.SoundParts.{both_none, no_limit, not_past, sound_signer, sound_seal}
 use Rattle.fints_script.proofs.SoundSteps.{number_within, sound_templates, signatures_within, some_rows}
 use Rattle.fints_script.proofs.SoundTargets.{branches_onward, target_onward}
 
 -- no fault of a kind in the segments or the signers of a step
 parts_kept : (segments signers branches target : Bool) → ((segments || signers) || (branches || target)) ≡ false → (segments ≡ false) × (signers ≡ false)
-parts_kept segments signers branches target h = neither segments signers (neither (segments || signers) (branches || target) h).0
+parts_kept segments signers branches target h = or_parts segments signers (or_parts (segments || signers) (branches || target) h).0
 
 sealed_kept : (sealed there : Bool) → (sealed && not there) ≡ false → sealed ≡ true → there ≡ true
-sealed_kept true there h e = not_false there h
+sealed_kept true there h e = not-false there h
 sealed_kept false there h e = absurd (false≢true e)
 
 at_most : (m n : ℕ) (rows : List Data) {X : Type 0} (f : Data → X) → nat_lt m (length rows) ≡ false → length (map f rows) ≤ m
@@ -44,24 +44,24 @@ module _ (first : NamedField) (others : List NamedField) (named : first.name ≡
   sound_members steps i ms h =
       let here : Surroundings = record { fields = first ∷ others; figures = map figures_of (first ∷ others); signers = signers; seal = seal; rows = rows } in
       let parts = both_none (first_kind (λ kind. step_has kind here i ms)) _ h in
-      let missing = neither (keys_have kinds.Missing here i ms) (parts_have kinds.Missing here i ms) (none_missing (λ kind. step_has kind here i ms) parts.0) in
-      let wrong = neither (keys_have kinds.WrongKind here i ms) (parts_have kinds.WrongKind here i ms) (none_wrong (λ kind. step_has kind here i ms) parts.0) in
-      let unnamed = neither (keys_have kinds.NoSuchName here i ms) (parts_have kinds.NoSuchName here i ms) (none_unnamed (λ kind. step_has kind here i ms) parts.0) in
-      let past = neither (keys_have kinds.Limit here i ms) (parts_have kinds.Limit here i ms) (none_past (λ kind. step_has kind here i ms) parts.0) in
+      let missing = or_parts (keys_have kinds.Missing here i ms) (parts_have kinds.Missing here i ms) (none_of (λ kind. step_has kind here i ms) parts.0).missing in
+      let wrong = or_parts (keys_have kinds.WrongKind here i ms) (parts_have kinds.WrongKind here i ms) (none_of (λ kind. step_has kind here i ms) parts.0).wrong in
+      let unnamed = or_parts (keys_have kinds.NoSuchName here i ms) (parts_have kinds.NoSuchName here i ms) (none_of (λ kind. step_has kind here i ms) parts.0).nameless in
+      let past = or_parts (keys_have kinds.Limit here i ms) (parts_have kinds.Limit here i ms) (none_of (λ kind. step_has kind here i ms) parts.0).limit in
       let m = parts_kept _ _ (list_any (branch_has kinds.Missing rows i) (rows_of (get_member (codes "branches") ms))) (target_has kinds.Missing rows i (get_member (codes "default") ms)) missing.1 in
       let w = parts_kept _ _ (list_any (branch_has kinds.WrongKind rows i) (rows_of (get_member (codes "branches") ms))) (target_has kinds.WrongKind rows i (get_member (codes "default") ms)) wrong.1 in
       let n = parts_kept _ _ (list_any (branch_has kinds.NoSuchName rows i) (rows_of (get_member (codes "branches") ms))) (target_has kinds.NoSuchName rows i (get_member (codes "default") ms)) unnamed.1 in
       let l = parts_kept _ _ (list_any (branch_has kinds.Limit rows i) (rows_of (get_member (codes "branches") ms))) (target_has kinds.Limit rows i (get_member (codes "default") ms)) past.1 in
-      let lacks = neither (not (has_key (codes "name") ms && has_key (codes "segments") ms)) (is_set (get_member (codes "sealed") ms) && not (is_some seal)) missing.0 in
-      let keys = both (has_key (codes "name") ms) (has_key (codes "segments") ms) (not_false _ lacks.0) in
-      let counts = neither (is_outside 1 99 (get_member (codes "repeat") ms) || nat_lt 100 (length (rows_of (get_member (codes "segments") ms)))) _ past.0 in
-      let segments = neither (is_outside 1 99 (get_member (codes "repeat") ms)) (nat_lt 100 (length (rows_of (get_member (codes "segments") ms)))) counts.0 in
-      let signed = neither (nat_lt 9 (length (rows_of (get_member (codes "signers") ms)))) _ counts.1 in
-      let lists = neither _ (is_no_list (get_member (codes "segments") ms)) (neither _ _ (neither _ _ wrong.0).0).0 in
-      let branches = neither (nat_lt 9 (length (rows_of (get_member (codes "signers") ms)))) (nat_lt 20 (length (rows_of (get_member (codes "branches") ms)))) counts.1 in
-      let values = neither (is_no_flag (get_member (codes "sealed") ms)) (is_no_integer (get_member (codes "repeat") ms)) (neither _ _ (neither _ _ wrong.0).0).1 in
+      let lacks = or_parts (not (has_key (codes "name") ms && has_key (codes "segments") ms)) (is_set (get_member (codes "sealed") ms) && not (is_some seal)) missing.0 in
+      let keys = and_parts (has_key (codes "name") ms) (has_key (codes "segments") ms) (not-false _ lacks.0) in
+      let counts = or_parts (is_outside 1 99 (get_member (codes "repeat") ms) || nat_lt 100 (length (rows_of (get_member (codes "segments") ms)))) _ past.0 in
+      let segments = or_parts (is_outside 1 99 (get_member (codes "repeat") ms)) (nat_lt 100 (length (rows_of (get_member (codes "segments") ms)))) counts.0 in
+      let signed = or_parts (nat_lt 9 (length (rows_of (get_member (codes "signers") ms)))) _ counts.1 in
+      let lists = or_parts _ (is_no_list (get_member (codes "segments") ms)) (or_parts _ _ (or_parts _ _ wrong.0).0).0 in
+      let branches = or_parts (nat_lt 9 (length (rows_of (get_member (codes "signers") ms)))) (nat_lt 20 (length (rows_of (get_member (codes "branches") ms)))) counts.1 in
+      let values = or_parts (is_no_flag (get_member (codes "sealed") ms)) (is_no_integer (get_member (codes "repeat") ms)) (or_parts _ _ (or_parts _ _ wrong.0).0).1 in
       let repeat = number_within 1 99 1 (omega arith) (omega arith) (get_member (codes "repeat") ms) values.1 segments.0 in
-      let size = neither (has_large_segment here.figures (step_value here ms).templates) (nat_lt MAX_WEIGHT (step_weight here (step_value here ms))) (no_limit _ parts.1) in
+      let size = or_parts (has_large_segment here.figures (step_value here ms).templates) (nat_lt MAX_WEIGHT (step_weight here (step_value here ms))) (no_limit _ parts.1) in
       record {
         signers = signatures_within signers (rows_of (get_member (codes "signers") ms)) w.1 n.1;
         few_signers = at_most 9 0 (rows_of (get_member (codes "signers") ms)) _ signed.0;
@@ -90,10 +90,10 @@ module _ (around : Surroundings) where
   unfolding step_has keys_have step_value
   members_onward i ms within h =
       let parts = both_none (first_kind (λ kind. step_has kind around i ms)) _ h in
-      let unnamed = neither (keys_have kinds.NoSuchName around i ms) (parts_have kinds.NoSuchName around i ms) (none_unnamed (λ kind. step_has kind around i ms) parts.0) in
-      let backward = neither (keys_have kinds.BackwardJump around i ms) (parts_have kinds.BackwardJump around i ms) (none_backward (λ kind. step_has kind around i ms) parts.0) in
-      let n = neither (list_any (branch_has kinds.NoSuchName around.rows i) (rows_of (get_member (codes "branches") ms))) (target_has kinds.NoSuchName around.rows i (get_member (codes "default") ms)) (neither _ _ unnamed.1).1 in
-      let b = neither (list_any (branch_has kinds.BackwardJump around.rows i) (rows_of (get_member (codes "branches") ms))) (target_has kinds.BackwardJump around.rows i (get_member (codes "default") ms)) (neither _ _ backward.1).1 in
+      let unnamed = or_parts (keys_have kinds.NoSuchName around i ms) (parts_have kinds.NoSuchName around i ms) (none_of (λ kind. step_has kind around i ms) parts.0).nameless in
+      let backward = or_parts (keys_have kinds.BackwardJump around i ms) (parts_have kinds.BackwardJump around i ms) (none_of (λ kind. step_has kind around i ms) parts.0).backward in
+      let n = or_parts (list_any (branch_has kinds.NoSuchName around.rows i) (rows_of (get_member (codes "branches") ms))) (target_has kinds.NoSuchName around.rows i (get_member (codes "default") ms)) (or_parts _ _ unnamed.1).1 in
+      let b = or_parts (list_any (branch_has kinds.BackwardJump around.rows i) (rows_of (get_member (codes "branches") ms))) (target_has kinds.BackwardJump around.rows i (get_member (codes "default") ms)) (or_parts _ _ backward.1).1 in
       record {
         branches = branches_onward around.rows i (rows_of (get_member (codes "branches") ms)) within n.0 b.0;
         otherwise = target_onward around.rows i (get_member (codes "default") ms) within n.1 b.1;
@@ -134,17 +134,17 @@ each_row P of fault rows clean step k d lt =
 some_steps : (ms : Members) → top_fault ms ≡ None → 1 ≤ length (step_rows ms)
 unfolding top_has
 some_steps ms h =
-    let missing : not (has_key (codes "step") ms) ≡ false = none_missing (λ kind. top_has kind ms) h in
-    let wrong : rows_are_wrong ms ≡ false = none_wrong (λ kind. top_has kind ms) h in
-    let lists = neither (is_no_array (get_member (codes "field") ms)) _ wrong in
-    some_rows (get_member (codes "step") ms) (not_false _ missing) (neither (is_no_array (get_member (codes "signer") ms)) (is_no_list (get_member (codes "step") ms)) lists.1).1
+    let missing : not (has_key (codes "step") ms) ≡ false = (none_of (λ kind. top_has kind ms) h).missing in
+    let wrong : rows_are_wrong ms ≡ false = (none_of (λ kind. top_has kind ms) h).wrong in
+    let lists = or_parts (is_no_array (get_member (codes "field") ms)) _ wrong in
+    some_rows (get_member (codes "step") ms) (not-false _ missing) (or_parts (is_no_array (get_member (codes "signer") ms)) (is_no_list (get_member (codes "step") ms)) lists.1).1
 
 few_rows : (ms : Members) → top_fault ms ≡ None → length (step_rows ms) ≤ 200
 unfolding top_has
 few_rows ms h =
-    let past : top_past ms ≡ false = none_past (λ kind. top_has kind ms) h in
-    let others = neither (nat_lt 100 (length (field_rows ms))) _ past in
-    not_past 200 (length (step_rows ms)) (neither (nat_lt 20 (length (signer_rows ms))) (nat_lt 200 (length (step_rows ms))) others.1).1
+    let past : top_past ms ≡ false = (none_of (λ kind. top_has kind ms) h).limit in
+    let others = or_parts (nat_lt 100 (length (field_rows ms))) _ past in
+    not_past 200 (length (step_rows ms)) (or_parts (nat_lt 20 (length (signer_rows ms))) (nat_lt 200 (length (step_rows ms))) others.1).1
 
 sound_parts : (ms : Members) (first : NamedField) (others : List NamedField) → IsDialogField first → (signers : List Signer) (seal : Option (List (List TemplateItem))) (steps : List StepValue)
     → IsScriptOf ms (record { fields = first ∷ others; signers = signers; seal = seal; steps = steps }) → IsSound (record { fields = first ∷ others; signers = signers; seal = seal; steps = steps })

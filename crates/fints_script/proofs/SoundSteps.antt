@@ -4,27 +4,27 @@ use Rattle.std.specs.Prelude.{pos, negsuc, option_and_then, is_some, unwrap_or}
 use Rattle.std.specs.List.{list_any, list_all}
 use Rattle.std.specs.Str.{bytes_eq}
 use Rattle.std.specs.Char.{is_ascii_digit, is_ascii_uppercase}
-use Rattle.std.proofs.lemmas.Bool.{cases_Bool, false≢true}
+use Rattle.std.proofs.lemmas.Bool.{cases_Bool, false≢true, or_parts, not-false, and_parts}
 use Rattle.std.proofs.lemmas.Bool.Decides.{nat_tests}
 use Rattle.std.proofs.lemmas.Slice.Eq.{bytes_eq-Decides}
 use Rattle.std.proofs.lemmas.List.Elements.{All-cons, All-nil}
 use Rattle.std.proofs.lemmas.List.Sums.{AllPass-from_list_all}
 use Rattle.toml.specs.Data.{Data, string, integer, float, boolean, datetime, array, table, Members, get_member, as_str}
 use Rattle.fints_syntax.specs.Kind.{IsKindText, IsKindByte, kind_from}
-use Rattle.fints_rules.specs.Document.{item_list, number_between}
-use Rattle.fints_script.specs.declared.fault.FaultKind.{FaultKind}
-use Rattle.fints_script.specs.declared.fault.FaultKind.TheVariants as kinds
-use Rattle.fints_script.specs.declared.fields.NamedField.{NamedField}
-use Rattle.fints_script.specs.declared.template.Template.{Template}
-use Rattle.fints_script.specs.declared.template.Signer.{Signer}
-use Rattle.fints_script.specs.Entries.{has_key}
-use Rattle.fints_script.specs.Elements.{elements_have}
-use Rattle.fints_script.specs.Tables.{is_outside, number_or, is_no_integer, is_no_list, rows_of}
-use Rattle.fints_script.specs.Weights.{items_in, MAX_ITEMS}
-use Rattle.fints_script.specs.Figures.{figures_of}
-use Rattle.fints_script.specs.Steps.{frame_kinds, is_body_kind, is_no_kind, segment_keys_have, segment_has, kind_of, template_value, template_of, place_of_signer, signature_has, signature_value}
+use Rattle.fints_documents.specs.Document.{item_list, number_between}
+use Rattle.fints_field_rows.specs.declared.fault.FaultKind.{FaultKind}
+use Rattle.fints_field_rows.specs.declared.fault.FaultKind.TheVariants as kinds
+use Rattle.fints_field_rows.specs.declared.fields.NamedField.{NamedField}
+use Rattle.fints_templates.specs.declared.template.Template.{Template}
+use Rattle.fints_templates.specs.declared.template.Signer.{Signer}
+use Rattle.fints_documents.specs.Entries.{has_key}
+use Rattle.fints_templates.specs.Elements.{elements_have}
+use Rattle.fints_documents.specs.Tables.{is_outside, number_or, is_no_integer, is_no_list, rows_of}
+use Rattle.fints_templates.specs.Weights.{items_in, MAX_ITEMS}
+use Rattle.fints_templates.specs.Figures.{figures_of}
+use Rattle.fints_script.specs.Steps.{place_of_signer, signature_has, signature_value}
+use Rattle.fints_templates.specs.Segments.{frame_kinds, is_body_kind, is_no_kind, segment_keys_have, segment_has, kind_of, template_value, template_of}
 use Rattle.fints_script.specs.Sound.{IsSoundTemplate}
-use Rattle.fints_script.proofs.CleanFields.{neither, not_false, both}
 use Rattle.fints_script.proofs.SoundElements.{body_elements, place_within}
 use Rattle.fints_script.proofs.SoundParts.{not_past}
 
@@ -33,7 +33,7 @@ use Rattle.fints_script.proofs.SoundParts.{not_past}
 number_in : (low high d n : ℕ) → not (is_some (number_between low high (integer (pos n)))) ≡ false → (low ≤ number_or low high d (Some (integer (pos n)))) × (number_or low high d (Some (integer (pos n))) ≤ high)
 number_in low high d n h = elim (cases_Bool (nat_le low n && nat_le n high)) [
   | inl e ↦
-      let parts = both (nat_le low n) (nat_le n high) e in
+      let parts = and_parts (nat_le low n) (nat_le n high) e in
       let least : nat_le low n ≡ true = parts.0 in
       let most : nat_le n high ≡ true = parts.1 in
       let is : number_or low high d (Some (integer (pos n))) ≡ n = ap (λ b. unwrap_or (cond b (Some n) None) d) e in
@@ -60,8 +60,8 @@ kind_byte b h = grind (arith, nat_tests)
 kind_some : (text : List ℕ) → is_some (kind_from text) ≡ true → (kind_from text ≡ Some text) × IsKindText text
 kind_some text h = elim (cases_Bool (list_all (λ b. is_ascii_uppercase b || is_ascii_digit b) text && nat_le 1 (length text) && nat_le (length text) 6)) [
   | inl e ↦
-      let outer = both (list_all (λ b. is_ascii_uppercase b || is_ascii_digit b) text && nat_le 1 (length text)) (nat_le (length text) 6) e in
-      let inner = both (list_all (λ b. is_ascii_uppercase b || is_ascii_digit b) text) (nat_le 1 (length text)) outer.0 in
+      let outer = and_parts (list_all (λ b. is_ascii_uppercase b || is_ascii_digit b) text && nat_le 1 (length text)) (nat_le (length text) 6) e in
+      let inner = and_parts (list_all (λ b. is_ascii_uppercase b || is_ascii_digit b) text) (nat_le 1 (length text)) outer.0 in
       let low : nat_le 1 (length text) ≡ true = inner.1 in
       let high : nat_le (length text) 6 ≡ true = outer.1 in
       (ap (λ b. cond b (Some text) None) e, (grind (arith, nat_tests), grind (arith, nat_tests), λ k d lt. kind_byte _ (AllPass-from_list_all (λ b. is_ascii_uppercase b || is_ascii_digit b) text inner.0 k d lt)))
@@ -71,7 +71,7 @@ kind_some text h = elim (cases_Bool (list_all (λ b. is_ascii_uppercase b || is_
 no_frame_of : (text : List ℕ) (frames : List (List ℕ)) → list_any (bytes_eq text) frames ≡ false → All (λ frame. frame ≡ text → ⊥) frames
 no_frame_of text [] h = All-nil (λ frame. frame ≡ text → ⊥)
 no_frame_of text (f ∷ fs) h =
-    let parts = neither (bytes_eq text f) (list_any (bytes_eq text) fs) h in
+    let parts = or_parts (bytes_eq text f) (list_any (bytes_eq text) fs) h in
     All-cons (λ frame. frame ≡ text → ⊥) f fs (λ e. false≢true (sym parts.0 ∙ (bytes_eq-Decides text f).1 (sym e))) (no_frame_of text fs parts.1)
 
 -- a kind that is there, an identifier outside the frame
@@ -81,7 +81,7 @@ pub record IsBodyKind (kind : List ℕ) : Type 0 where
 
 body_kind : (text : List ℕ) → not (is_body_kind text) ≡ false → IsBodyKind (kind_of (Some text))
 body_kind text h =
-    let parts = both (is_some (kind_from text)) (not (list_any (bytes_eq text) frame_kinds)) (not_false _ h) in
+    let parts = and_parts (is_some (kind_from text)) (not (list_any (bytes_eq text) frame_kinds)) (not-false _ h) in
     let is = kind_some text parts.0 in
     subst IsBodyKind (sym (ap (λ o. unwrap_or o (codes "HKEND")) is.0)) (record { text = is.1; no_frame = no_frame_of text frame_kinds (not_true _ parts.1) })
   where
@@ -111,9 +111,9 @@ module _ (first : NamedField) (others : List NamedField) (named : first.name ≡
       → IsSoundTemplate (first ∷ others) (template_value (first ∷ others) ms)
   unfolding segment_keys_have
   sound_members ms clean few =
-      let keys = both (has_key (codes "kind") ms) (has_key (codes "version") ms) (not_false _ clean.missing) in
-      let outer = neither (is_no_kind (get_member (codes "kind") ms) || is_no_integer (get_member (codes "version") ms)) (elements_have kinds.WrongKind (first ∷ others) true (get_member (codes "elements") ms)) clean.wrong in
-      let inner = neither (is_no_kind (get_member (codes "kind") ms)) (is_no_integer (get_member (codes "version") ms)) outer.0 in
+      let keys = and_parts (has_key (codes "kind") ms) (has_key (codes "version") ms) (not-false _ clean.missing) in
+      let outer = or_parts (is_no_kind (get_member (codes "kind") ms) || is_no_integer (get_member (codes "version") ms)) (elements_have kinds.WrongKind (first ∷ others) true (get_member (codes "elements") ms)) clean.wrong in
+      let inner = or_parts (is_no_kind (get_member (codes "kind") ms)) (is_no_integer (get_member (codes "version") ms)) outer.0 in
       let kind = kind_at (get_member (codes "kind") ms) keys.0 inner.0 in
       let version = number_within 1 999 1 (omega arith) (omega arith) (get_member (codes "version") ms) inner.1 clean.past in
       record {
@@ -140,11 +140,11 @@ module _ (first : NamedField) (others : List NamedField) (named : first.name ≡
       → All (IsSoundTemplate (first ∷ others)) (map (template_of (first ∷ others)) rows)
   sound_templates [] m w n l few = All-nil (IsSoundTemplate (first ∷ others))
   sound_templates (row ∷ rows) m w n l few =
-      let a = neither (segment_has kinds.Missing (first ∷ others) row) (list_any (segment_has kinds.Missing (first ∷ others)) rows) m in
-      let b = neither (segment_has kinds.WrongKind (first ∷ others) row) (list_any (segment_has kinds.WrongKind (first ∷ others)) rows) w in
-      let d = neither (segment_has kinds.NoSuchName (first ∷ others) row) (list_any (segment_has kinds.NoSuchName (first ∷ others)) rows) n in
-      let e = neither (segment_has kinds.Limit (first ∷ others) row) (list_any (segment_has kinds.Limit (first ∷ others)) rows) l in
-      let f = neither (nat_lt MAX_ITEMS (items_in (map figures_of (first ∷ others)) (template_of (first ∷ others) row).elements)) _ few in
+      let a = or_parts (segment_has kinds.Missing (first ∷ others) row) (list_any (segment_has kinds.Missing (first ∷ others)) rows) m in
+      let b = or_parts (segment_has kinds.WrongKind (first ∷ others) row) (list_any (segment_has kinds.WrongKind (first ∷ others)) rows) w in
+      let d = or_parts (segment_has kinds.NoSuchName (first ∷ others) row) (list_any (segment_has kinds.NoSuchName (first ∷ others)) rows) n in
+      let e = or_parts (segment_has kinds.Limit (first ∷ others) row) (list_any (segment_has kinds.Limit (first ∷ others)) rows) l in
+      let f = or_parts (nat_lt MAX_ITEMS (items_in (map figures_of (first ∷ others)) (template_of (first ∷ others) row).elements)) _ few in
       All-cons (IsSoundTemplate (first ∷ others)) (template_of (first ∷ others) row) (map (template_of (first ∷ others)) rows)
       (sound_template row (record { missing = a.0; wrong = b.0; unnamed = d.0; past = e.0 }) (not_past MAX_ITEMS _ f.0))
       (sound_templates rows a.1 b.1 d.1 e.1 f.1)
@@ -168,8 +168,8 @@ pub signatures_within : (signers : List Signer) (rows : List Data) → list_any 
     → All (λ (place : ℕ). place < length signers) (map (signature_value signers) rows)
 signatures_within signers [] w n = All-nil (λ (place : ℕ). place < length signers)
 signatures_within signers (row ∷ rows) w n =
-    let a = neither (signature_has kinds.WrongKind signers row) (list_any (signature_has kinds.WrongKind signers) rows) w in
-    let b = neither (signature_has kinds.NoSuchName signers row) (list_any (signature_has kinds.NoSuchName signers) rows) n in
+    let a = or_parts (signature_has kinds.WrongKind signers row) (list_any (signature_has kinds.WrongKind signers) rows) w in
+    let b = or_parts (signature_has kinds.NoSuchName signers row) (list_any (signature_has kinds.NoSuchName signers) rows) n in
     All-cons (λ (place : ℕ). place < length signers) (signature_value signers row) (map (signature_value signers) rows) (signature_within signers row a.0 b.0) (signatures_within signers rows a.1 b.1)
 
 -- ---- segments

@@ -3,17 +3,16 @@ use Rattle.std.proofs.Common.{◌≡◌, ℕ, ◌+◌, ◌<◌, ◌≤◌, Bool,
 use Rattle.std.specs.Prelude.{option_and_then, unwrap_or, position}
 use Rattle.std.specs.List.{list_any, position_or_len}
 use Rattle.std.specs.Str.{bytes_eq}
-use Rattle.std.proofs.lemmas.Bool.{false≢true}
+use Rattle.std.proofs.lemmas.Bool.{false≢true, or_parts, not-false}
 use Rattle.std.proofs.lemmas.Bool.Decides.{nat_tests}
 use Rattle.std.proofs.lemmas.List.Elements.{All-cons, All-nil}
 use Rattle.toml.specs.Data.{Data, string, integer, float, boolean, datetime, array, table, Members, get_member, as_str}
-use Rattle.fints_script.specs.declared.fault.FaultKind.TheVariants as kinds
-use Rattle.fints_script.specs.declared.answers.Branch.{Branch}
-use Rattle.fints_script.specs.declared.answers.Target.TheVariants as targets
-use Rattle.fints_script.specs.Entries.{is_named}
+use Rattle.fints_field_rows.specs.declared.fault.FaultKind.TheVariants as kinds
+use Rattle.fints_cases.specs.declared.answers.Branch.{Branch}
+use Rattle.fints_cases.specs.declared.answers.Target.TheVariants as targets
+use Rattle.fints_documents.specs.Entries.{is_named}
 use Rattle.fints_script.specs.Steps.{is_word, target_name_has, target_has, target_named, target_value, branch_keys_have, branch_has, branch_value, branch_of}
 use Rattle.fints_script.specs.Sound.{IsOnward}
-use Rattle.fints_script.proofs.CleanFields.{neither, not_false}
 use Rattle.fints_script.proofs.SoundElements.{by_test}
 
 -- ---- the first place that passes
@@ -27,7 +26,7 @@ passes_later : {X : Type 0} (p : X → Bool) (xs : List X) (k : ℕ) → k ≤ l
 passes_later p xs zero le none = omega arith
 passes_later p [] (suc k) le none = absurd (omega (arith, le))
 passes_later p (x ∷ xs) (suc k) le none =
-    let parts = neither (p x) (list_any p (take k xs)) none in
+    let parts = or_parts (p x) (list_any p (take k xs)) none in
     one_on (p x) k (position_or_len p xs) parts.0 (passes_later p xs k (omega (arith, le)) parts.1)
 
 one_within : (b rest : Bool) (n len : ℕ) → (b || rest) ≡ true → (rest ≡ true → n < len) → cond (not b) (1 + n) 0 < suc len
@@ -56,7 +55,7 @@ rest_of false other e h = h
 named_onward : (rows : List Data) (i : ℕ) (text : List ℕ) → i < length rows → is_word text ≡ false → target_name_has kinds.NoSuchName rows i text ≡ false → target_name_has kinds.BackwardJump rows i text ≡ false
     → (i + 1 < unwrap_or (position (is_named text) rows) 0 + 1) × (unwrap_or (position (is_named text) rows) 0 + 1 ≤ length rows)
 named_onward rows i text within word unnamed back =
-    let there = not_false (list_any (is_named text) rows) (rest_of (is_word text) _ word unnamed) in
+    let there = not-false (list_any (is_named text) rows) (rest_of (is_word text) _ word unnamed) in
     let behind = passes_later (is_named text) rows (i + 1) (omega (arith, within)) (rest_of (is_word text) _ word back) in
     let inside = passes_within (is_named text) rows there in
     subst (λ n. (i + 1 < n + 1) × (n + 1 ≤ length rows)) (sym (place_is (is_named text) rows there)) (omega (arith, behind), omega (arith, inside))
@@ -96,6 +95,6 @@ pub branches_onward : (rows : List Data) (i : ℕ) (ds : List Data) → i < leng
     → All (λ (branch : Branch). IsOnward (length rows) (i + 1) branch.to) (map (branch_of rows) ds)
 branches_onward rows i [] within unnamed back = All-nil (λ (branch : Branch). IsOnward (length rows) (i + 1) branch.to)
 branches_onward rows i (d ∷ ds) within unnamed back =
-    let u = neither (branch_has kinds.NoSuchName rows i d) (list_any (branch_has kinds.NoSuchName rows i) ds) unnamed in
-    let b = neither (branch_has kinds.BackwardJump rows i d) (list_any (branch_has kinds.BackwardJump rows i) ds) back in
+    let u = or_parts (branch_has kinds.NoSuchName rows i d) (list_any (branch_has kinds.NoSuchName rows i) ds) unnamed in
+    let b = or_parts (branch_has kinds.BackwardJump rows i d) (list_any (branch_has kinds.BackwardJump rows i) ds) back in
     All-cons (λ (branch : Branch). IsOnward (length rows) (i + 1) branch.to) (branch_of rows d) (map (branch_of rows) ds) (branch_onward rows i d within u.0 b.0) (branches_onward rows i ds within u.1 b.1)

@@ -1,12 +1,12 @@
 -- Why rows were refused.
 use Rattle.std.specs.Prelude.{◌≡◌, ◌⊎◌, ◌+◌, ℕ, List, Option, Some}
 use Rattle.toml.specs.Data.{Data}
-use Rattle.fints_script.specs.Faults.{IsFirstFault}
-use Rattle.fints_script.specs.declared.fault.FaultKind.{FaultKind}
-use Rattle.fints_script.specs.declared.fault.FaultKind.TheVariants as kinds
-use Rattle.fints_script.specs.declared.fault.Place.{Place}
-use Rattle.fints_script.specs.declared.fault.Place.TheVariants as places
-use Rattle.fints_script.specs.declared.fault.ScriptFault.{ScriptFault}
+use Rattle.fints_field_rows.specs.Faults.{IsFirstFault}
+use Rattle.fints_field_rows.specs.declared.fault.FaultKind.{FaultKind}
+use Rattle.fints_field_rows.specs.declared.fault.FaultKind.TheVariants as kinds
+use Rattle.fints_field_rows.specs.declared.fault.Place.{Place}
+use Rattle.fints_field_rows.specs.declared.fault.Place.TheVariants as places
+use Rattle.fints_field_rows.specs.declared.fault.ScriptFault.{ScriptFault}
 
 -- want of memory has no place of its own
 abbrev pub placed : FaultKind → Place → ScriptFault

@@ -2,25 +2,25 @@
 use Rattle.std.specs.Prelude.{◌≡◌, ◌⊎◌, ◌<◌, ◌≤◌, ◌+◌, codes, ℕ, nat_lt, Bool, false, ◌||◌, not, List, [], ◌∷◌, length, map, take, Option, Some, None}
 use Rattle.std.specs.List.{AllZip}
 use Rattle.toml.specs.Data.{Data, Members, get_member}
-use Rattle.fints_rules.specs.Document.{document, only_keys}
-use Rattle.fints_script.specs.Entries.{has_key}
-use Rattle.fints_script.specs.Tables.{is_no_array, is_no_list, rows_of}
-use Rattle.fints_script.specs.FaultOrder.{first_kind}
-use Rattle.fints_script.specs.Faults.{AreClean, IsFirstFault}
-use Rattle.fints_script.specs.FieldFaults.{field_fault}
-use Rattle.fints_script.specs.FieldTables.{IsFieldOf}
-use Rattle.fints_script.specs.Figures.{figures_of}
-use Rattle.fints_script.specs.Signers.{signer_fault, signer_of, seal_fault, seal_value}
+use Rattle.fints_documents.specs.Document.{document, only_keys}
+use Rattle.fints_documents.specs.Entries.{has_key}
+use Rattle.fints_documents.specs.Tables.{is_no_array, is_no_list, rows_of}
+use Rattle.fints_field_rows.specs.FaultOrder.{first_kind}
+use Rattle.fints_field_rows.specs.Faults.{AreClean, IsFirstFault}
+use Rattle.fints_field_rows.specs.FieldFaults.{field_fault}
+use Rattle.fints_field_rows.specs.FieldTables.{IsFieldOf}
+use Rattle.fints_templates.specs.Figures.{figures_of}
+use Rattle.fints_templates.specs.Signers.{signer_fault, signer_of, seal_fault, seal_value}
 use Rattle.fints_script.specs.Steps.{Surroundings, StepValue, step_fault, step_of}
-use Rattle.fints_script.specs.declared.fault.FaultKind.{FaultKind}
-use Rattle.fints_script.specs.declared.fault.FaultKind.TheVariants as kinds
-use Rattle.fints_script.specs.declared.fault.Place.TheVariants as places
-use Rattle.fints_script.specs.declared.fault.ScriptFault.{ScriptFault}
+use Rattle.fints_field_rows.specs.declared.fault.FaultKind.{FaultKind}
+use Rattle.fints_field_rows.specs.declared.fault.FaultKind.TheVariants as kinds
+use Rattle.fints_field_rows.specs.declared.fault.Place.TheVariants as places
+use Rattle.fints_field_rows.specs.declared.fault.ScriptFault.{ScriptFault}
 use Rattle.fints_fields.specs.declared.field.Field.{Field}
 use Rattle.fints_fields.specs.declared.field.Field.TheVariants as fields
-use Rattle.fints_script.specs.declared.fields.NamedField.{NamedField}
-use Rattle.fints_script.specs.declared.template.TemplateItem.{TemplateItem}
-use Rattle.fints_script.specs.declared.template.Signer.{Signer}
+use Rattle.fints_field_rows.specs.declared.fields.NamedField.{NamedField}
+use Rattle.fints_templates.specs.declared.template.TemplateItem.{TemplateItem}
+use Rattle.fints_templates.specs.declared.template.Signer.{Signer}
 
 -- what a contract sees of a script: its fields, of which the first is the built-in `dialog`, its signers, its seal if any, and its steps
 pub record ScriptValue : Type 0 where

@@ -1,20 +1,21 @@
 -- What holds of every script that was read.
 use Rattle.std.specs.Prelude.{◌≡◌, ℕ, zero, suc, ◌<◌, ◌≤◌, ◌⊎◌, false, IsTrue, List, length, map, slice_get, Option, Some, None, All, [], IfSome, IsSome}
 use Rattle.fints_syntax.specs.Kind.{IsKindText}
-use Rattle.fints_script.specs.Figures.{figures_of}
-use Rattle.fints_script.specs.NamedFields.{is_account_at}
+use Rattle.fints_templates.specs.Figures.{figures_of}
+use Rattle.fints_field_rows.specs.NamedFields.{is_account_at}
 use Rattle.fints_script.specs.Plans.{is_account_field}
 use Rattle.fints_script.specs.Scripts.{ScriptValue, IsDialogField}
-use Rattle.fints_script.specs.Steps.{StepValue, Surroundings, step_weight, frame_kinds, MAX_WEIGHT}
-use Rattle.fints_script.specs.Weights.{items_in, MAX_ITEMS}
-use Rattle.fints_script.specs.declared.answers.Branch.{Branch}
-use Rattle.fints_script.specs.declared.answers.Target.{Target}
-use Rattle.fints_script.specs.declared.answers.Target.TheVariants as targets
-use Rattle.fints_script.specs.declared.fields.NamedField.{NamedField}
-use Rattle.fints_script.specs.declared.template.TemplateItem.{TemplateItem}
-use Rattle.fints_script.specs.declared.template.TemplateItem.TheVariants.{Literal, Dialog, Field}
-use Rattle.fints_script.specs.declared.template.Template.{Template}
-use Rattle.fints_script.specs.declared.template.Signer.{Signer}
+use Rattle.fints_script.specs.Steps.{StepValue, Surroundings, step_weight, MAX_WEIGHT}
+use Rattle.fints_templates.specs.Segments.{frame_kinds}
+use Rattle.fints_templates.specs.Weights.{items_in, MAX_ITEMS}
+use Rattle.fints_cases.specs.declared.answers.Branch.{Branch}
+use Rattle.fints_cases.specs.declared.answers.Target.{Target}
+use Rattle.fints_cases.specs.declared.answers.Target.TheVariants as targets
+use Rattle.fints_field_rows.specs.declared.fields.NamedField.{NamedField}
+use Rattle.fints_templates.specs.declared.template.TemplateItem.{TemplateItem}
+use Rattle.fints_templates.specs.declared.template.TemplateItem.TheVariants.{Literal, Dialog, Field}
+use Rattle.fints_templates.specs.declared.template.Template.{Template}
+use Rattle.fints_templates.specs.declared.template.Signer.{Signer}
 
 -- a field of the script; the built-in one at 0 stands as the dialogue id alone
 abbrev pub IsInRange : List NamedField → TemplateItem → Type 0

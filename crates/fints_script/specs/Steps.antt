@@ -4,25 +4,28 @@ use Rattle.std.specs.List.{list_any}
 use Rattle.std.specs.Str.{bytes_eq}
 use Rattle.toml.specs.Data.{Data, string, table, Members, get_member, as_str}
 use Rattle.fints_syntax.specs.Kind.{kind_from}
-use Rattle.fints_rules.specs.Document.{only_keys}
-use Rattle.fints_script.specs.Entries.{has_key, is_named, is_no_name, text_at}
-use Rattle.fints_script.specs.Tables.{name_value, name_of, is_outside, number_or, is_no_integer, is_no_text, is_no_flag, is_no_array, is_no_list, is_set, rows_of}
-use Rattle.fints_script.specs.Elements.{elements_have, elements_value, is_wrong_kind}
-use Rattle.fints_script.specs.FaultOrder.{first_kind}
-use Rattle.fints_script.specs.Faults.{or_later}
-use Rattle.fints_script.specs.Patterns.{pattern_in}
-use Rattle.fints_script.specs.Weights.{total, segment_weight, signer_weight, items_in, MAX_ITEMS}
-use Rattle.fints_script.specs.Signers.{is_taken, limit_of}
-use Rattle.fints_script.specs.declared.fault.FaultKind.{FaultKind}
-use Rattle.fints_script.specs.declared.fault.FaultKind.TheVariants as kinds
-use Rattle.fints_script.specs.declared.fields.NamedField.{NamedField}
-use Rattle.fints_script.specs.declared.answers.Branch.{Branch}
-use Rattle.fints_script.specs.declared.answers.Target.{Target}
-use Rattle.fints_script.specs.declared.answers.Target.TheVariants as targets
-use Rattle.fints_script.specs.declared.template.TemplateItem.{TemplateItem}
-use Rattle.fints_script.specs.declared.template.Template.{Template}
-use Rattle.fints_script.specs.declared.template.Signer.{Signer}
-use Rattle.fints_script.specs.declared.weights.Figures.{Figures}
+use Rattle.fints_documents.specs.Document.{only_keys}
+use Rattle.fints_documents.specs.Entries.{has_key, is_named, text_at}
+use Rattle.fints_field_rows.specs.RowNames.{is_no_name}
+use Rattle.fints_documents.specs.Tables.{is_outside, number_or, is_no_integer, is_no_text, is_no_flag, is_no_array, is_no_list, is_set, rows_of}
+use Rattle.fints_field_rows.specs.RowNames.{name_value, name_of}
+use Rattle.fints_templates.specs.Elements.{elements_have, elements_value, is_wrong_kind}
+use Rattle.fints_field_rows.specs.FaultOrder.{first_kind}
+use Rattle.fints_field_rows.specs.Faults.{or_later}
+use Rattle.fints_cases.specs.Patterns.{pattern_in}
+use Rattle.fints_templates.specs.Weights.{total, segment_weight, signer_weight, items_in, MAX_ITEMS}
+use Rattle.fints_templates.specs.Signers.{is_taken, limit_of}
+use Rattle.fints_templates.specs.Segments.{segment_has, template_of}
+use Rattle.fints_field_rows.specs.declared.fault.FaultKind.{FaultKind}
+use Rattle.fints_field_rows.specs.declared.fault.FaultKind.TheVariants as kinds
+use Rattle.fints_field_rows.specs.declared.fields.NamedField.{NamedField}
+use Rattle.fints_cases.specs.declared.answers.Branch.{Branch}
+use Rattle.fints_cases.specs.declared.answers.Target.{Target}
+use Rattle.fints_cases.specs.declared.answers.Target.TheVariants as targets
+use Rattle.fints_templates.specs.declared.template.TemplateItem.{TemplateItem}
+use Rattle.fints_templates.specs.declared.template.Template.{Template}
+use Rattle.fints_templates.specs.declared.template.Signer.{Signer}
+use Rattle.fints_templates.specs.declared.weights.Figures.{Figures}
 
 -- what a contract sees of a step; signers count from 0 among those of the script
 pub record StepValue : Type 0 where
@@ -41,53 +44,6 @@ pub record Surroundings : Type 0 where
   pub signers : List Signer
   pub seal : Option (List (List TemplateItem))
   pub rows : List Data
-
--- ---- segments
-
--- the identifiers of the frame, which no step names
-abbrev pub frame_kinds : List (List ℕ)
-frame_kinds = codes "HNHBK" ∷ codes "HNHBS" ∷ codes "HNVSK" ∷ codes "HNVSD" ∷ codes "HNSHK" ∷ codes "HNSHA" ∷ []
-
--- an identifier, and none of the frame
-abbrev pub is_body_kind : List ℕ → Bool
-is_body_kind text = is_some (kind_from text) && not (list_any (bytes_eq text) frame_kinds)
-
-abbrev pub is_no_kind : Option Data → Bool
-is_no_kind None = false
-is_no_kind (Some (string text)) = not (is_body_kind text)
-is_no_kind (Some _) = true
-
-abbrev pub segment_keys : List (List ℕ)
-segment_keys = codes "kind" ∷ codes "version" ∷ codes "elements" ∷ []
-
--- a fault of this kind stands in a segment's table, where account fields may stand
-unfoldable pub segment_keys_have : FaultKind → List NamedField → Members → Bool
-segment_keys_have kinds.UnknownKey fields ms = not (only_keys segment_keys ms)
-segment_keys_have kinds.Missing fields ms = not (has_key (codes "kind") ms && has_key (codes "version") ms)
-segment_keys_have kinds.WrongKind fields ms =
-    (is_no_kind (get_member (codes "kind") ms) || is_no_integer (get_member (codes "version") ms)) || elements_have kinds.WrongKind fields true (get_member (codes "elements") ms)
-segment_keys_have kinds.Limit fields ms = is_outside 1 999 (get_member (codes "version") ms)
-segment_keys_have kind fields ms = elements_have kind fields true (get_member (codes "elements") ms)
-
-abbrev pub segment_has : FaultKind → List NamedField → Data → Bool
-segment_has kind fields (table ms) = segment_keys_have kind fields ms
-segment_has kind fields _ = is_wrong_kind kind
-
--- an identifier that is absent or bad counts as HKEND
-abbrev pub kind_of : Option (List ℕ) → List ℕ
-kind_of None = codes "HKEND"
-kind_of (Some text) = unwrap_or (kind_from text) (codes "HKEND")
-
-abbrev pub template_value : List NamedField → Members → Template
-template_value fields ms = record {
-  kind = kind_of (text_at (codes "kind") ms);
-  version = number_or 1 999 1 (get_member (codes "version") ms);
-  elements = elements_value fields (get_member (codes "elements") ms);
-}
-
-abbrev pub template_of : List NamedField → Data → Template
-template_of fields (table ms) = template_value fields ms
-template_of fields _ = record { kind = kind_of None; version = 1; elements = [] }
 
 -- ---- targets and branches
 

@@ -1,8 +1,8 @@
 //! What a step rests on.
-use crate::fields::Fields;
-use crate::named_rows::NamedRows;
-use crate::template::{Signer, TemplateElements};
-use crate::weights::Figures;
+use fints_field_rows::Fields;
+use fints_field_rows::NamedRows;
+use fints_templates::{Signer, TemplateElements};
+use fints_templates::weights::Figures;
 
 /// What a step rests on: the fields of the script with their figures, its signers, its seal if any,
 /// and all rows of `step`.

@@ -2,18 +2,18 @@
 ghost use Rattle.std.specs.Prelude.{◌≡◌, ◌<◌, codes, length, map, option_map, take, IfOk, ◌+◌};
 ghost use Rattle.std.specs.List.{list_any};
 ghost use Rattle.toml.specs.View.{view, table_view};
-ghost use Rattle.fints_script.specs.Entries.{is_named};
-ghost use Rattle.fints_script.specs.Patterns.{pattern_in};
+ghost use Rattle.fints_documents.specs.Entries.{is_named};
+ghost use Rattle.fints_cases.specs.Patterns.{pattern_in};
 ghost use Rattle.fints_script.specs.Steps.{is_word, target_name_has, target_has, target_named, target_value, is_no_pattern, branch_keys_have, branch_has, pattern_of, branch_value, branch_of};
 
-use crate::answers::{Branch, Target};
-use crate::element_faults::is_wrong_kind;
-use crate::entries::{has_key, text_at};
-use crate::fault::FaultKind;
-use crate::named_rows::NamedRows;
-use crate::pattern::Pattern;
-use crate::tables::is_no_text;
-use fints_rules::document;
+use fints_cases::{Branch, Target};
+use fints_templates::is_wrong_kind;
+use fints_documents::entries::{has_key, text_at};
+use fints_field_rows::FaultKind;
+use fints_field_rows::NamedRows;
+use fints_cases::Pattern;
+use fints_documents::tables::is_no_text;
+use fints_documents::document;
 use fints_syntax::Memory;
 use std::alloc::Global;
 use toml::{Table, Value};
@@ -25,24 +25,13 @@ pub fn is_word(text: &str) -> bool
     text == "again" || text == "stop"
 }
 
-// Whether the first row of this name is that row or an earlier one.
-fn is_backward(rows: &NamedRows<'_>, row: usize, text: &str) -> bool
-    requires { row < length rows.now }
-    ensures { result ≡ list_any (is_named text.now) (take (row + 1) (map view rows.now)) }
-{
-    match rows.place_of(text) {
-        Some(place) => place <= row,
-        None => false,
-    }
-}
-
 fn name_has(kind: FaultKind, rows: &NamedRows<'_>, row: usize, text: &str) -> bool
     requires { row < length rows.now }
     ensures { result ≡ target_name_has kind (map view rows.now) row text.now }
 {
     match kind {
         FaultKind::NoSuchName => !is_word(text) && !rows.has(text),
-        FaultKind::BackwardJump => !is_word(text) && is_backward(rows, row, text),
+        FaultKind::BackwardJump => !is_word(text) && rows.has_up_to(text, row),
         _ => false,
     }
 }

@@ -1,17 +1,17 @@
 //! The fields of a script, read row by row.
 ghost use Rattle.std.specs.Prelude.{◌≡◌, ◌≤◌, length, map, IfOk, IfErr};
 ghost use Rattle.toml.specs.View.{view};
-ghost use Rattle.fints_script.specs.Faults.{AreClean};
+ghost use Rattle.fints_field_rows.specs.Faults.{AreClean};
 ghost use Rattle.fints_script.specs.RowFaults.{RefusesRow};
 ghost use Rattle.fints_script.specs.Scripts.{look_at_field, AreFields, IsDialogField};
-ghost use Rattle.fints_script.specs.declared.fault.Place.TheVariants as places;
+ghost use Rattle.fints_field_rows.specs.declared.fault.Place.TheVariants as places;
 
-use crate::fault::{Place, ScriptFault};
-use crate::field_faults::field_fault;
-use crate::field_values::field_of;
-use crate::fields::{Fields, NamedField};
+use fints_field_rows::{Place, ScriptFault};
+use fints_field_rows::field_fault;
+use fints_field_rows::field_of;
+use fints_field_rows::{Fields, NamedField};
 use crate::rows::placed;
-use crate::tables::dialog;
+use fints_field_rows::names::dialog;
 use fints_fields::{Field, Text};
 use std::alloc::Global;
 use toml::Value;

@@ -4,12 +4,12 @@ ghost use Rattle.fints_script.specs.Plans.{IsClosed, IsPlanFault, IsChosen, Admi
 ghost use Rattle.fints_script.specs.Scripts.{IsRead};
 ghost use Rattle.fints_script.specs.Sound.{IsSound};
 
-use crate::fields::NamedField;
+use fints_field_rows::NamedField;
 use crate::opens::{PlanFault, first_fault};
 use crate::script::Script;
 use crate::steps::Step;
-use crate::template::{Signer, TemplateElements};
-use crate::values::{NamedValue, Values};
+use fints_templates::{Signer, TemplateElements};
+use fints_cases::{NamedValue, Values};
 use fints_fields::FieldClass;
 use fints_rules::OrderTable;
 use std::marker::Model;

@@ -1,20 +1,20 @@
 //! Rows of a script, read one by one behind those before them.
 ghost use Rattle.std.specs.Prelude.{◌≡◌, ◌+◌, ◌<◌, ◌≤◌, length, map, take, IfOk, IfErr};
 ghost use Rattle.toml.specs.View.{view};
-ghost use Rattle.fints_script.specs.Faults.{AreClean};
+ghost use Rattle.fints_field_rows.specs.Faults.{AreClean};
 ghost use Rattle.fints_script.specs.Scripts.{look_at_signer};
-ghost use Rattle.fints_script.specs.Signers.{signer_of};
+ghost use Rattle.fints_templates.specs.Signers.{signer_of};
 ghost use Rattle.fints_script.specs.Steps.{step_fault, step_of};
 ghost use Rattle.fints_script.specs.Around.{surroundings_of};
 ghost use Rattle.fints_script.specs.RowFaults.{placed, RefusesRow};
-ghost use Rattle.fints_script.specs.declared.fault.Place.TheVariants as places;
+ghost use Rattle.fints_field_rows.specs.declared.fault.Place.TheVariants as places;
 
 use crate::around::Around;
-use crate::fault::{FaultKind, Place, ScriptFault};
-use crate::fields::Fields;
-use crate::signers::read_signer;
+use fints_field_rows::{FaultKind, Place, ScriptFault};
+use fints_field_rows::Fields;
+use fints_templates::signers::read_signer;
 use crate::steps::{Step, read_step};
-use crate::template::Signer;
+use fints_templates::Signer;
 use fints_syntax::Memory;
 use std::alloc::Global;
 use toml::Value;

@@ -3,24 +3,23 @@ ghost use Rattle.std.specs.Prelude.{◌≡◌, ◌<◌, codes, length, map, opti
 ghost use Rattle.std.specs.List.{list_any};
 ghost use Rattle.std.specs.Str.{bytes_eq};
 ghost use Rattle.toml.specs.View.{view, table_view};
-ghost use Rattle.fints_rules.specs.Document.{only_keys};
-ghost use Rattle.fints_script.specs.FaultOrder.{first_kind};
+ghost use Rattle.fints_documents.specs.Document.{only_keys};
+ghost use Rattle.fints_field_rows.specs.FaultOrder.{first_kind};
 ghost use Rattle.fints_script.specs.Steps.{place_of_signer, signature_has, parts_have, values_are_wrong, counts_are_past, is_reserved, lacks_keys, is_second, step_keys, keys_have, step_has};
-ghost use Rattle.fints_script.specs.Signers.{is_taken};
+ghost use Rattle.fints_templates.specs.Signers.{is_taken};
 ghost use Rattle.fints_script.specs.Around.{surroundings_of};
 
 use crate::around::Around;
 use crate::branches::{is_word, some_branch_has, target_has};
-use crate::entries::{has_key, is_no_name, text_at};
-use crate::fault::FaultKind;
-use crate::kinds::KINDS;
-use crate::named_rows::NamedRows;
-use crate::segments::some_segment_has;
-use crate::tables::{
-    is_no_array, is_no_flag, is_no_integer, is_no_list, is_outside, is_set, rows_of,
-};
-use crate::template::Signer;
-use fints_rules::document;
+use fints_documents::entries::{has_key, text_at};
+use fints_field_rows::names::is_no_name;
+use fints_field_rows::FaultKind;
+use fints_field_rows::KINDS;
+use fints_field_rows::NamedRows;
+use fints_templates::segments::some_segment_has;
+use fints_documents::tables::{is_no_array, is_no_flag, is_no_integer, is_no_list, is_outside, is_set, rows_of};
+use fints_templates::Signer;
+use fints_documents::document;
 use toml::{Table, Value};
 
 fn is_signer(signer: &Signer, name: &str) -> bool

@@ -18,10 +18,10 @@ use Rattle.fints_syntax.specs.Written.{element_text, elements_text, head_items, 
 use Rattle.fints_fields.specs.Lengths.{text_len}
 use Rattle.fints_script.specs.Scripts.{ScriptValue}
 use Rattle.fints_script.specs.Steps.{StepValue}
-use Rattle.fints_script.specs.Weights.{total}
-use Rattle.fints_script.specs.declared.template.Template.{Template}
-use Rattle.fints_script.specs.declared.template.TemplateItem.{TemplateItem}
-use Rattle.fints_script.specs.declared.template.TemplateItem.TheVariants.{Literal, Dialog, Field}
+use Rattle.fints_templates.specs.Weights.{total}
+use Rattle.fints_templates.specs.declared.template.Template.{Template}
+use Rattle.fints_templates.specs.declared.template.TemplateItem.{TemplateItem}
+use Rattle.fints_templates.specs.declared.template.TemplateItem.TheVariants.{Literal, Dialog, Field}
 use Rattle.fints_wire.specs.Filling.{FillingValue, filled_element, filled_elements, filled_item, filled_segments}
 use Rattle.fints_wire.specs.Lengths.{binary_size, element_len, elements_len, head_len, item_len, item_size, items_size, message_len, middle_len, segments_len, sizes_of}
 use Rattle.fints_wire.specs.Messages.{inner_segments, last_segment, message_size, message_with, middle_segments, seal_of, segments_text, templates_of, twelve_digits}

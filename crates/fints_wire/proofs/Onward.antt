@@ -4,12 +4,12 @@ use Rattle.std.proofs.lemmas.Option.{slice_get_within}
 use Rattle.std.proofs.lemmas.List.Elements.{All-head, All-tail}
 use Rattle.std.specs.List.{All, find}
 use Rattle.std.specs.Option.{option_map_or}
-use Rattle.fints_script.specs.Answers.{matches_some}
+use Rattle.fints_cases.specs.Answers.{matches_some}
 use Rattle.fints_script.specs.Scripts.{ScriptValue}
 use Rattle.fints_script.specs.Sound.{IsSound, IsOnward, numbered}
 use Rattle.fints_script.specs.Steps.{StepValue}
-use Rattle.fints_script.specs.declared.answers.Branch.{Branch}
-use Rattle.fints_script.specs.declared.answers.Target.{Target}
+use Rattle.fints_cases.specs.declared.answers.Branch.{Branch}
+use Rattle.fints_cases.specs.declared.answers.Target.{Target}
 use Rattle.fints_wire.specs.Runs.{answered}
 
 slice_get_at : {X : Type 0} (xs : List X) (i : ℕ) → i < length xs → (x : X) × (slice_get xs i ≡ Some x)

@@ -2,7 +2,7 @@
 use Rattle.std.proofs.Common.{ℕ, ◌+◌, ◌≡◌, List, [], ◌∷◌, ◌++◌, length, refl, ap, sym, subst, ◌∙◌, arith}
 use Rattle.std.proofs.lemmas.List.{length_push}
 use Rattle.std.specs.List.{AllByRecursion}
-use Rattle.fints_script.specs.Answers.{IsAnswer}
+use Rattle.fints_cases.specs.Answers.{IsAnswer}
 use Rattle.fints_script.specs.Steps.{StepValue}
 use Rattle.fints_wire.specs.Runs.{start, After, Follows, last_of, Arrives, Reach, RouteTo}
 use Rattle.fints_wire.specs.declared.dialogue.Visit.{Visit}

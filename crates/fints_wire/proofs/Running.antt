@@ -5,9 +5,9 @@ use Rattle.std.proofs.lemmas.List.{drop_more, drop_all, append_assoc, append-nil
 use Rattle.fints_script.specs.Scripts.{ScriptValue}
 use Rattle.fints_script.specs.Sound.{IsSound, IsSoundStep, IsOnward, numbered}
 use Rattle.fints_script.specs.Steps.{StepValue}
-use Rattle.fints_script.specs.declared.values.NamedValue.{NamedValue}
-use Rattle.fints_script.specs.declared.answers.Target.{Target}
-use Rattle.fints_script.specs.declared.answers.Target.TheVariants.{Step, Again, Stop}
+use Rattle.fints_cases.specs.declared.values.NamedValue.{NamedValue}
+use Rattle.fints_cases.specs.declared.answers.Target.{Target}
+use Rattle.fints_cases.specs.declared.answers.Target.TheVariants.{Step, Again, Stop}
 use Rattle.fints_wire.specs.Runs.{start, answered, After, Follows, Finishes, Enters, Ends, IsWithin, IsSent, AreSent, Run}
 use Rattle.fints_wire.specs.declared.dialogue.Visit.{Visit}
 use Rattle.fints_wire.specs.declared.dialogue.Sent.{Sent}

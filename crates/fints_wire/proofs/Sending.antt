@@ -2,13 +2,13 @@
 use Rattle.std.proofs.Common.{ℕ, ◌≡◌, Some, List, [], ◌∷◌, length, refl, ap, sym, subst, ◌∙◌, arith}
 use Rattle.std.proofs.lemmas.Option.{same_Some}
 use Rattle.std.specs.List.{AllByRecursion}
-use Rattle.fints_script.specs.Answers.{IsAnswer}
+use Rattle.fints_cases.specs.Answers.{IsAnswer}
 use Rattle.fints_script.specs.Scripts.{ScriptValue}
 use Rattle.fints_script.specs.Sound.{IsSound, IsOnward, numbered}
 use Rattle.fints_script.specs.Steps.{StepValue}
-use Rattle.fints_script.specs.declared.answers.Target.{Target}
-use Rattle.fints_script.specs.declared.answers.Target.TheVariants.{Step, Again, Stop}
-use Rattle.fints_script.specs.declared.values.NamedValue.{NamedValue}
+use Rattle.fints_cases.specs.declared.answers.Target.{Target}
+use Rattle.fints_cases.specs.declared.answers.Target.TheVariants.{Step, Again, Stop}
+use Rattle.fints_cases.specs.declared.values.NamedValue.{NamedValue}
 use Rattle.fints_wire.specs.Messages.{message_bytes}
 use Rattle.fints_wire.specs.Runs.{start, answered, After, Follows, Enters, last_of, Arrives, RouteTo, Reach, IsSent, AreSent, Run, EndsWith, SendsLast, EndsIn}
 use Rattle.fints_wire.specs.Runs.Reach.{first, onward}

@@ -5,13 +5,13 @@ use Rattle.fints_syntax.specs.declared.item.OwnedItem.{OwnedItem}
 use Rattle.fints_syntax.specs.Spelling.{written}
 use Rattle.fints_syntax.specs.Written.{head_items}
 use Rattle.fints_fields.specs.Fields.{field_longest, field_written}
-use Rattle.fints_script.specs.declared.fields.NamedField.{NamedField}
+use Rattle.fints_field_rows.specs.declared.fields.NamedField.{NamedField}
 use Rattle.fints_script.specs.Scripts.{ScriptValue}
 use Rattle.fints_script.specs.Steps.{StepValue}
-use Rattle.fints_script.specs.Weights.{total}
-use Rattle.fints_script.specs.declared.template.TemplateItem.{TemplateItem}
-use Rattle.fints_script.specs.declared.template.TemplateItem.TheVariants.{Literal, Dialog, Field}
-use Rattle.fints_script.specs.declared.template.Template.{Template}
+use Rattle.fints_templates.specs.Weights.{total}
+use Rattle.fints_templates.specs.declared.template.TemplateItem.{TemplateItem}
+use Rattle.fints_templates.specs.declared.template.TemplateItem.TheVariants.{Literal, Dialog, Field}
+use Rattle.fints_templates.specs.declared.template.Template.{Template}
 use Rattle.fints_wire.specs.Filling.{FillingValue, make_segment}
 use Rattle.fints_wire.specs.Messages.{seal_of, templates_of}
 

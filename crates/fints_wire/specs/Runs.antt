@@ -1,13 +1,13 @@
 -- Which messages a client sends under a list of answers. Steps and messages count from 1.
 use Rattle.std.specs.Prelude.{ℕ, ◌≡◌, ◌<◌, ◌≤◌, ◌+◌, ◌*◌, ◌==◌, cond, Some, List, [], ◌∷◌, length}
 use Rattle.std.specs.List.{AllByRecursion}
-use Rattle.fints_script.specs.Answers.{IsAnswer, leads}
+use Rattle.fints_cases.specs.Answers.{IsAnswer, leads}
 use Rattle.fints_script.specs.Scripts.{ScriptValue}
 use Rattle.fints_script.specs.Sound.{numbered}
 use Rattle.fints_script.specs.Steps.{StepValue}
-use Rattle.fints_script.specs.declared.answers.Target.{Target}
-use Rattle.fints_script.specs.declared.answers.Target.TheVariants as targets
-use Rattle.fints_script.specs.declared.values.NamedValue.{NamedValue}
+use Rattle.fints_cases.specs.declared.answers.Target.{Target}
+use Rattle.fints_cases.specs.declared.answers.Target.TheVariants as targets
+use Rattle.fints_cases.specs.declared.values.NamedValue.{NamedValue}
 use Rattle.fints_wire.specs.Messages.{message_bytes}
 use Rattle.fints_wire.specs.declared.dialogue.Visit.{Visit}
 use Rattle.fints_wire.specs.declared.dialogue.Sent.{Sent}

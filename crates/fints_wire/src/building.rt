@@ -2,7 +2,7 @@
 ghost use Rattle.std.specs.Prelude.{◌≡◌, ◌<◌, ◌≤◌, ◌-◌, ◌+◌, ◌++◌, ◌∷◌, [], codes, length, slice_get, All, Some, IfOk, OnOk};
 ghost use Rattle.fints_syntax.specs.Written.{written_segment};
 ghost use Rattle.fints_syntax.specs.declared.item.OwnedItem.TheVariants.{Bin};
-ghost use Rattle.fints_rules.specs.Messages.{IsMessage};
+ghost use Rattle.fints_messages.specs.Messages.{IsMessage};
 ghost use Rattle.fints_script.specs.Plans.{Admits};
 ghost use Rattle.fints_script.specs.Sound.{IsSoundStep};
 ghost use Rattle.fints_script.specs.Steps.{StepValue};

@@ -1,12 +1,12 @@
 //! Laws of runs: each function's contract is one.
 ghost use Rattle.std.specs.Prelude.{◌↔◌, ◌≡◌, ◌+◌, ℕ, List, [], ◌∷◌, ◌++◌, Some, slice_get};
 ghost use Rattle.std.specs.List.{AllByRecursion};
-ghost use Rattle.fints_script.specs.Answers.{IsAnswer};
+ghost use Rattle.fints_cases.specs.Answers.{IsAnswer};
 ghost use Rattle.fints_script.specs.Plans.{Admits};
 ghost use Rattle.fints_script.specs.Scripts.{ScriptValue};
 ghost use Rattle.fints_script.specs.Sound.{IsSound};
 ghost use Rattle.fints_script.specs.Steps.{StepValue};
-ghost use Rattle.fints_script.specs.declared.values.NamedValue.{NamedValue};
+ghost use Rattle.fints_cases.specs.declared.values.NamedValue.{NamedValue};
 ghost use Rattle.fints_wire.specs.Runs.{start, last_of, sent_of, After, Follows, Arrives, Reach, RouteTo, IsWithin, IsSent, Run, SendsLast, EndsIn, IsNext};
 ghost use Rattle.fints_wire.specs.Views.{IsReadAs};
 ghost use Rattle.fints_wire.specs.declared.dialogue.Visit.{Visit};

@@ -6,7 +6,7 @@ ghost use Rattle.fints_syntax.specs.Spelling.{written};
 ghost use Rattle.fints_script.specs.Plans.{Admits};
 ghost use Rattle.fints_script.specs.Sound.{IsSound, IsSoundStep};
 ghost use Rattle.fints_script.specs.Steps.{StepValue};
-ghost use Rattle.fints_script.specs.declared.values.NamedValue.{NamedValue};
+ghost use Rattle.fints_cases.specs.declared.values.NamedValue.{NamedValue};
 ghost use Rattle.fints_wire.specs.Choices.{longest_choice};
 ghost use Rattle.fints_wire.specs.Lengths.{binary_size, element_len, elements_len, head_len, item_len, longest_size, longest_sizes, message_len, middle_len, segments_len};
 ghost use Rattle.fints_wire.specs.Messages.{message_bytes, seal_of, templates_of};

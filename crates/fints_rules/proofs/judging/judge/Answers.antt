@@ -1,12 +1,12 @@
-use Rattle.std.proofs.Common.{subst, sym}
+use Rattle.std.proofs.Common.{◌+◌, length, arith, subst, sym}
 use Rattle.fints_rules.specs.Judging.{IsRising, Covers}
-use Rattle.fints_rules.specs.Messages.{MessageView}
+use Rattle.fints_messages.specs.Messages.{MessageView}
 use Rattle.fints_rules.proofs.Judged.{judged_all}
-use Rattle.fints_rules.proofs.Risings.{rising_body}
+use Rattle.fints_rules.proofs.Risings.{rising_from}
 use Rattle.fints_rules.proofs.judging.judge.Goals as goal
 
 pub broken_rules-requires : goal.broken_rules-requires
-broken_rules-requires c = subst (λ (m : MessageView). IsRising m.body) (sym c.in_ok-tally.ensures) (rising_body c.args.bytes.now c.in_ok-message.message c.in_ok-message.ensures.message)
+broken_rules-requires c = subst (λ (m : MessageView). IsRising m.body) (sym c.in_ok-tally.ensures) (rising_from (2 + length c.in_ok-message.message.ends) c.in_ok-message.message.body (omega arith) (c.numbered_bodies.ensures c.args.bytes.now c.in_ok-message.message c.in_ok-message.ensures.message))
 
 pub returns-clause-judged : goal.returns-clause-judged
 returns-clause-judged c =

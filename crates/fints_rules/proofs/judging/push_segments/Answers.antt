@@ -2,7 +2,7 @@ use Rattle.std.proofs.Common.{◌≡◌, ◌∙◌, [], refl, ap, sym, subst, ta
 use Rattle.std.proofs.lemmas.List.{append-nil, take_all}
 use Rattle.fints_syntax.specs.declared.item.OwnedSegment.{OwnedSegment}
 use Rattle.fints_rules.specs.Breaks.{BreaksAt}
-use Rattle.fints_rules.specs.Messages.{MessageView}
+use Rattle.fints_messages.specs.Messages.{MessageView}
 use Rattle.fints_rules.specs.Judging.{IsRising, ArePairs, Adds}
 use Rattle.fints_rules.proofs.Judged.{no_pairs, step_skip, step_add}
 use Rattle.fints_rules.proofs.judging.push_segments.Goals as goal

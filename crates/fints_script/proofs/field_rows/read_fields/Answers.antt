@@ -1,10 +1,10 @@
 use Rattle.std.proofs.Common.{subst, sym, ap, ◌∙◌, ◌<◌, length, map, arith, inr, List, [], ◌∷◌, ◌++◌}
-use Rattle.fints_script.specs.declared.fields.NamedField.{NamedField}
+use Rattle.fints_field_rows.specs.declared.fields.NamedField.{NamedField}
 use Rattle.toml.specs.View.{view}
-use Rattle.fints_script.specs.FieldTables.{IsFieldOf}
+use Rattle.fints_field_rows.specs.FieldTables.{IsFieldOf}
 use Rattle.fints_script.specs.Scripts.{look_at_field}
 use Rattle.fints_script.specs.RowFaults.{RefusesRow}
-use Rattle.fints_script.specs.declared.fault.Place.TheVariants as places
+use Rattle.fints_field_rows.specs.declared.fault.Place.TheVariants as places
 use Rattle.fints_script.proofs.FieldRowLemmas.{fields_more, looked}
 use Rattle.fints_script.proofs.RowLemmas.{clean_more, refused}
 use Rattle.fints_script.proofs.field_rows.read_fields.Goals as goal

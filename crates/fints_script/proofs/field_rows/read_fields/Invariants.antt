@@ -1,6 +1,6 @@
 use Rattle.std.proofs.Common.{map, take}
 use Rattle.toml.specs.View.{view}
-use Rattle.fints_script.specs.Faults.{AreClean}
+use Rattle.fints_field_rows.specs.Faults.{AreClean}
 use Rattle.fints_script.specs.Scripts.{look_at_field, AreFields}
 use Rattle.fints_script.proofs.field_rows.read_fields.Given as goal
 

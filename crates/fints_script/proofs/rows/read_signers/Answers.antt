@@ -2,13 +2,13 @@ use Rattle.std.proofs.Common.{◌≡◌, subst, sym, ap, ◌∙◌, ◌<◌, len
 use Rattle.std.proofs.lemmas.List.{take-map}
 use Rattle.toml.specs.declared.value.Value.{Value}
 use Rattle.toml.specs.View.{view}
-use Rattle.fints_script.specs.declared.fault.FaultKind.{FaultKind}
-use Rattle.fints_script.specs.declared.fields.NamedField.{NamedField}
-use Rattle.fints_script.specs.Faults.{Tells}
+use Rattle.fints_field_rows.specs.declared.fault.FaultKind.{FaultKind}
+use Rattle.fints_field_rows.specs.declared.fields.NamedField.{NamedField}
+use Rattle.fints_field_rows.specs.Faults.{Tells}
 use Rattle.fints_script.specs.Scripts.{look_at_signer}
-use Rattle.fints_script.specs.Signers.{signer_fault, signer_of}
+use Rattle.fints_templates.specs.Signers.{signer_fault, signer_of}
 use Rattle.fints_script.specs.RowFaults.{RefusesRow}
-use Rattle.fints_script.specs.declared.fault.Place.TheVariants as places
+use Rattle.fints_field_rows.specs.declared.fault.Place.TheVariants as places
 use Rattle.fints_script.proofs.RowLemmas.{clean_more, refused, map_more}
 use Rattle.fints_script.proofs.rows.read_signers.Goals as goal
 

@@ -1,8 +1,8 @@
 use Rattle.std.proofs.Common.{◌≡◌, map, take}
 use Rattle.toml.specs.View.{view}
-use Rattle.fints_script.specs.Faults.{AreClean}
+use Rattle.fints_field_rows.specs.Faults.{AreClean}
 use Rattle.fints_script.specs.Scripts.{look_at_signer}
-use Rattle.fints_script.specs.Signers.{signer_of}
+use Rattle.fints_templates.specs.Signers.{signer_of}
 use Rattle.fints_script.proofs.rows.read_signers.Given as goal
 
 abbrev pub invariant-loop-i : goal.invariant-loop-i

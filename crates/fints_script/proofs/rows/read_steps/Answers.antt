@@ -1,12 +1,12 @@
 use Rattle.std.proofs.Common.{subst, sym, ap, ◌∙◌, ◌+◌, ◌<◌, List, length, map, arith, Option}
 use Rattle.toml.specs.declared.value.Value.{Value}
 use Rattle.toml.specs.View.{view}
-use Rattle.fints_script.specs.declared.fault.FaultKind.{FaultKind}
-use Rattle.fints_script.specs.Faults.{AreClean, Tells}
+use Rattle.fints_field_rows.specs.declared.fault.FaultKind.{FaultKind}
+use Rattle.fints_field_rows.specs.Faults.{AreClean, Tells}
 use Rattle.fints_script.specs.Steps.{step_fault, step_of}
 use Rattle.fints_script.specs.Around.{surroundings_of}
 use Rattle.fints_script.specs.RowFaults.{placed, RefusesRow}
-use Rattle.fints_script.specs.declared.fault.Place.TheVariants as places
+use Rattle.fints_field_rows.specs.declared.fault.Place.TheVariants as places
 use Rattle.fints_script.proofs.RowLemmas.{clean_more, refused, map_more}
 use Rattle.fints_script.proofs.rows.read_steps.Goals as goal
 

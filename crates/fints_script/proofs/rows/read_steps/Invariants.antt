@@ -1,6 +1,6 @@
 use Rattle.std.proofs.Common.{◌≡◌, map, take}
 use Rattle.toml.specs.View.{view}
-use Rattle.fints_script.specs.Faults.{AreClean}
+use Rattle.fints_field_rows.specs.Faults.{AreClean}
 use Rattle.fints_script.specs.Steps.{step_fault, step_of}
 use Rattle.fints_script.specs.Around.{surroundings_of}
 use Rattle.fints_script.proofs.rows.read_steps.Given as goal

@@ -2,8 +2,8 @@ use Rattle.std.proofs.Common.{◌≡◌, ◌≤◌, List, map, ap, sym, subst, �
 use Rattle.std.proofs.lemmas.List.{length-map}
 use Rattle.toml.specs.Data.{Data}
 use Rattle.toml.specs.View.{view, table_view}
-use Rattle.fints_script.specs.Faults.{AreClean}
-use Rattle.fints_script.specs.Tables.{rows_of}
+use Rattle.fints_field_rows.specs.Faults.{AreClean}
+use Rattle.fints_documents.specs.Tables.{rows_of}
 use Rattle.fints_script.specs.Scripts.{field_rows, look_at_field, AreFields}
 use Rattle.fints_script.proofs.TopLemmas.{counts_kept}
 use Rattle.fints_script.proofs.script.fields_of.Goals as goal

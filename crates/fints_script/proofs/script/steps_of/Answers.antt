@@ -2,8 +2,8 @@ use Rattle.std.proofs.Common.{◌≡◌, ◌∙◌, ℕ, List, map, length, ap, 
 use Rattle.std.proofs.lemmas.List.{length-map}
 use Rattle.toml.specs.Data.{Data}
 use Rattle.toml.specs.View.{view, table_view}
-use Rattle.fints_script.specs.Faults.{AreClean}
-use Rattle.fints_script.specs.Tables.{rows_of}
+use Rattle.fints_field_rows.specs.Faults.{AreClean}
+use Rattle.fints_documents.specs.Tables.{rows_of}
 use Rattle.fints_script.specs.Scripts.{step_rows, surroundings_on}
 use Rattle.fints_script.specs.Steps.{step_fault}
 use Rattle.fints_script.proofs.script.steps_of.Goals as goal

@@ -1,7 +1,7 @@
 use Rattle.std.proofs.Common.{◌≡◌, drop}
 use Rattle.std.specs.List.{find}
 use Rattle.toml.specs.View.{table_view}
-use Rattle.fints_script.specs.FaultOrder.{kind_order}
+use Rattle.fints_field_rows.specs.FaultOrder.{kind_order}
 use Rattle.fints_script.specs.Scripts.{top_has}
 use Rattle.fints_script.proofs.script.top_fault.Given as goal
 

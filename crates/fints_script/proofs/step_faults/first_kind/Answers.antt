@@ -1,6 +1,6 @@
 use Rattle.std.proofs.Common.{◌∙◌, sym, refl, arith}
 use Rattle.toml.specs.View.{table_view}
-use Rattle.fints_script.specs.FaultOrder.{kind_order}
+use Rattle.fints_field_rows.specs.FaultOrder.{kind_order}
 use Rattle.fints_script.specs.Steps.{step_has}
 use Rattle.fints_script.specs.Around.{surroundings_of}
 use Rattle.fints_script.proofs.KindLemmas.{find_later}

@@ -1,0 +1,38 @@
+use Rattle.std.proofs.Common.{◌≡◌, ◌+◌, ◌^◌, ◌<◌, length, arith, rules}
+use Rattle.std.proofs.lemmas.Bool.Decides.{nat_tests}
+use Rattle.fints_cases.proofs.CaseReads.{no_header, refused, read_more, read_all, few_lines}
+use Rattle.fints_cases.proofs.CaseLines.{no_feed_no_line}
+use Rattle.fints_cases.proofs.case.Case.read.Goals as goal
+
+pub returns-in_default-clause-refusal : goal.returns-in_default-clause-refusal
+returns-in_default-clause-refusal c = no_header c.args.text.now c.in_default.ensures
+
+pub returns-in-None-clause-refusal : goal.returns-in-None-clause-refusal
+returns-in-None-clause-refusal c =
+    let read = c.loop-rest.invariant in
+    let some : 0 < length c.loop-rest.rest.now = search rules in
+    refused c.args.text.now c.loop-rest.rest.now c.loop-rest.case.values c.loop-rest.case.answers.items c.loop-rest.line read (rw c.in-None.is at c.in_ok-more.ensures) (λ none. absurd (omega arith))
+
+pub overflow_add-line : goal.overflow_add-line
+overflow_add-line c =
+    let few = few_lines c.args.text.now c.loop-rest.rest.now c.loop-rest.case.values c.loop-rest.case.answers.items c.loop-rest.line c.loop-rest.invariant in
+    let small : c.loop-rest.line + 1 < 2 ^ 32 = omega arith in
+    search rules
+
+pub loop-rest-preserved : goal.loop-rest-preserved
+loop-rest-preserved c =
+    let taken = rw c.in-Some-2.is at c.in_ok-more.ensures in
+    read_more c.args.text.now c.loop-rest.rest.now c.in-Some-2.more.now c.loop-rest.case.values c.loop-rest.case.answers.items c.take_line.new.case.values c.take_line.new.case.answers.items c.loop-rest.line c.loop-rest.invariant taken
+
+pub returns-then-is_empty-clause-refusal : goal.returns-then-is_empty-clause-refusal
+returns-then-is_empty-clause-refusal c =
+    let done : length c.loop-rest.rest.now ≡ 0 = grind (arith, nat_tests) in
+    let none : length c.loop-rest.case.values ≡ 0 = grind (arith, nat_tests) in
+    let no_line = no_feed_no_line (length c.args.text.now) c.loop-rest.rest.now c.loop-rest.case.values c.loop-rest.case.answers.items (λ k d within. absurd (omega arith)) in
+    refused c.args.text.now c.loop-rest.rest.now c.loop-rest.case.values c.loop-rest.case.answers.items c.loop-rest.line c.loop-rest.invariant no_line (λ _. none)
+
+pub returns-clause-case : goal.returns-clause-case
+returns-clause-case c =
+    let done : length c.loop-rest.rest.now ≡ 0 = grind (arith, nat_tests) in
+    let some : 0 < length c.loop-rest.case.values = grind (arith, nat_tests) in
+    read_all c.args.text.now c.loop-rest.rest.now c.loop-rest.case.values c.loop-rest.case.answers.items c.loop-rest.line c.loop-rest.invariant done some

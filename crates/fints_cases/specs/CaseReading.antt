@@ -1,0 +1,71 @@
+-- What the reader of cases knows on its way through a text.
+use Rattle.std.specs.Prelude.{ℕ, ◌-◌, ◌≡◌, ◌≢◌, ◌<◌, ◌≤◌, Option, MatchOption, List, [], ◌∷◌, ◌++◌, codes, length, slice_get}
+use Rattle.std.specs.Option.{ForSome}
+use Rattle.std.specs.List.{All, AllPairs}
+use Rattle.fints_cases.specs.Answers.{IsAnswer}
+use Rattle.fints_cases.specs.Cases.{field_text, answer_text, case_text, IsNamedValue}
+use Rattle.fints_cases.specs.declared.values.NamedValue.{NamedValue}
+use Rattle.fints_cases.specs.declared.case_reading.CaseLine.{CaseLine}
+use Rattle.fints_cases.specs.declared.case_reading.CaseLine.TheVariants.{Field, Reply}
+
+-- the text is the left part, this byte and the right part, and the byte is not in the left part
+abbrev pub IsSplit : ℕ → List ℕ → List ℕ → List ℕ → Type 0
+IsSplit byte text left right = (text ≡ left ++ byte ∷ right) × All (λ b. b ≢ byte) left
+
+-- what is found is a good value with this text, and nothing is found only where the text is that of no good value
+abbrev pub IsReadAs : {X : Type 0} → (X → Type 0) → (X → List ℕ) → List ℕ → Option X → Type 0
+IsReadAs {X} IsGood text_of text found =
+    MatchOption found ((x : X) → IsGood x → text ≢ text_of x) (λ x. IsGood x × (text ≡ text_of x))
+
+-- A to Z
+abbrev pub IsCapital : ℕ → Type 0
+IsCapital c = (65 ≤ c) × (c ≤ 90)
+
+-- bytes of a value
+abbrev pub IsValue : List ℕ → Type 0
+IsValue value = All (λ b. b < 256) value
+
+abbrev pub line_text : CaseLine → List ℕ
+line_text (Field pair) = field_text pair
+line_text (Reply answer) = answer_text answer
+
+abbrev pub IsCaseLine : CaseLine → Type 0
+IsCaseLine (Field pair) = IsNamedValue pair
+IsCaseLine (Reply answer) = IsAnswer answer
+
+-- the line may stand after these values and answers
+abbrev pub IsNext : List NamedValue → List (List ℕ) → CaseLine → Type 0
+IsNext values answers (Field pair) = (length answers ≡ 0) × All (λ (p : NamedValue). p.name ≢ pair.name) values × (length values ≡ 0 → pair.name ≡ codes "dialog")
+IsNext values answers (Reply answer) = 0 < length values
+
+abbrev pub values_with : List NamedValue → CaseLine → List NamedValue
+values_with values (Field pair) = values ++ pair ∷ []
+values_with values (Reply answer) = values
+
+abbrev pub answers_with : List (List ℕ) → CaseLine → List (List ℕ)
+answers_with answers (Field pair) = answers
+answers_with answers (Reply answer) = answers ++ answer ∷ []
+
+-- the values and answers of the lines so far: they may still lack their first value
+pub record IsBegun (values : List NamedValue) (answers : List (List ℕ)) : Type 0 where
+  pub first : ForSome (slice_get values 0) (λ pair. pair.name ≡ codes "dialog")
+  pub apart : AllPairs (λ (p q : NamedValue). p.name ≢ q.name) values
+  pub values_are : All IsNamedValue values
+  pub answers_are : All IsAnswer answers
+  pub order : length values ≡ 0 → length answers ≡ 0
+  pub short : length (case_text values answers) ≤ 1048576
+
+-- a line was taken from the rest of a text of `whole` bytes, and its line ended within the limit
+pub record IsLineTaken (whole : ℕ) (rest more : List ℕ) (values : List NamedValue) (answers : List (List ℕ)) (values_then : List NamedValue) (answers_then : List (List ℕ)) : Type 0 where
+  pub line : CaseLine
+  pub is : IsCaseLine line
+  pub next : IsNext values answers line
+  pub rest_is : rest ≡ line_text line ++ 10 ∷ more
+  pub within : whole - length more ≤ 1048576
+  pub values_are : values_then ≡ values_with values line
+  pub answers_are : answers_then ≡ answers_with answers line
+
+-- no such line stands there
+abbrev pub HasNoLine : ℕ → List ℕ → List NamedValue → List (List ℕ) → Type 0
+HasNoLine whole rest values answers =
+    (line : CaseLine) (more : List ℕ) → IsCaseLine line → IsNext values answers line → whole - length more ≤ 1048576 → rest ≢ line_text line ++ 10 ∷ more

@@ -1,0 +1,4 @@
+pub mod Patterns
+pub mod Answers
+pub mod Cases
+pub mod CaseReading

@@ -1,0 +1,249 @@
+//! Cases from their texts.
+ghost use Rattle.std.specs.Prelude.{◌≡◌, ◌≢◌, ◌≤◌, ◌↔◌, ℕ, List, codes, ◌∷◌, ◌++◌, ◌<◌, length, IsTrue, IfOk, IfErr, OnOk, MatchOption};
+ghost use Rattle.std.specs.List.{All, Any};
+ghost use Rattle.hex.specs.Hex.{encode_lower};
+ghost use Rattle.fints_cases.specs.Patterns.{code_text};
+ghost use Rattle.fints_cases.specs.Answers.{IsAnswer};
+ghost use Rattle.fints_cases.specs.Cases.{value_text, field_text, codes_text, answer_text, IsNamedValue, IsCaseOf, IsRefusal};
+ghost use Rattle.fints_cases.specs.CaseReading.{IsSplit, IsReadAs, IsCapital, IsValue, IsCaseLine, line_text, IsNext, values_with, answers_with, IsLineTaken, HasNoLine};
+
+use crate::case::{Answer, Case};
+use crate::case_fault::CaseFault;
+use crate::values::{NamedValue, Values};
+use fints_fields::Name;
+use fints_params::Code;
+use fints_syntax::{Bytes, Memory};
+use hex::FromHexError;
+use std::alloc::Global;
+
+/// The most bytes of a case's text.
+const MAX_CASE: usize = 1_048_576;
+
+/// What a line after the first tells.
+#[derive(Debug, Drop)]
+pub enum CaseLine {
+    Field(NamedValue),
+    Reply(Answer),
+}
+
+/// What stands after these bytes.
+fn after<'a>(text: &'a [u8], front: &[u8]) -> Option<&'a [u8]>
+    ensures { MatchOption result ((rest : List ℕ) → text.now ≢ front.now ++ rest) (λ rest. text.now ≡ front.now ++ rest.now) }
+{
+    text.strip_prefix(front)
+}
+
+/// What stands before and after the first such byte.
+fn split_once(text: &[u8], byte: u8) -> Option<(&[u8], &[u8])>
+    ensures { MatchOption result (All (λ b. b ≢ byte) text.now) (λ parts. IsSplit byte text.now parts.0.now parts.1.now) }
+{
+    let end = text.iter().position(|b| *b == byte)?;
+    Some((&text[..end], &text[end + 1..]))
+}
+
+fn has_capital(text: &[u8]) -> bool
+    ensures { IsTrue result ↔ Any IsCapital text.now }
+{
+    text.iter().any(|b| b.is_ascii_uppercase())
+}
+
+/// The bytes that lower hex spells.
+fn parse_hex(alloc: Global, text: &[u8]) -> Result<Option<Vec<u8>>, Memory>
+    ensures { IfOk result (λ found. MatchOption found
+        ((value : List ℕ) → IsValue value → text.now ≢ encode_lower value)
+        (λ value. IsValue value.items × (text.now ≡ encode_lower value.items))) }
+{
+    if has_capital(text) {
+        return Ok(None);
+    }
+    match hex::decode(alloc, text) {
+        Ok(value) => Ok(Some(value)),
+        Err(fault) => match fault {
+            FromHexError::OutOfMemory => Err(Memory),
+            _ => Ok(None),
+        },
+    }
+}
+
+/// The value that a field's line tells: no bytes by `-`, others by lower hex.
+fn parse_value(alloc: Global, text: &[u8]) -> Result<Option<Bytes>, Memory>
+    ensures { IfOk result (IsReadAs IsValue value_text text.now) }
+{
+    if text == b"-".as_slice() {
+        return Ok(Some(Bytes::new(Vec::new(alloc))));
+    }
+    if text.is_empty() {
+        return Ok(None);
+    }
+    match parse_hex(alloc, text)? {
+        Some(value) => Ok(Some(Bytes::new(value))),
+        None => Ok(None),
+    }
+}
+
+fn parse_field(alloc: Global, text: &[u8]) -> Result<Option<NamedValue>, Memory>
+    ensures { IfOk result (IsReadAs IsNamedValue field_text text.now) }
+{
+    let Some(rest) = after(text, b"field ") else {
+        return Ok(None);
+    };
+    let Some((name, value)) = split_once(rest, b' ') else {
+        return Ok(None);
+    };
+    let Some(name) = Name::parse(name) else {
+        return Ok(None);
+    };
+    match parse_value(alloc, value)? {
+        Some(value) => Ok(Some(NamedValue { name, value })),
+        None => Ok(None),
+    }
+}
+
+/// The code after a space that the text begins with, and what stands after it.
+fn first_code(text: &[u8]) -> Option<(Code, &[u8])>
+    ensures { MatchOption result
+        ((code : ℕ) (rest : List ℕ) → code < 10000 → text.now ≢ (32 ∷ code_text code) ++ rest)
+        (λ parts. (parts.0 < 10000) × (text.now ≡ (32 ∷ code_text parts.0) ++ parts.1.now)) }
+{
+    match text {
+        [b' ', a, b, c, d, rest @ ..] => Some((Code::parse(&[*a, *b, *c, *d])?, rest)),
+        _ => None,
+    }
+}
+
+/// The codes that the text lists, each after a space.
+fn parse_codes(alloc: Global, text: &[u8]) -> Result<Option<Vec<Code>>, Memory>
+    ensures { IfOk result (λ found. MatchOption found
+        ((answer : List ℕ) → All (λ code. code < 10000) answer → text.now ≢ codes_text answer)
+        (λ codes. All (λ code. code < 10000) codes.items × (text.now ≡ codes_text codes.items))) }
+{
+    let mut codes = Vec::new(alloc);
+    let mut rest = text;
+    while !rest.is_empty() {
+        let Some((code, more)) = first_code(rest) else {
+            return Ok(None);
+        };
+        codes.push(code)?;
+        rest = more;
+    }
+    Ok(Some(codes))
+}
+
+fn parse_answer(alloc: Global, text: &[u8]) -> Result<Option<Answer>, Memory>
+    ensures { IfOk result (IsReadAs IsAnswer answer_text text.now) }
+{
+    let Some(rest) = after(text, b"answer") else {
+        return Ok(None);
+    };
+    match parse_codes(alloc, rest)? {
+        Some(codes) => Ok(Answer::new(codes)),
+        None => Ok(None),
+    }
+}
+
+fn parse_line(alloc: Global, text: &[u8]) -> Result<Option<CaseLine>, Memory>
+    ensures { IfOk result (IsReadAs IsCaseLine line_text text.now) }
+{
+    if let Some(pair) = parse_field(alloc, text)? {
+        return Ok(Some(CaseLine::Field(pair)));
+    }
+    match parse_answer(alloc, text)? {
+        Some(answer) => Ok(Some(CaseLine::Reply(answer))),
+        None => Ok(None),
+    }
+}
+
+fn is_dialog(name: Name) -> bool
+    ensures { IsTrue result ↔ (name ≡ codes "dialog") }
+{
+    name.as_bytes() == b"dialog".as_slice()
+}
+
+/// Whether no value has the name.
+fn is_new(values: &Values, name: Name) -> bool
+    ensures { IsTrue result ↔ All (λ pair. pair.name ≢ name) values.now }
+{
+    values.pairs().iter().all(|pair| pair.name != name)
+}
+
+/// Whether the line may stand after what the case holds.
+fn is_next(case: &Case, line: &CaseLine) -> bool
+    ensures { IsTrue result ↔ IsNext case.now.values case.now.answers.items line.now }
+{
+    match line {
+        CaseLine::Field(pair) => {
+            case.answers.is_empty()
+                && is_new(&case.values, pair.name)
+                && (!case.values.pairs().is_empty() || is_dialog(pair.name))
+        }
+        CaseLine::Reply(_) => !case.values.pairs().is_empty(),
+    }
+}
+
+fn add(case: &mut Case, line: CaseLine) -> Result<(), Memory>
+    ensures values { OnOk result (case.new.values ≡ values_with case.old.values line) }
+    ensures answers { OnOk result (case.new.answers.items ≡ answers_with case.old.answers.items line) }
+{
+    match line {
+        CaseLine::Field(pair) => case.values.add(pair)?,
+        CaseLine::Reply(answer) => case.answers.push(answer)?,
+    }
+    Ok(())
+}
+
+/// Adds the line that the rest begins with, and gives what stands after it; none where that is no
+/// good line of a text of so many bytes.
+fn take_line<'a>(
+    alloc: Global,
+    case: &mut Case,
+    whole: usize,
+    rest: &'a [u8],
+) -> Result<Option<&'a [u8]>, Memory>
+    requires { length rest.now ≤ whole }
+    ensures { IfOk result (λ taken. MatchOption taken
+        (HasNoLine whole rest.now case.old.values case.old.answers.items)
+        (λ more. IsLineTaken whole rest.now more.now case.old.values case.old.answers.items case.new.values case.new.answers.items)) }
+{
+    let Some((text, more)) = split_once(rest, b'\n') else {
+        return Ok(None);
+    };
+    if whole - more.len() > MAX_CASE {
+        return Ok(None);
+    }
+    let Some(line) = parse_line(alloc, text)? else {
+        return Ok(None);
+    };
+    if !is_next(case, &line) {
+        return Ok(None);
+    }
+    add(case, line)?;
+    Ok(Some(more))
+}
+
+impl Case {
+    /// The case that the text stands for.
+    pub fn read(alloc: Global, text: &[u8]) -> Result<Case, CaseFault>
+        ensures case { IfOk result (λ case. IsCaseOf text.now case.values case.answers.items) }
+        ensures refusal { IfErr result (IsRefusal text.now) }
+    {
+        let Some(mut rest) = after(text, b"fints-case 1\n") else {
+            return Err(CaseFault::Bad { line: 1 });
+        };
+        let mut case = Case {
+            values: Values::new(alloc),
+            answers: Vec::new(alloc),
+        };
+        let mut line = 2;
+        while !rest.is_empty() {
+            match take_line(alloc, &mut case, text.len(), rest)? {
+                Some(more) => rest = more,
+                None => return Err(CaseFault::Bad { line }),
+            }
+            line += 1;
+        }
+        if case.values.pairs().is_empty() {
+            return Err(CaseFault::Bad { line });
+        }
+        Ok(case)
+    }
+}

@@ -1,0 +1,26 @@
+//! Laws of answers and cases: each function's contract is one.
+ghost use Rattle.std.specs.Prelude.{◌≡◌, ℕ, List};
+ghost use Rattle.fints_cases.specs.Answers.{OneCodeFires, OneBranchFires};
+ghost use Rattle.fints_cases.specs.Cases.{OneCase, IsFirstBadLine};
+ghost use Rattle.fints_cases.specs.declared.answers.Branch.{Branch};
+ghost use Rattle.fints_cases.specs.declared.answers.Target.{Target};
+
+/// One code is enough to fire a branch that some answer fires.
+pub fn one_code_fires()
+    ensures { (branches : List Branch) (b : ℕ) → OneCodeFires branches b }
+{}
+
+/// Every list of codes fires exactly one branch, and leads where that branch does.
+pub fn one_branch_fires()
+    ensures { (branches : List Branch) (otherwise : Target) (codes : List ℕ) → OneBranchFires branches otherwise codes }
+{}
+
+/// A text stands for one case at most.
+pub fn one_case()
+    ensures { (text : List ℕ) → OneCase text }
+{}
+
+/// A text has one first bad line at most.
+pub fn one_bad_line()
+    ensures { (text : List ℕ) (n m : ℕ) → IsFirstBadLine text n → IsFirstBadLine text m → n ≡ m }
+{}

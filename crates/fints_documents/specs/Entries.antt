@@ -1,0 +1,26 @@
+-- What stands at the keys of a table.
+use Rattle.std.specs.Prelude.{codes, ℕ, Bool, false, List, Option, Some, None, option_and_then, is_some}
+use Rattle.std.specs.Str.{bytes_eq}
+use Rattle.toml.specs.Data.{Data, string, table, Members, get_member, as_str}
+
+-- the text at a key, where it holds a text
+abbrev pub text_at : List ℕ → Members → Option (List ℕ)
+text_at key ms = option_and_then as_str (get_member key ms)
+
+abbrev pub has_key : List ℕ → Members → Bool
+has_key key ms = is_some (get_member key ms)
+
+-- the name of a row, where it is a table that has one
+abbrev pub name_in : Data → Option (List ℕ)
+name_in (table ms) = text_at (codes "name") ms
+name_in _ = None
+
+-- there is a value, and it is this text
+abbrev pub holds_text : List ℕ → Option Data → Bool
+holds_text text (Some (string other)) = bytes_eq text other
+holds_text text _ = false
+
+-- the entry is a table with this name
+abbrev pub is_named : List ℕ → Data → Bool
+is_named name (table ms) = holds_text name (get_member (codes "name") ms)
+is_named name _ = false

@@ -1,0 +1,4 @@
+pub mod Document
+pub mod Entries
+pub mod Tables
+pub mod ItemLists

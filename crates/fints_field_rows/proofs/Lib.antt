@@ -1,0 +1,5 @@
+pub mod NameTests
+pub mod FieldLemmas
+pub mod TextLemmas
+pub mod CleanFields
+pub mod FirstPlaces

@@ -1,0 +1,10 @@
+pub mod Ranks
+pub mod Texts
+pub mod Fronts
+pub mod Forms
+pub mod Tails
+pub mod Seals
+pub mod ItemValues
+pub mod Uniques
+pub mod Wholes
+pub mod Numbers

@@ -1,0 +1,5 @@
+use Rattle.fints_messages.proofs.Uniques.{message_one}
+use Rattle.fints_messages.proofs.laws.one_message.Goals as goal
+
+pub returns : goal.returns
+returns c = message_one c.one_segment_text.ensures

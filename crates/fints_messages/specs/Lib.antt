@@ -1,0 +1,5 @@
+pub mod Segments
+pub mod Parts
+pub mod Messages
+pub mod Read
+pub mod Front

@@ -1,0 +1,18 @@
+//! Laws of messages: each function's contract is one.
+ghost use Rattle.std.specs.Prelude.{◌≡◌, ◌+◌, ℕ, List, length};
+ghost use Rattle.fints_messages.specs.Messages.{MessageView, IsMessage, IsNumbered};
+
+use fints_syntax::laws::one_segment_text;
+
+/// The bytes determine what the message holds.
+pub fn one_message()
+    ensures { (bytes : List ℕ) (m n : MessageView) → IsMessage bytes m → IsMessage bytes n → m ≡ n }
+{
+    one_segment_text();
+}
+
+/// The segments of a body are numbered on from the one behind the message's HNSHK.
+pub fn numbered_bodies()
+    ensures { (bytes : List ℕ) (m : MessageView) → IsMessage bytes m → IsNumbered (2 + length m.ends) m.body }
+{
+}

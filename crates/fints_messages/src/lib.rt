@@ -1,0 +1,16 @@
+//! Messages: the segments of a body in their frame, plain or sealed, as they are read.
+#![tactic(auto)]
+
+mod frame;
+mod front;
+mod inner;
+pub mod laws;
+mod message;
+mod part;
+mod plain;
+mod sealed;
+mod tail;
+mod values;
+
+pub use message::{JudgeFault, Message, read_message};
+pub use part::is_kind;

@@ -1,5 +1,0 @@
-use Rattle.fints_rules.proofs.Uniques.{message_one}
-use Rattle.fints_rules.proofs.laws.one_message.Goals as goal
-
-pub returns : goal.returns
-returns c = message_one c.one_segment_text.ensures

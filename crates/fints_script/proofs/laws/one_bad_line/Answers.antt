@@ -1,5 +1,0 @@
-use Rattle.fints_script.proofs.CaseRefusals as refusals
-use Rattle.fints_script.proofs.laws.one_bad_line.Goals as goal
-
-pub returns : goal.returns
-returns c = refusals.one_bad_line

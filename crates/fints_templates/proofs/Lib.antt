@@ -1,0 +1,2 @@
+pub mod ItemTextLemmas
+pub mod Spending

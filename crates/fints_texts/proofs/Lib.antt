@@ -1,0 +1,3 @@
+pub mod JudgeLemmas
+pub mod RunLemmas
+pub mod ShowLemmas

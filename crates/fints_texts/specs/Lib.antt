@@ -1,0 +1,4 @@
+pub mod Fault
+pub mod Judge
+pub mod RunText
+pub mod Show

@@ -1,0 +1,4 @@
+pub mod DocumentLemmas
+pub mod BankLemmas
+pub mod MessageLemmas
+pub mod ScriptLemmas
