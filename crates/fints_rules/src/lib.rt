@@ -30,6 +30,3 @@ pub use message::{JudgeFault, Message, read_message};
 pub use orders::{AccountForm, OrderRow, OrderTable, TableFault};
 pub use permissions::{Permissions, Permit};
 pub use rule::{Broken, Rule};
-
-#[cfg(test)]
-mod tests;
