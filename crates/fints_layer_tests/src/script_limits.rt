@@ -126,13 +126,21 @@ const ENTRIES: [Row; 6] = [
 ];
 
 // The longest text, of so many bytes, and the longest value that is listed.
-const TEXTS: [Row; 2] = [
+const TEXTS: [Row; 3] = [
     Row {
         before: "",
         piece: "\n",
         after: "",
         most: 1_048_576,
         kept: "Missing top",
+        passed: "Limit top",
+    },
+    Row {
+        before: "[",
+        piece: "\n",
+        after: "",
+        most: 1_048_575,
+        kept: "NotToml top",
         passed: "Limit top",
     },
     Row {
