@@ -10,6 +10,7 @@ trap 'rm -rf "$room"' EXIT
 cp -a crates.txt HANDLES crates "$room/"
 rm -f "$room"/crates/*/must-fail/*.edit
 for name in "${names[@]}"; do
+    mkdir -p "$room/crates/$name/must-fail"
     cp "edits/$name/"*.edit "$room/crates/$name/must-fail/"
 done
 cd "$room"

@@ -23,6 +23,3 @@ pub use fault::ParamFault;
 pub use feedback::feedback_codes;
 pub use params::Params;
 pub use rows::{AccountRow, BankRow, Entries, Entry, National, Numbers, OrderParam, PinRow, Usage};
-
-#[cfg(test)]
-mod tests;

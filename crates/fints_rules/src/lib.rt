@@ -19,6 +19,3 @@ pub use limits::{Demand, Limits, OrderKey};
 pub use orders::{AccountForm, OrderRow, OrderTable, TableFault};
 pub use permissions::{Permissions, Permit};
 pub use rule::{Broken, Rule};
-
-#[cfg(test)]
-mod tests;

@@ -25,6 +25,3 @@ pub use scan::parse_number;
 pub use text::{Item, RawText, Unescaped};
 pub use view::{SegmentView, parse_segment};
 pub use writing::{decimal_len, write_item, write_segment, written_len};
-
-#[cfg(test)]
-mod tests;

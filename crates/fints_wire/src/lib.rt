@@ -16,10 +16,3 @@ pub use building::build;
 pub use dialogue::{Sent, Visit, run};
 pub use values::{least_values, worst_values};
 pub use worst::worst_size;
-
-#[cfg(test)]
-mod tests;
-#[cfg(test)]
-mod tests_runs;
-#[cfg(test)]
-mod tests_sizes;

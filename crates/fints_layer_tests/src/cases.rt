@@ -1,0 +1,63 @@
+//! The texts of cases.
+use crate::samples::{name, values};
+use fints_params::Code;
+use fints_script::{Answer, Case, CaseFault};
+use std::test::*;
+
+const VALUES: &[u8] =
+    b"fints-case 1\nfield dialog 41\nfield pin 3030303030\nfield tan -\nfield acct 4445323232\n";
+
+const ANSWER: &[u8] = b"fints-case 1\nfield dialog 44\nanswer 0020\n";
+
+#[test]
+fn parts(rt: HostRuntime) -> Result<(), Fail> {
+    let case = Case::read(rt.alloc(), VALUES)?;
+    assert_eq!(rt; case.values.pairs().len(), 4);
+    assert_eq!(rt; case.values.get(name(b"acct")?), Some(b"DE222".as_slice()));
+    assert_eq!(rt; case.values.get(name(b"tan")?), Some(b"".as_slice()));
+    assert_eq!(rt; case.answers.len(), 0);
+    let text = case.write(rt.alloc())?;
+    assert_eq!(rt; text.as_slice(), VALUES);
+    let case = Case::read(rt.alloc(), ANSWER)?;
+    let [answer] = case.answers.as_slice() else {
+        return Err(Fail::from("one answer"));
+    };
+    let codes = [Code::from_number(20).ok_or("code")?];
+    assert_eq!(rt; answer.codes(), codes.as_slice());
+    let text = case.write(rt.alloc())?;
+    assert_eq!(rt; text.as_slice(), ANSWER);
+    assert!(rt; Answer::new(Vec::new(rt.alloc())).is_none());
+    Ok(())
+}
+
+// Of a name twice the first value counts.
+#[test]
+fn first_values(rt: HostRuntime) -> Result<(), Fail> {
+    let values = values(rt.alloc(), &[(b"tan", b"7"), (b"tan", b"8")])?;
+    assert_eq!(rt; values.pairs().len(), 2);
+    assert_eq!(rt; values.get(name(b"tan")?), Some(b"7".as_slice()));
+    assert_eq!(rt; values.get(name(b"pin")?), None);
+    let fault = Case::read(rt.alloc(), b"fints-case 2").err();
+    assert_eq!(rt; fault, Some(CaseFault::Bad { line: 1 }));
+    Ok(())
+}
+
+// A case with one long value is read up to 1,048,576 bytes, and can be longer when it is written.
+#[test]
+fn longest_case(rt: HostRuntime) -> Result<(), Fail> {
+    let rows = [
+        (524_274, 1_048_575, None),
+        (524_275, 1_048_577, Some(CaseFault::Bad { line: 2 })),
+    ];
+    for (bytes, len, fault) in rows {
+        let value = vec![in rt.alloc(); b'0'; bytes]?;
+        let case = Case {
+            values: values(rt.alloc(), &[(b"dialog", value.as_slice())])?,
+            answers: Vec::new(rt.alloc()),
+        };
+        let text = case.write(rt.alloc())?;
+        assert_eq!(rt; text.len(), len);
+        assert_eq!(rt; Case::read(rt.alloc(), text.as_slice()).err(), fault);
+    }
+    Ok(())
+}

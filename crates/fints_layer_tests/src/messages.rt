@@ -1,0 +1,98 @@
+//! Messages that are built and sent.
+use crate::samples::{FORK, SEALED_END, T, values};
+use fints_params::Code;
+use fints_rules::OrderTable;
+use fints_script::{Answer, Plan, Script, Values};
+use fints_wire::{build, run};
+use std::alloc::Global;
+use std::test::*;
+
+// The message of step 1, if the plan admits the values.
+fn message(alloc: Global, plan: &Plan, number: u32, values: &Values) -> Result<Vec<u8>, Fail> {
+    if plan.step_count() < 1 || number < 1 || number > 99_999 || !plan.admits(values) {
+        return Err(Fail::from("not admitted"));
+    }
+    Ok(build(alloc, plan, 1, number, values)?)
+}
+
+const TRANSFER: &[u8] = br#"
+field = [{name = "acct", class = "account", values = [["DE111", "x+y"], ["DE222", "z"]]}]
+step = [{name = "pay", segments = [{kind = "HKCCS", version = 1, elements = ["$acct", ["$dialog", "%00"]]}]}]
+"#;
+
+const TRANSFER_12: &[u8] =
+    b"HNHBK:1:3+000000000072+300+??+12'HKCCS:2:1+DE222:z+??:@1@\x00'HNHBS:3:1+12'";
+
+const SEALED_1: &[u8] =
+    b"HNHBK:1:3+000000000168+300+0+1'HNVSK:998:3+PIN:1+998+1+1::0+1:20260101:120000+2:2:13:@8@00000000:5:1+280:10020030:user:V:0:0+0'HNVSD:999:1+@12@HKEND:2:1+0''HNHBS:3:1+1'";
+
+#[test]
+fn built(rt: HostRuntime) -> Result<(), Fail> {
+    let rows: [(&[u8], u32, &[(&[u8], &[u8])], &[u8]); 2] = [
+        (
+            TRANSFER,
+            12,
+            &[(b"dialog", b"?"), (b"acct", b"DE222:z")],
+            TRANSFER_12,
+        ),
+        (SEALED_END, 1, &[(b"dialog", b"D")], SEALED_1),
+    ];
+    let orders = OrderTable::read(rt.alloc(), T)?;
+    for (text, number, pairs, wanted) in rows {
+        let script = Script::read(rt.alloc(), text)?;
+        let plan = script.plan(&orders)?;
+        let values = values(rt.alloc(), pairs)?;
+        let bytes = message(rt.alloc(), &plan, number, &values)?;
+        assert_eq!(rt; bytes.as_slice(), wanted);
+    }
+    Ok(())
+}
+
+const SEALED_PAD: &[u8] =
+    br#"seal = [["PIN","1"], "998", "1", ["1","","0"], ["1","20260101","120000"], ["2","2","13","%3030303030303030","5","1"], ["280","10020030","user","V","0","0"], "0"]
+field = [{name = "pad", class = "digits", min = 0, max = 987}]
+step = [{name = "end", sealed = true, segments = [{kind = "HKEND", version = 1, elements = ["$dialog", "$pad"]}]}]
+"#;
+
+// The length of what is sealed has three digits, and then four.
+#[test]
+fn sealed_pads(rt: HostRuntime) -> Result<(), Fail> {
+    let alloc = rt.alloc();
+    let script = Script::read(alloc, SEALED_PAD)?;
+    let orders = OrderTable::read(alloc, T)?;
+    let plan = script.plan(&orders)?;
+    for (zeros, len) in [(986, 1156), (987, 1158)] {
+        let pad = vec![in alloc; b'0'; zeros]?;
+        let values = values(alloc, &[(b"dialog", b"D"), (b"pad", pad.as_slice())])?;
+        let bytes = message(alloc, &plan, 1, &values)?;
+        assert_eq!(rt; bytes.len(), len);
+    }
+    Ok(())
+}
+
+#[test]
+fn sent(rt: HostRuntime) -> Result<(), Fail> {
+    let alloc = rt.alloc();
+    let script = Script::read(alloc, FORK)?;
+    let orders = OrderTable::read(alloc, T)?;
+    let plan = script.plan(&orders)?;
+    let values = values(alloc, &[(b"dialog", b"D")])?;
+    let codes = vec![in alloc; Code::from_number(20).ok_or("code")?]?;
+    let answers = vec![in alloc; Answer::new(codes).ok_or("answer")?]?;
+    if !plan.admits(&values) {
+        return Err(Fail::from("not admitted"));
+    }
+    let sent = run(alloc, &plan, &values, answers.as_slice())?;
+    let [one, done] = sent.as_slice() else {
+        return Err(Fail::from("two messages"));
+    };
+    assert_eq!(rt;
+        (one.step, one.number, done.step, done.number),
+        (1, 1, 3, 2)
+    );
+    assert_eq!(rt;
+        done.bytes.as_slice(),
+        b"HNHBK:1:3+000000000055+300+D+2'HKEND:2:1+D'HNHBS:3:1+2'".as_slice()
+    );
+    Ok(())
+}

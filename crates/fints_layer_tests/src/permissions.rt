@@ -1,0 +1,207 @@
+//! What a bank permits, and the judge of messages.
+use crate::samples::{C, C1, T};
+use fints_params::Params;
+use fints_rules::{
+    AccountForm, AccountKey, Broken, Demand, JudgeFault, Limits, OrderTable, Permissions, Permit,
+    Rule, judge, read_message,
+};
+use fints_syntax::Kind;
+use std::alloc::Global;
+use std::test::*;
+
+fn kind(text: &[u8]) -> Result<Kind, Fail> {
+    Ok(Kind::parse(text).ok_or("kind")?)
+}
+
+// The parameters of the capture and of more segments.
+fn params(alloc: Global, capture: &[u8], more: &[u8]) -> Result<Params, Fail> {
+    let mut whole = capture.to_vec(alloc)?;
+    whole.extend_from_slice(more)?;
+    Ok(Params::read(alloc, whole.as_slice())?)
+}
+
+#[test]
+fn limits(rt: HostRuntime) -> Result<(), Fail> {
+    let rows: [(&[u8], &[u8], &[u8], u16, Option<(u32, u32)>); 5] = [
+        (C, b"", b"HKKAZ", 5, Some((20, 1))),
+        (C, b"", b"HKSAL", 6, None),
+        (
+            C1,
+            b"HISALS:4:5+0+2'HISALS:5:5+3+1'",
+            b"HKSAL",
+            5,
+            Some((3, 2)),
+        ),
+        (
+            C1,
+            b"HISALS:4:5+5+0'HISALS:5:5+3+1'",
+            b"HKSAL",
+            5,
+            Some((3, 1)),
+        ),
+        (
+            C1,
+            b"HISALS:4:5+0+0'HISALS:5:5+0+0'",
+            b"HKSAL",
+            5,
+            Some((0, 0)),
+        ),
+    ];
+    let orders = OrderTable::read(rt.alloc(), T)?;
+    for (capture, more, order, version, wanted) in rows {
+        let params = params(rt.alloc(), capture, more)?;
+        let permissions = Permissions::build(rt.alloc(), &params, &orders)?;
+        let found = permissions.limits(kind(order)?, version);
+        match (found, wanted) {
+            (Some(Limits { orders, signatures }), Some(pair)) => {
+                assert_eq!(rt; (orders, signatures), pair, "{more:?}")
+            }
+            _ => assert!(rt; found.is_none() && wanted.is_none(), "{more:?}"),
+        }
+    }
+    Ok(())
+}
+
+// J holds where some pair says it, before or behind an N.
+#[test]
+fn demands(rt: HostRuntime) -> Result<(), Fail> {
+    let rows: [(&[u8], Demand); 4] = [
+        (b"HKSAL", Demand::No),
+        (b"HKCCS", Demand::Tan),
+        (b"HKKAZ", Demand::Tan),
+        (b"HKPAE", Demand::Unlisted),
+    ];
+    let orders = OrderTable::read(rt.alloc(), T)?;
+    let params = params(
+        rt.alloc(),
+        C1,
+        b"HIPINS:9:1+1+1+0+5:38:6:::HKKAZ:J:HKCCS:N'",
+    )?;
+    let permissions = Permissions::build(rt.alloc(), &params, &orders)?;
+    for (order, demand) in rows {
+        assert_eq!(rt; permissions.demand(kind(order)?), demand, "{order:?}");
+    }
+    assert_eq!(rt; permissions.bank().kinds, 1);
+    assert_eq!(rt;
+        permissions.form(kind(b"HKSAL")?, 7),
+        Some(AccountForm::International)
+    );
+    Ok(())
+}
+
+// A second row of the first account, that asks for no signature.
+const SECOND_ROW: &[u8] = b"HIUPD:13:6+1234567::280:10020030+DE111+cust+1+EUR+Name++Giro++HKSAL:0'";
+
+const FIRST: [&[u8]; 4] = [b"1234567", b"", b"280", b"10020030"];
+
+const OTHER: [&[u8]; 4] = [b"1234568", b"", b"280", b"10020030"];
+
+// An IBAN alone decides; without one, the national items do.
+const BOTH: [&[u8]; 6] = [b"DE222", b"", b"1234567", b"", b"280", b"10020030"];
+
+const NO_IBAN: [&[u8]; 6] = [b"", b"", b"1234567", b"", b"280", b"10020030"];
+
+const IBAN: [&[u8]; 1] = [b"DE222"];
+
+#[test]
+fn permits(rt: HostRuntime) -> Result<(), Fail> {
+    let national = AccountForm::National;
+    let international = AccountForm::International;
+    let open: &[u8] = b"HIUPA:10:4+user+3+1'";
+    let rows: [(&[u8], &[u8], &[u8], AccountForm, &[&[u8]], usize, Permit); 9] = [
+        (C, b"", b"HKSAL", national, &FIRST, 1, Permit::Allowed),
+        (
+            C,
+            b"",
+            b"HKSAL",
+            national,
+            &FIRST,
+            0,
+            Permit::MoreSignatures,
+        ),
+        (C, b"", b"HKSAL", national, &OTHER, 1, Permit::Refused),
+        (
+            C,
+            b"",
+            b"HKCCS",
+            international,
+            &IBAN,
+            1,
+            Permit::MoreSignatures,
+        ),
+        (
+            C,
+            b"",
+            b"HKCCS",
+            international,
+            &BOTH,
+            1,
+            Permit::MoreSignatures,
+        ),
+        (C, b"", b"HKCCS", international, &BOTH, 2, Permit::Allowed),
+        (
+            C,
+            b"",
+            b"HKCCS",
+            international,
+            &NO_IBAN,
+            1,
+            Permit::Allowed,
+        ),
+        // all rows of an account count
+        (
+            C,
+            SECOND_ROW,
+            b"HKSAL",
+            national,
+            &FIRST,
+            0,
+            Permit::Allowed,
+        ),
+        // what is not listed is left open where the bank says so
+        (C1, open, b"HKSAL", national, &FIRST, 0, Permit::Allowed),
+    ];
+    let orders = OrderTable::read(rt.alloc(), T)?;
+    for (capture, more, order, form, items, signatures, permit) in rows {
+        let params = params(rt.alloc(), capture, more)?;
+        let permissions = Permissions::build(rt.alloc(), &params, &orders)?;
+        let account = AccountKey::of(form, items);
+        let found = permissions.permit(kind(order)?, &account, signatures);
+        assert_eq!(rt; found, permit, "{order:?} of {items:?}");
+    }
+    Ok(())
+}
+
+const END_MESSAGE: &[u8] = b"HNHBK:1:3+000000000055+300+0+1'HKEND:2:1+0'HNHBS:3:1+1'";
+
+const UNSIGNED: &[u8] =
+    b"HNHBK:1:3+000000000077+300+D+1'HKSAL:2:5+1234567::280:10020030+N'HNHBS:3:1+1'";
+
+#[test]
+fn judged(rt: HostRuntime) -> Result<(), Fail> {
+    let alloc = rt.alloc();
+    let orders = OrderTable::read(alloc, T)?;
+    let params = Params::read(alloc, C1)?;
+    let permissions = Permissions::build(alloc, &params, &orders)?;
+    assert!(rt; judge(alloc, &permissions, END_MESSAGE)?.is_empty());
+    let broken = judge(alloc, &permissions, UNSIGNED)?;
+    let wanted = [
+        Broken {
+            rule: Rule::Version,
+            segment: 2,
+        },
+        Broken {
+            rule: Rule::Account,
+            segment: 2,
+        },
+    ];
+    assert_eq!(rt; broken.as_slice(), wanted.as_slice());
+    let none = JudgeFault::NotAMessage { offset: 0 };
+    assert_eq!(rt; judge(alloc, &permissions, b"x").err(), Some(none));
+    let message = read_message(alloc, END_MESSAGE)?;
+    assert_eq!(rt; (message.size(), message.number()), (55, 1));
+    assert_eq!(rt; message.protocol(), Some(300));
+    assert_eq!(rt; message.body().len(), 1);
+    assert_eq!(rt; message.ends().len(), 0);
+    Ok(())
+}

@@ -1,0 +1,107 @@
+//! Plans: what a script leaves open, where answers lead, and which values are admitted.
+use crate::samples::{FORK, T, values};
+use fints_params::Code;
+use fints_rules::OrderTable;
+use fints_script::{Pattern, PlanFault, Script, Target};
+use std::test::*;
+
+const OPEN_ACCOUNT: &[u8] = br#"
+field = [{name = "text", class = "text", min = 0, max = 9}]
+signer = [{name = "me", head = ["PIN"], end = ["1"]}]
+step = [{name = "bal", signers = ["me"], segments = [{kind = "HKSAL", version = 5, elements = ["$text", "N"]}]}]
+"#;
+
+const OPEN_PROCESS: &[u8] = br#"
+field = [{name = "tan", class = "digits", min = 0, max = 6}]
+signer = [{name = "me", head = ["PIN"], end = ["1"]}]
+step = [{name = "bal", signers = ["me"], segments = [{kind = "HKTAN", version = 6, elements = ["$tan"]}]}]
+"#;
+
+const CLOSED: &[u8] = br#"
+field = [{name = "acct", class = "account", values = [["DE111"], ["DE222"]]}, {name = "pin", class = "digits", min = 5, max = 6}]
+step = [{name = "bal", segments = [{kind = "HKCCS", version = 1, elements = ["$acct"]}, {kind = "HKTAN", version = 6, elements = ["4", "HKCCS"]}]}]
+"#;
+
+#[test]
+fn open_segments(rt: HostRuntime) -> Result<(), Fail> {
+    let (step, segment) = (1, 3);
+    let rows = [
+        (OPEN_ACCOUNT, Some(PlanFault::OpenAccount { step, segment })),
+        (OPEN_PROCESS, Some(PlanFault::OpenProcess { step, segment })),
+        (CLOSED, None),
+    ];
+    let orders = OrderTable::read(rt.alloc(), T)?;
+    for (text, fault) in rows {
+        let script = Script::read(rt.alloc(), text)?;
+        assert_eq!(rt; script.plan(&orders).err(), fault);
+    }
+    Ok(())
+}
+
+fn code(number: u16) -> Result<Code, Fail> {
+    Ok(Code::from_number(number).ok_or("code")?)
+}
+
+#[test]
+fn answers(rt: HostRuntime) -> Result<(), Fail> {
+    let script = Script::read(rt.alloc(), FORK)?;
+    let orders = OrderTable::read(rt.alloc(), T)?;
+    let plan = script.plan(&orders)?;
+    assert_eq!(rt; plan.step_count(), 3);
+    let one = plan.step(1);
+    assert_eq!(rt; one.choose(&[code(9010)?, code(20)?]), Target::Step(3));
+    assert_eq!(rt; one.choose(&[code(9010)?]), Target::Stop);
+    assert_eq!(rt; one.choose(&[]), Target::Stop);
+    assert_eq!(rt; one.branches().len(), 2);
+    assert_eq!(rt; one.opener(1), Some(code(0)?));
+    assert_eq!(rt; one.opener(2), None);
+    assert_eq!(rt; one.opener(3), Some(code(1000)?));
+    assert!(rt; plan.orders().same(&orders));
+    assert!(rt; plan.seal().is_none());
+    Ok(())
+}
+
+#[test]
+fn patterns(rt: HostRuntime) -> Result<(), Fail> {
+    let none: [&[u8]; 3] = [b"003", b"00300", b"003?"];
+    for text in none {
+        assert!(rt; Pattern::parse(text).is_none(), "{text:?}");
+    }
+    assert!(rt; Pattern::parse(b"0*30").is_some());
+    let wide = Pattern::parse(b"0**1").ok_or("pattern")?;
+    for (number, is_matched) in [(231, true), (230, false), (1231, false)] {
+        assert_eq!(rt; wide.matches(code(number)?), is_matched, "{number}");
+    }
+    Ok(())
+}
+
+// The values of `CLOSED`: in another order, one too few, and beyond their domains.
+#[test]
+fn admitted(rt: HostRuntime) -> Result<(), Fail> {
+    let dialog: (&[u8], &[u8]) = (b"dialog", b"A");
+    let pin: (&[u8], &[u8]) = (b"pin", b"12345");
+    let account: (&[u8], &[u8]) = (b"acct", b"DE222");
+    let rows: [(&[(&[u8], &[u8])], bool); 6] = [
+        (&[dialog, account, pin], true),
+        (&[dialog, account], false),
+        (&[dialog, pin, account], false),
+        (&[dialog, (b"acct", b"DE333"), pin], false),
+        (&[(b"dialog", b""), account, pin], false),
+        (
+            &[
+                (b"dialog", b"1234567890123456789012345678901"),
+                account,
+                pin,
+            ],
+            false,
+        ),
+    ];
+    let script = Script::read(rt.alloc(), CLOSED)?;
+    let orders = OrderTable::read(rt.alloc(), T)?;
+    let plan = script.plan(&orders)?;
+    for (pairs, is_admitted) in rows {
+        let chosen = values(rt.alloc(), pairs)?;
+        assert_eq!(rt; plan.admits(&chosen), is_admitted, "{pairs:?}");
+    }
+    Ok(())
+}

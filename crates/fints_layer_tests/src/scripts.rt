@@ -1,0 +1,217 @@
+//! What scripts hold, part by part.
+use crate::samples::{BALANCE, END, FORK, SEALED_END, SECOND_ACCOUNT};
+use fints_script::{
+    Field, FieldClass, NamedField, Pattern, Script, Step, Target, TemplateElements, TemplateItem,
+};
+use fints_syntax::OwnedItem;
+use std::alloc::Global;
+use std::test::*;
+
+// Elements as a text: `:` behind each item, and `+` behind each element. `dialog` stands in angle
+// brackets, a field by its place in brackets, a binary item behind `@`.
+fn push_elements(
+    alloc: Global,
+    out: &mut Vec<u8>,
+    elements: &TemplateElements,
+) -> Result<(), Fail> {
+    if !elements.as_slice().is_empty() {
+        out.push(b' ')?;
+    }
+    for items in elements.as_slice() {
+        for item in items.as_slice() {
+            match item {
+                TemplateItem::Dialog => out.extend_from_slice(b"<dialog>")?,
+                TemplateItem::Field(place) => {
+                    out.extend_from_slice(format!(in alloc; "[{place}]")?.as_bytes())?
+                }
+                TemplateItem::Literal(OwnedItem::Text(text)) => {
+                    out.extend_from_slice(text.as_slice())?
+                }
+                TemplateItem::Literal(OwnedItem::Bin(bytes)) => {
+                    out.push(b'@')?;
+                    out.extend_from_slice(bytes.as_slice())?;
+                }
+            }
+            out.push(b':')?;
+        }
+        out.push(b'+')?;
+    }
+    out.push(b'\n')?;
+    Ok(())
+}
+
+// A field by its name, and its bounds or its longest value.
+fn push_field(alloc: Global, out: &mut Vec<u8>, field: &NamedField) -> Result<(), Fail> {
+    out.extend_from_slice(b"field ")?;
+    out.extend_from_slice(field.name.as_bytes())?;
+    match &field.class {
+        Field::Text(class) => {
+            let (min, max) = (class.min, class.max);
+            out.extend_from_slice(format!(in alloc; " text {min} {max}")?.as_bytes())?
+        }
+        Field::Digits(class) => {
+            let (min, max) = (class.min, class.max);
+            out.extend_from_slice(format!(in alloc; " digits {min} {max}")?.as_bytes())?
+        }
+        class => {
+            out.extend_from_slice(b" longest ")?;
+            out.extend_from_slice(class.longest(alloc)?.as_slice())?;
+            for account in class.accounts() {
+                out.extend_from_slice(b" account ")?;
+                out.extend_from_slice(account.text())?;
+            }
+        }
+    }
+    out.push(b'\n')?;
+    Ok(())
+}
+
+fn push_step(alloc: Global, out: &mut Vec<u8>, step: &Step) -> Result<(), Fail> {
+    out.extend_from_slice(b"step ")?;
+    out.extend_from_slice(step.name().as_bytes())?;
+    let (sealed, signers) = (step.sealed(), step.signers());
+    let (repeat, otherwise) = (step.repeat(), step.otherwise());
+    out.extend_from_slice(format!(in alloc;
+        " sealed {sealed} signers {signers:?} repeat {repeat} default {otherwise:?}\n"
+    )?.as_bytes())?;
+    for branch in step.branches() {
+        let target = branch.to;
+        out.extend_from_slice(format!(in alloc; "branch {target:?}\n")?.as_bytes())?;
+    }
+    for template in step.templates() {
+        out.extend_from_slice(template.kind.as_bytes())?;
+        let version = template.version;
+        out.extend_from_slice(format!(in alloc; " {version}")?.as_bytes())?;
+        push_elements(alloc, out, &template.elements)?;
+    }
+    Ok(())
+}
+
+fn shown(alloc: Global, script: &Script) -> Result<Vec<u8>, Fail> {
+    let mut out = Vec::new(alloc);
+    for field in script.fields() {
+        push_field(alloc, &mut out, field)?;
+    }
+    for signer in script.signers() {
+        out.extend_from_slice(b"signer ")?;
+        out.extend_from_slice(signer.name.as_bytes())?;
+        out.extend_from_slice(b"\nhead")?;
+        push_elements(alloc, &mut out, &signer.head)?;
+        out.extend_from_slice(b"end")?;
+        push_elements(alloc, &mut out, &signer.end)?;
+    }
+    if let Some(seal) = script.seal() {
+        out.extend_from_slice(b"seal")?;
+        push_elements(alloc, &mut out, seal)?;
+    }
+    for step in script.steps() {
+        push_step(alloc, &mut out, step)?;
+    }
+    Ok(out)
+}
+
+const END_SHOWN: &[u8] = b"field dialog text 1 30
+step end sealed false signers [] repeat 1 default Stop
+HKEND 1 <dialog>:+
+";
+
+const SEALED_END_SHOWN: &[u8] = b"field dialog text 1 30
+seal PIN:1:+998:+1:+1::0:+1:20260101:120000:+2:2:13:@00000000:5:1:+280:10020030:user:V:0:0:+0:+
+step end sealed true signers [] repeat 1 default Stop
+HKEND 1 <dialog>:+
+";
+
+const FORK_SHOWN: &[u8] = b"field dialog text 1 30
+step one sealed false signers [] repeat 1 default Stop
+branch Step(3)
+branch Step(2)
+HKEND 1 <dialog>:+
+step bad sealed false signers [] repeat 1 default Stop
+HKKAZ 99
+step done sealed false signers [] repeat 1 default Stop
+HKEND 1 <dialog>:+
+";
+
+const BALANCE_SHOWN: &[u8] = b"field dialog text 1 30
+field pin digits 5 6
+field tan digits 0 6
+signer me
+head PIN:1:+999:+1:+1:+1:+1::0:+1:+1:20260101:120000:+1:999:1:+6:10:16:+280:10020030:user:S:0:0:+
+end 1:+:+[1]:[2]:+
+step bal sealed false signers [0] repeat 1 default Stop
+HKSAL 5 1234567::280:10020030:+N:+
+";
+
+const SECOND_ACCOUNT_SHOWN: &[u8] = b"field dialog text 1 30
+field pin digits 5 6
+field tan digits 0 6
+field acct longest DE111 account DE111 account DE222
+signer me
+head PIN:1:+999:+1:+1:+1:+1::0:+1:+1:20260101:120000:+1:999:1:+6:10:16:+280:10020030:user:S:0:0:+
+end 1:+:+[1]:[2]:+
+step bal sealed false signers [0] repeat 1 default Stop
+HKCCS 1 [3]:+
+HKTAN 6 4:+HKCCS:+
+";
+
+// Two signers, a step that they sign, with a branch that repeats it and one that stops, and a later
+// step.
+const RICH: &str =
+    r#"signer = [{name = "dialog", head = [], end = ["$dialog"]}, {name = "me", head = [], end = []}]
+field = [
+  {name = "umlaut", class = "oneof", values = ["a", "éé"]},
+  {name = "acct", class = "account", values = [["1234567", "", "280", "10020030"], ["DE111"]]},
+]
+step = [
+  {name = "a", segments = [{kind = "HK", version = 999, elements = ["é", ["=$x", "%", "==", "=", "%aF"], "", ["$dialog"]]}],
+    signers = ["me", "dialog", "me"], repeat = 99,
+    branches = [{on = "9***", to = "again"}, {on = "0***", to = "stop"}], default = "b"},
+  {name = "b", segments = [{kind = "DKX", version = 1}], sealed = false, repeat = 1, default = "again"}]"#;
+
+const RICH_SHOWN: &[u8] = b"field dialog text 1 30
+field umlaut longest \xe9\xe9
+field acct longest 1234567::280:10020030 account 1234567::280:10020030 account DE111
+signer dialog
+head
+end <dialog>:+
+signer me
+head
+end
+step a sealed false signers [1, 0, 1] repeat 99 default Step(2)
+branch Again
+branch Stop
+HK 999 \xe9:+$x:@:=::@\xaf:+:+<dialog>:+
+step b sealed false signers [] repeat 1 default Again
+DKX 1
+";
+
+#[test]
+fn parts(rt: HostRuntime) -> Result<(), Fail> {
+    let rows: [(&[u8], &[u8]); 6] = [
+        (END, END_SHOWN),
+        (SEALED_END, SEALED_END_SHOWN),
+        (FORK, FORK_SHOWN),
+        (BALANCE, BALANCE_SHOWN),
+        (SECOND_ACCOUNT, SECOND_ACCOUNT_SHOWN),
+        (RICH.as_bytes(), RICH_SHOWN),
+    ];
+    for (text, wanted) in rows {
+        let script = Script::read(rt.alloc(), text)?;
+        let found = shown(rt.alloc(), &script)?;
+        assert_eq!(rt; found.as_slice(), wanted);
+    }
+    Ok(())
+}
+
+#[test]
+fn patterns(rt: HostRuntime) -> Result<(), Fail> {
+    let script = Script::read(rt.alloc(), FORK)?;
+    let one = script.steps().first().ok_or("a step")?;
+    let [done, bad] = one.branches() else {
+        return Err(Fail::from("two branches"));
+    };
+    assert_eq!(rt; Some(done.on), Pattern::parse(b"0***"));
+    assert_eq!(rt; Some(bad.on), Pattern::parse(b"0030"));
+    assert_eq!(rt; (done.to, bad.to), (Target::Step(3), Target::Step(2)));
+    Ok(())
+}
