@@ -10,16 +10,12 @@ ghost use Rattle.fints_cli.specs.Commands.{failure_status, IsJudgeFailure, Shows
 ghost use Rattle.fints_cli.specs.declared.words.Asked.TheVariants as asked;
 
 use crate::built_in;
-use fints_thin::check_text;
 use crate::emitting::emit;
-use fints_texts::Fault;
-use fints_texts::judge_message;
 use crate::reading::{LoadFault, MAX_CALLS, load};
-use fints_texts::Reply;
-use fints_texts::run_case;
-use fints_texts::show;
 use crate::streams::{Files, Out};
 use crate::words::{Asked, Request, read_words};
+use fints_texts::{Fault, Reply, judge_message, run_case, show};
+use fints_thin::check_text;
 use std::alloc::Global;
 use thiserror::Error;
 

@@ -8,13 +8,13 @@ ghost use Rattle.fints_documents.specs.Document.{only_keys};
 ghost use Rattle.fints_documents.specs.Entries.{is_named};
 ghost use Rattle.fints_field_rows.specs.FieldFaults.{account_has, are_crossed, bounds_have, class_has, field_fault, field_has, field_keys, is_item_count, is_no_class, is_no_integer, is_past, is_taken, is_value_count, is_zero, items_have, lacks_keys, listed_have, same_text, same_texts, same_value, some_are_same, text_has, value_has, values_have};
 
-use fints_documents::entries::{has_key, some_is_named, text_at};
-use crate::names::is_no_name;
 use crate::fault::FaultKind;
 use crate::field_class::{ClassName, class_of};
 use crate::kinds::KINDS;
+use crate::names::is_no_name;
 use crate::text;
 use fints_documents::document::{member, only_keys};
+use fints_documents::entries::{has_key, some_is_named, text_at};
 use toml::{Table, Value};
 
 /// The greatest length of a field.

@@ -6,13 +6,13 @@ ghost use Rattle.fints_documents.specs.Entries.{text_at};
 ghost use Rattle.fints_field_rows.specs.FieldFaults.{class_of};
 ghost use Rattle.fints_field_rows.specs.FieldTables.{AreAccounts, AreBounds, AreTexts, HasBounds, HasClass, HasName, IsCleanClass, IsFaultless, IsFieldOf, IsNumber, account_value, listed, text_value};
 
-use fints_documents::entries::text_at;
 use crate::field_class::{ClassName, class_of};
 use crate::text;
+use fints_documents::document::{member, number_between};
+use fints_documents::entries::text_at;
 use fints_fields::{
     Account, AccountValue, Accounts, Bin, Digits, Field, Name, OneOf, Plain, Text, Texts,
 };
-use fints_documents::document::{member, number_between};
 use fints_syntax::{Bytes, Memory};
 use std::alloc::Global;
 use toml::{Table, Value};

@@ -14,5 +14,4 @@ pub fn one_message()
 /// The segments of a body are numbered on from the one behind the message's HNSHK.
 pub fn numbered_bodies()
     ensures { (bytes : List ℕ) (m : MessageView) → IsMessage bytes m → IsNumbered (2 + length m.ends) m.body }
-{
-}
+{}

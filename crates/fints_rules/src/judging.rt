@@ -4,13 +4,13 @@ ghost use Rattle.fints_rules.specs.Breaks.{IsJudged};
 ghost use Rattle.fints_rules.specs.Judging.{IsRising, AddsWhole, AddsSegments, AddsRule, Covers};
 ghost use Rattle.fints_messages.specs.Read.{IsRefusal};
 
-use fints_messages::laws::numbered_bodies;
-use fints_messages::{JudgeFault, read_message};
 use crate::permissions::Permissions;
 use crate::rule::{Broken, Rule};
 use crate::segments::breaks_at;
 use crate::tally::Tally;
 use crate::whole::breaks_whole;
+use fints_messages::laws::numbered_bodies;
+use fints_messages::{JudgeFault, read_message};
 use fints_syntax::Memory;
 use std::alloc::Global;
 

@@ -11,11 +11,11 @@ ghost use Rattle.fints_rules.specs.Breaks.{count_of, IsOrder, IsPlainOrder, IsRo
 use crate::account::AccountKey;
 use crate::kinds::{is_order, is_plain_order, own_version};
 use crate::limits::Demand;
-use fints_messages::Message;
 use crate::orders::AccountForm;
 use crate::permissions::{Permissions, Permit};
 use crate::rule::Rule;
 use crate::tally::{Tally, has_process};
+use fints_messages::Message;
 use fints_syntax::{Kind, OwnedSegment};
 
 // ---- P5 and P6

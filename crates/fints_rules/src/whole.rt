@@ -2,10 +2,10 @@
 ghost use Rattle.std.specs.Prelude.{◌≡◌, ◌↔◌, IsTrue, Any};
 ghost use Rattle.fints_rules.specs.Breaks.{BreaksProtocol, BreaksNumber, BreaksSize, BreaksKinds, BreaksWhole};
 
-use fints_messages::Message;
 use crate::permissions::Permissions;
 use crate::rule::Rule;
 use crate::tally::Tally;
+use fints_messages::Message;
 use fints_params::BankRow;
 
 // The greatest message number (FinTS 3.0, Formals, HNHBK).

@@ -6,15 +6,13 @@ ghost use Rattle.fints_documents.specs.Entries.{is_named};
 ghost use Rattle.fints_cases.specs.Patterns.{pattern_in};
 ghost use Rattle.fints_script.specs.Steps.{is_word, target_name_has, target_has, target_named, target_value, is_no_pattern, branch_keys_have, branch_has, pattern_of, branch_value, branch_of};
 
-use fints_cases::{Branch, Target};
-use fints_templates::is_wrong_kind;
-use fints_documents::entries::{has_key, text_at};
-use fints_field_rows::FaultKind;
-use fints_field_rows::NamedRows;
-use fints_cases::Pattern;
-use fints_documents::tables::is_no_text;
+use fints_cases::{Branch, Pattern, Target};
 use fints_documents::document;
+use fints_documents::entries::{has_key, text_at};
+use fints_documents::tables::is_no_text;
+use fints_field_rows::{FaultKind, NamedRows};
 use fints_syntax::Memory;
+use fints_templates::is_wrong_kind;
 use std::alloc::Global;
 use toml::{Table, Value};
 

@@ -6,12 +6,9 @@ ghost use Rattle.fints_script.specs.RowFaults.{RefusesRow};
 ghost use Rattle.fints_script.specs.Scripts.{look_at_field, AreFields, IsDialogField};
 ghost use Rattle.fints_field_rows.specs.declared.fault.Place.TheVariants as places;
 
-use fints_field_rows::{Place, ScriptFault};
-use fints_field_rows::field_fault;
-use fints_field_rows::field_of;
-use fints_field_rows::{Fields, NamedField};
 use crate::rows::placed;
 use fints_field_rows::names::dialog;
+use fints_field_rows::{Fields, NamedField, Place, ScriptFault, field_fault, field_of};
 use fints_fields::{Field, Text};
 use std::alloc::Global;
 use toml::Value;

@@ -10,12 +10,11 @@ ghost use Rattle.fints_script.specs.RowFaults.{placed, RefusesRow};
 ghost use Rattle.fints_field_rows.specs.declared.fault.Place.TheVariants as places;
 
 use crate::around::Around;
-use fints_field_rows::{FaultKind, Place, ScriptFault};
-use fints_field_rows::Fields;
-use fints_templates::signers::read_signer;
 use crate::steps::{Step, read_step};
-use fints_templates::Signer;
+use fints_field_rows::{FaultKind, Fields, Place, ScriptFault};
 use fints_syntax::Memory;
+use fints_templates::Signer;
+use fints_templates::signers::read_signer;
 use std::alloc::Global;
 use toml::Value;
 

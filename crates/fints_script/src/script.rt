@@ -12,19 +12,16 @@ ghost use Rattle.fints_script.specs.Scripts.{ScriptValue, top_has, top_fault, ro
 ghost use Rattle.fints_templates.specs.Signers.{signer_of, seal_fault, seal_value};
 
 use crate::around::Around;
-use fints_documents::entries::has_key;
-use fints_field_rows::{FaultKind, Place, ScriptFault};
 use crate::field_rows::read_fields;
-use fints_field_rows::{Fields, NamedField};
-use fints_field_rows::KINDS;
-use fints_field_rows::NamedRows;
 use crate::rows::{placed, read_signers, read_steps};
-use fints_templates::signers::read_seal;
 use crate::steps::Step;
-use fints_documents::tables::{is_no_array, is_no_list, rows_of};
-use fints_templates::{Signer, TemplateElements};
-use fints_templates::weights::all_figures;
 use fints_documents::document::{self, MAX_TEXT, Unread};
+use fints_documents::entries::has_key;
+use fints_documents::tables::{is_no_array, is_no_list, rows_of};
+use fints_field_rows::{FaultKind, Fields, KINDS, NamedField, NamedRows, Place, ScriptFault};
+use fints_templates::signers::read_seal;
+use fints_templates::weights::all_figures;
+use fints_templates::{Signer, TemplateElements};
 use std::alloc::Global;
 use std::marker::Model;
 use toml::{Table, Value};

@@ -11,15 +11,15 @@ ghost use Rattle.fints_script.specs.Around.{surroundings_of};
 
 use crate::around::Around;
 use crate::branches::{is_word, some_branch_has, target_has};
-use fints_documents::entries::{has_key, text_at};
-use fints_field_rows::names::is_no_name;
-use fints_field_rows::FaultKind;
-use fints_field_rows::KINDS;
-use fints_field_rows::NamedRows;
-use fints_templates::segments::some_segment_has;
-use fints_documents::tables::{is_no_array, is_no_flag, is_no_integer, is_no_list, is_outside, is_set, rows_of};
-use fints_templates::Signer;
 use fints_documents::document;
+use fints_documents::entries::{has_key, text_at};
+use fints_documents::tables::{
+    is_no_array, is_no_flag, is_no_integer, is_no_list, is_outside, is_set, rows_of,
+};
+use fints_field_rows::names::is_no_name;
+use fints_field_rows::{FaultKind, KINDS, NamedRows};
+use fints_templates::Signer;
+use fints_templates::segments::some_segment_has;
 use toml::{Table, Value};
 
 fn is_signer(signer: &Signer, name: &str) -> bool

@@ -8,21 +8,21 @@ ghost use Rattle.fints_templates.specs.Weights.{Spends, total, segment_weight, i
 ghost use Rattle.fints_script.specs.Steps.{signature_value, step_value, seal_weight, signature_weight, step_weight, has_large_segment, is_too_large, step_keys_fault, step_fault, step_of};
 ghost use Rattle.fints_script.specs.Around.{surroundings_of};
 
-use fints_cases::{Branch, Target, choose, opener};
 use crate::around::Around;
 use crate::branches::{branches_of, target_value};
-use fints_documents::entries::text_at;
-use fints_field_rows::FaultKind;
-use fints_templates::segments::templates_of;
 use crate::step_faults::{first_kind, place_of_signer};
+use fints_cases::{Branch, Target, choose, opener};
+use fints_documents::document;
+use fints_documents::entries::text_at;
 use fints_documents::tables::{is_set, number_or, rows_of};
+use fints_field_rows::FaultKind;
 use fints_field_rows::names::name_value;
-use fints_templates::{Signer, Template, TemplateElements};
-use fints_templates::weights::{Figures, has_too_many_items, spend_segment, spend_signer};
 use fints_fields::Name;
 use fints_params::Code;
-use fints_documents::document;
 use fints_syntax::Memory;
+use fints_templates::segments::templates_of;
+use fints_templates::weights::{Figures, has_too_many_items, spend_segment, spend_signer};
+use fints_templates::{Signer, Template, TemplateElements};
 use std::alloc::Global;
 use std::marker::Model;
 use toml::{Table, Value};

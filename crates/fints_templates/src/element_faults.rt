@@ -6,10 +6,9 @@ ghost use Rattle.hex.specs.Hex.{is_hex_digit};
 ghost use Rattle.fints_templates.specs.ItemTexts.{read_as};
 ghost use Rattle.fints_templates.specs.Elements.{is_hex, reading_has, is_wrong_kind, item_has, items_have, element_has, elements_have};
 
-use fints_field_rows::FaultKind;
-use fints_field_rows::Fields;
 use crate::item_text::{ItemText, item_text};
 use fints_field_rows::text::is_latin1;
+use fints_field_rows::{FaultKind, Fields};
 use toml::Value;
 
 fn is_hex_digit(b: u8) -> bool

@@ -5,9 +5,9 @@ ghost use Rattle.hex.specs.Hex.{decode_of};
 ghost use Rattle.fints_templates.specs.ItemTexts.{read_as};
 ghost use Rattle.fints_templates.specs.Elements.{bytes_or_none, reference_value, reading_value, item_value, element_value, elements_value};
 
-use fints_field_rows::Fields;
 use crate::item_text::{ItemText, item_text};
 use crate::template::{TemplateElements, TemplateItem};
+use fints_field_rows::Fields;
 use fints_field_rows::text::latin1;
 use fints_syntax::{Bytes, Memory, OwnedItem};
 use hex::FromHexError;

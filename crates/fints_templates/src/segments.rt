@@ -7,12 +7,11 @@ ghost use Rattle.fints_templates.specs.Segments.{frame_kinds, is_body_kind, is_n
 
 use crate::element_faults::{elements_have, is_wrong_kind};
 use crate::element_values::elements_value;
-use fints_documents::entries::{has_key, text_at};
-use fints_field_rows::FaultKind;
-use fints_field_rows::Fields;
-use fints_documents::tables::{is_no_integer, is_outside, number_or};
 use crate::template::{Template, TemplateElements};
 use fints_documents::document;
+use fints_documents::entries::{has_key, text_at};
+use fints_documents::tables::{is_no_integer, is_outside, number_or};
+use fints_field_rows::{FaultKind, Fields};
 use fints_syntax::{Kind, Memory};
 use std::alloc::Global;
 use toml::{Table, Value};

@@ -8,15 +8,12 @@ ghost use Rattle.fints_templates.specs.Signers.{is_taken, ends_have, lacks_keys,
 
 use crate::element_faults::elements_have;
 use crate::element_values::elements_value;
-use fints_documents::entries::{has_key, some_is_named, text_at};
-use fints_field_rows::names::is_no_name;
-use fints_field_rows::FaultKind;
-use fints_field_rows::Fields;
-use fints_field_rows::KINDS;
-use fints_field_rows::names::name_value;
 use crate::template::{Signer, TemplateElements};
 use crate::weights::has_many_items;
 use fints_documents::document;
+use fints_documents::entries::{has_key, some_is_named, text_at};
+use fints_field_rows::names::{is_no_name, name_value};
+use fints_field_rows::{FaultKind, Fields, KINDS};
 use fints_syntax::Memory;
 use std::alloc::Global;
 use toml::{Table, Value};

@@ -4,8 +4,8 @@ ghost use Rattle.std.specs.Fmt.{decimal};
 ghost use Rattle.fints_templates.specs.Weights.{Spends, total, item_weight, element_weight, segment_weight, signer_weight, item_count, element_count, items_in, no_figures, MAX_ITEMS};
 ghost use Rattle.fints_templates.specs.Figures.{figures_of};
 
-use fints_field_rows::NamedField;
 use crate::template::{Signer, TemplateElements, TemplateItem};
+use fints_field_rows::NamedField;
 use fints_fields::FieldClass;
 use fints_syntax::{Memory, OwnedItem, decimal_len, written_len};
 use std::alloc::Global;

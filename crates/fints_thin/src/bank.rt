@@ -4,8 +4,8 @@ ghost use Rattle.fints_syntax.specs.declared.item.Head.{Head};
 ghost use Rattle.fints_syntax.specs.declared.item.OwnedSegment.{OwnedSegment};
 ghost use Rattle.fints_thin.specs.Bank.{element_at, first_value, is_number, is_empty_or_number, are_versions, has_good_elements, is_head, is_plain_pair, IsPairCapture, IsPlainCapture};
 
-use fints_texts::Fault;
 use fints_syntax::{Head, OwnedItem, OwnedSegment, SyntaxKind, laws, parse_all, parse_number};
+use fints_texts::Fault;
 use std::alloc::Global;
 
 /// The items of an element, counted from 1 with the head. An absent element has none.

@@ -5,11 +5,11 @@ ghost use Rattle.fints_thin.specs.Script.{PlainStep};
 ghost use Rattle.fints_thin.specs.Thin.{IsThin, IsReportOf};
 
 use crate::bank::read_bank;
-use fints_texts::Fault;
 use crate::message::message_size;
 use crate::report::{Figures, StepLine, report};
 use crate::rules::findings;
 use crate::script::read_step;
+use fints_texts::Fault;
 use std::alloc::Global;
 
 /// The report of a script for a bank's capture. The order table isn't looked at yet.

@@ -7,9 +7,9 @@ ghost use Rattle.fints_texts.specs.Fault.{Gives};
 ghost use Rattle.fints_thin.specs.Script.{is_name_byte, is_target_word, is_step_name, step_name, is_marked, is_text_byte, is_dialog, is_element_text, element_text, is_element, are_elements, element_items, elements_of, is_plain_kind, head_of, segment_of, step_of, script_of, plain_script, plain_step};
 
 use crate::document::{natural, read, table_at, values_at};
-use fints_texts::Fault;
 use fints_documents::document::{member, only_keys};
 use fints_syntax::{Bytes, Elements, Head, Kind, Memory, OwnedItem, OwnedSegment};
+use fints_texts::Fault;
 use std::alloc::Global;
 use toml::{Table, Value};
 
