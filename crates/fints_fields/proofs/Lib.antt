@@ -3,3 +3,5 @@ pub mod Picks
 pub mod ListedSteps
 pub mod Greatest
 pub mod FirstOf
+pub mod Telling
+pub mod Domains

@@ -49,7 +49,7 @@ unit_len b =
 text_len-cons : (b : ℕ) (bs : List ℕ) → text_len (b ∷ bs) ≡ length (unit_bytes (written_unit b)) + text_len bs
 text_len-cons b bs = length-append (unit_bytes (written_unit b)) (text_bytes (map written_unit bs))
 
-text_len-low : (v : List ℕ) → length v ≤ text_len v
+pub text_len-low : (v : List ℕ) → length v ≤ text_len v
 text_len-low [] = omega arith
 text_len-low (b ∷ bs) = let u = unit_len b in let e = text_len-cons b bs in let ih = text_len-low bs in omega arith
 

@@ -1,5 +1,5 @@
 -- What a field admits and how it is written, by its class.
-use Rattle.std.specs.Prelude.{ℕ, List, [], length, map, replicate}
+use Rattle.std.specs.Prelude.{◌≡◌, ℕ, List, [], length, map, replicate, slice_get, Some}
 use Rattle.fints_syntax.specs.declared.item.OwnedItem.{OwnedItem}
 use Rattle.fints_fields.specs.Classes.{Counts, IsByte, IsDigit, IsLatin, IsPlain, as_binary, as_text}
 use Rattle.fints_fields.specs.Lengths.{binary_len, text_len}
@@ -61,3 +61,9 @@ field_most_items _ = 1
 abbrev pub field_accounts : Field → List (List (List ℕ))
 field_accounts (Account c) = c.values
 field_accounts _ = []
+
+-- the value of a field stands as the items of the account that is listed at this place, counted from 0, and is their text
+pub record IsListedAt (f : Field) (v : List ℕ) (place : ℕ) (account : List (List ℕ)) : Type 0 where
+  pub listed : slice_get (field_accounts f) place ≡ Some account
+  pub text : account_text account ≡ v
+  pub items : field_items f v ≡ account_items account

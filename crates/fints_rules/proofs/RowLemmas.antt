@@ -6,12 +6,13 @@ use Rattle.std.specs.Cmp.{unsigned_Decides}
 use Rattle.std.proofs.lemmas.Bool.Decides.{Decides-and}
 use Rattle.std.proofs.lemmas.List.Elements.{All-contains}
 use Rattle.std.proofs.lemmas.Slice.Eq.{bytes_eq-Decides}
-use Rattle.fints_syntax.specs.declared.item.OwnedSegment.{OwnedSegment}
 use Rattle.fints_params.specs.Parameters.{Rows}
 use Rattle.fints_params.specs.declared.rows.OrderParam.{OrderParam}
 use Rattle.fints_rules.specs.declared.limits.Limits.{Limits}
 use Rattle.fints_rules.specs.Permits.{is_param_of, params_of, LimitsAre, IsLimits}
-use Rattle.fints_rules.specs.Breaks.{own_version, IsRowFor, BreaksVersion}
+use Rattle.fints_rules.specs.Kinds.{own_version}
+use Rattle.fints_rules.specs.Rules.{IsRowFor, BreaksVersion}
+use Rattle.fints_rules.specs.SegmentFacts.{SegmentFactsValue}
 
 -- ---- some element
 
@@ -54,32 +55,32 @@ any_weaker P Q f xs (k, y, lt, at, h) = (k, y, lt, at, f y h)
 
 -- ---- the rows for a segment
 
-row_decides : (s : OwnedSegment) (row : OrderParam) → Decides (is_param_of s.head.id s.head.version row) (IsRowFor s row)
-row_decides s row = Decides-and _ _ (bytes_eq-Decides row.kind s.head.id) (unsigned_Decides row.version s.head.version)
+row_decides : (s : SegmentFactsValue) (row : OrderParam) → Decides (is_param_of s.kind s.version row) (IsRowFor s row)
+row_decides s row = Decides-and _ _ (bytes_eq-Decides row.kind s.kind) (unsigned_Decides row.version s.version)
 
-abbrev rows_for : OwnedSegment → List OrderParam → List OrderParam
-rows_for s rows = params_of s.head.id s.head.version rows
+abbrev rows_for : SegmentFactsValue → List OrderParam → List OrderParam
+rows_for s rows = params_of s.kind s.version rows
 
 -- some row of the list of its kind and version is some row for the segment
-pub row_among : (s : OwnedSegment) (P : OrderParam → Type 0) (rows : List OrderParam) → Any P (rows_for s rows) → Any (λ row. IsRowFor s row × P row) rows
+pub row_among : (s : SegmentFactsValue) (P : OrderParam → Type 0) (rows : List OrderParam) → Any P (rows_for s rows) → Any (λ row. IsRowFor s row × P row) rows
 row_among s P rows any =
-    any_weaker (Passes (is_param_of s.head.id s.head.version) P) (λ row. IsRowFor s row × P row) (λ row h. ((row_decides s row).0 h.0, h.1)) rows (any_filtered (is_param_of s.head.id s.head.version) P rows any)
+    any_weaker (Passes (is_param_of s.kind s.version) P) (λ row. IsRowFor s row × P row) (λ row h. ((row_decides s row).0 h.0, h.1)) rows (any_filtered (is_param_of s.kind s.version) P rows any)
 
-pub row_for : (s : OwnedSegment) (P : OrderParam → Type 0) (rows : List OrderParam) → Any (λ row. IsRowFor s row × P row) rows → Any P (rows_for s rows)
+pub row_for : (s : SegmentFactsValue) (P : OrderParam → Type 0) (rows : List OrderParam) → Any (λ row. IsRowFor s row × P row) rows → Any P (rows_for s rows)
 row_for s P rows any =
-    any_passing (is_param_of s.head.id s.head.version) P rows (any_weaker (λ row. IsRowFor s row × P row) (Passes (is_param_of s.head.id s.head.version) P) (λ row h. ((row_decides s row).1 h.0, h.1)) rows any)
+    any_passing (is_param_of s.kind s.version) P rows (any_weaker (λ row. IsRowFor s row × P row) (Passes (is_param_of s.kind s.version) P) (λ row h. ((row_decides s row).1 h.0, h.1)) rows any)
 
 -- P5 of an order
-pub none_among : (s : OwnedSegment) (rows : List OrderParam) → rows_for s rows ≡ [] → Any (IsRowFor s) rows → ⊥
+pub none_among : (s : SegmentFactsValue) (rows : List OrderParam) → rows_for s rows ≡ [] → Any (IsRowFor s) rows → ⊥
 none_among s rows none any =
     let found = row_for s (λ row. Unit {0}) rows (any_weaker (IsRowFor s) (λ row. IsRowFor s row × Unit {0}) (λ row h. (h, tt)) rows any) in
     let lt = found.2 in
     omega (arith, ap length none)
 
-some_among : (s : OwnedSegment) (rows : List OrderParam) (l : Limits) → IsLimits (rows_for s rows) l → Any (IsRowFor s) rows
+some_among : (s : SegmentFactsValue) (rows : List OrderParam) (l : Limits) → IsLimits (rows_for s rows) l → Any (IsRowFor s) rows
 some_among s rows l h = any_weaker (λ row. IsRowFor s row × (row.signatures ≡ l.signatures)) (IsRowFor s) (λ row g. g.0) rows (row_among s (λ row. row.signatures ≡ l.signatures) rows h.signatures.some)
 
-pub version_of_order : (rows : Rows) (s : OwnedSegment) (limits : Option Limits) (r : Bool) → None ≡ own_version s.head.id → LimitsAre (rows_for s rows.orders) limits → is_some limits ≡ not r → IsTrue r ↔ BreaksVersion rows s
+pub version_of_order : (rows : Rows) (s : SegmentFactsValue) (limits : Option Limits) (r : Bool) → None ≡ own_version s.kind → LimitsAre (rows_for s rows.orders) limits → is_some limits ≡ not r → IsTrue r ↔ BreaksVersion rows s
 version_of_order rows s None true own h is = (λ _. inr (ap (λ o. not (is_some o)) (sym own), none_among s rows.orders h), λ _. refl)
 version_of_order rows s None false own h is = cc
 version_of_order rows s (Some l) true own h is = cc
@@ -92,13 +93,13 @@ version_of_order rows s (Some l) false own h is = (
 )
 
 -- P6
-abbrev AllowsFewer : OwnedSegment → ℕ → OrderParam → Type 0
+abbrev AllowsFewer : SegmentFactsValue → ℕ → OrderParam → Type 0
 AllowsFewer s n row = IsRowFor s row × (row.orders ≢ 0) × (row.orders < n)
 
-pub no_row_allows : (s : OwnedSegment) (rows : List OrderParam) (n : ℕ) → rows_for s rows ≡ [] → Any (AllowsFewer s n) rows → ⊥
+pub no_row_allows : (s : SegmentFactsValue) (rows : List OrderParam) (n : ℕ) → rows_for s rows ≡ [] → Any (AllowsFewer s n) rows → ⊥
 no_row_allows s rows n none any = none_among s rows none (any_weaker (AllowsFewer s n) (IsRowFor s) (λ row h. h.0) rows any)
 
-pub limit_allows : (s : OwnedSegment) (rows : List OrderParam) (n : ℕ) (l : Limits) → IsLimits (rows_for s rows) l → (l.orders ≢ 0) × (l.orders < n) ↔ Any (AllowsFewer s n) rows
+pub limit_allows : (s : SegmentFactsValue) (rows : List OrderParam) (n : ℕ) (l : Limits) → IsLimits (rows_for s rows) l → (l.orders ≢ 0) × (l.orders < n) ↔ Any (AllowsFewer s n) rows
 limit_allows s rows n l h = (
   λ (ne, lt).
       any_weaker (λ row. IsRowFor s row × (row.orders ≡ l.orders)) (AllowsFewer s n) (λ row g. let is = g.1 in (g.0, λ e. ne (sym is ∙ e), omega arith)) rows
@@ -111,13 +112,13 @@ limit_allows s rows n l h = (
 )
 
 -- P8, first half
-abbrev NeedsMore : OwnedSegment → ℕ → OrderParam → Type 0
+abbrev NeedsMore : SegmentFactsValue → ℕ → OrderParam → Type 0
 NeedsMore s k row = IsRowFor s row × (k < row.signatures)
 
-pub no_row_needs : (s : OwnedSegment) (rows : List OrderParam) (k : ℕ) → rows_for s rows ≡ [] → Any (NeedsMore s k) rows → ⊥
+pub no_row_needs : (s : SegmentFactsValue) (rows : List OrderParam) (k : ℕ) → rows_for s rows ≡ [] → Any (NeedsMore s k) rows → ⊥
 no_row_needs s rows k none any = none_among s rows none (any_weaker (NeedsMore s k) (IsRowFor s) (λ row h. h.0) rows any)
 
-pub limit_needs : (s : OwnedSegment) (rows : List OrderParam) (n : ℕ) (l : Limits) → IsLimits (rows_for s rows) l → (n < l.signatures) ↔ Any (NeedsMore s n) rows
+pub limit_needs : (s : SegmentFactsValue) (rows : List OrderParam) (n : ℕ) (l : Limits) → IsLimits (rows_for s rows) l → (n < l.signatures) ↔ Any (NeedsMore s n) rows
 limit_needs s rows n l h = (
   λ lt.
       any_weaker (λ row. IsRowFor s row × (row.signatures ≡ l.signatures)) (NeedsMore s n) (λ row g. let is = g.1 in (g.0, omega arith)) rows (row_among s (λ row. row.signatures ≡ l.signatures) rows h.signatures.some),

@@ -9,7 +9,8 @@ use Rattle.std.proofs.lemmas.List.Sums.{count_by_more_no, count_by_more_yes, sum
 use Rattle.std.proofs.lemmas.Bool.Decides.{nat_tests, same_from_decides}
 use Rattle.std.proofs.lemmas.Slice.Eq.{bytes_eq-Decides}
 use Rattle.fints_syntax.specs.declared.item.OwnedSegment.{OwnedSegment}
-use Rattle.fints_rules.specs.Breaks.{is_plain_order, plain_kinds, count_of}
+use Rattle.fints_rules.specs.Kinds.{is_plain_order}
+use Rattle.fints_rules.specs.Facts.{plain_kinds, count_of}
 
 pub contains_any : (xs : List ℕ) (n : ℕ) → Any (λ m. m ≡ n) xs → Contains xs n
 contains_any xs n (k, x, lt, at, e) = (k, lt, get_or_default xs k n x lt ∙ at ∙ e)

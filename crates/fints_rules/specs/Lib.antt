@@ -6,6 +6,10 @@ pub mod OrderFaults
 pub mod Permits
 pub mod LimitMaps
 pub mod RuleNames
+pub mod Kinds
+pub mod SegmentFacts
+pub mod Rules
+pub mod Facts
 pub mod Breaks
 pub mod AccountTests
 pub mod Judging

@@ -1,7 +1,7 @@
 -- How many segments of a body have each kind.
 use Rattle.std.specs.Prelude.{◌≡◌, ℕ, List, Option, unwrap_or}
 use Rattle.fints_syntax.specs.declared.item.OwnedSegment.{OwnedSegment}
-use Rattle.fints_rules.specs.Breaks.{count_of}
+use Rattle.fints_rules.specs.Facts.{count_of}
 
 -- the map has at each kind how many segments have it; nothing stands for 0
 abbrev pub HoldsCounts : List OwnedSegment → (List ℕ → Option ℕ) → Type 0

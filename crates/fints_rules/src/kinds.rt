@@ -1,6 +1,6 @@
 //! Administrative segments, orders, and HKTAN.
 ghost use Rattle.std.specs.Prelude.{◌≡◌};
-ghost use Rattle.fints_rules.specs.Breaks.{own_version, is_order, is_tan_order, is_plain_order};
+ghost use Rattle.fints_rules.specs.Kinds.{own_version, is_order, is_tan_order, is_plain_order};
 
 use fints_messages::is_kind;
 use fints_syntax::Kind;

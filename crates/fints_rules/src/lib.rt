@@ -2,8 +2,9 @@
 #![tactic(auto)]
 
 mod account;
+mod facts;
 mod judging;
-mod kinds;
+pub mod kinds;
 mod limits;
 mod orders;
 mod permissions;
@@ -13,9 +14,12 @@ mod tally;
 mod whole;
 
 pub use account::AccountKey;
+pub use facts::{MessageFacts, SegmentFacts};
 pub use fints_messages::{JudgeFault, Message, laws, read_message};
 pub use judging::judge;
 pub use limits::{Demand, Limits, OrderKey};
 pub use orders::{AccountForm, OrderRow, OrderTable, TableFault};
 pub use permissions::{Permissions, Permit};
 pub use rule::{Broken, Rule};
+pub use segments::segment_breaks;
+pub use whole::message_breaks;

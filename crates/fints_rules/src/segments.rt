@@ -1,32 +1,30 @@
-//! The rules of a segment of the body, P5 to P10.
-ghost use Rattle.std.specs.Prelude.{codes, ◌≡◌, ◌≢◌, ◌<◌, ◌↔◌, ◌⊎◌, IsTrue, length, Any};
-ghost use Rattle.std.specs.Str.{bytes_eq};
-ghost use Rattle.fints_syntax.specs.Values.{values_at};
+//! The rules of a segment of the body, P5 to P10, over its facts and those of the message.
+ghost use Rattle.std.specs.Prelude.{◌≡◌, ◌≢◌, ◌<◌, ◌↔◌, ◌⊎◌, IsTrue, Any};
 ghost use Rattle.fints_rules.specs.Accounts.{account_of, Account};
 ghost use Rattle.fints_rules.specs.AccountTests.{AccountPermitIs};
-ghost use Rattle.fints_rules.specs.Orders.{form_of};
 ghost use Rattle.fints_rules.specs.Permits.{IsListed, IsListedWithTan, AllNeedMore, IsLocked};
-ghost use Rattle.fints_rules.specs.Breaks.{count_of, IsOrder, IsPlainOrder, IsRowFor, HasProcess, HasTan, CarriesTan, NamesAccount, BreaksVersion, BreaksOrders, BreaksListed, BreaksSignatures, BreaksAccount, BreaksTan, BreaksAt};
+ghost use Rattle.fints_rules.specs.Breaks.{BreaksAt};
+ghost use Rattle.fints_rules.specs.Rules.{IsRowFor, NamesAccount, CarriesTan, SendsTan, BreaksVersion, BreaksOrders, BreaksListed, BreaksSignatures, BreaksAccount, BreaksTan, SegmentBreaks};
 
 use crate::account::AccountKey;
-use crate::kinds::{is_order, is_plain_order, own_version};
+use crate::facts::{MessageFacts, SegmentFacts};
+use crate::kinds::{is_order, is_plain_order, is_tan_order, own_version};
 use crate::limits::Demand;
 use crate::orders::AccountForm;
 use crate::permissions::{Permissions, Permit};
 use crate::rule::Rule;
-use crate::tally::{Tally, has_process};
-use fints_messages::Message;
+use crate::tally::Tally;
 use fints_syntax::{Kind, OwnedSegment};
 
 // ---- P5 and P6
 
-fn breaks_version(permissions: &Permissions<'_>, segment: &OwnedSegment) -> bool
+fn breaks_version(permissions: &Permissions<'_>, segment: &SegmentFacts<'_>) -> bool
     ensures { IsTrue result ↔ BreaksVersion permissions.now.rows segment.now }
 {
-    let head = segment.head;
-    match own_version(head.id) {
-        Some(version) => head.version != version,
-        None => permissions.limits(head.id, head.version).is_none(),
+    let kind = segment.kind();
+    match own_version(kind) {
+        Some(version) => segment.version() != version,
+        None => permissions.limits(kind, segment.version()).is_none(),
     }
 }
 
@@ -37,23 +35,19 @@ fn exceeds(limit: u32, count: usize) -> bool
 }
 
 // Whether some row of the order's kind and version allows fewer orders.
-fn row_allows_fewer(permissions: &Permissions<'_>, segment: &OwnedSegment, count: usize) -> bool
-    ensures { IsTrue result ↔ Any (λ row. IsRowFor segment.now row × (row.orders ≢ 0) × (row.orders < count)) permissions.now.rows.orders }
+fn row_allows_fewer(permissions: &Permissions<'_>, segment: &SegmentFacts<'_>) -> bool
+    ensures { IsTrue result ↔ Any (λ row. IsRowFor segment.now row × (row.orders ≢ 0) × (row.orders < segment.now.count)) permissions.now.rows.orders }
 {
-    match permissions.limits(segment.head.id, segment.head.version) {
+    match permissions.limits(segment.kind(), segment.version()) {
         None => false,
-        Some(limits) => exceeds(limits.orders, count),
+        Some(limits) => exceeds(limits.orders, segment.count()),
     }
 }
 
-fn breaks_orders(permissions: &Permissions<'_>, tally: &Tally<'_>, segment: &OwnedSegment) -> bool
-    ensures { IsTrue result ↔ BreaksOrders permissions.now.rows tally.now segment.now }
+fn breaks_orders(permissions: &Permissions<'_>, segment: &SegmentFacts<'_>) -> bool
+    ensures { IsTrue result ↔ BreaksOrders permissions.now.rows segment.now }
 {
-    let kind = segment.head.id;
-    if !is_order(kind) {
-        return false;
-    }
-    row_allows_fewer(permissions, segment, tally.count(kind))
+    is_order(segment.kind()) && row_allows_fewer(permissions, segment)
 }
 
 // ---- P7
@@ -68,10 +62,10 @@ fn is_listed(permissions: &Permissions<'_>, kind: Kind) -> bool
     }
 }
 
-fn breaks_listed(permissions: &Permissions<'_>, segment: &OwnedSegment) -> bool
+fn breaks_listed(permissions: &Permissions<'_>, segment: &SegmentFacts<'_>) -> bool
     ensures { IsTrue result ↔ BreaksListed permissions.now.rows segment.now }
 {
-    let kind = segment.head.id;
+    let kind = segment.kind();
     if !is_plain_order(kind) {
         return false;
     }
@@ -81,44 +75,39 @@ fn breaks_listed(permissions: &Permissions<'_>, segment: &OwnedSegment) -> bool
 // ---- P8 and P9
 
 // The account that element 2 names in this form.
-fn account_key(form: AccountForm, segment: &OwnedSegment) -> AccountKey<'_>
-    ensures { result ≡ account_of form (values_at segment.now 2) }
+fn account_key<'a>(form: AccountForm, segment: &SegmentFacts<'a>) -> AccountKey<'a>
+    ensures { result ≡ account_of form segment.now.items }
 {
-    let items = [
-        segment.value(2, 1),
-        segment.value(2, 2),
-        segment.value(2, 3),
-        segment.value(2, 4),
-        segment.value(2, 5),
-        segment.value(2, 6),
-    ];
-    AccountKey::of(form, &items)
+    AccountKey::of(form, segment.items())
 }
 
 // Whether its account permits the order, where it names one.
 fn account_permit(
     permissions: &Permissions<'_>,
-    message: &Message,
-    segment: &OwnedSegment,
+    facts: &MessageFacts,
+    segment: &SegmentFacts<'_>,
 ) -> Option<Permit>
-    ensures { AccountPermitIs permissions.now message.now segment.now result }
+    ensures { AccountPermitIs permissions.now facts.now.signatures segment.now result }
 {
-    let head = segment.head;
-    match permissions.form(head.id, head.version) {
+    match permissions.form(segment.kind(), segment.version()) {
         None => None,
         Some(AccountForm::Nameless) => None,
         Some(form) => {
             let account = account_key(form, segment);
-            Some(permissions.permit(head.id, &account, message.ends().len()))
+            Some(permissions.permit(segment.kind(), &account, facts.signatures))
         }
     }
 }
 
 // Whether some row of the order's kind and version needs more signatures.
-fn row_needs_more(permissions: &Permissions<'_>, segment: &OwnedSegment, signatures: usize) -> bool
+fn row_needs_more(
+    permissions: &Permissions<'_>,
+    segment: &SegmentFacts<'_>,
+    signatures: usize,
+) -> bool
     ensures { IsTrue result ↔ Any (λ row. IsRowFor segment.now row × (signatures < row.signatures)) permissions.now.rows.orders }
 {
-    match permissions.limits(segment.head.id, segment.head.version) {
+    match permissions.limits(segment.kind(), segment.version()) {
         None => false,
         Some(limits) => signatures < limits.signatures as usize,
     }
@@ -126,12 +115,12 @@ fn row_needs_more(permissions: &Permissions<'_>, segment: &OwnedSegment, signatu
 
 fn account_needs_more(
     permissions: &Permissions<'_>,
-    message: &Message,
-    segment: &OwnedSegment,
+    facts: &MessageFacts,
+    segment: &SegmentFacts<'_>,
 ) -> bool
-    ensures { IsTrue result ↔ ((account : Account) × NamesAccount permissions.now.orders segment.now account × AllNeedMore permissions.now.rows account segment.now.head.id (length message.now.ends)) }
+    ensures { IsTrue result ↔ ((account : Account) × NamesAccount permissions.now.orders segment.now account × AllNeedMore permissions.now.rows account segment.now.kind facts.now.signatures) }
 {
-    match account_permit(permissions, message, segment) {
+    match account_permit(permissions, facts, segment) {
         None => false,
         Some(Permit::Allowed) => false,
         Some(Permit::Refused) => false,
@@ -141,12 +130,12 @@ fn account_needs_more(
 
 fn account_is_locked(
     permissions: &Permissions<'_>,
-    message: &Message,
-    segment: &OwnedSegment,
+    facts: &MessageFacts,
+    segment: &SegmentFacts<'_>,
 ) -> bool
-    ensures { IsTrue result ↔ ((account : Account) × NamesAccount permissions.now.orders segment.now account × IsLocked permissions.now.rows account segment.now.head.id) }
+    ensures { IsTrue result ↔ ((account : Account) × NamesAccount permissions.now.orders segment.now account × IsLocked permissions.now.rows account segment.now.kind) }
 {
-    match account_permit(permissions, message, segment) {
+    match account_permit(permissions, facts, segment) {
         None => false,
         Some(Permit::Allowed) => false,
         Some(Permit::Refused) => true,
@@ -156,28 +145,31 @@ fn account_is_locked(
 
 fn breaks_signatures(
     permissions: &Permissions<'_>,
-    message: &Message,
-    segment: &OwnedSegment,
+    facts: &MessageFacts,
+    segment: &SegmentFacts<'_>,
 ) -> bool
-    ensures { IsTrue result ↔ BreaksSignatures permissions.now.rows permissions.now.orders message.now segment.now }
+    ensures { IsTrue result ↔ BreaksSignatures permissions.now.rows permissions.now.orders facts.now segment.now }
 {
-    let kind = segment.head.id;
-    let signatures = message.ends().len();
-    let by_row = is_order(kind) && row_needs_more(permissions, segment, signatures);
-    by_row || (is_plain_order(kind) && account_needs_more(permissions, message, segment))
+    let kind = segment.kind();
+    let by_row = is_order(kind) && row_needs_more(permissions, segment, facts.signatures);
+    by_row || (is_plain_order(kind) && account_needs_more(permissions, facts, segment))
 }
 
-fn breaks_account(permissions: &Permissions<'_>, message: &Message, segment: &OwnedSegment) -> bool
+fn breaks_account(
+    permissions: &Permissions<'_>,
+    facts: &MessageFacts,
+    segment: &SegmentFacts<'_>,
+) -> bool
     ensures { IsTrue result ↔ BreaksAccount permissions.now.rows permissions.now.orders segment.now }
 {
-    let head = segment.head;
-    if !is_plain_order(head.id) {
+    let kind = segment.kind();
+    if !is_plain_order(kind) {
         return false;
     }
-    if permissions.form(head.id, head.version).is_none() {
+    if permissions.form(kind, segment.version()).is_none() {
         return true;
     }
-    account_is_locked(permissions, message, segment)
+    account_is_locked(permissions, facts, segment)
 }
 
 // ---- P10
@@ -192,20 +184,54 @@ fn demands_tan(permissions: &Permissions<'_>, kind: Kind) -> bool
     }
 }
 
-fn lacks_tan(permissions: &Permissions<'_>, tally: &Tally<'_>, kind: Kind) -> bool
-    ensures { IsTrue result ↔ (IsListedWithTan permissions.now.rows.pins kind × (CarriesTan tally.now → ⊥)) }
+fn lacks_tan(permissions: &Permissions<'_>, facts: &MessageFacts, kind: Kind) -> bool
+    ensures { IsTrue result ↔ (IsListedWithTan permissions.now.rows.pins kind × (CarriesTan facts.now → ⊥)) }
 {
-    demands_tan(permissions, kind) && !tally.carries_tan()
+    demands_tan(permissions, kind) && !(facts.submits || facts.has_tan)
 }
 
-fn breaks_tan(permissions: &Permissions<'_>, tally: &Tally<'_>, segment: &OwnedSegment) -> bool
-    ensures { IsTrue result ↔ BreaksTan permissions.now.rows tally.now segment.now }
+fn sends_tan(segment: &SegmentFacts<'_>) -> bool
+    ensures { IsTrue result ↔ SendsTan segment.now }
 {
-    let kind = segment.head.id;
-    if is_plain_order(kind) && lacks_tan(permissions, tally, kind) {
+    is_tan_order(segment.kind()) && segment.first_item() == b"2".as_slice()
+}
+
+fn breaks_tan(
+    permissions: &Permissions<'_>,
+    facts: &MessageFacts,
+    segment: &SegmentFacts<'_>,
+) -> bool
+    ensures { IsTrue result ↔ BreaksTan permissions.now.rows facts.now segment.now }
+{
+    let kind = segment.kind();
+    if is_plain_order(kind) && lacks_tan(permissions, facts, kind) {
         return true;
     }
-    has_process(segment, b"2") && !tally.has_tan()
+    sends_tan(segment) && !facts.has_tan
+}
+
+/// Whether a segment of these facts, in a message of these facts, breaks the rule. It takes no
+/// memory.
+pub fn segment_breaks(
+    permissions: &Permissions<'_>,
+    facts: &MessageFacts,
+    rule: Rule,
+    segment: &SegmentFacts<'_>,
+) -> bool
+    ensures { IsTrue result ↔ SegmentBreaks permissions.now facts.now rule segment.now }
+{
+    match rule {
+        Rule::Protocol => false,
+        Rule::Number => false,
+        Rule::Size => false,
+        Rule::Kinds => false,
+        Rule::Version => breaks_version(permissions, segment),
+        Rule::Orders => breaks_orders(permissions, segment),
+        Rule::Listed => breaks_listed(permissions, segment),
+        Rule::Signatures => breaks_signatures(permissions, facts, segment),
+        Rule::Account => breaks_account(permissions, facts, segment),
+        Rule::Tan => breaks_tan(permissions, facts, segment),
+    }
 }
 
 /// Whether a segment of the body breaks the rule.
@@ -217,16 +243,5 @@ pub fn breaks_at(
 ) -> bool
     ensures { IsTrue result ↔ BreaksAt permissions.now tally.now rule segment.now }
 {
-    match rule {
-        Rule::Protocol => false,
-        Rule::Number => false,
-        Rule::Size => false,
-        Rule::Kinds => false,
-        Rule::Version => breaks_version(permissions, segment),
-        Rule::Orders => breaks_orders(permissions, tally, segment),
-        Rule::Listed => breaks_listed(permissions, segment),
-        Rule::Signatures => breaks_signatures(permissions, tally.message(), segment),
-        Rule::Account => breaks_account(permissions, tally.message(), segment),
-        Rule::Tan => breaks_tan(permissions, tally, segment),
-    }
+    segment_breaks(permissions, tally.facts(), rule, &tally.segment(segment))
 }

@@ -1,13 +1,16 @@
 //! What the rules ask of all segments of a message, found once before they are looked at.
-ghost use Rattle.std.specs.Prelude.{codes, ◌≡◌, ◌↔◌, ◌&&◌, ◌==◌, IsTrue, Any, IfOk, unwrap_or};
+ghost use Rattle.std.specs.Prelude.{◌≡◌, ◌&&◌, ◌==◌, IfOk, unwrap_or};
+ghost use Rattle.std.specs.List.{list_any};
 ghost use Rattle.std.specs.Set.{distinct_count};
 ghost use Rattle.std.specs.Str.{bytes_eq};
 ghost use Rattle.indexmap.specs.IndexMap.{get};
-ghost use Rattle.fints_rules.specs.Breaks.{count_of, is_plain_order, plain_kinds, HasProcess, HasTan, CarriesTan};
+ghost use Rattle.fints_rules.specs.Kinds.{is_plain_order};
+ghost use Rattle.fints_rules.specs.Facts.{count_of, plain_kinds, has_process, is_end, has_tan, facts_of, segment_facts};
 ghost use Rattle.fints_rules.specs.Tallies.{HoldsCounts};
 
+use crate::facts::{MessageFacts, SegmentFacts};
 use crate::kinds::{is_plain_order, is_tan_order};
-use fints_messages::Message;
+use fints_messages::{Message, is_kind};
 use fints_syntax::{Kind, Memory, OwnedSegment};
 use indexmap::IndexMap;
 use std::alloc::Global;
@@ -53,58 +56,82 @@ fn count(alloc: Global, body: &[OwnedSegment]) -> Result<Counts, Memory>
     Ok(Counts { by_kind, kinds })
 }
 
-// ---- TAN
+// ---- facts
 
-/// Whether it is an HKTAN of this process.
-pub fn has_process(segment: &OwnedSegment, process: &[u8]) -> bool
-    ensures { IsTrue result ↔ HasProcess process.now segment.now }
+// Whether it is an HKTAN of this process.
+fn has_process(segment: &OwnedSegment, process: &[u8]) -> bool
+    ensures { result ≡ has_process process.now segment.now }
 {
     is_tan_order(segment.head.id) && segment.value(2, 1) == process
 }
 
+fn some_has_process(body: &[OwnedSegment], process: &[u8]) -> bool
+    ensures { result ≡ list_any (has_process process.now) body.now }
+{
+    body.iter().any(|segment| has_process(segment, process))
+}
+
+fn some_ends(body: &[OwnedSegment]) -> bool
+    ensures { result ≡ list_any is_end body.now }
+{
+    body.iter().any(|segment| is_kind(segment.head.id, b"HKEND"))
+}
+
 fn has_tan(segment: &OwnedSegment) -> bool
-    ensures { IsTrue result ↔ HasTan segment.now }
+    ensures { result ≡ has_tan segment.now }
 {
     !segment.value(4, 2).is_empty()
 }
 
-fn has_any_tan(ends: &[OwnedSegment]) -> bool
-    ensures { IsTrue result ↔ Any HasTan ends.now }
+fn some_has_tan(ends: &[OwnedSegment]) -> bool
+    ensures { result ≡ list_any has_tan ends.now }
 {
     ends.iter().any(|segment| has_tan(segment))
 }
 
-fn submits_order(body: &[OwnedSegment]) -> bool
-    ensures { IsTrue result ↔ Any (HasProcess (codes "4")) body.now }
+// The facts of a message with so many kinds of orders.
+fn facts_of(message: &Message, kinds: usize) -> MessageFacts
+    requires { kinds ≡ distinct_count bytes_eq (plain_kinds message.now.body) }
+    ensures { result ≡ facts_of message.now }
 {
-    body.iter().any(|segment| has_process(segment, b"4"))
+    let body = message.body();
+    let ends = message.ends();
+    MessageFacts {
+        protocol: message.protocol(),
+        number: message.number(),
+        size: message.size(),
+        kinds,
+        signatures: ends.len(),
+        submits: some_has_process(body, b"4"),
+        sends: some_has_process(body, b"2"),
+        ends: some_ends(body),
+        has_tan: some_has_tan(ends),
+    }
 }
 
 // ---- the tally
 
-/// A message, with what its rules count; a contract sees the message.
+/// A message, with what its rules ask of it; a contract sees the message.
 #[derive(Drop)]
 pub struct Tally<'a> {
     message: &'a Message,
     counts: Counts,
-    submits: bool,
-    has_tan: bool,
+    facts: MessageFacts,
 }
 
 impl<'a> Model for Tally<'a> {
-    ghost use Rattle.std.specs.Prelude.{◌≡◌, ◌↔◌, codes, IsTrue, Any};
-    ghost use Rattle.std.specs.Set.{distinct_count};
     ghost use Rattle.std.specs.Str.{bytes_eq};
     ghost use Rattle.indexmap.specs.IndexMap.{get};
     ghost use Rattle.fints_messages.specs.Messages.{MessageView};
-    ghost use Rattle.fints_rules.specs.Breaks.{plain_kinds, HasProcess, HasTan};
+    ghost use Rattle.std.specs.Prelude.{◌≡◌};
+    ghost use Rattle.fints_rules.specs.Facts.{facts_of};
     ghost use Rattle.fints_rules.specs.Tallies.{HoldsCounts};
 
     ghost Value = { MessageView };
 
     ghost view = { λ t. t.message.now };
 
-    ghost invariant = { λ t. HoldsCounts t.message.now.body (get bytes_eq t.counts.by_kind) × (t.counts.kinds ≡ distinct_count bytes_eq (plain_kinds t.message.now.body)) × (IsTrue t.submits ↔ Any (HasProcess (codes "4")) t.message.now.body) × (IsTrue t.has_tan ↔ Any HasTan t.message.now.ends) };
+    ghost invariant = { λ t. HoldsCounts t.message.now.body (get bytes_eq t.counts.by_kind) × (t.facts ≡ facts_of t.message.now) };
 }
 
 impl<'a> Tally<'a> {
@@ -113,13 +140,11 @@ impl<'a> Tally<'a> {
         ensures { IfOk result (λ t. t ≡ message.now) }
     {
         let counts = count(alloc, message.body())?;
-        let submits = submits_order(message.body());
-        let has_tan = has_any_tan(message.ends());
+        let facts = facts_of(message, counts.kinds);
         Ok(Tally {
             message,
             counts,
-            submits,
-            has_tan,
+            facts,
         })
     }
 
@@ -130,31 +155,33 @@ impl<'a> Tally<'a> {
         self.message
     }
 
-    /// How many segments of the body have the kind, in any version.
-    pub fn count(&self, kind: Kind) -> usize
+    /// What the rules ask of the whole message.
+    pub fn facts(&self) -> &MessageFacts
+        ensures { result.now ≡ facts_of self.now }
+    {
+        &self.facts
+    }
+
+    // How many segments of the body have the kind, in any version.
+    fn count(&self, kind: Kind) -> usize
         ensures { result ≡ count_of kind self.now.body }
     {
         count_in(&self.counts.by_kind, kind)
     }
 
-    /// How many different kinds of orders other than HKTAN the body has.
-    pub fn kinds(&self) -> usize
-        ensures { result ≡ distinct_count bytes_eq (plain_kinds self.now.body) }
+    /// What they ask of a segment of its body.
+    pub fn segment<'s>(&self, segment: &'s OwnedSegment) -> SegmentFacts<'s>
+        ensures { result ≡ segment_facts self.now segment.now }
     {
-        self.counts.kinds
-    }
-
-    /// Whether some HNSHA has a TAN.
-    pub fn has_tan(&self) -> bool
-        ensures { IsTrue result ↔ Any HasTan self.now.ends }
-    {
-        self.has_tan
-    }
-
-    /// Whether a TAN is carried: an HKTAN submits an order, or some HNSHA has a TAN.
-    pub fn carries_tan(&self) -> bool
-        ensures { IsTrue result ↔ CarriesTan self.now }
-    {
-        self.submits || self.has_tan
+        let head = segment.head;
+        let items = [
+            segment.value(2, 1),
+            segment.value(2, 2),
+            segment.value(2, 3),
+            segment.value(2, 4),
+            segment.value(2, 5),
+            segment.value(2, 6),
+        ];
+        SegmentFacts::new(head.id, head.version, items, self.count(head.id))
     }
 }

@@ -1,11 +1,12 @@
-//! The rules of a whole message, P1 to P4.
+//! The rules of a whole message, P1 to P4, over its facts.
 ghost use Rattle.std.specs.Prelude.{◌≡◌, ◌↔◌, IsTrue, Any};
-ghost use Rattle.fints_rules.specs.Breaks.{BreaksProtocol, BreaksNumber, BreaksSize, BreaksKinds, BreaksWhole};
+ghost use Rattle.fints_rules.specs.Breaks.{BreaksWhole};
+ghost use Rattle.fints_rules.specs.Rules.{BreaksProtocol, BreaksNumber, BreaksSize, BreaksKinds, MessageBreaks};
 
+use crate::facts::MessageFacts;
 use crate::permissions::Permissions;
 use crate::rule::Rule;
 use crate::tally::Tally;
-use fints_messages::Message;
 use fints_params::BankRow;
 
 // The greatest message number (FinTS 3.0, Formals, HNHBK).
@@ -17,42 +18,42 @@ fn is_among(number: u64, numbers: &[u32]) -> bool
     numbers.iter().any(|n| u64::from(*n) == number)
 }
 
-fn breaks_protocol(bank: &BankRow, message: &Message) -> bool
-    ensures { IsTrue result ↔ BreaksProtocol bank.now message.now }
+fn breaks_protocol(bank: &BankRow, facts: &MessageFacts) -> bool
+    ensures { IsTrue result ↔ BreaksProtocol bank.now facts.now }
 {
-    match message.protocol() {
+    match facts.protocol {
         None => true,
         Some(number) => !is_among(number, bank.protocols.as_slice()),
     }
 }
 
-fn breaks_number(message: &Message) -> bool
-    ensures { IsTrue result ↔ BreaksNumber message.now }
+fn breaks_number(facts: &MessageFacts) -> bool
+    ensures { IsTrue result ↔ BreaksNumber facts.now }
 {
-    message.number() == 0 || message.number() > LAST_NUMBER
+    facts.number == 0 || facts.number > LAST_NUMBER
 }
 
-fn breaks_size(bank: &BankRow, message: &Message) -> bool
-    ensures { IsTrue result ↔ BreaksSize bank.now message.now }
+fn breaks_size(bank: &BankRow, facts: &MessageFacts) -> bool
+    ensures { IsTrue result ↔ BreaksSize bank.now facts.now }
 {
-    bank.kilobytes != 0 && 1024 * u64::from(bank.kilobytes) < message.size() as u64
+    bank.kilobytes != 0 && 1024 * u64::from(bank.kilobytes) < facts.size as u64
 }
 
-fn breaks_kinds(bank: &BankRow, tally: &Tally<'_>) -> bool
-    ensures { IsTrue result ↔ BreaksKinds bank.now tally.now }
+fn breaks_kinds(bank: &BankRow, facts: &MessageFacts) -> bool
+    ensures { IsTrue result ↔ BreaksKinds bank.now facts.now }
 {
-    bank.kinds != 0 && (bank.kinds as usize) < tally.kinds()
+    bank.kinds != 0 && (bank.kinds as usize) < facts.kinds
 }
 
-/// Whether the message as a whole breaks the rule.
-pub fn breaks_whole(permissions: &Permissions<'_>, tally: &Tally<'_>, rule: Rule) -> bool
-    ensures { IsTrue result ↔ BreaksWhole permissions.now tally.now rule }
+/// Whether a message of these facts breaks the rule as a whole. It takes no memory.
+pub fn message_breaks(permissions: &Permissions<'_>, facts: &MessageFacts, rule: Rule) -> bool
+    ensures { IsTrue result ↔ MessageBreaks permissions.now facts.now rule }
 {
     match rule {
-        Rule::Protocol => breaks_protocol(permissions.bank(), tally.message()),
-        Rule::Number => breaks_number(tally.message()),
-        Rule::Size => breaks_size(permissions.bank(), tally.message()),
-        Rule::Kinds => breaks_kinds(permissions.bank(), tally),
+        Rule::Protocol => breaks_protocol(permissions.bank(), facts),
+        Rule::Number => breaks_number(facts),
+        Rule::Size => breaks_size(permissions.bank(), facts),
+        Rule::Kinds => breaks_kinds(permissions.bank(), facts),
         Rule::Version => false,
         Rule::Orders => false,
         Rule::Listed => false,
@@ -60,4 +61,11 @@ pub fn breaks_whole(permissions: &Permissions<'_>, tally: &Tally<'_>, rule: Rule
         Rule::Account => false,
         Rule::Tan => false,
     }
+}
+
+/// Whether the message as a whole breaks the rule.
+pub fn breaks_whole(permissions: &Permissions<'_>, tally: &Tally<'_>, rule: Rule) -> bool
+    ensures { IsTrue result ↔ BreaksWhole permissions.now tally.now rule }
+{
+    message_breaks(permissions, tally.facts(), rule)
 }

@@ -1,7 +1,7 @@
 use Rattle.std.proofs.Common.{arith, ◌≡◌, ◌+◌, ◌∙◌, refl, take, sym}
 use Rattle.std.specs.Str.{bytes_eq}
 use Rattle.indexmap.specs.IndexMap.{get}
-use Rattle.fints_rules.specs.Breaks.{count_of}
+use Rattle.fints_rules.specs.Facts.{count_of}
 use Rattle.fints_rules.specs.Tallies.{HoldsCounts}
 use Rattle.fints_rules.proofs.RuleLemmas.{kinds_more, counts_more}
 use Rattle.fints_rules.proofs.tally.count.Goals as goal

@@ -2,7 +2,7 @@ use Rattle.std.proofs.Common.{◌≡◌, ◌≤◌, take}
 use Rattle.std.specs.Set.{distinct_count}
 use Rattle.std.specs.Str.{bytes_eq}
 use Rattle.indexmap.specs.IndexMap.{get}
-use Rattle.fints_rules.specs.Breaks.{plain_kinds}
+use Rattle.fints_rules.specs.Facts.{plain_kinds}
 use Rattle.fints_rules.specs.Tallies.{HoldsCounts}
 use Rattle.fints_rules.proofs.tally.count.Given as goal
 
