@@ -1,5 +1,5 @@
 -- The test of a pattern tells whether it is one.
-use Rattle.std.proofs.Common.{◌≡◌, ℕ, Bool, true, false, ◌&&◌, ◌==◌, cond, List, length, Option, Some, None, arith, refl, ap, sym, ◌∙◌, inl, inr}
+use Rattle.std.proofs.Common.{◌≡◌, ℕ, Bool, true, false, ◌&&◌, ◌==◌, cond, List, length, Option, Some, None, arith, ap, sym, ◌∙◌, inl, inr}
 use Rattle.std.specs.Prelude.{SomeIff}
 use Rattle.std.proofs.lemmas.Bool.{cases_Bool, and_parts}
 use Rattle.std.proofs.lemmas.Bool.Decides.{nat_tests}

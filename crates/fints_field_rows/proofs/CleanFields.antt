@@ -1,7 +1,7 @@
 -- What a field without faults has.
-use Rattle.std.proofs.Common.{◌≡◌, ◌≢◌, ℕ, ◌≤◌, pos, negsuc, ltb, leb, eqb, Bool, true, false, ◌&&◌, ◌||◌, not, cond, codes, zero, suc, List, [], ◌∷◌, length, get_or, map, drop, All, Option, Some, None, refl, ap, ◌∙◌, sym, inl, inr, arith}
+use Rattle.std.proofs.Common.{◌≡◌, ◌≢◌, ℕ, ◌≤◌, pos, negsuc, ltb, leb, eqb, Bool, true, false, ◌&&◌, ◌||◌, not, cond, codes, List, [], ◌∷◌, length, get_or, map, drop, All, Option, Some, None, refl, ap, ◌∙◌, sym, inl, inr, arith}
 use Rattle.std.specs.Prelude.{option_and_then, is_some}
-use Rattle.std.specs.List.{AllPairs, find, list_any}
+use Rattle.std.specs.List.{AllPairs, list_any}
 use Rattle.std.specs.Str.{chars}
 use Rattle.std.proofs.lemmas.Bool.{cases_Bool, false≢true, or_parts, and_parts, not-false}
 use Rattle.std.proofs.lemmas.Bool.Decides.{nat_tests}

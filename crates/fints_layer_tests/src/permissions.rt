@@ -20,45 +20,34 @@ fn params(alloc: Global, capture: &[u8], more: &[u8]) -> Result<Params, Fail> {
     Ok(Params::read(alloc, whole.as_slice())?)
 }
 
+fn limits_of(
+    alloc: Global,
+    capture: &[u8],
+    more: &[u8],
+    order: &[u8],
+    version: u16,
+) -> Result<Option<Limits>, Fail> {
+    let orders = OrderTable::read(alloc, T)?;
+    let params = params(alloc, capture, more)?;
+    let permissions = Permissions::build(alloc, &params, &orders)?;
+    Ok(permissions.limits(kind(order)?, version))
+}
+
+fn of(orders: u32, signatures: u32) -> Option<Limits> {
+    Some(Limits { orders, signatures })
+}
+
 #[test]
 fn limits(rt: HostRuntime) -> Result<(), Fail> {
-    let rows: [(&[u8], &[u8], &[u8], u16, Option<(u32, u32)>); 5] = [
-        (C, b"", b"HKKAZ", 5, Some((20, 1))),
-        (C, b"", b"HKSAL", 6, None),
-        (
-            C1,
-            b"HISALS:4:5+0+2'HISALS:5:5+3+1'",
-            b"HKSAL",
-            5,
-            Some((3, 2)),
-        ),
-        (
-            C1,
-            b"HISALS:4:5+5+0'HISALS:5:5+3+1'",
-            b"HKSAL",
-            5,
-            Some((3, 1)),
-        ),
-        (
-            C1,
-            b"HISALS:4:5+0+0'HISALS:5:5+0+0'",
-            b"HKSAL",
-            5,
-            Some((0, 0)),
-        ),
-    ];
-    let orders = OrderTable::read(rt.alloc(), T)?;
-    for (capture, more, order, version, wanted) in rows {
-        let params = params(rt.alloc(), capture, more)?;
-        let permissions = Permissions::build(rt.alloc(), &params, &orders)?;
-        let found = permissions.limits(kind(order)?, version);
-        match (found, wanted) {
-            (Some(Limits { orders, signatures }), Some(pair)) => {
-                assert_eq!(rt; (orders, signatures), pair, "{more:?}")
-            }
-            _ => assert!(rt; found.is_none() && wanted.is_none(), "{more:?}"),
-        }
-    }
+    let alloc = rt.alloc();
+    let later = b"HISALS:4:5+0+2'HISALS:5:5+3+1'";
+    let least = b"HISALS:4:5+5+0'HISALS:5:5+3+1'";
+    let open = b"HISALS:4:5+0+0'HISALS:5:5+0+0'";
+    assert_eq!(rt; limits_of(alloc, C, b"", b"HKKAZ", 5)?, of(20, 1));
+    assert_eq!(rt; limits_of(alloc, C, b"", b"HKSAL", 6)?, None);
+    assert_eq!(rt; limits_of(alloc, C1, later, b"HKSAL", 5)?, of(3, 2));
+    assert_eq!(rt; limits_of(alloc, C1, least, b"HKSAL", 5)?, of(3, 1));
+    assert_eq!(rt; limits_of(alloc, C1, open, b"HKSAL", 5)?, of(0, 0));
     Ok(())
 }
 
@@ -103,72 +92,59 @@ const NO_IBAN: [&[u8]; 6] = [b"", b"", b"1234567", b"", b"280", b"10020030"];
 
 const IBAN: [&[u8]; 1] = [b"DE222"];
 
+// What the bank of the capture and of more segments permits.
+fn permit(
+    alloc: Global,
+    capture: &[u8],
+    more: &[u8],
+    order: &[u8],
+    account: &AccountKey<'_>,
+    signatures: usize,
+) -> Result<Permit, Fail> {
+    let orders = OrderTable::read(alloc, T)?;
+    let params = params(alloc, capture, more)?;
+    let permissions = Permissions::build(alloc, &params, &orders)?;
+    Ok(permissions.permit(kind(order)?, account, signatures))
+}
+
+// A balance of a national account.
+fn national(
+    alloc: Global,
+    capture: &[u8],
+    more: &[u8],
+    items: &[&[u8]],
+    signatures: usize,
+) -> Result<Permit, Fail> {
+    let account = AccountKey::of(AccountForm::National, items);
+    permit(alloc, capture, more, b"HKSAL", &account, signatures)
+}
+
+// All rows of an account count, and what is not listed is left open where the bank says so.
 #[test]
-fn permits(rt: HostRuntime) -> Result<(), Fail> {
-    let national = AccountForm::National;
-    let international = AccountForm::International;
-    let open: &[u8] = b"HIUPA:10:4+user+3+1'";
-    let rows: [(&[u8], &[u8], &[u8], AccountForm, &[&[u8]], usize, Permit); 9] = [
-        (C, b"", b"HKSAL", national, &FIRST, 1, Permit::Allowed),
-        (
-            C,
-            b"",
-            b"HKSAL",
-            national,
-            &FIRST,
-            0,
-            Permit::MoreSignatures,
-        ),
-        (C, b"", b"HKSAL", national, &OTHER, 1, Permit::Refused),
-        (
-            C,
-            b"",
-            b"HKCCS",
-            international,
-            &IBAN,
-            1,
-            Permit::MoreSignatures,
-        ),
-        (
-            C,
-            b"",
-            b"HKCCS",
-            international,
-            &BOTH,
-            1,
-            Permit::MoreSignatures,
-        ),
-        (C, b"", b"HKCCS", international, &BOTH, 2, Permit::Allowed),
-        (
-            C,
-            b"",
-            b"HKCCS",
-            international,
-            &NO_IBAN,
-            1,
-            Permit::Allowed,
-        ),
-        // all rows of an account count
-        (
-            C,
-            SECOND_ROW,
-            b"HKSAL",
-            national,
-            &FIRST,
-            0,
-            Permit::Allowed,
-        ),
-        // what is not listed is left open where the bank says so
-        (C1, open, b"HKSAL", national, &FIRST, 0, Permit::Allowed),
-    ];
-    let orders = OrderTable::read(rt.alloc(), T)?;
-    for (capture, more, order, form, items, signatures, permit) in rows {
-        let params = params(rt.alloc(), capture, more)?;
-        let permissions = Permissions::build(rt.alloc(), &params, &orders)?;
-        let account = AccountKey::of(form, items);
-        let found = permissions.permit(kind(order)?, &account, signatures);
-        assert_eq!(rt; found, permit, "{order:?} of {items:?}");
-    }
+fn national_permits(rt: HostRuntime) -> Result<(), Fail> {
+    let alloc = rt.alloc();
+    let open = b"HIUPA:10:4+user+3+1'";
+    assert_eq!(rt; national(alloc, C, b"", &FIRST, 1)?, Permit::Allowed);
+    assert_eq!(rt; national(alloc, C, b"", &FIRST, 0)?, Permit::MoreSignatures);
+    assert_eq!(rt; national(alloc, C, b"", &OTHER, 1)?, Permit::Refused);
+    assert_eq!(rt; national(alloc, C, SECOND_ROW, &FIRST, 0)?, Permit::Allowed);
+    assert_eq!(rt; national(alloc, C1, open, &FIRST, 0)?, Permit::Allowed);
+    Ok(())
+}
+
+// A transfer of an international account.
+fn international(alloc: Global, items: &[&[u8]], signatures: usize) -> Result<Permit, Fail> {
+    let account = AccountKey::of(AccountForm::International, items);
+    permit(alloc, C, b"", b"HKCCS", &account, signatures)
+}
+
+#[test]
+fn international_permits(rt: HostRuntime) -> Result<(), Fail> {
+    let alloc = rt.alloc();
+    assert_eq!(rt; international(alloc, &IBAN, 1)?, Permit::MoreSignatures);
+    assert_eq!(rt; international(alloc, &BOTH, 1)?, Permit::MoreSignatures);
+    assert_eq!(rt; international(alloc, &BOTH, 2)?, Permit::Allowed);
+    assert_eq!(rt; international(alloc, &NO_IBAN, 1)?, Permit::Allowed);
     Ok(())
 }
 

@@ -263,50 +263,52 @@ fn assert_faults(
     Ok(())
 }
 
+// A table with what stands before and after each of its parts.
+const TABLES: [(&str, &str, &str); 11] = [
+    ("", TOP, ""),
+    ("", PLACES, ""),
+    (
+        "",
+        FIELDS,
+        "\nstep = [{name = \"a\", segments = [{kind = \"HKEND\", version = 1}]}]",
+    ),
+    (
+        "step = [1]\nsigner = [1]\nfield = [{name = \"a\", class = \"bin\", min = 1, max = 1}, {",
+        SECOND_FIELD,
+        "}]",
+    ),
+    (
+        "step = [1]\nsigner = [{name = \"me\", head = [], end = []}, {",
+        SECOND_SIGNER,
+        "}]",
+    ),
+    ("step = [{", STEP, "}]"),
+    (
+        r#"step = [{segments = [{kind = "HKEND", version = 1}], name = "#,
+        NAMED,
+        "}]",
+    ),
+    (r#"step = [{name = "end", segments = [{"#, SEGMENT, "}]}]"),
+    (
+        r#"step = [{name = "end", segments = [{kind = "HKEND", version = 1, elements = ["$dialog"]}], "#,
+        FURTHER,
+        "}]",
+    ),
+    (
+        r#"step = [{name = "end", segments = [{kind = "HKEND", version = 1, elements = ["$dialog"]}], repeat = 100, branches = ["#,
+        BRANCHES,
+        "]}]",
+    ),
+    (
+        r#"step = [{name = "one", segments = [{kind = "HKEND", version = 1}]}, {name = "done", segments = [{kind = "HKEND", version = 1}], "#,
+        JUMPS,
+        "",
+    ),
+];
+
 #[test]
 fn faults(rt: HostRuntime) -> Result<(), Fail> {
-    let tables = [
-        ("", TOP, ""),
-        ("", PLACES, ""),
-        (
-            "",
-            FIELDS,
-            "\nstep = [{name = \"a\", segments = [{kind = \"HKEND\", version = 1}]}]",
-        ),
-        (
-            "step = [1]\nsigner = [1]\nfield = [{name = \"a\", class = \"bin\", min = 1, max = 1}, {",
-            SECOND_FIELD,
-            "}]",
-        ),
-        (
-            "step = [1]\nsigner = [{name = \"me\", head = [], end = []}, {",
-            SECOND_SIGNER,
-            "}]",
-        ),
-        ("step = [{", STEP, "}]"),
-        (
-            r#"step = [{segments = [{kind = "HKEND", version = 1}], name = "#,
-            NAMED,
-            "}]",
-        ),
-        (r#"step = [{name = "end", segments = [{"#, SEGMENT, "}]}]"),
-        (
-            r#"step = [{name = "end", segments = [{kind = "HKEND", version = 1, elements = ["$dialog"]}], "#,
-            FURTHER,
-            "}]",
-        ),
-        (
-            r#"step = [{name = "end", segments = [{kind = "HKEND", version = 1, elements = ["$dialog"]}], repeat = 100, branches = ["#,
-            BRANCHES,
-            "]}]",
-        ),
-        (
-            r#"step = [{name = "one", segments = [{kind = "HKEND", version = 1}]}, {name = "done", segments = [{kind = "HKEND", version = 1}], "#,
-            JUMPS,
-            "",
-        ),
-    ];
-    for (before, table, after) in tables {
+    for (before, table, after) in TABLES {
         assert_faults(&rt, rt.alloc(), before, table, after, "")?;
     }
     Ok(())

@@ -26,7 +26,7 @@ struct Row {
     before: &'static str,
     piece: &'static str,
     after: &'static str,
-    most: usize,
+    most: u32,
     kept: &'static str,
     passed: &'static str,
 }
@@ -156,7 +156,8 @@ const TEXTS: [Row; 3] = [
 #[test]
 fn limits(rt: HostRuntime) -> Result<(), Fail> {
     for row in ITEMS.iter().chain(ENTRIES.iter()).chain(TEXTS.iter()) {
-        let rows = [(row.most, row.kept), (row.most + 1, row.passed)];
+        let most = row.most as usize;
+        let rows = [(most, row.kept), (most + 1, row.passed)];
         for (count, wanted) in rows {
             let text = repeated(rt.alloc(), row.before, row.piece, count, row.after)?;
             let found = fault_of(rt.alloc(), text.as_str())?;

@@ -1,10 +1,11 @@
 //! What scripts hold, part by part.
 use crate::samples::{BALANCE, END, FORK, SEALED_END, SECOND_ACCOUNT};
 use fints_script::{
-    Field, FieldClass, NamedField, Pattern, Script, Step, Target, TemplateElements, TemplateItem,
+    Field, FieldClass, NamedField, Pattern, Script, Signer, Step, Target, Template,
+    TemplateElements, TemplateItem,
 };
 use fints_syntax::OwnedItem;
-use std::alloc::Global;
+use std::alloc::{AllocError, Global};
 use std::test::*;
 
 // Elements as a text: `:` behind each item, and `+` behind each element. `dialog` stands in angle
@@ -21,9 +22,7 @@ fn push_elements(
         for item in items.as_slice() {
             match item {
                 TemplateItem::Dialog => out.extend_from_slice(b"<dialog>")?,
-                TemplateItem::Field(place) => {
-                    out.extend_from_slice(format!(in alloc; "[{place}]")?.as_bytes())?
-                }
+                TemplateItem::Field(place) => push_text(out, format!(in alloc; "[{place}]"))?,
                 TemplateItem::Literal(OwnedItem::Text(text)) => {
                     out.extend_from_slice(text.as_slice())?
                 }
@@ -40,74 +39,90 @@ fn push_elements(
     Ok(())
 }
 
+// A text that was made, if there was memory.
+fn push_text(out: &mut Vec<u8>, text: Result<String, AllocError>) -> Result<(), Fail> {
+    let text = text?;
+    out.extend_from_slice(text.as_bytes())?;
+    Ok(())
+}
+
+fn push_word(out: &mut Vec<u8>, before: &[u8], word: &[u8]) -> Result<(), Fail> {
+    out.extend_from_slice(before)?;
+    out.extend_from_slice(word)?;
+    Ok(())
+}
+
 // A field by its name, and its bounds or its longest value.
 fn push_field(alloc: Global, out: &mut Vec<u8>, field: &NamedField) -> Result<(), Fail> {
-    out.extend_from_slice(b"field ")?;
-    out.extend_from_slice(field.name.as_bytes())?;
+    push_word(out, b"field ", field.name.as_bytes())?;
     match &field.class {
         Field::Text(class) => {
             let (min, max) = (class.min, class.max);
-            out.extend_from_slice(format!(in alloc; " text {min} {max}")?.as_bytes())?
+            push_text(out, format!(in alloc; " text {min} {max}"))?
         }
         Field::Digits(class) => {
             let (min, max) = (class.min, class.max);
-            out.extend_from_slice(format!(in alloc; " digits {min} {max}")?.as_bytes())?
+            push_text(out, format!(in alloc; " digits {min} {max}"))?
         }
-        class => {
-            out.extend_from_slice(b" longest ")?;
-            out.extend_from_slice(class.longest(alloc)?.as_slice())?;
-            for account in class.accounts() {
-                out.extend_from_slice(b" account ")?;
-                out.extend_from_slice(account.text())?;
-            }
-        }
+        class => push_word(out, b" longest ", class.longest(alloc)?.as_slice())?,
+    }
+    for account in field.class.accounts() {
+        push_word(out, b" account ", account.text())?;
     }
     out.push(b'\n')?;
     Ok(())
 }
 
+fn push_signer(alloc: Global, out: &mut Vec<u8>, signer: &Signer) -> Result<(), Fail> {
+    push_word(out, b"signer ", signer.name.as_bytes())?;
+    push_word(out, b"\n", b"head")?;
+    push_elements(alloc, out, &signer.head)?;
+    push_word(out, b"", b"end")?;
+    push_elements(alloc, out, &signer.end)
+}
+
+fn push_template(alloc: Global, out: &mut Vec<u8>, template: &Template) -> Result<(), Fail> {
+    let version = template.version;
+    push_word(out, b"", template.kind.as_bytes())?;
+    push_text(out, format!(in alloc; " {version}"))?;
+    push_elements(alloc, out, &template.elements)
+}
+
 fn push_step(alloc: Global, out: &mut Vec<u8>, step: &Step) -> Result<(), Fail> {
-    out.extend_from_slice(b"step ")?;
-    out.extend_from_slice(step.name().as_bytes())?;
     let (sealed, signers) = (step.sealed(), step.signers());
     let (repeat, otherwise) = (step.repeat(), step.otherwise());
-    out.extend_from_slice(format!(in alloc;
-        " sealed {sealed} signers {signers:?} repeat {repeat} default {otherwise:?}\n"
-    )?.as_bytes())?;
+    push_word(out, b"step ", step.name().as_bytes())?;
+    push_text(
+        out,
+        format!(in alloc;
+            " sealed {sealed} signers {signers:?} repeat {repeat} default {otherwise:?}\n"
+        ),
+    )?;
     for branch in step.branches() {
         let target = branch.to;
-        out.extend_from_slice(format!(in alloc; "branch {target:?}\n")?.as_bytes())?;
+        push_text(out, format!(in alloc; "branch {target:?}\n"))?;
     }
     for template in step.templates() {
-        out.extend_from_slice(template.kind.as_bytes())?;
-        let version = template.version;
-        out.extend_from_slice(format!(in alloc; " {version}")?.as_bytes())?;
-        push_elements(alloc, out, &template.elements)?;
+        push_template(alloc, out, template)?;
     }
     Ok(())
 }
 
-fn shown(alloc: Global, script: &Script) -> Result<Vec<u8>, Fail> {
-    let mut out = Vec::new(alloc);
+fn push_script(alloc: Global, out: &mut Vec<u8>, script: &Script) -> Result<(), Fail> {
     for field in script.fields() {
-        push_field(alloc, &mut out, field)?;
+        push_field(alloc, out, field)?;
     }
     for signer in script.signers() {
-        out.extend_from_slice(b"signer ")?;
-        out.extend_from_slice(signer.name.as_bytes())?;
-        out.extend_from_slice(b"\nhead")?;
-        push_elements(alloc, &mut out, &signer.head)?;
-        out.extend_from_slice(b"end")?;
-        push_elements(alloc, &mut out, &signer.end)?;
+        push_signer(alloc, out, signer)?;
     }
     if let Some(seal) = script.seal() {
-        out.extend_from_slice(b"seal")?;
-        push_elements(alloc, &mut out, seal)?;
+        push_word(out, b"", b"seal")?;
+        push_elements(alloc, out, seal)?;
     }
     for step in script.steps() {
-        push_step(alloc, &mut out, step)?;
+        push_step(alloc, out, step)?;
     }
-    Ok(out)
+    Ok(())
 }
 
 const END_SHOWN: &[u8] = b"field dialog text 1 30
@@ -197,7 +212,8 @@ fn parts(rt: HostRuntime) -> Result<(), Fail> {
     ];
     for (text, wanted) in rows {
         let script = Script::read(rt.alloc(), text)?;
-        let found = shown(rt.alloc(), &script)?;
+        let mut found = Vec::new(rt.alloc());
+        push_script(rt.alloc(), &mut found, &script)?;
         assert_eq!(rt; found.as_slice(), wanted);
     }
     Ok(())

@@ -3,13 +3,12 @@ use Rattle.std.specs.Prelude.{codes, ℕ, ◌+◌, nat_lt, Bool, true, false, �
 use Rattle.std.specs.List.{list_any}
 use Rattle.std.specs.Str.{bytes_eq}
 use Rattle.toml.specs.Data.{Data, string, table, Members, get_member, as_str}
-use Rattle.fints_syntax.specs.Kind.{kind_from}
 use Rattle.fints_documents.specs.Document.{only_keys}
 use Rattle.fints_documents.specs.Entries.{has_key, is_named, text_at}
 use Rattle.fints_field_rows.specs.RowNames.{is_no_name}
 use Rattle.fints_documents.specs.Tables.{is_outside, number_or, is_no_integer, is_no_text, is_no_flag, is_no_array, is_no_list, is_set, rows_of}
 use Rattle.fints_field_rows.specs.RowNames.{name_value, name_of}
-use Rattle.fints_templates.specs.Elements.{elements_have, elements_value, is_wrong_kind}
+use Rattle.fints_templates.specs.Elements.{is_wrong_kind}
 use Rattle.fints_field_rows.specs.FaultOrder.{first_kind}
 use Rattle.fints_field_rows.specs.Faults.{or_later}
 use Rattle.fints_cases.specs.Patterns.{pattern_in}

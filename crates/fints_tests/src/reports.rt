@@ -136,21 +136,33 @@ not yet | step = [{name = "end", segments = [{kind = "HKEND", version = 1, eleme
 not yet | step = [{name = "end", segments = [{kind = "HKEND", version = 1, elements = [0]}]}]
 "#;
 
+// A text of lines that stand with ` ; ` between them.
+fn lines(alloc: Global, row: &str) -> Result<String, AllocError> {
+    let mut text = String::new(alloc);
+    for line in row.split(" ; ") {
+        text.push_str(line)?;
+        text.push_str("\n")?;
+    }
+    Ok(text)
+}
+
+// What is answered where the first line is this one.
+fn whole_report(alloc: Global, line: &str) -> Result<String, AllocError> {
+    if line == "not yet" {
+        return Ok(String::new(alloc));
+    }
+    let mut text = String::from_str(alloc, line)?;
+    text.push_str("\nclean\n")?;
+    Ok(text)
+}
+
 #[test]
 fn scripts(rt: HostRuntime) -> Result<(), Fail> {
     let alloc = rt.alloc();
     for row in SCRIPTS.trim().lines() {
         let (line, script) = row.split_once(" | ").ok_or("a row")?;
-        let mut text = String::new(alloc);
-        for line in script.split(" ; ") {
-            text.push_str(line)?;
-            text.push_str("\n")?;
-        }
-        let wanted = if line == "not yet" {
-            String::new(alloc)
-        } else {
-            format!(in alloc; "{line}\nclean\n")?
-        };
+        let text = lines(alloc, script)?;
+        let wanted = whole_report(alloc, line)?;
         let found = report(alloc, built_in::CAPTURE, text.as_bytes())?;
         assert_eq!(rt; found.as_slice(), wanted.as_bytes(), "{row}");
     }

@@ -5,6 +5,7 @@ use fints_params::ParamFault;
 use fints_rules::JudgeFault;
 use fints_script::CaseFault;
 use std::alloc::{AllocError, Global};
+use std::process::Abort;
 use std::test::Fail;
 
 const CASE: &[u8] = b"fints-case 1\nfield dialog 44\n";
@@ -51,40 +52,56 @@ fn padded(alloc: Global, text: &[u8], len: usize) -> Result<Vec<u8>, AllocError>
     Ok(padded)
 }
 
+// Runs the texts, and compares what is printed.
+fn assert_run(
+    rt: &impl Abort,
+    alloc: Global,
+    texts: (&[u8], &[u8], &[u8]),
+    status: u8,
+    errors: &[u8],
+) {
+    let (orders, script, case) = texts;
+    let files = [("orders", orders), ("script", script), ("case", case)];
+    let mut shelf = Shelf::new(&files, Quirk::None);
+    let mut out = Tape::new(4096, 4096);
+    let mut err = Tape::new(4096, 4096);
+    let words = [
+        "run", "--orders", "orders", "--script", "script", "--case", "case",
+    ];
+    let got = execute(alloc, &words, &mut shelf, &mut out, &mut err);
+    let output = if status == 0 { SENT } else { b"".as_slice() };
+    assert_eq!(rt; err.bytes(), errors);
+    assert_eq!(rt; out.bytes(), output);
+    assert_eq!(rt; got, status);
+}
+
 // A text of 1,048,576 bytes is read, and no longer one. The third line of a case is no LF.
 #[test]
 fn longest_texts(rt: HostRuntime) -> Result<(), Fail> {
-    let texts = [built_in::ORDERS, built_in::SCRIPT, CASE];
-    let rows: [(usize, usize, u8, &[u8]); 6] = [
-        (0, 1_048_576, 0, b""),
-        (0, 1_048_577, 5, b"error: read --orders\n"),
-        (1, 1_048_576, 0, b""),
-        (1, 1_048_577, 5, b"error: read --script\n"),
-        (2, 1_048_576, 3, b"error: case line 3\n"),
-        (2, 1_048_577, 5, b"error: read --case\n"),
+    let rows: [(usize, u8, u8, [&[u8]; 3]); 2] = [
+        (1_048_576, 0, 3, [b"", b"", b"error: case line 3\n"]),
+        (
+            1_048_577,
+            5,
+            5,
+            [
+                b"error: read --orders\n",
+                b"error: read --script\n",
+                b"error: read --case\n",
+            ],
+        ),
     ];
-    for (place, len, status, errors) in rows {
-        let mut lens = [0; 3];
-        lens[place] = len;
-        let orders = padded(rt.alloc(), texts[0], lens[0])?;
-        let script = padded(rt.alloc(), texts[1], lens[1])?;
-        let case = padded(rt.alloc(), texts[2], lens[2])?;
-        let files = [
-            ("orders", orders.as_slice()),
-            ("script", script.as_slice()),
-            ("case", case.as_slice()),
-        ];
-        let mut shelf = Shelf::new(&files, Quirk::None);
-        let mut out = Tape::new(4096, 4096);
-        let mut err = Tape::new(4096, 4096);
-        let words = [
-            "run", "--orders", "orders", "--script", "script", "--case", "case",
-        ];
-        let got = execute(rt.alloc(), &words, &mut shelf, &mut out, &mut err);
-        let output: &[u8] = if status == 0 { SENT } else { b"" };
-        assert_eq!(rt; got, status, "{len} bytes of {place}");
-        assert_eq!(rt; out.bytes(), output, "{len} bytes of {place}");
-        assert_eq!(rt; err.bytes(), errors, "{len} bytes of {place}");
+    for (len, status, case_status, errors) in rows {
+        let [of_orders, of_script, of_case] = errors;
+        let orders = padded(rt.alloc(), built_in::ORDERS, len)?;
+        let texts = (orders.as_slice(), built_in::SCRIPT, CASE);
+        assert_run(&rt, rt.alloc(), texts, status, of_orders);
+        let script = padded(rt.alloc(), built_in::SCRIPT, len)?;
+        let texts = (built_in::ORDERS, script.as_slice(), CASE);
+        assert_run(&rt, rt.alloc(), texts, status, of_script);
+        let case = padded(rt.alloc(), CASE, len)?;
+        let texts = (built_in::ORDERS, built_in::SCRIPT, case.as_slice());
+        assert_run(&rt, rt.alloc(), texts, case_status, of_case);
     }
     Ok(())
 }
