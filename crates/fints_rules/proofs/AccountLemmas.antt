@@ -1,10 +1,14 @@
 -- The account of an order.
-use Rattle.std.proofs.Common.{◌≡◌, ℕ, true, false, List, Some, ap, ◌∙◌, sym, subst}
+use Rattle.std.proofs.Common.{◌≡◌, ℕ, true, false, List, Some, refl, ap, ◌∙◌, sym, subst}
 use Rattle.std.specs.Prelude.{IsTrue, ◌↔◌}
 use Rattle.fints_params.specs.Parameters.{Rows}
 use Rattle.fints_rules.specs.declared.orders.OrderRow.{OrderRow}
 use Rattle.fints_rules.specs.declared.orders.AccountForm.{AccountForm}
+use Rattle.fints_rules.specs.declared.orders.AccountForm.TheVariants.{Nameless, National, International}
+use Rattle.fints_syntax.specs.Values.{values_at}
+use Rattle.fints_syntax.specs.declared.item.OwnedSegment.{OwnedSegment}
 use Rattle.fints_rules.specs.Accounts.{Account, account_of}
+use Rattle.fints_rules.specs.Facts.{six_items}
 use Rattle.fints_rules.specs.Permits.{AllNeedMore, IsLocked}
 use Rattle.fints_rules.specs.Rules.{NamesAccount}
 use Rattle.fints_rules.specs.SegmentFacts.{SegmentFactsValue}
@@ -39,3 +43,9 @@ locked_fits rows table s kind k (a, names, locked) = (
   λ h. no_truth h,
   λ (b, also, more). absurd (not_both rows b kind k more (subst (λ x. IsLocked rows x kind) (account_one table s a b names also) locked)),
 )
+
+-- an account is read from the first six items
+pub six_same : (form : AccountForm) (s : OwnedSegment) → account_of form (six_items s) ≡ account_of form (values_at s 2)
+six_same Nameless s = refl
+six_same National s = refl
+six_same International s = refl

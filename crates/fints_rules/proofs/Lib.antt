@@ -6,3 +6,4 @@ pub mod RowLemmas
 pub mod AccountLemmas
 pub mod Judged
 pub mod Risings
+pub mod Refusals

@@ -1,8 +1,10 @@
 //! The judge: one message, the rules that it breaks.
-ghost use Rattle.std.specs.Prelude.{OnOk, IfOk, IfErr, length};
+ghost use Rattle.std.specs.Prelude.{◌≡◌, OnOk, IfOk, IfErr, length};
 ghost use Rattle.fints_rules.specs.Breaks.{IsJudged};
 ghost use Rattle.fints_rules.specs.Judging.{IsRising, AddsWhole, AddsSegments, AddsRule, Covers};
+ghost use Rattle.fints_messages.specs.Messages.{MessageView, IsMessage};
 ghost use Rattle.fints_messages.specs.Read.{IsRefusal};
+ghost use Rattle.fints_messages.specs.declared.message.JudgeFault.TheVariants as faults;
 
 use crate::permissions::Permissions;
 use crate::rule::{Broken, Rule};
@@ -89,6 +91,7 @@ pub fn judge(
 ) -> Result<Vec<Broken>, JudgeFault>
     ensures judged { IfOk result (λ broken. IsJudged permissions.now bytes.now broken.items) }
     ensures refusal { IfErr result (λ f. IsRefusal bytes.now f) }
+    ensures memory_alone { (m : MessageView) → IsMessage bytes.now m → IfErr result (λ f. f ≡ faults.Memory) }
 {
     numbered_bodies();
     let message = read_message(alloc, bytes)?;

@@ -5,6 +5,7 @@ mod account;
 mod facts;
 mod judging;
 pub mod kinds;
+pub mod laws;
 mod limits;
 mod orders;
 mod permissions;
@@ -15,7 +16,7 @@ mod whole;
 
 pub use account::AccountKey;
 pub use facts::{MessageFacts, SegmentFacts};
-pub use fints_messages::{JudgeFault, Message, laws, read_message};
+pub use fints_messages::{JudgeFault, Message, read_message};
 pub use judging::judge;
 pub use limits::{Demand, Limits, OrderKey};
 pub use orders::{AccountForm, OrderRow, OrderTable, TableFault};

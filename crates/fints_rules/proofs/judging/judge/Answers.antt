@@ -1,7 +1,9 @@
 use Rattle.std.proofs.Common.{◌+◌, length, arith, subst, sym}
 use Rattle.fints_rules.specs.Judging.{IsRising, Covers}
 use Rattle.fints_messages.specs.Messages.{MessageView}
+use Rattle.std.proofs.lemmas.Result.{err_from_is_err_and}
 use Rattle.fints_rules.proofs.Judged.{judged_all}
+use Rattle.fints_rules.proofs.Refusals.{memory_alone}
 use Rattle.fints_rules.proofs.Risings.{rising_from}
 use Rattle.fints_rules.proofs.judging.judge.Goals as goal
 
@@ -17,3 +19,8 @@ returns-clause-judged c =
       exactly = judged_all c.args.permissions.now c.in_ok-message.message c.in_ok-broken.broken.items covers;
       in_order = covers.in_order;
     }
+
+pub returns-in_err-message-clause-memory_alone : goal.returns-in_err-message-clause-memory_alone
+returns-in_err-message-clause-memory_alone c = λ m is.
+    let p = err_from_is_err_and c.from_residual.result c.from_residual.ensures.1 in
+    rw (p.1, p.2) (memory_alone c.args.bytes.now c.in_err-message.field-0.0 c.in_err-message.ensures.refusal m is)

@@ -1,0 +1,16 @@
+//! Laws of messages and rules: each function's contract is one.
+ghost use Rattle.std.specs.Prelude.{◌≡◌};
+ghost use Rattle.fints_syntax.specs.Values.{values_at};
+ghost use Rattle.fints_syntax.specs.declared.item.OwnedSegment.{OwnedSegment};
+ghost use Rattle.fints_rules.specs.Accounts.{account_of};
+ghost use Rattle.fints_rules.specs.Facts.{six_items};
+ghost use Rattle.fints_rules.specs.declared.orders.AccountForm.{AccountForm};
+
+pub use fints_messages::laws::{numbered_bodies, one_message};
+
+/// An account is found in the first six items of an element; more change nothing.
+#[tactic(auto, using(crate::proofs::AccountLemmas::six_same))]
+pub fn six_items_name_an_account()
+    ensures { (form : AccountForm) (s : OwnedSegment) → account_of form (six_items s) ≡ account_of form (values_at s 2) }
+{
+}
