@@ -4,10 +4,11 @@ use Rattle.std.proofs.lemmas.Bool.{cases_lt, cases_Bool, false_from_ne_true, bot
 use Rattle.std.proofs.lemmas.Option.{same_Some, none-some}
 use Rattle.std.proofs.lemmas.List.Folds.{Any-from_list_any, list_any-from_Any}
 use Rattle.std.proofs.lemmas.List.Elements.{Contains-get_or, All-contains, All-cons, All-nil}
+use Rattle.std.specs.Prelude.{◌↔◌}
 use Rattle.std.specs.List.{All, list_any, Contains, find}
 use Rattle.std.specs.Option.{ForSome, option_map_or}
 use Rattle.fints_cases.specs.Patterns.{matches}
-use Rattle.fints_cases.specs.Answers.{matches_some, IsAnswer, Fires, IsOpen, IsOpener, OneCodeFires, OneBranchFires}
+use Rattle.fints_cases.specs.Answers.{matches_some, leads, target_of, CanLead, IsAnswer, Fires, IsOpen, IsOpener, IsOpenTo, OneCodeFires, OneBranchFires}
 use Rattle.fints_cases.specs.declared.answers.Branch.{Branch}
 use Rattle.fints_cases.specs.declared.answers.Target.{Target}
 
@@ -130,3 +131,26 @@ none_more branches b n none here code small o =
       | inl h ↦ none code h o
       | inr h ↦ let same : code ≡ n = omega arith in here (subst (IsOpener branches b) same o)
     ]
+
+-- ---- where answers lead
+
+-- codes that fire a branch lead where it does
+leads_where : (branches : List Branch) (otherwise : Target) (codes : List ℕ) (b : ℕ) → Fires branches codes b → leads branches otherwise codes ≡ target_of branches otherwise b
+leads_where branches otherwise codes b fires =
+    let one = one_branch branches otherwise codes in
+    one.leads_to ∙ ap (λ (n : ℕ). target_of branches otherwise n) (sym (one.alone b fires))
+
+pub open_leads : (branches : List Branch) (otherwise target : Target) → CanLead branches otherwise target ↔ IsOpenTo branches otherwise target
+open_leads branches otherwise target = (
+  λ way.
+      let one = one_branch branches otherwise way.codes in
+      record { branch = one.branch; is_open = record { codes = way.codes; answer = way.answer; fires = one.fires }; to = sym one.leads_to ∙ way.leads_to },
+  λ open_to. record {
+    codes = open_to.is_open.codes;
+    answer = open_to.is_open.answer;
+    leads_to = leads_where branches otherwise open_to.is_open.codes open_to.branch open_to.is_open.fires ∙ open_to.to;
+  },
+)
+
+pub opener_leads : (branches : List Branch) (otherwise : Target) (b code : ℕ) → 1 ≤ b → b ≤ length branches + 1 → IsOpener branches b code → leads branches otherwise (code ∷ []) ≡ target_of branches otherwise b
+opener_leads branches otherwise b code from to o = leads_where branches otherwise (code ∷ []) b (fires_alone branches b code from to o)

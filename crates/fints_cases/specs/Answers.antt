@@ -58,3 +58,15 @@ pub record OneBranchFires (branches : List Branch) (otherwise : Target) (codes :
   pub fires : Fires branches codes branch
   pub alone : (other : ℕ) → Fires branches codes other → other ≡ branch
   pub leads_to : leads branches otherwise codes ≡ target_of branches otherwise branch
+
+-- some answer leads to this target
+pub record CanLead (branches : List Branch) (otherwise target : Target) : Type 0 where
+  pub codes : List ℕ
+  pub answer : IsAnswer codes
+  pub leads_to : leads branches otherwise codes ≡ target
+
+-- some open branch, the default among them, has this target
+pub record IsOpenTo (branches : List Branch) (otherwise target : Target) : Type 0 where
+  pub branch : ℕ
+  pub is_open : IsOpen branches branch
+  pub to : target_of branches otherwise branch ≡ target

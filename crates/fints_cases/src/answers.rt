@@ -1,7 +1,7 @@
 //! Which branch of a step an answer fires, and which branches some answer fires.
 ghost use Rattle.std.specs.Prelude.{◌≡◌, ◌↔◌, ℕ, ◌+◌, ◌<◌, ◌≤◌, length, IsTrue, IsSome, IfSome};
 ghost use Rattle.std.specs.List.{find};
-ghost use Rattle.fints_cases.specs.Answers.{matches_some, leads, IsOpen, IsOpener, IsLeastOpener};
+ghost use Rattle.fints_cases.specs.Answers.{matches_some, leads, target_of, IsOpen, IsOpener, IsLeastOpener};
 
 use crate::pattern::Pattern;
 use fints_params::Code;
@@ -39,6 +39,17 @@ pub fn choose(branches: &[Branch], otherwise: Target, codes: &[Code]) -> Target
     ensures { result ≡ leads branches.now otherwise codes.now }
 {
     first_match(branches, codes).map_or(otherwise, |branch| branch.to)
+}
+
+/// Where a branch leads, counted from 1; the default counts as the last.
+pub fn target_of(branches: &[Branch], otherwise: Target, branch: usize) -> Target
+    requires from { 1 ≤ branch }
+    requires to { branch ≤ length branches.now + 1 }
+    ensures { result ≡ target_of branches.now otherwise branch }
+{
+    branches
+        .get(branch - 1)
+        .map_or(otherwise, |own| own.to)
 }
 
 /// Whether the code matches the branch, counted from 1, and no earlier one.

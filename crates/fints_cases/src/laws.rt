@@ -1,6 +1,6 @@
 //! Laws of answers and cases: each function's contract is one.
-ghost use Rattle.std.specs.Prelude.{◌≡◌, ℕ, List};
-ghost use Rattle.fints_cases.specs.Answers.{OneCodeFires, OneBranchFires};
+ghost use Rattle.std.specs.Prelude.{◌≡◌, ◌≤◌, ◌+◌, ◌↔◌, ℕ, List, [], ◌∷◌, length};
+ghost use Rattle.fints_cases.specs.Answers.{OneCodeFires, OneBranchFires, CanLead, IsOpener, IsOpenTo, leads, target_of};
 ghost use Rattle.fints_cases.specs.Cases.{OneCase, IsFirstBadLine};
 ghost use Rattle.fints_cases.specs.declared.answers.Branch.{Branch};
 ghost use Rattle.fints_cases.specs.declared.answers.Target.{Target};
@@ -13,6 +13,16 @@ pub fn one_code_fires()
 /// Every list of codes fires exactly one branch, and leads where that branch does.
 pub fn one_branch_fires()
     ensures { (branches : List Branch) (otherwise : Target) (codes : List ℕ) → OneBranchFires branches otherwise codes }
+{}
+
+/// Some answer leads to a target exactly where some open branch, the default among them, has it.
+pub fn open_branches_lead()
+    ensures { (branches : List Branch) (otherwise target : Target) → CanLead branches otherwise target ↔ IsOpenTo branches otherwise target }
+{}
+
+/// An opener alone leads to its branch's target.
+pub fn openers_lead()
+    ensures { (branches : List Branch) (otherwise : Target) (b code : ℕ) → 1 ≤ b → b ≤ length branches + 1 → IsOpener branches b code → leads branches otherwise (code ∷ []) ≡ target_of branches otherwise b }
 {}
 
 /// A text stands for one case at most.

@@ -10,7 +10,7 @@ pub mod laws;
 mod pattern;
 mod values;
 
-pub use answers::{Branch, Target, choose, opener};
+pub use answers::{Branch, Target, choose, opener, target_of};
 pub use case::{Answer, Case};
 pub use case_fault::CaseFault;
 pub use pattern::Pattern;
