@@ -10,3 +10,4 @@ pub mod SoundTargets
 pub mod SoundScripts
 pub mod SoundParts
 pub mod SoundSteps
+pub mod ClosedSegments

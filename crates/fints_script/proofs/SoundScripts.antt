@@ -21,7 +21,8 @@ use Rattle.fints_script.specs.Steps.{StepValue, Surroundings, branch_has, target
 use Rattle.fints_templates.specs.Segments.{template_of}
 use Rattle.fints_script.specs.Scripts.{counts_are_past as top_past}
 use Rattle.fints_script.specs.Scripts.{ScriptValue, IsRead, IsScriptOf, IsDialogField, field_rows, top_has, top_fault, rows_are_wrong, surroundings, signer_rows, step_rows, look_at_signer}
-use Rattle.fints_script.specs.Sound.{IsSound, IsSoundStep, IsSoundSigner, IsSoundFrame, numbered, LeadsOnward}
+use Rattle.fints_script.specs.Sound.{IsSound, IsSoundStep, IsSoundSigner, IsSoundFrame, LeadsOnward}
+use Rattle.fints_script.specs.Numbered.{numbered}
 use Rattle.fints_script.proofs.SoundParts.{both_none, no_limit, not_past, sound_signer, sound_seal}
 use Rattle.fints_script.proofs.SoundSteps.{number_within, sound_templates, signatures_within, some_rows}
 use Rattle.fints_script.proofs.SoundTargets.{branches_onward, target_onward}

@@ -3,4 +3,5 @@ pub mod Around
 pub mod Scripts
 pub mod RowFaults
 pub mod Plans
+pub mod Numbered
 pub mod Sound

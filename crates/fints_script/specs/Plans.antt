@@ -1,5 +1,5 @@
 -- A script with an order table: which accounts and processes are open, and which values are admitted.
-use Rattle.std.specs.Prelude.{◌≡◌, ℕ, ◌+◌, ◌<◌, Bool, true, false, ◌&&◌, ◌||◌, not, if◌then◌else◌, codes, List, [], ◌∷◌, length, slice_get, zip, All, Option, Some, None}
+use Rattle.std.specs.Prelude.{◌≡◌, ◌⊎◌, ℕ, ◌+◌, ◌<◌, Bool, true, false, ◌&&◌, ◌||◌, not, if◌then◌else◌, codes, List, [], ◌∷◌, length, slice_get, zip, All, Option, Some, None}
 use Rattle.std.specs.List.{list_all}
 use Rattle.std.specs.Str.{bytes_eq}
 use Rattle.fints_rules.specs.Orders.{form_of}
@@ -95,6 +95,11 @@ IsPlanFault s orders f = IsFirstOpenStep s.fields orders s.steps f
 -- no segment of the script leaves anything open
 abbrev pub IsClosed : ScriptValue → List OrderRow → Type 0
 IsClosed s orders = StepsAreClosed s.fields orders s.steps (length s.steps)
+
+-- element 2 of an HKTAN is all literals; that of an order that names an account is all literals, or one field of listed accounts by itself
+pub record IsClosedTemplate (fields : List NamedField) (orders : List OrderRow) (t : Template) : Type 0 where
+  pub process : bytes_eq t.kind (codes "HKTAN") ≡ true → list_all is_literal (element_two t) ≡ true
+  pub account : names_account (form_of orders t.kind t.version) ≡ true → (list_all is_literal (element_two t) ≡ true) ⊎ (is_account_field fields (element_two t) ≡ true)
 
 -- ---- values
 

@@ -1,10 +1,11 @@
 -- What holds of every script that was read.
-use Rattle.std.specs.Prelude.{◌≡◌, ℕ, zero, suc, ◌<◌, ◌≤◌, ◌⊎◌, false, IsTrue, List, length, map, slice_get, Option, Some, None, All, [], IfSome, IsSome}
+use Rattle.std.specs.Prelude.{◌≡◌, ℕ, ◌<◌, ◌≤◌, ◌⊎◌, false, IsTrue, List, length, map, slice_get, Option, Some, None, All, [], IfSome, IsSome}
 use Rattle.fints_syntax.specs.Kind.{IsKindText}
 use Rattle.fints_templates.specs.Figures.{figures_of}
 use Rattle.fints_field_rows.specs.NamedFields.{is_account_at}
+use Rattle.fints_script.specs.Numbered.{numbered}
 use Rattle.fints_script.specs.Plans.{is_account_field}
-use Rattle.fints_script.specs.Scripts.{ScriptValue, IsDialogField}
+use Rattle.fints_script.specs.Scripts.{ScriptValue, IsDialogField, MAX_STEPS}
 use Rattle.fints_script.specs.Steps.{StepValue, Surroundings, step_weight, MAX_WEIGHT}
 use Rattle.fints_templates.specs.Segments.{frame_kinds}
 use Rattle.fints_templates.specs.Weights.{items_in, MAX_ITEMS}
@@ -66,11 +67,6 @@ pub record IsSoundTemplate (fields : List NamedField) (t : Template) : Type 0 wh
 abbrev pub surroundings_in : ScriptValue → Surroundings
 surroundings_in s = record { fields = s.fields; figures = map figures_of s.fields; signers = s.signers; seal = s.seal; rows = [] }
 
--- what has this number in a list that counts from 1
-abbrev pub numbered : {X : Type 0} → List X → ℕ → Option X
-numbered xs zero = None
-numbered xs (suc i) = slice_get xs i
-
 -- a target from step n of a script of `count` steps: a later step that exists, the same step, or the end
 abbrev pub IsOnward : ℕ → ℕ → Target → Type 0
 IsOnward count n (targets.Step to) = (n < to) × (to ≤ count)
@@ -104,6 +100,6 @@ pub record IsSound (s : ScriptValue) : Type 0 where
   pub signers : All (IsSoundSigner s.fields) s.signers
   pub seal : IfSome s.seal (IsSoundFrame s.fields)
   pub some_steps : 1 ≤ length s.steps
-  pub few_steps : length s.steps ≤ 200
+  pub few_steps : length s.steps ≤ MAX_STEPS
   pub steps : All (IsSoundStep s) s.steps
   pub onward : (n : ℕ) (step : StepValue) → numbered s.steps n ≡ Some step → LeadsOnward (length s.steps) n step

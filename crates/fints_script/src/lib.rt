@@ -4,6 +4,7 @@
 mod around;
 mod branches;
 mod field_rows;
+pub mod laws;
 mod opens;
 mod plan;
 mod rows;
@@ -11,7 +12,7 @@ mod script;
 mod step_faults;
 mod steps;
 
-pub use fints_cases::{Answer, Branch, Case, CaseFault, NamedValue, Pattern, Target, Values, laws};
+pub use fints_cases::{Answer, Branch, Case, CaseFault, NamedValue, Pattern, Target, Values};
 pub use fints_field_rows::{FaultKind, NamedField, Place, ScriptFault};
 pub use fints_fields::{
     Account, AccountValue, Accounts, Bin, Digits, Field, FieldClass, Name, OneOf, Plain, Text,

@@ -2,7 +2,8 @@
 ghost use Rattle.std.specs.Prelude.{◌≡◌, ◌↔◌, ◌<◌, ◌≤◌, ◌-◌, length, map, option_map, slice_get, Some, All, zip, IsTrue, IfOk, IfErr};
 ghost use Rattle.fints_script.specs.Plans.{IsClosed, IsPlanFault, IsChosen, Admits};
 ghost use Rattle.fints_script.specs.Scripts.{IsRead};
-ghost use Rattle.fints_script.specs.Sound.{IsSound};
+ghost use Rattle.fints_script.specs.Numbered.{numbered};
+ghost use Rattle.fints_script.specs.Sound.{IsSound, IsSoundStep};
 
 use crate::opens::{PlanFault, first_fault};
 use crate::script::Script;
@@ -84,7 +85,9 @@ impl<'a> Plan<'a> {
         requires from { 1 ≤ n }
         requires to { n ≤ length self.now.script.steps }
         ensures step { slice_get self.now.script.steps (n - 1) ≡ Some result.now }
+        ensures numbered { numbered self.now.script.steps n ≡ Some result.now }
         ensures sound { IsSound self.now.script }
+        ensures sound_step { IsSoundStep self.now.script result.now }
     {
         &self.script.steps()[n - 1]
     }

@@ -2,7 +2,7 @@
 ghost use Rattle.std.specs.Prelude.{◌≡◌, ◌<◌, ◌≤◌, ◌+◌, ◌↔◌, length, map, option_map, IfOk, IfErr, IfSome, IsSome, None};
 ghost use Rattle.std.specs.List.{list_any};
 ghost use Rattle.toml.specs.View.{view, table_view};
-ghost use Rattle.fints_cases.specs.Answers.{leads, IsOpen, IsLeastOpener};
+ghost use Rattle.fints_cases.specs.Answers.{leads, target_of, IsOpen, IsLeastOpener};
 ghost use Rattle.fints_field_rows.specs.Faults.{Tells};
 ghost use Rattle.fints_templates.specs.Weights.{Spends, total, segment_weight, items_in};
 ghost use Rattle.fints_script.specs.Steps.{signature_value, step_value, seal_weight, signature_weight, step_weight, has_large_segment, is_too_large, step_keys_fault, step_fault, step_of};
@@ -11,7 +11,7 @@ ghost use Rattle.fints_script.specs.Around.{surroundings_of};
 use crate::around::Around;
 use crate::branches::{branches_of, target_value};
 use crate::step_faults::{first_kind, place_of_signer};
-use fints_cases::{Branch, Target, choose, opener};
+use fints_cases::{Branch, Target, choose, opener, target_of};
 use fints_documents::document;
 use fints_documents::entries::text_at;
 use fints_documents::tables::{is_set, number_or, rows_of};
@@ -109,6 +109,15 @@ impl Step {
         ensures least { IfSome result (IsLeastOpener self.now.branches branch) }
     {
         opener(self.branches.as_slice(), branch)
+    }
+
+    /// Where a branch leads, counted from 1; the default counts as the last.
+    pub fn target(&self, branch: usize) -> Target
+        requires from { 1 ≤ branch }
+        requires to { branch ≤ length self.now.branches + 1 }
+        ensures { result ≡ target_of self.now.branches self.now.otherwise branch }
+    {
+        target_of(self.branches.as_slice(), self.otherwise, branch)
     }
 
     /// Where an answer leads that no branch matches.

@@ -9,7 +9,7 @@ use Rattle.fints_rules.specs.declared.orders.TableFault.TheVariants as orders
 use Rattle.fints_rules.specs.Orders.{DenotesTable, IsTableFault}
 use Rattle.fints_cases.specs.Cases.{IsRefusal}
 use Rattle.fints_script.specs.Scripts.{ScriptValue, Refuses, IsFirstOf}
-use Rattle.fints_script.specs.Sound.{numbered}
+use Rattle.fints_script.specs.Numbered.{numbered}
 use Rattle.fints_script.specs.Steps.{StepValue}
 use Rattle.fints_cases.specs.declared.case_fault.CaseFault.{CaseFault}
 use Rattle.fints_cases.specs.declared.case_fault.CaseFault.TheVariants as cases

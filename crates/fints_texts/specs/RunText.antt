@@ -7,7 +7,7 @@ use Rattle.fints_rules.specs.Orders.{DenotesTable, IsTableFault}
 use Rattle.fints_cases.specs.Cases.{IsCaseOf, IsFirstBadLine}
 use Rattle.fints_script.specs.Plans.{IsClosed, IsPlanFault, Admits}
 use Rattle.fints_script.specs.Scripts.{ScriptValue, Denotes, IsFirstOf}
-use Rattle.fints_script.specs.Sound.{numbered}
+use Rattle.fints_script.specs.Numbered.{numbered}
 use Rattle.fints_script.specs.Steps.{StepValue}
 use Rattle.fints_cases.specs.declared.case_fault.CaseFault.{CaseFault}
 use Rattle.fints_cases.specs.declared.case_fault.CaseFault.TheVariants as cases

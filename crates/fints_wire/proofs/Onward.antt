@@ -6,7 +6,8 @@ use Rattle.std.specs.List.{All, find}
 use Rattle.std.specs.Option.{option_map_or}
 use Rattle.fints_cases.specs.Answers.{matches_some}
 use Rattle.fints_script.specs.Scripts.{ScriptValue}
-use Rattle.fints_script.specs.Sound.{IsSound, IsOnward, numbered}
+use Rattle.fints_script.specs.Sound.{IsSound, IsOnward}
+use Rattle.fints_script.specs.Numbered.{numbered}
 use Rattle.fints_script.specs.Steps.{StepValue}
 use Rattle.fints_cases.specs.declared.answers.Branch.{Branch}
 use Rattle.fints_cases.specs.declared.answers.Target.{Target}

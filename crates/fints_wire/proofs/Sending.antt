@@ -4,7 +4,8 @@ use Rattle.std.proofs.lemmas.Option.{same_Some}
 use Rattle.std.specs.List.{AllByRecursion}
 use Rattle.fints_cases.specs.Answers.{IsAnswer}
 use Rattle.fints_script.specs.Scripts.{ScriptValue}
-use Rattle.fints_script.specs.Sound.{IsSound, IsOnward, numbered}
+use Rattle.fints_script.specs.Sound.{IsSound, IsOnward}
+use Rattle.fints_script.specs.Numbered.{numbered}
 use Rattle.fints_script.specs.Steps.{StepValue}
 use Rattle.fints_cases.specs.declared.answers.Target.{Target}
 use Rattle.fints_cases.specs.declared.answers.Target.TheVariants.{Step, Again, Stop}
