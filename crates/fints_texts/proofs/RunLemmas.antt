@@ -9,7 +9,7 @@ use Rattle.fints_rules.specs.declared.orders.TableFault.TheVariants as orders
 use Rattle.fints_rules.specs.Orders.{DenotesTable, IsTableFault}
 use Rattle.fints_cases.specs.Cases.{IsRefusal}
 use Rattle.fints_script.specs.Scripts.{ScriptValue, Refuses, IsFirstOf}
-use Rattle.fints_script.specs.Numbered.{numbered}
+use Rattle.fints_script.specs.Numbered.{numbered, numbered_within}
 use Rattle.fints_script.specs.Steps.{StepValue}
 use Rattle.fints_cases.specs.declared.case_fault.CaseFault.{CaseFault}
 use Rattle.fints_cases.specs.declared.case_fault.CaseFault.TheVariants as cases
@@ -34,13 +34,8 @@ named steps (suc n) step one at =
     let e : suc n - 1 ≡ n = omega arith in
     ap name_in (subst (λ i. slice_get steps i ≡ Some step) e at)
 
--- a number that a step has is one of theirs
-within : (steps : List StepValue) (n : ℕ) (step : StepValue) → numbered steps n ≡ Some step → (1 ≤ n) × (n ≤ length steps)
-within steps zero step e = absurd (cc)
-within steps (suc n) step e = (omega arith, omega (arith, slice_get_within steps n step e))
-
 of_visit : (script : ScriptValue) (values : List NamedValue) (v : Visit) (m : Sent) → IsSent script values v m → IsOfStep script.steps m
-of_visit script values v m s = subst (IsOfStep script.steps) (sym s.is) (within script.steps v.step s.at s.of)
+of_visit script values v m s = subst (IsOfStep script.steps) (sym s.is) (numbered_within script.steps v.step s.at s.of)
 
 all_within : (script : ScriptValue) (values : List NamedValue) (visits : List Visit) (sent : List Sent) → AreSent script values visits sent → All (IsOfStep script.steps) sent
 all_within script values visits [] are = All-nil (IsOfStep script.steps)

@@ -16,3 +16,5 @@ pub mod Writables
 pub mod MessageParts
 pub mod ViewLemmas
 pub mod Following
+pub mod Repeating
+pub mod Bodies

@@ -4,7 +4,7 @@ use Rattle.std.proofs.lemmas.Option.{same_Some}
 use Rattle.std.proofs.lemmas.List.{drop_more, drop_all, append_assoc, append-nil}
 use Rattle.fints_script.specs.Scripts.{ScriptValue}
 use Rattle.fints_script.specs.Sound.{IsSound, IsSoundStep, IsOnward}
-use Rattle.fints_script.specs.Numbered.{numbered}
+use Rattle.fints_script.specs.Numbered.{numbered, numbered_at, numbered_within, numbered_holds}
 use Rattle.fints_script.specs.Steps.{StepValue}
 use Rattle.fints_cases.specs.declared.values.NamedValue.{NamedValue}
 use Rattle.fints_cases.specs.declared.answers.Target.{Target}
@@ -12,7 +12,7 @@ use Rattle.fints_cases.specs.declared.answers.Target.TheVariants.{Step, Again, S
 use Rattle.fints_wire.specs.Runs.{start, answered, After, Follows, Finishes, Enters, Ends, IsWithin, IsSent, AreSent, Run}
 use Rattle.fints_wire.specs.declared.dialogue.Visit.{Visit}
 use Rattle.fints_wire.specs.declared.dialogue.Sent.{Sent}
-use Rattle.fints_wire.proofs.Onward.{numbered_at, numbered_within, numbered_holds, answered_onward}
+use Rattle.fints_wire.proofs.Onward.{answered_onward}
 
 -- ---- numbers stay small, and steps exist
 

@@ -5,7 +5,7 @@ use Rattle.std.specs.List.{AllByRecursion}
 use Rattle.fints_cases.specs.Answers.{IsAnswer}
 use Rattle.fints_script.specs.Scripts.{ScriptValue}
 use Rattle.fints_script.specs.Sound.{IsSound, IsOnward}
-use Rattle.fints_script.specs.Numbered.{numbered}
+use Rattle.fints_script.specs.Numbered.{numbered, numbered_at}
 use Rattle.fints_script.specs.Steps.{StepValue}
 use Rattle.fints_cases.specs.declared.answers.Target.{Target}
 use Rattle.fints_cases.specs.declared.answers.Target.TheVariants.{Step, Again, Stop}
@@ -15,7 +15,7 @@ use Rattle.fints_wire.specs.Runs.{start, answered, After, Follows, Enters, last_
 use Rattle.fints_wire.specs.Runs.Reach.{first, onward}
 use Rattle.fints_wire.specs.declared.dialogue.Visit.{Visit}
 use Rattle.fints_wire.specs.declared.dialogue.Sent.{Sent}
-use Rattle.fints_wire.proofs.Onward.{numbered_at, answered_onward}
+use Rattle.fints_wire.proofs.Onward.{answered_onward}
 use Rattle.fints_wire.proofs.Reaching.{run_from_reach}
 use Rattle.fints_wire.proofs.Running.{after_once}
 
@@ -101,7 +101,7 @@ route_sends script values answers v m sound r is =
     let all = messages_of script values start answers r.later sound (start_exists script sound) r.after in
     let ends = last_is script values start r.later (all.first ∷ all.rest) all.last all.are all.ends in
     let same = same_message script values v all.last m (subst (λ (u : Visit). IsSent script values u all.last) r.last ends) is in
-    record { sent = all.first ∷ all.rest; run = record { later = r.later; after = r.after; messages = all.are }; last = subst (EndsWith (all.first ∷ all.rest)) same all.ends }
+    record { each = r.each; sent = all.first ∷ all.rest; run = record { later = r.later; after = r.after; messages = all.are }; last = subst (EndsWith (all.first ∷ all.rest)) same all.ends }
 
 -- ---- each message of a run is the last of some run
 

@@ -13,7 +13,8 @@ use Rattle.fints_wire.specs.Runs.Reach.{first, onward}
 use Rattle.fints_wire.specs.Views.{MessagesAreRead, IsReadAs}
 use Rattle.fints_wire.specs.declared.dialogue.Visit.{Visit}
 use Rattle.fints_wire.specs.declared.dialogue.Sent.{Sent}
-use Rattle.fints_wire.proofs.Onward.{numbered_from, answered_onward}
+use Rattle.fints_wire.proofs.Onward.{answered_onward}
+use Rattle.fints_script.specs.Numbered.{numbered_from}
 use Rattle.fints_wire.proofs.Reaching.{reach_from_run}
 use Rattle.fints_wire.proofs.Running.{IsSmall, step_of, follow_small, small_number, small_range, small_start}
 use Rattle.fints_wire.proofs.Weighing.{message_light}

@@ -1,7 +1,7 @@
 -- Which messages a client sends under a list of answers. Steps and messages count from 1.
 use Rattle.std.specs.Prelude.{ℕ, ◌≡◌, ◌<◌, ◌≤◌, ◌+◌, ◌*◌, ◌==◌, cond, Some, List, [], ◌∷◌, length}
 use Rattle.std.specs.List.{AllByRecursion}
-use Rattle.fints_cases.specs.Answers.{IsAnswer, leads}
+use Rattle.fints_cases.specs.Answers.{CanLead, IsAnswer, leads}
 use Rattle.fints_script.specs.Scripts.{ScriptValue}
 use Rattle.fints_script.specs.Numbered.{numbered}
 use Rattle.fints_script.specs.Steps.{StepValue}
@@ -71,6 +71,14 @@ pub record Arrives (steps : List StepValue) (v : Visit) : Type 0 where
   pub after : After steps start answers later
   pub last : last_of start later ≡ v
 
+-- the step is there, and so many messages of it were sent in a row: one at least, at most its `repeat`, and one alone where no answer leads to `again`
+pub record IsRepeated (steps : List StepValue) (v : Visit) : Type 0 where
+  pub step : StepValue
+  pub at : numbered steps v.step ≡ Some step
+  pub some : 1 ≤ v.times
+  pub most : v.times ≤ step.repeat
+  pub once : (CanLead step.branches step.otherwise targets.Again → ⊥) → v.times ≡ 1
+
 -- the step is there, the number is at most 99 for each step up to it, and at most 99 messages were sent in a row
 pub record IsWithin (steps : List StepValue) (v : Visit) : Type 0 where
   pub from : 1 ≤ v.step
@@ -127,8 +135,9 @@ pub record SendsLast (script : ScriptValue) (values : List NamedValue) (m : Sent
   pub run : Run script values answers sent
   pub last : EndsWith sent m
 
--- under these values the run of these answers ends with m
+-- under these values the run of these answers, each of one code or more, ends with m
 pub record EndsIn (script : ScriptValue) (values : List NamedValue) (answers : List (List ℕ)) (m : Sent) : Type 0 where
+  pub each : AllByRecursion IsAnswer answers
   pub sent : List Sent
   pub run : Run script values answers sent
   pub last : EndsWith sent m

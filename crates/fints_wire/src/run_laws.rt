@@ -1,13 +1,14 @@
 //! Laws of runs: each function's contract is one.
-ghost use Rattle.std.specs.Prelude.{◌↔◌, ◌≡◌, ◌+◌, ℕ, List, [], ◌∷◌, ◌++◌, Some, slice_get};
+ghost use Rattle.std.specs.Prelude.{◌↔◌, ◌≡◌, ◌⊎◌, ◌+◌, ℕ, List, [], ◌∷◌, ◌++◌, length, Some, slice_get};
 ghost use Rattle.std.specs.List.{AllByRecursion};
 ghost use Rattle.fints_cases.specs.Answers.{IsAnswer};
 ghost use Rattle.fints_script.specs.Plans.{Admits};
 ghost use Rattle.fints_script.specs.Scripts.{ScriptValue};
-ghost use Rattle.fints_script.specs.Sound.{IsSound};
+ghost use Rattle.fints_script.specs.Numbered.{numbered};
+ghost use Rattle.fints_script.specs.Sound.{IsSound, IsOnward};
 ghost use Rattle.fints_script.specs.Steps.{StepValue};
 ghost use Rattle.fints_cases.specs.declared.values.NamedValue.{NamedValue};
-ghost use Rattle.fints_wire.specs.Runs.{start, last_of, sent_of, After, Follows, Arrives, Reach, RouteTo, IsWithin, IsSent, Run, SendsLast, EndsIn, IsNext};
+ghost use Rattle.fints_wire.specs.Runs.{start, answered, last_of, sent_of, After, Follows, Finishes, Arrives, Reach, RouteTo, IsRepeated, IsWithin, IsSent, Run, SendsLast, EndsIn, IsNext};
 ghost use Rattle.fints_wire.specs.Views.{IsReadAs};
 ghost use Rattle.fints_wire.specs.declared.dialogue.Visit.{Visit};
 ghost use Rattle.fints_wire.specs.declared.dialogue.Sent.{Sent};
@@ -43,6 +44,23 @@ pub fn each_answer_leads()
 /// so of at most 19,800.
 pub fn visits_are_within()
     ensures { (script : ScriptValue) (v : Visit) → IsSound script → Arrives script.steps v → IsWithin script.steps v }
+{}
+
+/// Of a step that a run sends, so many messages were sent in a row: one at least, at most its
+/// `repeat`, and one alone where no answer leads to `again`.
+pub fn visits_are_repeated()
+    ensures { (script : ScriptValue) (v : Visit) → IsSound script → Arrives script.steps v → IsRepeated script.steps v }
+{}
+
+/// From a step of a read script each answer leads to a later step, to the same, or to the end.
+pub fn answers_lead_onward()
+    ensures { (script : ScriptValue) (n : ℕ) (step : StepValue) (codes : List ℕ) → IsSound script → numbered script.steps n ≡ Some step → IsOnward (length script.steps) n (answered step codes) }
+{}
+
+/// Of a visit and an answer exactly one holds: something is sent next, or the run is over.
+pub fn each_answer_decides()
+    ensures some { (steps : List StepValue) (v : Visit) (step : StepValue) (codes : List ℕ) → numbered steps v.step ≡ Some step → ((w : Visit) × Follows steps v codes w) ⊎ Finishes steps v codes }
+    ensures not_both { (steps : List StepValue) (v w : Visit) (codes : List ℕ) → Follows steps v codes w → Finishes steps v codes → ⊥ }
 {}
 
 /// How many messages of a step were sent in a row is how many the run has sent of it: no answer leads

@@ -1,5 +1,5 @@
 use Rattle.std.proofs.Common.{◌≡◌, ◌-◌, Some, ap, subst, sym, slice_get, ◌∙◌}
-use Rattle.fints_wire.proofs.Onward.{numbered_at, numbered_from}
+use Rattle.fints_script.specs.Numbered.{numbered_at, numbered_from}
 use Rattle.fints_wire.proofs.dialogue.message_of.Goals as goal
 
 pub returns : goal.returns
