@@ -47,9 +47,7 @@ pub fn target_of(branches: &[Branch], otherwise: Target, branch: usize) -> Targe
     requires to { branch ≤ length branches.now + 1 }
     ensures { result ≡ target_of branches.now otherwise branch }
 {
-    branches
-        .get(branch - 1)
-        .map_or(otherwise, |own| own.to)
+    branches.get(branch - 1).map_or(otherwise, |own| own.to)
 }
 
 /// Whether the code matches the branch, counted from 1, and no earlier one.

@@ -35,12 +35,15 @@ listed_at (x ∷ xs) (suc j) a at = inr (listed_at xs j a at)
 
 pub value_listed : (c : Account) (v : List ℕ) → field_domain (fields.Account c) v → (place : ℕ) × (account : List (List ℕ)) × IsListedAt (fields.Account c) v place account
 value_listed c v l =
-    let s = stands c.values v l in
-    (s.place, s.account, record {
-      listed = s.listed;
-      text = s.text;
-      items = ap (λ (w : List ℕ). account_items (first_with account_text [] c.values w)) (sym s.text) ∙ ap account_items (found_is c.values s.place s.account c.each s.listed);
-    })
+    let s = stands c.values v l in (
+      s.place,
+      s.account,
+      record {
+        listed = s.listed;
+        text = s.text;
+        items = ap (λ (w : List ℕ). account_items (first_with account_text [] c.values w)) (sym s.text) ∙ ap account_items (found_is c.values s.place s.account c.each s.listed);
+      },
+    )
 
 pub listed_admitted : (f : Field) (place : ℕ) (account : List (List ℕ)) → slice_get (field_accounts f) place ≡ Some account → field_domain f (account_text account)
 listed_admitted (fields.Account c) place account at = listed_at c.values place account at

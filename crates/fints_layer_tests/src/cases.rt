@@ -30,6 +30,14 @@ fn parts(rt: HostRuntime) -> Result<(), Fail> {
     Ok(())
 }
 
+#[test]
+fn one_code(rt: HostRuntime) -> Result<(), Fail> {
+    let code = Code::from_number(30).ok_or("code")?;
+    let answer = Answer::single(rt.alloc(), code)?;
+    assert_eq!(rt; answer.codes(), [code].as_slice());
+    Ok(())
+}
+
 // Of a name twice the first value counts.
 #[test]
 fn first_values(rt: HostRuntime) -> Result<(), Fail> {

@@ -12,5 +12,4 @@ pub use fints_messages::laws::{numbered_bodies, one_message};
 #[tactic(auto, using(crate::proofs::AccountLemmas::six_same))]
 pub fn six_items_name_an_account()
     ensures { (form : AccountForm) (s : OwnedSegment) → account_of form (six_items s) ≡ account_of form (values_at s 2) }
-{
-}
+{}

@@ -74,7 +74,8 @@ fn some_has_process(body: &[OwnedSegment], process: &[u8]) -> bool
 fn some_ends(body: &[OwnedSegment]) -> bool
     ensures { result ≡ list_any is_end body.now }
 {
-    body.iter().any(|segment| is_kind(segment.head.id, b"HKEND"))
+    body.iter()
+        .any(|segment| is_kind(segment.head.id, b"HKEND"))
 }
 
 fn has_tan(segment: &OwnedSegment) -> bool

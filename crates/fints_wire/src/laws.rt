@@ -26,12 +26,10 @@ pub fn bodies_are_templates()
     ensures segments { (script : ScriptValue) (step : StepValue) (number : ℕ) (values : List NamedValue) (i : ℕ) (t : Template) → slice_get step.templates i ≡ Some t → slice_get (message_view script step number values).body i ≡ Some (filled_segment (filling_of script.fields values number) (2 + length step.signers + i) t) }
     ensures count { (script : ScriptValue) (step : StepValue) (number : ℕ) (values : List NamedValue) → length (message_view script step number values).body ≡ length step.templates }
     ensures signatures { (script : ScriptValue) (step : StepValue) (number : ℕ) (values : List NamedValue) → length (message_view script step number values).ends ≡ length step.signers }
-{
-}
+{}
 
 /// The longest and the shortest values of all fields are choices.
 pub fn extremes_are_admitted()
     ensures longest { (fields : List NamedField) → Admits fields (longest_choice fields) }
     ensures shortest { (fields : List NamedField) → Admits fields (shortest_choice fields) }
-{
-}
+{}
