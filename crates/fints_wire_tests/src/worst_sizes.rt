@@ -1,6 +1,6 @@
 //! How long messages can be.
-use crate::samples::{BALANCE, END, FORK, T};
 use fints_rules::OrderTable;
+use fints_samples::{BALANCE, END, FORK, T};
 use fints_script::{Plan, Script, Values};
 use fints_wire::{build, least_values, worst_size, worst_values};
 use std::alloc::Global;
@@ -20,6 +20,17 @@ step = [
 ]
 "#;
 
+// The worst size of a step of a script at a number.
+fn size_of(alloc: Global, text: &[u8], step: usize, number: u32) -> Result<u64, Fail> {
+    let orders = OrderTable::read(alloc, T)?;
+    let script = Script::read(alloc, text)?;
+    let plan = script.plan(&orders)?;
+    if step < 1 || step > plan.step_count() || number < 1 || number > 99_999 {
+        return Err(Fail::from("no such message"));
+    }
+    Ok(worst_size(&plan, step, number))
+}
+
 #[test]
 fn known_sizes(rt: HostRuntime) -> Result<(), Fail> {
     let rows: [(&[u8], usize, u32, u64); 11] = [
@@ -35,42 +46,47 @@ fn known_sizes(rt: HostRuntime) -> Result<(), Fail> {
         (FORK, 3, 9_999, 179),
         (FORK, 3, 10_000, 181),
     ];
-    let orders = OrderTable::read(rt.alloc(), T)?;
     for (text, step, number, size) in rows {
-        let script = Script::read(rt.alloc(), text)?;
-        let plan = script.plan(&orders)?;
-        if step < 1 || step > plan.step_count() || number < 1 || number > 99_999 {
-            return Err(Fail::from("no such message"));
-        }
-        assert_eq!(rt; worst_size(&plan, step, number), size);
+        assert_eq!(rt; size_of(rt.alloc(), text, step, number)?, size);
     }
     Ok(())
 }
 
+// What a choice for a script sets, as `name=value` by a blank.
+fn text_of(alloc: Global, values: &Values) -> Result<Vec<u8>, Fail> {
+    let mut text = Vec::new(alloc);
+    for pair in values.pairs() {
+        text.extend_from_slice(pair.name.as_bytes())?;
+        text.push(b'=')?;
+        text.extend_from_slice(pair.value.as_slice())?;
+        text.push(b' ')?;
+    }
+    Ok(text)
+}
+
 #[test]
-fn choices(rt: HostRuntime) -> Result<(), Fail> {
+fn worst_choice(rt: HostRuntime) -> Result<(), Fail> {
     let alloc = rt.alloc();
     let orders = OrderTable::read(alloc, T)?;
     let script = Script::read(alloc, ESCAPED_PAD)?;
     let worst = worst_values(alloc, &script.plan(&orders)?)?;
-    let [dialog, pad] = worst.pairs() else {
-        return Err(Fail::from("two values"));
-    };
-    assert_eq!(rt; dialog.name.as_bytes(), b"dialog".as_slice());
-    assert_eq!(rt; dialog.value.as_slice(), [b'?'; 30].as_slice());
-    assert_eq!(rt; pad.name.as_bytes(), b"pad".as_slice());
-    let marks = vec![in alloc; b'?'; 500]?;
-    assert_eq!(rt; pad.value.as_slice(), marks.as_slice());
+    let mut wanted = b"dialog=".to_vec(alloc)?;
+    wanted.extend_from_slice(&[b'?'; 30])?;
+    wanted.extend_from_slice(b" pad=")?;
+    wanted.extend_from_slice(&[b'?'; 500])?;
+    wanted.push(b' ')?;
+    assert_eq!(rt; text_of(alloc, &worst)?.as_slice(), wanted.as_slice());
+    Ok(())
+}
+
+#[test]
+fn least_choice(rt: HostRuntime) -> Result<(), Fail> {
+    let alloc = rt.alloc();
+    let orders = OrderTable::read(alloc, T)?;
     let script = Script::read(alloc, BALANCE)?;
     let least = least_values(alloc, &script.plan(&orders)?)?;
-    let [dialog, pin, tan] = least.pairs() else {
-        return Err(Fail::from("three values"));
-    };
-    assert_eq!(rt; dialog.value.as_slice(), b"A".as_slice());
-    assert_eq!(rt; pin.name.as_bytes(), b"pin".as_slice());
-    assert_eq!(rt; pin.value.as_slice(), b"00000".as_slice());
-    assert_eq!(rt; tan.name.as_bytes(), b"tan".as_slice());
-    assert_eq!(rt; tan.value.as_slice(), b"".as_slice());
+    let wanted = b"dialog=A pin=00000 tan= ".as_slice();
+    assert_eq!(rt; text_of(alloc, &least)?.as_slice(), wanted);
     Ok(())
 }
 
@@ -109,19 +125,28 @@ field = [{name = "acct", class = "account", values = [["DE111"], ["DE2222"]]}, {
 const SEAL: &str =
     r#"seal = [["PIN","1"], "998", "1", ["1","","0"], ["1","20260101","120000"], ["2","2","13","%3030303030303030","5","1"], ["280","10020030","user","V","0","0"], "0"]"#;
 
+// The script of a row, sealed or not.
+fn script_of(alloc: Global, row: &str, sealed: bool) -> Result<Script, Fail> {
+    let mut text = String::from_str(alloc, SEAL)?;
+    for line in row.split(" ; ") {
+        text.push_str("\n")?;
+        text.push_str(line)?;
+    }
+    text.push_str(if sealed {
+        ", sealed = true}]"
+    } else {
+        ", sealed = false}]"
+    })?;
+    Ok(Script::read(alloc, text.as_bytes())?)
+}
+
 #[test]
 fn attained_sizes(rt: HostRuntime) -> Result<(), Fail> {
     let alloc = rt.alloc();
     let orders = OrderTable::read(alloc, T)?;
     for row in SCRIPTS.trim().lines() {
         for sealed in [false, true] {
-            let mut text = String::from_str(alloc, SEAL)?;
-            for line in row.split(" ; ") {
-                text.push_str("\n")?;
-                text.push_str(line)?;
-            }
-            text.push_str(format!(in alloc; ", sealed = {sealed}}}]")?.as_str())?;
-            let script = Script::read(alloc, text.as_bytes())?;
+            let script = script_of(alloc, row, sealed)?;
             let plan = script.plan(&orders)?;
             let worst = worst_values(alloc, &plan)?;
             assert!(rt; are_attained(alloc, &plan, &worst)?, "{row}");

@@ -1,7 +1,8 @@
 //! Messages that are built and sent.
-use crate::samples::{FORK, SEALED_END, T, values};
+use crate::samples::values;
 use fints_params::Code;
 use fints_rules::OrderTable;
+use fints_samples::{FORK, SEALED_END, T};
 use fints_script::{Answer, Plan, Script, Values};
 use fints_wire::{build, run};
 use std::alloc::Global;

@@ -1,5 +1,5 @@
 //! What scripts hold, part by part.
-use crate::samples::{BALANCE, END, FORK, SEALED_END, SECOND_ACCOUNT};
+use fints_samples::{BALANCE, END, FORK, SEALED_END, SECOND_ACCOUNT};
 use fints_script::{
     Field, FieldClass, NamedField, Pattern, Script, Signer, Step, Target, Template,
     TemplateElements, TemplateItem,

@@ -1,7 +1,5 @@
-//! Inputs of many tests: two banks, an order table and scripts.
-use fints_script::{Name, Values};
-use std::alloc::Global;
-use std::test::*;
+//! Inputs of the tests of several crates: two banks, an order table and scripts.
+#![tactic(auto)]
 
 /// A bank that says no more than it must: 93 bytes, of which 42 are its own segment.
 pub const C1: &[u8] =
@@ -101,15 +99,3 @@ name = "bal"
 signers = ["me"]
 segments = [{kind = "HKCCS", version = 1, elements = ["$acct"]}, {kind = "HKTAN", version = 6, elements = ["4", "HKCCS"]}]
 "#;
-
-pub fn name(text: &[u8]) -> Result<Name, Fail> {
-    Ok(Name::parse(text).ok_or("name")?)
-}
-
-pub fn values(alloc: Global, pairs: &[(&[u8], &[u8])]) -> Result<Values, Fail> {
-    let mut values = Values::new(alloc);
-    for (field, value) in pairs {
-        values.push(name(field)?, value)?;
-    }
-    Ok(values)
-}

@@ -1,6 +1,6 @@
 //! Parameters of captures, and the codes of feedback.
-use crate::samples::{C, C1};
 use fints_params::{Code, ParamFault, Params, Usage, feedback_codes};
+use fints_samples::{C, C1};
 use fints_syntax::{SyntaxFault, SyntaxKind};
 use std::test::*;
 

@@ -1,10 +1,10 @@
 //! What a bank permits, and the judge of messages.
-use crate::samples::{C, C1, T};
 use fints_params::Params;
 use fints_rules::{
     AccountForm, AccountKey, Broken, Demand, JudgeFault, Limits, OrderTable, Permissions, Permit,
     Rule, judge, read_message,
 };
+use fints_samples::{C, C1, T};
 use fints_syntax::Kind;
 use std::alloc::Global;
 use std::test::*;

@@ -1,6 +1,6 @@
 //! Order tables.
-use crate::samples::T;
 use fints_rules::{AccountForm, OrderTable, TableFault};
+use fints_samples::T;
 use fints_syntax::Kind;
 use std::alloc::Global;
 use std::test::*;

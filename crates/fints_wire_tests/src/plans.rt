@@ -1,7 +1,8 @@
 //! Plans: what a script leaves open, where answers lead, and which values are admitted.
-use crate::samples::{FORK, T, values};
+use crate::samples::values;
 use fints_params::Code;
 use fints_rules::OrderTable;
+use fints_samples::{FORK, T};
 use fints_script::{Pattern, PlanFault, Script, Target};
 use std::test::*;
 

@@ -1,0 +1,11 @@
+//! Tests of the calls up to the judge: what no row of `rows/` can show.
+#![tactic(auto)]
+
+#[cfg(test)]
+mod captures;
+#[cfg(test)]
+mod permissions;
+#[cfg(test)]
+mod segments;
+#[cfg(test)]
+mod tables;

@@ -1,0 +1,13 @@
+//! Tests of cases, plans and built messages: what no row of `rows/` can show.
+#![tactic(auto)]
+
+#[cfg(test)]
+mod cases;
+#[cfg(test)]
+mod messages;
+#[cfg(test)]
+mod plans;
+#[cfg(test)]
+mod samples;
+#[cfg(test)]
+mod worst_sizes;
