@@ -7,6 +7,7 @@ pub mod PlanLemmas
 pub mod ZipLemmas
 pub mod SoundElements
 pub mod SoundTargets
+pub mod SoundNames
 pub mod SoundScripts
 pub mod SoundParts
 pub mod SoundSteps

@@ -1,7 +1,7 @@
 -- What every read script keeps.
-use Rattle.std.proofs.Common.{◌≡◌, ℕ, ◌+◌, ◌<◌, ◌≤◌, Bool, true, false, ◌&&◌, ◌||◌, not, codes, zero, suc, List, [], ◌∷◌, length, get_or, map, take, nat_lt, All, Option, Some, None, refl, ap, subst, ◌∙◌, sym, arith}
+use Rattle.std.proofs.Common.{◌≡◌, ◌≢◌, ℕ, ◌+◌, ◌<◌, ◌≤◌, Bool, true, false, ◌&&◌, ◌||◌, not, codes, zero, suc, List, [], ◌∷◌, length, get_or, map, take, nat_lt, All, AllPairs, Option, Some, None, refl, ap, subst, ◌∙◌, sym, arith}
 use Rattle.std.specs.Prelude.{is_some, option_map, slice_get, IfSome}
-use Rattle.std.specs.List.{list_any}
+use Rattle.std.specs.List.{list_any, AllZip}
 use Rattle.std.proofs.lemmas.Bool.{false≢true, or_parts, not-false, and_parts}
 use Rattle.std.proofs.lemmas.List.{get_or-map, length-map}
 use Rattle.std.proofs.lemmas.Option.{same_Some, slice_get-get_or, slice_get-map, slice_get_within}
@@ -16,16 +16,18 @@ use Rattle.fints_field_rows.specs.Faults.{AreClean}
 use Rattle.fints_templates.specs.Figures.{figures_of}
 use Rattle.fints_documents.specs.Entries.{has_key}
 use Rattle.fints_documents.specs.Tables.{is_set, is_no_array, is_no_list, is_no_flag, is_no_integer, rows_of, is_outside}
+use Rattle.fints_field_rows.specs.FieldTables.{IsFieldOf}
 use Rattle.fints_templates.specs.Signers.{signer_of}
 use Rattle.fints_script.specs.Steps.{StepValue, Surroundings, branch_has, target_has, keys_have, parts_have, step_has, step_value, step_fault, step_of, step_weight, has_large_segment, MAX_WEIGHT}
 use Rattle.fints_templates.specs.Segments.{template_of}
-use Rattle.fints_script.specs.Scripts.{counts_are_past as top_past}
 use Rattle.fints_script.specs.Scripts.{ScriptValue, IsRead, IsScriptOf, IsDialogField, field_rows, top_has, top_fault, rows_are_wrong, surroundings, signer_rows, step_rows, look_at_signer}
 use Rattle.fints_script.specs.Sound.{IsSound, IsSoundStep, IsSoundSigner, IsSoundFrame, LeadsOnward}
 use Rattle.fints_script.specs.Numbered.{numbered}
 use Rattle.fints_script.proofs.SoundParts.{both_none, no_limit, not_past, sound_signer, sound_seal}
 use Rattle.fints_script.proofs.SoundSteps.{number_within, sound_templates, signatures_within, some_rows}
 use Rattle.fints_script.proofs.SoundTargets.{branches_onward, target_onward}
+use Rattle.fints_script.proofs.TopLemmas.{counts_kept}
+use Rattle.fints_script.proofs.SoundNames.{zip_length, fields_apart, steps_apart}
 
 -- no fault of a kind in the segments or the signers of a step
 parts_kept : (segments signers branches target : Bool) → ((segments || signers) || (branches || target)) ≡ false → (segments ≡ false) × (signers ≡ false)
@@ -140,29 +142,28 @@ some_steps ms h =
     let lists = or_parts (is_no_array (get_member (codes "field") ms)) _ wrong in
     some_rows (get_member (codes "step") ms) (not-false _ missing) (or_parts (is_no_array (get_member (codes "signer") ms)) (is_no_list (get_member (codes "step") ms)) lists.1).1
 
-few_rows : (ms : Members) → top_fault ms ≡ None → length (step_rows ms) ≤ 200
-unfolding top_has
-few_rows ms h =
-    let past : top_past ms ≡ false = (none_of (λ kind. top_has kind ms) h).limit in
-    let others = or_parts (nat_lt 100 (length (field_rows ms))) _ past in
-    not_past 200 (length (step_rows ms)) (or_parts (nat_lt 20 (length (signer_rows ms))) (nat_lt 200 (length (step_rows ms))) others.1).1
-
-sound_parts : (ms : Members) (first : NamedField) (others : List NamedField) → IsDialogField first → (signers : List Signer) (seal : Option (List (List TemplateItem))) (steps : List StepValue)
+sound_parts : (ms : Members) (first : NamedField) (others : List NamedField) → IsDialogField first → AllZip (λ row (f : NamedField). IsFieldOf row f.name f.class) (field_rows ms) others → (signers : List Signer) (seal : Option (List (List TemplateItem))) (steps : List StepValue)
     → IsScriptOf ms (record { fields = first ∷ others; signers = signers; seal = seal; steps = steps }) → IsSound (record { fields = first ∷ others; signers = signers; seal = seal; steps = steps })
-sound_parts ms first others dialog signers seal steps is =
+sound_parts ms first others dialog each signers seal steps is =
     let whole : ScriptValue = record { fields = first ∷ others; signers = signers; seal = seal; steps = steps } in
     let around = surroundings ms (first ∷ others) signers seal in
     let rows = step_rows ms in
+    let few = counts_kept ms is.before.before.before.top in
+    let others_are : length others ≡ length (field_rows ms) = zip_length (λ row (f : NamedField). IsFieldOf row f.name f.class) (field_rows ms) others each in
     record {
       some_fields = omega arith;
+      few_fields = omega (arith, few.0, others_are);
       dialog = dialog;
+      fields_apart = fields_apart (field_rows ms) first others dialog each is.before.before.before.clean;
+      few_signers = subst (λ n. n ≤ 20) (sym (ap length is.before.before.are ∙ length-map (signer_rows ms) (signer_of (first ∷ others)))) few.1.0;
       signers = subst (λ (ss : List Signer). All (IsSoundSigner (first ∷ others)) ss) (sym is.before.before.are)
           (each_row (IsSoundSigner (first ∷ others)) (signer_of (first ∷ others)) (look_at_signer (first ∷ others) (signer_rows ms)) (signer_rows ms) is.before.before.clean (λ i row e. sound_signer first others dialog.0 (take i (signer_rows ms)) row e));
       seal = subst (λ (o : Option (List (List TemplateItem))). IfSome o (IsSoundFrame (first ∷ others))) (sym is.before.is) (sound_seal first others dialog.0 (get_member (codes "seal") ms) is.before.clean);
       some_steps = subst (λ n. 1 ≤ n) (sym (ap length is.are ∙ length-map rows (step_of around))) (some_steps ms is.before.before.before.top);
       steps = subst (λ (ss : List StepValue). All (IsSoundStep whole) ss) (sym is.are)
           (each_row (IsSoundStep whole) (step_of around) (step_fault around) rows is.clean (λ i row e. sound_step first others dialog.0 signers seal rows steps i row e));
-      few_steps = subst (λ n. n ≤ 200) (sym (ap length is.are ∙ length-map rows (step_of around))) (few_rows ms is.before.before.before.top);
+      few_steps = subst (λ n. n ≤ 200) (sym (ap length is.are ∙ length-map rows (step_of around))) few.1.1;
+      steps_apart = subst (λ (ss : List StepValue). AllPairs (λ (a b : StepValue). a.name ≢ b.name) ss) (sym is.are) (steps_apart around is.clean);
       onward = λ n step e. subst (λ count. LeadsOnward count n step) (sym (ap length is.are ∙ length-map rows (step_of around))) (steps_onward around is.clean n step (ap (λ (ss : List StepValue). numbered ss n) (sym is.are) ∙ e));
     }
 
@@ -170,4 +171,4 @@ pub sound : (s : ScriptValue) → IsRead s → IsSound s
 sound s (ms, is) =
     let f = is.before.before.before.are in
     subst (λ (fs : List NamedField). IsSound (record { fields = fs; signers = s.signers; seal = s.seal; steps = s.steps })) (sym f.all)
-    (sound_parts ms f.dialog f.others f.built_in s.signers s.seal s.steps (subst (λ (fs : List NamedField). IsScriptOf ms (record { fields = fs; signers = s.signers; seal = s.seal; steps = s.steps })) f.all is))
+    (sound_parts ms f.dialog f.others f.built_in f.each s.signers s.seal s.steps (subst (λ (fs : List NamedField). IsScriptOf ms (record { fields = fs; signers = s.signers; seal = s.seal; steps = s.steps })) f.all is))

@@ -33,6 +33,14 @@ pub record ScriptValue : Type 0 where
 abbrev pub MAX_TEXT : ℕ
 MAX_TEXT = 1048576
 
+-- the most fields of a script, besides `dialog`
+abbrev pub MAX_FIELDS : ℕ
+MAX_FIELDS = 100
+
+-- the most signers of a script
+abbrev pub MAX_SIGNERS : ℕ
+MAX_SIGNERS = 20
+
 -- the most steps of a script
 abbrev pub MAX_STEPS : ℕ
 MAX_STEPS = 200
@@ -57,7 +65,7 @@ rows_are_wrong ms = is_no_array (get_member (codes "field") ms) || (is_no_array 
 
 -- more rows than a script may have
 abbrev pub counts_are_past : Members → Bool
-counts_are_past ms = nat_lt 100 (length (field_rows ms)) || (nat_lt 20 (length (signer_rows ms)) || nat_lt MAX_STEPS (length (step_rows ms)))
+counts_are_past ms = nat_lt MAX_FIELDS (length (field_rows ms)) || (nat_lt MAX_SIGNERS (length (signer_rows ms)) || nat_lt MAX_STEPS (length (step_rows ms)))
 
 -- a fault of this kind stands in the top keys
 unfoldable pub top_has : FaultKind → Members → Bool

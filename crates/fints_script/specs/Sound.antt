@@ -1,11 +1,11 @@
 -- What holds of every script that was read.
-use Rattle.std.specs.Prelude.{◌≡◌, ℕ, ◌<◌, ◌≤◌, ◌⊎◌, false, IsTrue, List, length, map, slice_get, Option, Some, None, All, [], IfSome, IsSome}
+use Rattle.std.specs.Prelude.{◌≡◌, ◌≢◌, ℕ, ◌+◌, ◌<◌, ◌≤◌, ◌⊎◌, false, IsTrue, List, length, map, slice_get, Option, Some, None, All, AllPairs, [], IfSome, IsSome}
 use Rattle.fints_syntax.specs.Kind.{IsKindText}
 use Rattle.fints_templates.specs.Figures.{figures_of}
 use Rattle.fints_field_rows.specs.NamedFields.{is_account_at}
 use Rattle.fints_script.specs.Numbered.{numbered}
 use Rattle.fints_script.specs.Plans.{is_account_field}
-use Rattle.fints_script.specs.Scripts.{ScriptValue, IsDialogField, MAX_STEPS}
+use Rattle.fints_script.specs.Scripts.{ScriptValue, IsDialogField, MAX_FIELDS, MAX_SIGNERS, MAX_STEPS}
 use Rattle.fints_script.specs.Steps.{StepValue, Surroundings, step_weight, MAX_WEIGHT}
 use Rattle.fints_templates.specs.Segments.{frame_kinds}
 use Rattle.fints_templates.specs.Weights.{items_in, MAX_ITEMS}
@@ -94,12 +94,23 @@ pub record IsSoundStep (s : ScriptValue) (step : StepValue) : Type 0 where
 abbrev pub HasDialog : List NamedField → Type 0
 HasDialog fields = IfSome (slice_get fields 0) IsDialogField
 
+-- no two fields, and no two steps, have the same name
+abbrev pub FieldsAreApart : List NamedField → Type 0
+FieldsAreApart fields = AllPairs (λ (f g : NamedField). f.name ≢ g.name) fields
+
+abbrev pub StepsAreApart : List StepValue → Type 0
+StepsAreApart steps = AllPairs (λ (a b : StepValue). a.name ≢ b.name) steps
+
 pub record IsSound (s : ScriptValue) : Type 0 where
   pub some_fields : 1 ≤ length s.fields
+  pub few_fields : length s.fields ≤ 1 + MAX_FIELDS
   pub dialog : HasDialog s.fields
+  pub fields_apart : FieldsAreApart s.fields
+  pub few_signers : length s.signers ≤ MAX_SIGNERS
   pub signers : All (IsSoundSigner s.fields) s.signers
   pub seal : IfSome s.seal (IsSoundFrame s.fields)
   pub some_steps : 1 ≤ length s.steps
   pub few_steps : length s.steps ≤ MAX_STEPS
+  pub steps_apart : StepsAreApart s.steps
   pub steps : All (IsSoundStep s) s.steps
   pub onward : (n : ℕ) (step : StepValue) → numbered s.steps n ≡ Some step → LeadsOnward (length s.steps) n step

@@ -21,5 +21,5 @@ pub use fints_fields::{
 pub use fints_templates::{Signer, Template, TemplateElements, TemplateItem};
 pub use opens::PlanFault;
 pub use plan::Plan;
-pub use script::Script;
+pub use script::{MAX_STEPS, Script};
 pub use steps::Step;

@@ -10,6 +10,7 @@ ghost use Rattle.fints_script.specs.RowFaults.{placed, RefusesRow};
 ghost use Rattle.fints_field_rows.specs.declared.fault.Place.TheVariants as places;
 
 use crate::around::Around;
+use crate::script::MAX_STEPS;
 use crate::steps::{Step, read_step};
 use fints_field_rows::{FaultKind, Fields, Place, ScriptFault};
 use fints_syntax::Memory;
@@ -51,7 +52,7 @@ pub fn read_signers(
 
 /// The steps of the rows.
 pub fn read_steps(alloc: Global, around: &Around<'_>) -> Result<Vec<Step>, ScriptFault>
-    requires { length around.now.rows.now ≤ 200 }
+    requires { length around.now.rows.now ≤ MAX_STEPS }
     ensures clean { IfOk result (λ v. AreClean (step_fault (surroundings_of around.now)) (map view around.now.rows.now) (length around.now.rows.now)) }
     ensures steps { IfOk result (λ v. v.items ≡ map (step_of (surroundings_of around.now)) (map view around.now.rows.now)) }
     ensures fault { IfErr result (RefusesRow (λ n. places.Step n) (step_fault (surroundings_of around.now)) (map view around.now.rows.now)) }

@@ -26,6 +26,15 @@ use std::alloc::Global;
 use std::marker::Model;
 use toml::{Table, Value};
 
+/// The most fields of a script, besides `dialog`.
+const MAX_FIELDS: usize = 100;
+
+/// The most signers of a script.
+const MAX_SIGNERS: usize = 20;
+
+/// The most steps of a script.
+pub const MAX_STEPS: usize = 200;
+
 /// A script: its fields, of which the first is the built-in `dialog`, its signers, its seal if any,
 /// and its steps; a contract sees these parts.
 #[derive(Debug, Drop)]
@@ -107,9 +116,9 @@ fn at_top(kind: FaultKind) -> ScriptFault
 fn counts_are_past(table: &Table) -> bool
     ensures { result ≡ counts_are_past (table_view table.now) }
 {
-    rows_of(document::member(table, "field")).len() > 100
-        || rows_of(document::member(table, "signer")).len() > 20
-        || rows_of(document::member(table, "step")).len() > 200
+    rows_of(document::member(table, "field")).len() > MAX_FIELDS
+        || rows_of(document::member(table, "signer")).len() > MAX_SIGNERS
+        || rows_of(document::member(table, "step")).len() > MAX_STEPS
 }
 
 fn values_are_wrong(table: &Table) -> bool
@@ -169,7 +178,7 @@ fn steps_in(
     signers: &[Signer],
     seal: Option<&TemplateElements>,
 ) -> Result<Vec<Step>, ScriptFault>
-    requires { length rows.now ≤ 200 }
+    requires { length rows.now ≤ MAX_STEPS }
     ensures clean { IfOk result (λ v. AreClean (step_fault (surroundings_on (map view rows.now) fields.now signers.now (option_map (λ s. s.now) seal.entry))) (map view rows.now) (length rows.now)) }
     ensures steps { IfOk result (λ v. v.items ≡ map (step_of (surroundings_on (map view rows.now) fields.now signers.now (option_map (λ s. s.now) seal.entry))) (map view rows.now)) }
     ensures fault { IfErr result (RefusesRow (λ n. places.Step n) (step_fault (surroundings_on (map view rows.now) fields.now signers.now (option_map (λ s. s.now) seal.entry))) (map view rows.now)) }
@@ -193,7 +202,7 @@ fn steps_of(
     signers: &[Signer],
     seal: Option<&TemplateElements>,
 ) -> Result<Vec<Step>, ScriptFault>
-    requires { length (step_rows (table_view table.now)) ≤ 200 }
+    requires { length (step_rows (table_view table.now)) ≤ MAX_STEPS }
     ensures clean { IfOk result (λ v. AreClean (step_fault (surroundings (table_view table.now) fields.now signers.now (option_map (λ s. s.now) seal.entry))) (step_rows (table_view table.now)) (length (step_rows (table_view table.now)))) }
     ensures steps { IfOk result (λ v. v.items ≡ map (step_of (surroundings (table_view table.now) fields.now signers.now (option_map (λ s. s.now) seal.entry))) (step_rows (table_view table.now))) }
     ensures fault { IfErr result (RefusesRow (λ n. places.Step n) (step_fault (surroundings (table_view table.now) fields.now signers.now (option_map (λ s. s.now) seal.entry))) (step_rows (table_view table.now))) }

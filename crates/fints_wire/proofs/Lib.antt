@@ -18,3 +18,4 @@ pub mod ViewLemmas
 pub mod Following
 pub mod Repeating
 pub mod Bodies
+pub mod Filled

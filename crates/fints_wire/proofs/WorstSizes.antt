@@ -161,3 +161,7 @@ module _ (script : ScriptValue) (step : StepValue) (number : ℕ) (sound : IsSou
       let mono = message_mono script step (sizes_of (filling_of script.fields values lower)) (longest_sizes script.fields number) lower number below le (omega arith) (omega arith) in
       let all = size_is script step (filling_of script.fields values lower) lower (omega arith) (omega arith) in
       omega (arith, all.1)
+
+  -- no admitted choice, at this number or a lower one, makes a longer message than the longest values
+  pub longest_is_most : (values : List NamedValue) (lower : ℕ) → Admits script.fields values → 1 ≤ lower → lower ≤ number → length (message_bytes script step lower values) ≤ length (message_bytes script step number (longest_choice script.fields))
+  longest_is_most values lower admits low le = let bound = size_bound values lower admits low le in let attained = size_attained in omega arith

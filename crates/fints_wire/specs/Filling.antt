@@ -1,5 +1,5 @@
 -- Templates with the items of a choice put in.
-use Rattle.std.specs.Prelude.{ℕ, ◌==◌, ◌+◌, ◌<◌, if◌then◌else◌, codes, List, [], ◌∷◌, map, get_or, zip, length, All, None}
+use Rattle.std.specs.Prelude.{◌≡◌, ℕ, ◌==◌, ◌+◌, ◌-◌, ◌<◌, if◌then◌else◌, codes, List, [], ◌∷◌, map, get_or, zip, length, slice_get, All, None, Some}
 use Rattle.std.specs.List.{flat_map}
 use Rattle.fints_syntax.specs.declared.item.OwnedItem.{OwnedItem}
 use Rattle.fints_syntax.specs.declared.item.OwnedItem.TheVariants.{Text}
@@ -7,6 +7,7 @@ use Rattle.fints_syntax.specs.declared.item.OwnedSegment.{OwnedSegment}
 use Rattle.fints_fields.specs.Fields.{field_items}
 use Rattle.fints_field_rows.specs.declared.fields.NamedField.{NamedField}
 use Rattle.fints_cases.specs.declared.values.NamedValue.{NamedValue}
+use Rattle.fints_script.specs.Plans.{IsChosen}
 use Rattle.fints_templates.specs.declared.template.TemplateItem.{TemplateItem}
 use Rattle.fints_templates.specs.declared.template.TemplateItem.TheVariants.{Literal, Dialog, Field}
 use Rattle.fints_templates.specs.declared.template.Template.{Template}
@@ -22,6 +23,13 @@ value_items p = field_items p.0.class p.1.value
 
 abbrev pub items_of_fields : List NamedField → List NamedValue → List (List OwnedItem)
 items_of_fields fields values = map value_items (zip fields values)
+
+-- what is chosen for the field at this place, counted from 0, and the items that stand in messages for it
+pub record IsPutIn (fields : List NamedField) (values : List NamedValue) (f : ℕ) (field : NamedField) : Type 0 where
+  pub value : NamedValue
+  pub there : slice_get values f ≡ Some value
+  pub chosen : IsChosen field value
+  pub items : get_or (items_of_fields fields values) f [] ≡ field_items field.class value.value
 
 -- the dialogue id is `0` in message 1, and afterwards the value of the first field, `dialog`
 abbrev pub dialog_items : List (List OwnedItem) → ℕ → List OwnedItem
@@ -49,6 +57,10 @@ AreFilled filling elements = All (λ items. 0 < length (filled_element filling i
 
 abbrev pub TemplatesAreFilled : FillingValue → List Template → Type 0
 TemplatesAreFilled filling templates = All (λ (t : Template). AreFilled filling t.elements) templates
+
+-- element e of a segment, from 2 on: the head is element 1, and what is absent is empty
+abbrev pub element_at : Template → ℕ → List TemplateItem
+element_at t e = get_or t.elements (e - 2) []
 
 -- a segment of this number, without a reference
 abbrev pub make_segment : List ℕ → ℕ → ℕ → List (List OwnedItem) → OwnedSegment

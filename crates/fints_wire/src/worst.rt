@@ -1,8 +1,9 @@
 //! How long a step's messages are at most.
-ghost use Rattle.std.specs.Prelude.{codes, ◌≡◌, ◌<◌, ◌≤◌, ◌+◌, ◌^◌, ◌-◌, ℕ, List, Some, slice_get, get_or, length, map};
+ghost use Rattle.std.specs.Prelude.{codes, ◌≡◌, ◌<◌, ◌≤◌, ◌+◌, ◌^◌, ℕ, List, Some, get_or, length, map};
 ghost use Rattle.std.specs.Fmt.{decimal};
 ghost use Rattle.fints_syntax.specs.Kind.{IsKindText};
 ghost use Rattle.fints_syntax.specs.Spelling.{written};
+ghost use Rattle.fints_script.specs.Numbered.{numbered};
 ghost use Rattle.fints_script.specs.Plans.{Admits};
 ghost use Rattle.fints_script.specs.Sound.{IsSound, IsSoundStep};
 ghost use Rattle.fints_script.specs.Steps.{StepValue};
@@ -184,9 +185,9 @@ pub fn worst_size(plan: &Plan, step: usize, number: u32) -> u64
     requires to { step ≤ length plan.now.script.steps }
     requires first { 1 ≤ number }
     requires last { number ≤ 99999 }
-    ensures attained { (s : StepValue) → slice_get plan.now.script.steps (step - 1) ≡ Some s → result ≡ length (message_bytes plan.now.script s number (longest_choice plan.now.script.fields)) }
-    ensures most { (s : StepValue) (values : List NamedValue) (lower : ℕ) → slice_get plan.now.script.steps (step - 1) ≡ Some s → Admits plan.now.script.fields values → 1 ≤ lower → lower ≤ number → length (message_bytes plan.now.script s lower values) ≤ result }
-    ensures grows { (s : StepValue) (lower : ℕ) → slice_get plan.now.script.steps (step - 1) ≡ Some s → 1 ≤ lower → lower ≤ number → length (message_bytes plan.now.script s lower (longest_choice plan.now.script.fields)) ≤ result }
+    ensures attained { (s : StepValue) → numbered plan.now.script.steps step ≡ Some s → result ≡ length (message_bytes plan.now.script s number (longest_choice plan.now.script.fields)) }
+    ensures most { (s : StepValue) (values : List NamedValue) (lower : ℕ) → numbered plan.now.script.steps step ≡ Some s → Admits plan.now.script.fields values → 1 ≤ lower → lower ≤ number → length (message_bytes plan.now.script s lower values) ≤ result }
+    ensures short { result < 1048576 }
 {
     message_size(plan, plan.step(step), number)
 }

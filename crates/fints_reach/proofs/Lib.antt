@@ -1,0 +1,6 @@
+pub mod Lookups
+pub mod Scripts
+pub mod Bounds
+pub mod Raising
+pub mod Passing
+pub mod Visits

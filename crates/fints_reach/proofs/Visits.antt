@@ -1,0 +1,30 @@
+-- How much the pass looks at.
+use Rattle.std.proofs.Common.{ℕ, zero, suc, ◌+◌, ◌*◌, ◌<◌, ◌≤◌, ◌≡◌, Option, Some, None, List, [], ◌∷◌, ◌++◌, length, refl, ap, sym, ◌∙◌, arith}
+use Rattle.std.specs.List.{slice_get}
+use Rattle.std.proofs.lemmas.Option.{same_Some}
+use Rattle.fints_script.specs.Steps.{StepValue}
+use Rattle.fints_reach.specs.Numbers.{looked_at, visits_at}
+
+none_looked_at : (steps : List StepValue) → looked_at steps [] ≡ 0
+none_looked_at [] = refl
+none_looked_at (step ∷ steps) = refl
+
+-- one step more
+pub looked_at_push : (steps : List StepValue) (numbers : List (Option ℕ)) (number : Option ℕ) (step : StepValue) → slice_get steps (length numbers) ≡ Some step → looked_at steps (numbers ++ number ∷ []) ≡ looked_at steps numbers + visits_at step number
+looked_at_push [] numbers number step h = absurd cc
+looked_at_push (s ∷ steps) [] number step h =
+    let here : visits_at s number ≡ visits_at step number = ap (λ (x : StepValue). visits_at x number) (same_Some s step h) in
+    omega (arith, here, none_looked_at steps)
+looked_at_push (s ∷ steps) (n ∷ numbers) number step h = let rest = looked_at_push steps numbers number step h in omega (arith, rest)
+
+visits_few : (step : StepValue) (number : Option ℕ) → length step.branches ≤ 20 → visits_at step number ≤ 22
+visits_few step None few = omega arith
+visits_few step (Some n) few = omega (arith, few)
+
+pub looked_at_few : (steps : List StepValue) (numbers : List (Option ℕ)) → ((i : ℕ) (step : StepValue) → slice_get steps i ≡ Some step → length step.branches ≤ 20) → looked_at steps numbers ≤ 22 * length numbers
+looked_at_few [] numbers few = omega arith
+looked_at_few (s ∷ steps) [] few = omega arith
+looked_at_few (s ∷ steps) (n ∷ numbers) few =
+    let here = visits_few s n (few 0 s refl) in
+    let rest = looked_at_few steps numbers (λ i step h. few (suc i) step h) in
+    omega (arith, here, rest)

@@ -1,0 +1,117 @@
+//! The pass over the steps, from the first to the last, that finds their greatest numbers.
+ghost use Rattle.std.specs.Prelude.{◌≡◌, ◌<◌, ◌≤◌, ◌+◌, ℕ, length, replicate, IfOk, Some, None};
+ghost use Rattle.fints_script.specs.Numbered.{numbered};
+ghost use Rattle.fints_script.specs.Sound.{IsOnward};
+ghost use Rattle.fints_script.specs.Steps.{StepValue};
+ghost use Rattle.fints_script.specs.declared.answers.Target.{Target};
+ghost use Rattle.fints_reach.specs.Leading.{Leads};
+ghost use Rattle.fints_reach.specs.Numbers.{AreGreatest, Has, looked_at, visits_at};
+ghost use Rattle.fints_reach.specs.Passes.{AreOpen, AreRaised, IsPassed, IsRaised};
+
+use crate::opening::{later_step, open_branches, spare};
+use fints_script::laws::open_branches_lead;
+use fints_script::{Plan, Step};
+use fints_syntax::Memory;
+use fints_wire::run_laws::{runs_by_steps, visits_are_within};
+use std::alloc::Global;
+
+/// The greatest number of each step's messages over all runs, in order of steps, or none for a step
+/// that no run sends; and how many steps and branches were looked at for them.
+#[derive(Debug, Drop)]
+pub struct Numbers {
+    pub greatest: Vec<Option<u32>>,
+    pub visits: u64,
+}
+
+// Keeps a number for a step, unless it has a greater one.
+fn raise(entries: &mut Vec<Option<u32>>, to: usize, number: u32)
+    requires from { 1 ≤ to }
+    requires to { to ≤ length entries.old.items }
+    ensures { IsRaised entries.old.items entries.new.items to number }
+{
+    let greater = match entries[to - 1] {
+        None => number,
+        Some(entry) => entry.max(number),
+    };
+    entries[to - 1] = Some(greater);
+}
+
+// Keeps a number for each step that an open branch leads to.
+fn raise_targets(step: &Step, open: &[bool], n: usize, number: u32, entries: &mut Vec<Option<u32>>)
+    requires open { AreOpen step.now open.now }
+    requires onward { (to : Target) → Leads step.now to → IsOnward (length entries.old.items) n to }
+    ensures { AreRaised step.now entries.old.items entries.new.items number }
+{
+    open_branches_lead();
+    for b in 0..step.branches().len() + 1 {
+        match later_step(step, open, b) {
+            None => {}
+            Some(to) => raise(entries, to as usize, number),
+        }
+    }
+}
+
+// Passes over a step: its greatest number, if it was entered, and the targets of its open branches
+// raised above it.
+fn pass_step(plan: &Plan, n: usize, entries: &mut Vec<Option<u32>>) -> Option<u32>
+    requires from { 1 ≤ n }
+    requires to { n ≤ length plan.now.script.steps }
+    requires long { length entries.old.items ≡ length plan.now.script.steps }
+    requires small { (e : ℕ) → Has entries.old.items n e → e < 20000 }
+    ensures { (step : StepValue) → numbered plan.now.script.steps n ≡ Some step → IsPassed step n result entries.old.items entries.new.items }
+{
+    let _count = plan.step_count();
+    match entries[n - 1] {
+        None => None,
+        Some(entry) => {
+            let step = plan.step(n);
+            let open = open_branches(step);
+            let number = entry + spare(step, &open);
+            raise_targets(step, &open, n, number + 1, entries);
+            Some(number)
+        }
+    }
+}
+
+// No number for any step.
+fn blank(alloc: Global, count: usize) -> Result<Vec<Option<u32>>, Memory>
+    ensures { IfOk result (λ numbers. numbers.items ≡ replicate count None) }
+{
+    let mut numbers = Vec::with_capacity(alloc, count)?;
+    for _i in 0..count {
+        numbers.push(None)?;
+    }
+    Ok(numbers)
+}
+
+// How much was looked at for a step with this greatest number.
+fn visits_at(step: &Step, number: Option<u32>) -> u64
+    requires { length step.now.branches ≤ 20 }
+    ensures { result ≡ visits_at step.now number }
+{
+    match number {
+        None => 1,
+        Some(_) => step.branches().len() as u64 + 2,
+    }
+}
+
+/// The greatest numbers, by one pass over the steps in which each open branch of a reached step
+/// raises its target's number.
+pub fn greatest_numbers(alloc: Global, plan: &Plan) -> Result<Numbers, Memory>
+    ensures greatest { IfOk result (λ numbers. AreGreatest plan.now.script.steps numbers.greatest.items) }
+    ensures visits { IfOk result (λ numbers. numbers.visits ≡ looked_at plan.now.script.steps numbers.greatest.items) }
+{
+    runs_by_steps();
+    visits_are_within();
+    let count = plan.step_count();
+    let mut entries = blank(alloc, count)?;
+    let mut greatest = Vec::with_capacity(alloc, count)?;
+    let mut visits = 0;
+    raise(&mut entries, 1, 1);
+    for i in 0..count {
+        let number = pass_step(plan, i + 1, &mut entries);
+        visits += visits_at(plan.step(i + 1), number);
+        greatest.push(number)?;
+    }
+    Ok(Numbers { greatest, visits })
+}

@@ -1,0 +1,5 @@
+use Rattle.fints_wire.proofs.Filled.{dialog_stands}
+use Rattle.fints_wire.proofs.laws.dialog_is_one_item.Goals as goal
+
+pub returns : goal.returns
+returns c = dialog_stands
