@@ -2,10 +2,13 @@
 use Rattle.std.proofs.Common.{ℕ, zero, suc, ◌+◌, ◌*◌, ◌<◌, ◌≤◌, ◌≡◌, Option, Some, None, List, [], ◌∷◌, ◌++◌, length, refl, ap, sym, ◌∙◌, arith}
 use Rattle.std.specs.List.{slice_get}
 use Rattle.std.proofs.lemmas.Option.{same_Some}
+use Rattle.fints_script.specs.Numbered.{numbered_holds}
+use Rattle.fints_script.specs.Scripts.{ScriptValue}
+use Rattle.fints_script.specs.Sound.{IsSound, IsSoundStep}
 use Rattle.fints_script.specs.Steps.{StepValue}
 use Rattle.fints_reach.specs.Numbers.{looked_at, visits_at}
 
-none_looked_at : (steps : List StepValue) → looked_at steps [] ≡ 0
+pub none_looked_at : (steps : List StepValue) → looked_at steps [] ≡ 0
 none_looked_at [] = refl
 none_looked_at (step ∷ steps) = refl
 
@@ -28,3 +31,10 @@ looked_at_few (s ∷ steps) (n ∷ numbers) few =
     let here = visits_few s n (few 0 s refl) in
     let rest = looked_at_few steps numbers (λ i step h. few (suc i) step h) in
     omega (arith, here, rest)
+
+-- of the steps of a script so little that no count passes its limit
+pub few_visits : (script : ScriptValue) (numbers : List (Option ℕ)) → IsSound script → length numbers ≤ length script.steps → looked_at script.steps numbers ≤ 4400
+few_visits script numbers sound within =
+    let few = looked_at_few script.steps numbers (λ i step h. (numbered_holds (IsSoundStep script) script.steps (suc i) step sound.steps h).few_branches) in
+    let steps = sound.few_steps in
+    omega (arith, few, steps, within)

@@ -1,8 +1,8 @@
 -- The segments of a closed plan.
-use Rattle.std.proofs.Common.{◌≡◌, ◌⊎◌, ℕ, zero, suc, ◌<◌, Bool, true, false, ◌&&◌, ◌||◌, not, if◌then◌else◌, codes, List, length, Option, Some, None, refl, sym, ◌∙◌, inl, inr}
+use Rattle.std.proofs.Common.{◌≡◌, ℕ, zero, suc, Bool, true, false, ◌&&◌, ◌||◌, not, if◌then◌else◌, codes, List, Some, None, refl, sym}
 use Rattle.std.specs.List.{list_all, slice_get}
 use Rattle.std.specs.Str.{bytes_eq}
-use Rattle.std.proofs.lemmas.Bool.{cases_Bool, or_cases}
+use Rattle.std.proofs.lemmas.Bool.{or_cases}
 use Rattle.std.proofs.lemmas.Option.{none-some, slice_get_within}
 use Rattle.fints_rules.specs.Orders.{form_of}
 use Rattle.fints_rules.specs.declared.orders.OrderRow.{OrderRow}
@@ -11,7 +11,6 @@ use Rattle.fints_script.specs.Numbered.{numbered}
 use Rattle.fints_script.specs.Plans.{IsClosed, IsClosedTemplate, is_literal, is_account_field, element_two, names_account, open_of}
 use Rattle.fints_script.specs.Scripts.{ScriptValue}
 use Rattle.fints_script.specs.Steps.{StepValue}
-use Rattle.fints_script.specs.declared.opens.Open.{Open}
 use Rattle.fints_script.specs.declared.opens.Open.TheVariants as opens
 use Rattle.fints_templates.specs.declared.template.Template.{Template}
 

@@ -1,27 +1,26 @@
 -- The names of a read script's fields are pairwise different, and so are those of its steps.
-use Rattle.std.proofs.Common.{◌≡◌, ◌≢◌, ℕ, zero, suc, ◌<◌, Bool, true, false, ◌||◌, ◌&&◌, not, cond, codes, List, [], ◌∷◌, length, get_or, map, take, All, AllPairs, Option, Some, None, refl, ap, subst, ◌∙◌, sym, arith, length-map}
+use Rattle.std.proofs.Common.{◌≡◌, ◌≢◌, ℕ, zero, suc, ◌<◌, Bool, true, false, ◌&&◌, not, cond, codes, List, [], ◌∷◌, length, get_or, map, take, AllPairs, Option, Some, None, refl, ap, subst, ◌∙◌, sym, arith}
 use Rattle.std.specs.Prelude.{option_and_then, is_some, slice_get}
 use Rattle.std.specs.List.{list_any, AllZip}
 use Rattle.std.specs.Str.{bytes_eq}
 use Rattle.std.proofs.lemmas.Bool.{false≢true, or_parts, not-false, and_parts}
-use Rattle.std.proofs.lemmas.List.{get_or-map}
+use Rattle.std.proofs.lemmas.List.{get_or-map, length-map}
 use Rattle.std.proofs.lemmas.List.Kept.{AllPairs-cons}
 use Rattle.std.proofs.lemmas.Option.{same_Some, slice_get_within, slice_get-get_or}
 use Rattle.std.proofs.lemmas.Slice.Eq.{bytes_eq-Decides}
-use Rattle.toml.specs.Data.{Data, string, integer, float, boolean, datetime, array, table, Members, get_member, as_str}
+use Rattle.toml.specs.Data.{Data, string, integer, float, boolean, datetime, array, table, get_member, as_str}
 use Rattle.fints_documents.specs.Entries.{has_key, holds_text, is_named, name_in, text_at}
-use Rattle.fints_field_rows.specs.declared.fault.FaultKind.{FaultKind}
 use Rattle.fints_field_rows.specs.declared.fault.FaultKind.TheVariants as kinds
 use Rattle.fints_field_rows.specs.declared.fields.NamedField.{NamedField}
 use Rattle.fints_field_rows.specs.FaultOrder.{first_kind, none_of}
 use Rattle.fints_field_rows.specs.Faults.{AreClean}
 use Rattle.fints_field_rows.specs.FieldFaults.{class_of, class_has, field_has, field_fault, is_taken as is_field_taken}
 use Rattle.fints_field_rows.specs.FieldTables.{IsFieldOf}
-use Rattle.fints_field_rows.specs.RowNames.{is_name, is_no_name, name_of, name_value}
+use Rattle.fints_field_rows.specs.RowNames.{is_name, is_no_name, name_of}
 use Rattle.fints_templates.specs.Signers.{is_taken}
 use Rattle.fints_script.specs.Numbered.{numbered_at}
 use Rattle.fints_script.specs.Scripts.{IsDialogField, look_at_field}
-use Rattle.fints_script.specs.Steps.{Surroundings, StepValue, is_reserved, is_second, keys_have, parts_have, step_fault, step_has, step_of, step_value, values_are_wrong}
+use Rattle.fints_script.specs.Steps.{Surroundings, StepValue, is_reserved, keys_have, parts_have, step_fault, step_has, step_of, step_value}
 use Rattle.fints_script.proofs.SoundParts.{both_none}
 
 -- ---- rows that have a name
@@ -60,9 +59,9 @@ apart name rows xs same each i j d lt within =
     let first = numbered_at rows (suc i) (omega arith) (omega (arith, lt, within, same)) in
     let second = numbered_at rows (suc j) (omega arith) (omega (arith, within, same)) in
     λ e.
-      let free = not_any (is_named (name (get_or xs j d))) rows i j first.0 lt first.1 (each j second.0 d second.1).1 in
-      let own = own_name first.0 (name (get_or xs j d)) ((each i first.0 d first.1).0 ∙ ap Some e) in
-      false≢true (sym free ∙ own)
+    let free = not_any (is_named (name (get_or xs j d))) rows i j first.0 lt first.1 (each j second.0 d second.1).1 in
+    let own = own_name first.0 (name (get_or xs j d)) ((each i first.0 d first.1).0 ∙ ap Some e) in
+    false≢true (sym free ∙ own)
 
 -- ---- fields
 
@@ -87,7 +86,7 @@ named_field earlier (table ms) field h is =
     let taken = or_parts (is_field_taken earlier (text_at (codes "name") ms)) (class_has kinds.Duplicate (class_of ms) ms) double in
     let free = subst (λ o. is_field_taken earlier o ≡ false) is.0 taken.0 in
     let parts = or_parts (bytes_eq field.name (codes "dialog")) (list_any (is_named field.name) earlier) free in
-    (is.0, (λ e. false≢true (sym parts.0 ∙ (bytes_eq-Decides field.name (codes "dialog")).1 e), parts.1))
+    (is.0, λ e. false≢true (sym parts.0 ∙ (bytes_eq-Decides field.name (codes "dialog")).1 e), parts.1)
 named_field earlier (string text) field h is = absurd is
 named_field earlier (integer z) field h is = absurd is
 named_field earlier (float f) field h is = absurd is
@@ -100,12 +99,12 @@ pub fields_apart : (rows : List Data) (dialog : NamedField) (others : List Named
 fields_apart rows dialog others built_in each clean =
     let same = zip_length (λ row (f : NamedField). IsFieldOf row f.name f.class) rows others each in
     let at : (k : ℕ) (row : Data) (d : NamedField) → slice_get rows k ≡ Some row → (name_in row ≡ Some (get_or others k d).name) × ((get_or others k d).name ≢ codes "dialog") × (list_any (is_named (get_or others k d).name) (take k rows) ≡ false) =
-        λ k row d e. named_field (take k rows) row (get_or others k d) (clean k row (slice_get_within rows k row e) e) (zip_at (λ row (f : NamedField). IsFieldOf row f.name f.class) rows others k row d each e) in
+    λ k row d e. named_field (take k rows) row (get_or others k d) (clean k row (slice_get_within rows k row e) e) (zip_at (λ row (f : NamedField). IsFieldOf row f.name f.class) rows others k row d each e) in
     AllPairs-cons (λ (f g : NamedField). f.name ≢ g.name) dialog others
     (λ k d within.
-      let row = numbered_at rows (suc k) (omega arith) (omega (arith, within, same)) in
-      λ e. (at k row.0 d row.1).1.0 (sym e ∙ built_in.0))
-    (apart (λ (f : NamedField). f.name) rows others same (λ k row d e. let all = at k row d e in (all.0, all.1.1)))
+    let row = numbered_at rows (suc k) (omega arith) (omega (arith, within, same)) in
+    λ e. (at k row.0 d row.1).1 (sym e ∙ built_in.0))
+    (apart (λ (f : NamedField). f.name) rows others same (λ k row d e. let all = at k row d e in (all.0, all.2)))
 
 -- ---- steps
 
@@ -145,7 +144,7 @@ pub steps_apart : (around : Surroundings) → AreClean (step_fault around) aroun
 steps_apart around clean =
     apart (λ (s : StepValue). s.name) around.rows (map (step_of around) around.rows) (length-map around.rows (step_of around))
     (λ k row d e.
-      let within = slice_get_within around.rows k row e in
-      let is : get_or (map (step_of around) around.rows) k d ≡ step_of around row =
-          get_or-map (step_of around) around.rows k row d within ∙ ap (step_of around) (same_Some (get_or around.rows k row) row (sym (slice_get-get_or around.rows k row within) ∙ e)) in
-      subst (λ (s : StepValue). (name_in row ≡ Some s.name) × (list_any (is_named s.name) (take k around.rows) ≡ false)) (sym is) (named_step around k row (clean k row within e)))
+    let within = slice_get_within around.rows k row e in
+    let is : get_or (map (step_of around) around.rows) k d ≡ step_of around row =
+    get_or-map (step_of around) around.rows k row d within ∙ ap (step_of around) (same_Some (get_or around.rows k row) row (sym (slice_get-get_or around.rows k row within) ∙ e)) in
+    subst (λ (s : StepValue). (name_in row ≡ Some s.name) × (list_any (is_named s.name) (take k around.rows) ≡ false)) (sym is) (named_step around k row (clean k row within e)))

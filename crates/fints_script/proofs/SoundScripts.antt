@@ -155,14 +155,14 @@ sound_parts ms first others dialog each signers seal steps is =
       few_fields = omega (arith, few.0, others_are);
       dialog = dialog;
       fields_apart = fields_apart (field_rows ms) first others dialog each is.before.before.before.clean;
-      few_signers = subst (λ n. n ≤ 20) (sym (ap length is.before.before.are ∙ length-map (signer_rows ms) (signer_of (first ∷ others)))) few.1.0;
+      few_signers = subst (λ n. n ≤ 20) (sym (ap length is.before.before.are ∙ length-map (signer_rows ms) (signer_of (first ∷ others)))) few.1;
       signers = subst (λ (ss : List Signer). All (IsSoundSigner (first ∷ others)) ss) (sym is.before.before.are)
           (each_row (IsSoundSigner (first ∷ others)) (signer_of (first ∷ others)) (look_at_signer (first ∷ others) (signer_rows ms)) (signer_rows ms) is.before.before.clean (λ i row e. sound_signer first others dialog.0 (take i (signer_rows ms)) row e));
       seal = subst (λ (o : Option (List (List TemplateItem))). IfSome o (IsSoundFrame (first ∷ others))) (sym is.before.is) (sound_seal first others dialog.0 (get_member (codes "seal") ms) is.before.clean);
       some_steps = subst (λ n. 1 ≤ n) (sym (ap length is.are ∙ length-map rows (step_of around))) (some_steps ms is.before.before.before.top);
       steps = subst (λ (ss : List StepValue). All (IsSoundStep whole) ss) (sym is.are)
           (each_row (IsSoundStep whole) (step_of around) (step_fault around) rows is.clean (λ i row e. sound_step first others dialog.0 signers seal rows steps i row e));
-      few_steps = subst (λ n. n ≤ 200) (sym (ap length is.are ∙ length-map rows (step_of around))) few.1.1;
+      few_steps = subst (λ n. n ≤ 200) (sym (ap length is.are ∙ length-map rows (step_of around))) few.2;
       steps_apart = subst (λ (ss : List StepValue). AllPairs (λ (a b : StepValue). a.name ≢ b.name) ss) (sym is.are) (steps_apart around is.clean);
       onward = λ n step e. subst (λ count. LeadsOnward count n step) (sym (ap length is.are ∙ length-map rows (step_of around))) (steps_onward around is.clean n step (ap (λ (ss : List StepValue). numbered ss n) (sym is.are) ∙ e));
     }

@@ -1,9 +1,9 @@
 -- What stands at the elements of filled segments, and for the fields of a choice.
-use Rattle.std.proofs.Common.{◌≡◌, ◌≢◌, ℕ, zero, suc, ◌+◌, ◌-◌, ◌≤◌, eqb, Bool, true, false, codes, List, [], ◌∷◌, ◌++◌, length, map, get_or, set, All, Option, Some, None, refl, ap, sym, subst, ◌∙◌, arith, inl, inr}
+use Rattle.std.proofs.Common.{◌≡◌, ◌≢◌, ℕ, zero, suc, ◌-◌, ◌≤◌, eqb, true, codes, List, [], ◌∷◌, ◌++◌, length, map, get_or, set, Some, refl, ap, sym, subst, ◌∙◌, arith, inl, inr}
 use Rattle.std.specs.Prelude.{slice_get}
 use Rattle.std.specs.List.{zip, list_all}
 use Rattle.std.proofs.lemmas.Bool.{cases_Bool, false≢true}
-use Rattle.std.proofs.lemmas.List.{append-nil, length-set}
+use Rattle.std.proofs.lemmas.List.{append-nil}
 use Rattle.std.proofs.lemmas.List.Elements.{All-cons, All-head, All-tail}
 use Rattle.std.proofs.lemmas.Option.{same_Some}
 use Rattle.fints_syntax.specs.Segment.{item_value}
@@ -104,9 +104,14 @@ account_stands listed fields values number n e f t field admits alone at is =
     let c = account_class field.class is in
     let l = listed c.0 v.value.value (subst (λ (x : Class). field_domain x v.value.value) c.1 v.chosen.1) in
     let here : IsListedAt field.class v.value.value l.0 l.1 = subst (λ (x : Class). IsListedAt x v.value.value l.0 l.1) (sym c.1) l.2 in
-    let one : filled_element F (Field f ∷ []) ≡ account_items l.1 = append-nil (get_or (items_of_fields fields values) f []) ∙ (v.items ∙ here.items) in
-    (v.value, v.there, l.0, l.1, here,
-      values_filled F n e t ∙ (ap (λ (items : List TemplateItem). map item_value (filled_element F items)) alone ∙ (ap (map item_value) one ∙ text_values l.1)))
+    let one : filled_element F (Field f ∷ []) ≡ account_items l.1 = append-nil (get_or (items_of_fields fields values) f []) ∙ (v.items ∙ here.items) in (
+      v.value,
+      v.there,
+      l.0,
+      l.1,
+      here,
+      values_filled F n e t ∙ (ap (λ (items : List TemplateItem). map item_value (filled_element F items)) alone ∙ (ap (map item_value) one ∙ text_values l.1)),
+    )
 
 -- ---- the dialogue id
 

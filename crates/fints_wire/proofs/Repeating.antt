@@ -1,16 +1,16 @@
 -- How often a step is sent in a row, and what an answer decides.
-use Rattle.std.proofs.Common.{◌≡◌, ℕ, ◌+◌, ◌<◌, ◌≤◌, List, length, Option, Some, refl, sym, subst, ap, ◌∙◌, arith, inl, inr}
+use Rattle.std.proofs.Common.{◌≡◌, ℕ, ◌+◌, ◌≤◌, List, length, Some, refl, sym, subst, ◌∙◌, arith, inl, inr}
 use Rattle.std.specs.Prelude.{◌⊎◌}
 use Rattle.std.proofs.lemmas.Bool.{cases_lt}
 use Rattle.std.proofs.lemmas.Option.{same_Some}
-use Rattle.fints_cases.specs.Answers.{CanLead, IsAnswer, leads}
+use Rattle.fints_cases.specs.Answers.{IsAnswer}
 use Rattle.fints_cases.specs.declared.answers.Target.{Target}
 use Rattle.fints_cases.specs.declared.answers.Target.TheVariants as targets
 use Rattle.fints_script.specs.Numbered.{numbered, numbered_at}
 use Rattle.fints_script.specs.Scripts.{ScriptValue}
 use Rattle.fints_script.specs.Sound.{IsSound, IsOnward}
 use Rattle.fints_script.specs.Steps.{StepValue}
-use Rattle.fints_wire.specs.Runs.{start, answered, Enters, Ends, Follows, Finishes, Arrives, Reach, first, onward, IsRepeated}
+use Rattle.fints_wire.specs.Runs.{answered, Enters, Ends, Follows, Finishes, Arrives, Reach, first, onward, IsRepeated}
 use Rattle.fints_wire.specs.declared.dialogue.Visit.{Visit}
 use Rattle.fints_wire.proofs.Onward.{answered_onward}
 use Rattle.fints_wire.proofs.Reaching.{reach_from_run}

@@ -1,5 +1,11 @@
+use Rattle.std.proofs.Common.{◌≡◌}
+use Rattle.fints_reach.specs.Numbers.{looked_at}
 use Rattle.fints_reach.proofs.Passing.{Pass}
 use Rattle.fints_reach.proofs.passing.greatest_numbers.Given as goal
 
+-- the steps so far were passed over, and this was looked at
 abbrev pub invariant-loop-i : goal.invariant-loop-i
-invariant-loop-i l = Pass l.plan.script.steps l.entries.items l.numbers.items l.i
+invariant-loop-i l = record {
+  pass : Pass l.plan.script.steps l.entries.items l.greatest.items l.i;
+  visits : l.visits ≡ looked_at l.plan.script.steps l.greatest.items;
+}

@@ -1,10 +1,12 @@
 use Rattle.std.proofs.Common.{◌≡◌, ◌<◌, ◌+◌, Some, arith, subst, sym, ap, ◌∙◌}
-use Rattle.fints_script.specs.Sound.{numbered, IsOnward}
+use Rattle.fints_script.specs.Numbered.{numbered}
+use Rattle.fints_script.specs.Sound.{IsOnward}
 use Rattle.fints_script.specs.Steps.{StepValue}
 use Rattle.fints_reach.proofs.Passing.{passed_none, passed_some, spare_small}
 use Rattle.std.proofs.lemmas.Option.{same_Some}
 use Rattle.fints_reach.specs.Passes.{IsPassed}
-use Rattle.fints_reach.proofs.Lookups.{numbered_of, numbered_read}
+use Rattle.fints_script.specs.Numbered.{numbered_of}
+use Rattle.fints_reach.proofs.Lookups.{numbered_read}
 use Rattle.fints_reach.proofs.Scripts.{lead_forward, script_of}
 use Rattle.fints_reach.proofs.passing.pass_step.Goals as goal
 

@@ -12,8 +12,8 @@ use Rattle.fints_reach.proofs.passing.raise_targets.Goals.{in-Some, in-None}
 pub raise-requires : goal.raise-requires
 raise-requires c =
     let way : IsWay c.args.step.now c.loop-b.b c.in-Some.to = c.in-Some.ensures in
-    let can = (leads_by_branches c.one_branch_fires.ensures c.args.step.now (Step c.in-Some.to)).1 (c.loop-b.b, omega (arith, ap length c.branches.ensures), way.way, way.leads_to) in
-    let forward : IsOnward (length c.args.entries.now.items) c.args.n (Step c.in-Some.to) = c.requires (Step c.in-Some.to) can in
+    let can = (leads_by_branches c.open_branches_lead.ensures c.args.step.now (Step c.in-Some.to)).1 (c.loop-b.b, omega (arith, ap length c.branches.ensures), way.way, way.leads_to) in
+    let forward : IsOnward (length c.args.entries.now.items) c.args.n (Step c.in-Some.to) = c.requires.onward (Step c.in-Some.to) can in
     let low = forward.0 in
     let high = forward.1 in
     record { from = omega arith; to = omega arith }
@@ -28,7 +28,7 @@ loop-b-preserved c =
     elim c.match-later_step.branch [
       | in-Some w ↦
           let way : IsWay step c.loop-b.b w.in-Some.to = w.in-Some.ensures in
-          let can = (leads_by_branches c.one_branch_fires.ensures step (Step w.in-Some.to)).1 (c.loop-b.b, omega (arith, ap length c.branches.ensures), way.way, way.leads_to) in
+          let can = (leads_by_branches c.open_branches_lead.ensures step (Step w.in-Some.to)).1 (c.loop-b.b, omega (arith, ap length c.branches.ensures), way.way, way.leads_to) in
           subst P (sym w.entries-is) (so_far_raised step c.args.entries.now.items c.loop-b.entries.items w.raise.new.entries.items c.loop-b.b c.args.number w.in-Some.to can way.leads_to w.raise.ensures c.loop-b.invariant)
       | in-None w ↦
           subst P (sym w.entries-is) (so_far_past step c.args.entries.now.items c.loop-b.entries.items c.loop-b.b c.args.number w.in-None.ensures c.loop-b.invariant)
@@ -37,5 +37,5 @@ loop-b-preserved c =
 pub returns : goal.returns
 returns c =
     let last : c.loop-b.b ≡ length c.args.step.now.branches + 1 = omega (arith, ap length c.branches.ensures) in
-    so_far_all c.args.step.now c.args.entries.now.items c.loop-b.entries.items c.args.number (λ to. (leads_by_branches c.one_branch_fires.ensures c.args.step.now to).0)
+    so_far_all c.args.step.now c.args.entries.now.items c.loop-b.entries.items c.args.number (λ to. (leads_by_branches c.open_branches_lead.ensures c.args.step.now to).0)
     (subst (λ b. SoFar c.args.step.now c.args.entries.now.items c.loop-b.entries.items b c.args.number) last c.loop-b.invariant)

@@ -1,4 +1,4 @@
-use Rattle.std.proofs.Common.{◌≡◌, ◌<◌, ◌≤◌, ℕ, length, Some, ap, subst, sym, ◌∙◌, arith}
+use Rattle.std.proofs.Common.{◌≤◌, length, ap, subst, sym, ◌∙◌, arith}
 use Rattle.std.proofs.lemmas.Option.{same_Some}
 use Rattle.fints_script.specs.Steps.{StepValue}
 use Rattle.fints_wire.specs.Choices.{longest_choice}
@@ -24,7 +24,7 @@ returns-clause-most c s values lower found admits low le =
     let same = same_Some c.step.result.now s (sym c.step.ensures.numbered ∙ found) in
     let bound = size_bound script c.step.result.now number c.step.ensures.sound c.step.ensures.sound_step c.requires.last values lower admits low le in
     let size = c.message_size.ensures in
-    subst (λ (x : StepValue). length (message_bytes script x lower values) ≤ _) same (omega arith)
+    subst (λ (x : StepValue). length (message_bytes script x lower values) ≤ c.message_size.result) same (omega arith)
 
 pub returns-clause-short : goal.returns-clause-short
 returns-clause-short c =

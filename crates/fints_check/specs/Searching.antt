@@ -1,0 +1,48 @@
+-- How far a search for findings has come. Private contracts alone cite these words.
+use Rattle.std.specs.Prelude.{ℕ, ◌≡◌, ◌≤◌, ◌<◌, ◌⊎◌, ◌↔◌, List, length, AllPairs, Contains, Some, false}
+use Rattle.fints_cases.specs.declared.values.NamedValue.{NamedValue}
+use Rattle.fints_rules.specs.Breaks.{Breaks, rule_number}
+use Rattle.fints_rules.specs.Permits.{Granted}
+use Rattle.fints_rules.specs.declared.facts.MessageFacts.{MessageFacts}
+use Rattle.fints_rules.specs.declared.rule.Rule.{Rule}
+use Rattle.fints_script.specs.Plans.{Admits}
+use Rattle.fints_script.specs.Scripts.{ScriptValue}
+use Rattle.fints_script.specs.Steps.{StepValue}
+use Rattle.fints_wire.specs.Choices.{longest_choice}
+use Rattle.fints_wire.specs.Messages.{message_bytes}
+use Rattle.fints_wire.specs.Runs.{Arrives}
+use Rattle.fints_wire.specs.declared.dialogue.Visit.{Visit}
+use Rattle.fints_wire.specs.Views.{message_view}
+use Rattle.fints_check.specs.Findings.{IsBefore, IsReal}
+use Rattle.fints_check.specs.declared.finding.Finding.{Finding}
+use Rattle.fints_check.specs.declared.finding.Reached.{Reached}
+
+-- before this place, counted from 0, of the rule of this number, from 1, of step n
+abbrev pub IsEarlier : ℕ → ℕ → ℕ → Finding → Type 0
+IsEarlier n r place f = (f.step < n) ⊎ ((f.step ≡ n) × ((rule_number f.rule < r) ⊎ ((rule_number f.rule ≡ r) × (f.segment < place))))
+
+-- exactly the real findings before that, in order, each once
+pub record AreFoundTo (granted : Granted) (script : ScriptValue) (n r place : ℕ) (findings : List Finding) : Type 0 where
+  pub exactly : (f : Finding) → Contains findings f ↔ (IsEarlier n r place f × IsReal granted script f)
+  pub in_order : AllPairs IsBefore findings
+
+-- the figures are the number of a step's messages and the length of the longest of this number, and both can be asked for
+pub record AreFiguresAt (script : ScriptValue) (step : StepValue) (figures : Reached) : Type 0 where
+  pub least : 1 ≤ figures.number
+  pub most : figures.number ≤ 99999
+  pub size : figures.size ≡ length (message_bytes script step figures.number (longest_choice script.fields))
+
+-- some admitted values make the step's message of this number break the rule at the place
+pub record BreaksUnder (granted : Granted) (script : ScriptValue) (step : StepValue) (number : ℕ) (rule : Rule) (place : ℕ) : Type 0 where
+  pub values : List NamedValue
+  pub admitted : Admits script.fields values
+  pub breaks : Breaks granted (message_view script step number values) rule place
+
+-- the number is that of a message of step n that some run sends last, and no run's last message of it exceeds it
+pub record IsGreatestAt (steps : List StepValue) (n number : ℕ) : Type 0 where
+  pub attained : (v : Visit) × Arrives steps v × (v.step ≡ n) × (v.number ≡ number)
+  pub most : (v : Visit) → Arrives steps v → v.step ≡ n → v.number ≤ number
+
+-- what the rules that hang on the number and the size ask of messages with these figures; they ask nothing else
+abbrev pub facts_at : Reached → MessageFacts
+facts_at figures = record { protocol = Some 300; number = figures.number; size = figures.size; kinds = 0; signatures = 0; submits = false; sends = false; ends = false; has_tan = false }

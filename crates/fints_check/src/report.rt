@@ -1,0 +1,141 @@
+//! Reports: what the runs of a plan break, and the greatest figures of its steps.
+ghost use Rattle.std.specs.Prelude.{◌≡◌, ◌↔◌, ◌≤◌, ◌+◌, [], ℕ, length, Some, None, AllPairs, Contains, IfOk, IsTrue, MatchOption};
+ghost use Rattle.fints_reach.specs.Numbers.{all_looked_at, reached_looked_at};
+ghost use Rattle.fints_script.specs.Numbered.{numbered};
+ghost use Rattle.fints_script.specs.Steps.{StepValue};
+ghost use Rattle.fints_check.specs.Figures.{AreFigures, FiguresAre};
+ghost use Rattle.fints_check.specs.Findings.{AreFindings, EachIsPermitted, IsBefore, IsReal};
+ghost use Rattle.fints_check.specs.Searching.{AreFiguresAt, IsGreatestAt};
+ghost use Rattle.fints_check.specs.declared.finding.Finding.{Finding as FindingValue};
+
+use crate::finding::{Finding, Reached};
+use crate::searching::search_step;
+use fints_reach::greatest_numbers;
+use fints_rules::Permissions;
+use fints_rules::laws::one_message;
+use fints_script::Plan;
+use fints_syntax::Memory;
+use fints_wire::laws::{extremes_are_admitted, messages_are_read, none_is_longer};
+use fints_wire::run_laws::{each_is_last, last_messages, sent_are_read, visits_are_within};
+use fints_wire::worst_size;
+use std::alloc::Global;
+use std::marker::Model;
+
+/// What a check of a plan found.
+#[derive(Drop)]
+pub struct Report<'a> {
+    permissions: &'a Permissions<'a>,
+    plan: &'a Plan<'a>,
+    figures: Vec<Option<Reached>>,
+    findings: Vec<Finding>,
+    visits: u64,
+}
+
+impl<'a> Model for Report<'a> {
+    ghost use Rattle.std.specs.Prelude.{◌≡◌};
+    ghost use Rattle.fints_check.specs.Figures.{AreFigures};
+    ghost use Rattle.fints_check.specs.Findings.{AreFindings};
+    ghost use Rattle.fints_check.specs.Reports.{ReportValue};
+
+    ghost Value = { ReportValue };
+
+    ghost view = { λ r. record { plan = r.plan.now; granted = r.permissions.now; figures = r.figures.items; findings = r.findings.items; visits = r.visits } };
+
+    ghost invariant = { λ r. (r.permissions.now.orders ≡ r.plan.now.orders) × AreFindings r.permissions.now r.plan.now.script r.findings.items × AreFigures r.plan.now.script r.figures.items };
+}
+
+impl<'a> Report<'a> {
+    /// The findings in order of step, rule and segment.
+    pub fn findings(&self) -> &[Finding]
+        ensures findings { result.now ≡ self.now.findings }
+        ensures exactly { AreFindings self.now.granted self.now.plan.script self.now.findings }
+    {
+        self.findings.as_slice()
+    }
+
+    /// Whether nothing was found.
+    pub fn is_clean(&self) -> bool
+        ensures { IsTrue result ↔ (self.now.findings ≡ []) }
+    {
+        self.findings.is_empty()
+    }
+
+    /// The greatest number and length of a step's messages over all runs and all values, or none
+    /// where no run sends it; steps count from 1.
+    pub fn reached(&self, n: usize) -> Option<Reached>
+        requires from { 1 ≤ n }
+        requires to { n ≤ length self.now.plan.script.steps }
+        ensures { FiguresAre self.now.plan.script n result }
+    {
+        self.figures[n - 1]
+    }
+
+    /// How many steps and branches were looked at for the figures.
+    pub fn visits(&self) -> u64
+        ensures { result ≡ self.now.visits }
+    {
+        self.visits
+    }
+}
+
+// The figures of a step of this greatest number.
+fn figures_at(plan: &Plan<'_>, n: usize, number: u32) -> Reached
+    requires from { 1 ≤ n }
+    requires to { n ≤ length plan.now.script.steps }
+    requires least { 1 ≤ number }
+    requires most { number ≤ 99999 }
+    ensures number { result.number ≡ number }
+    ensures figures { (step : StepValue) → numbered plan.now.script.steps n ≡ Some step → AreFiguresAt plan.now.script step result }
+{
+    let size = worst_size(plan, n, number);
+    Reached { number, size }
+}
+
+/// What runs of the plan break under these permissions, over all values that the plan admits and all
+/// answers of the bank. Both were made with order tables of the same rows.
+pub fn check<'a>(
+    alloc: Global,
+    permissions: &'a Permissions<'a>,
+    plan: &'a Plan<'a>,
+) -> Result<Report<'a>, Memory>
+    requires { permissions.now.orders ≡ plan.now.orders }
+    ensures plan { IfOk result (λ report. report.plan ≡ plan.now) }
+    ensures granted { IfOk result (λ report. report.granted ≡ permissions.now) }
+    ensures exactly { IfOk result (λ report. (f : FindingValue) → Contains report.findings f ↔ IsReal permissions.now plan.now.script f) }
+    ensures in_order { IfOk result (λ report. AllPairs IsBefore report.findings) }
+    ensures figures { IfOk result (λ report. AreFigures plan.now.script report.figures) }
+    ensures permitted { IfOk result (λ report. report.findings ≡ [] → EachIsPermitted permissions.now plan.now.script) }
+{
+    last_messages();
+    visits_are_within();
+    each_is_last();
+    sent_are_read();
+    messages_are_read();
+    one_message();
+    none_is_longer();
+    extremes_are_admitted();
+    let _orders = plan.orders();
+    let count = plan.step_count();
+    let numbers = greatest_numbers(alloc, plan)?;
+    let mut findings = Vec::new(alloc);
+    let mut figures = Vec::with_capacity(alloc, count)?;
+    for i in 0..count {
+        let cell = match numbers.greatest[i] {
+            None => None,
+            Some(number) => {
+                let reached = figures_at(plan, i + 1, number);
+                search_step(permissions, plan, i + 1, reached, &mut findings)?;
+                Some(reached)
+            }
+        };
+        figures.push(cell)?;
+    }
+    let visits = numbers.visits;
+    Ok(Report {
+        permissions,
+        plan,
+        figures,
+        findings,
+        visits,
+    })
+}

@@ -1,0 +1,5 @@
+//! Tests of the checker's calls: what no row of `rows/` can show.
+#![tactic(auto)]
+
+#[cfg(test)]
+mod numbers;
