@@ -2,5 +2,5 @@ pub mod Lookups
 pub mod Scripts
 pub mod Bounds
 pub mod Raising
-pub mod Passing
+pub mod PassLemmas
 pub mod Visits

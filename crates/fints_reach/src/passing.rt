@@ -3,7 +3,7 @@ ghost use Rattle.std.specs.Prelude.{◌≡◌, ◌<◌, ◌≤◌, ◌+◌, ℕ,
 ghost use Rattle.fints_script.specs.Numbered.{numbered};
 ghost use Rattle.fints_script.specs.Sound.{IsOnward};
 ghost use Rattle.fints_script.specs.Steps.{StepValue};
-ghost use Rattle.fints_script.specs.declared.answers.Target.{Target};
+ghost use Rattle.fints_cases.specs.declared.answers.Target.{Target};
 ghost use Rattle.fints_reach.specs.Leading.{Leads};
 ghost use Rattle.fints_reach.specs.Numbers.{AreGreatest, Has, looked_at, visits_at};
 ghost use Rattle.fints_reach.specs.Passes.{AreOpen, AreRaised, IsPassed, IsRaised};
@@ -37,14 +37,14 @@ fn raise(entries: &mut Vec<Option<u32>>, to: usize, number: u32)
 }
 
 // Keeps a number for each step that an open branch leads to.
-fn raise_targets(step: &Step, open: &[bool], n: usize, number: u32, entries: &mut Vec<Option<u32>>)
-    requires open { AreOpen step.now open.now }
+fn raise_targets(step: &Step, flags: &[bool], n: usize, number: u32, entries: &mut Vec<Option<u32>>)
+    requires flags { AreOpen step.now flags.now }
     requires onward { (to : Target) → Leads step.now to → IsOnward (length entries.old.items) n to }
     ensures { AreRaised step.now entries.old.items entries.new.items number }
 {
     open_branches_lead();
     for b in 0..step.branches().len() + 1 {
-        match later_step(step, open, b) {
+        match later_step(step, flags, b) {
             None => {}
             Some(to) => raise(entries, to as usize, number),
         }
@@ -65,9 +65,9 @@ fn pass_step(plan: &Plan, n: usize, entries: &mut Vec<Option<u32>>) -> Option<u3
         None => None,
         Some(entry) => {
             let step = plan.step(n);
-            let open = open_branches(step);
-            let number = entry + spare(step, &open);
-            raise_targets(step, &open, n, number + 1, entries);
+            let flags = open_branches(step);
+            let number = entry + spare(step, &flags);
+            raise_targets(step, &flags, n, number + 1, entries);
             Some(number)
         }
     }

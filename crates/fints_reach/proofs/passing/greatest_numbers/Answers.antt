@@ -6,7 +6,7 @@ use Rattle.fints_script.specs.Sound.{IsSound}
 use Rattle.fints_script.specs.Scripts.{ScriptValue}
 use Rattle.fints_script.specs.Steps.{StepValue}
 use Rattle.fints_reach.specs.Numbers.{Has, looked_at, visits_at}
-use Rattle.fints_reach.proofs.Passing.{Pass, pass_none, pass_more, pass_greatest, none_in_blank, entered_small}
+use Rattle.fints_reach.proofs.PassLemmas.{Pass, pass_none, pass_more, pass_greatest, none_in_blank, entered_small}
 use Rattle.fints_reach.proofs.Scripts.{script_of}
 use Rattle.fints_reach.proofs.Visits.{few_visits, looked_at_push}
 use Rattle.fints_reach.proofs.passing.greatest_numbers.Goals as goal

@@ -1,6 +1,6 @@
 use Rattle.std.proofs.Common.{◌≡◌}
 use Rattle.fints_reach.specs.Numbers.{looked_at}
-use Rattle.fints_reach.proofs.Passing.{Pass}
+use Rattle.fints_reach.proofs.PassLemmas.{Pass}
 use Rattle.fints_reach.proofs.passing.greatest_numbers.Given as goal
 
 -- the steps so far were passed over, and this was looked at

@@ -2,7 +2,7 @@ use Rattle.std.proofs.Common.{◌≡◌, ◌<◌, ◌+◌, Some, arith, subst, s
 use Rattle.fints_script.specs.Numbered.{numbered}
 use Rattle.fints_script.specs.Sound.{IsOnward}
 use Rattle.fints_script.specs.Steps.{StepValue}
-use Rattle.fints_reach.proofs.Passing.{passed_none, passed_some, spare_small}
+use Rattle.fints_reach.proofs.PassLemmas.{passed_none, passed_some, spare_small}
 use Rattle.std.proofs.lemmas.Option.{same_Some}
 use Rattle.fints_reach.specs.Passes.{IsPassed}
 use Rattle.fints_script.specs.Numbered.{numbered_of}
