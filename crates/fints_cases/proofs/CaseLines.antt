@@ -1,24 +1,21 @@
 -- The lines of a case: what they tell, what may come next, and that they tell one case at most.
-use Rattle.std.proofs.Common.{ℕ, suc, ◌+◌, ◌-◌, ◌<◌, ◌≤◌, ◌≡◌, ◌≢◌, ◌⊎◌, List, [], ◌∷◌, ◌++◌, map, codes, length, get_or, slice_get, refl, ap, sym, subst, ◌∙◌, arith, inl, inr, IsSomeAnd}
+use Rattle.std.proofs.Common.{ℕ, suc, ◌+◌, ◌<◌, ◌≤◌, ◌≡◌, ◌≢◌, ◌⊎◌, List, [], ◌∷◌, ◌++◌, map, codes, length, get_or, slice_get, refl, ap, sym, subst, ◌∙◌, arith, inl, inr, IsSomeAnd}
 use Rattle.std.specs.List.{All, AllPairs}
-use Rattle.std.proofs.lemmas.List.{append_assoc, append-nil, length-append, get_or_append_left, get_or_at}
+use Rattle.std.proofs.lemmas.List.{nil_from_length, append_assoc, length-append, get_or_append_left, get_or_at}
 use Rattle.std.proofs.lemmas.List.Elements.{All-cons, All-head, All-tail, All-append, All-map}
-use Rattle.std.proofs.lemmas.Grind.{flat_map-append}
+use Rattle.fints_lines.specs.Lines.{MAX_TEXT, text_of_lines, NoFeed, IsNextLine, HasNoNextLine, BeginsText}
+use Rattle.fints_lines.specs.LineLaws.{split_same, plain, not_empty, text_short}
 use Rattle.fints_cases.specs.Answers.{IsAnswer}
-use Rattle.fints_cases.specs.Cases.{field_text, answer_text, case_lines, text_of_lines, case_text, AreFields, IsNamedValue, BeginsCase}
-use Rattle.fints_cases.specs.CaseReading.{IsSplit, IsCaseLine, line_text, IsNext, IsBegun, HasNoLine}
+use Rattle.fints_cases.specs.Cases.{field_text, answer_text, case_lines, AreFields, IsNamedValue, AreCaseLines}
+use Rattle.fints_cases.specs.CaseReading.{IsCaseLine, line_text, IsNext, IsBegun, HasNoLine}
 use Rattle.fints_cases.specs.declared.values.NamedValue.{NamedValue}
 use Rattle.fints_cases.specs.declared.case_reading.CaseLine.{CaseLine}
 use Rattle.fints_cases.specs.declared.case_reading.CaseLine.TheVariants.{Field, Reply}
-use Rattle.fints_cases.proofs.CaseTexts.{split_same, split_none, field_once, field_without, answer_once, answer_without, field_no_answer, plain}
-
--- without a line feed
-abbrev pub NoFeed : List ℕ → Type 0
-NoFeed line = All (λ x. x ≢ 10) line
+use Rattle.fints_cases.proofs.CaseTexts.{field_once, field_without, answer_once, answer_without, field_no_answer}
 
 -- ---- one line
 
-line_without : (line : CaseLine) → IsCaseLine line → NoFeed (line_text line)
+pub line_without : (line : CaseLine) → IsCaseLine line → NoFeed (line_text line)
 line_without (Field pair) h = field_without pair h
 line_without (Reply answer) h = answer_without answer
 
@@ -28,42 +25,26 @@ line_once (Field p) (Reply b) ha hb e = absurd (field_no_answer p b e)
 line_once (Reply a) (Field q) ha hb e = absurd (field_no_answer q a (sym e))
 line_once (Reply a) (Reply b) ha hb e = ap (λ (x : List ℕ). Reply x) (answer_once a b ha hb e)
 
-pub no_feed_no_line : (whole : ℕ) (rest : List ℕ) (values : List NamedValue) (answers : List (List ℕ)) → All (λ b. b ≢ 10) rest → HasNoLine whole rest values answers
-no_feed_no_line whole rest values answers none line more is next within e = split_none 10 (line_text line) more (subst (λ (t : List ℕ). All (λ b. b ≢ 10) t) e none)
+pub no_next_no_line : (whole : ℕ) (rest : List ℕ) (values : List NamedValue) (answers : List (List ℕ)) → HasNoNextLine whole rest → HasNoLine whole rest values answers
+no_next_no_line whole rest values answers none line more is next stands = none (line_text line) more stands
 
-pub late_no_line : (whole : ℕ) (rest text more : List ℕ) (values : List NamedValue) (answers : List (List ℕ)) → IsSplit 10 rest text more → 1048576 < whole - length more → HasNoLine whole rest values answers
-late_no_line whole rest text more values answers split late line more' is next within e =
-    let same = split_same 10 text more (line_text line) more' split.1 (line_without line is) (sym split.0 ∙ e) in
-    let count : length more ≡ length more' = ap length same.1 in
-    omega arith
+-- nothing is left
+pub nothing_no_line : (whole : ℕ) (rest : List ℕ) (values : List NamedValue) (answers : List (List ℕ)) → length rest ≡ 0 → HasNoLine whole rest values answers
+nothing_no_line whole rest values answers none line more is next stands = not_empty (line_text line) more (sym stands.split.0 ∙ nil_from_length rest none)
 
-pub bad_no_line : (whole : ℕ) (rest text more : List ℕ) (values : List NamedValue) (answers : List (List ℕ)) → IsSplit 10 rest text more → ((line : CaseLine) → IsCaseLine line → text ≢ line_text line) → HasNoLine whole rest values answers
-bad_no_line whole rest text more values answers split bad line more' is next within e =
-    bad line is (split_same 10 text more (line_text line) more' split.1 (line_without line is) (sym split.0 ∙ e)).0
+-- the line that stands there is the only one
+line_there : (whole : ℕ) (rest text after line more : List ℕ) → IsNextLine whole rest text after → IsNextLine whole rest line more → text ≡ line
+line_there whole rest text after line more stands other = (split_same 10 text after line more stands.split.1 other.split.1 (sym stands.split.0 ∙ other.split.0)).0
 
-pub other_no_line : (whole : ℕ) (rest text more : List ℕ) (values : List NamedValue) (answers : List (List ℕ)) (other : CaseLine) → IsSplit 10 rest text more → IsCaseLine other → text ≡ line_text other → (IsNext values answers other → ⊥) → HasNoLine whole rest values answers
-other_no_line whole rest text more values answers other split good read not line more' is next within e =
-    let same = (split_same 10 text more (line_text line) more' split.1 (line_without line is) (sym split.0 ∙ e)).0 in
-    not (subst (IsNext values answers) (line_once line other is good (sym same ∙ read)) next)
+pub bad_no_line : (whole : ℕ) (rest text after : List ℕ) (values : List NamedValue) (answers : List (List ℕ)) → IsNextLine whole rest text after → ((line : CaseLine) → IsCaseLine line → text ≢ line_text line) → HasNoLine whole rest values answers
+bad_no_line whole rest text after values answers stands bad line more is next other = bad line is (line_there whole rest text after (line_text line) more stands other)
 
--- ---- lines and their text
+pub other_no_line : (whole : ℕ) (rest text after : List ℕ) (values : List NamedValue) (answers : List (List ℕ)) (read : CaseLine) → IsNextLine whole rest text after → IsCaseLine read → text ≡ line_text read → (IsNext values answers read → ⊥) → HasNoLine whole rest values answers
+other_no_line whole rest text after values answers read stands good is_read not line more is next other =
+    let same = line_there whole rest text after (line_text line) more stands other in
+    not (subst (IsNext values answers) (line_once line read is good (sym same ∙ is_read)) next)
 
-pub line_front : (line text rest : List ℕ) → ((line ++ 10 ∷ []) ++ text) ++ rest ≡ line ++ 10 ∷ (text ++ rest)
-line_front line text rest = append_assoc (line ++ 10 ∷ []) text rest ∙ append_assoc line (10 ∷ []) (text ++ rest)
-
-pub not_empty : (a b : List ℕ) → a ++ 10 ∷ b ≡ [] → ⊥
-not_empty [] b e = cc
-not_empty (x ∷ a) b e = cc
-
--- what stands after the lines of a text's front are its other lines
-pub lines_after : (ls ms : List (List ℕ)) (rest : List ℕ) → All NoFeed ls → All NoFeed ms → text_of_lines ls ++ rest ≡ text_of_lines ms → (later : List (List ℕ)) × (ms ≡ ls ++ later) × (rest ≡ text_of_lines later)
-lines_after [] ms rest hl hm e = (ms, refl, e)
-lines_after (l ∷ ls) [] rest hl hm e = absurd (not_empty l (text_of_lines ls ++ rest) (sym (line_front l (text_of_lines ls) rest) ∙ e))
-lines_after (l ∷ ls) (m ∷ ms) rest hl hm e =
-    let second : (m ++ 10 ∷ []) ++ text_of_lines ms ≡ m ++ 10 ∷ text_of_lines ms = append_assoc m (10 ∷ []) (text_of_lines ms) in
-    let parts = split_same 10 l (text_of_lines ls ++ rest) m (text_of_lines ms) (All-head NoFeed l ls hl) (All-head NoFeed m ms hm) (sym (line_front l (text_of_lines ls) rest) ∙ (e ∙ second)) in
-    let more = lines_after ls ms rest (All-tail NoFeed l ls hl) (All-tail NoFeed m ms hm) parts.1 in
-    (more.0, ap (λ (x : List ℕ). x ∷ ms) (sym parts.0) ∙ ap (λ (xs : List (List ℕ)). l ∷ xs) more.1, more.2)
+-- ---- the lines of a case
 
 pub lines_without : (values : List NamedValue) (answers : List (List ℕ)) → All IsNamedValue values → All NoFeed (case_lines values answers)
 lines_without values answers h =
@@ -72,18 +53,8 @@ lines_without values answers h =
     (All-map NoFeed field_text values (λ k d within. field_without (get_or values k d) (h k d within)))
     (All-map NoFeed answer_text answers (λ k d within. answer_without (get_or answers k d))))
 
-pub lines-push : (ls : List (List ℕ)) (l : List ℕ) → text_of_lines (ls ++ l ∷ []) ≡ text_of_lines ls ++ (l ++ 10 ∷ [])
-lines-push ls l =
-    flat_map-append (λ (line : List ℕ). line ++ 10 ∷ []) ls (l ∷ []) ∙ ap (λ (t : List ℕ). text_of_lines ls ++ t) (append-nil (l ++ 10 ∷ []))
-
--- a text is as long as it has lines, at least
-pub lines_long : (ls : List (List ℕ)) → length ls ≤ length (text_of_lines ls)
-lines_long [] = omega arith
-lines_long (l ∷ ls) =
-    let rest = lines_long ls in
-    let a : length ((l ++ 10 ∷ []) ++ text_of_lines ls) ≡ length (l ++ 10 ∷ []) + length (text_of_lines ls) = length-append (l ++ 10 ∷ []) (text_of_lines ls) in
-    let b : length (l ++ 10 ∷ []) ≡ length l + 1 = length-append l (10 ∷ []) in
-    omega arith
+pub case_without : (lines : List (List ℕ)) → AreCaseLines lines → All NoFeed lines
+case_without lines c = subst (All NoFeed) (sym c.lines_are) (lines_without c.values c.answers c.is.values_are)
 
 -- ---- what may come next
 
@@ -162,28 +133,20 @@ pub record IsOnward (v : List NamedValue) (a : List (List ℕ)) (text : List ℕ
   pub good : IsCaseLine line
   pub is : text ≡ line_text line
   pub next : IsNext v a line
-  pub short : length (case_text v a) + (length text + 1) ≤ 1048576
+  pub short : length (text_of_lines (case_lines v a ++ text ∷ [])) ≤ MAX_TEXT
 
-text_short : (ls : List (List ℕ)) (line : List ℕ) (later : List (List ℕ)) (n : ℕ) → length (text_of_lines ((ls ++ line ∷ []) ++ later)) ≤ n → length (text_of_lines ls) + (length line + 1) ≤ n
-text_short ls line later n h =
-    let whole : text_of_lines ((ls ++ line ∷ []) ++ later) ≡ (text_of_lines ls ++ (line ++ 10 ∷ [])) ++ text_of_lines later = flat_map-append (λ (l : List ℕ). l ++ 10 ∷ []) (ls ++ line ∷ []) later ∙ ap (λ (t : List ℕ). t ++ text_of_lines later) (lines-push ls line) in
-    let a : length (text_of_lines ((ls ++ line ∷ []) ++ later)) ≡ length ((text_of_lines ls ++ (line ++ 10 ∷ [])) ++ text_of_lines later) = ap length whole in
-    let b : length ((text_of_lines ls ++ (line ++ 10 ∷ [])) ++ text_of_lines later) ≡ length (text_of_lines ls ++ (line ++ 10 ∷ [])) + length (text_of_lines later) = length-append (text_of_lines ls ++ (line ++ 10 ∷ [])) (text_of_lines later) in
-    let c : length (text_of_lines ls ++ (line ++ 10 ∷ [])) ≡ length (text_of_lines ls) + length (line ++ 10 ∷ []) = length-append (text_of_lines ls) (line ++ 10 ∷ []) in
-    let d : length (line ++ 10 ∷ []) ≡ length line + 1 = length-append line (10 ∷ []) in
-    omega arith
-
-pub onward : (v : List NamedValue) (a : List (List ℕ)) (text : List ℕ) → IsBegun v a → BeginsCase (case_lines v a ++ text ∷ []) → IsOnward v a text
+pub onward : (v : List NamedValue) (a : List (List ℕ)) (text : List ℕ) → IsBegun v a → BeginsText AreCaseLines (case_lines v a ++ text ∷ []) → IsOnward v a text
 onward v a text begun b =
-    let tail : map field_text b.values ++ map answer_text b.answers ≡ ((map field_text v ++ map answer_text a) ++ text ∷ []) ++ b.later = (let all = b.begins in cc) in
+    let case = b.good in
+    let tail : ((map field_text v ++ map answer_text a) ++ text ∷ []) ++ b.later ≡ map field_text case.values ++ map answer_text case.answers = (let all = case.lines_are in cc) in
     let joined : ((map field_text v ++ map answer_text a) ++ text ∷ []) ++ b.later ≡ (map field_text v ++ map answer_text a) ++ text ∷ b.later = append_assoc (map field_text v ++ map answer_text a) (text ∷ []) b.later in
-    let short = text_short (case_lines v a) text b.later 1048576 (subst (λ (ls : List (List ℕ)). length (text_of_lines ls) ≤ 1048576) b.begins b.is.short) in
-    elim (lines_next v b.values a b.answers text b.later begun.values_are b.is.values_are b.is.answers_are (tail ∙ joined)) [
+    let short = text_short (case_lines v a ++ text ∷ []) b.later MAX_TEXT (subst (λ (ls : List (List ℕ)). length (text_of_lines ls) ≤ MAX_TEXT) (sym case.lines_are) case.is.short) in
+    elim (lines_next v case.values a case.answers text b.later begun.values_are case.is.values_are case.is.answers_are (sym tail ∙ joined)) [
       | inl f ↦
-          let fields : AreFields (v ++ f.pair ∷ f.more) = subst AreFields f.values b.is.fields in
+          let fields : AreFields (v ++ f.pair ∷ f.more) = subst AreFields f.values case.is.fields in
           record {
             line = Field f.pair;
-            good = pair_good v f.more f.pair (subst (All IsNamedValue) f.values b.is.values_are);
+            good = pair_good v f.more f.pair (subst (All IsNamedValue) f.values case.is.values_are);
             is = f.is;
             next = (ap length f.no_answer, names_before v f.more f.pair fields.apart, λ none. first_name v f.more f.pair none fields.first);
             short = short;
@@ -193,7 +156,7 @@ onward v a text begun b =
             line = Reply r.answer;
             good = r.good;
             is = r.is;
-            next = some_fields v (subst AreFields r.values b.is.fields);
+            next = some_fields v (subst AreFields r.values case.is.fields);
             short = short;
           }
     ]

@@ -1,5 +1,5 @@
 -- A text of lines is a case, or it has a first bad line.
-use Rattle.std.proofs.Common.{true, ◌&&◌, nat_le, ℕ, suc, ◌+◌, ◌-◌, ◌<◌, ◌≤◌, ◌≡◌, ◌≢◌, List, [], ◌∷◌, ◌++◌, map, codes, length, slice_get, refl, ap, sym, subst, ◌∙◌, arith, inl}
+use Rattle.std.proofs.Common.{true, ◌&&◌, nat_le, ℕ, ◌+◌, ◌-◌, ◌<◌, ◌≤◌, ◌≡◌, ◌≢◌, List, [], ◌∷◌, ◌++◌, map, codes, length, slice_get, refl, ap, sym, subst, ◌∙◌, arith, inl}
 use Rattle.std.specs.List.{All, AllPairs, list_all}
 use Rattle.std.proofs.lemmas.List.Sums.{AllPass-from_list_all}
 use Rattle.std.proofs.lemmas.Bool.Decides.{nat_tests}
@@ -9,13 +9,15 @@ use Rattle.std.proofs.lemmas.List.{append_assoc, append-nil, length-append, map-
 use Rattle.std.proofs.lemmas.List.Elements.{All-cons, All-nil, All-head, All-tail, All-push, All-weaker}
 use Rattle.std.proofs.lemmas.List.Quantifiers.{all_pairs_push}
 use Rattle.fints_fields.specs.Names.{IsNameByte}
+use Rattle.fints_lines.specs.Lines.{MAX_TEXT, text_of_lines, BeginsText}
+use Rattle.fints_lines.specs.LineLaws.{text_taken, length_taken, lines_long, same_lines, refused_at}
 use Rattle.fints_cases.specs.Answers.{IsAnswer}
-use Rattle.fints_cases.specs.Cases.{field_text, answer_text, case_lines, text_of_lines, case_text, AreFields, IsNamedValue, IsCase, IsCaseOf, OneCase, BeginsCase, IsFirstBadLine}
+use Rattle.fints_cases.specs.Cases.{field_text, answer_text, case_lines, case_text, AreFields, IsNamedValue, IsCase, IsCaseOf, OneCase, AreCaseLines, IsFirstBadLine}
 use Rattle.fints_cases.specs.CaseReading.{IsCaseLine, line_text, IsNext, values_with, answers_with, IsBegun, HasNoLine, IsLineTaken}
 use Rattle.fints_cases.specs.declared.values.NamedValue.{NamedValue}
 use Rattle.fints_cases.specs.declared.case_reading.CaseLine.{CaseLine}
 use Rattle.fints_cases.specs.declared.case_reading.CaseLine.TheVariants.{Field, Reply}
-use Rattle.fints_cases.proofs.CaseLines.{onward, lines_after, lines_without, lines-push, lines_long, no_fields, not_empty}
+use Rattle.fints_cases.proofs.CaseLines.{onward, line_without, lines_without, case_without, no_fields}
 use Rattle.fints_cases.proofs.CaseTexts.{field_once, answer_once, field_no_answer}
 
 -- ---- a line more
@@ -29,14 +31,11 @@ lines_with v a (Reply answer) next =
     let both : map answer_text (a ++ answer ∷ []) ≡ map answer_text a ++ answer_text answer ∷ [] = map-append answer_text a (answer ∷ []) in
     ap (λ (ls : List (List ℕ)). codes "fints-case 1" ∷ ls) (ap (λ (ls : List (List ℕ)). map field_text v ++ ls) both ∙ sym (append_assoc (map field_text v) (map answer_text a) (answer_text answer ∷ [])))
 
-text_with : (v : List NamedValue) (a : List (List ℕ)) (line : CaseLine) → IsNext v a line → case_text (values_with v line) (answers_with a line) ≡ case_text v a ++ (line_text line ++ 10 ∷ [])
-text_with v a line next = ap text_of_lines (lines_with v a line next) ∙ lines-push (case_lines v a) (line_text line)
-
 first_with : (v : List NamedValue) (pair : NamedValue) → ForSome (slice_get v 0) (λ (p : NamedValue). p.name ≡ codes "dialog") → (length v ≡ 0 → pair.name ≡ codes "dialog") → ForSome (slice_get (v ++ pair ∷ []) 0) (λ (p : NamedValue). p.name ≡ codes "dialog")
 first_with [] pair first here = λ p e. subst (λ (x : NamedValue). x.name ≡ codes "dialog") (same_Some pair p e) (here refl)
 first_with (x ∷ v) pair first here = first
 
-grown : (v : List NamedValue) (a : List (List ℕ)) (line : CaseLine) → IsBegun v a → IsCaseLine line → IsNext v a line → length (case_text (values_with v line) (answers_with a line)) ≤ 1048576 → IsBegun (values_with v line) (answers_with a line)
+grown : (v : List NamedValue) (a : List (List ℕ)) (line : CaseLine) → IsBegun v a → IsCaseLine line → IsNext v a line → length (case_text (values_with v line) (answers_with a line)) ≤ MAX_TEXT → IsBegun (values_with v line) (answers_with a line)
 grown v a (Field pair) begun good next short = record {
   first = first_with v pair begun.first next.2;
   apart = all_pairs_push (λ (p q : NamedValue). p.name ≢ q.name) v pair begun.apart next.1;
@@ -60,15 +59,11 @@ pub record Read (text rest : List ℕ) (v : List NamedValue) (a : List (List ℕ
   pub text_is : text ≡ case_text v a ++ rest
   pub number : n ≡ length (case_lines v a) + 1
 
-read_line : (text rest more : List ℕ) (v : List NamedValue) (a : List (List ℕ)) (n : ℕ) (line : CaseLine) → Read text rest v a n → IsCaseLine line → IsNext v a line → rest ≡ line_text line ++ 10 ∷ more → length text - length more ≤ 1048576 → Read text more (values_with v line) (answers_with a line) (n + 1)
+read_line : (text rest more : List ℕ) (v : List NamedValue) (a : List (List ℕ)) (n : ℕ) (line : CaseLine) → Read text rest v a n → IsCaseLine line → IsNext v a line → rest ≡ line_text line ++ 10 ∷ more → length text - length more ≤ MAX_TEXT → Read text more (values_with v line) (answers_with a line) (n + 1)
 read_line text rest more v a n line read good next is within =
-    let front = text_with v a line next in
-    let inner : line_text line ++ 10 ∷ more ≡ (line_text line ++ 10 ∷ []) ++ more = sym (append_assoc (line_text line) (10 ∷ []) more) in
-    let whole : text ≡ case_text (values_with v line) (answers_with a line) ++ more =
-    read.text_is ∙ (ap (λ (t : List ℕ). case_text v a ++ t) (is ∙ inner) ∙ (sym (append_assoc (case_text v a) (line_text line ++ 10 ∷ []) more) ∙ ap (λ (t : List ℕ). t ++ more) (sym front)))
-    in
-    let long : length text ≡ length (case_text (values_with v line) (answers_with a line) ++ more) = ap length whole in
-    let parts : length (case_text (values_with v line) (answers_with a line) ++ more) ≡ length (case_text (values_with v line) (answers_with a line)) + length more = length-append (case_text (values_with v line) (answers_with a line)) more in
+    let front : case_lines v a ++ line_text line ∷ [] ≡ case_lines (values_with v line) (answers_with a line) = sym (lines_with v a line next) in
+    let whole : text ≡ case_text (values_with v line) (answers_with a line) ++ more = text_taken text rest (line_text line) more (case_lines v a) read.text_is is ∙ ap (λ (ls : List (List ℕ)). text_of_lines ls ++ more) front in
+    let size = length_taken text more (case_lines (values_with v line) (answers_with a line)) whole in
     let count : length (case_lines (values_with v line) (answers_with a line)) ≡ length (case_lines v a ++ line_text line ∷ []) = ap length (lines_with v a line next) in
     let one : length (case_lines v a ++ line_text line ∷ []) ≡ length (case_lines v a) + 1 = length-append (case_lines v a) (line_text line ∷ []) in
     let number = read.number in
@@ -76,10 +71,10 @@ read_line text rest more v a n line read good next is within =
 
 pub read_more : (text rest more : List ℕ) (v : List NamedValue) (a : List (List ℕ)) (w : List NamedValue) (b : List (List ℕ)) (n : ℕ) → Read text rest v a n → IsLineTaken (length text) rest more v a w b → Read text more w b (n + 1)
 read_more text rest more v a w b n read taken =
-    let next = read_line text rest more v a n taken.line read taken.is taken.next taken.rest_is taken.within in
+    let next = read_line text rest more v a n taken.line read taken.is taken.next taken.stands.split.0 taken.stands.within in
     subst (λ (x : List (List ℕ)). Read text more w x (n + 1)) (sym taken.answers_are) (subst (λ (x : List NamedValue). Read text more x (answers_with a taken.line) (n + 1)) (sym taken.values_are) next)
 
-pub few_lines : (text rest : List ℕ) (v : List NamedValue) (a : List (List ℕ)) (n : ℕ) → Read text rest v a n → n ≤ 1048577
+pub few_lines : (text rest : List ℕ) (v : List NamedValue) (a : List (List ℕ)) (n : ℕ) → Read text rest v a n → n ≤ MAX_TEXT + 1
 few_lines text rest v a n read =
     let long = lines_long (case_lines v a) in
     let short = read.begun.short in
@@ -130,73 +125,42 @@ least_case =
       short = omega arith;
     }
 
-begins_first : BeginsCase []
-begins_first = record { values = dialog ∷ []; answers = []; is = least_case; later = case_lines (dialog ∷ []) []; begins = refl }
+begins_first : BeginsText AreCaseLines []
+begins_first = record { later = case_lines (dialog ∷ []) []; good = record { values = dialog ∷ []; answers = []; is = least_case; lines_are = refl } }
 
-begins : (v : List NamedValue) (a : List (List ℕ)) → IsBegun v a → BeginsCase (case_lines v a)
-begins [] [] begun = record { values = dialog ∷ []; answers = []; is = least_case; later = field_text dialog ∷ []; begins = refl }
+begins : (v : List NamedValue) (a : List (List ℕ)) → IsBegun v a → BeginsText AreCaseLines (case_lines v a)
+begins [] [] begun = record { later = field_text dialog ∷ []; good = record { values = dialog ∷ []; answers = []; is = least_case; lines_are = refl } }
 begins [] (x ∷ a) begun = let none : length (x ∷ a) ≡ 0 = begun.order refl in absurd (omega arith)
-begins (x ∷ v) a begun = record { values = x ∷ v; answers = a; is = is_case (x ∷ v) a begun (omega arith); later = []; begins = sym (append-nil (case_lines (x ∷ v) a)) }
+begins (x ∷ v) a begun = record { later = []; good = record { values = x ∷ v; answers = a; is = is_case (x ∷ v) a begun (omega arith); lines_are = append-nil (case_lines (x ∷ v) a) } }
 
--- no case has this text, if its lines go on with no good line, and it isn't one that ends here
-no_case_of : (text rest : List ℕ) (v : List NamedValue) (a : List (List ℕ)) → IsBegun v a → text ≡ case_text v a ++ rest → (length rest ≡ 0 → length v ≡ 0) → ((line more : List ℕ) → rest ≡ line ++ 10 ∷ more → BeginsCase (case_lines v a ++ line ∷ []) → ⊥) → (w : List NamedValue) (b : List (List ℕ)) → IsCaseOf text w b → ⊥
-no_case_of text rest v a begun is ends bad w b case =
-    let after = lines_after (case_lines v a) (case_lines w b) rest (lines_without v a begun.values_are) (lines_without w b case.0.values_are) (sym is ∙ case.1) in
-    go after.0 after.1 after.2
-  where
-    no_lines : (w : List NamedValue) → map field_text w ++ map answer_text b ≡ [] → length w ≡ 0
-    no_lines [] e = refl
-    no_lines (x ∷ w) e = absurd cc
+-- without lines there is no value
+no_lines : (w : List NamedValue) (b : List (List ℕ)) → [] ≡ map field_text w ++ map answer_text b → length w ≡ 0
+no_lines [] b e = refl
+no_lines (x ∷ w) b e = absurd cc
 
-    only_header : (v : List NamedValue) (a : List (List ℕ)) → length v ≡ 0 → length a ≡ 0 → case_lines w b ≡ case_lines v a → length w ≡ 0
-    only_header [] [] hv ha e = no_lines w cc
-    only_header [] (y ∷ a) hv ha e = absurd (omega arith)
-    only_header (x ∷ v) a hv ha e = absurd (omega arith)
-
-    go : (later : List (List ℕ)) → case_lines w b ≡ case_lines v a ++ later → rest ≡ text_of_lines later → ⊥
-    go [] all r = let done : length rest ≡ 0 = ap length r in no_fields w (only_header v a (ends done) (begun.order (ends done)) (all ∙ append-nil (case_lines v a))) case.0.fields
-    go (line ∷ later) all r =
-        bad line (text_of_lines later) (r ∙ append_assoc line (10 ∷ []) (text_of_lines later)) (record {
-          values = w;
-          answers = b;
-          is = case.0;
-          later = later;
-          begins = all ∙ sym (append_assoc (case_lines v a) (line ∷ []) later);
-        })
+-- the header alone is no case
+no_value_no_case : (v : List NamedValue) (a : List (List ℕ)) → length v ≡ 0 → length a ≡ 0 → AreCaseLines (case_lines v a) → ⊥
+no_value_no_case [] [] hv ha c = no_fields c.values (no_lines c.values c.answers (let all = c.lines_are in cc)) c.is.fields
+no_value_no_case [] (y ∷ a) hv ha c = absurd (omega arith)
+no_value_no_case (x ∷ v) a hv ha c = absurd (omega arith)
 
 pub refused : (text rest : List ℕ) (v : List NamedValue) (a : List (List ℕ)) (n : ℕ) → Read text rest v a n → HasNoLine (length text) rest v a → (length rest ≡ 0 → length v ≡ 0) → IsFirstBadLine text n
-refused text rest v a n read none ends = record {
-  lines = case_lines v a;
-  rest = rest;
-  text_is = read.text_is;
-  number = read.number;
-  begins = begins v a read.begun;
-  bad = bad;
-  no_case = no_case_of text rest v a read.begun read.text_is ends bad;
-}
+refused text rest v a n read none ends =
+    refused_at AreCaseLines case_without text rest (case_lines v a) n (begins v a read.begun) read.text_is read.number (λ done good. no_value_no_case v a (ends done) (read.begun.order (ends done)) good) bad
   where
-    bad : (line more : List ℕ) → rest ≡ line ++ 10 ∷ more → BeginsCase (case_lines v a ++ line ∷ []) → ⊥
+    bad : (line more : List ℕ) → rest ≡ line ++ 10 ∷ more → BeginsText AreCaseLines (case_lines v a ++ line ∷ []) → ⊥
     bad line more is b =
         let on = onward v a line read.begun b in
-        let long : length text ≡ length (case_text v a ++ rest) = ap length read.text_is in
-        let parts : length (case_text v a ++ rest) ≡ length (case_text v a) + length rest = length-append (case_text v a) rest in
-        let back : length rest ≡ length (line ++ 10 ∷ more) = ap length is in
-        let last : length (line ++ 10 ∷ more) ≡ length line + suc (length more) = length-append line (10 ∷ more) in
+        let size = length_taken text more (case_lines v a ++ line ∷ []) (text_taken text rest line more (case_lines v a) read.text_is is) in
         let short = on.short in
-        none on.line more on.good on.next (omega arith) (is ∙ ap (λ (t : List ℕ). t ++ 10 ∷ more) on.is)
+        none on.line more on.good on.next (record { split = (is ∙ ap (λ (t : List ℕ). t ++ 10 ∷ more) on.is, line_without on.line on.good); within = omega arith })
 
 pub no_header : (text : List ℕ) → ((rest : List ℕ) → text ≢ codes "fints-case 1\n" ++ rest) → IsFirstBadLine text 1
-no_header text none = record {
-  lines = [];
-  rest = text;
-  text_is = refl;
-  number = refl;
-  begins = begins_first;
-  bad = λ line more is b.
-      let same : codes "fints-case 1" ≡ line = (let all = b.begins in cc) in
-      none more (is ∙ ap (λ (t : List ℕ). t ++ 10 ∷ more) (sym same));
-  no_case = λ w b case. none (text_of_lines (map field_text w ++ map answer_text b)) case.1;
-}
+no_header text none =
+    refused_at AreCaseLines case_without text text [] 1 begins_first refl refl (λ done good. let all = good.lines_are in absurd cc) (λ line more is b.
+    let all = b.good.lines_are in
+    let first : codes "fints-case 1" ≡ line = cc in
+    none more (is ∙ ap (λ (t : List ℕ). t ++ 10 ∷ more) (sym first)))
 
 -- ---- one case
 
@@ -226,19 +190,10 @@ lines_once (p ∷ v) (q ∷ w) a b hv hw ha hb e =
 
 pub one_case : (text : List ℕ) → OneCase text
 one_case text v w a b c d =
-    let after = lines_after (case_lines v a) (case_lines w b) [] (lines_without v a c.0.values_are) (lines_without w b d.0.values_are) (append-nil (case_text v a) ∙ (sym c.1 ∙ d.1)) in
-    go after.0 after.1 after.2
-  where
-    go : (later : List (List ℕ)) → case_lines w b ≡ case_lines v a ++ later → [] ≡ text_of_lines later → (v ≡ w) × (a ≡ b)
-    go [] all r =
-        let both : map field_text v ++ map answer_text a ≡ map field_text w ++ map answer_text b = (let same : case_lines v a ≡ case_lines w b = sym (all ∙ append-nil (case_lines v a)) in cc) in
-        lines_once v w a b c.0.values_are d.0.values_are c.0.answers_are d.0.answers_are both
-    go (line ∷ later) all r = absurd (not_empty line (text_of_lines later) (sym (r ∙ append_assoc line (10 ∷ []) (text_of_lines later))))
+    let same = same_lines (case_lines v a) (case_lines w b) (lines_without v a c.0.values_are) (lines_without w b d.0.values_are) (sym c.1 ∙ d.1) in
+    lines_once v w a b c.0.values_are d.0.values_are c.0.answers_are d.0.answers_are cc
 
 -- ---- what is written
 
-pub written : (v : List NamedValue) (a : List (List ℕ)) (text : List ℕ) → All IsNamedValue v → All IsAnswer a → text ≡ case_text v a → AreFields v → length text ≤ 1048576 → IsCaseOf text v a
-written v a text hv ha is fields short = (record { fields = fields; values_are = hv; answers_are = ha; short = subst (λ (t : List ℕ). length t ≤ 1048576) is short }, is)
-
-pub text_push : (front : List (List ℕ)) (line out new : List ℕ) → out ≡ text_of_lines front → new ≡ out ++ (line ++ 10 ∷ []) → new ≡ text_of_lines (front ++ line ∷ [])
-text_push front line out new h e = e ∙ (ap (λ (t : List ℕ). t ++ (line ++ 10 ∷ [])) h ∙ sym (lines-push front line))
+pub written : (v : List NamedValue) (a : List (List ℕ)) (text : List ℕ) → All IsNamedValue v → All IsAnswer a → text ≡ case_text v a → AreFields v → length text ≤ MAX_TEXT → IsCaseOf text v a
+written v a text hv ha is fields short = (record { fields = fields; values_are = hv; answers_are = ha; short = subst (λ (t : List ℕ). length t ≤ MAX_TEXT) is short }, is)

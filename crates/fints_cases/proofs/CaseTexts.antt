@@ -1,42 +1,24 @@
 -- The texts of cases: what each line spells, and that a text spells one case at most.
-use Rattle.std.proofs.Common.{not, Bor, MatchOption, take, drop, nat_eq, ℕ, ◌+◌, ◌-◌, ◌*◌, ◌/◌, ◌%◌, ◌<◌, ◌≤◌, ◌≡◌, ◌≢◌, ◌==◌, ◌⊎◌, Bool, true, false, ◌&&◌, Option, Some, None, Ok, Err, List, [], ◌∷◌, ◌++◌, codes, length, get_or, refl, ap, sym, subst, ◌∙◌, arith, inl, inr}
+use Rattle.std.proofs.Common.{take, drop, ℕ, ◌+◌, ◌-◌, ◌*◌, ◌/◌, ◌%◌, ◌<◌, ◌≤◌, ◌≡◌, ◌≢◌, ◌⊎◌, Bool, true, false, ◌&&◌, Some, Ok, Err, List, [], ◌∷◌, ◌++◌, codes, length, get_or, refl, ap, sym, subst, ◌∙◌, arith, inl, inr}
 use Rattle.std.proofs.lemmas.Bool.{cases_lt}
-use Rattle.std.proofs.lemmas.List.{append_cancel_left, get_or_past, get_or_default, take_all, take_at, take-append-drop}
+use Rattle.std.proofs.lemmas.List.{append_cancel_left, get_or_past, get_or_default, take_all}
 use Rattle.std.proofs.lemmas.List.Elements.{All-cons, All-nil, All-head, All-tail, All-append, All-weaker}
 use Rattle.std.proofs.lemmas.Option.{cond_some}
-use Rattle.std.specs.List.{All, list_all}
+use Rattle.std.specs.List.{All}
 use Rattle.std.specs.Char.{is_ascii_digit, digit_value}
-use Rattle.std.proofs.lemmas.List.Sums.{AllPass-from_list_all}
 use Rattle.std.proofs.lemmas.Bool.Decides.{nat_tests}
-use Rattle.std.specs.Cmp.Lexicographic.{pointwise, same_text, other_text}
 use Rattle.hex.specs.Hex.{encode_lower, decode_of, lower_digits, IsBytes, is_hex_digit}
 use Rattle.hex.specs.declared.error.FromHexError.{FromHexError}
 use Rattle.hex.proofs.HexLemmas.{decode_of-encode_lower, decode_of-ok, length-encode_with}
 use Rattle.fints_params.specs.Feedback.{code_in}
 use Rattle.fints_fields.specs.Names.{IsName, IsNameByte}
+use Rattle.fints_lines.specs.Lines.{IsSplit}
+use Rattle.fints_lines.specs.LineLaws.{split_same, split_none, plain}
 use Rattle.fints_cases.specs.Patterns.{code_text}
 use Rattle.fints_cases.specs.Answers.{IsAnswer}
 use Rattle.fints_cases.specs.Cases.{value_text, field_text, codes_text, answer_text, IsNamedValue}
-use Rattle.fints_cases.specs.CaseReading.{IsValue, IsSplit}
+use Rattle.fints_cases.specs.CaseReading.{IsValue}
 use Rattle.fints_cases.specs.declared.values.NamedValue.{NamedValue}
-
--- ---- parts round a byte
-
--- what stands before the first such byte and what after it
-pub split_same : (byte : ℕ) (a b c d : List ℕ) → All (λ x. x ≢ byte) a → All (λ x. x ≢ byte) c → a ++ byte ∷ b ≡ c ++ byte ∷ d → (a ≡ c) × (b ≡ d)
-split_same byte [] b [] d ha hc e = (refl, cc)
-split_same byte [] b (y ∷ c) d ha hc e = absurd (All-head (λ x. x ≢ byte) y c hc cc)
-split_same byte (x ∷ a) b [] d ha hc e = absurd (All-head (λ x. x ≢ byte) x a ha cc)
-split_same byte (x ∷ a) b (y ∷ c) d ha hc e =
-    let front : x ≡ y = cc in
-    let back : a ++ byte ∷ b ≡ c ++ byte ∷ d = cc in
-    let rest = split_same byte a b c d (All-tail (λ x. x ≢ byte) x a ha) (All-tail (λ x. x ≢ byte) y c hc) back in
-    (cc (front, rest.0), rest.1)
-
--- a byte of the whole
-pub split_none : (byte : ℕ) (a b : List ℕ) → All (λ x. x ≢ byte) (a ++ byte ∷ b) → ⊥
-split_none byte [] b h = All-head (λ x. x ≢ byte) byte b h refl
-split_none byte (x ∷ a) b h = split_none byte a b (All-tail (λ x. x ≢ byte) x (a ++ byte ∷ b) h)
 
 -- ---- names
 
@@ -112,10 +94,6 @@ value_without (b ∷ v) h =
     All-weaker (λ c. is_hex_digit c ≡ true) (λ x. x ≢ 10) (λ c d. hex_digit_no_feed c d) (encode_lower (b ∷ v)) read.1
 
 -- ---- lines of fields
-
--- a text that is computed to have no line feed
-pub plain : (xs : List ℕ) → list_all (λ b. not (b == 10)) xs ≡ true → All (λ x. x ≢ 10) xs
-plain xs h = All-weaker (λ b. not (b == 10) ≡ true) (λ x. x ≢ 10) (λ b n e. let at : not (10 == 10) ≡ true = subst (λ (c : ℕ). not (c == 10) ≡ true) e n in cc) xs (AllPass-from_list_all (λ b. not (b == 10)) xs h)
 
 pub field_once : (p q : NamedValue) → IsNamedValue p → IsNamedValue q → field_text p ≡ field_text q → p ≡ q
 field_once p q hp hq e =
@@ -257,12 +235,3 @@ no_name text rest name value is split none x h e = none (subst IsName (sym (part
 
 pub no_value : (text rest name value : List ℕ) → text ≡ codes "field " ++ rest → IsSplit 32 rest name value → ((v : List ℕ) → IsValue v → value ≢ value_text v) → (x : NamedValue) → IsNamedValue x → text ≡ field_text x → ⊥
 no_value text rest name value is split none x h e = none x.value h.1 (parts_of text rest name value is split x h e).1
-
--- ---- what stands after a front
-
-pub stripped : (text front : List ℕ) (found : Option (Bor (List ℕ))) → MatchOption found (pointwise nat_eq (take (length front) text) front ≡ false) (λ x. (pointwise nat_eq (take (length front) text) front ≡ true) × (x.now ≡ drop (length front) text) × (length x.now + length front ≡ length text)) → MatchOption found ((rest : List ℕ) → text ≢ front ++ rest) (λ rest. text ≡ front ++ rest.now)
-stripped text front None h = λ rest e. other_text (take (length front) text) front (sym h) (subst (λ (t : List ℕ). take (length front) t ≡ front) (sym e) (take_at front rest (length front) refl))
-stripped text front (Some x) h =
-    let same : take (length front) text ≡ front = same_text _ _ (sym h.0) in
-    let whole : take (length front) text ++ drop (length front) text ≡ text = take-append-drop (length front) text in
-    subst (λ (t : List ℕ). text ≡ front ++ t) (sym h.1) (subst (λ (t : List ℕ). text ≡ t ++ drop (length front) text) same (sym whole))

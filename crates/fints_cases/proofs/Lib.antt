@@ -1,4 +1,3 @@
-pub mod CaseRefusals
 pub mod HexTexts
 pub mod CaseWrites
 pub mod CaseReads

@@ -1,21 +1,13 @@
 -- What the reader of cases knows on its way through a text.
-use Rattle.std.specs.Prelude.{ℕ, ◌-◌, ◌≡◌, ◌≢◌, ◌<◌, ◌≤◌, Option, MatchOption, List, [], ◌∷◌, ◌++◌, codes, length, slice_get}
+use Rattle.std.specs.Prelude.{ℕ, ◌≡◌, ◌≢◌, ◌<◌, ◌≤◌, List, [], ◌∷◌, ◌++◌, codes, length, slice_get}
 use Rattle.std.specs.Option.{ForSome}
 use Rattle.std.specs.List.{All, AllPairs}
+use Rattle.fints_lines.specs.Lines.{MAX_TEXT, IsNextLine}
 use Rattle.fints_cases.specs.Answers.{IsAnswer}
 use Rattle.fints_cases.specs.Cases.{field_text, answer_text, case_text, IsNamedValue}
 use Rattle.fints_cases.specs.declared.values.NamedValue.{NamedValue}
 use Rattle.fints_cases.specs.declared.case_reading.CaseLine.{CaseLine}
 use Rattle.fints_cases.specs.declared.case_reading.CaseLine.TheVariants.{Field, Reply}
-
--- the text is the left part, this byte and the right part, and the byte is not in the left part
-abbrev pub IsSplit : ℕ → List ℕ → List ℕ → List ℕ → Type 0
-IsSplit byte text left right = (text ≡ left ++ byte ∷ right) × All (λ b. b ≢ byte) left
-
--- what is found is a good value with this text, and nothing is found only where the text is that of no good value
-abbrev pub IsReadAs : {X : Type 0} → (X → Type 0) → (X → List ℕ) → List ℕ → Option X → Type 0
-IsReadAs {X} IsGood text_of text found =
-    MatchOption found ((x : X) → IsGood x → text ≢ text_of x) (λ x. IsGood x × (text ≡ text_of x))
 
 -- A to Z
 abbrev pub IsCapital : ℕ → Type 0
@@ -53,19 +45,18 @@ pub record IsBegun (values : List NamedValue) (answers : List (List ℕ)) : Type
   pub values_are : All IsNamedValue values
   pub answers_are : All IsAnswer answers
   pub order : length values ≡ 0 → length answers ≡ 0
-  pub short : length (case_text values answers) ≤ 1048576
+  pub short : length (case_text values answers) ≤ MAX_TEXT
 
--- a line was taken from the rest of a text of `whole` bytes, and its line ended within the limit
+-- a line of a case was taken from the rest of a text of `whole` bytes
 pub record IsLineTaken (whole : ℕ) (rest more : List ℕ) (values : List NamedValue) (answers : List (List ℕ)) (values_then : List NamedValue) (answers_then : List (List ℕ)) : Type 0 where
   pub line : CaseLine
   pub is : IsCaseLine line
   pub next : IsNext values answers line
-  pub rest_is : rest ≡ line_text line ++ 10 ∷ more
-  pub within : whole - length more ≤ 1048576
+  pub stands : IsNextLine whole rest (line_text line) more
   pub values_are : values_then ≡ values_with values line
   pub answers_are : answers_then ≡ answers_with answers line
 
 -- no such line stands there
 abbrev pub HasNoLine : ℕ → List ℕ → List NamedValue → List (List ℕ) → Type 0
 HasNoLine whole rest values answers =
-    (line : CaseLine) (more : List ℕ) → IsCaseLine line → IsNext values answers line → whole - length more ≤ 1048576 → rest ≢ line_text line ++ 10 ∷ more
+    (line : CaseLine) (more : List ℕ) → IsCaseLine line → IsNext values answers line → IsNextLine whole rest (line_text line) more → ⊥

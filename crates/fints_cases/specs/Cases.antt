@@ -1,8 +1,9 @@
 -- Cases and their texts.
-use Rattle.std.specs.Prelude.{ℕ, ◌+◌, ◌≡◌, ◌≢◌, ◌<◌, ◌≤◌, List, [], ◌∷◌, ◌++◌, codes, length, map, slice_get, IsSomeAnd}
+use Rattle.std.specs.Prelude.{ℕ, ◌≡◌, ◌≢◌, ◌<◌, ◌≤◌, List, [], ◌∷◌, ◌++◌, codes, length, map, slice_get, IsSomeAnd}
 use Rattle.std.specs.List.{All, AllPairs, flat_map}
 use Rattle.hex.specs.Hex.{encode_lower}
 use Rattle.fints_fields.specs.Names.{IsName}
+use Rattle.fints_lines.specs.Lines.{MAX_TEXT, text_of_lines, IsFirstBadLineOf}
 use Rattle.fints_cases.specs.Patterns.{code_text}
 use Rattle.fints_cases.specs.Answers.{IsAnswer}
 use Rattle.fints_cases.specs.declared.values.NamedValue.{NamedValue}
@@ -30,10 +31,6 @@ answer_text answer = codes "answer" ++ codes_text answer
 abbrev pub case_lines : List NamedValue → List (List ℕ) → List (List ℕ)
 case_lines values answers = codes "fints-case 1" ∷ (map field_text values ++ map answer_text answers)
 
--- lines, each with a line feed (10) after it
-abbrev pub text_of_lines : List (List ℕ) → List ℕ
-text_of_lines lines = flat_map (λ line. line ++ 10 ∷ []) lines
-
 abbrev pub case_text : List NamedValue → List (List ℕ) → List ℕ
 case_text values answers = text_of_lines (case_lines values answers)
 
@@ -53,7 +50,7 @@ pub record IsCase (values : List NamedValue) (answers : List (List ℕ)) : Type 
   pub fields : AreFields values
   pub values_are : All IsNamedValue values
   pub answers_are : All IsAnswer answers
-  pub short : length (case_text values answers) ≤ 1048576
+  pub short : length (case_text values answers) ≤ MAX_TEXT
 
 -- the text stands for this case
 abbrev pub IsCaseOf : List ℕ → List NamedValue → List (List ℕ) → Type 0
@@ -66,23 +63,16 @@ OneCase text =
 
 -- ---- which line is refused
 
--- these are the first lines of some case, or all of them
-pub record BeginsCase (lines : List (List ℕ)) : Type 0 where
+-- some values and answers are a case, and these are its lines
+pub record AreCaseLines (lines : List (List ℕ)) : Type 0 where
   pub values : List NamedValue
   pub answers : List (List ℕ)
   pub is : IsCase values answers
-  pub later : List (List ℕ)
-  pub begins : case_lines values answers ≡ lines ++ later
+  pub lines_are : lines ≡ case_lines values answers
 
--- the text is no case: the lines before the n-th begin one, and the n-th with its line feed, if it stands there, is no next line of one
-pub record IsFirstBadLine (text : List ℕ) (n : ℕ) : Type 0 where
-  pub lines : List (List ℕ)
-  pub rest : List ℕ
-  pub text_is : text ≡ text_of_lines lines ++ rest
-  pub number : n ≡ length lines + 1
-  pub begins : BeginsCase lines
-  pub bad : (line more : List ℕ) → rest ≡ line ++ 10 ∷ more → BeginsCase (lines ++ line ∷ []) → ⊥
-  pub no_case : (values : List NamedValue) (answers : List (List ℕ)) → IsCaseOf text values answers → ⊥
+-- the text is no case, and its n-th line is the first that is none of a case
+abbrev pub IsFirstBadLine : List ℕ → ℕ → Type 0
+IsFirstBadLine text n = IsFirstBadLineOf AreCaseLines text n
 
 abbrev pub IsRefusal : List ℕ → CaseFault → Type 0
 IsRefusal text (Bad line) = IsFirstBadLine text line

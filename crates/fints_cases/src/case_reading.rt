@@ -2,43 +2,27 @@
 ghost use Rattle.std.specs.Prelude.{◌≡◌, ◌≢◌, ◌≤◌, ◌↔◌, ℕ, List, codes, ◌∷◌, ◌++◌, ◌<◌, length, IsTrue, IfOk, IfErr, OnOk, MatchOption};
 ghost use Rattle.std.specs.List.{All, Any};
 ghost use Rattle.hex.specs.Hex.{encode_lower};
+ghost use Rattle.fints_lines.specs.Lines.{IsReadAs};
 ghost use Rattle.fints_cases.specs.Patterns.{code_text};
 ghost use Rattle.fints_cases.specs.Answers.{IsAnswer};
 ghost use Rattle.fints_cases.specs.Cases.{value_text, field_text, codes_text, answer_text, IsNamedValue, IsCaseOf, IsRefusal};
-ghost use Rattle.fints_cases.specs.CaseReading.{IsSplit, IsReadAs, IsCapital, IsValue, IsCaseLine, line_text, IsNext, values_with, answers_with, IsLineTaken, HasNoLine};
+ghost use Rattle.fints_cases.specs.CaseReading.{IsCapital, IsValue, IsCaseLine, line_text, IsNext, values_with, answers_with, IsLineTaken, HasNoLine};
 
 use crate::case::{Answer, Case};
 use crate::case_fault::CaseFault;
 use crate::values::{NamedValue, Values};
 use fints_fields::Name;
+use fints_lines::{after, next_line, split_once};
 use fints_params::Code;
 use fints_syntax::{Bytes, Memory};
 use hex::FromHexError;
 use std::alloc::Global;
-
-/// The most bytes of a case's text.
-const MAX_CASE: usize = 1_048_576;
 
 /// What a line after the first tells.
 #[derive(Debug, Drop)]
 pub enum CaseLine {
     Field(NamedValue),
     Reply(Answer),
-}
-
-/// What stands after these bytes.
-fn after<'a>(text: &'a [u8], front: &[u8]) -> Option<&'a [u8]>
-    ensures { MatchOption result ((rest : List ℕ) → text.now ≢ front.now ++ rest) (λ rest. text.now ≡ front.now ++ rest.now) }
-{
-    text.strip_prefix(front)
-}
-
-/// What stands before and after the first such byte.
-fn split_once(text: &[u8], byte: u8) -> Option<(&[u8], &[u8])>
-    ensures { MatchOption result (All (λ b. b ≢ byte) text.now) (λ parts. IsSplit byte text.now parts.0.now parts.1.now) }
-{
-    let end = text.iter().position(|b| *b == byte)?;
-    Some((&text[..end], &text[end + 1..]))
 }
 
 fn has_capital(text: &[u8]) -> bool
@@ -204,12 +188,9 @@ fn take_line<'a>(
         (HasNoLine whole rest.now case.old.values case.old.answers.items)
         (λ more. IsLineTaken whole rest.now more.now case.old.values case.old.answers.items case.new.values case.new.answers.items)) }
 {
-    let Some((text, more)) = split_once(rest, b'\n') else {
+    let Some((text, more)) = next_line(whole, rest) else {
         return Ok(None);
     };
-    if whole - more.len() > MAX_CASE {
-        return Ok(None);
-    }
     let Some(line) = parse_line(alloc, text)? else {
         return Ok(None);
     };

@@ -1,6 +1,7 @@
 //! The texts of cases.
 ghost use Rattle.std.specs.Prelude.{◌≡◌, ◌≤◌, ◌<◌, [], ◌∷◌, ◌++◌, length, OnOk, IfOk};
 ghost use Rattle.std.specs.List.{All};
+ghost use Rattle.fints_lines.specs.Lines.{MAX_TEXT};
 ghost use Rattle.fints_cases.specs.Answers.{IsAnswer};
 ghost use Rattle.fints_cases.specs.Cases.{value_text, field_text, codes_text, answer_text, case_text, AreFields, IsNamedValue, IsCaseOf};
 
@@ -65,7 +66,7 @@ impl Case {
     /// at most 1,048,576 bytes.
     pub fn write(&self, alloc: Global) -> Result<Vec<u8>, Memory>
         ensures text { IfOk result (λ text. text.items ≡ case_text self.now.values self.now.answers.items) }
-        ensures readable { IfOk result (λ text. AreFields self.now.values → length text.items ≤ 1048576 →
+        ensures readable { IfOk result (λ text. AreFields self.now.values → length text.items ≤ MAX_TEXT →
             IsCaseOf text.items self.now.values self.now.answers.items) }
     {
         let mut out = Vec::new(alloc);

@@ -1,5 +1,5 @@
 use Rattle.std.proofs.Common.{◌<◌, subst}
-use Rattle.fints_cases.proofs.CaseWrites.{all_more}
+use Rattle.fints_lines.specs.LineLaws.{all_more}
 use Rattle.fints_cases.proofs.case.read_all.Goals as goal
 
 pub loop-code-preserved : goal.loop-code-preserved

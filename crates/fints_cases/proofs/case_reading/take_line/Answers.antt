@@ -1,17 +1,14 @@
 use Rattle.std.proofs.lemmas.Bool.{both_ways}
-use Rattle.fints_cases.proofs.CaseLines.{no_feed_no_line, late_no_line, bad_no_line, other_no_line}
+use Rattle.fints_cases.proofs.CaseLines.{no_next_no_line, bad_no_line, other_no_line}
 use Rattle.fints_cases.proofs.case_reading.take_line.Goals as goal
 
 pub returns-in_default : goal.returns-in_default
-returns-in_default c = no_feed_no_line c.args.whole c.args.rest.now c.args.case.now.values c.args.case.now.answers.items c.in_default.ensures
-
-pub returns-then-whole-more-gt-MAX_CASE : goal.returns-then-whole-more-gt-MAX_CASE
-returns-then-whole-more-gt-MAX_CASE c = late_no_line c.args.whole c.args.rest.now c.in-Some.text.now c.in-Some.more.now c.args.case.now.values c.args.case.now.answers.items c.in-Some.ensures c.if-whole-more-gt-MAX_CASE.true
+returns-in_default c = no_next_no_line c.args.whole c.args.rest.now c.args.case.now.values c.args.case.now.answers.items c.in_default.ensures.none
 
 pub returns-in_default-2 : goal.returns-in_default-2
-returns-in_default-2 c = bad_no_line c.args.whole c.args.rest.now c.in-Some.text.now c.in-Some.more.now c.args.case.now.values c.args.case.now.answers.items c.in-Some.ensures (rw c.in_default-2.is at c.in_ok-line.ensures)
+returns-in_default-2 c = bad_no_line c.args.whole c.args.rest.now c.in-Some.text.now c.in-Some.more.now c.args.case.now.values c.args.case.now.answers.items c.in-Some.ensures.line (rw c.in_default-2.is at c.in_ok-line.ensures)
 
 pub returns-then-not-is_next : goal.returns-then-not-is_next
 returns-then-not-is_next c =
     let read = rw c.in-Some-2.is at c.in_ok-line.ensures in
-    other_no_line c.args.whole c.args.rest.now c.in-Some.text.now c.in-Some.more.now c.args.case.now.values c.args.case.now.answers.items c.in-Some-2.line c.in-Some.ensures read.0 read.1 (λ next. both_ways _ c.if-not-is_next.true (c.is_next.ensures.1 next))
+    other_no_line c.args.whole c.args.rest.now c.in-Some.text.now c.in-Some.more.now c.args.case.now.values c.args.case.now.answers.items c.in-Some-2.line c.in-Some.ensures.line read.0 read.1 (λ next. both_ways _ c.if-not-is_next.true (c.is_next.ensures.1 next))

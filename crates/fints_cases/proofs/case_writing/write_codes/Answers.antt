@@ -1,7 +1,8 @@
 use Rattle.std.proofs.Common.{◌≡◌, ◌<◌, ◌++◌, ◌∷◌, [], ap, ◌∙◌, List, ℕ}
 use Rattle.std.proofs.lemmas.List.{append_assoc}
+use Rattle.fints_lines.specs.LineLaws.{all_more}
 use Rattle.fints_cases.specs.Patterns.{code_text}
-use Rattle.fints_cases.proofs.CaseWrites.{codes_more, all_more}
+use Rattle.fints_cases.proofs.CaseWrites.{codes_more}
 use Rattle.fints_cases.proofs.case_writing.write_codes.Goals as goal
 
 pub loop-code-preserved : goal.loop-code-preserved

@@ -1,11 +1,11 @@
 use Rattle.std.proofs.Common.{◌≡◌, ◌+◌, ◌^◌, ◌<◌, length, arith, rules}
 use Rattle.std.proofs.lemmas.Bool.Decides.{nat_tests}
 use Rattle.fints_cases.proofs.CaseReads.{no_header, refused, read_more, read_all, few_lines}
-use Rattle.fints_cases.proofs.CaseLines.{no_feed_no_line}
+use Rattle.fints_cases.proofs.CaseLines.{nothing_no_line}
 use Rattle.fints_cases.proofs.case.Case.read.Goals as goal
 
 pub returns-in_default-clause-refusal : goal.returns-in_default-clause-refusal
-returns-in_default-clause-refusal c = no_header c.args.text.now c.in_default.ensures
+returns-in_default-clause-refusal c = no_header c.args.text.now c.in_default.ensures.none
 
 pub returns-in-None-clause-refusal : goal.returns-in-None-clause-refusal
 returns-in-None-clause-refusal c =
@@ -28,7 +28,7 @@ pub returns-then-is_empty-clause-refusal : goal.returns-then-is_empty-clause-ref
 returns-then-is_empty-clause-refusal c =
     let done : length c.loop-rest.rest.now ≡ 0 = grind (arith, nat_tests) in
     let none : length c.loop-rest.case.values ≡ 0 = grind (arith, nat_tests) in
-    let no_line = no_feed_no_line (length c.args.text.now) c.loop-rest.rest.now c.loop-rest.case.values c.loop-rest.case.answers.items (λ k d within. absurd (omega arith)) in
+    let no_line = nothing_no_line (length c.args.text.now) c.loop-rest.rest.now c.loop-rest.case.values c.loop-rest.case.answers.items done in
     refused c.args.text.now c.loop-rest.rest.now c.loop-rest.case.values c.loop-rest.case.answers.items c.loop-rest.line c.loop-rest.invariant no_line (λ _. none)
 
 pub returns-clause-case : goal.returns-clause-case

@@ -1,7 +1,7 @@
 use Rattle.std.proofs.Common.{[], ◌∷◌, codes, map}
+use Rattle.fints_lines.specs.LineLaws.{lines_more, all_more}
 use Rattle.fints_cases.specs.Answers.{IsAnswer}
 use Rattle.fints_cases.specs.Cases.{field_text, answer_text, IsNamedValue}
-use Rattle.fints_cases.proofs.CaseWrites.{lines_more, all_more}
 use Rattle.fints_cases.proofs.case.Case.write.Goals as goal
 
 pub loop-pair-preserved : goal.loop-pair-preserved

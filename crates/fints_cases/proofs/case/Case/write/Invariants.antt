@@ -1,7 +1,8 @@
 use Rattle.std.proofs.Common.{◌≡◌, ◌++◌, ◌∷◌, codes, map, take}
 use Rattle.std.specs.List.{All}
+use Rattle.fints_lines.specs.Lines.{text_of_lines}
 use Rattle.fints_cases.specs.Answers.{IsAnswer}
-use Rattle.fints_cases.specs.Cases.{text_of_lines, field_text, answer_text, IsNamedValue}
+use Rattle.fints_cases.specs.Cases.{field_text, answer_text, IsNamedValue}
 use Rattle.fints_cases.proofs.case.Case.write.Given as goal
 
 abbrev pub invariant-loop-pair : goal.invariant-loop-pair
