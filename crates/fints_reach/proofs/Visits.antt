@@ -1,5 +1,5 @@
 -- How much the pass looks at.
-use Rattle.std.proofs.Common.{ℕ, zero, suc, ◌+◌, ◌*◌, ◌<◌, ◌≤◌, ◌≡◌, Option, Some, None, List, [], ◌∷◌, ◌++◌, length, refl, ap, sym, ◌∙◌, arith}
+use Rattle.std.proofs.Common.{ℕ, suc, ◌+◌, ◌*◌, ◌≤◌, ◌≡◌, Option, Some, None, List, [], ◌∷◌, ◌++◌, length, refl, ap, arith}
 use Rattle.std.specs.List.{slice_get}
 use Rattle.std.proofs.lemmas.Option.{same_Some}
 use Rattle.fints_script.specs.Numbered.{numbered_holds}
@@ -20,7 +20,7 @@ looked_at_push (s ∷ steps) [] number step h =
     omega (arith, here, none_looked_at steps)
 looked_at_push (s ∷ steps) (n ∷ numbers) number step h = let rest = looked_at_push steps numbers number step h in omega (arith, rest)
 
-visits_few : (step : StepValue) (number : Option ℕ) → length step.branches ≤ 20 → visits_at step number ≤ 22
+pub visits_few : (step : StepValue) (number : Option ℕ) → length step.branches ≤ 20 → visits_at step number ≤ 22
 visits_few step None few = omega arith
 visits_few step (Some n) few = omega (arith, few)
 

@@ -77,7 +77,7 @@ pub fn spare(step: &Step, flags: &[bool]) -> u32
     open_branches_lead();
     for b in 0..step.branches().len() + 1 {
         if is_again(step, flags, b) {
-            return u32::from(step.repeat()) - 1;
+            return step.repeat() as u32 - 1;
         }
     }
     0

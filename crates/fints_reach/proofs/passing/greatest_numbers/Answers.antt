@@ -1,14 +1,11 @@
-use Rattle.std.proofs.Common.{◌≡◌, ◌+◌, ◌*◌, ◌<◌, ◌≤◌, ◌^◌, length, ℕ, Option, Some, None, List, arith, subst, sym, ap, ◌∙◌, refl, replicate}
+use Rattle.std.proofs.Common.{◌≡◌, ◌+◌, length, ℕ, Option, Some, None, List, [], ◌∷◌, ◌++◌, arith, subst, sym, ap, ◌∙◌, refl, replicate}
 use Rattle.std.specs.List.{slice_get}
 use Rattle.std.proofs.lemmas.List.{length-replicate}
-use Rattle.fints_script.specs.Numbered.{numbered_at, numbered_from}
-use Rattle.fints_script.specs.Sound.{IsSound}
-use Rattle.fints_script.specs.Scripts.{ScriptValue}
-use Rattle.fints_script.specs.Steps.{StepValue}
-use Rattle.fints_reach.specs.Numbers.{Has, looked_at, visits_at}
+use Rattle.fints_script.specs.Numbered.{numbered_from}
+use Rattle.fints_reach.specs.Numbers.{Has, looked_at}
 use Rattle.fints_reach.proofs.PassLemmas.{Pass, pass_none, pass_more, pass_greatest, none_in_blank, entered_small}
 use Rattle.fints_reach.proofs.Scripts.{script_of}
-use Rattle.fints_reach.proofs.Visits.{few_visits, looked_at_push}
+use Rattle.fints_reach.proofs.Visits.{few_visits, looked_at_push, none_looked_at, visits_few}
 use Rattle.fints_reach.proofs.passing.greatest_numbers.Goals as goal
 
 pub loop-i-init : goal.loop-i-init
@@ -20,24 +17,36 @@ loop-i-init c =
     record {
       pass = subst (λ (xs : List (Option ℕ)). Pass steps c.raise.new.entries.items xs 0) (sym c.in_ok-greatest.ensures.items)
           (pass_none steps c.in_ok-entries.entries.items c.raise.new.entries.items long (λ n e h. none_in_blank count n e (subst (λ (xs : List (Option ℕ)). Has xs n e) all h)) c.raise.ensures);
-      visits = sym (ap (looked_at steps) c.in_ok-greatest.ensures.items ∙ nothing_looked_at steps);
+      visits = sym (ap (looked_at steps) c.in_ok-greatest.ensures.items ∙ none_looked_at steps);
     }
-  where
-    nothing_looked_at : (steps : List StepValue) → looked_at steps [] ≡ 0
-    nothing_looked_at steps = cc
 
 pub pass_step-number-requires-clause-small : goal.pass_step-number-requires-clause-small
 pass_step-number-requires-clause-small c e h = entered_small c.args.plan.now.script c.loop-i.entries.items c.loop-i.greatest.items c.loop-i.i (c.loop-i.i + 1) e c.step_count-count.ensures.sound (c.runs_by_steps.ensures c.args.plan.now.script.steps) (λ v. c.visits_are_within.ensures c.args.plan.now.script v c.step_count-count.ensures.sound) c.loop-i.invariant.pass h
 
+pub overflow_add-visits : goal.overflow_add-visits
+overflow_add-visits c =
+    let script = c.args.plan.now.script in
+    let few = few_visits script c.loop-i.greatest.items c.step_count-count.ensures.sound (omega (arith, c.loop-i.invariant.pass.kept, c.step_count-count.ensures.count)) in
+    let more = visits_few c.step.result.now c.pass_step-number.result c.step.ensures.sound_step.few_branches in
+    let here = c.visits_at-visits.ensures in
+    omega (arith, few, more, here, c.loop-i.invariant.visits)
+
 pub loop-i-preserved : goal.loop-i-preserved
 loop-i-preserved c =
     let steps = c.args.plan.now.script.steps in
-    let step = numbered_at steps (c.loop-i.i + 1) (omega arith) (omega (arith, c.step_count-count.ensures.count)) in
-    let more = pass_more steps c.loop-i.entries.items c.pass_step-number.new.entries.items c.loop-i.greatest.items c.pass_step-number.result c.loop-i.i (c.loop-i.i + 1) step.0 refl step.1 (c.pass_step-number.ensures step.0 step.1) c.loop-i.invariant.pass.kept (script_of c.args.plan.now.script c.step_count-count.ensures.sound) c.loop-i.invariant.pass in
-    subst (λ (xs : List (Option ℕ)). Pass steps c.pass_step-number.new.entries.items xs (c.loop-i.i + 1)) (sym c.in_ok-push.ensures.items) more
+    let at = c.step.ensures.numbered in
+    let more = pass_more steps c.loop-i.entries.items c.pass_step-number.new.entries.items c.loop-i.greatest.items c.pass_step-number.result c.loop-i.i (c.loop-i.i + 1) c.step.result.now refl at (c.pass_step-number.ensures c.step.result.now at) c.loop-i.invariant.pass.kept (script_of c.args.plan.now.script c.step_count-count.ensures.sound) c.loop-i.invariant.pass in
+    let there : slice_get steps (length c.loop-i.greatest.items) ≡ Some c.step.result.now = subst (λ (k : ℕ). slice_get steps k ≡ Some c.step.result.now) (omega (arith, c.loop-i.invariant.pass.kept)) (numbered_from steps (c.loop-i.i + 1) c.step.result.now at) in
+    record {
+      pass = subst (λ (xs : List (Option ℕ)). Pass steps c.pass_step-number.new.entries.items xs (c.loop-i.i + 1)) (sym c.in_ok-push.ensures.items) more;
+      visits =
+          let pushed = looked_at_push steps c.loop-i.greatest.items c.pass_step-number.result c.step.result.now there in
+          let items : looked_at steps c.push.new.self.items ≡ looked_at steps (c.loop-i.greatest.items ++ c.pass_step-number.result ∷ []) = ap (looked_at steps) c.in_ok-push.ensures.items in
+          omega (arith, pushed, items, c.loop-i.invariant.visits, c.visits_at-visits.ensures);
+    }
 
-pub returns : goal.returns
-returns c =
+pub returns-clause-greatest : goal.returns-clause-greatest
+returns-clause-greatest c =
     let last : c.loop-i.i ≡ length c.args.plan.now.script.steps = omega (arith, c.step_count-count.ensures.count) in
     pass_greatest c.args.plan.now.script.steps c.loop-i.entries.items c.loop-i.greatest.items (c.runs_by_steps.ensures c.args.plan.now.script.steps) (script_of c.args.plan.now.script c.step_count-count.ensures.sound)
     (subst (λ i. Pass c.args.plan.now.script.steps c.loop-i.entries.items c.loop-i.greatest.items i) last c.loop-i.invariant.pass)

@@ -1,37 +1,39 @@
-use Rattle.std.proofs.Common.{◌≡◌, ◌<◌, ◌+◌, Some, arith, subst, sym, ap, ◌∙◌}
+use Rattle.std.proofs.Common.{◌≡◌, ◌+◌, Some, arith, subst, sym, ap, ◌∙◌}
 use Rattle.fints_script.specs.Numbered.{numbered}
 use Rattle.fints_script.specs.Sound.{IsOnward}
 use Rattle.fints_script.specs.Steps.{StepValue}
 use Rattle.fints_reach.proofs.PassLemmas.{passed_none, passed_some, spare_small}
 use Rattle.std.proofs.lemmas.Option.{same_Some}
 use Rattle.fints_reach.specs.Passes.{IsPassed}
-use Rattle.fints_script.specs.Numbered.{numbered_of}
 use Rattle.fints_reach.proofs.Lookups.{numbered_read}
 use Rattle.fints_reach.proofs.Scripts.{lead_forward, script_of}
 use Rattle.fints_reach.proofs.passing.pass_step.Goals as goal
 
-pub spare-requires : goal.spare-requires
-spare-requires c = ((script_of c.args.plan.now.script c.step_count-count.ensures.sound).each c.args.n c.step-step.result.now (numbered_of c.args.plan.now.script.steps c.args.n c.step-step.result.now c.requires.from c.step-step.ensures.step)).once
+pub spare-requires-clause-once : goal.spare-requires-clause-once
+spare-requires-clause-once c = ((script_of c.args.plan.now.script c.step_count-count.ensures.sound).each c.args.n c.step-step.result.now c.step-step.ensures.numbered).once
 
-entry_small : (c : goal.After-spare) → c.in-Some.entry + c.spare.result < 20099
-entry_small c =
+pub overflow_add-number : goal.overflow_add-number
+overflow_add-number c =
     let old = c.args.entries.now.items in
     let is : numbered old c.args.n ≡ Some (Some c.in-Some.entry) = numbered_read old c.args.n c.index.result.now c.requires.from (omega (arith, c.requires.long)) c.index.ensures ∙ ap (λ x. Some x) c.in-Some.is in
     let small = c.requires.small c.in-Some.entry is in
-    let often = ((script_of c.args.plan.now.script c.step_count-count.ensures.sound).each c.args.n c.step-step.result.now (numbered_of c.args.plan.now.script.steps c.args.n c.step-step.result.now c.requires.from c.step-step.ensures.step)).often in
+    let often = ((script_of c.args.plan.now.script c.step_count-count.ensures.sound).each c.args.n c.step-step.result.now c.step-step.ensures.numbered).often in
     let more = spare_small c.step-step.result.now c.spare.result c.spare.ensures often in
     omega arith
 
-pub overflow_add-number : goal.overflow_add-number
-overflow_add-number c = let h = entry_small c in omega arith
-
 pub overflow_add-number-in-Some : goal.overflow_add-number-in-Some
-overflow_add-number-in-Some c = let h = entry_small c in omega arith
+overflow_add-number-in-Some c =
+    let old = c.args.entries.now.items in
+    let is : numbered old c.args.n ≡ Some (Some c.in-Some.entry) = numbered_read old c.args.n c.index.result.now c.requires.from (omega (arith, c.requires.long)) c.index.ensures ∙ ap (λ x. Some x) c.in-Some.is in
+    let small = c.requires.small c.in-Some.entry is in
+    let often = ((script_of c.args.plan.now.script c.step_count-count.ensures.sound).each c.args.n c.step-step.result.now c.step-step.ensures.numbered).often in
+    let more = spare_small c.step-step.result.now c.spare.result c.spare.ensures often in
+    omega arith
 
-pub raise_targets-requires : goal.raise_targets-requires
-raise_targets-requires c to can =
+pub raise_targets-requires-clause-onward : goal.raise_targets-requires-clause-onward
+raise_targets-requires-clause-onward c to can =
     let script = script_of c.args.plan.now.script c.step_count-count.ensures.sound in
-    subst (λ k. IsOnward k c.args.n to) (sym c.requires.long) (lead_forward c.args.plan.now.script.steps c.args.n c.step-step.result.now to script (numbered_of c.args.plan.now.script.steps c.args.n c.step-step.result.now c.requires.from c.step-step.ensures.step) can)
+    subst (λ k. IsOnward k c.args.n to) (sym c.requires.long) (lead_forward c.args.plan.now.script.steps c.args.n c.step-step.result.now to script c.step-step.ensures.numbered can)
 
 pub returns-in-None : goal.returns-in-None
 returns-in-None c step at =
@@ -42,6 +44,6 @@ pub returns-in-Some : goal.returns-in-Some
 returns-in-Some c step at =
     let old = c.args.entries.now.items in
     let is : numbered old c.args.n ≡ Some (Some c.in-Some.entry) = numbered_read old c.args.n c.index.result.now c.requires.from (omega (arith, c.requires.long)) c.index.ensures ∙ ap (λ x. Some x) c.in-Some.is in
-    let same : c.step-step.result.now ≡ step = same_Some c.step-step.result.now step (sym (numbered_of c.args.plan.now.script.steps c.args.n c.step-step.result.now c.requires.from c.step-step.ensures.step) ∙ at) in
+    let same : c.step-step.result.now ≡ step = same_Some c.step-step.result.now step (sym c.step-step.ensures.numbered ∙ at) in
     subst (λ (s : StepValue). IsPassed s c.args.n (Some (c.in-Some.entry + c.spare.result)) old c.raise_targets.new.entries.items) same
     (passed_some c.step-step.result.now c.args.n c.in-Some.entry c.spare.result old c.raise_targets.new.entries.items is c.spare.ensures c.raise_targets.ensures)
