@@ -25,11 +25,9 @@ pub record Laws : Type 0 where
   pub one_item : (f : Class) (v : List ℕ) → field_accounts f ≡ [] → (item : OwnedItem) × (field_items f v ≡ item ∷ []) × (item_value item ≡ v)
   pub listed_admitted : (f : Class) (place : ℕ) (account : List (List ℕ)) → slice_get (field_accounts f) place ≡ Some account → field_domain f (account_text account)
   pub listed_items : (f : Class) (place : ℕ) (account : List (List ℕ)) → slice_get (field_accounts f) place ≡ Some account → IsListedAt f (account_text account) place account
-
   -- choices
   pub shortest : (fields : List NamedField) → Admits fields (shortest_choice fields)
   pub set_admitted : (fields : List NamedField) (values : List NamedValue) (f : ℕ) (field : NamedField) (value : List ℕ) → Admits fields values → slice_get fields f ≡ Some field → field_domain field.class value → Admits fields (with_value values f field value)
-
   -- what stands in a message
   pub segments : (script : ScriptValue) (step : StepValue) (number : ℕ) (values : List NamedValue) (i : ℕ) (t : Template) → slice_get step.templates i ≡ Some t → slice_get (message_view script step number values).body i ≡ Some (filled_segment (filling_of script.fields values number) (2 + length step.signers + i) t)
   pub count : (script : ScriptValue) (step : StepValue) (number : ℕ) (values : List NamedValue) → length (message_view script step number values).body ≡ length step.templates

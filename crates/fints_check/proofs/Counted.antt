@@ -1,7 +1,7 @@
 -- Kinds: how many templates have one, and how many different ones there are.
-use Rattle.std.proofs.Common.{ℕ, zero, suc, ◌+◌, ◌<◌, ◌≡◌, Bool, true, false, cond, List, [], ◌∷◌, length, get_or, map, take, drop, Some, refl, ap, sym, subst, ◌∙◌, arith}
-use Rattle.std.specs.Prelude.{filter, not, ◌&&◌, ◌||◌, codes}
-use Rattle.std.specs.List.{list_any, slice_get}
+use Rattle.std.proofs.Common.{ℕ, ◌+◌, ◌<◌, ◌≡◌, Bool, true, false, cond, List, [], ◌∷◌, length, get_or, map, take, drop, refl, ap, sym, subst, ◌∙◌, arith, inl, inr}
+use Rattle.std.specs.Prelude.{filter, not, ◌&&◌, ◌||◌}
+use Rattle.std.specs.List.{list_any}
 use Rattle.std.specs.Set.{distinct_count, is_member, unique_keys}
 use Rattle.std.specs.Str.{bytes_eq}
 use Rattle.std.proofs.lemmas.Bool.{cases_Bool}
@@ -11,11 +11,11 @@ use Rattle.std.proofs.lemmas.List.Sums.{count_by_more_no, count_by_more_yes, sum
 use Rattle.std.proofs.lemmas.Map.Views.{any-filter_same}
 use Rattle.std.proofs.lemmas.Slice.Eq.{bytes_eq-Decides}
 use Rattle.fints_syntax.specs.declared.item.OwnedSegment.{OwnedSegment}
-use Rattle.fints_rules.specs.Facts.{count_of, is_end, plain_kinds}
+use Rattle.fints_rules.specs.Facts.{count_of, plain_kinds}
 use Rattle.fints_rules.specs.Kinds.{is_plain_order}
 use Rattle.fints_templates.specs.declared.template.Template.{Template}
 use Rattle.fints_wire.specs.Filling.{FillingValue, filled_segment, filled_segments}
-use Rattle.fints_check.specs.Kinds.{has_kind, template_count, template_kinds}
+use Rattle.fints_check.specs.Kinds.{has_kind, is_last_of_kind, template_count, template_kinds}
 
 -- ---- templates and their segments
 
@@ -61,7 +61,7 @@ among kind ts plain =
     any-filter_same (bytes_eq kind) is_plain_order true same kinds ∙ any_kind kind ts
 
 -- ..so that it is new where none has it
-first_of : (t : Template) (ts : List Template) (b : Bool) → b ≡ (is_plain_order t.kind && not (list_any (has_kind t.kind) ts))
+first_of : (t : Template) (ts : List Template) (b : Bool) → b ≡ is_last_of_kind t ts
     → distinct_count bytes_eq (template_kinds (t ∷ ts)) ≡ cond b (distinct_count bytes_eq (template_kinds ts) + 1) (distinct_count bytes_eq (template_kinds ts))
 first_of t ts b is = elim (cases_Bool (is_plain_order t.kind)) [
   | inl plain ↦ rw plain (by_member (list_any (has_kind t.kind) ts) (among t.kind ts plain) (is ∙ ap (λ (p : Bool). p && not (list_any (has_kind t.kind) ts)) plain))
@@ -81,7 +81,7 @@ first_of t ts b is = elim (cases_Bool (is_plain_order t.kind)) [
     unchanged : b ≡ false → n ≡ cond b (n + 1) n
     unchanged e = ap (λ (x : Bool). cond x (n + 1) n) (sym e)
 
-pub kinds_step : (ts : List Template) (i : ℕ) (t : Template) (b : Bool) → i < length ts → t ≡ get_or ts i t → b ≡ (is_plain_order t.kind && not (list_any (has_kind t.kind) (drop (i + 1) ts)))
+pub kinds_step : (ts : List Template) (i : ℕ) (t : Template) (b : Bool) → i < length ts → t ≡ get_or ts i t → b ≡ is_last_of_kind t (drop (i + 1) ts)
     → distinct_count bytes_eq (template_kinds (drop i ts)) ≡ cond b (distinct_count bytes_eq (template_kinds (drop (i + 1) ts)) + 1) (distinct_count bytes_eq (template_kinds (drop (i + 1) ts)))
 kinds_step ts i t b lt at is =
     ap (λ (xs : List Template). distinct_count bytes_eq (template_kinds xs)) (drop_more ts i t lt ∙ ap (λ (x : Template). x ∷ drop (i + 1) ts) (sym at)) ∙ first_of t (drop (i + 1) ts) b is

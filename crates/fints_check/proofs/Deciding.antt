@@ -1,10 +1,9 @@
 -- The facts of a step decide what some choice makes its message break.
-use Rattle.std.proofs.Common.{ℕ, zero, suc, ◌+◌, ◌<◌, ◌≡◌, Bool, true, false, List, [], ◌∷◌, length, map, get_or, Some, refl, ap, sym, subst, ◌∙◌, arith, inl, inr}
-use Rattle.std.specs.Prelude.{Any, IsTrue, codes, ◌&&◌, ◌||◌}
-use Rattle.std.specs.List.{list_all, list_any, slice_get}
+use Rattle.std.proofs.Common.{ℕ, suc, ◌+◌, ◌<◌, ◌≡◌, Bool, true, false, List, [], ◌∷◌, length, get_or, Some, refl, ap, sym, subst, ◌∙◌, inl, inr}
+use Rattle.std.specs.Prelude.{codes, ◌&&◌, ◌||◌}
+use Rattle.std.specs.List.{list_any, slice_get}
 use Rattle.std.specs.Set.{distinct_count}
 use Rattle.std.specs.Str.{bytes_eq}
-use Rattle.std.proofs.lemmas.Bool.{cases_Bool}
 use Rattle.std.proofs.lemmas.Option.{same_Some}
 use Rattle.fints_syntax.specs.declared.item.OwnedSegment.{OwnedSegment}
 use Rattle.fints_syntax.specs.Values.{values_at}
@@ -19,7 +18,7 @@ use Rattle.fints_rules.specs.Rules.{SegmentBreaks}
 use Rattle.fints_rules.specs.declared.facts.MessageFacts.{MessageFacts}
 use Rattle.fints_rules.specs.declared.orders.OrderRow.{OrderRow}
 use Rattle.fints_rules.specs.declared.rule.Rule.{Rule}
-use Rattle.fints_script.specs.Plans.{Admits, IsClosedTemplate, element_two, is_literal}
+use Rattle.fints_script.specs.Plans.{Admits, IsClosedTemplate}
 use Rattle.fints_script.specs.Scripts.{ScriptValue}
 use Rattle.fints_script.specs.Sound.{IsSound, IsSoundStep}
 use Rattle.fints_script.specs.Steps.{StepValue}
@@ -30,7 +29,7 @@ use Rattle.fints_wire.specs.Views.{message_view}
 use Rattle.fints_check.specs.Breakable.{CanBreak, IsOther}
 use Rattle.fints_check.specs.Elements.{has_process, literals, template_facts}
 use Rattle.fints_check.specs.Kinds.{template_count}
-use Rattle.fints_check.specs.StepFacts.{AreMessageFacts, Decides, StepBreaks, TemplatesDecide}
+use Rattle.fints_check.specs.StepFacts.{AreMessageFacts, StepBreaks, TemplatesDecide}
 use Rattle.fints_check.proofs.Below.{Laws}
 use Rattle.fints_check.proofs.Counted.{count_is, plain_kinds_are}
 use Rattle.fints_check.proofs.ElementTwo.{IsShortest, shortest_is, template_complete, template_sound, two_literal}

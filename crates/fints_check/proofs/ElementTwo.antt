@@ -1,11 +1,10 @@
 -- What stands in element 2 of a filled segment: its literals, or a listed account, wherever a rule asks for it.
-use Rattle.std.proofs.Common.{ℕ, ◌+◌, ◌<◌, ◌≡◌, ◌≢◌, ◌⊎◌, Bool, true, false, cond, List, [], ◌∷◌, length, map, get_or, Option, Some, None, refl, ap, sym, subst, ◌∙◌, arith, inl, inr}
+use Rattle.std.proofs.Common.{ℕ, ◌<◌, ◌≡◌, ◌≢◌, Bool, true, false, cond, List, [], ◌∷◌, length, map, get_or, Option, Some, None, refl, ap, sym, subst, ◌∙◌, arith, inl, inr}
 use Rattle.std.specs.Prelude.{Any}
 use Rattle.std.specs.List.{list_all, slice_get}
 use Rattle.std.specs.Option.{option_map}
 use Rattle.std.proofs.lemmas.List.{length-map}
 use Rattle.std.proofs.lemmas.Option.{same_Some, slice_get_within, slice_get-map}
-use Rattle.fints_syntax.specs.declared.item.OwnedItem.{OwnedItem}
 use Rattle.fints_syntax.specs.Segment.{item_value}
 use Rattle.fints_syntax.specs.Values.{values_at}
 use Rattle.fints_fields.specs.Fields.{field_accounts, field_items, field_shortest}
@@ -17,6 +16,7 @@ use Rattle.fints_rules.specs.Orders.{form_of}
 use Rattle.fints_rules.specs.Permits.{Granted}
 use Rattle.fints_rules.specs.Rules.{SegmentBreaks}
 use Rattle.fints_rules.specs.declared.facts.MessageFacts.{MessageFacts}
+use Rattle.fints_rules.specs.declared.orders.OrderRow.{OrderRow}
 use Rattle.fints_rules.specs.declared.rule.Rule.{Rule}
 use Rattle.fints_field_rows.specs.NamedFields.{is_account, is_account_at}
 use Rattle.fints_field_rows.specs.declared.fields.NamedField.{NamedField}
@@ -101,10 +101,10 @@ some_asked true xs h = refl
 some_asked false xs h = absurd (omega (arith, h))
 
 -- where the rule is asked for listed accounts, element 2 is a field of them
-pub record IsAsked (fields : List NamedField) (r : Rule) (t : Template) : Type 0 where
-  pub asks : asks_account r ≡ true
-  pub at : AccountAt fields (element_two t)
-  pub accounts : accounts_asked fields r t ≡ field_accounts at.field.class
+record IsAsked (fields : List NamedField) (r : Rule) (t : Template) : Type 0 where
+  asks : asks_account r ≡ true
+  at : AccountAt fields (element_two t)
+  accounts : accounts_asked fields r t ≡ field_accounts at.field.class
 
 asked : (fields : List NamedField) (r : Rule) (t : Template) → 0 < length (accounts_asked fields r t) → IsAsked fields r t
 asked fields r t some =
@@ -130,9 +130,9 @@ shortest_is fields f field value at single there =
 with_account_is : (fields : List NamedField) (place : ℕ) (field : NamedField) (text : List ℕ) → slice_get fields place ≡ Some field → is_account field.class ≡ true → IsShortest fields (with_value (shortest_choice fields) place field text)
 with_account_is fields place field text at account f other value there single chosen =
     let apart : f ≢ place = λ e.
-        let same : other ≡ field = same_Some other field (sym there ∙ (ap (λ (k : ℕ). slice_get fields k) e ∙ at)) in
-        let no_match : true ≡ false = sym account ∙ (ap (λ (x : NamedField). is_account x.class) (sym same) ∙ single) in
-        cc
+    let same : other ≡ field = same_Some other field (sym there ∙ (ap (λ (k : ℕ). slice_get fields k) e ∙ at)) in
+    let no_match : true ≡ false = sym account ∙ (ap (λ (x : NamedField). is_account x.class) (sym same) ∙ single) in
+    cc
     in
     shortest_is fields f other value there single (sym (set_elsewhere (shortest_choice fields) place f (value_of field text) apart) ∙ chosen)
 
@@ -171,7 +171,7 @@ module _ (laws : Laws) (fields : List NamedField) (t : Template) where
       let within : a.place < length (shortest_choice fields) = subst (λ (m : ℕ). a.place < m) (sym (length-map fields with_shortest)) (slice_get_within fields a.place a.field a.there) in
       let same : value ≡ value_of a.field (account_text account) = same_Some value (value_of a.field (account_text account)) (sym there ∙ set_here (shortest_choice fields) a.place (value_of a.field (account_text account)) within) in
       let items : account_items stands ≡ account_items account =
-          sym listed.items ∙ (ap (λ (v : NamedValue). field_items a.field.class v.value) same ∙ (laws.listed_items a.field.class k account at).items)
+      sym listed.items ∙ (ap (λ (v : NamedValue). field_items a.field.class v.value) same ∙ (laws.listed_items a.field.class k account at).items)
       in
       is ∙ same_accounts stands account items
 

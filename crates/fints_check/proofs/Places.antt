@@ -1,7 +1,8 @@
 -- Places of a step's message, and rules one by one.
-use Rattle.std.proofs.Common.{ℕ, zero, suc, ◌+◌, ◌<◌, ◌≡◌, Bool, true, false, List, [], ◌∷◌, length, get_or, Option, Some, None, refl, ap, sym, subst, ◌∙◌, arith, inl, inr}
+use Rattle.std.proofs.Common.{ℕ, ◌+◌, ◌<◌, ◌≡◌, Bool, true, false, List, [], ◌∷◌, length, get_or, Some, None, ap, sym, subst, ◌∙◌, arith, inl, inr}
 use Rattle.std.specs.Prelude.{IsTrue, ◌↔◌}
 use Rattle.std.specs.List.{slice_get}
+use Rattle.std.proofs.lemmas.List.{get_or_default}
 use Rattle.std.proofs.lemmas.Option.{same_Some}
 use Rattle.fints_syntax.specs.declared.item.OwnedSegment.{OwnedSegment}
 use Rattle.fints_cases.specs.declared.values.NamedValue.{NamedValue}
@@ -60,6 +61,10 @@ place_within segments count granted script step number values r place (inr (i, s
 
 abbrev pub ten : List Rule
 ten = rule.Protocol ∷ rule.Number ∷ rule.Size ∷ rule.Kinds ∷ rule.Version ∷ rule.Orders ∷ rule.Listed ∷ rule.Signatures ∷ rule.Account ∷ rule.Tan ∷ []
+
+-- the default of a look-up is of no matter
+pub rule_at : (P : Rule → Type 0) (i k : ℕ) (d e : Rule) → i ≡ k → k < 10 → P (get_or ten i d) → P (get_or ten k e)
+rule_at P i k d e same within h = subst P (ap (λ (n : ℕ). get_or ten n d) same ∙ get_or_default ten k d e within) h
 
 pub each_rule : (P : Rule → Type 0) → ((k : ℕ) (d : Rule) → k < 10 → P (get_or ten k d)) → (r : Rule) → P r
 each_rule P h rule.Protocol = h 0 rule.Protocol (omega arith)

@@ -1,6 +1,6 @@
 -- What a rule asks: where there is less of a TAN no less is broken, and items that a rule doesn't ask for change nothing.
-use Rattle.std.proofs.Common.{ℕ, ◌<◌, ◌≡◌, ◌≢◌, Bool, true, List, [], get_or, Option, Some, refl, ap, sym, subst, ◌∙◌, inl, inr}
-use Rattle.std.specs.Prelude.{Any, IsTrue, codes}
+use Rattle.std.proofs.Common.{ℕ, ◌<◌, ◌≡◌, ◌≢◌, true, List, [], get_or, Some, refl, ap, sym, subst, ◌∙◌, inl, inr}
+use Rattle.std.specs.Prelude.{Any, IsTrue}
 use Rattle.fints_rules.specs.Accounts.{Account}
 use Rattle.fints_rules.specs.Kinds.{is_tan_order}
 use Rattle.fints_rules.specs.Orders.{form_of}
@@ -16,7 +16,7 @@ use Rattle.fints_rules.specs.declared.rule.Rule.TheVariants as rule
 use Rattle.fints_script.specs.Plans.{names_account}
 use Rattle.fints_templates.specs.declared.template.Template.{Template}
 use Rattle.fints_check.specs.Breakable.{IsOther}
-use Rattle.fints_check.specs.Elements.{asks_account, six_of, template_facts}
+use Rattle.fints_check.specs.Elements.{asks_account, template_facts}
 
 -- ---- facts of messages
 

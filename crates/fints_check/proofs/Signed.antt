@@ -1,13 +1,13 @@
 -- A signer has a TAN under every choice exactly where it has one under shortest values.
-use Rattle.std.proofs.Common.{ℕ, zero, suc, ◌+◌, ◌<◌, ◌≤◌, ◌≡◌, Bool, true, false, List, [], ◌∷◌, ◌++◌, length, map, get_or, Option, Some, None, refl, ap, sym, subst, ◌∙◌, arith, inl, inr}
-use Rattle.std.specs.Prelude.{Any, IsTrue, not, ◌==◌, ◌||◌, ◌↔◌}
+use Rattle.std.proofs.Common.{ℕ, zero, suc, ◌+◌, ◌<◌, ◌≡◌, Bool, true, false, List, [], ◌∷◌, ◌++◌, length, map, get_or, Option, Some, refl, ap, sym, subst, ◌∙◌, arith, inl, inr}
+use Rattle.std.specs.Prelude.{IsTrue, not, ◌==◌, ◌||◌}
 use Rattle.std.specs.List.{All, list_any, slice_get}
 use Rattle.std.proofs.lemmas.Bool.{cases_lt}
 use Rattle.std.proofs.lemmas.Bool.Decides.{nat_tests}
 use Rattle.std.proofs.lemmas.List.{get_or_past}
 use Rattle.std.proofs.lemmas.List.Elements.{All-nil, All-head, All-tail}
 use Rattle.std.proofs.lemmas.List.Folds.{Any-from_list_any, list_any-from_Any}
-use Rattle.std.proofs.lemmas.Option.{slice_get-get_or, get_or_from_slice_get}
+use Rattle.std.proofs.lemmas.Option.{slice_get-get_or}
 use Rattle.fints_syntax.specs.declared.item.OwnedItem.{OwnedItem}
 use Rattle.fints_syntax.specs.Segment.{item_value}
 use Rattle.fints_syntax.specs.Values.{value_at}
@@ -23,7 +23,6 @@ use Rattle.fints_script.specs.Scripts.{ScriptValue}
 use Rattle.fints_script.specs.Sound.{IsFrameElement, IsInRange, IsSingle, IsSound, IsSoundFrame, IsSoundSigner, IsSoundStep}
 use Rattle.fints_script.specs.Steps.{StepValue}
 use Rattle.fints_templates.specs.declared.template.Signer.{Signer}
-use Rattle.fints_templates.specs.declared.template.Template.{Template}
 use Rattle.fints_templates.specs.declared.template.TemplateItem.{TemplateItem}
 use Rattle.fints_templates.specs.declared.template.TemplateItem.TheVariants.{Literal, Dialog, Field}
 use Rattle.fints_wire.specs.Filling.{FillingValue, filled_element, filled_item, filled_segment, filled_segments, filling_of}
@@ -43,7 +42,7 @@ single_class (classes.OneOf c) h = refl
 
 -- ---- HNSHA of a signer
 
-one_more_test : (n : ℕ) → (1 + n == 0) ≡ false
+one_more_test : (n : ℕ) → (suc n == 0) ≡ false
 one_more_test n = grind (arith, nat_tests)
 
 filled_flag : (v : List ℕ) → (v ≡ [] → ⊥) → not (length v == 0) ≡ true

@@ -11,7 +11,7 @@ use Rattle.fints_rules.specs.declared.rule.Rule.TheVariants as rule
 use Rattle.fints_script.specs.Plans.{element_two}
 use Rattle.fints_templates.specs.declared.template.Template.{Template}
 use Rattle.fints_templates.specs.declared.template.TemplateItem.{TemplateItem}
-use Rattle.fints_templates.specs.declared.template.TemplateItem.TheVariants.{Literal, Dialog, Field}
+use Rattle.fints_templates.specs.declared.template.TemplateItem.TheVariants.{Literal, Field}
 
 -- ---- literals
 

@@ -37,7 +37,6 @@ pub record AreMessageFacts (script : ScriptValue) (step : StepValue) (f : Messag
 
 pub record AreStepFacts (script : ScriptValue) (step : StepValue) (f : StepFacts) : Type 0 where
   pub message : AreMessageFacts script step f.message
-  pub long : length f.counts ≡ 100
   pub counts : AreCounts step.templates f.counts
 
 -- those of step n

@@ -3,7 +3,7 @@ ghost use Rattle.std.specs.Prelude.{◌≡◌, ◌≤◌, length};
 ghost use Rattle.std.specs.List.{list_any};
 ghost use Rattle.std.specs.Set.{distinct_count};
 ghost use Rattle.std.specs.Str.{bytes_eq};
-ghost use Rattle.fints_check.specs.Kinds.{AreCounts, has_kind, is_end, template_count, template_kinds};
+ghost use Rattle.fints_check.specs.Kinds.{AreCounts, has_kind, is_end, is_last_of_kind, template_count, template_kinds};
 
 use fints_rules::kinds::is_plain_order;
 use fints_script::Template;
@@ -24,14 +24,20 @@ fn some_has_kind(templates: &[Template], kind: Kind) -> bool
     templates.iter().any(|template| has_kind(template, kind))
 }
 
+// Whether it is an order other than HKTAN, and none of those behind it has its kind.
+fn is_last_of_kind(template: &Template, behind: &[Template]) -> bool
+    ensures { result ≡ is_last_of_kind template.now behind.now }
+{
+    is_plain_order(template.kind) && !some_has_kind(behind, template.kind)
+}
+
 /// How many different kinds of orders other than HKTAN there are.
 pub fn count_kinds(templates: &[Template]) -> usize
     ensures { result ≡ distinct_count bytes_eq (template_kinds templates.now) }
 {
     let mut kinds = 0;
     for (i, template) in templates.iter().enumerate() {
-        let kind = template.kind;
-        if is_plain_order(kind) && !some_has_kind(&templates[i + 1..], kind) {
+        if is_last_of_kind(template, &templates[i + 1..]) {
             kinds += 1;
         }
     }

@@ -31,7 +31,7 @@ fn is_empty(item: &OwnedItem) -> bool
 }
 
 fn may_be_empty(fields: &[NamedField], item: Option<&TemplateItem>) -> bool
-    ensures { IsTrue result ↔ MayBeEmpty fields.now (option_map (λ i. i.now) item) }
+    ensures { IsTrue result ↔ MayBeEmpty fields.now (option_map (λ i. i.now) item.entry) }
 {
     match item {
         None => true,

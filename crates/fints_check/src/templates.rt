@@ -1,8 +1,9 @@
 //! The rules over the facts of templates.
-ghost use Rattle.std.specs.Prelude.{◌≡◌, ◌↔◌, ◌≤◌, IsTrue, Any, length, option_map, slice_get};
+ghost use Rattle.std.specs.Prelude.{◌≡◌, ◌↔◌, IsTrue, Any, option_map, slice_get};
 ghost use Rattle.fints_rules.specs.Rules.{SegmentBreaks};
 ghost use Rattle.fints_check.specs.Elements.{accounts_asked, asks_account, template_facts};
-ghost use Rattle.fints_check.specs.StepFacts.{AreStepFacts, StepBreaks, TemplateBreaks, TemplateBreaksAt};
+ghost use Rattle.fints_check.specs.Kinds.{AreCounts};
+ghost use Rattle.fints_check.specs.StepFacts.{StepBreaks, TemplateBreaks, TemplateBreaksAt};
 
 use crate::elements::{element_two, listed_facts, listed_in, literal_facts};
 use crate::step_facts::StepFacts;
@@ -55,9 +56,14 @@ fn some_account_breaks(
 ) -> bool
     ensures { IsTrue result ↔ Any (λ account. SegmentBreaks permissions.now facts.now rule (template_facts template.now count account)) accounts.now }
 {
-    accounts
-        .iter()
-        .any(|account| account_breaks(permissions, facts, rule, template, count, account))
+    accounts.iter().any(|account| account_breaks(
+        permissions,
+        facts,
+        rule,
+        template,
+        count,
+        account,
+    ))
 }
 
 fn template_breaks(
@@ -93,8 +99,7 @@ fn template_breaks_at(
     rule: Rule,
     number: usize,
 ) -> bool
-    requires few { length step.now.templates ≤ length facts.now.counts }
-    requires counts { AreCounts step.now.templates facts.now.counts }
+    requires { AreCounts step.now.templates facts.now.counts }
     ensures { IsTrue result ↔ TemplateBreaksAt permissions.now fields.now step.now facts.now.message rule number }
 {
     let first = 2 + step.signers().len();
@@ -105,7 +110,14 @@ fn template_breaks_at(
     match template_at(step, i) {
         None => false,
         Some(template) => {
-            template_breaks(permissions, fields, &facts.message, rule, template, facts.count(i))
+            template_breaks(
+                permissions,
+                fields,
+                &facts.message,
+                rule,
+                template,
+                facts.count(i),
+            )
         }
     }
 }
@@ -120,8 +132,7 @@ pub fn step_breaks(
     rule: Rule,
     place: usize,
 ) -> bool
-    requires few { length step.now.templates ≤ length facts.now.counts }
-    requires counts { AreCounts step.now.templates facts.now.counts }
+    requires { AreCounts step.now.templates facts.now.counts }
     ensures { IsTrue result ↔ StepBreaks permissions.now fields.now step.now facts.now.message rule place }
 {
     (place == 0 && message_breaks(permissions, &facts.message, rule))
