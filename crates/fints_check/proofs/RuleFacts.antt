@@ -1,0 +1,91 @@
+-- What a rule asks: where there is less of a TAN no less is broken, and items that a rule doesn't ask for change nothing.
+use Rattle.std.proofs.Common.{ℕ, ◌<◌, ◌≡◌, ◌≢◌, true, List, [], get_or, Some, refl, ap, sym, subst, ◌∙◌, inl, inr}
+use Rattle.std.specs.Prelude.{Any, IsTrue}
+use Rattle.fints_rules.specs.Accounts.{Account}
+use Rattle.fints_rules.specs.Kinds.{is_tan_order}
+use Rattle.fints_rules.specs.Orders.{form_of}
+use Rattle.fints_rules.specs.Permits.{Granted, AllNeedMore}
+use Rattle.fints_rules.specs.Rules.{CarriesTan, IsRowFor, MessageBreaks, NamesAccount, SegmentBreaks}
+use Rattle.fints_rules.specs.SegmentFacts.{SegmentFactsValue}
+use Rattle.fints_rules.specs.declared.facts.MessageFacts.{MessageFacts}
+use Rattle.fints_rules.specs.declared.orders.AccountForm.{AccountForm}
+use Rattle.fints_rules.specs.declared.orders.AccountForm.TheVariants.{Nameless, National, International}
+use Rattle.fints_rules.specs.declared.orders.OrderRow.{OrderRow}
+use Rattle.fints_rules.specs.declared.rule.Rule.{Rule}
+use Rattle.fints_rules.specs.declared.rule.Rule.TheVariants as rule
+use Rattle.fints_script.specs.Plans.{names_account}
+use Rattle.fints_templates.specs.declared.template.Template.{Template}
+use Rattle.fints_check.specs.Breakable.{IsOther}
+use Rattle.fints_check.specs.Elements.{asks_account, template_facts}
+
+-- ---- facts of messages
+
+-- the same but for the number and the size, and a TAN at most where the others have one
+pub record IsNoBetter (f g : MessageFacts) : Type 0 where
+  pub protocol : f.protocol ≡ g.protocol
+  pub kinds : f.kinds ≡ g.kinds
+  pub signatures : f.signatures ≡ g.signatures
+  pub submits : f.submits ≡ g.submits
+  pub has_tan : IsTrue f.has_tan → IsTrue g.has_tan
+
+carried : (f g : MessageFacts) → IsNoBetter f g → CarriesTan f → CarriesTan g
+carried f g w (inl h) = inl (sym w.submits ∙ h)
+carried f g w (inr h) = inr (w.has_tan h)
+
+pub message_no_better : (granted : Granted) (f g : MessageFacts) → IsNoBetter f g → (r : Rule) → IsOther r → MessageBreaks granted g r → MessageBreaks granted f r
+message_no_better granted f g w rule.Protocol other b = λ n at. b n (sym w.protocol ∙ at)
+message_no_better granted f g w rule.Kinds other b = (b.0, subst (λ (n : ℕ). granted.rows.bank.kinds < n) (sym w.kinds) b.1)
+message_no_better granted f g w rule.Number other b = absurd other
+message_no_better granted f g w rule.Size other b = absurd other
+message_no_better granted f g w rule.Version other b = absurd b
+message_no_better granted f g w rule.Orders other b = absurd b
+message_no_better granted f g w rule.Listed other b = absurd b
+message_no_better granted f g w rule.Signatures other b = absurd b
+message_no_better granted f g w rule.Account other b = absurd b
+message_no_better granted f g w rule.Tan other b = absurd b
+
+pub segment_no_better : (granted : Granted) (f g : MessageFacts) → IsNoBetter f g → (s : SegmentFactsValue) (r : Rule) → SegmentBreaks granted g r s → SegmentBreaks granted f r s
+segment_no_better granted f g w s rule.Version b = b
+segment_no_better granted f g w s rule.Orders b = b
+segment_no_better granted f g w s rule.Listed b = b
+segment_no_better granted f g w s rule.Signatures (inl b) = inl (b.0, subst (λ (n : ℕ). Any (λ row. IsRowFor s row × (n < row.signatures)) granted.rows.orders) (sym w.signatures) b.1)
+segment_no_better granted f g w s rule.Signatures (inr (plain, (who, names, more))) = inr (plain, (who, names, subst (AllNeedMore granted.rows who s.kind) (sym w.signatures) more))
+segment_no_better granted f g w s rule.Account b = b
+segment_no_better granted f g w s rule.Tan (inl b) = inl (b.0, b.1, λ carries. b.2 (carried f g w carries))
+segment_no_better granted f g w s rule.Tan (inr b) = inr (b.0, λ has. b.1 (w.has_tan has))
+segment_no_better granted f g w s rule.Protocol b = absurd b
+segment_no_better granted f g w s rule.Number b = absurd b
+segment_no_better granted f g w s rule.Size b = absurd b
+segment_no_better granted f g w s rule.Kinds b = absurd b
+
+-- ---- items of a segment
+
+names_form : (form : AccountForm) → form ≢ Nameless → names_account (Some form) ≡ true
+names_form Nameless h = absurd (h refl)
+names_form National h = refl
+names_form International h = refl
+
+formed : (table : List OrderRow) (s : SegmentFactsValue) (who : Account) → NamesAccount table s who → names_account (form_of table s.kind s.version) ≡ true
+formed table s who names = ap names_account names.form_is ∙ names_form names.form names.named
+
+pub items_moved : (granted : Granted) (f : MessageFacts) (t : Template) (count : ℕ) (X Y : List (List ℕ)) (r : Rule)
+    → (asks_account r ≡ true → names_account (form_of granted.orders t.kind t.version) ≡ true → X ≡ Y)
+    → (is_tan_order t.kind ≡ true → X ≡ Y)
+    → SegmentBreaks granted f r (template_facts t count X) → SegmentBreaks granted f r (template_facts t count Y)
+items_moved granted f t count X Y rule.Version account process b = b
+items_moved granted f t count X Y rule.Orders account process b = b
+items_moved granted f t count X Y rule.Listed account process b = b
+items_moved granted f t count X Y rule.Signatures account process (inl b) = inl b
+items_moved granted f t count X Y rule.Signatures account process (inr (plain, (who, names, more))) =
+    let same = account refl (formed granted.orders (template_facts t count X) who names) in
+    inr (plain, (who, subst (λ (items : List (List ℕ)). NamesAccount granted.orders (template_facts t count items) who) same names, more))
+items_moved granted f t count X Y rule.Account account process (plain, inl b) = (plain, inl b)
+items_moved granted f t count X Y rule.Account account process (plain, inr (who, names, locked)) =
+    let same = account refl (formed granted.orders (template_facts t count X) who names) in
+    (plain, inr (who, subst (λ (items : List (List ℕ)). NamesAccount granted.orders (template_facts t count items) who) same names, locked))
+items_moved granted f t count X Y rule.Tan account process (inl b) = inl b
+items_moved granted f t count X Y rule.Tan account process (inr ((tan, two), has)) = inr ((tan, ap (λ (items : List (List ℕ)). get_or items 0 []) (sym (process tan)) ∙ two), has)
+items_moved granted f t count X Y rule.Protocol account process b = absurd b
+items_moved granted f t count X Y rule.Number account process b = absurd b
+items_moved granted f t count X Y rule.Size account process b = absurd b
+items_moved granted f t count X Y rule.Kinds account process b = absurd b

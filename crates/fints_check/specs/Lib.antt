@@ -1,0 +1,5 @@
+pub mod Breakable
+pub mod Kinds
+pub mod Elements
+pub mod Tans
+pub mod StepFacts

@@ -1,0 +1,76 @@
+-- The facts of a step's message, as far as the step tells them, and the rules over them. Contracts of private functions alone have these words.
+use Rattle.std.specs.Prelude.{codes, ◌≡◌, ◌⊎◌, ◌↔◌, ℕ, ◌+◌, List, [], length, slice_get, Some, Any, IsTrue}
+use Rattle.std.specs.List.{list_any}
+use Rattle.std.specs.Set.{distinct_count}
+use Rattle.std.specs.Str.{bytes_eq}
+use Rattle.fints_cases.specs.declared.values.NamedValue.{NamedValue}
+use Rattle.fints_field_rows.specs.declared.fields.NamedField.{NamedField}
+use Rattle.fints_rules.specs.Breaks.{Breaks}
+use Rattle.fints_rules.specs.Permits.{Granted}
+use Rattle.fints_rules.specs.Rules.{MessageBreaks, SegmentBreaks}
+use Rattle.fints_rules.specs.declared.facts.MessageFacts.{MessageFacts}
+use Rattle.fints_rules.specs.declared.rule.Rule.{Rule}
+use Rattle.fints_script.specs.Numbered.{numbered}
+use Rattle.fints_script.specs.Plans.{Admits, IsClosedTemplate}
+use Rattle.fints_script.specs.Scripts.{ScriptValue}
+use Rattle.fints_script.specs.Sound.{IsSound, IsSoundStep}
+use Rattle.fints_script.specs.Steps.{StepValue}
+use Rattle.fints_templates.specs.declared.template.Template.{Template}
+use Rattle.fints_wire.specs.Views.{message_view}
+use Rattle.fints_check.specs.Breakable.{CanBreak, IsOther}
+use Rattle.fints_check.specs.Elements.{accounts_asked, has_process, literals, template_facts}
+use Rattle.fints_check.specs.Kinds.{AreCounts, is_end, template_count, template_kinds}
+use Rattle.fints_check.specs.Tans.{SomeTan}
+use Rattle.fints_check.specs.declared.step_facts.StepFacts.{StepFacts}
+
+-- ---- facts
+
+-- those of the whole message, but for the number and the size; a TAN is there where no choice leaves it empty
+pub record AreMessageFacts (script : ScriptValue) (step : StepValue) (f : MessageFacts) : Type 0 where
+  pub protocol : f.protocol ≡ Some 300
+  pub kinds : f.kinds ≡ distinct_count bytes_eq (template_kinds step.templates)
+  pub signatures : f.signatures ≡ length step.signers
+  pub submits : f.submits ≡ list_any (has_process (codes "4")) step.templates
+  pub sends : f.sends ≡ list_any (has_process (codes "2")) step.templates
+  pub ends : f.ends ≡ list_any is_end step.templates
+  pub has_tan : IsTrue f.has_tan ↔ SomeTan script.fields script.signers step.signers
+
+pub record AreStepFacts (script : ScriptValue) (step : StepValue) (f : StepFacts) : Type 0 where
+  pub message : AreMessageFacts script step f.message
+  pub counts : AreCounts step.templates f.counts
+
+-- those of step n
+abbrev pub AreFactsOf : ScriptValue → ℕ → StepFacts → Type 0
+AreFactsOf script n f = (step : StepValue) → numbered script.steps n ≡ Some step → AreStepFacts script step f
+
+-- ---- rules
+
+-- the template's segment breaks the rule, with some account for which the rule is asked, or, where it is asked for none, with its literals
+abbrev pub TemplateBreaks : Granted → List NamedField → MessageFacts → Rule → Template → ℕ → Type 0
+TemplateBreaks granted fields f r t count =
+    Any (λ account. SegmentBreaks granted f r (template_facts t count account)) (accounts_asked fields r t)
+    ⊎ ((accounts_asked fields r t ≡ []) × SegmentBreaks granted f r (template_facts t count (literals t)))
+
+-- the segment of this number, behind HNHBK and the signers' HNSHK, breaks it
+pub record TemplateBreaksAt (granted : Granted) (fields : List NamedField) (step : StepValue) (f : MessageFacts) (r : Rule) (number : ℕ) : Type 0 where
+  pub i : ℕ
+  pub template : Template
+  pub there : slice_get step.templates i ≡ Some template
+  pub number_is : number ≡ 2 + length step.signers + i
+  pub breaks : TemplateBreaks granted fields f r template (template_count template.kind step.templates)
+
+abbrev pub StepBreaks : Granted → List NamedField → StepValue → MessageFacts → Rule → ℕ → Type 0
+StepBreaks granted fields step f r place = ((place ≡ 0) × MessageBreaks granted f r) ⊎ TemplateBreaksAt granted fields step f r place
+
+-- ---- the law that joins the step's facts and its messages
+
+-- what the facts break some choice makes the message break at every number, and what a choice at some number does the facts break
+pub record Decides (granted : Granted) (script : ScriptValue) (step : StepValue) (f : MessageFacts) : Type 0 where
+  pub some : (r : Rule) (place : ℕ) → IsOther r → StepBreaks granted script.fields step f r place → CanBreak granted script step r place
+  pub each : (number : ℕ) (values : List NamedValue) (r : Rule) (place : ℕ) → Admits script.fields values → IsOther r → Breaks granted (message_view script step number values) r place → StepBreaks granted script.fields step f r place
+
+abbrev pub TemplatesDecide : Type 0
+TemplatesDecide =
+    (script : ScriptValue) (granted : Granted) (step : StepValue) (f : MessageFacts) → IsSound script → IsSoundStep script step
+    → ((i : ℕ) (t : Template) → slice_get step.templates i ≡ Some t → IsClosedTemplate script.fields granted.orders t)
+    → AreMessageFacts script step f → Decides granted script step f
