@@ -19,6 +19,7 @@ use Rattle.fints_wire.specs.Choices.{longest_choice}
 use Rattle.fints_wire.specs.Filling.{FillingValue, filled_segment, filled_segments, filling_of}
 use Rattle.fints_wire.specs.Messages.{message_bytes}
 use Rattle.fints_wire.specs.Views.{message_view}
+use Rattle.fints_check.specs.Breakable.{IsOther}
 use Rattle.fints_check.specs.Searching.{AreFiguresAt, BreaksUnder, facts_at}
 use Rattle.fints_check.specs.declared.finding.Reached.{Reached}
 use Rattle.fints_check.proofs.Reals.{NoneIsLonger}
@@ -40,6 +41,19 @@ place_within granted script step number values r place (inr any) =
     numbers_within (BreaksAt granted (message_view script step number values) r) (filling_of script.fields values number) (2 + length step.signers) place step.templates any
 
 -- ---- number and size
+
+-- a rule that is neither P2 nor P3 is one of the others
+pub other_rule : (r : Rule) → (r ≡ rule.Number → ⊥) → (r ≡ rule.Size → ⊥) → IsOther r
+other_rule rule.Protocol n s = tt
+other_rule rule.Number n s = n refl
+other_rule rule.Size n s = s refl
+other_rule rule.Kinds n s = tt
+other_rule rule.Version n s = tt
+other_rule rule.Orders n s = tt
+other_rule rule.Listed n s = tt
+other_rule rule.Signatures n s = tt
+other_rule rule.Account n s = tt
+other_rule rule.Tan n s = tt
 
 nowhere : (P : OwnedSegment → Type 0) (xs : List OwnedSegment) → ((s : OwnedSegment) → P s → ⊥) → Any P xs → ⊥
 nowhere P xs none (k, s, lt, at, h) = none s h

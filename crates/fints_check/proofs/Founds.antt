@@ -2,6 +2,7 @@
 use Rattle.std.proofs.Common.{ℕ, zero, suc, ◌+◌, ◌<◌, ◌≤◌, ◌≡◌, ◌⊎◌, List, [], ◌∷◌, ◌++◌, length, get_or, All, refl, ap, sym, subst, ◌∙◌, arith, inl, inr}
 use Rattle.std.specs.Prelude.{◌↔◌, AllPairs, Contains}
 use Rattle.std.proofs.lemmas.Bool.{cases_lt, cases_order}
+use Rattle.std.proofs.lemmas.List.{get_or_append_left, get_or_at, length-append}
 use Rattle.std.proofs.lemmas.List.Elements.{Contains-append_cases, Contains-append_left, Contains-append_right}
 use Rattle.fints_rules.specs.Breaks.{rule_number}
 use Rattle.fints_rules.specs.Permits.{Granted}
@@ -55,6 +56,23 @@ rule_back rule.Tan = refl
 pub rule_once : (r s : Rule) → rule_number r ≡ rule_number s → r ≡ s
 rule_once r s e = sym (rule_back r) ∙ (ap rule_of e ∙ rule_back s)
 
+-- the rules in the order of their numbers
+abbrev pub all_rules : List Rule
+all_rules = rule.Protocol ∷ rule.Number ∷ rule.Size ∷ rule.Kinds ∷ rule.Version ∷ rule.Orders ∷ rule.Listed ∷ rule.Signatures ∷ rule.Account ∷ rule.Tan ∷ []
+
+pub number_at : (k : ℕ) (d : Rule) → k < 10 → rule_number (get_or all_rules k d) ≡ k + 1
+number_at zero d lt = refl
+number_at (suc zero) d lt = refl
+number_at (suc (suc zero)) d lt = refl
+number_at (suc (suc (suc zero))) d lt = refl
+number_at (suc (suc (suc (suc zero)))) d lt = refl
+number_at (suc (suc (suc (suc (suc zero))))) d lt = refl
+number_at (suc (suc (suc (suc (suc (suc zero)))))) d lt = refl
+number_at (suc (suc (suc (suc (suc (suc (suc zero))))))) d lt = refl
+number_at (suc (suc (suc (suc (suc (suc (suc (suc zero)))))))) d lt = refl
+number_at (suc (suc (suc (suc (suc (suc (suc (suc (suc zero))))))))) d lt = refl
+number_at (suc (suc (suc (suc (suc (suc (suc (suc (suc (suc k)))))))))) d lt = absurd (omega (arith, lt))
+
 -- ---- order
 
 before_new : (n place : ℕ) (r : Rule) (f : Finding) → IsEarlier n (rule_number r) place f → IsBefore f (record { step = n; rule = r; segment = place })
@@ -62,19 +80,25 @@ before_new n place r f (inl less) = inl less
 before_new n place r f (inr (same, inl less)) = inr (same, inl less)
 before_new n place r f (inr (same, inr (rule, less))) = inr (same, inr (rule_once f.rule r rule, less))
 
+-- one more at the end, behind all the others
 pair_push : (fs : List Finding) (g : Finding) → AllPairs IsBefore fs → ((f : Finding) → Contains fs f → IsBefore f g) → AllPairs IsBefore (fs ++ g ∷ [])
-pair_push [] g pairs each = λ i j d less lt. absurd (omega (arith, less, lt))
-pair_push (x ∷ fs) g pairs each zero zero d less lt = absurd (omega (arith, less))
-pair_push (x ∷ fs) g pairs each (suc i) zero d less lt = absurd (omega (arith, less))
-pair_push (x ∷ fs) g pairs each zero (suc j) d less lt = first fs j (λ k e within. pairs zero (suc k) e (omega arith) (omega (arith, within))) (each x (zero, omega arith, refl)) lt
+pair_push fs g pairs each i j d less lt =
+    let long : length (fs ++ g ∷ []) ≡ length fs + 1 = length-append fs (g ∷ []) in
+    elim (cases_lt j (length fs)) [
+      | inl inside ↦ along (get_or_append_left fs (g ∷ []) d i (omega (arith, less, inside))) (get_or_append_left fs (g ∷ []) d j inside) (pairs i j d less inside)
+      | inr last ↦
+          let at : j ≡ length fs = omega (arith, last, lt, long) in
+          let here : i < length fs = omega (arith, less, at) in
+          along (get_or_append_left fs (g ∷ []) d i here) (get_or_at fs g [] d j (sym at)) (each (get_or fs i d) (has fs i d here))
+    ]
   where
-    first : (ys : List Finding) (j : ℕ) → ((k : ℕ) (e : Finding) → k < length ys → IsBefore x (get_or ys k e)) → IsBefore x g → suc j < length (x ∷ (ys ++ g ∷ [])) → IsBefore x (get_or (ys ++ g ∷ []) j d)
-    first [] zero h last lt = last
-    first [] (suc j) h last lt = absurd (omega (arith, lt))
-    first (y ∷ ys) zero h last lt = h zero d (omega arith)
-    first (y ∷ ys) (suc j) h last lt = first ys j (λ k e within. h (suc k) e (omega (arith, within))) last (omega (arith, lt))
-pair_push (x ∷ fs) g pairs each (suc i) (suc j) d less lt =
-    pair_push fs g (λ i j d less lt. pairs (suc i) (suc j) d (omega (arith, less)) (omega (arith, lt))) (λ f has. each f (suc has.0, omega (arith, has.1), has.2)) i j d (omega (arith, less)) (omega (arith, lt))
+    along : {x x' y y' : Finding} → x' ≡ x → y' ≡ y → IsBefore x y → IsBefore x' y'
+    along {x} {x'} {y} {y'} e f h = subst (λ u. IsBefore u y') (sym e) (subst (IsBefore x) (sym f) h)
+
+    has : (zs : List Finding) (k : ℕ) (e : Finding) → k < length zs → Contains zs (get_or zs k e)
+    has [] k e h = absurd (omega (arith, h))
+    has (z ∷ zs) zero e h = (zero, omega arith, refl)
+    has (z ∷ zs) (suc k) e h = let r = has zs k e (omega (arith, h)) in (suc r.0, omega (arith, r.1), r.2)
 
 -- ---- one place more
 

@@ -6,3 +6,6 @@ pub mod Signed
 pub mod Counted
 pub mod Deciding
 pub mod Places
+pub mod Reals
+pub mod FigureRules
+pub mod Founds

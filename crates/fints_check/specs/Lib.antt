@@ -3,3 +3,7 @@ pub mod Kinds
 pub mod Elements
 pub mod Tans
 pub mod StepFacts
+pub mod Findings
+pub mod Figures
+pub mod Reports
+pub mod Searching

@@ -1,12 +1,17 @@
-//! Which rules the messages of a plan's steps can break, by their templates alone.
+//! The checker: which rules the runs of a plan break, and the greatest figures of its steps.
 #![tactic(auto)]
 
 mod elements;
+mod finding;
 mod kinds;
 mod laws;
+mod report;
+mod searching;
 mod step_facts;
 mod stepping;
 mod tans;
 mod templates;
 
+pub use finding::{Finding, Reached};
+pub use report::{Report, check};
 pub use stepping::is_clean_step;

@@ -1,6 +1,5 @@
 //! Reports: what the runs of a plan break, and the greatest figures of its steps.
 ghost use Rattle.std.specs.Prelude.{◌≡◌, ◌↔◌, ◌≤◌, ◌+◌, [], ℕ, length, Some, None, AllPairs, Contains, IfOk, IsTrue, MatchOption};
-ghost use Rattle.fints_reach.specs.Numbers.{all_looked_at, reached_looked_at};
 ghost use Rattle.fints_script.specs.Numbered.{numbered};
 ghost use Rattle.fints_script.specs.Steps.{StepValue};
 ghost use Rattle.fints_check.specs.Figures.{AreFigures, FiguresAre};

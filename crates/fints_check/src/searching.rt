@@ -10,10 +10,11 @@ ghost use Rattle.fints_script.specs.Plans.{Admits};
 ghost use Rattle.fints_script.specs.Steps.{StepValue};
 ghost use Rattle.fints_wire.specs.Views.{message_view};
 ghost use Rattle.fints_check.specs.Findings.{IsReal};
+ghost use Rattle.fints_check.specs.StepFacts.{AreFactsOf};
 ghost use Rattle.fints_check.specs.Searching.{AreFiguresAt, AreFoundTo, BreaksUnder, IsGreatestAt, facts_at};
 
 use crate::finding::{Finding, Reached};
-use crate::step_facts::StepFacts;
+use crate::step_facts::{StepFacts, step_facts};
 use crate::stepping::breaks;
 use fints_rules::laws::one_message;
 use fints_rules::{MessageFacts, Permissions, Rule, message_breaks};
@@ -64,6 +65,7 @@ fn is_broken(
     requires from { 1 ≤ n }
     requires to { n ≤ length plan.now.script.steps }
     requires orders { permissions.now.orders ≡ plan.now.orders }
+    requires facts { AreFactsOf plan.now.script n facts.now }
     requires figures { (step : StepValue) → numbered plan.now.script.steps n ≡ Some step → AreFiguresAt plan.now.script step figures }
     ensures some { (step : StepValue) → numbered plan.now.script.steps n ≡ Some step → IsTrue result → BreaksUnder permissions.now plan.now.script step figures.number rule place }
     ensures each { (step : StepValue) (values : List NamedValue) (lower : ℕ) → numbered plan.now.script.steps n ≡ Some step → Admits plan.now.script.fields values → 1 ≤ lower → lower ≤ figures.number → Breaks permissions.now (message_view plan.now.script step lower values) rule place → IsTrue result }
@@ -92,6 +94,7 @@ fn is_real(
     requires from { 1 ≤ n }
     requires to { n ≤ length plan.now.script.steps }
     requires orders { permissions.now.orders ≡ plan.now.orders }
+    requires facts { AreFactsOf plan.now.script n facts.now }
     requires figures { (step : StepValue) → numbered plan.now.script.steps n ≡ Some step → AreFiguresAt plan.now.script step figures }
     requires greatest { IsGreatestAt plan.now.script.steps n figures.number }
     ensures { IsTrue result ↔ IsReal permissions.now plan.now.script (record { step = n; rule = rule; segment = place }) }
@@ -102,6 +105,18 @@ fn is_real(
     one_message();
     let _step = plan.step(n);
     is_broken(permissions, plan, n, facts, figures, rule, place)
+}
+
+fn finding_at(n: usize, rule: Rule, place: usize) -> Finding
+    requires step { n < 65536 }
+    requires place { place < 65536 }
+    ensures { result ≡ record { step = n; rule = rule; segment = place } }
+{
+    Finding {
+        step: n as u16,
+        rule,
+        segment: place as u16,
+    }
 }
 
 // Adds the findings of a step and a rule.
@@ -117,6 +132,7 @@ fn search_places(
     requires from { 1 ≤ n }
     requires to { n ≤ length plan.now.script.steps }
     requires orders { permissions.now.orders ≡ plan.now.orders }
+    requires facts { AreFactsOf plan.now.script n facts.now }
     requires figures { (step : StepValue) → numbered plan.now.script.steps n ≡ Some step → AreFiguresAt plan.now.script step figures }
     requires greatest { IsGreatestAt plan.now.script.steps n figures.number }
     requires found { AreFoundTo permissions.now plan.now.script n (rule_number rule) 0 findings.old.items }
@@ -130,11 +146,7 @@ fn search_places(
     let places = 2 + step.signers().len() + step.templates().len();
     for place in 0..places {
         if is_real(permissions, plan, n, facts, figures, rule, place) {
-            findings.push(Finding {
-                step: n as u16,
-                rule,
-                segment: place as u16,
-            })?;
+            findings.push(finding_at(n, rule, place))?;
         }
     }
     Ok(())
@@ -156,7 +168,7 @@ pub fn search_step(
     requires found { AreFoundTo permissions.now plan.now.script n 1 0 findings.old.items }
     ensures { OnOk result (AreFoundTo permissions.now plan.now.script (n + 1) 1 0 findings.new.items) }
 {
-    let facts = StepFacts::of(plan, n);
+    let facts = step_facts(plan, n);
     for rule in Rule::ALL {
         search_places(permissions, plan, n, &facts, figures, rule, findings)?;
     }
