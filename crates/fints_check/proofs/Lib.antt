@@ -9,3 +9,4 @@ pub mod Places
 pub mod Reals
 pub mod FigureRules
 pub mod Founds
+pub mod Checking

@@ -1,0 +1,11 @@
+use Rattle.std.proofs.Common.{◌+◌}
+use Rattle.fints_check.specs.Searching.{AreFoundTo}
+use Rattle.fints_check.proofs.Checking.{AreFiguresTo}
+use Rattle.fints_check.proofs.report.check.Given as goal
+
+-- the steps so far were looked at
+abbrev pub invariant-loop-i : goal.invariant-loop-i
+invariant-loop-i l = record {
+  findings : AreFoundTo l.permissions l.plan.script (l.i + 1) 1 0 l.findings.items;
+  figures : AreFiguresTo l.plan.script l.i l.figures.items;
+}
