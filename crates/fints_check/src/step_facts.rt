@@ -10,8 +10,8 @@ use fints_script::{Plan, Step};
 /// The facts of a step's message, as far as the step tells them.
 #[derive(Drop)]
 pub struct StepFacts {
-    /// Those of the whole message. A TAN is there where no choice leaves it empty. The number and the
-    /// size, which hang on the run and the choice, are those of no message.
+    /// Those of the whole message. A TAN is there where no choice leaves it empty. The number is 1
+    /// and the size 0, whatever those of a message are.
     pub message: MessageFacts,
     /// Beside each segment how many have its kind.
     pub counts: [usize; MAX_SEGMENTS],
@@ -33,7 +33,7 @@ fn message_facts(plan: &Plan<'_>, step: &Step) -> MessageFacts
     let templates = step.templates();
     MessageFacts {
         protocol: Some(300),
-        number: 0,
+        number: 1,
         size: 0,
         kinds: count_kinds(templates),
         signatures: step.signers().len(),
