@@ -1,5 +1,5 @@
 -- The greatest numbers of a script's steps over all runs, and how much is looked at for them.
-use Rattle.std.specs.Prelude.{ℕ, ◌≡◌, ◌≤◌, ◌+◌, Option, Some, None, List, ◌∷◌, length}
+use Rattle.std.specs.Prelude.{ℕ, ◌≡◌, ◌≤◌, ◌+◌, Bool, true, false, Option, Some, List, [], ◌∷◌, length}
 use Rattle.fints_script.specs.Numbered.{numbered}
 use Rattle.fints_script.specs.Steps.{StepValue}
 use Rattle.fints_wire.specs.Runs.{Arrives}
@@ -15,12 +15,32 @@ pub record AreGreatest (steps : List StepValue) (numbers : List (Option ℕ)) : 
   pub attained : (n number : ℕ) → Has numbers n number → (v : Visit) × Arrives steps v × (v.step ≡ n) × (v.number ≡ number)
   pub most : (v : Visit) → Arrives steps v → (number : ℕ) × Has numbers v.step number × (v.number ≤ number)
 
--- the step itself, and each of its branches with the default where it is reached
-abbrev pub visits_at : StepValue → Option ℕ → ℕ
-visits_at step None = 1
-visits_at step (Some number) = length step.branches + 2
+-- ---- how much is looked at; beside each step stands whether it is reached
+
+-- the branches of a step, the default among them
+abbrev pub branch_count : StepValue → ℕ
+branch_count step = length step.branches + 1
+
+-- the step itself, and each of its branches where it is reached
+abbrev pub visits_at : StepValue → Bool → ℕ
+visits_at step false = 1
+visits_at step true = 1 + branch_count step
 
 -- all steps, and all branches of those that are reached
-abbrev pub looked_at : List StepValue → List (Option ℕ) → ℕ
-looked_at (step ∷ steps) (number ∷ numbers) = visits_at step number + looked_at steps numbers
+abbrev pub looked_at : List StepValue → List Bool → ℕ
+looked_at (step ∷ steps) (reached ∷ others) = visits_at step reached + looked_at steps others
 looked_at _ _ = 0
+
+-- all steps and all branches
+abbrev pub all_visits : List StepValue → ℕ
+all_visits [] = 0
+all_visits (step ∷ steps) = (1 + branch_count step) + all_visits steps
+
+abbrev pub reached_at : StepValue → Bool → ℕ
+reached_at step false = 0
+reached_at step true = 1 + branch_count step
+
+-- the steps that are reached, and their branches
+abbrev pub reached_visits : List StepValue → List Bool → ℕ
+reached_visits (step ∷ steps) (reached ∷ others) = reached_at step reached + reached_visits steps others
+reached_visits _ _ = 0

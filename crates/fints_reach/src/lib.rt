@@ -2,6 +2,7 @@
 //! rule.
 #![tactic(auto)]
 
+pub mod laws;
 mod opening;
 mod passing;
 

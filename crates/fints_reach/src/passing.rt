@@ -1,5 +1,5 @@
 //! The pass over the steps, from the first to the last, that finds their greatest numbers.
-ghost use Rattle.std.specs.Prelude.{◌≡◌, ◌<◌, ◌≤◌, ◌+◌, ℕ, length, replicate, IfOk, Some, None};
+ghost use Rattle.std.specs.Prelude.{◌≡◌, ◌<◌, ◌≤◌, ◌+◌, ℕ, length, map, replicate, is_some, IfOk, Some, None};
 ghost use Rattle.fints_script.specs.Numbered.{numbered};
 ghost use Rattle.fints_script.specs.Sound.{IsOnward};
 ghost use Rattle.fints_script.specs.Steps.{StepValue};
@@ -87,7 +87,7 @@ fn blank(alloc: Global, count: usize) -> Result<Vec<Option<u32>>, Memory>
 // How much was looked at for a step with this greatest number.
 fn visits_at(step: &Step, number: Option<u32>) -> u64
     requires { length step.now.branches ≤ 20 }
-    ensures { result ≡ visits_at step.now number }
+    ensures { result ≡ visits_at step.now (is_some number) }
 {
     match number {
         None => 1,
@@ -99,7 +99,7 @@ fn visits_at(step: &Step, number: Option<u32>) -> u64
 /// raises its target's number.
 pub fn greatest_numbers(alloc: Global, plan: &Plan) -> Result<Numbers, Memory>
     ensures greatest { IfOk result (λ numbers. AreGreatest plan.now.script.steps numbers.greatest.items) }
-    ensures visits { IfOk result (λ numbers. numbers.visits ≡ looked_at plan.now.script.steps numbers.greatest.items) }
+    ensures visits { IfOk result (λ numbers. numbers.visits ≡ looked_at plan.now.script.steps (map is_some numbers.greatest.items)) }
 {
     runs_by_steps();
     visits_are_within();

@@ -1,5 +1,5 @@
 //! The rules that a message may break.
-ghost use Rattle.std.specs.Prelude.{Some};
+ghost use Rattle.std.specs.Prelude.{◌≡◌, Some};
 ghost use Rattle.fints_rules.specs.RuleNames.{rule_name};
 
 use std::fmt;
@@ -52,11 +52,12 @@ pub struct Broken {
     pub segment: u16,
 }
 
-impl fmt::Display for Rule {
-    ghost output = { λ rule. Some (rule_name rule) };
-
-    fn fmt<W: fmt::Write>(&self, f: &mut fmt::Formatter<W>) -> fmt::Result {
-        f.write_str(match self {
+impl Rule {
+    /// The number and the name, as they are printed.
+    pub fn name(self) -> &'static str
+        ensures { result.now ≡ rule_name self }
+    {
+        match self {
             Rule::Protocol => "P1 protocol",
             Rule::Number => "P2 number",
             Rule::Size => "P3 size",
@@ -67,6 +68,14 @@ impl fmt::Display for Rule {
             Rule::Signatures => "P8 signatures",
             Rule::Account => "P9 account",
             Rule::Tan => "P10 tan",
-        })
+        }
+    }
+}
+
+impl fmt::Display for Rule {
+    ghost output = { λ rule. Some (rule_name rule) };
+
+    fn fmt<W: fmt::Write>(&self, f: &mut fmt::Formatter<W>) -> fmt::Result {
+        f.write_str(self.name())
     }
 }

@@ -1,6 +1,7 @@
-use Rattle.std.proofs.Common.{◌≡◌, ◌+◌, length, ℕ, Option, Some, None, List, [], ◌∷◌, ◌++◌, arith, subst, sym, ap, ◌∙◌, refl, replicate}
+use Rattle.std.proofs.Common.{◌≡◌, ◌+◌, length, ℕ, Option, Some, None, List, [], ◌∷◌, ◌++◌, map, arith, subst, sym, ap, ◌∙◌, refl, replicate}
 use Rattle.std.specs.List.{slice_get}
-use Rattle.std.proofs.lemmas.List.{length-replicate}
+use Rattle.std.specs.Prelude.{is_some}
+use Rattle.std.proofs.lemmas.List.{length-map, length-replicate, map-append}
 use Rattle.fints_script.specs.Numbered.{numbered_from}
 use Rattle.fints_reach.specs.Numbers.{Has, looked_at}
 use Rattle.fints_reach.proofs.PassLemmas.{Pass, pass_none, pass_more, pass_greatest, none_in_blank, entered_small}
@@ -17,7 +18,7 @@ loop-i-init c =
     record {
       pass = subst (λ (xs : List (Option ℕ)). Pass steps c.raise.new.entries.items xs 0) (sym c.in_ok-greatest.ensures.items)
           (pass_none steps c.in_ok-entries.entries.items c.raise.new.entries.items long (λ n e h. none_in_blank count n e (subst (λ (xs : List (Option ℕ)). Has xs n e) all h)) c.raise.ensures);
-      visits = sym (ap (looked_at steps) c.in_ok-greatest.ensures.items ∙ none_looked_at steps);
+      visits = sym (ap (λ (xs : List (Option ℕ)). looked_at steps (map is_some xs)) c.in_ok-greatest.ensures.items ∙ none_looked_at steps);
     }
 
 pub pass_step-number-requires-clause-small : goal.pass_step-number-requires-clause-small
@@ -26,8 +27,8 @@ pass_step-number-requires-clause-small c e h = entered_small c.args.plan.now.scr
 pub overflow_add-visits : goal.overflow_add-visits
 overflow_add-visits c =
     let script = c.args.plan.now.script in
-    let few = few_visits script c.loop-i.greatest.items c.step_count-count.ensures.sound (omega (arith, c.loop-i.invariant.pass.kept, c.step_count-count.ensures.count)) in
-    let more = visits_few c.step.result.now c.pass_step-number.result c.step.ensures.sound_step.few_branches in
+    let few = few_visits script (map is_some c.loop-i.greatest.items) c.step_count-count.ensures.sound (omega (arith, length-map c.loop-i.greatest.items is_some, c.loop-i.invariant.pass.kept, c.step_count-count.ensures.count)) in
+    let more = visits_few c.step.result.now (is_some c.pass_step-number.result) c.step.ensures.sound_step.few_branches in
     let here = c.visits_at-visits.ensures in
     omega (arith, few, more, here, c.loop-i.invariant.visits)
 
@@ -36,12 +37,12 @@ loop-i-preserved c =
     let steps = c.args.plan.now.script.steps in
     let at = c.step.ensures.numbered in
     let more = pass_more steps c.loop-i.entries.items c.pass_step-number.new.entries.items c.loop-i.greatest.items c.pass_step-number.result c.loop-i.i (c.loop-i.i + 1) c.step.result.now refl at (c.pass_step-number.ensures c.step.result.now at) c.loop-i.invariant.pass.kept (script_of c.args.plan.now.script c.step_count-count.ensures.sound) c.loop-i.invariant.pass in
-    let there : slice_get steps (length c.loop-i.greatest.items) ≡ Some c.step.result.now = subst (λ (k : ℕ). slice_get steps k ≡ Some c.step.result.now) (omega (arith, c.loop-i.invariant.pass.kept)) (numbered_from steps (c.loop-i.i + 1) c.step.result.now at) in
+    let there : slice_get steps (length (map is_some c.loop-i.greatest.items)) ≡ Some c.step.result.now = subst (λ (k : ℕ). slice_get steps k ≡ Some c.step.result.now) (omega (arith, length-map c.loop-i.greatest.items is_some, c.loop-i.invariant.pass.kept)) (numbered_from steps (c.loop-i.i + 1) c.step.result.now at) in
     record {
       pass = subst (λ (xs : List (Option ℕ)). Pass steps c.pass_step-number.new.entries.items xs (c.loop-i.i + 1)) (sym c.in_ok-push.ensures.items) more;
       visits =
-          let pushed = looked_at_push steps c.loop-i.greatest.items c.pass_step-number.result c.step.result.now there in
-          let items : looked_at steps c.push.new.self.items ≡ looked_at steps (c.loop-i.greatest.items ++ c.pass_step-number.result ∷ []) = ap (looked_at steps) c.in_ok-push.ensures.items in
+          let pushed = looked_at_push steps (map is_some c.loop-i.greatest.items) (is_some c.pass_step-number.result) c.step.result.now there in
+          let items : looked_at steps (map is_some c.push.new.self.items) ≡ looked_at steps (map is_some c.loop-i.greatest.items ++ is_some c.pass_step-number.result ∷ []) = ap (λ (xs : List (Option ℕ)). looked_at steps (map is_some xs)) c.in_ok-push.ensures.items ∙ ap (looked_at steps) (map-append is_some c.loop-i.greatest.items (c.pass_step-number.result ∷ [])) in
           omega (arith, pushed, items, c.loop-i.invariant.visits, c.visits_at-visits.ensures);
     }
 

@@ -1,4 +1,5 @@
-use Rattle.std.proofs.Common.{◌≡◌}
+use Rattle.std.proofs.Common.{◌≡◌, map}
+use Rattle.std.specs.Prelude.{is_some}
 use Rattle.fints_reach.specs.Numbers.{looked_at}
 use Rattle.fints_reach.proofs.PassLemmas.{Pass}
 use Rattle.fints_reach.proofs.passing.greatest_numbers.Given as goal
@@ -7,5 +8,5 @@ use Rattle.fints_reach.proofs.passing.greatest_numbers.Given as goal
 abbrev pub invariant-loop-i : goal.invariant-loop-i
 invariant-loop-i l = record {
   pass : Pass l.plan.script.steps l.entries.items l.greatest.items l.i;
-  visits : l.visits ≡ looked_at l.plan.script.steps l.greatest.items;
+  visits : l.visits ≡ looked_at l.plan.script.steps (map is_some l.greatest.items);
 }
