@@ -1,24 +1,21 @@
 -- What a check needs of the greatest numbers, and what a report without findings says.
-use Rattle.std.proofs.Common.{ℕ, zero, suc, ◌+◌, ◌-◌, ◌<◌, ◌≤◌, ◌≡◌, ◌⊎◌, List, [], ◌∷◌, ◌++◌, length, get_or, Option, Some, None, refl, ap, sym, subst, ◌∙◌, arith, inl, inr}
-use Rattle.std.specs.Prelude.{◌↔◌, Contains}
+use Rattle.std.proofs.Common.{ℕ, zero, suc, ◌+◌, ◌-◌, ◌<◌, ◌≤◌, ◌≡◌, ◌⊎◌, List, [], ◌∷◌, ◌++◌, length, get_or, map, take, Bool, Option, Some, None, refl, ap, sym, subst, ◌∙◌, arith, inl, inr}
+use Rattle.std.specs.Prelude.{◌↔◌, Contains, is_some}
 use Rattle.std.specs.List.{AllByRecursion, slice_get}
-use Rattle.std.proofs.lemmas.List.{length-append}
+use Rattle.std.proofs.lemmas.List.{length-append, map-append, take_all, take_more}
 use Rattle.std.proofs.lemmas.Option.{same_Some, slice_get-get_or}
 use Rattle.fints_rules.specs.Breaks.{Permitted}
 use Rattle.fints_rules.specs.Permits.{Granted}
-use Rattle.fints_rules.specs.declared.rule.Rule.{Rule}
 use Rattle.fints_cases.specs.Answers.{IsAnswer}
 use Rattle.fints_cases.specs.declared.values.NamedValue.{NamedValue}
-use Rattle.fints_messages.specs.Messages.{MessageView, IsMessage}
-use Rattle.fints_reach.specs.Numbers.{AreGreatest, Has}
+use Rattle.fints_reach.specs.Numbers.{AreGreatest, Has, looked_at}
 use Rattle.fints_script.specs.Numbered.{numbered, numbered_of}
 use Rattle.fints_script.specs.Plans.{Admits}
 use Rattle.fints_script.specs.Scripts.{ScriptValue}
 use Rattle.fints_script.specs.Steps.{StepValue}
-use Rattle.fints_wire.specs.Runs.{Arrives, IsSent, Run, SendsLast}
+use Rattle.fints_wire.specs.Runs.{Run, SendsLast}
 use Rattle.fints_wire.specs.Views.{IsReadAs, message_view}
 use Rattle.fints_wire.specs.declared.dialogue.Sent.{Sent}
-use Rattle.fints_wire.specs.declared.dialogue.Visit.{Visit}
 use Rattle.fints_check.specs.Figures.{AreFigures, FiguresAre}
 use Rattle.fints_check.specs.Findings.{EachIsPermitted, IsReal}
 use Rattle.fints_check.specs.Searching.{IsGreatestAt}
@@ -100,6 +97,21 @@ figures_more script n figures new cell e is a =
 
 pub figures_all : (script : ScriptValue) (n : ℕ) (figures : List (Option Reached)) → n ≡ length script.steps → AreFiguresTo script n figures → AreFigures script figures
 figures_all script n figures e a = record { long = a.long ∙ e; each = a.each }
+
+-- which steps have figures, one more
+pub reached_more : (figures new : List (Option Reached)) (cell : Option Reached) (numbers : List (Option ℕ)) (i : ℕ) (number : Option ℕ) → new ≡ figures ++ cell ∷ [] → i < length numbers → number ≡ get_or numbers i number → is_some cell ≡ is_some number
+    → map is_some figures ≡ map is_some (take i numbers) → map is_some new ≡ map is_some (take (i + 1) numbers)
+reached_more figures new cell numbers i number e lt at same h =
+    let more : take (i + 1) numbers ≡ take i numbers ++ number ∷ [] = take_more numbers i number lt ∙ ap (λ (x : Option ℕ). take i numbers ++ x ∷ []) (sym at) in
+    let left : map is_some new ≡ map is_some figures ++ is_some cell ∷ [] = ap (λ (xs : List (Option Reached)). map is_some xs) e ∙ map-append is_some figures (cell ∷ []) in
+    let right : map is_some (take (i + 1) numbers) ≡ map is_some (take i numbers) ++ is_some number ∷ [] = ap (λ (xs : List (Option ℕ)). map is_some xs) more ∙ map-append is_some (take i numbers) (number ∷ []) in
+    left ∙ (ap (λ (fs : List Bool). fs ++ is_some cell ∷ []) h ∙ (ap (λ (b : Bool). map is_some (take i numbers) ++ b ∷ []) same ∙ sym right))
+
+-- as much was looked at as the figures tell
+pub visits_told : (steps : List StepValue) (figures : List (Option Reached)) (numbers : List (Option ℕ)) (i visits : ℕ) → i ≡ length numbers → map is_some figures ≡ map is_some (take i numbers) → visits ≡ looked_at steps (map is_some numbers) → visits ≡ looked_at steps (map is_some figures)
+visits_told steps figures numbers i visits last same told =
+    let all : take i numbers ≡ numbers = take_all i numbers (omega (arith, last)) in
+    told ∙ sym (ap (looked_at steps) (same ∙ ap (λ (xs : List (Option ℕ)). map is_some xs) all))
 
 -- ---- without findings
 

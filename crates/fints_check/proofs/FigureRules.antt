@@ -1,12 +1,11 @@
 -- The places at which a step's message can break a rule, and the two rules that hang on its number and its size.
-use Rattle.std.proofs.Common.{ℕ, zero, suc, ◌+◌, ◌*◌, ◌<◌, ◌≤◌, ◌≡◌, ◌≢◌, ◌⊎◌, Some, false, List, [], ◌∷◌, length, refl, ap, sym, subst, ◌∙◌, arith, inl, inr}
+use Rattle.std.proofs.Common.{ℕ, zero, suc, ◌+◌, ◌<◌, ◌≤◌, ◌≡◌, List, [], ◌∷◌, length, refl, sym, subst, arith, inl, inr}
 use Rattle.std.specs.Prelude.{Any}
 use Rattle.fints_syntax.specs.declared.item.OwnedSegment.{OwnedSegment}
-use Rattle.fints_messages.specs.Messages.{MessageView, IsMessage}
+use Rattle.fints_messages.specs.Messages.{IsMessage}
 use Rattle.fints_rules.specs.Breaks.{Breaks, BreaksAt}
 use Rattle.fints_rules.specs.Permits.{Granted}
 use Rattle.fints_rules.specs.Rules.{MessageBreaks}
-use Rattle.fints_rules.specs.declared.facts.MessageFacts.{MessageFacts}
 use Rattle.fints_rules.specs.declared.rule.Rule.{Rule}
 use Rattle.fints_rules.specs.declared.rule.Rule.TheVariants as rule
 use Rattle.fints_cases.specs.declared.values.NamedValue.{NamedValue}
@@ -16,7 +15,7 @@ use Rattle.fints_script.specs.Sound.{IsSoundStep}
 use Rattle.fints_script.specs.Steps.{StepValue}
 use Rattle.fints_templates.specs.declared.template.Template.{Template}
 use Rattle.fints_wire.specs.Choices.{longest_choice}
-use Rattle.fints_wire.specs.Filling.{FillingValue, filled_segment, filled_segments, filling_of}
+use Rattle.fints_wire.specs.Filling.{FillingValue, filled_segments, filling_of}
 use Rattle.fints_wire.specs.Messages.{message_bytes}
 use Rattle.fints_wire.specs.Views.{message_view}
 use Rattle.fints_check.specs.Breakable.{IsOther}

@@ -1,5 +1,6 @@
 //! Reports: what the runs of a plan break, and the greatest figures of its steps.
-ghost use Rattle.std.specs.Prelude.{◌≡◌, ◌↔◌, ◌≤◌, ◌+◌, [], ℕ, length, Some, None, AllPairs, Contains, IfOk, IsTrue, MatchOption};
+ghost use Rattle.std.specs.Prelude.{◌≡◌, ◌↔◌, ◌≤◌, [], length, map, is_some, Some, AllPairs, Contains, IfOk, IsTrue};
+ghost use Rattle.fints_reach.specs.Numbers.{all_visits, looked_at, reached_visits};
 ghost use Rattle.fints_script.specs.Numbered.{numbered};
 ghost use Rattle.fints_script.specs.Steps.{StepValue};
 ghost use Rattle.fints_check.specs.Figures.{AreFigures, FiguresAre};
@@ -10,6 +11,7 @@ ghost use Rattle.fints_check.specs.declared.finding.Finding.{Finding as FindingV
 use crate::finding::{Finding, Reached};
 use crate::searching::search_step;
 use fints_reach::greatest_numbers;
+use fints_reach::laws::visits_are_bounded;
 use fints_rules::Permissions;
 use fints_rules::laws::one_message;
 use fints_script::Plan;
@@ -31,7 +33,8 @@ pub struct Report<'a> {
 }
 
 impl<'a> Model for Report<'a> {
-    ghost use Rattle.std.specs.Prelude.{◌≡◌};
+    ghost use Rattle.std.specs.Prelude.{◌≡◌, is_some, map};
+    ghost use Rattle.fints_reach.specs.Numbers.{looked_at};
     ghost use Rattle.fints_check.specs.Figures.{AreFigures};
     ghost use Rattle.fints_check.specs.Findings.{AreFindings};
     ghost use Rattle.fints_check.specs.Reports.{ReportValue};
@@ -40,7 +43,7 @@ impl<'a> Model for Report<'a> {
 
     ghost view = { λ r. record { plan = r.plan.now; granted = r.permissions.now; figures = r.figures.items; findings = r.findings.items; visits = r.visits } };
 
-    ghost invariant = { λ r. (r.permissions.now.orders ≡ r.plan.now.orders) × AreFindings r.permissions.now r.plan.now.script r.findings.items × AreFigures r.plan.now.script r.figures.items };
+    ghost invariant = { λ r. (r.permissions.now.orders ≡ r.plan.now.orders) × AreFindings r.permissions.now r.plan.now.script r.findings.items × AreFigures r.plan.now.script r.figures.items × (r.visits ≡ looked_at r.plan.now.script.steps (map is_some r.figures.items)) };
 }
 
 impl<'a> Report<'a> {
@@ -64,15 +67,20 @@ impl<'a> Report<'a> {
     pub fn reached(&self, n: usize) -> Option<Reached>
         requires from { 1 ≤ n }
         requires to { n ≤ length self.now.plan.script.steps }
-        ensures { FiguresAre self.now.plan.script n result }
+        ensures told { numbered self.now.figures n ≡ Some result }
+        ensures greatest { FiguresAre self.now.plan.script n result }
     {
         self.figures[n - 1]
     }
 
-    /// How many steps and branches were looked at for the figures.
+    /// How many steps and branches were looked at for the figures: each step once, and each branch of
+    /// a step that some run sends once; a default is a branch.
     pub fn visits(&self) -> u64
-        ensures { result ≡ self.now.visits }
+        ensures visits { result ≡ self.now.visits }
+        ensures most { result ≤ all_visits self.now.plan.script.steps }
+        ensures least { reached_visits self.now.plan.script.steps (map is_some self.now.figures) ≤ result }
     {
+        visits_are_bounded();
         self.visits
     }
 }
@@ -103,6 +111,7 @@ pub fn check<'a>(
     ensures exactly { IfOk result (λ report. (f : FindingValue) → Contains report.findings f ↔ IsReal permissions.now plan.now.script f) }
     ensures in_order { IfOk result (λ report. AllPairs IsBefore report.findings) }
     ensures figures { IfOk result (λ report. AreFigures plan.now.script report.figures) }
+    ensures visits { IfOk result (λ report. report.visits ≡ looked_at plan.now.script.steps (map is_some report.figures)) }
     ensures permitted { IfOk result (λ report. report.findings ≡ [] → EachIsPermitted permissions.now plan.now.script) }
 {
     last_messages();

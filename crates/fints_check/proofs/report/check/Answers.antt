@@ -1,14 +1,13 @@
-use Rattle.std.proofs.Common.{ℕ, ◌+◌, ◌-◌, ◌<◌, ◌≤◌, ◌≡◌, List, Option, Some, None, length, refl, ap, arith, sym, subst, ◌∙◌}
-use Rattle.std.specs.Prelude.{Vec}
+use Rattle.std.proofs.Common.{ℕ, ◌+◌, ◌≤◌, ◌≡◌, List, Option, Some, None, length, map, ap, arith, sym, subst, ◌∙◌}
+use Rattle.std.specs.Prelude.{Vec, is_some}
 use Rattle.std.specs.declared.alloc.Global.{Global}
-use Rattle.fints_reach.specs.Numbers.{AreGreatest, Has}
+use Rattle.fints_reach.specs.Numbers.{Has}
 use Rattle.fints_script.specs.Numbered.{numbered, numbered_at}
-use Rattle.fints_script.specs.Steps.{StepValue}
 use Rattle.fints_check.specs.Figures.{FiguresAre}
 use Rattle.fints_check.specs.Searching.{AreFoundTo, IsGreatestAt}
 use Rattle.fints_check.specs.declared.finding.Finding.{Finding}
 use Rattle.fints_check.specs.declared.finding.Reached.{Reached}
-use Rattle.fints_check.proofs.Checking.{AreFiguresTo, cell_at, clean_permits, figures_all, figures_more, figures_none, greatest_at, nothing_real, real_within, unreached}
+use Rattle.fints_check.proofs.Checking.{cell_at, clean_permits, figures_all, figures_more, figures_none, greatest_at, nothing_real, reached_more, real_within, unreached, visits_told}
 use Rattle.fints_check.proofs.Founds.{found_all, found_first, found_none}
 use Rattle.fints_check.proofs.Reals.{AreWithin, LastMessages, NoneIsLonger, figures_are, number_small}
 use Rattle.fints_check.proofs.report.check.Goals as goal
@@ -24,6 +23,7 @@ loop-i-init c =
     record {
       findings = subst (AreFoundTo granted script 1 1 0) (sym c.new-findings.ensures.items) (found_first granted script (λ f real. (real_within granted script last within f real).0));
       figures = figures_none script c.in_ok-figures.figures.items c.in_ok-figures.ensures.items;
+      reached = ap (λ (xs : List (Option Reached)). map is_some xs) c.in_ok-figures.ensures.items;
     }
 
 pub figures_at-reached-requires-clause-least : goal.figures_at-reached-requires-clause-least
@@ -72,25 +72,27 @@ loop-i-preserved c =
     let cell : numbered numbers (c.loop-i.i + 1) ≡ Some c.index.result.now = cell_at numbers c.loop-i.i c.index.result.now (omega (arith, greatest.long, c.step_count-count.ensures.count)) c.index.ensures in
     let P : Vec Finding Global → Type 0 = λ v. AreFoundTo granted script (c.loop-i.i + 1 + 1) 1 0 v.items in
     let Q : Option Reached → Type 0 = λ figures. FiguresAre script (c.loop-i.i + 1) figures in
-    let both : P c.match-index.findings × Q c.match-index.cell = elim c.match-index.branch [
+    let R : Option Reached → Type 0 = λ figures. is_some figures ≡ is_some c.index.result.now in
+    let all : P c.match-index.findings × Q c.match-index.cell × R c.match-index.cell = elim c.match-index.branch [
       | in-None w ↦
-          let none : numbered numbers (c.loop-i.i + 1) ≡ Some None = cell ∙ ap (λ x. Some x) w.in-None.is in
-          (
+          let none : numbered numbers (c.loop-i.i + 1) ≡ Some None = cell ∙ ap (λ x. Some x) w.in-None.is in (
             subst P (sym w.findings-is) (found_none granted script (c.loop-i.i + 1) c.loop-i.findings.items (nothing_real granted script numbers (c.loop-i.i + 1) greatest last none) c.loop-i.invariant.findings),
             subst Q (sym w.cell-is) (λ m s. unreached script numbers (c.loop-i.i + 1) s.values m greatest last none s.sends s.of),
+            subst R (sym w.cell-is) (sym (ap (λ (x : Option ℕ). is_some x) w.in-None.is)),
           )
       | in-Some+in_ok-search_step-in-Some w ↦
           let has : Has numbers (c.loop-i.i + 1) w.in-Some.number = cell ∙ ap (λ x. Some x) w.in-Some.is in
           let peak = subst (λ (k : ℕ). IsGreatestAt script.steps (c.loop-i.i + 1) k) (sym w.figures_at-reached.ensures.number) (greatest_at script.steps numbers (c.loop-i.i + 1) w.in-Some.number greatest has) in
-          let step = numbered_at script.steps (c.loop-i.i + 1) (omega arith) (omega (arith, c.step_count-count.ensures.count)) in
-          (
+          let step = numbered_at script.steps (c.loop-i.i + 1) (omega arith) (omega (arith, c.step_count-count.ensures.count)) in (
             subst P (sym w.findings-is) w.in_ok-search_step-in-Some.ensures,
             subst Q (sym w.cell-is) (figures_are script granted sound last within c.messages_are_read.ensures c.one_message.ensures longer (c.extremes_are_admitted.ensures.longest script.fields) (c.loop-i.i + 1) step.0 w.figures_at-reached.result step.1 peak (w.figures_at-reached.ensures.figures step.0 step.1)),
+            subst R (sym w.cell-is) (sym (ap (λ (x : Option ℕ). is_some x) w.in-Some.is)),
           )
     ] in
     record {
-      findings = both.0;
-      figures = figures_more script c.loop-i.i c.loop-i.figures.items c.push.new.self.items c.match-index.cell c.in_ok-push.ensures.items both.1 c.loop-i.invariant.figures;
+      findings = all.0;
+      figures = figures_more script c.loop-i.i c.loop-i.figures.items c.push.new.self.items c.match-index.cell c.in_ok-push.ensures.items all.1 c.loop-i.invariant.figures;
+      reached = reached_more c.loop-i.figures.items c.push.new.self.items c.match-index.cell numbers c.loop-i.i c.index.result.now c.in_ok-push.ensures.items (omega (arith, greatest.long, c.step_count-count.ensures.count)) c.index.ensures all.2 c.loop-i.invariant.reached;
     }
 
 pub invariant_of-result : goal.invariant_of-result
@@ -101,7 +103,7 @@ invariant_of-result c =
     let last : LastMessages script = λ values m. c.last_messages.ensures script values m sound in
     let within : AreWithin script = λ v. c.visits_are_within.ensures script v sound in
     let all : c.loop-i.i ≡ length script.steps = omega (arith, c.loop-i-test.false, c.loop-i.auto.i-end, c.step_count-count.ensures.count) in
-    (c.requires, found_all granted script c.loop-i.i c.loop-i.findings.items (λ f real. subst (λ (k : ℕ). f.step ≤ k) (sym all) (real_within granted script last within f real).1) c.loop-i.invariant.findings, figures_all script c.loop-i.i c.loop-i.figures.items all c.loop-i.invariant.figures)
+    (c.requires, found_all granted script c.loop-i.i c.loop-i.findings.items (λ f real. subst (λ (k : ℕ). f.step ≤ k) (sym all) (real_within granted script last within f real).1) c.loop-i.invariant.findings, figures_all script c.loop-i.i c.loop-i.figures.items all c.loop-i.invariant.figures, visits_told script.steps c.loop-i.figures.items c.in_ok-numbers.numbers.greatest.items c.loop-i.i c.in_ok-numbers.numbers.visits (omega (arith, c.in_ok-numbers.ensures.greatest.long, all)) c.loop-i.invariant.reached c.in_ok-numbers.ensures.visits)
 
 pub returns-clause-exactly : goal.returns-clause-exactly
 returns-clause-exactly c =
@@ -125,3 +127,9 @@ returns-clause-permitted c =
     (found_all granted script c.loop-i.i c.loop-i.findings.items (λ f real. subst (λ (k : ℕ). f.step ≤ k) (sym all) (real_within granted script last within f real).1) c.loop-i.invariant.findings).exactly
     (λ values answers sent. c.each_is_last.ensures script values answers sent sound)
     (λ values answers sent. c.sent_are_read.ensures script values answers sent sound)
+
+pub returns-clause-visits : goal.returns-clause-visits
+returns-clause-visits c =
+    let script = c.args.plan.now.script in
+    let all : c.loop-i.i ≡ length script.steps = omega (arith, c.loop-i-test.false, c.loop-i.auto.i-end, c.step_count-count.ensures.count) in
+    visits_told script.steps c.loop-i.figures.items c.in_ok-numbers.numbers.greatest.items c.loop-i.i c.in_ok-numbers.numbers.visits (omega (arith, c.in_ok-numbers.ensures.greatest.long, all)) c.loop-i.invariant.reached c.in_ok-numbers.ensures.visits

@@ -1,4 +1,5 @@
-use Rattle.std.proofs.Common.{◌+◌}
+use Rattle.std.proofs.Common.{◌≡◌, ◌+◌, map, take}
+use Rattle.std.specs.Prelude.{is_some}
 use Rattle.fints_check.specs.Searching.{AreFoundTo}
 use Rattle.fints_check.proofs.Checking.{AreFiguresTo}
 use Rattle.fints_check.proofs.report.check.Given as goal
@@ -8,4 +9,5 @@ abbrev pub invariant-loop-i : goal.invariant-loop-i
 invariant-loop-i l = record {
   findings : AreFoundTo l.permissions l.plan.script (l.i + 1) 1 0 l.findings.items;
   figures : AreFiguresTo l.plan.script l.i l.figures.items;
+  reached : map is_some l.figures.items ≡ map is_some (take l.i l.numbers.greatest.items);
 }

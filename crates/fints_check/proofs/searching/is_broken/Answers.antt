@@ -1,4 +1,4 @@
-use Rattle.std.proofs.Common.{ℕ, ◌-◌, ◌≡◌, ◌≤◌, List, Some, length, sym, subst, inl, inr}
+use Rattle.std.proofs.Common.{ℕ, ◌-◌, ◌≡◌, ◌≤◌, List, Some, sym, subst}
 use Rattle.fints_cases.specs.declared.values.NamedValue.{NamedValue}
 use Rattle.fints_messages.specs.Messages.{IsMessage}
 use Rattle.fints_rules.specs.Breaks.{Breaks}

@@ -1,4 +1,4 @@
-use Rattle.std.proofs.Common.{ℕ, Some, ◌+◌, ◌≡◌, ◌<◌, List, ◌∷◌, ◌++◌, [], length, arith, sym, subst, ap, ◌∙◌, inl, inr}
+use Rattle.std.proofs.Common.{ℕ, Some, ◌+◌, ◌≡◌, ◌<◌, ◌∷◌, ◌++◌, [], length, arith, sym, subst, ap, ◌∙◌}
 use Rattle.std.specs.Prelude.{Vec}
 use Rattle.std.specs.declared.alloc.Global.{Global}
 use Rattle.std.proofs.lemmas.Bool.{false≢true}
@@ -39,11 +39,11 @@ returns c =
     let last : LastMessages script = λ values m. c.last_messages.ensures script values m sound in
     let within : AreWithin script = λ v. c.visits_are_within.ensures script v sound in
     let few : (f : Finding) → f.step ≡ c.args.n → IsReal granted script f → f.segment < c.loop-place.place =
-        λ f here real.
-          let greatest = subst (λ (k : ℕ). IsGreatestAt script.steps k c.args.figures.number) (sym here) c.requires.greatest in
-          let there : numbered script.steps f.step ≡ Some c.step-step.result.now = subst (λ (k : ℕ). numbered script.steps k ≡ Some c.step-step.result.now) (sym here) at in
-          let b = real_breaks script granted sound last within c.messages_are_read.ensures c.one_message.ensures f c.args.figures.number c.step-step.result.now there greatest real in
-          let low = place_within granted script c.step-step.result.now b.1 b.0 f.rule f.segment b.5 in
-          omega (arith, low, ap length c.signers.ensures, ap length c.templates.ensures, c.loop-place-test.false)
+    λ f here real.
+    let greatest = subst (λ (k : ℕ). IsGreatestAt script.steps k c.args.figures.number) (sym here) c.requires.greatest in
+    let there : numbered script.steps f.step ≡ Some c.step-step.result.now = subst (λ (k : ℕ). numbered script.steps k ≡ Some c.step-step.result.now) (sym here) at in
+    let b = real_breaks script granted sound last within c.messages_are_read.ensures c.one_message.ensures f c.args.figures.number c.step-step.result.now there greatest real in
+    let low = place_within granted script c.step-step.result.now b.1 b.0 f.rule f.segment b.5 in
+    omega (arith, low, ap length c.signers.ensures, ap length c.templates.ensures, c.loop-place-test.false)
     in
     found_rule granted script c.args.n (rule_number c.args.rule) c.loop-place.place c.loop-place.findings.items few c.loop-place.invariant

@@ -1,5 +1,4 @@
-use Rattle.std.proofs.Common.{ℕ, ◌+◌, ◌≡◌, ◌<◌, zero, suc, get_or, List, arith, refl, sym, subst}
-use Rattle.fints_rules.specs.Breaks.{rule_number}
+use Rattle.std.proofs.Common.{ℕ, ◌+◌, ◌≡◌, arith, sym, subst}
 use Rattle.fints_check.specs.Searching.{AreFoundTo}
 use Rattle.fints_check.proofs.Founds.{found_step, number_at}
 use Rattle.fints_check.proofs.searching.search_step.Goals as goal
