@@ -44,6 +44,7 @@ fn few_steps(rt: HostRuntime) -> Result<(), Fail> {
 
 // Steps w1 to wn, each with a branch to the next one and one to that after it.
 fn ladder(alloc: Global, count: u16) -> Result<String, Fail> {
+    let count = u32::from(count);
     let mut text = String::from_str(alloc, "step = [\n")?;
     for i in 1..=count {
         text.push_str(format!(in alloc;
