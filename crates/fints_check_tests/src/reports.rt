@@ -188,7 +188,8 @@ fn ladder(alloc: Global, count: u16) -> Result<String, Fail> {
         text.push_str(format!(in alloc;
             "{{name = \"s{i}\", segments = [{{kind = \"HKEND\", version = 1, elements = [\"$dialog\"]}}], repeat = 51, branches = [{{on = \"0***\", to = \"again\"}}], default = \"s{}\"}},\n",
             i + 1
-        )?.as_str())?;
+        )?
+        .as_str())?;
     }
     text.push_str(format!(in alloc;
         "{{name = \"s{count}\", segments = [{{kind = \"HKEND\", version = 1, elements = [\"$dialog\"]}}], repeat = 51, branches = [{{on = \"0***\", to = \"again\"}}]}}]"
@@ -202,7 +203,11 @@ fn two_hundred_steps(rt: HostRuntime) -> Result<(), Fail> {
     let text = ladder(rt.alloc(), 200)?;
     let (found, visits) = report_of(rt.alloc(), C1, text.as_bytes())?;
     assert!(rt; found.as_str().starts_with("51 175;102 177;"));
-    assert!(rt; found.as_str().ends_with(";9996 179;10047 181;10098 181;10149 181;10200 181;197 P2 number 0;198 P2 number 0;199 P2 number 0;200 P2 number 0;"));
+    assert!(rt;
+        found.as_str().ends_with(
+            ";9996 179;10047 181;10098 181;10149 181;10200 181;197 P2 number 0;198 P2 number 0;199 P2 number 0;200 P2 number 0;"
+        )
+    );
     assert_eq!(rt; visits, 600);
     Ok(())
 }
