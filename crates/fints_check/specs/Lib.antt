@@ -5,5 +5,6 @@ pub mod Tans
 pub mod StepFacts
 pub mod Findings
 pub mod Figures
+pub mod Confirming
 pub mod Reports
 pub mod Searching

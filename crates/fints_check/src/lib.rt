@@ -1,6 +1,7 @@
 //! The checker: which rules the runs of a plan break, and the greatest figures of its steps.
 #![tactic(auto)]
 
+mod confirming;
 mod elements;
 mod finding;
 mod kinds;
@@ -12,6 +13,7 @@ mod stepping;
 mod tans;
 mod templates;
 
+pub use confirming::confirm;
 pub use finding::{Finding, Reached};
 pub use report::{Report, check};
 pub use stepping::is_clean_step;
