@@ -14,7 +14,8 @@ use Rattle.std.proofs.lemmas.Bool.{cases_lt}
 use Rattle.std.proofs.lemmas.List.{length_push}
 use Rattle.fints_reach.specs.Leading.{Leads}
 use Rattle.fints_reach.specs.Numbers.{Has, AreGreatest}
-use Rattle.fints_reach.specs.Passes.{Covers, IsClosed, IsPassed, IsRaised, IsSpare, AreRaised}
+use Rattle.fints_reach.specs.Closed.{Covers, IsClosed}
+use Rattle.fints_reach.specs.Passes.{IsPassed, IsRaised, IsSpare, AreRaised}
 use Rattle.fints_reach.proofs.Bounds.{closed_bounded}
 use Rattle.fints_reach.proofs.Lookups.{numbered_push_here, numbered_push_old, numbered_push_cases}
 use Rattle.fints_reach.proofs.Scripts.{IsScript, lead_forward}

@@ -1,3 +1,4 @@
+pub mod Closed
 pub mod Leading
 pub mod Numbers
 pub mod Passes

@@ -5,6 +5,7 @@ use Rattle.fints_cases.specs.declared.answers.Target.{Target}
 use Rattle.fints_cases.specs.declared.answers.Target.TheVariants.{Step, Again}
 use Rattle.fints_script.specs.Numbered.{numbered}
 use Rattle.fints_script.specs.Steps.{StepValue}
+use Rattle.fints_reach.specs.Closed.{Covers}
 use Rattle.fints_reach.specs.Leading.{Leads}
 use Rattle.fints_reach.specs.Numbers.{Has}
 
@@ -19,17 +20,6 @@ target_at step b = target_of step.branches step.otherwise (b + 1)
 -- the flags tell which branches are open
 abbrev pub AreOpen : StepValue → List Bool → Type 0
 AreOpen step flags = (b : ℕ) → b ≤ length step.branches → (slice_get flags b ≡ Some true) ↔ IsOpenAt step b
-
--- a number that is enough for a step whose first message in a row has at most number `from`
-pub record Covers (step : StepValue) (from number : ℕ) : Type 0 where
-  pub once : from ≤ number
-  pub often : Leads step Again → from + (step.repeat - 1) ≤ number
-
--- the numbers suffice along each answer
-pub record IsClosed (steps : List StepValue) (numbers : List (Option ℕ)) : Type 0 where
-  pub long : length numbers ≡ length steps
-  pub first : (step : StepValue) → numbered steps 1 ≡ Some step → (f : ℕ) × Has numbers 1 f × Covers step 1 f
-  pub onward : (n to f : ℕ) (step next : StepValue) → numbered steps n ≡ Some step → numbered steps to ≡ Some next → Has numbers n f → Leads step (Step to) → (g : ℕ) × Has numbers to g × Covers next (f + 1) g
 
 -- number m was kept for the step of number to, unless a greater one stood there
 pub record IsRaised (old new : List (Option ℕ)) (to m : ℕ) : Type 0 where
