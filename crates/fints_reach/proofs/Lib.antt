@@ -1,7 +1,9 @@
 pub mod Lookups
+pub mod Blanks
 pub mod Scripts
 pub mod Bounds
 pub mod Raising
 pub mod PassLemmas
 pub mod Closing
+pub mod SourceLemmas
 pub mod Visits
