@@ -6,4 +6,5 @@ pub mod Raising
 pub mod PassLemmas
 pub mod Closing
 pub mod SourceLemmas
+pub mod WayLemmas
 pub mod Visits

@@ -1,5 +1,5 @@
 -- What is found on the way to a step, back and forth. Private contracts alone cite these words.
-use Rattle.std.specs.Prelude.{ℕ, ◌≡◌, ◌<◌, Option, Some, List, [], ◌∷◌}
+use Rattle.std.specs.Prelude.{ℕ, ◌≡◌, ◌<◌, ◌≤◌, Option, Some, List, [], ◌∷◌, length}
 use Rattle.fints_cases.specs.declared.answers.Target.{Target}
 use Rattle.fints_script.specs.Numbered.{numbered}
 use Rattle.fints_script.specs.Steps.{StepValue}
@@ -29,6 +29,7 @@ pub record HasWay (sources : List (Option ℕ)) (n : ℕ) : Type 0 where
   pub are : AreSources steps numbers sources
   pub number : ℕ
   pub has : Has numbers n number
+  pub to : n ≤ length steps
 
 -- step n, its source, that one's source and so on, as long as they stand after step c; the last of them comes from step c
 abbrev pub IsWayBack : List (Option ℕ) → ℕ → List ℕ → ℕ → Type 0
