@@ -5,12 +5,13 @@ use Rattle.fints_script.specs.Numbered.{numbered, numbered_at}
 use Rattle.fints_script.specs.Steps.{StepValue}
 use Rattle.fints_cases.specs.declared.answers.Target.{Target}
 use Rattle.fints_cases.specs.declared.answers.Target.TheVariants.{Step, Again, Stop}
-use Rattle.fints_wire.specs.Runs.{start, answered, Enters, Reach}
+use Rattle.std.specs.Prelude.{◌↔◌}
+use Rattle.fints_wire.specs.Runs.{start, answered, Arrives, Enters, Reach}
 use Rattle.fints_wire.specs.Runs.Reach.{first, onward}
 use Rattle.fints_wire.specs.declared.dialogue.Visit.{Visit}
 use Rattle.fints_reach.specs.Leading.{Leads}
-use Rattle.fints_reach.specs.Numbers.{Has}
-use Rattle.fints_reach.specs.Passes.{Covers, IsClosed}
+use Rattle.fints_reach.specs.Numbers.{Has, IsBounded}
+use Rattle.fints_reach.specs.Closed.{Covers, IsClosed}
 use Rattle.fints_reach.proofs.Scripts.{IsScript, lead_forward}
 
 -- v stays within number f, with what its step may still be repeated
@@ -68,3 +69,7 @@ closed_bounded steps numbers w script closed (onward {v} codes a r f) =
     let same : b.step ≡ f.step = same_Some b.step f.step (sym b.at ∙ f.at) in
     let enters = subst (λ (s : StepValue). Enters s.repeat v (answered s codes) w) (sym same) f.enters in
     enters_bounded steps numbers v w b (answered b.step codes) script closed (record { codes = codes; answer = a; leads_to = refl }) enters
+
+-- said of the words that others read
+pub closed_bound : (steps : List StepValue) (numbers : List (Option ℕ)) → IsScript steps → ((v : Visit) → Arrives steps v ↔ Reach steps v) → IsClosed steps numbers → (v : Visit) → Arrives steps v → IsBounded numbers v
+closed_bound steps numbers script runs closed v run = let b = closed_bounded steps numbers v script closed ((runs v).0 run) in (b.figure, b.has, b.within.now)

@@ -1,6 +1,10 @@
 pub mod Lookups
+pub mod Blanks
 pub mod Scripts
 pub mod Bounds
 pub mod Raising
 pub mod PassLemmas
+pub mod Closing
+pub mod SourceLemmas
+pub mod WayLemmas
 pub mod Visits

@@ -1,5 +1,5 @@
 -- Lists that count from 1, and grow at their end.
-use Rattle.std.proofs.Common.{ℕ, suc, zero, ◌+◌, ◌-◌, ◌<◌, ◌≤◌, ◌≡◌, ◌⊎◌, Some, List, [], ◌∷◌, ◌++◌, length, get_or, refl, ap, sym, subst, ◌∙◌, arith, inl, inr}
+use Rattle.std.proofs.Common.{ℕ, suc, zero, ◌+◌, ◌-◌, ◌<◌, ◌≤◌, ◌≡◌, ◌⊎◌, Some, List, [], ◌∷◌, ◌++◌, length, get_or, set, refl, ap, sym, subst, ◌∙◌, arith, inl, inr}
 use Rattle.std.specs.List.{slice_get}
 use Rattle.std.proofs.lemmas.Option.{same_Some, slice_get-get_or}
 use Rattle.fints_script.specs.Numbered.{numbered}
@@ -42,3 +42,27 @@ numbered_read xs (suc k) x low high h =
     let same : suc k - 1 ≡ k = omega arith in
     let less : k < length xs = omega arith in
     slice_get-get_or xs k x less ∙ ap (λ y. Some y) (sym (subst (λ j. x ≡ get_or xs j x) same h))
+
+-- ---- a list with one element put in another's place
+
+slice_get_set_here : {X : Type 0} (xs : List X) (k : ℕ) (y : X) → k < length xs → slice_get (set xs k y) k ≡ Some y
+slice_get_set_here [] k y less = absurd (omega (arith, less))
+slice_get_set_here (x ∷ xs) zero y less = refl
+slice_get_set_here (x ∷ xs) (suc k) y less = slice_get_set_here xs k y (omega (arith, less))
+
+slice_get_set_other : {X : Type 0} (xs : List X) (k j : ℕ) (y : X) → (j ≡ k → ⊥) → slice_get (set xs k y) j ≡ slice_get xs j
+slice_get_set_other [] k j y other = refl
+slice_get_set_other (x ∷ xs) zero zero y other = absurd (other refl)
+slice_get_set_other (x ∷ xs) zero (suc j) y other = refl
+slice_get_set_other (x ∷ xs) (suc k) zero y other = refl
+slice_get_set_other (x ∷ xs) (suc k) (suc j) y other = slice_get_set_other xs k j y (λ e. other (ap suc e))
+
+pub numbered_set_here : {X : Type 0} (xs : List X) (n : ℕ) (y : X) → 1 ≤ n → n ≤ length xs → numbered (set xs (n - 1) y) n ≡ Some y
+numbered_set_here xs zero y low high = absurd (omega (arith, low))
+numbered_set_here xs (suc k) y low high =
+    let back : k ≡ suc k - 1 = omega arith in
+    subst (λ j. slice_get (set xs j y) k ≡ Some y) back (slice_get_set_here xs k y (omega (arith, high)))
+
+pub numbered_set_other : {X : Type 0} (xs : List X) (n k : ℕ) (y : X) → 1 ≤ n → (k ≡ n → ⊥) → numbered (set xs (n - 1) y) k ≡ numbered xs k
+numbered_set_other xs n zero y low other = refl
+numbered_set_other xs n (suc k) y low other = slice_get_set_other xs (n - 1) k y (λ e. other (omega (arith, e, low)))

@@ -1,3 +1,7 @@
+pub mod Closed
 pub mod Leading
 pub mod Numbers
 pub mod Passes
+pub mod Sources
+pub mod Walking
+pub mod Ways

@@ -5,8 +5,10 @@ use Rattle.fints_cases.specs.declared.answers.Target.{Target}
 use Rattle.fints_cases.specs.declared.answers.Target.TheVariants.{Step, Again}
 use Rattle.fints_script.specs.Numbered.{numbered}
 use Rattle.fints_script.specs.Steps.{StepValue}
+use Rattle.fints_reach.specs.Closed.{Covers}
 use Rattle.fints_reach.specs.Leading.{Leads}
 use Rattle.fints_reach.specs.Numbers.{Has}
+use Rattle.fints_reach.specs.Sources.{EndsRow}
 
 -- some answer fires the branch
 abbrev pub IsOpenAt : StepValue → ℕ → Type 0
@@ -20,30 +22,26 @@ target_at step b = target_of step.branches step.otherwise (b + 1)
 abbrev pub AreOpen : StepValue → List Bool → Type 0
 AreOpen step flags = (b : ℕ) → b ≤ length step.branches → (slice_get flags b ≡ Some true) ↔ IsOpenAt step b
 
--- a number that is enough for a step whose first message in a row has at most number `from`
-pub record Covers (step : StepValue) (from number : ℕ) : Type 0 where
-  pub once : from ≤ number
-  pub often : Leads step Again → from + (step.repeat - 1) ≤ number
+-- at step n the numbers, and the steps that they come from, stayed what they were
+pub record IsSameAt (old new before after : List (Option ℕ)) (n : ℕ) : Type 0 where
+  pub number : numbered new n ≡ numbered old n
+  pub source : numbered after n ≡ numbered before n
 
--- the numbers suffice along each answer
-pub record IsClosed (steps : List StepValue) (numbers : List (Option ℕ)) : Type 0 where
-  pub long : length numbers ≡ length steps
-  pub first : (step : StepValue) → numbered steps 1 ≡ Some step → (f : ℕ) × Has numbers 1 f × Covers step 1 f
-  pub onward : (n to f : ℕ) (step next : StepValue) → numbered steps n ≡ Some step → numbered steps to ≡ Some next → Has numbers n f → Leads step (Step to) → (g : ℕ) × Has numbers to g × Covers next (f + 1) g
-
--- number m was kept for the step of number to, unless a greater one stood there
-pub record IsRaised (old new : List (Option ℕ)) (to m : ℕ) : Type 0 where
+-- number m was kept for the step of number to, as coming from this source, unless one as great stood there
+pub record IsRaised (old new before after : List (Option ℕ)) (to m source : ℕ) : Type 0 where
   pub long : length new ≡ length old
+  pub wide : length after ≡ length before
   pub up : (n e : ℕ) → Has old n e → (f : ℕ) × Has new n f × (e ≤ f)
   pub led : (f : ℕ) × Has new to f × (m ≤ f)
-  pub source : (n e : ℕ) → Has new n e → Has old n e ⊎ ((n ≡ to) × (e ≡ m))
+  pub each : (n : ℕ) → IsSameAt old new before after n ⊎ ((n ≡ to) × Has new n m × Has after n source)
 
--- number m was kept for each step that answers to this one lead to
-pub record AreRaised (step : StepValue) (old new : List (Option ℕ)) (m : ℕ) : Type 0 where
+-- number m was so kept for each step that answers to this one lead to
+pub record AreRaised (step : StepValue) (old new before after : List (Option ℕ)) (m source : ℕ) : Type 0 where
   pub long : length new ≡ length old
+  pub wide : length after ≡ length before
   pub up : (n e : ℕ) → Has old n e → (f : ℕ) × Has new n f × (e ≤ f)
   pub led : (to : ℕ) → Leads step (Step to) → (f : ℕ) × Has new to f × (m ≤ f)
-  pub source : (n e : ℕ) → Has new n e → Has old n e ⊎ (Leads step (Step n) × (e ≡ m))
+  pub each : (n : ℕ) → IsSameAt old new before after n ⊎ (Leads step (Step n) × Has new n m × Has after n source)
 
 -- how many more messages of the step than one may be sent in a row
 pub record IsSpare (step : StepValue) (more : ℕ) : Type 0 where
@@ -59,11 +57,13 @@ pub record IsWay (step : StepValue) (b to : ℕ) : Type 0 where
 abbrev pub IsNoWay : StepValue → ℕ → Type 0
 IsNoWay step b = (to : ℕ) → IsWay step b to → ⊥
 
--- a step's cell is the number that covers the one it was entered with, and its targets are raised above it
-pub record IsPassed (step : StepValue) (n : ℕ) (cell : Option ℕ) (old new : List (Option ℕ)) : Type 0 where
+-- a step's cell is the number of the last message of the row that begins with the one it was entered with, and its targets are raised above it
+pub record IsPassed (step : StepValue) (n : ℕ) (cell : Option ℕ) (old new before after : List (Option ℕ)) : Type 0 where
   pub long : length new ≡ length old
+  pub wide : length after ≡ length before
   pub up : (k e : ℕ) → Has old k e → (f : ℕ) × Has new k f × (e ≤ f)
   pub covers : (e : ℕ) → Has old n e → (f : ℕ) × (cell ≡ Some f) × Covers step e f
   pub led : (f to : ℕ) → cell ≡ Some f → Leads step (Step to) → (g : ℕ) × Has new to g × (f + 1 ≤ g)
   pub sent : (f : ℕ) → cell ≡ Some f → (e : ℕ) × Has old n e × ((f ≡ e) ⊎ (Leads step Again × (f ≡ e + (step.repeat - 1))))
-  pub source : (k e : ℕ) → Has new k e → Has old k e ⊎ ((f : ℕ) × (cell ≡ Some f) × Leads step (Step k) × (e ≡ f + 1))
+  pub row : (f : ℕ) → cell ≡ Some f → (e : ℕ) × Has old n e × EndsRow step e f
+  pub each : (k : ℕ) → IsSameAt old new before after k ⊎ ((f : ℕ) × (cell ≡ Some f) × Leads step (Step k) × Has new k (f + 1) × Has after k n)

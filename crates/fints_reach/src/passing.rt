@@ -1,5 +1,5 @@
 //! The pass over the steps, from the first to the last, that finds their greatest numbers.
-ghost use Rattle.std.specs.Prelude.{◌≡◌, ◌<◌, ◌≤◌, ◌+◌, ℕ, length, map, replicate, is_some, IfOk, Some, None};
+ghost use Rattle.std.specs.Prelude.{◌≡◌, ◌<◌, ◌≤◌, ◌+◌, ℕ, length, map, replicate, is_some, IfOk, IsTrue, IsFalse, Some, None};
 ghost use Rattle.fints_script.specs.Numbered.{numbered};
 ghost use Rattle.fints_script.specs.Sound.{IsOnward};
 ghost use Rattle.fints_script.specs.Steps.{StepValue};
@@ -7,6 +7,7 @@ ghost use Rattle.fints_cases.specs.declared.answers.Target.{Target};
 ghost use Rattle.fints_reach.specs.Leading.{Leads};
 ghost use Rattle.fints_reach.specs.Numbers.{AreGreatest, Has, looked_at, visits_at};
 ghost use Rattle.fints_reach.specs.Passes.{AreOpen, AreRaised, IsPassed, IsRaised};
+ghost use Rattle.fints_reach.specs.Sources.{AreSources};
 
 use crate::opening::{later_step, open_branches, spare};
 use fints_script::laws::open_branches_lead;
@@ -16,49 +17,82 @@ use fints_wire::run_laws::{runs_by_steps, visits_are_within};
 use std::alloc::Global;
 
 /// The greatest number of each step's messages over all runs, in order of steps, or none for a step
-/// that no run sends; and how many steps and branches were looked at for them.
+/// that no run sends; the step that each comes from, counted from 1, or none for the first step and
+/// those that no run sends; and how many steps and branches were looked at for them.
 #[derive(Debug, Drop)]
 pub struct Numbers {
     pub greatest: Vec<Option<u32>>,
+    pub sources: Vec<Option<u16>>,
     pub visits: u64,
 }
 
-// Keeps a number for a step, unless it has a greater one.
-fn raise(entries: &mut Vec<Option<u32>>, to: usize, number: u32)
-    requires from { 1 ≤ to }
-    requires to { to ≤ length entries.old.items }
-    ensures { IsRaised entries.old.items entries.new.items to number }
+// Whether there is no entry, or a lower one than the number.
+fn is_greater(number: u32, entry: Option<u32>) -> bool
+    ensures greater { IsTrue result → (e : ℕ) → entry ≡ Some e → e < number }
+    ensures kept { IsFalse result → (e : ℕ) × (entry ≡ Some e) × (number ≤ e) }
 {
-    let greater = match entries[to - 1] {
-        None => number,
-        Some(entry) => entry.max(number),
-    };
-    entries[to - 1] = Some(greater);
+    match entry {
+        None => true,
+        Some(entry) => entry < number,
+    }
 }
 
-// Keeps a number for each step that an open branch leads to.
-fn raise_targets(step: &Step, flags: &[bool], n: usize, number: u32, entries: &mut Vec<Option<u32>>)
+// Keeps a number for a step, and the step that it comes from, unless the step has a number as great.
+fn raise(
+    entries: &mut Vec<Option<u32>>,
+    sources: &mut Vec<Option<u16>>,
+    to: usize,
+    number: u32,
+    source: u16,
+)
+    requires from { 1 ≤ to }
+    requires to { to ≤ length entries.old.items }
+    requires wide { length sources.old.items ≡ length entries.old.items }
+    ensures { IsRaised entries.old.items entries.new.items sources.old.items sources.new.items to number source }
+{
+    if is_greater(number, entries[to - 1]) {
+        entries[to - 1] = Some(number);
+        sources[to - 1] = Some(source);
+    }
+}
+
+// Keeps a number, as coming from step n, for each step that an open branch of n leads to.
+fn raise_targets(
+    step: &Step,
+    flags: &[bool],
+    n: u16,
+    number: u32,
+    entries: &mut Vec<Option<u32>>,
+    sources: &mut Vec<Option<u16>>,
+)
     requires flags { AreOpen step.now flags.now }
     requires onward { (to : Target) → Leads step.now to → IsOnward (length entries.old.items) n to }
-    ensures { AreRaised step.now entries.old.items entries.new.items number }
+    requires wide { length sources.old.items ≡ length entries.old.items }
+    ensures { AreRaised step.now entries.old.items entries.new.items sources.old.items sources.new.items number n }
 {
     open_branches_lead();
     for b in 0..step.branches().len() + 1 {
         match later_step(step, flags, b) {
             None => {}
-            Some(to) => raise(entries, to as usize, number),
+            Some(to) => raise(entries, sources, to as usize, number, n),
         }
     }
 }
 
 // Passes over a step: its greatest number, if it was entered, and the targets of its open branches
 // raised above it.
-fn pass_step(plan: &Plan, n: usize, entries: &mut Vec<Option<u32>>) -> Option<u32>
+fn pass_step(
+    plan: &Plan,
+    n: usize,
+    entries: &mut Vec<Option<u32>>,
+    sources: &mut Vec<Option<u16>>,
+) -> Option<u32>
     requires from { 1 ≤ n }
     requires to { n ≤ length plan.now.script.steps }
     requires long { length entries.old.items ≡ length plan.now.script.steps }
+    requires wide { length sources.old.items ≡ length plan.now.script.steps }
     requires small { (e : ℕ) → Has entries.old.items n e → e < 20000 }
-    ensures { (step : StepValue) → numbered plan.now.script.steps n ≡ Some step → IsPassed step n result entries.old.items entries.new.items }
+    ensures { (step : StepValue) → numbered plan.now.script.steps n ≡ Some step → IsPassed step n result entries.old.items entries.new.items sources.old.items sources.new.items }
 {
     let _count = plan.step_count();
     match entries[n - 1] {
@@ -67,21 +101,21 @@ fn pass_step(plan: &Plan, n: usize, entries: &mut Vec<Option<u32>>) -> Option<u3
             let step = plan.step(n);
             let flags = open_branches(step);
             let number = entry + spare(step, &flags);
-            raise_targets(step, &flags, n, number + 1, entries);
+            raise_targets(step, &flags, n as u16, number + 1, entries, sources);
             Some(number)
         }
     }
 }
 
-// No number for any step.
-fn blank(alloc: Global, count: usize) -> Result<Vec<Option<u32>>, Memory>
-    ensures { IfOk result (λ numbers. numbers.items ≡ replicate count None) }
+// Nothing for any step.
+fn blank<T: Drop>(alloc: Global, count: usize) -> Result<Vec<Option<T>>, Memory>
+    ensures { IfOk result (λ cells. cells.items ≡ replicate count None) }
 {
-    let mut numbers = Vec::with_capacity(alloc, count)?;
+    let mut cells = Vec::with_capacity(alloc, count)?;
     for _i in 0..count {
-        numbers.push(None)?;
+        cells.push(None)?;
     }
-    Ok(numbers)
+    Ok(cells)
 }
 
 // How much was looked at for a step with this greatest number.
@@ -96,22 +130,29 @@ fn visits_at(step: &Step, number: Option<u32>) -> u64
 }
 
 /// The greatest numbers, by one pass over the steps in which each open branch of a reached step
-/// raises its target's number.
+/// raises its target's number. Of several steps that give a step its greatest number, the first in
+/// order is kept as its source.
 pub fn greatest_numbers(alloc: Global, plan: &Plan) -> Result<Numbers, Memory>
     ensures greatest { IfOk result (λ numbers. AreGreatest plan.now.script.steps numbers.greatest.items) }
+    ensures sources { IfOk result (λ numbers. AreSources plan.now.script.steps numbers.greatest.items numbers.sources.items) }
     ensures visits { IfOk result (λ numbers. numbers.visits ≡ looked_at plan.now.script.steps (map is_some numbers.greatest.items)) }
 {
     runs_by_steps();
     visits_are_within();
     let count = plan.step_count();
     let mut entries = blank(alloc, count)?;
+    let mut sources = blank(alloc, count)?;
     let mut greatest = Vec::with_capacity(alloc, count)?;
     let mut visits = 0;
-    raise(&mut entries, 1, 1);
+    entries[0] = Some(1);
     for i in 0..count {
-        let number = pass_step(plan, i + 1, &mut entries);
+        let number = pass_step(plan, i + 1, &mut entries, &mut sources);
         visits += visits_at(plan.step(i + 1), number);
         greatest.push(number)?;
     }
-    Ok(Numbers { greatest, visits })
+    Ok(Numbers {
+        greatest,
+        sources,
+        visits,
+    })
 }

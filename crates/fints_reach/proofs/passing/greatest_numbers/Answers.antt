@@ -1,28 +1,34 @@
-use Rattle.std.proofs.Common.{◌≡◌, ◌+◌, length, ℕ, Option, Some, None, List, [], ◌∷◌, ◌++◌, map, arith, subst, sym, ap, ◌∙◌, refl, replicate}
+use Rattle.std.proofs.Common.{◌≡◌, ◌+◌, length, ℕ, Option, Some, None, List, [], ◌∷◌, ◌++◌, map, arith, subst, sym, ap, ◌∙◌, refl, replicate, set}
 use Rattle.std.specs.List.{slice_get}
 use Rattle.std.specs.Prelude.{is_some}
-use Rattle.std.proofs.lemmas.List.{length-map, length-replicate, map-append}
+use Rattle.std.proofs.lemmas.List.{length-map, length-replicate, length-set, map-append}
 use Rattle.fints_script.specs.Numbered.{numbered_from}
-use Rattle.fints_reach.specs.Numbers.{Has, looked_at}
-use Rattle.fints_reach.proofs.PassLemmas.{Pass, pass_none, pass_more, pass_greatest, none_in_blank, entered_small}
+use Rattle.fints_reach.specs.Numbers.{looked_at}
+use Rattle.fints_reach.proofs.PassLemmas.{Pass, pass_none, pass_more, pass_greatest, entered_small}
+use Rattle.fints_reach.proofs.SourceLemmas.{pass_sources}
+use Rattle.fints_reach.proofs.Blanks.{first_alone, first_there}
 use Rattle.fints_reach.proofs.Scripts.{script_of}
 use Rattle.fints_reach.proofs.Visits.{few_visits, looked_at_push, none_looked_at, visits_few}
 use Rattle.fints_reach.proofs.passing.greatest_numbers.Goals as goal
 
 pub loop-i-init : goal.loop-i-init
 loop-i-init c =
-    let steps = c.args.plan.now.script.steps in
+    let script = c.args.plan.now.script in
+    let steps = script.steps in
     let count = c.step_count-count.result in
-    let all : c.in_ok-entries.entries.items ≡ replicate count None = c.in_ok-entries.ensures in
-    let long : length c.raise.new.entries.items ≡ length steps = c.raise.ensures.long ∙ (ap length all ∙ (length-replicate count None ∙ c.step_count-count.ensures.count)) in
+    let blank : List (Option ℕ) = replicate count None in
+    let all : c.in_ok-entries.entries.items ≡ blank = c.in_ok-entries.ensures in
+    let some = c.step_count-count.ensures.sound.some_steps in
+    let long : length (set blank 0 (Some 1)) ≡ length steps = length-set blank 0 (Some 1) ∙ (length-replicate count None ∙ c.step_count-count.ensures.count) in
+    let first = pass_none steps count (set blank 0 (Some 1)) c.in_ok-sources.sources.items (sym c.step_count-count.ensures.count) long c.in_ok-sources.ensures (first_there count 1 (omega (arith, some, c.step_count-count.ensures.count))) (first_alone count 1) in
     record {
-      pass = subst (λ (xs : List (Option ℕ)). Pass steps c.raise.new.entries.items xs 0) (sym c.in_ok-greatest.ensures.items)
-          (pass_none steps c.in_ok-entries.entries.items c.raise.new.entries.items long (λ n e h. none_in_blank count n e (subst (λ (xs : List (Option ℕ)). Has xs n e) all h)) c.raise.ensures);
+      pass = subst (λ (xs : List (Option ℕ)). Pass steps (set c.in_ok-entries.entries.items 0 (Some 1)) c.in_ok-sources.sources.items xs 0) (sym c.in_ok-greatest.ensures.items)
+          (subst (λ (xs : List (Option ℕ)). Pass steps (set xs 0 (Some 1)) c.in_ok-sources.sources.items [] 0) (sym all) first);
       visits = sym (ap (λ (xs : List (Option ℕ)). looked_at steps (map is_some xs)) c.in_ok-greatest.ensures.items ∙ none_looked_at steps);
     }
 
 pub pass_step-number-requires-clause-small : goal.pass_step-number-requires-clause-small
-pass_step-number-requires-clause-small c e h = entered_small c.args.plan.now.script c.loop-i.entries.items c.loop-i.greatest.items c.loop-i.i (c.loop-i.i + 1) e c.step_count-count.ensures.sound (c.runs_by_steps.ensures c.args.plan.now.script.steps) (λ v. c.visits_are_within.ensures c.args.plan.now.script v c.step_count-count.ensures.sound) c.loop-i.invariant.pass h
+pass_step-number-requires-clause-small c e h = entered_small c.args.plan.now.script c.loop-i.entries.items c.loop-i.sources.items c.loop-i.greatest.items c.loop-i.i (c.loop-i.i + 1) e c.step_count-count.ensures.sound (c.runs_by_steps.ensures c.args.plan.now.script.steps) (λ v. c.visits_are_within.ensures c.args.plan.now.script v c.step_count-count.ensures.sound) c.loop-i.invariant.pass h
 
 pub overflow_add-visits : goal.overflow_add-visits
 overflow_add-visits c =
@@ -36,10 +42,10 @@ pub loop-i-preserved : goal.loop-i-preserved
 loop-i-preserved c =
     let steps = c.args.plan.now.script.steps in
     let at = c.step.ensures.numbered in
-    let more = pass_more steps c.loop-i.entries.items c.pass_step-number.new.entries.items c.loop-i.greatest.items c.pass_step-number.result c.loop-i.i (c.loop-i.i + 1) c.step.result.now refl at (c.pass_step-number.ensures c.step.result.now at) c.loop-i.invariant.pass.kept (script_of c.args.plan.now.script c.step_count-count.ensures.sound) c.loop-i.invariant.pass in
+    let more = pass_more steps c.loop-i.entries.items c.pass_step-number.new.entries.items c.loop-i.sources.items c.pass_step-number.new.sources.items c.loop-i.greatest.items c.pass_step-number.result c.loop-i.i (c.loop-i.i + 1) c.step.result.now refl at (c.pass_step-number.ensures c.step.result.now at) c.loop-i.invariant.pass.kept (script_of c.args.plan.now.script c.step_count-count.ensures.sound) c.loop-i.invariant.pass in
     let there : slice_get steps (length (map is_some c.loop-i.greatest.items)) ≡ Some c.step.result.now = subst (λ (k : ℕ). slice_get steps k ≡ Some c.step.result.now) (omega (arith, length-map c.loop-i.greatest.items is_some, c.loop-i.invariant.pass.kept)) (numbered_from steps (c.loop-i.i + 1) c.step.result.now at) in
     record {
-      pass = subst (λ (xs : List (Option ℕ)). Pass steps c.pass_step-number.new.entries.items xs (c.loop-i.i + 1)) (sym c.in_ok-push.ensures.items) more;
+      pass = subst (λ (xs : List (Option ℕ)). Pass steps c.pass_step-number.new.entries.items c.pass_step-number.new.sources.items xs (c.loop-i.i + 1)) (sym c.in_ok-push.ensures.items) more;
       visits =
           let pushed = looked_at_push steps (map is_some c.loop-i.greatest.items) (is_some c.pass_step-number.result) c.step.result.now there in
           let items : looked_at steps (map is_some c.push.new.self.items) ≡ looked_at steps (map is_some c.loop-i.greatest.items ++ is_some c.pass_step-number.result ∷ []) = ap (λ (xs : List (Option ℕ)). looked_at steps (map is_some xs)) c.in_ok-push.ensures.items ∙ ap (looked_at steps) (map-append is_some c.loop-i.greatest.items (c.pass_step-number.result ∷ [])) in
@@ -49,5 +55,11 @@ loop-i-preserved c =
 pub returns-clause-greatest : goal.returns-clause-greatest
 returns-clause-greatest c =
     let last : c.loop-i.i ≡ length c.args.plan.now.script.steps = omega (arith, c.step_count-count.ensures.count) in
-    pass_greatest c.args.plan.now.script.steps c.loop-i.entries.items c.loop-i.greatest.items (c.runs_by_steps.ensures c.args.plan.now.script.steps) (script_of c.args.plan.now.script c.step_count-count.ensures.sound)
-    (subst (λ i. Pass c.args.plan.now.script.steps c.loop-i.entries.items c.loop-i.greatest.items i) last c.loop-i.invariant.pass)
+    pass_greatest c.args.plan.now.script.steps c.loop-i.entries.items c.loop-i.sources.items c.loop-i.greatest.items (c.runs_by_steps.ensures c.args.plan.now.script.steps) (script_of c.args.plan.now.script c.step_count-count.ensures.sound)
+    (subst (λ i. Pass c.args.plan.now.script.steps c.loop-i.entries.items c.loop-i.sources.items c.loop-i.greatest.items i) last c.loop-i.invariant.pass)
+
+pub returns-clause-sources : goal.returns-clause-sources
+returns-clause-sources c =
+    let last : c.loop-i.i ≡ length c.args.plan.now.script.steps = omega (arith, c.step_count-count.ensures.count) in
+    pass_sources c.args.plan.now.script.steps c.loop-i.entries.items c.loop-i.sources.items c.loop-i.greatest.items (script_of c.args.plan.now.script c.step_count-count.ensures.sound)
+    (subst (λ i. Pass c.args.plan.now.script.steps c.loop-i.entries.items c.loop-i.sources.items c.loop-i.greatest.items i) last c.loop-i.invariant.pass)

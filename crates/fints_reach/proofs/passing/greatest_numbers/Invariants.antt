@@ -7,6 +7,6 @@ use Rattle.fints_reach.proofs.passing.greatest_numbers.Given as goal
 -- the steps so far were passed over, and this was looked at
 abbrev pub invariant-loop-i : goal.invariant-loop-i
 invariant-loop-i l = record {
-  pass : Pass l.plan.script.steps l.entries.items l.greatest.items l.i;
+  pass : Pass l.plan.script.steps l.entries.items l.sources.items l.greatest.items l.i;
   visits : l.visits ≡ looked_at l.plan.script.steps (map is_some l.greatest.items);
 }

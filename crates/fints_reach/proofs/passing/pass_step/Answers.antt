@@ -38,12 +38,15 @@ raise_targets-requires-clause-onward c to can =
 pub returns-in-None : goal.returns-in-None
 returns-in-None c step at =
     let old = c.args.entries.now.items in
-    passed_none step c.args.n old (numbered_read old c.args.n c.index.result.now c.requires.from (omega (arith, c.requires.long)) c.index.ensures ∙ ap (λ x. Some x) c.in-None.is)
+    passed_none step c.args.n old c.args.sources.now.items (numbered_read old c.args.n c.index.result.now c.requires.from (omega (arith, c.requires.long)) c.index.ensures ∙ ap (λ x. Some x) c.in-None.is)
 
 pub returns-in-Some : goal.returns-in-Some
 returns-in-Some c step at =
     let old = c.args.entries.now.items in
+    let new = c.raise_targets.new.entries.items in
+    let before = c.args.sources.now.items in
+    let after = c.raise_targets.new.sources.items in
     let is : numbered old c.args.n ≡ Some (Some c.in-Some.entry) = numbered_read old c.args.n c.index.result.now c.requires.from (omega (arith, c.requires.long)) c.index.ensures ∙ ap (λ x. Some x) c.in-Some.is in
     let same : c.step-step.result.now ≡ step = same_Some c.step-step.result.now step (sym c.step-step.ensures.numbered ∙ at) in
-    subst (λ (s : StepValue). IsPassed s c.args.n (Some (c.in-Some.entry + c.spare.result)) old c.raise_targets.new.entries.items) same
-    (passed_some c.step-step.result.now c.args.n c.in-Some.entry c.spare.result old c.raise_targets.new.entries.items is c.spare.ensures c.raise_targets.ensures)
+    subst (λ (s : StepValue). IsPassed s c.args.n (Some (c.in-Some.entry + c.spare.result)) old new before after) same
+    (passed_some c.step-step.result.now c.args.n c.in-Some.entry c.spare.result old new before after is c.spare.ensures c.raise_targets.ensures)

@@ -1,0 +1,14 @@
+use Rattle.std.proofs.Common.{length}
+use Rattle.fints_reach.specs.Walking.{IsWayBack}
+use Rattle.fints_reach.specs.Ways.{LeadsTo}
+use Rattle.fints_reach.proofs.way.longest_way.Given as goal
+
+-- the answers lead to this step, and the rest of the way is still to go
+abbrev pub invariant-loop-next : goal.invariant-loop-next
+invariant-loop-next l = record {
+  so_far : LeadsTo l.plan.script.steps l.numbers.greatest.items l.at l.answers.items;
+  rest : IsWayBack l.numbers.sources.items l.n l.later.items l.at;
+}
+
+abbrev pub decreases-loop-next : goal.decreases-loop-next
+decreases-loop-next l = length l.later.items

@@ -1,0 +1,37 @@
+-- What is found on the way to a step, back and forth. Private contracts alone cite these words.
+use Rattle.std.specs.Prelude.{ℕ, ◌≡◌, ◌<◌, ◌≤◌, Option, Some, List, [], ◌∷◌, length}
+use Rattle.fints_cases.specs.declared.answers.Target.{Target}
+use Rattle.fints_script.specs.Numbered.{numbered}
+use Rattle.fints_script.specs.Steps.{StepValue}
+use Rattle.fints_wire.specs.Runs.{RouteTo, answered}
+use Rattle.fints_reach.specs.Numbers.{Has}
+use Rattle.fints_reach.specs.Sources.{AreSources, EndsRow}
+
+-- the code alone leads from the step to this target
+pub record IsCodeTo (step : StepValue) (to : Target) (code : ℕ) : Type 0 where
+  pub small : code < 10000
+  pub leads_there : answered step (code ∷ []) ≡ to
+
+-- the answers lead to the first message of a row of step n that ends with the step's number
+pub record EntersTo (steps : List StepValue) (numbers : List (Option ℕ)) (n : ℕ) (answers : List (List ℕ)) : Type 0 where
+  pub step : StepValue
+  pub at : numbered steps n ≡ Some step
+  pub from : ℕ
+  pub number : ℕ
+  pub row : EndsRow step from number
+  pub has : Has numbers n number
+  pub route : RouteTo steps answers (record { step = n; number = from; times = 1 })
+
+-- these are the sources of numbers, of which step n has one
+pub record HasWay (sources : List (Option ℕ)) (n : ℕ) : Type 0 where
+  pub steps : List StepValue
+  pub numbers : List (Option ℕ)
+  pub are : AreSources steps numbers sources
+  pub number : ℕ
+  pub has : Has numbers n number
+  pub to : n ≤ length steps
+
+-- step n, its source, that one's source and so on, as long as they stand after step c; the last of them comes from step c
+abbrev pub IsWayBack : List (Option ℕ) → ℕ → List ℕ → ℕ → Type 0
+IsWayBack sources n [] c = n ≡ c
+IsWayBack sources n (x ∷ xs) c = (n ≡ x) × ((s : ℕ) × Has sources n s × IsWayBack sources s xs c)
