@@ -11,3 +11,4 @@ pub mod FigureRules
 pub mod Founds
 pub mod Checking
 pub mod Ending
+pub mod Cleans
