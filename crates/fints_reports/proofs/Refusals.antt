@@ -1,5 +1,5 @@
 -- What refuses an input is the refusal of the call.
-use Rattle.std.proofs.Common.{◌≡◌, ℕ, List, inl, inr, sym, subst}
+use Rattle.std.proofs.Common.{ℕ, List, inl, inr, sym, subst}
 use Rattle.fints_params.specs.declared.fault.ParamFault.{ParamFault}
 use Rattle.fints_params.specs.declared.fault.ParamFault.TheVariants as params
 use Rattle.fints_params.specs.Faults.{IsMemoryOr}

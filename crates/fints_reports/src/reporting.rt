@@ -1,5 +1,5 @@
 //! Reports on scripts, from the texts of their inputs.
-ghost use Rattle.std.specs.Prelude.{◌≡◌, ℕ, ◌×◌, IfOk, IfErr};
+ghost use Rattle.std.specs.Prelude.{◌≡◌, ℕ, IfOk, IfErr};
 ghost use Rattle.fints_reports.specs.Plans.{IsPlanRefusal};
 ghost use Rattle.fints_reports.specs.ReportText.{report_status, report_text, IsReportBy, IsReportOf, IsReportOn, IsReportRefusal};
 
@@ -44,12 +44,7 @@ fn report_plan(alloc: Global, params: &Params, plan: &Plan<'_>) -> Result<Reply,
 /// The report on a script by good parameters, and status 0 where it is clean, else 1. Of the
 /// refusals that of the order table comes first, then that of the script, and then what the script
 /// leaves open with the order table.
-pub fn report(
-    alloc: Global,
-    params: &Params,
-    orders: &[u8],
-    script: &[u8],
-) -> Result<Reply, Fault>
+pub fn report(alloc: Global, params: &Params, orders: &[u8], script: &[u8]) -> Result<Reply, Fault>
     ensures told { IfOk result (λ reply. IsReportOn params.now orders.now script.now reply.status reply.text.items) }
     ensures refused { IfErr result (λ f. IsPlanRefusal orders.now script.now f) }
 {
