@@ -1,5 +1,5 @@
 -- The facts of a step decide what some choice makes its message break.
-use Rattle.std.proofs.Common.{ℕ, suc, ◌+◌, ◌<◌, ◌≡◌, Bool, true, false, List, [], ◌∷◌, length, get_or, Some, refl, ap, sym, subst, ◌∙◌, inl, inr}
+use Rattle.std.proofs.Common.{ℕ, suc, ◌+◌, ◌<◌, ◌≡◌, Bool, true, false, List, [], ◌∷◌, length, get_or, Option, Some, refl, ap, sym, subst, ◌∙◌, inl, inr}
 use Rattle.std.specs.Prelude.{codes, ◌&&◌, ◌||◌}
 use Rattle.std.specs.List.{list_any, slice_get}
 use Rattle.std.specs.Set.{distinct_count}
@@ -14,7 +14,7 @@ use Rattle.fints_rules.specs.Breaks.{Breaks, BreaksAt}
 use Rattle.fints_rules.specs.Facts.{facts_of, segment_facts, has_process as segment_process}
 use Rattle.fints_rules.specs.Kinds.{is_tan_order}
 use Rattle.fints_rules.specs.Permits.{Granted}
-use Rattle.fints_rules.specs.Rules.{SegmentBreaks}
+use Rattle.fints_rules.specs.Rules.{MessageBreaks, SegmentBreaks}
 use Rattle.fints_rules.specs.declared.facts.MessageFacts.{MessageFacts}
 use Rattle.fints_rules.specs.declared.orders.OrderRow.{OrderRow}
 use Rattle.fints_rules.specs.declared.rule.Rule.{Rule}
@@ -27,12 +27,14 @@ use Rattle.fints_wire.specs.Choices.{shortest_choice}
 use Rattle.fints_wire.specs.Filling.{FillingValue, filled_segment, filled_segments, filling_of}
 use Rattle.fints_wire.specs.Views.{message_view}
 use Rattle.fints_check.specs.Breakable.{CanBreak, IsOther}
+use Rattle.fints_check.specs.Choosing.{BreaksWith, IsChoice}
 use Rattle.fints_check.specs.Elements.{has_process, literals, template_facts}
 use Rattle.fints_check.specs.Kinds.{template_count}
 use Rattle.fints_check.specs.StepFacts.{AreMessageFacts, StepBreaks, TemplatesDecide}
+use Rattle.fints_check.specs.declared.choosing.SetAccount.{SetAccount}
 use Rattle.fints_check.proofs.Below.{Laws}
 use Rattle.fints_check.proofs.Counted.{count_is, plain_kinds_are}
-use Rattle.fints_check.proofs.ElementTwo.{IsShortest, shortest_is, template_complete, template_sound, two_literal}
+use Rattle.fints_check.proofs.ElementTwo.{IsBrokenBy, IsShortest, shortest_is, template_complete, template_sound, template_with, two_literal}
 use Rattle.fints_check.proofs.Lists.{any_there, slice_there, there_of}
 use Rattle.fints_check.proofs.RuleFacts.{IsNoBetter, message_no_better, segment_no_better}
 use Rattle.fints_check.proofs.Signed.{shortest_tan, tan_stays}
@@ -118,25 +120,32 @@ module _ (laws : Laws) (script : ScriptValue) (granted : Granted) (step : StepVa
 
   -- ---- both ways
 
-  step_some : (r : Rule) (place : ℕ) → IsOther r → StepBreaks granted script.fields step f r place → CanBreak granted script step r place
-  step_some r place other (inl (at, b)) =
+  whole_broken : (r : Rule) (place : ℕ) → IsOther r → place ≡ 0 → MessageBreaks granted f r → (number : ℕ) → Breaks granted (Sent (shortest_choice script.fields) number) r place
+  whole_broken r place other at b number =
       let least = shortest_choice script.fields in
-      let admits = laws.shortest script.fields in
-      record {
-        values = least;
-        admitted = admits;
-        breaks = λ number. inl (at, message_no_better granted (facts_of (Sent least number)) f (shortest_no_better least number admits (shortest_is script.fields)) r other b);
-      }
+      inl (at, message_no_better granted (facts_of (Sent least number)) f (shortest_no_better least number (laws.shortest script.fields) (shortest_is script.fields)) r other b)
+
+  segment_broken : (r : Rule) (place i : ℕ) (t : Template) (there : slice_get step.templates i ≡ Some t) (values : List NamedValue) → place ≡ first + i
+      → IsBrokenBy laws script.fields granted f r t (template_count t.kind step.templates) (closed i t there) values → (number : ℕ) → Breaks granted (Sent values number) r place
+  segment_broken r place i t there values at s number =
+      let segment : OwnedSegment = filled_segment (Fill values number) (first + i) t in
+      inr (any_there (λ (x : OwnedSegment). (x.head.number ≡ place) × BreaksAt granted (Sent values number) r x) (Sent values number).body i segment (laws.segments script step number values i t there)
+      (sym at, segment_from values number (first + i) r t s.admitted s.shortest (s.breaks number (first + i))))
+
+  step_some : (r : Rule) (place : ℕ) → IsOther r → StepBreaks granted script.fields step f r place → CanBreak granted script step r place
+  step_some r place other (inl (at, b)) = record { values = shortest_choice script.fields; admitted = laws.shortest script.fields; breaks = whole_broken r place other at b }
   step_some r place other (inr b) =
       let s = template_sound laws script.fields granted f r b.template (template_count b.template.kind step.templates) (closed b.i b.template b.there) b.breaks in
-      record {
-        values = s.values;
-        admitted = s.admitted;
-        breaks = λ number.
-            let segment : OwnedSegment = filled_segment (Fill s.values number) (first + b.i) b.template in
-            inr (any_there (λ (x : OwnedSegment). (x.head.number ≡ place) × BreaksAt granted (Sent s.values number) r x) (Sent s.values number).body b.i segment (laws.segments script step number s.values b.i b.template b.there)
-            (sym b.number_is, segment_from s.values number (first + b.i) r b.template s.admitted s.shortest (s.breaks number (first + b.i))));
-      }
+      record { values = s.0; admitted = s.1.admitted; breaks = segment_broken r place b.i b.template b.there s.0 b.number_is s.1 }
+
+  step_chosen : (r : Rule) (place : ℕ) (choice : Option SetAccount) (values : List NamedValue) → IsOther r → BreaksWith granted script.fields step f r place choice → IsChoice script.fields choice values
+      → Admits script.fields values × ((number : ℕ) → Breaks granted (Sent values number) r place)
+  step_chosen r place choice values other (inl (at, b, none)) is =
+      let least : values ≡ shortest_choice script.fields = subst (λ (c : Option SetAccount). IsChoice script.fields c values) none is in
+      subst (λ (vs : List NamedValue). Admits script.fields vs × ((number : ℕ) → Breaks granted (Sent vs number) r place)) (sym least) (laws.shortest script.fields, whole_broken r place other at b)
+  step_chosen r place choice values other (inr b) is =
+      let s = template_with laws script.fields granted f r b.template (template_count b.template.kind step.templates) (closed b.i b.template b.there) choice values b.breaks is in
+      (s.admitted, segment_broken r place b.i b.template b.there values b.number_is s)
 
   step_each : (number : ℕ) (values : List NamedValue) (r : Rule) (place : ℕ) → Admits script.fields values → IsOther r → Breaks granted (Sent values number) r place → StepBreaks granted script.fields step f r place
   step_each number values r place admits other (inl (at, b)) = inl (at, message_no_better granted f (facts_of (Sent values number)) (facts_no_better values number admits) r other b)
@@ -155,5 +164,6 @@ module _ (laws : Laws) (script : ScriptValue) (granted : Granted) (step : StepVa
 pub decides : Laws → TemplatesDecide
 decides laws script granted step f sound sound_step closed facts = record {
   some = step_some laws script granted step f sound sound_step closed facts;
+  chosen = step_chosen laws script granted step f sound sound_step closed facts;
   each = step_each laws script granted step f sound sound_step closed facts;
 }

@@ -27,8 +27,10 @@ use Rattle.fints_templates.specs.declared.template.TemplateItem.{TemplateItem}
 use Rattle.fints_templates.specs.declared.template.TemplateItem.TheVariants.{Literal, Dialog, Field}
 use Rattle.fints_wire.specs.Choices.{shortest_choice, value_of, with_shortest, with_value}
 use Rattle.fints_wire.specs.Filling.{FillingValue, element_at, filled_element, filled_segment, filling_of}
+use Rattle.fints_check.specs.Choosing.{IsChoice, TemplateBreaksWith}
 use Rattle.fints_check.specs.Elements.{accounts_asked, accounts_at, asks_account, listed_in, literal_value, literals, template_facts}
 use Rattle.fints_check.specs.StepFacts.{TemplateBreaks}
+use Rattle.fints_check.specs.declared.choosing.SetAccount.{SetAccount}
 use Rattle.fints_check.proofs.Below.{Laws}
 use Rattle.fints_check.proofs.Lists.{any_there, none_or_some, set_elsewhere, set_here, there_of}
 use Rattle.fints_check.proofs.RuleFacts.{items_moved}
@@ -53,12 +55,12 @@ two_literal laws F n t h = laws.values F n 2 t ∙ (ap (λ (items : List Templat
 
 -- ---- one account field
 
-record AccountAt (fields : List NamedField) (items : List TemplateItem) : Type 0 where
-  place : ℕ
-  field : NamedField
-  items_are : items ≡ Field place ∷ []
-  there : slice_get fields place ≡ Some field
-  account : is_account field.class ≡ true
+pub record AccountAt (fields : List NamedField) (items : List TemplateItem) : Type 0 where
+  pub place : ℕ
+  pub field : NamedField
+  pub items_are : items ≡ Field place ∷ []
+  pub there : slice_get fields place ≡ Some field
+  pub account : is_account field.class ≡ true
 
 account_there : (o : Option NamedField) → is_account_at o ≡ true → (field : NamedField) × (o ≡ Some field) × (is_account field.class ≡ true)
 account_there None h = absurd cc
@@ -101,12 +103,12 @@ some_asked true xs h = refl
 some_asked false xs h = absurd (omega (arith, h))
 
 -- where the rule is asked for listed accounts, element 2 is a field of them
-record IsAsked (fields : List NamedField) (r : Rule) (t : Template) : Type 0 where
-  asks : asks_account r ≡ true
-  at : AccountAt fields (element_two t)
-  accounts : accounts_asked fields r t ≡ field_accounts at.field.class
+pub record IsAsked (fields : List NamedField) (r : Rule) (t : Template) : Type 0 where
+  pub asks : asks_account r ≡ true
+  pub at : AccountAt fields (element_two t)
+  pub accounts : accounts_asked fields r t ≡ field_accounts at.field.class
 
-asked : (fields : List NamedField) (r : Rule) (t : Template) → 0 < length (accounts_asked fields r t) → IsAsked fields r t
+pub asked : (fields : List NamedField) (r : Rule) (t : Template) → 0 < length (accounts_asked fields r t) → IsAsked fields r t
 asked fields r t some =
     let asks = some_asked (asks_account r) (listed_in fields (element_two t)) some in
     let listed : 0 < length (listed_in fields (element_two t)) = subst (λ (xs : List (List (List ℕ))). 0 < length xs) (asked_are fields r t asks) some in
@@ -119,7 +121,7 @@ asked fields r t some =
 abbrev pub IsShortest : List NamedField → List NamedValue → Type 0
 IsShortest fields values = (f : ℕ) (field : NamedField) (value : NamedValue) → slice_get fields f ≡ Some field → is_account field.class ≡ false → slice_get values f ≡ Some value → value.value ≡ field_shortest field.class
 
-shortest_at : (fields : List NamedField) (f : ℕ) (field : NamedField) → slice_get fields f ≡ Some field → slice_get (shortest_choice fields) f ≡ Some (with_shortest field)
+pub shortest_at : (fields : List NamedField) (f : ℕ) (field : NamedField) → slice_get fields f ≡ Some field → slice_get (shortest_choice fields) f ≡ Some (with_shortest field)
 shortest_at fields f field at = slice_get-map with_shortest fields f ∙ ap (option_map with_shortest) at
 
 pub shortest_is : (fields : List NamedField) → IsShortest fields (shortest_choice fields)
@@ -216,30 +218,42 @@ module _ (laws : Laws) (fields : List NamedField) (granted : Granted) (f : Messa
             inl (subst (λ (xs : List (List (List ℕ))). Any With xs) (sym a.accounts) (any_there With (field_accounts a.at.field.class) s.listed_at (Two values number n) s.listed b))
       ]
 
-  -- a choice of shortest values, of which at most one is another account
-  pub record IsBroken : Type 0 where
-    pub values : List NamedValue
+  -- with these values, shortest ones but for accounts, it breaks the rule whatever its number
+  pub record IsBrokenBy (values : List NamedValue) : Type 0 where
     pub admitted : Admits fields values
     pub shortest : IsShortest fields values
     pub breaks : (number n : ℕ) → With (Two values number n)
 
-  pub template_sound : TemplateBreaks granted fields f r t count → IsBroken
-  template_sound (inl any) =
-      let some : 0 < length (accounts_asked fields r t) = omega (arith, any.2) in
-      let a = asked fields r t some in
-      let found = subst (λ (xs : List (List (List ℕ))). Any With xs) a.accounts any in
-      let at : slice_get (field_accounts a.at.field.class) found.0 ≡ Some found.1 = there_of (field_accounts a.at.field.class) found.0 found.1 found.2 found.3 in
-      record {
-        values = with_value (shortest_choice fields) a.at.place a.at.field (account_text found.1);
-        admitted = laws.set_admitted fields (shortest_choice fields) a.at.place a.at.field (account_text found.1) (laws.shortest fields) a.at.there (laws.listed_admitted a.at.field.class found.0 found.1 at);
-        shortest = with_account_is fields a.at.place a.at.field (account_text found.1) a.at.there a.at.account;
-        breaks = λ number n. subst With (sym (set_stands laws fields t a.at found.0 found.1 at number n)) found.4;
-      }
-  template_sound (inr (none, own)) = record {
-    values = shortest_choice fields;
+  least_broken : accounts_asked fields r t ≡ [] → With (literals t) → IsBrokenBy (shortest_choice fields)
+  least_broken none own = record {
     admitted = laws.shortest fields;
     shortest = shortest_is fields;
     breaks = λ number n.
         let p = plain laws fields t granted.orders closed r (shortest_choice fields) number n (laws.shortest fields) none in
         items_moved granted f t count (literals t) (Two (shortest_choice fields) number n) r (λ asks names. sym (p.account asks names)) (λ tan. sym (p.process tan)) own;
   }
+
+  set_broken : (a : AccountAt fields (element_two t)) (k : ℕ) (account : List (List ℕ)) → slice_get (field_accounts a.field.class) k ≡ Some account → With account → IsBrokenBy (with_value (shortest_choice fields) a.place a.field (account_text account))
+  set_broken a k account at b = record {
+    admitted = laws.set_admitted fields (shortest_choice fields) a.place a.field (account_text account) (laws.shortest fields) a.there (laws.listed_admitted a.field.class k account at);
+    shortest = with_account_is fields a.place a.field (account_text account) a.there a.account;
+    breaks = λ number n. subst With (sym (set_stands laws fields t a k account at number n)) b;
+  }
+
+  -- the values with the account that is set
+  pub template_with : (choice : Option SetAccount) (values : List NamedValue) → TemplateBreaksWith granted fields f r t count choice → IsChoice fields choice values → IsBrokenBy values
+  template_with None values (none, own) is = subst IsBrokenBy (sym is) (least_broken none own)
+  template_with (Some s) values w is =
+      let b = w.breaking in
+      let within = slice_get_within (field_accounts w.field.class) s.account b.account b.listed in
+      let a : AccountAt fields (element_two t) = record { place = s.field; field = w.field; items_are = w.items_are; there = w.there; account = class_listed w.field.class (omega (arith, within)) } in
+      subst IsBrokenBy (sym (is w.field b.account w.there b.listed)) (set_broken a s.account b.account b.listed b.breaks)
+
+  pub template_sound : TemplateBreaks granted fields f r t count → (values : List NamedValue) × IsBrokenBy values
+  template_sound (inl any) =
+      let some : 0 < length (accounts_asked fields r t) = omega (arith, any.2) in
+      let a = asked fields r t some in
+      let found = subst (λ (xs : List (List (List ℕ))). Any With xs) a.accounts any in
+      let at : slice_get (field_accounts a.at.field.class) found.0 ≡ Some found.1 = there_of (field_accounts a.at.field.class) found.0 found.1 found.2 found.3 in
+      (with_value (shortest_choice fields) a.at.place a.at.field (account_text found.1), set_broken a.at found.0 found.1 at found.4)
+  template_sound (inr (none, own)) = (shortest_choice fields, least_broken none own)

@@ -60,18 +60,24 @@ nowhere P xs none (k, s, lt, at, h) = none s h
 module _ (granted : Granted) (script : ScriptValue) (step : StepValue) (figures : Reached) (are : AreFiguresAt script step figures) (longest : Admits script.fields (longest_choice script.fields)) (sound : IsSoundStep script step)
     (read : (number : ℕ) (values : List NamedValue) → 1 ≤ number → number ≤ 99999 → Admits script.fields values → IsMessage (message_bytes script step number values) (message_view script step number values))
     (longer : NoneIsLonger script) where
+  number_broken : (place : ℕ) (values : List NamedValue) → (place ≡ 0) × MessageBreaks granted (facts_at figures) rule.Number → Breaks granted (message_view script step figures.number values) rule.Number place
+  number_broken place values (at, b) = inl (at, b)
+
   pub number_some : (place : ℕ) → (place ≡ 0) × MessageBreaks granted (facts_at figures) rule.Number → BreaksUnder granted script step figures.number rule.Number place
-  number_some place (at, b) = record { values = longest_choice script.fields; admitted = longest; breaks = inl (at, b) }
+  number_some place b = record { values = longest_choice script.fields; admitted = longest; breaks = number_broken place (longest_choice script.fields) b }
 
   pub number_each : (place lower : ℕ) (values : List NamedValue) → 1 ≤ lower → lower ≤ figures.number → Breaks granted (message_view script step lower values) rule.Number place → (place ≡ 0) × MessageBreaks granted (facts_at figures) rule.Number
   number_each place lower values low high (inl (at, inl none)) = absurd (omega (arith, low, none))
   number_each place lower values low high (inl (at, inr past)) = (at, inr (omega (arith, high, past)))
   number_each place lower values low high (inr any) = absurd (nowhere _ _ (λ s h. h.1) any)
 
-  pub size_some : (place : ℕ) → (place ≡ 0) × MessageBreaks granted (facts_at figures) rule.Size → BreaksUnder granted script step figures.number rule.Size place
-  size_some place (at, b) =
+  size_broken : (place : ℕ) → (place ≡ 0) × MessageBreaks granted (facts_at figures) rule.Size → Breaks granted (message_view script step figures.number (longest_choice script.fields)) rule.Size place
+  size_broken place (at, b) =
       let whole = (read figures.number (longest_choice script.fields) are.least are.most longest).size in
-      record { values = longest_choice script.fields; admitted = longest; breaks = inl (at, (b.0, omega (arith, b.1, are.size, whole))) }
+      inl (at, (b.0, omega (arith, b.1, are.size, whole)))
+
+  pub size_some : (place : ℕ) → (place ≡ 0) × MessageBreaks granted (facts_at figures) rule.Size → BreaksUnder granted script step figures.number rule.Size place
+  size_some place b = record { values = longest_choice script.fields; admitted = longest; breaks = size_broken place b }
 
   pub size_each : (place lower : ℕ) (values : List NamedValue) → Admits script.fields values → 1 ≤ lower → lower ≤ figures.number → Breaks granted (message_view script step lower values) rule.Size place → (place ≡ 0) × MessageBreaks granted (facts_at figures) rule.Size
   size_each place lower values admits low high (inl (at, b)) =
@@ -80,3 +86,13 @@ module _ (granted : Granted) (script : ScriptValue) (step : StepValue) (figures 
       let long = longer step values lower figures.number sound admits low high are.most in
       (at, (b.0, omega (arith, b.1, are.size, whole, long)))
   size_each place lower values admits low high (inr any) = absurd (nowhere _ _ (λ s h. h.1) any)
+
+  -- ---- cases
+
+  -- what breaks P2 at a lower number any values do at the greatest
+  pub number_case : (place lower : ℕ) (other values : List NamedValue) → 1 ≤ lower → lower ≤ figures.number → Breaks granted (message_view script step lower other) rule.Number place → Breaks granted (message_view script step figures.number values) rule.Number place
+  number_case place lower other values low high b = number_broken place values (number_each place lower other low high b)
+
+  -- what breaks P3 the longest values do
+  pub size_case : (place lower : ℕ) (other : List NamedValue) → Admits script.fields other → 1 ≤ lower → lower ≤ figures.number → Breaks granted (message_view script step lower other) rule.Size place → Breaks granted (message_view script step figures.number (longest_choice script.fields)) rule.Size place
+  size_case place lower other admits low high b = size_broken place (size_each place lower other admits low high b)

@@ -5,6 +5,7 @@ pub mod ElementTwo
 pub mod Signed
 pub mod Counted
 pub mod Deciding
+pub mod Chosen
 pub mod Places
 pub mod Reals
 pub mod FigureRules
@@ -12,3 +13,4 @@ pub mod Founds
 pub mod Checking
 pub mod Ending
 pub mod Cleans
+pub mod CaseLemmas

@@ -5,6 +5,7 @@ pub mod Tans
 pub mod StepFacts
 pub mod Findings
 pub mod Figures
+pub mod Choosing
 pub mod Confirming
 pub mod Reports
 pub mod Searching

@@ -5,6 +5,7 @@ use Rattle.fints_rules.specs.Breaks.{Breaks, rule_number}
 use Rattle.fints_rules.specs.Permits.{Granted}
 use Rattle.fints_rules.specs.declared.facts.MessageFacts.{MessageFacts}
 use Rattle.fints_rules.specs.declared.rule.Rule.{Rule}
+use Rattle.fints_script.specs.Numbered.{numbered}
 use Rattle.fints_script.specs.Plans.{Admits}
 use Rattle.fints_script.specs.Scripts.{ScriptValue}
 use Rattle.fints_script.specs.Steps.{StepValue}
@@ -46,3 +47,9 @@ pub record IsGreatestAt (steps : List StepValue) (n number : ℕ) : Type 0 where
 -- what the rules that hang on the number and the size ask of messages with these figures; they ask nothing else
 abbrev pub facts_at : Reached → MessageFacts
 facts_at figures = record { protocol = Some 300; number = figures.number; size = figures.size; kinds = 0; signatures = 0; submits = false; sends = false; ends = false; has_tan = false }
+
+-- if the finding is real, the values are admitted, and at the step's greatest number they make its message break the finding's rule at its segment
+abbrev pub BreaksAtGreatest : Granted → ScriptValue → Finding → List NamedValue → Type 0
+BreaksAtGreatest granted script f values =
+    (number : ℕ) (step : StepValue) → numbered script.steps f.step ≡ Some step → IsGreatestAt script.steps f.step number → IsReal granted script f
+    → Admits script.fields values × Breaks granted (message_view script step number values) f.rule f.segment

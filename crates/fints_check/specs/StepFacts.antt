@@ -1,5 +1,5 @@
 -- The facts of a step's message, as far as the step tells them, and the rules over them. Contracts of private functions alone have these words.
-use Rattle.std.specs.Prelude.{codes, ◌≡◌, ◌⊎◌, ◌↔◌, ℕ, ◌+◌, List, [], length, slice_get, Some, Any, IsTrue}
+use Rattle.std.specs.Prelude.{codes, ◌≡◌, ◌⊎◌, ◌↔◌, ℕ, ◌+◌, List, [], length, slice_get, Option, Some, Any, IsTrue}
 use Rattle.std.specs.List.{list_any}
 use Rattle.std.specs.Set.{distinct_count}
 use Rattle.std.specs.Str.{bytes_eq}
@@ -18,9 +18,11 @@ use Rattle.fints_script.specs.Steps.{StepValue}
 use Rattle.fints_templates.specs.declared.template.Template.{Template}
 use Rattle.fints_wire.specs.Views.{message_view}
 use Rattle.fints_check.specs.Breakable.{CanBreak, IsOther}
+use Rattle.fints_check.specs.Choosing.{BreaksWith, IsChoice}
 use Rattle.fints_check.specs.Elements.{accounts_asked, has_process, literals, template_facts}
 use Rattle.fints_check.specs.Kinds.{AreCounts, is_end, template_count, template_kinds}
 use Rattle.fints_check.specs.Tans.{SomeTan}
+use Rattle.fints_check.specs.declared.choosing.SetAccount.{SetAccount}
 use Rattle.fints_check.specs.declared.step_facts.StepFacts.{StepFacts}
 
 -- ---- facts
@@ -64,9 +66,11 @@ StepBreaks granted fields step f r place = ((place ≡ 0) × MessageBreaks grant
 
 -- ---- the law that joins the step's facts and its messages
 
--- what the facts break some choice makes the message break at every number, and what a choice at some number does the facts break
+-- what the facts break some choice makes the message break at every number, in particular the one that sets the account with which they do; and what a choice at some number does the facts break
 pub record Decides (granted : Granted) (script : ScriptValue) (step : StepValue) (f : MessageFacts) : Type 0 where
   pub some : (r : Rule) (place : ℕ) → IsOther r → StepBreaks granted script.fields step f r place → CanBreak granted script step r place
+  pub chosen : (r : Rule) (place : ℕ) (choice : Option SetAccount) (values : List NamedValue) → IsOther r → BreaksWith granted script.fields step f r place choice → IsChoice script.fields choice values
+      → Admits script.fields values × ((number : ℕ) → Breaks granted (message_view script step number values) r place)
   pub each : (number : ℕ) (values : List NamedValue) (r : Rule) (place : ℕ) → Admits script.fields values → IsOther r → Breaks granted (message_view script step number values) r place → StepBreaks granted script.fields step f r place
 
 abbrev pub TemplatesDecide : Type 0

@@ -1,6 +1,8 @@
 //! The checker: which rules the runs of a plan break, and the greatest figures of its steps.
 #![tactic(auto)]
 
+mod casing;
+mod choosing;
 mod confirming;
 mod elements;
 mod finding;

@@ -1,25 +1,29 @@
 //! Reports: what the runs of a plan break, and the greatest figures of its steps.
-ghost use Rattle.std.specs.Prelude.{◌≡◌, ◌↔◌, ◌≤◌, [], length, map, is_some, Some, AllPairs, Contains, IfOk, IsTrue};
+ghost use Rattle.std.specs.Prelude.{◌≡◌, ◌↔◌, ◌<◌, ◌≤◌, ℕ, List, [], slice_get, length, map, is_some, Some, AllPairs, Contains, IfOk, IsTrue};
 ghost use Rattle.fints_reach.specs.Numbers.{all_visits, looked_at, reached_visits};
+ghost use Rattle.fints_reach.specs.Ways.{LeadsTo};
 ghost use Rattle.fints_script.specs.Numbered.{numbered};
 ghost use Rattle.fints_script.specs.Steps.{StepValue};
 ghost use Rattle.fints_check.specs.Figures.{AreFigures, FiguresAre};
-ghost use Rattle.fints_check.specs.Findings.{AreFindings, EachIsPermitted, IsBefore, IsReal, SentStepsAreClean};
+ghost use Rattle.fints_check.specs.Findings.{AreFindings, EachIsPermitted, IsBefore, IsReal, SentStepsAreClean, Shows};
 ghost use Rattle.fints_check.specs.Searching.{AreFiguresAt, IsGreatestAt};
 ghost use Rattle.fints_check.specs.declared.finding.Finding.{Finding as FindingValue};
 
+use crate::casing::case_values;
 use crate::finding::{Finding, Reached};
 use crate::laws::templates_decide;
 use crate::searching::search_step;
-use fints_reach::greatest_numbers;
 use fints_reach::laws::visits_are_bounded;
+use fints_reach::{Numbers, greatest_numbers, longest_way};
 use fints_rules::Permissions;
 use fints_rules::laws::one_message;
-use fints_script::Plan;
 use fints_script::laws::closed_segments;
+use fints_script::{Answer, Case, Plan, Values};
 use fints_syntax::Memory;
 use fints_wire::laws::{extremes_are_admitted, messages_are_read, none_is_longer};
-use fints_wire::run_laws::{each_is_last, last_messages, sent_are_read, visits_are_within};
+use fints_wire::run_laws::{
+    each_is_last, last_messages, routes_send, sent_are_read, visits_are_within,
+};
 use fints_wire::worst_size;
 use std::alloc::Global;
 use std::marker::Model;
@@ -31,21 +35,22 @@ pub struct Report<'a> {
     plan: &'a Plan<'a>,
     figures: Vec<Option<Reached>>,
     findings: Vec<Finding>,
-    visits: u64,
+    numbers: Numbers,
 }
 
 impl<'a> Model for Report<'a> {
     ghost use Rattle.std.specs.Prelude.{◌≡◌, is_some, map};
-    ghost use Rattle.fints_reach.specs.Numbers.{looked_at};
+    ghost use Rattle.fints_reach.specs.Numbers.{AreGreatest, looked_at};
+    ghost use Rattle.fints_reach.specs.Sources.{AreSources};
     ghost use Rattle.fints_check.specs.Figures.{AreFigures};
     ghost use Rattle.fints_check.specs.Findings.{AreFindings};
     ghost use Rattle.fints_check.specs.Reports.{ReportValue};
 
     ghost Value = { ReportValue };
 
-    ghost view = { λ r. record { plan = r.plan.now; granted = r.permissions.now; figures = r.figures.items; findings = r.findings.items; visits = r.visits } };
+    ghost view = { λ r. record { plan = r.plan.now; granted = r.permissions.now; figures = r.figures.items; findings = r.findings.items; numbers = r.numbers.greatest.items; visits = r.numbers.visits } };
 
-    ghost invariant = { λ r. (r.permissions.now.orders ≡ r.plan.now.orders) × AreFindings r.permissions.now r.plan.now.script r.findings.items × AreFigures r.plan.now.script r.figures.items × (r.visits ≡ looked_at r.plan.now.script.steps (map is_some r.figures.items)) };
+    ghost invariant = { λ r. (r.permissions.now.orders ≡ r.plan.now.orders) × AreFindings r.permissions.now r.plan.now.script r.findings.items × AreFigures r.plan.now.script r.figures.items × (r.numbers.visits ≡ looked_at r.plan.now.script.steps (map is_some r.figures.items)) × AreGreatest r.plan.now.script.steps r.numbers.greatest.items × AreSources r.plan.now.script.steps r.numbers.greatest.items r.numbers.sources.items };
 }
 
 impl<'a> Report<'a> {
@@ -91,7 +96,48 @@ impl<'a> Report<'a> {
         ensures least { reached_visits self.now.plan.script.steps (map is_some self.now.figures) ≤ result }
     {
         visits_are_bounded();
-        self.visits
+        self.numbers.visits
+    }
+
+    /// Answers after which a run ends with a message of a finding's step that has the step's greatest
+    /// number; findings count from 0. It is the same for all findings of a step.
+    pub fn way(&self, alloc: Global, i: usize) -> Result<Vec<Answer>, Memory>
+        requires { i < length self.now.findings }
+        ensures { IfOk result (λ answers. (f : FindingValue) → slice_get self.now.findings i ≡ Some f → LeadsTo self.now.plan.script.steps self.now.numbers f.step answers.items) }
+    {
+        last_messages();
+        visits_are_within();
+        let _count = self.plan.step_count();
+        let finding = self.findings[i];
+        longest_way(alloc, self.plan, &self.numbers, finding.step as usize)
+    }
+
+    /// The values of a finding's case, for any answers that lead to its step's greatest number;
+    /// findings count from 0.
+    pub fn values(&self, alloc: Global, i: usize) -> Result<Values, Memory>
+        requires { i < length self.now.findings }
+        ensures { IfOk result (λ values. (f : FindingValue) (answers : List (List ℕ)) → slice_get self.now.findings i ≡ Some f → LeadsTo self.now.plan.script.steps self.now.numbers f.step answers → Shows self.now.granted self.now.plan.script f values answers) }
+    {
+        last_messages();
+        visits_are_within();
+        messages_are_read();
+        one_message();
+        routes_send();
+        let _count = self.plan.step_count();
+        let finding = self.findings[i];
+        case_values(alloc, self.permissions, self.plan, finding)
+    }
+
+    /// A run that a finding speaks of: the message of greatest number, for the worst values where P3 is
+    /// broken, and else for the least ones, of which at most one is another listed account. Findings
+    /// count from 0.
+    pub fn case(&self, alloc: Global, i: usize) -> Result<Case, Memory>
+        requires { i < length self.now.findings }
+        ensures { IfOk result (λ case. (f : FindingValue) → slice_get self.now.findings i ≡ Some f → Shows self.now.granted self.now.plan.script f case.values case.answers.items) }
+    {
+        let answers = self.way(alloc, i)?;
+        let values = self.values(alloc, i)?;
+        Ok(Case { values, answers })
     }
 }
 
@@ -148,12 +194,11 @@ pub fn check<'a>(
         };
         figures.push(cell)?;
     }
-    let visits = numbers.visits;
     Ok(Report {
         permissions,
         plan,
         figures,
         findings,
-        visits,
+        numbers,
     })
 }

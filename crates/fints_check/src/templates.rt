@@ -17,8 +17,8 @@ fn asks_account(rule: Rule) -> bool
     matches!(rule, Rule::Signatures | Rule::Account)
 }
 
-// The accounts for which the rule is asked: each listed one, where the rule asks for any.
-fn accounts_asked<'a>(
+/// The accounts for which the rule is asked: each listed one, where the rule asks for any.
+pub fn accounts_asked<'a>(
     fields: &'a [NamedField],
     rule: Rule,
     template: &Template,
@@ -32,7 +32,8 @@ fn accounts_asked<'a>(
     }
 }
 
-fn account_breaks(
+/// Whether the template's segment breaks the rule with this account.
+pub fn account_breaks(
     permissions: &Permissions<'_>,
     facts: &MessageFacts,
     rule: Rule,
@@ -84,7 +85,8 @@ fn template_breaks(
     }
 }
 
-fn template_at(step: &Step, i: usize) -> Option<&Template>
+/// The template at a place from 0 on.
+pub fn template_at(step: &Step, i: usize) -> Option<&Template>
     ensures { option_map (λ t. t.now) result ≡ slice_get step.now.templates i }
 {
     step.templates().get(i)
