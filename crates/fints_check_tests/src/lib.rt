@@ -5,3 +5,5 @@
 mod numbers;
 #[cfg(test)]
 mod reports;
+#[cfg(test)]
+mod ways;

@@ -181,8 +181,8 @@ fn orders(rt: HostRuntime) -> Result<(), Fail> {
     Ok(())
 }
 
-// Steps s1 to sn, each sent up to 51 times in a row before the next.
-fn ladder(alloc: Global, count: u16) -> Result<String, Fail> {
+/// Steps s1 to sn, each sent up to 51 times in a row before the next.
+pub fn ladder(alloc: Global, count: u16) -> Result<String, Fail> {
     let mut text = String::from_str(alloc, "step = [\n")?;
     for i in 1..count {
         text.push_str(format!(in alloc;

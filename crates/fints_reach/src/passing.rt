@@ -26,6 +26,17 @@ pub struct Numbers {
     pub visits: u64,
 }
 
+impl Numbers {
+    /// The greatest number of step n's messages, or none where no run sends it; steps count from 1.
+    pub fn greatest_of(&self, n: usize) -> Option<u32>
+        requires from { 1 ≤ n }
+        requires to { n ≤ length self.now.greatest.items }
+        ensures { numbered self.now.greatest.items n ≡ Some result }
+    {
+        self.greatest[n - 1]
+    }
+}
+
 // Whether there is no entry, or a lower one than the number.
 fn is_greater(number: u32, entry: Option<u32>) -> bool
     ensures greater { IsTrue result → (e : ℕ) → entry ≡ Some e → e < number }
