@@ -2,7 +2,6 @@
 use Rattle.std.proofs.Common.{ℕ, ◌≡◌, ◌<◌, List, get_or, length, Option, Some, Result, Ok, Err, IfOk, refl, ap, sym, subst, ◌∙◌}
 use Rattle.std.specs.List.{slice_get}
 use Rattle.std.proofs.lemmas.Option.{same_Some, slice_get-get_or}
-use Rattle.fints_messages.specs.Messages.{IsMessage}
 use Rattle.fints_rules.specs.Breaks.{Breaks}
 use Rattle.fints_rules.specs.Permits.{Granted}
 use Rattle.fints_rules.specs.declared.rule.Rule.{Rule}
@@ -54,7 +53,7 @@ module _ (script : ScriptValue) (granted : Granted) (f : Finding) (sound : IsSou
       let lower = subst (λ (r : Rule). Breaks granted (message_view script step b.1 b.0) r f.segment) is b.5 in (
         longest,
         subst (λ (r : Rule). Breaks granted (message_view script step number (longest_choice script.fields)) r f.segment) (sym is)
-        (size_case granted script step (figures_of step number) (are_figures number step peak) longest (sound_at step at) (λ n values low high admits. read_at script granted sound last within read one f.step n step values at low high admits) longer f.segment b.1 b.0 b.2 b.3 b.4 lower),
+            (size_case granted script step (figures_of step number) (are_figures number step peak) longest (sound_at step at) (λ n values low high admits. read_at script granted sound last within read one f.step n step values at low high admits) longer f.segment b.1 b.0 b.2 b.3 b.4 lower),
       )
 
   pub number_values : NoneIsLonger script → Admits script.fields (longest_choice script.fields) → (values : List NamedValue) → Admits script.fields values → f.rule ≡ rule.Number → BreaksAtGreatest granted script f values
@@ -64,7 +63,7 @@ module _ (script : ScriptValue) (granted : Granted) (f : Finding) (sound : IsSou
       let lower = subst (λ (r : Rule). Breaks granted (message_view script step b.1 b.0) r f.segment) is b.5 in (
         admits,
         subst (λ (r : Rule). Breaks granted (message_view script step number values) r f.segment) (sym is)
-        (number_case granted script step (figures_of step number) (are_figures number step peak) longest (sound_at step at) (λ n vs low high a. read_at script granted sound last within read one f.step n step vs at low high a) longer f.segment b.1 b.0 values b.3 b.4 lower),
+            (number_case granted script step (figures_of step number) (are_figures number step peak) longest (sound_at step at) (λ n vs low high a. read_at script granted sound last within read one f.step n step vs at low high a) longer f.segment b.1 b.0 values b.3 b.4 lower),
       )
 
 -- ---- findings by their place

@@ -1,7 +1,6 @@
-use Rattle.std.proofs.Common.{ℕ, ◌≡◌, List, Some, sym, subst}
-use Rattle.fints_cases.specs.declared.values.NamedValue.{NamedValue}
+use Rattle.std.proofs.Common.{◌≡◌, sym, subst}
 use Rattle.fints_script.specs.Plans.{Admits}
-use Rattle.fints_wire.specs.Choices.{longest_choice, shortest_choice}
+use Rattle.fints_wire.specs.Choices.{longest_choice}
 use Rattle.fints_check.specs.Choosing.{IsChoice}
 use Rattle.fints_check.specs.Searching.{BreaksAtGreatest}
 use Rattle.fints_check.proofs.CaseLemmas.{if_ok, number_values, size_values}

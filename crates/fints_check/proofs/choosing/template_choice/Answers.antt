@@ -1,7 +1,6 @@
-use Rattle.std.proofs.Common.{ℕ, ◌<◌, ◌≡◌, ◌∙◌, List, Some, length, ◌∷◌, [], ap, sym, subst, arith}
+use Rattle.std.proofs.Common.{ℕ, ◌≡◌, ◌∙◌, List, ◌∷◌, [], ap, sym, subst, arith}
 use Rattle.std.specs.List.{slice_get}
 use Rattle.std.proofs.lemmas.Option.{slice_get_within}
-use Rattle.fints_fields.specs.Fields.{field_accounts}
 use Rattle.fints_templates.specs.declared.template.TemplateItem.TheVariants.{Field}
 use Rattle.fints_check.specs.Choosing.{HasBreaking}
 use Rattle.fints_check.proofs.ElementTwo.{asked}

@@ -1,4 +1,4 @@
-use Rattle.std.proofs.Common.{◌∙◌, ap, sym, subst}
+use Rattle.std.proofs.Common.{◌∙◌, sym}
 use Rattle.fints_check.proofs.Chosen.{value_more}
 use Rattle.fints_check.proofs.Lists.{there_of}
 use Rattle.fints_check.proofs.choosing.values_with.Goals as goal

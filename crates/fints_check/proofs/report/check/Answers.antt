@@ -103,7 +103,7 @@ invariant_of-result c =
     let last : LastMessages script = λ values m. c.last_messages.ensures script values m sound in
     let within : AreWithin script = λ v. c.visits_are_within.ensures script v sound in
     let all : c.loop-i.i ≡ length script.steps = omega (arith, c.loop-i-test.false, c.loop-i.auto.i-end, c.step_count-count.ensures.count) in
-    (c.requires, found_all granted script c.loop-i.i c.loop-i.findings.items (λ f real. subst (λ (k : ℕ). f.step ≤ k) (sym all) (real_within granted script last within f real).1) c.loop-i.invariant.findings, figures_all script c.loop-i.i c.loop-i.figures.items all c.loop-i.invariant.figures, visits_told script.steps c.loop-i.figures.items c.in_ok-numbers.numbers.greatest.items c.loop-i.i c.in_ok-numbers.numbers.visits (omega (arith, c.in_ok-numbers.ensures.greatest.long, all)) c.loop-i.invariant.reached c.in_ok-numbers.ensures.visits)
+    (c.requires, found_all granted script c.loop-i.i c.loop-i.findings.items (λ f real. subst (λ (k : ℕ). f.step ≤ k) (sym all) (real_within granted script last within f real).1) c.loop-i.invariant.findings, figures_all script c.loop-i.i c.loop-i.figures.items all c.loop-i.invariant.figures, visits_told script.steps c.loop-i.figures.items c.in_ok-numbers.numbers.greatest.items c.loop-i.i c.in_ok-numbers.numbers.visits (omega (arith, c.in_ok-numbers.ensures.greatest.long, all)) c.loop-i.invariant.reached c.in_ok-numbers.ensures.visits, c.in_ok-numbers.ensures.greatest, c.in_ok-numbers.ensures.sources)
 
 pub returns-clause-exactly : goal.returns-clause-exactly
 returns-clause-exactly c =

@@ -5,7 +5,7 @@ use Rattle.fints_check.specs.Findings.{Shows}
 use Rattle.fints_check.specs.Reports.{ReportValue}
 use Rattle.fints_check.specs.Searching.{BreaksAtGreatest}
 use Rattle.fints_check.specs.declared.finding.Finding.{Finding}
-use Rattle.fints_check.proofs.CaseLemmas.{RoutesSend, if_ok, real_at, real_has, same_at, shown_by}
+use Rattle.fints_check.proofs.CaseLemmas.{RoutesSend, if_ok, real_at, same_at, shown_by}
 use Rattle.fints_check.proofs.Checking.{real_within}
 use Rattle.fints_check.proofs.Reals.{AreWithin, LastMessages}
 use Rattle.fints_check.proofs.report.Report.values.Goals as goal

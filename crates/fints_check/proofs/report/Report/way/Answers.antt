@@ -1,11 +1,9 @@
-use Rattle.std.proofs.Common.{ℕ, ◌≡◌, ◌<◌, List, Some, IfOk, length, ap, sym, subst}
+use Rattle.std.proofs.Common.{ℕ, ◌≡◌, ◌<◌, Some, IfOk, length, ap, sym, subst}
 use Rattle.std.specs.List.{slice_get}
 use Rattle.fints_reach.specs.Ways.{LeadsTo}
-use Rattle.fints_check.specs.Findings.{Shows}
 use Rattle.fints_check.specs.Reports.{ReportValue}
-use Rattle.fints_check.specs.Searching.{BreaksAtGreatest}
 use Rattle.fints_check.specs.declared.finding.Finding.{Finding}
-use Rattle.fints_check.proofs.CaseLemmas.{RoutesSend, if_ok, real_at, real_has, same_at, shown_by}
+use Rattle.fints_check.proofs.CaseLemmas.{if_ok, real_at, real_has, same_at}
 use Rattle.fints_check.proofs.Checking.{real_within}
 use Rattle.fints_check.proofs.Reals.{AreWithin, LastMessages}
 use Rattle.fints_check.proofs.report.Report.way.Goals as goal
