@@ -1,3 +1,4 @@
+pub mod CaseLemmas
 pub mod Refusals
 pub mod ReportLemmas
 pub mod StepLemmas

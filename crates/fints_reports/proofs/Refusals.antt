@@ -20,7 +20,7 @@ use Rattle.fints_texts.specs.declared.fault.Fault.{Fault}
 use Rattle.fints_texts.specs.declared.fault.Fault.TheVariants.{Memory, Params, Case, NotAdmitted}
 use Rattle.fints_texts.specs.Fault.{fault_of, order_fault_of, kind_fault_of, script_fault_of, case_fault_of}
 use Rattle.fints_reports.specs.Plans.{ArePlan, IsPlanRefusal}
-use Rattle.fints_reports.specs.ReportText.{IsReportRefusal}
+use Rattle.fints_reports.specs.Told.{IsRefused}
 use Rattle.fints_reports.specs.RunText.{IsCaseRefusal, IsRunRefusal}
 
 -- ---- order tables and scripts
@@ -60,7 +60,7 @@ unplanned_run table script case _ p = p
 
 -- ---- reports
 
-pub params_refused : (capture table script : List ℕ) (f : ParamFault) → IsMemoryOr (IsParamFault capture) f → IsReportRefusal capture table script (fault_of f)
+pub params_refused : (capture table script : List ℕ) (f : ParamFault) → IsMemoryOr (IsParamFault capture) f → IsRefused capture table script (fault_of f)
 params_refused capture table script params.Memory h = tt
 params_refused capture table script (params.Syntax s) (inl e) = absurd (cc)
 params_refused capture table script (params.Syntax s) (inr p) = p
@@ -74,7 +74,7 @@ params_refused capture table script params.NoPinParameters (inl e) = absurd (cc)
 params_refused capture table script params.NoPinParameters (inr p) = p
 
 -- no plan, no report
-pub unplanned_report : (capture table script : List ℕ) (rows : Rows) (f : Fault) → IsParamsOf capture rows → IsPlanRefusal table script f → IsReportRefusal capture table script f
+pub unplanned_report : (capture table script : List ℕ) (rows : Rows) (f : Fault) → IsParamsOf capture rows → IsPlanRefusal table script f → IsRefused capture table script f
 unplanned_report capture table script rows Memory h p = tt
 unplanned_report capture table script rows (Params f) h p = absurd p
 unplanned_report capture table script rows _ h p = ((rows, h), p)

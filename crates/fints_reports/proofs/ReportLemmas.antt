@@ -10,7 +10,9 @@ use Rattle.fints_script.specs.Plans.{IsClosed, PlanValue}
 use Rattle.fints_script.specs.Scripts.{Denotes, ScriptValue}
 use Rattle.fints_script.specs.Steps.{StepValue}
 use Rattle.fints_check.specs.declared.finding.Reached.{Reached}
-use Rattle.fints_reports.specs.ReportText.{step_line, step_lines, IsReportBy, IsReportOn}
+use Rattle.fints_reports.specs.ReportText.{step_line, step_lines}
+use Rattle.fints_reports.specs.Told.{IsToldBy, IsToldOn}
+use Rattle.fints_reports.specs.declared.telling.Wanted.{Wanted}
 
 -- one step more has its line after those before it
 pub line_more : (steps : List StepValue) (figures : List (Option Reached)) (i : ℕ) (step : StepValue) (cell : Option Reached) → slice_get steps i ≡ Some step → slice_get figures i ≡ Some cell
@@ -25,11 +27,11 @@ line_more (s ∷ ss) (f ∷ fs) (suc i) step cell at has =
     ap (λ l. step_line s.name f ++ l) (line_more ss fs i step cell at has)
     ∙ sym (append_assoc (step_line s.name f) (step_lines (take i ss) fs) (step_line step.name cell))
 
--- the report on the plan of two good texts
-pub reported : (rows : Rows) (table text : List ℕ) (orders : List OrderRow) (value : ScriptValue) (plan : PlanValue) (status : ℕ) (told : List ℕ) → DenotesTable table orders → Denotes text value → IsClosed value orders → plan.script ≡ value → plan.orders ≡ orders
-    → IsReportBy (record { rows = rows; orders = plan.orders }) plan.script status told → IsReportOn rows table text status told
-reported rows table text orders value plan status told t s closed same made p = record {
+-- what is told of the plan of two good texts
+pub told_on : (wanted : Wanted) (rows : Rows) (table text : List ℕ) (orders : List OrderRow) (value : ScriptValue) (plan : PlanValue) (status : ℕ) (told : List ℕ) → DenotesTable table orders → Denotes text value → IsClosed value orders → plan.script ≡ value → plan.orders ≡ orders
+    → IsToldBy wanted (record { rows = rows; orders = plan.orders }) plan.script status told → IsToldOn wanted rows table text status told
+told_on wanted rows table text orders value plan status told t s closed same made p = record {
   value = value;
   plan = record { table = orders; table_is = t; script_is = s; closed = closed };
-  report = subst (λ (rs : List OrderRow). IsReportBy (record { rows = rows; orders = rs }) value status told) made (subst (λ (v : ScriptValue). IsReportBy (record { rows = rows; orders = plan.orders }) v status told) same p);
+  told = subst (λ (rs : List OrderRow). IsToldBy wanted (record { rows = rows; orders = rs }) value status told) made (subst (λ (v : ScriptValue). IsToldBy wanted (record { rows = rows; orders = plan.orders }) v status told) same p);
 }

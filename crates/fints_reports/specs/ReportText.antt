@@ -2,8 +2,6 @@
 use Rattle.std.specs.Prelude.{◌≡◌, ℕ, List, [], ◌∷◌, ◌++◌, length, codes, Option, None, Some}
 use Rattle.std.specs.List.{flat_map}
 use Rattle.std.specs.Fmt.{decimal}
-use Rattle.fints_params.specs.Parameters.{Rows}
-use Rattle.fints_params.specs.Captures.{IsParamsOf, IsParamFault}
 use Rattle.fints_rules.specs.Permits.{Granted}
 use Rattle.fints_rules.specs.RuleNames.{rule_name}
 use Rattle.fints_script.specs.Scripts.{ScriptValue}
@@ -12,9 +10,6 @@ use Rattle.fints_check.specs.Figures.{AreFigures}
 use Rattle.fints_check.specs.Findings.{AreFindings}
 use Rattle.fints_check.specs.declared.finding.Finding.{Finding}
 use Rattle.fints_check.specs.declared.finding.Reached.{Reached}
-use Rattle.fints_texts.specs.declared.fault.Fault.{Fault}
-use Rattle.fints_texts.specs.declared.fault.Fault.TheVariants.{Memory, Params}
-use Rattle.fints_reports.specs.Plans.{ArePlan, IsPlanRefusal}
 use Rattle.fints_reports.specs.StepNames.{step_name}
 
 -- ---- the text
@@ -33,9 +28,13 @@ abbrev pub step_lines : List StepValue → List (Option Reached) → List ℕ
 step_lines (step ∷ steps) (reached ∷ figures) = step_line step.name reached ++ step_lines steps figures
 step_lines _ _ = []
 
+-- the step by its name, the rule and the segment of what was found
+unfoldable pub finding_text : List ℕ → Finding → List ℕ
+finding_text name f = name ++ codes " " ++ rule_name f.rule ++ codes " segment " ++ decimal f.segment ++ codes "\n"
+
 -- the line of what was found of a step of this name
 unfoldable pub broken_line : List ℕ → Finding → List ℕ
-broken_line name f = codes "broken " ++ name ++ codes " " ++ rule_name f.rule ++ codes " segment " ++ decimal f.segment ++ codes "\n"
+broken_line name f = codes "broken " ++ finding_text name f
 
 abbrev pub finding_line : List StepValue → Finding → List ℕ
 finding_line steps f = broken_line (step_name steps f.step) f
@@ -62,23 +61,3 @@ pub record IsReportBy (granted : Granted) (script : ScriptValue) (status : ℕ) 
   pub findings_are : AreFindings granted script findings
   pub text_is : text ≡ report_text script.steps figures findings
   pub status_is : status ≡ report_status findings
-
--- they tell them by these rows of parameters and the texts of an order table and of a script
-pub record IsReportOn (rows : Rows) (orders script : List ℕ) (status : ℕ) (text : List ℕ) : Type 0 where
-  pub value : ScriptValue
-  pub plan : ArePlan orders script value
-  pub report : IsReportBy (record { rows = rows; orders = plan.table }) value status text
-
--- they tell them by a capture and these texts
-pub record IsReportOf (params orders script : List ℕ) (status : ℕ) (text : List ℕ) : Type 0 where
-  pub rows : Rows
-  pub rows_are : IsParamsOf params rows
-  pub report : IsReportOn rows orders script status text
-
--- ---- why there is none
-
--- want of memory, or the first refusal: of the capture, or else of the order table, of the script, of what it leaves open
-abbrev pub IsReportRefusal : List ℕ → List ℕ → List ℕ → Fault → Type 0
-IsReportRefusal params orders script Memory = Unit {0}
-IsReportRefusal params orders script (Params f) = IsParamFault params f
-IsReportRefusal params orders script f = ((rows : Rows) × IsParamsOf params rows) × IsPlanRefusal orders script f

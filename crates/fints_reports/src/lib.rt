@@ -1,9 +1,11 @@
-//! What the program tells of a script: the messages of a run, and the report of what its runs break.
+//! What the program tells of a script: the messages of a run, the report of what its runs break, and
+//! a case of each finding.
 #![tactic(auto)]
 
-mod reporting;
+mod explaining;
 mod running;
+mod telling;
 mod writing;
 
-pub use reporting::{check_script, check_text, report};
 pub use running::run_case;
+pub use telling::{Wanted, check_text, tell, tell_script};

@@ -1,13 +1,16 @@
 //! The lines of a report.
-ghost use Rattle.std.specs.Prelude.{◌≡◌, ◌++◌, OnOk};
+ghost use Rattle.std.specs.Prelude.{◌≡◌, ◌++◌, IfOk, OnOk};
 ghost use Rattle.std.specs.List.{All, flat_map};
+ghost use Rattle.fints_check.specs.Figures.{AreFigures};
 ghost use Rattle.fints_reports.specs.StepNames.{IsFindingOf};
-ghost use Rattle.fints_reports.specs.ReportText.{broken_line, figures_text, finding_line, last_line, report_text, step_line, step_lines};
+ghost use Rattle.fints_reports.specs.ReportText.{broken_line, figures_text, finding_line, finding_text, last_line, report_status, report_text, step_line, step_lines, IsReportBy};
 
 use fints_check::{Finding, Reached, Report};
 use fints_script::{Name, Plan};
 use fints_syntax::Memory;
+use fints_texts::Reply;
 use itoa::Buffer;
+use std::alloc::Global;
 
 #[tactic(auto, unfolding(crate::specs::ReportText::figures_text))]
 fn write_reached(text: &mut Vec<u8>, reached: Option<Reached>) -> Result<(), Memory>
@@ -49,13 +52,16 @@ fn write_steps(text: &mut Vec<u8>, plan: &Plan<'_>, report: &Report<'_>) -> Resu
     Ok(())
 }
 
-// Writes what was found of a step of this name.
-#[tactic(auto, unfolding(crate::specs::ReportText::broken_line))]
-fn write_broken(text: &mut Vec<u8>, name: Name, finding: &Finding) -> Result<(), Memory>
-    ensures { OnOk result (text.new.items ≡ text.old.items ++ broken_line name finding.now) }
+/// Writes the step by its name, the rule and the segment of a finding.
+#[tactic(auto, unfolding(crate::specs::ReportText::finding_text))]
+pub fn write_finding_text(
+    text: &mut Vec<u8>,
+    name: Name,
+    finding: &Finding,
+) -> Result<(), Memory>
+    ensures { OnOk result (text.new.items ≡ text.old.items ++ finding_text name finding.now) }
 {
     let mut segment = Buffer::new();
-    text.extend_from_slice(b"broken ")?;
     text.extend_from_slice(name.as_bytes())?;
     text.push(b' ')?;
     text.extend_from_slice(finding.rule.name().as_bytes())?;
@@ -63,6 +69,15 @@ fn write_broken(text: &mut Vec<u8>, name: Name, finding: &Finding) -> Result<(),
     text.extend_from_slice(segment.format(finding.segment).as_bytes())?;
     text.push(b'\n')?;
     Ok(())
+}
+
+// Writes what was found of a step of this name.
+#[tactic(auto, unfolding(crate::specs::ReportText::broken_line))]
+fn write_broken(text: &mut Vec<u8>, name: Name, finding: &Finding) -> Result<(), Memory>
+    ensures { OnOk result (text.new.items ≡ text.old.items ++ broken_line name finding.now) }
+{
+    text.extend_from_slice(b"broken ")?;
+    write_finding_text(text, name, finding)
 }
 
 #[tactic(auto, using(crate::proofs::StepLemmas::named))]
@@ -110,4 +125,25 @@ pub fn write_report(text: &mut Vec<u8>, plan: &Plan<'_>, report: &Report<'_>) ->
     write_steps(text, plan, report)?;
     write_findings(text, plan, report.findings())?;
     write_last(text, report.findings())
+}
+
+/// 0 where nothing is found, else 1.
+pub fn report_status(findings: &[Finding]) -> u8
+    ensures { result ≡ report_status findings.now }
+{
+    if findings.is_empty() { 0 } else { 1 }
+}
+
+/// The report on a plan, with its status.
+pub fn reply(alloc: Global, plan: &Plan<'_>, report: &Report<'_>) -> Result<Reply, Memory>
+    requires plan { report.now.plan ≡ plan.now }
+    requires figures { AreFigures plan.now.script report.now.figures }
+    ensures { IfOk result (λ reply. IsReportBy report.now.granted plan.now.script reply.status reply.text.items) }
+{
+    let mut text = Vec::new(alloc);
+    write_report(&mut text, plan, report)?;
+    Ok(Reply {
+        status: report_status(report.findings()),
+        text,
+    })
 }

@@ -1,0 +1,98 @@
+//! What is told of a script, from the texts of its inputs.
+ghost use Rattle.std.specs.Prelude.{◌≡◌, ℕ, IfOk, IfErr};
+ghost use Rattle.fints_reports.specs.Plans.{IsPlanRefusal};
+ghost use Rattle.fints_reports.specs.Told.{IsRefused, IsToldBy, IsToldOf, IsToldOn};
+ghost use Rattle.fints_reports.specs.declared.telling.Wanted.TheVariants as wanted_is;
+
+use crate::explaining::explain;
+use crate::writing::reply;
+use fints_check::check;
+use fints_params::Params;
+use fints_rules::{OrderTable, Permissions};
+use fints_script::{Plan, Script};
+use fints_syntax::Memory;
+use fints_texts::{Fault, Reply};
+use std::alloc::Global;
+
+/// What is to be told of a script.
+#[derive(Clone, Copy, Debug, PartialEq, Eq)]
+pub enum Wanted {
+    /// The report.
+    Report,
+    /// The report, and then a case of each finding.
+    Cases,
+}
+
+// What is told of a plan, by good parameters.
+fn tell_plan(
+    alloc: Global,
+    params: &Params,
+    plan: &Plan<'_>,
+    wanted: Wanted,
+) -> Result<Reply, Memory>
+    ensures { IfOk result (λ reply. IsToldBy wanted (record { rows = params.now; orders = plan.now.orders }) plan.now.script reply.status reply.text.items) }
+{
+    let permissions = Permissions::build(alloc, params, plan.orders())?;
+    let report = check(alloc, &permissions, plan)?;
+    match wanted {
+        Wanted::Report => reply(alloc, plan, &report),
+        Wanted::Cases => explain(alloc, plan, &report),
+    }
+}
+
+/// What is told of a script by good parameters. The status is 0 where nothing is found, else 1. Of
+/// the refusals that of the order table comes first, then that of the script, and then what the
+/// script leaves open with the order table.
+pub fn tell(
+    alloc: Global,
+    params: &Params,
+    orders: &[u8],
+    script: &[u8],
+    wanted: Wanted,
+) -> Result<Reply, Fault>
+    ensures told { IfOk result (λ reply. IsToldOn wanted params.now orders.now script.now reply.status reply.text.items) }
+    ensures refused { IfErr result (λ f. IsPlanRefusal orders.now script.now f) }
+{
+    let orders = OrderTable::read(alloc, orders)?;
+    let script = match Script::read(alloc, script) {
+        Ok(script) => script,
+        Err(fault) => return Err(Fault::from(fault)),
+    };
+    let plan = script.plan(&orders)?;
+    let reply = tell_plan(alloc, params, &plan, wanted)?;
+    Ok(reply)
+}
+
+/// What is told of a script by a capture, with the same statuses. The refusal of the capture comes
+/// before the others.
+pub fn tell_script(
+    alloc: Global,
+    params: &[u8],
+    orders: &[u8],
+    script: &[u8],
+    wanted: Wanted,
+) -> Result<Reply, Fault>
+    ensures told { IfOk result (λ reply. IsToldOf wanted params.now orders.now script.now reply.status reply.text.items) }
+    ensures refused { IfErr result (λ f. IsRefused params.now orders.now script.now f) }
+{
+    let params = match Params::read(alloc, params) {
+        Ok(params) => params,
+        Err(fault) => return Err(Fault::from(fault)),
+    };
+    let reply = tell(alloc, &params, orders, script, wanted)?;
+    Ok(reply)
+}
+
+/// The text of the report on a script by a capture.
+pub fn check_text(
+    alloc: Global,
+    params: &[u8],
+    orders: &[u8],
+    script: &[u8],
+) -> Result<Vec<u8>, Fault>
+    ensures told { IfOk result (λ text. (status : ℕ) × IsToldOf wanted_is.Report params.now orders.now script.now status text.items) }
+    ensures refused { IfErr result (λ f. IsRefused params.now orders.now script.now f) }
+{
+    let reply = tell_script(alloc, params, orders, script, Wanted::Report)?;
+    Ok(reply.text)
+}
