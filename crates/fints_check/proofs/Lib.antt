@@ -10,3 +10,4 @@ pub mod Reals
 pub mod FigureRules
 pub mod Founds
 pub mod Checking
+pub mod Cleans

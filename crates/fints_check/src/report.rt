@@ -4,17 +4,19 @@ ghost use Rattle.fints_reach.specs.Numbers.{all_visits, looked_at, reached_visit
 ghost use Rattle.fints_script.specs.Numbered.{numbered};
 ghost use Rattle.fints_script.specs.Steps.{StepValue};
 ghost use Rattle.fints_check.specs.Figures.{AreFigures, FiguresAre};
-ghost use Rattle.fints_check.specs.Findings.{AreFindings, EachIsPermitted, IsBefore, IsReal};
+ghost use Rattle.fints_check.specs.Findings.{AreFindings, EachIsPermitted, IsBefore, IsReal, SentStepsAreClean};
 ghost use Rattle.fints_check.specs.Searching.{AreFiguresAt, IsGreatestAt};
 ghost use Rattle.fints_check.specs.declared.finding.Finding.{Finding as FindingValue};
 
 use crate::finding::{Finding, Reached};
+use crate::laws::templates_decide;
 use crate::searching::search_step;
 use fints_reach::greatest_numbers;
 use fints_reach::laws::visits_are_bounded;
 use fints_rules::Permissions;
 use fints_rules::laws::one_message;
 use fints_script::Plan;
+use fints_script::laws::closed_segments;
 use fints_syntax::Memory;
 use fints_wire::laws::{extremes_are_admitted, messages_are_read, none_is_longer};
 use fints_wire::run_laws::{each_is_last, last_messages, sent_are_read, visits_are_within};
@@ -51,7 +53,15 @@ impl<'a> Report<'a> {
     pub fn findings(&self) -> &[Finding]
         ensures findings { result.now ≡ self.now.findings }
         ensures exactly { AreFindings self.now.granted self.now.plan.script self.now.findings }
+        ensures clean { self.now.findings ≡ [] → SentStepsAreClean self.now.granted self.now.plan.script }
     {
+        templates_decide();
+        closed_segments();
+        last_messages();
+        visits_are_within();
+        messages_are_read();
+        let _count = self.plan.step_count();
+        let _orders = self.plan.orders();
         self.findings.as_slice()
     }
 
