@@ -30,7 +30,8 @@ names_more f g [] (z ∷ ys) (suc i) x y at e h = absurd cc
 names_more f g (w ∷ xs) (z ∷ ys) (suc i) x y at e h =
     let front : f w ≡ g z = cc in
     let back : map f xs ≡ map g (take i ys) = cc in
-    ap (λ (n : List ℕ). n ∷ map f (xs ++ x ∷ [])) front ∙ ap (λ (ns : List (List ℕ)). g z ∷ ns) (names_more f g xs ys i x y at e back)
+    let next : suc (i + 1) ≡ suc i + 1 = omega arith in
+    ap (λ (n : List ℕ). n ∷ map f (xs ++ x ∷ [])) front ∙ (ap (λ (ns : List (List ℕ)). g z ∷ ns) (names_more f g xs ys i x y at e back) ∙ ap (λ (k : ℕ). map g (take k (z ∷ ys))) next)
 
 -- two lists with the same names have the same name at each place
 pub same_at : {X Y : Type 0} (f : X → List ℕ) (g : Y → List ℕ) (xs : List X) (ys : List Y) (i : ℕ) (x : X) (y : Y) → slice_get xs i ≡ Some x → slice_get ys i ≡ Some y → map f xs ≡ map g ys → f x ≡ g y
