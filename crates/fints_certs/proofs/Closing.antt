@@ -1,5 +1,5 @@
 -- The greatest figures of all steps are a closed certificate where nothing is found.
-use Rattle.std.proofs.Common.{ℕ, suc, zero, ◌+◌, ◌-◌, ◌*◌, ◌<◌, ◌≤◌, ◌≡◌, ◌≢◌, Option, Some, None, List, [], ◌∷◌, ◌++◌, length, take, slice_get, refl, ap, sym, subst, ◌∙◌, arith, inl, inr}
+use Rattle.std.proofs.Common.{ℕ, suc, zero, ◌+◌, ◌-◌, ◌*◌, ◌<◌, ◌≤◌, ◌≡◌, ◌≢◌, Option, Some, None, List, [], ◌∷◌, ◌++◌, length, refl, ap, sym, subst, ◌∙◌, arith, inl, inr}
 use Rattle.std.specs.Prelude.{◌↔◌, Contains}
 use Rattle.std.proofs.lemmas.Bool.{cases_lt}
 use Rattle.std.proofs.lemmas.List.{length-map}
@@ -12,6 +12,7 @@ use Rattle.fints_check.specs.Figures.{AreFigures, AreGreatestFigures, FiguresAre
 use Rattle.fints_check.specs.Findings.{AreFindings, IsReal, SentStepsAreClean}
 use Rattle.fints_check.specs.declared.finding.Finding.{Finding}
 use Rattle.fints_check.specs.declared.finding.Reached.{Reached}
+use Rattle.fints_messages.specs.Messages.{IsMessage}
 use Rattle.fints_rules.specs.Breaks.{Breaks}
 use Rattle.fints_rules.specs.Permits.{Granted}
 use Rattle.fints_rules.specs.declared.rule.Rule.{Rule}
@@ -52,54 +53,67 @@ figures_named (l ∷ lines) (suc (suc n)) figures h = figures_named lines (suc n
 nothing_real : (granted : Granted) (script : ScriptValue) → AreFindings granted script [] → (f : Finding) → IsReal granted script f → ⊥
 nothing_real granted script none f real = let has = (none.exactly f).1 real in let lt = has.1 in omega arith
 
+-- the step of a visit has figures, and the visit's number is within them
+record Kept (script : ScriptValue) (lines : List Line) (v : Visit) : Type 0 where
+  pub step : StepValue
+  pub at : numbered script.steps v.step ≡ Some step
+  pub figures : Reached
+  pub named : Names lines v.step figures
+  pub number : v.number ≤ figures.number
+
+-- some run ends with a message of the step that has both figures
+record Peak (script : ScriptValue) (n : ℕ) (step : StepValue) (f : Reached) : Type 0 where
+  pub visit : Visit
+  pub arrives : Arrives script.steps visit
+  pub here : visit.step ≡ n
+  pub number : visit.number ≡ f.number
+  pub low : 1 ≤ visit.number
+  pub high : visit.number ≤ 99999
+  pub message : Sent
+  pub sent : IsSentOf script n message
+  pub bytes : message.bytes ≡ message_bytes script step visit.number sent.values
+  pub size : length message.bytes ≡ f.size
+  pub most : (m : Sent) → IsSentOf script n m → length m.bytes ≤ f.size
+
 module _ (open_lead : OpenBranchesLead) (read : MessagesAreRead) (granted : Granted) (script : ScriptValue) (lines : List Line) (sound : IsSound script)
     (longest : Admits script.fields (longest_choice script.fields))
     (last : (values : List NamedValue) (m : Sent) → SendsLast script values m ↔ ((v : Visit) × Arrives script.steps v × IsSent script values v m))
     (runs : (v : Visit) → Arrives script.steps v ↔ Reach script.steps v)
     (within : (v : Visit) → Arrives script.steps v → IsWithin script.steps v)
-    (names : line_names lines ≡ step_names script.steps) (figures : AreFigures script (line_figures lines)) (none : (f : Finding) → IsReal granted script f → ⊥) (clean : SentStepsAreClean granted script) where
-  -- the message of a visit with the longest values
-  longest_at : Visit → StepValue → Sent
-  longest_at v step = record { step = v.step; number = v.number; bytes = message_bytes script step v.number (longest_choice script.fields) }
-
-  sent_of : (v : Visit) (step : StepValue) → numbered script.steps v.step ≡ Some step → Reach script.steps v → IsSentOf script v.step (longest_at v step)
-  unfolding longest_at
-  sent_of v step at r = record {
+    (figures : AreFigures script (line_figures lines)) where
+  -- a visit's message with the longest values
+  sent_at : (v : Visit) (step : StepValue) → numbered script.steps v.step ≡ Some step → Arrives script.steps v → IsSentOf script v.step (record { step = v.step; number = v.number; bytes = message_bytes script step v.number (longest_choice script.fields) })
+  sent_at v step at arrives = record {
     values = longest_choice script.fields;
     admitted = longest;
-    sends = (last (longest_choice script.fields) (record { step = v.step; number = v.number; bytes = message_bytes script step v.number (longest_choice script.fields) })).1 (v, (runs v).1 r, record { at = step; of = at; is = refl });
+    sends = (last (longest_choice script.fields) (record { step = v.step; number = v.number; bytes = message_bytes script step v.number (longest_choice script.fields) })).1 (v, arrives, record { at = step; of = at; is = refl });
     of = refl;
   }
 
-  -- the step of a visit that runs reach has figures, and the visit's number is within them
-  record Kept (v : Visit) : Type 0 where
-    pub step : StepValue
-    pub at : numbered script.steps v.step ≡ Some step
-    pub figures : Reached
-    pub named : Names lines v.step figures
-    pub number : v.number ≤ figures.number
-
-  kept : (v : Visit) → Reach script.steps v → Kept v
-  unfolding longest_at
-  kept v r =
-      let w = within v ((runs v).1 r) in
-      let step = numbered_at script.steps v.step w.from w.to in
-      let long = figures.long in
+  kept : (v : Visit) → Arrives script.steps v → Kept script lines v
+  kept v arrives =
+      let w = within v arrives in
+      let from = w.from in
       let to = w.to in
-      let cell = numbered_at (line_figures lines) v.step w.from (omega arith) in
+      let long : length (line_figures lines) ≡ length script.steps = figures.long in
+      let step = numbered_at script.steps v.step from to in
+      let cell = numbered_at (line_figures lines) v.step from (omega arith) in
       by step.0 step.1 cell.0 cell.1 (figures.each v.step cell.0 cell.1)
     where
-      by : (step : StepValue) → numbered script.steps v.step ≡ Some step → (cell : Option Reached) → numbered (line_figures lines) v.step ≡ Some cell → FiguresAre script v.step cell → Kept v
-      by step at None there are = absurd (are (longest_at v step) (sent_of v step at r))
-      by step at (Some f) there are = record { step = step; at = at; figures = f; named = figures_named lines v.step f there; number = (are.most (longest_at v step) (sent_of v step at r)).0 }
-
-  same_figures : (n : ℕ) (f g : Reached) → Names lines n f → Names lines n g → f ≡ g
-  same_figures n f g hf hg = same_Some f g (sym hf ∙ hg)
+      by : (step : StepValue) → numbered script.steps v.step ≡ Some step → (cell : Option Reached) → numbered (line_figures lines) v.step ≡ Some cell → FiguresAre script v.step cell → Kept script lines v
+      by step at None there are = absurd (are (record { step = v.step; number = v.number; bytes = message_bytes script step v.number (longest_choice script.fields) }) (sent_at v step at arrives))
+      by step at (Some f) there are = record {
+        step = step;
+        at = at;
+        figures = f;
+        named = figures_named lines v.step f there;
+        number = (are.most (record { step = v.step; number = v.number; bytes = message_bytes script step v.number (longest_choice script.fields) }) (sent_at v step at arrives)).0;
+      }
 
   -- where runs enter a step, its number is enough
   entered : (n e : ℕ) → Reach script.steps (record { step = n; number = e; times = 1 }) → IsEntered script.steps lines n e
   entered n e r =
-      let k = kept (record { step = n; number = e; times = 1 }) r in
+      let k = kept (record { step = n; number = e; times = 1 }) ((runs (record { step = n; number = e; times = 1 })).1 r) in
       let once = (numbered_holds (IsSoundStep script) script.steps n k.step sound.steps k.at).once in
       record {
         step = k.step;
@@ -109,37 +123,92 @@ module _ (open_lead : OpenBranchesLead) (read : MessagesAreRead) (granted : Gran
         covers = record {
           once = k.number;
           often = λ again.
-              let more : ℕ = k.step.repeat - 1 in
               let repeated = reach_repeated open_lead script.steps n e k.step (k.step.repeat - 1) k.at again (omega arith) r in
-              let h = kept (record { step = n; number = e + (k.step.repeat - 1); times = 1 + (k.step.repeat - 1) }) repeated in
-              subst (λ (f : Reached). e + (k.step.repeat - 1) ≤ f.number) (same_figures n h.figures k.figures h.named k.named) h.number;
+              let w : Visit = record { step = n; number = e + (k.step.repeat - 1); times = 1 + (k.step.repeat - 1) } in
+              let h = kept w ((runs w).1 repeated) in
+              let same : h.figures ≡ k.figures = same_Some h.figures k.figures (sym h.named ∙ k.named) in
+              subst (λ (f : Reached). e + (k.step.repeat - 1) ≤ f.number) same h.number;
         };
       }
 
-  module _ (n : ℕ) (step : StepValue) (f : Reached) (at : numbered script.steps n ≡ Some step) (named : Names lines n f) where
-    greatest : AreGreatestFigures script n f
-    greatest = figures.each n (Some f) (named_figures lines n f named)
+  peak : (n : ℕ) (step : StepValue) (f : Reached) → numbered script.steps n ≡ Some step → Names lines n f → Peak script n step f
+  peak n step f at named =
+      let g : AreGreatestFigures script n f = figures.each n (Some f) (named_figures lines n f named) in
+      let way = (last g.sent.values g.message).0 g.sent.sends in
+      let is = way.2 in
+      let here : way.0.step ≡ n = sym (ap (λ (x : Sent). x.step) is.is) ∙ g.sent.of in
+      let same : is.at ≡ step = same_Some is.at step (sym is.of ∙ (ap (numbered script.steps) here ∙ at)) in
+      let w = within way.0 way.1 in
+      let to = w.to in
+      let high = w.last in
+      let few = sound.few_steps in
+      record {
+        visit = way.0;
+        arrives = way.1;
+        here = here;
+        number = sym (ap (λ (x : Sent). x.number) is.is) ∙ g.number;
+        low = w.first;
+        high = omega arith;
+        message = g.message;
+        sent = g.sent;
+        bytes = ap (λ (x : Sent). x.bytes) is.is ∙ ap (λ (s : StepValue). message_bytes script s way.0.number g.sent.values) same;
+        size = g.size;
+        most = λ m s. (g.most m s).1;
+      }
 
-    -- the visit whose message has the figures
-    record Peak : Type 0 where
-      pub visit : Visit
-      pub arrives : Arrives script.steps visit
-      pub here : visit.step ≡ n
-      pub number : visit.number ≡ f.number
-      pub bytes : greatest.message.bytes ≡ message_bytes script step visit.number greatest.sent.values
+  module _ (none : (f : Finding) → IsReal granted script f → ⊥) (clean : SentStepsAreClean granted script) (n : ℕ) (step : StepValue) (f : Reached) (at : numbered script.steps n ≡ Some step) (p : Peak script n step f) where
+    view_is : IsMessage (message_bytes script step p.visit.number p.sent.values) (message_view script step p.visit.number p.sent.values)
+    view_is = read script (n - 1) step p.visit.number p.sent.values sound (numbered_from script.steps n step at) p.low p.high p.sent.admitted
 
-    peak : Peak
-    unfolding greatest
-    peak =
-        let g = figures.each n (Some f) (named_figures lines n f named) in
-        let way = (last g.sent.values g.message).0 g.sent.sends in
-        let is = way.2 in
-        let here : way.0.step ≡ n = sym (ap (λ (x : Sent). x.step) is.is) ∙ g.sent.of in
-        let same : is.at ≡ step = same_Some is.at step (sym is.of ∙ (ap (numbered script.steps) here ∙ at)) in
+    -- the message that has both figures breaks no rule
+    never : (r : Rule) → Breaks granted (message_view script step p.visit.number p.sent.values) r 0 → ⊥
+    never r b =
+        let s = p.sent.sends in
+        none (record { step = n; rule = r; segment = 0 }) (record {
+          values = p.sent.values;
+          answers = s.answers;
+          shown = record {
+            admitted = p.sent.admitted;
+            message = p.message;
+            ends = record { each = s.each; sent = s.sent; run = s.run; last = s.last };
+            of = p.sent.of;
+            breaks = record {
+              message = message_view script step p.visit.number p.sent.values;
+              is = subst (λ (t : List ℕ). IsMessage t (message_view script step p.visit.number p.sent.values)) (sym p.bytes) view_is;
+              breaks = b;
+            };
+          };
+        })
+
+    goes_on : (to : Target) → IsOpenTo step.branches step.otherwise to → GoesOn script.steps lines f.number to
+    goes_on (Step to) can =
+        let there : numbered script.steps p.visit.step ≡ Some step = ap (numbered script.steps) p.here ∙ at in
+        let next = reach_step open_lead script.steps p.visit step to there can ((runs p.visit).0 p.arrives) in
+        subst (λ (k : ℕ). IsEntered script.steps lines to (k + 1)) p.number (entered to (p.visit.number + 1) next)
+    goes_on Again can = tt
+    goes_on Stop can = tt
+
+    holds : LineHolds granted script lines step f
+    holds =
+        let low = p.low in
+        let number = p.number in
+        let here : numbered script.steps p.visit.step ≡ Some step = ap (numbered script.steps) p.here ∙ at in
+        let worst = p.most (record { step = p.visit.step; number = p.visit.number; bytes = message_bytes script step p.visit.number (longest_choice script.fields) })
+        (subst (λ (k : ℕ). IsSentOf script k (record { step = p.visit.step; number = p.visit.number; bytes = message_bytes script step p.visit.number (longest_choice script.fields) })) p.here (sent_at p.visit step here p.arrives)) in
+        let is : length (message_bytes script step p.visit.number p.sent.values) ≡ f.size = sym (ap length p.bytes) ∙ p.size in
+        let whole = view_is.size in
         record {
-          visit = way.0;
-          arrives = way.1;
-          here = here;
-          number = sym (ap (λ (x : Sent). x.number) is.is) ∙ g.number;
-          bytes = ap (λ (x : Sent). x.bytes) is.is ∙ ap (λ (s : StepValue). message_bytes script s way.0.number g.sent.values) same;
+          least = omega arith;
+          most = elim (cases_lt 9999 f.number) [ inl past ↦ absurd (never Number (inl (refl, inr (omega (arith, past, number))))) | inr under ↦ under ];
+          size = subst (λ (k : ℕ). worst_len script step k ≤ f.size) number worst;
+          fits = λ limit. elim (cases_lt (1024 * granted.rows.bank.kilobytes) f.size) [ inl past ↦ absurd (never Size (inl (refl, (limit, omega (arith, past, is, whole))))) | inr under ↦ under ];
+          clean = clean n step p.message at p.sent;
+          onward = λ branch is_open. goes_on (target_of step.branches step.otherwise branch) (record { branch = branch; is_open = is_open; to = refl });
         }
+
+  pub closes : line_names lines ≡ step_names script.steps → AreFindings granted script [] → SentStepsAreClean granted script → IsClosedCertificate granted script lines
+  closes names none clean = record {
+    names = names;
+    first = entered 1 1 first;
+    each = λ n step f at named. holds (nothing_real granted script none) clean n step f at (peak n step f at named);
+  }
