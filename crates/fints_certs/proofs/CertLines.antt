@@ -1,5 +1,5 @@
 -- The lines of a certificate: what they tell, and what may come next.
-use Rattle.std.proofs.Common.{ℕ, suc, ◌+◌, ◌-◌, ◌<◌, ◌≤◌, ◌≡◌, ◌≢◌, ◌⊎◌, Bool, true, false, not, Option, List, [], ◌∷◌, ◌++◌, map, codes, length, get_or, refl, ap, sym, subst, ◌∙◌, arith, inl, inr}
+use Rattle.std.proofs.Common.{ℕ, suc, ◌+◌, ◌≤◌, ◌≡◌, ◌≢◌, ◌⊎◌, Option, List, [], ◌∷◌, ◌++◌, map, codes, length, get_or, refl, ap, sym, subst, ◌∙◌, arith, inl, inr}
 use Rattle.std.specs.List.{All, AllPairs}
 use Rattle.std.proofs.lemmas.List.{append_cancel_left, append_assoc, length-append, get_or_append_left, get_or_at, nil_from_length}
 use Rattle.std.proofs.lemmas.List.Elements.{All-cons, All-head, All-tail, All-append, All-map, All-weaker}
@@ -7,7 +7,7 @@ use Rattle.fints_fields.specs.Names.{IsName, IsNameByte}
 use Rattle.fints_lines.specs.Lines.{MAX_TEXT, text_of_lines, NoFeed, IsSplit, IsNextLine, HasNoNextLine, BeginsText}
 use Rattle.fints_lines.specs.LineLaws.{split_same, split_none, plain, not_empty, text_short}
 use Rattle.fints_check.specs.declared.finding.Reached.{Reached}
-use Rattle.fints_certs.specs.CertTexts.{figures_text, step_text, cert_lines, cert_text, AreShown, IsStepLine, AreCertLines}
+use Rattle.fints_certs.specs.CertTexts.{figures_text, step_text, cert_lines, AreShown, IsStepLine, AreCertLines}
 use Rattle.fints_certs.specs.CertReading.{IsNew, IsBegun, HasNoLine}
 use Rattle.fints_certs.specs.declared.certificate.Line.{Line}
 use Rattle.fints_certs.proofs.FigureTexts.{figures_without, figures_once}

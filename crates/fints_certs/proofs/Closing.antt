@@ -1,10 +1,9 @@
 -- The greatest figures of all steps are a closed certificate where nothing is found.
-use Rattle.std.proofs.Common.{ℕ, suc, zero, ◌+◌, ◌-◌, ◌*◌, ◌<◌, ◌≤◌, ◌≡◌, ◌≢◌, Option, Some, None, List, [], ◌∷◌, ◌++◌, length, refl, ap, sym, subst, ◌∙◌, arith, inl, inr}
-use Rattle.std.specs.Prelude.{◌↔◌, Contains}
+use Rattle.std.proofs.Common.{ℕ, suc, zero, ◌+◌, ◌-◌, ◌*◌, ◌≤◌, ◌≡◌, Option, Some, None, List, [], ◌∷◌, length, refl, ap, sym, subst, ◌∙◌, arith, inl, inr}
+use Rattle.std.specs.Prelude.{◌↔◌}
 use Rattle.std.proofs.lemmas.Bool.{cases_lt}
-use Rattle.std.proofs.lemmas.List.{length-map}
 use Rattle.std.proofs.lemmas.Option.{same_Some}
-use Rattle.fints_cases.specs.Answers.{IsOpen, IsOpenTo, target_of}
+use Rattle.fints_cases.specs.Answers.{IsOpenTo, target_of}
 use Rattle.fints_cases.specs.declared.answers.Target.{Target}
 use Rattle.fints_cases.specs.declared.answers.Target.TheVariants.{Step, Again, Stop}
 use Rattle.fints_cases.specs.declared.values.NamedValue.{NamedValue}
@@ -24,12 +23,12 @@ use Rattle.fints_script.specs.Sound.{IsSound, IsSoundStep}
 use Rattle.fints_script.specs.Steps.{StepValue}
 use Rattle.fints_wire.specs.Choices.{longest_choice}
 use Rattle.fints_wire.specs.Messages.{message_bytes}
-use Rattle.fints_wire.specs.Runs.{start, Arrives, IsSent, IsWithin, Reach, SendsLast}
+use Rattle.fints_wire.specs.Runs.{Arrives, IsSent, IsWithin, Reach, SendsLast}
 use Rattle.fints_wire.specs.Runs.Reach.{first}
 use Rattle.fints_wire.specs.Views.{MessagesAreRead, message_view}
 use Rattle.fints_wire.specs.declared.dialogue.Sent.{Sent}
 use Rattle.fints_wire.specs.declared.dialogue.Visit.{Visit}
-use Rattle.fints_certs.specs.Certificates.{Covers, IsEntered, GoesOn, LineHolds, IsClosedCertificate, Names, line_figures, line_names, step_names, worst_len}
+use Rattle.fints_certs.specs.Certificates.{IsEntered, GoesOn, LineHolds, IsClosedCertificate, Names, line_figures, line_names, step_names, worst_len}
 use Rattle.fints_certs.specs.declared.certificate.Line.{Line}
 use Rattle.fints_certs.proofs.Bounds.{OpenBranchesLead}
 use Rattle.fints_certs.proofs.Reaching.{reach_step, reach_repeated}

@@ -6,3 +6,4 @@ pub mod Bounds
 pub mod Promising
 pub mod Reaching
 pub mod Closing
+pub mod LinesMade

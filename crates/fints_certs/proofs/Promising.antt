@@ -1,5 +1,5 @@
 -- A closed certificate keeps its promise.
-use Rattle.std.proofs.Common.{ℕ, ◌-◌, ◌≤◌, ◌≡◌, Some, List, [], ◌∷◌, length, sym, subst, arith, inl, inr}
+use Rattle.std.proofs.Common.{ℕ, ◌-◌, ◌≤◌, List, [], ◌∷◌, length, sym, subst, arith, inl, inr}
 use Rattle.std.specs.Prelude.{◌↔◌}
 use Rattle.std.specs.List.{AllByRecursion}
 use Rattle.fints_cases.specs.Answers.{IsAnswer}
@@ -10,7 +10,7 @@ use Rattle.fints_rules.specs.Breaks.{Breaks, Permitted}
 use Rattle.fints_rules.specs.Permits.{Granted}
 use Rattle.fints_rules.specs.declared.rule.Rule.{Rule}
 use Rattle.fints_rules.specs.declared.rule.Rule.TheVariants.{Protocol, Number, Size, Kinds, Version, Orders, Listed, Signatures, Account, Tan}
-use Rattle.fints_script.specs.Numbered.{numbered, numbered_from, numbered_holds}
+use Rattle.fints_script.specs.Numbered.{numbered_from, numbered_holds}
 use Rattle.fints_script.specs.Plans.{Admits}
 use Rattle.fints_script.specs.Scripts.{ScriptValue}
 use Rattle.fints_script.specs.Sound.{IsSound, IsSoundStep}

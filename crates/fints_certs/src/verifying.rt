@@ -224,15 +224,7 @@ fn step_holds(
     ensures { (step : StepValue) → numbered plan.now.script.steps n ≡ Some step → (IsTrue result ↔ ((figures : ReachedValue) → Names lines.now n figures → LineHolds permissions.now plan.now.script lines.now step figures)) }
 {
     match figures(lines, n) {
-        Some(reached) => line_holds(
-            permissions,
-            plan,
-            lines,
-            repeats,
-            n,
-            plan.step(n),
-            reached,
-        ),
+        Some(reached) => line_holds(permissions, plan, lines, repeats, n, plan.step(n), reached),
         None => true,
     }
 }
@@ -292,8 +284,8 @@ fn is_closed(permissions: &Permissions<'_>, plan: &Plan<'_>, lines: &[Line]) -> 
 }
 
 /// Whether the certificate is closed, whoever wrote it. It then keeps its promise, and every message
-/// of every run is permitted. It takes no memory, and looks at each step and each branch once.
-/// Permissions and plan were made with order tables of the same rows.
+/// of every run is permitted. It takes no memory, and its work grows with the steps and branches of
+/// the plan alone. Permissions and plan were made with order tables of the same rows.
 pub fn verify(permissions: &Permissions<'_>, plan: &Plan<'_>, certificate: &Certificate) -> bool
     requires { permissions.now.orders ≡ plan.now.orders }
     ensures closed { IsTrue result ↔ IsClosedCertificate permissions.now plan.now.script certificate.now }
