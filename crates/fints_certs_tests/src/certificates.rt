@@ -32,12 +32,7 @@ fn outcome(
     }
 }
 
-fn outcome_of(
-    alloc: Global,
-    capture: &[u8],
-    script: &[u8],
-    text: &[u8],
-) -> Result<String, Fail> {
+fn outcome_of(alloc: Global, capture: &[u8], script: &[u8], text: &[u8]) -> Result<String, Fail> {
     let params = Params::read(alloc, capture)?;
     let orders = OrderTable::read(alloc, T)?;
     let permissions = Permissions::build(alloc, &params, &orders)?;
@@ -201,7 +196,11 @@ fn made_of(alloc: Global, capture: &[u8], script: &[u8]) -> Result<Vec<u8>, Fail
 fn of_reports(rt: HostRuntime) -> Result<(), Fail> {
     let rows: [(&[u8], &[u8], &[u8]); 4] = [
         (C1, END, b"fints-cert 1\nstep end 1 55\n"),
-        (C1, FORK, b"fints-cert 1\nstep one 1 55\nstep bad -\nstep done 2 173\n"),
+        (
+            C1,
+            FORK,
+            b"fints-cert 1\nstep one 1 55\nstep bad -\nstep done 2 173\n",
+        ),
         (KILOBYTE, REPEATS, b"fints-cert 1\nstep end 9 1023\n"),
         (C, SECOND_ACCOUNT, b"none"),
     ];

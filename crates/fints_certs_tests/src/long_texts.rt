@@ -25,7 +25,10 @@ fn many_names(rt: HostRuntime) -> Result<(), Fail> {
     let mut text = lines(rt.alloc(), 60000)?;
     assert_eq!(rt; told(rt.alloc(), text.as_str())?, Ok(60000));
     text.push_str("step s10000 -\n")?;
-    assert_eq!(rt; told(rt.alloc(), text.as_str())?, Err(CertFault::Bad { line: 60002 }));
+    assert_eq!(rt;
+        told(rt.alloc(), text.as_str())?,
+        Err(CertFault::Bad { line: 60002 })
+    );
     Ok(())
 }
 
@@ -36,6 +39,9 @@ fn past_the_limit(rt: HostRuntime) -> Result<(), Fail> {
     let text = lines(rt.alloc(), 74897)?;
     assert_eq!(rt; told(rt.alloc(), text.as_str())?, Ok(74897));
     let text = lines(rt.alloc(), 75000)?;
-    assert_eq!(rt; told(rt.alloc(), text.as_str())?, Err(CertFault::Bad { line: 74899 }));
+    assert_eq!(rt;
+        told(rt.alloc(), text.as_str())?,
+        Err(CertFault::Bad { line: 74899 })
+    );
     Ok(())
 }
