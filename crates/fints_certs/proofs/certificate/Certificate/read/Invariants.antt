@@ -1,0 +1,13 @@
+use Rattle.std.proofs.Common.{◌≡◌, length}
+use Rattle.fints_certs.specs.Certificates.{line_names}
+use Rattle.fints_certs.proofs.CertReads.{Read}
+use Rattle.fints_certs.proofs.certificate.Certificate.read.Given as goal
+
+abbrev pub invariant-loop-rest : goal.invariant-loop-rest
+invariant-loop-rest l = record {
+  read : Read l.text l.rest l.taken.lines.items l.line;
+  names : l.taken.names.keys ≡ line_names l.taken.lines.items;
+}
+
+abbrev pub decreases-loop-rest : goal.decreases-loop-rest
+decreases-loop-rest l = length l.rest

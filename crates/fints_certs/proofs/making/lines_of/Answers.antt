@@ -1,0 +1,25 @@
+use Rattle.std.proofs.Common.{ℕ, ◌≡◌, ◌+◌, ◌-◌, List, Some, take, sym, subst, arith}
+use Rattle.std.specs.List.{slice_get}
+use Rattle.fints_check.specs.Figures.{FiguresAre}
+use Rattle.fints_script.specs.Plans.{PlanValue}
+use Rattle.fints_script.specs.Steps.{StepValue}
+use Rattle.fints_certs.specs.Certificates.{line_names, step_names}
+use Rattle.fints_certs.specs.declared.certificate.Line.{Line}
+use Rattle.fints_certs.proofs.LinesMade.{AreFiguresTo, figures_more}
+use Rattle.fints_certs.proofs.Numbered.{names_more}
+use Rattle.fints_certs.proofs.making.lines_of.Goals as goal
+
+pub loop-i-preserved : goal.loop-i-preserved
+loop-i-preserved c =
+    let script = c.args.plan.now.script in
+    let steps = script.steps in
+    let i : ℕ = c.loop-i.i in
+    let old = c.loop-i.lines.items in
+    let line : Line = record { name = c.name.result; reached = c.reached.result } in
+    let back : i + 1 - 1 ≡ i = omega arith in
+    let there : slice_get steps i ≡ Some c.step.result.now = subst (λ (k : ℕ). slice_get steps k ≡ Some c.step.result.now) back c.step.ensures.step in
+    let figures : FiguresAre script (i + 1) c.reached.result = subst (λ (p : PlanValue). FiguresAre p.script (i + 1) c.reached.result) c.requires c.reached.ensures.greatest in
+    record {
+      names = subst (λ (lines : List Line). line_names lines ≡ step_names (take (i + 1) steps)) (sym c.in_ok-push.ensures.items) (names_more (λ (x : Line). x.name) (λ (s : StepValue). s.name) old steps i line c.step.result.now there c.name.ensures c.loop-i.invariant.names);
+      figures = subst (AreFiguresTo script (i + 1)) (sym c.in_ok-push.ensures.items) (figures_more script i old line figures c.loop-i.invariant.figures);
+    }

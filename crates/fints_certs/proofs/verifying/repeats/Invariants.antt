@@ -1,0 +1,12 @@
+use Rattle.std.proofs.Common.{ℕ, ◌≡◌, ◌↔◌, ◌<◌, length, true, Some, slice_get}
+use Rattle.fints_script.specs.Steps.{StepValue}
+use Rattle.fints_cases.specs.declared.answers.Target.TheVariants.{Again}
+use Rattle.fints_cases.specs.Answers.{IsOpenTo}
+use Rattle.fints_certs.proofs.verifying.repeats.Given as goal
+
+-- the flags so far
+abbrev pub invariant-loop-i : goal.invariant-loop-i
+invariant-loop-i l = record {
+  long : length l.flags ≡ 200;
+  each : (k : ℕ) (step : StepValue) → k < l.i → slice_get l.plan.script.steps k ≡ Some step → (slice_get l.flags k ≡ Some true) ↔ IsOpenTo step.branches step.otherwise Again;
+}

@@ -1,0 +1,4 @@
+pub mod Certificates
+pub mod CertTexts
+pub mod CertReading
+pub mod Verifying

@@ -1,0 +1,50 @@
+//! Laws of certificates: each function's contract is one.
+ghost use Rattle.std.specs.Prelude.{◌≡◌, ℕ, List, []};
+ghost use Rattle.fints_check.specs.Figures.{AreFigures};
+ghost use Rattle.fints_check.specs.Findings.{AreFindings, EachIsPermitted, SentStepsAreClean};
+ghost use Rattle.fints_rules.specs.Permits.{Granted};
+ghost use Rattle.fints_script.specs.Scripts.{ScriptValue};
+ghost use Rattle.fints_script.specs.Sound.{IsSound};
+ghost use Rattle.fints_certs.specs.Certificates.{line_figures, line_names, step_names, IsClosedCertificate, KeepsPromise};
+ghost use Rattle.fints_certs.specs.CertTexts.{OneCertificate, IsFirstBadLine};
+ghost use Rattle.fints_certs.specs.declared.certificate.Line.{Line as LineValue};
+
+use fints_script::laws::open_branches_lead;
+use fints_wire::laws::{extremes_are_admitted, messages_are_read, none_is_longer};
+use fints_wire::run_laws::{each_is_last, last_messages, runs_by_steps, visits_are_within};
+
+/// A closed certificate keeps its promise, and every message of every run is permitted.
+pub fn closed_promises()
+    ensures promise { (granted : Granted) (script : ScriptValue) (lines : List LineValue) → IsSound script → IsClosedCertificate granted script lines → KeepsPromise script lines }
+    ensures permitted { (granted : Granted) (script : ScriptValue) (lines : List LineValue) → IsSound script → IsClosedCertificate granted script lines → EachIsPermitted granted script }
+{
+    open_branches_lead();
+    none_is_longer();
+    messages_are_read();
+    each_is_last();
+    last_messages();
+    runs_by_steps();
+    visits_are_within();
+}
+
+/// The greatest figures of all steps are a closed certificate where nothing is found.
+pub fn greatest_closes()
+    ensures { (granted : Granted) (script : ScriptValue) (lines : List LineValue) → IsSound script → line_names lines ≡ step_names script.steps → AreFigures script (line_figures lines) → AreFindings granted script [] → SentStepsAreClean granted script → IsClosedCertificate granted script lines }
+{
+    open_branches_lead();
+    extremes_are_admitted();
+    messages_are_read();
+    last_messages();
+    runs_by_steps();
+    visits_are_within();
+}
+
+/// A text stands for one certificate at most.
+pub fn one_certificate()
+    ensures { (text : List ℕ) → OneCertificate text }
+{}
+
+/// A text has one first bad line at most.
+pub fn one_bad_line()
+    ensures { (text : List ℕ) (n m : ℕ) → IsFirstBadLine text n → IsFirstBadLine text m → n ≡ m }
+{}

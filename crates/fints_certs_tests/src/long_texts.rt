@@ -1,0 +1,47 @@
+//! Certificates of many lines: names are looked up, and the length of a text is limited.
+use fints_certs::{CertFault, Certificate};
+use std::alloc::Global;
+use std::test::*;
+
+// The first line, and so many lines of 14 bytes, each with a name of its own.
+fn lines(alloc: Global, count: u32) -> Result<String, Fail> {
+    let mut text = String::from_str(alloc, "fints-cert 1\n")?;
+    for i in 10000..10000 + count.min(80000) {
+        text.push_str(format!(in alloc; "step s{i} -\n")?.as_str())?;
+    }
+    Ok(text)
+}
+
+// How many lines the certificate has, or the line that is refused.
+fn told(alloc: Global, text: &str) -> Result<Result<usize, CertFault>, Fail> {
+    match Certificate::read(alloc, text.as_bytes()) {
+        Ok(certificate) => Ok(Ok(certificate.lines().len())),
+        Err(fault) => Ok(Err(fault)),
+    }
+}
+
+#[test]
+fn many_names(rt: HostRuntime) -> Result<(), Fail> {
+    let mut text = lines(rt.alloc(), 60000)?;
+    assert_eq!(rt; told(rt.alloc(), text.as_str())?, Ok(60000));
+    text.push_str("step s10000 -\n")?;
+    assert_eq!(rt;
+        told(rt.alloc(), text.as_str())?,
+        Err(CertFault::Bad { line: 60002 })
+    );
+    Ok(())
+}
+
+// 74,897 lines of 14 bytes behind the first line of 13 are within the limit of 1,048,576, and the
+// next one passes it.
+#[test]
+fn past_the_limit(rt: HostRuntime) -> Result<(), Fail> {
+    let text = lines(rt.alloc(), 74897)?;
+    assert_eq!(rt; told(rt.alloc(), text.as_str())?, Ok(74897));
+    let text = lines(rt.alloc(), 75000)?;
+    assert_eq!(rt;
+        told(rt.alloc(), text.as_str())?,
+        Err(CertFault::Bad { line: 74899 })
+    );
+    Ok(())
+}
