@@ -4,7 +4,7 @@ use Rattle.fints_texts.specs.declared.fault.Fault.TheVariants.{Memory}
 use Rattle.fints_cli.specs.declared.commands.Failure.{Failure}
 use Rattle.fints_cli.specs.declared.commands.Failure.TheVariants.{Input, Unread}
 use Rattle.fints_words.specs.declared.words.Request.{Request}
-use Rattle.fints_words.specs.declared.words.Request.TheVariants.{BuiltIn, Show, Judge, Check}
+use Rattle.fints_words.specs.declared.words.Request.TheVariants.{BuiltIn, Show, Judge, Check, Explain}
 use Rattle.fints_words.specs.declared.words.Request.TheVariants as requests
 use Rattle.fints_words.specs.declared.words.Asked.{Asked}
 use Rattle.fints_words.specs.declared.words.Asked.TheVariants.{Help, Usage, NoMemory, Run}
@@ -12,7 +12,9 @@ use Rattle.fints_cli.specs.BuiltIn as built_in
 use Rattle.fints_cli.specs.Streams.{Gets, GetsPrefix}
 use Rattle.fints_texts.specs.Show.{IsShowOf, IsMemoryOrShowFault}
 use Rattle.fints_texts.specs.Judge.{IsVerdictOf, IsJudgeRefusal}
-use Rattle.fints_reports.specs.ReportText.{IsReportOf, IsReportRefusal}
+use Rattle.fints_reports.specs.Told.{IsRefused, IsToldOf}
+use Rattle.fints_reports.specs.declared.telling.Wanted.{Wanted}
+use Rattle.fints_reports.specs.declared.telling.Wanted.TheVariants.{Report, Cases}
 use Rattle.fints_reports.specs.RunText.{IsRunOf, IsRunRefusal}
 
 -- 3 for a refused input, 4 for want of memory, 5 for a file that couldn't be read
@@ -30,10 +32,10 @@ abbrev pub JudgesFile : Option (List ℕ) → Option (List ℕ) → Option (List
 JudgesFile params orders message status text =
     IfSome params (λ capture. IfSome orders (λ table. IfSome message (λ bytes. IsVerdictOf capture table bytes status text)))
 
--- the status and the text report on the script, where the bytes of the files are told
-abbrev pub ChecksFiles : Option (List ℕ) → Option (List ℕ) → Option (List ℕ) → ℕ → List ℕ → Type 0
-ChecksFiles params orders script status text =
-    IfSome params (λ capture. IfSome orders (λ table. IfSome script (λ steps. IsReportOf capture table steps status text)))
+-- the status and the text tell what is wanted of the script, where the bytes of the files are told
+abbrev pub TellsFiles : Wanted → Option (List ℕ) → Option (List ℕ) → Option (List ℕ) → ℕ → List ℕ → Type 0
+TellsFiles wanted params orders script status text =
+    IfSome params (λ capture. IfSome orders (λ table. IfSome script (λ steps. IsToldOf wanted capture table steps status text)))
 
 -- the text tells the run of the case, where the bytes of the files are told
 abbrev pub RunsFiles : Option (List ℕ) → Option (List ℕ) → Option (List ℕ) → List ℕ → Type 0
@@ -42,10 +44,11 @@ RunsFiles orders script case text =
 
 -- the status and the text are the request's answer
 abbrev pub AnswersTo : Request → (List ℕ → Option (List ℕ)) → ℕ → List ℕ → Type 0
-AnswersTo BuiltIn holds status text = IsReportOf built_in.capture built_in.orders built_in.script status text
+AnswersTo BuiltIn holds status text = IsToldOf Report built_in.capture built_in.orders built_in.script status text
 AnswersTo (Show params) holds status text = (status ≡ 0) × ShowsFile (holds params.now) text
 AnswersTo (Judge params orders message) holds status text = JudgesFile (holds params.now) (holds orders.now) (holds message.now) status text
-AnswersTo (Check params orders script) holds status text = ChecksFiles (holds params.now) (holds orders.now) (holds script.now) status text
+AnswersTo (Check params orders script) holds status text = TellsFiles Report (holds params.now) (holds orders.now) (holds script.now) status text
+AnswersTo (Explain params orders script) holds status text = TellsFiles Cases (holds params.now) (holds orders.now) (holds script.now) status text
 AnswersTo (requests.Run orders script case) holds status text = (status ≡ 0) × RunsFiles (holds orders.now) (holds script.now) (holds case.now) text
 
 -- the file of the option couldn't be read, or memory ran out
@@ -70,16 +73,16 @@ FailsToJudge params orders message (Unread named) = (named.now ≡ codes "params
 FailsToJudge params orders message (Input f) =
     IfSome params (λ capture. IfSome orders (λ table. IfSome message (λ bytes. IsJudgeRefusal capture table bytes f)))
 
--- why there is no report on loaded bytes
-abbrev pub IsCheckFailure : List ℕ → List ℕ → List ℕ → Failure → Type 0
-IsCheckFailure params orders script (Unread named) = ⊥
-IsCheckFailure params orders script (Input f) = IsReportRefusal params orders script f
+-- why nothing is told of loaded bytes
+abbrev pub IsScriptFailure : List ℕ → List ℕ → List ℕ → Failure → Type 0
+IsScriptFailure params orders script (Unread named) = ⊥
+IsScriptFailure params orders script (Input f) = IsRefused params orders script f
 
--- why there is no report on a script, where the bytes of the files are told
-abbrev pub FailsToCheck : Option (List ℕ) → Option (List ℕ) → Option (List ℕ) → Failure → Type 0
-FailsToCheck params orders script (Unread named) = (named.now ≡ codes "params") ⊎ ((named.now ≡ codes "orders") ⊎ (named.now ≡ codes "script"))
-FailsToCheck params orders script (Input f) =
-    IfSome params (λ capture. IfSome orders (λ table. IfSome script (λ steps. IsReportRefusal capture table steps f)))
+-- why nothing is told of a script, where the bytes of the files are told
+abbrev pub FailsToTell : Option (List ℕ) → Option (List ℕ) → Option (List ℕ) → Failure → Type 0
+FailsToTell params orders script (Unread named) = (named.now ≡ codes "params") ⊎ ((named.now ≡ codes "orders") ⊎ (named.now ≡ codes "script"))
+FailsToTell params orders script (Input f) =
+    IfSome params (λ capture. IfSome orders (λ table. IfSome script (λ steps. IsRefused capture table steps f)))
 
 -- why loaded bytes aren't run
 abbrev pub IsRunFailure : List ℕ → List ℕ → List ℕ → Failure → Type 0
@@ -94,10 +97,11 @@ FailsToRun orders script case (Input f) =
 
 -- why the request has no answer
 abbrev pub FailsFor : Request → (List ℕ → Option (List ℕ)) → Failure → Type 0
-FailsFor BuiltIn holds failure = IsCheckFailure built_in.capture built_in.orders built_in.script failure
+FailsFor BuiltIn holds failure = IsScriptFailure built_in.capture built_in.orders built_in.script failure
 FailsFor (Show params) holds failure = FailsToShow (holds params.now) failure
 FailsFor (Judge params orders message) holds failure = FailsToJudge (holds params.now) (holds orders.now) (holds message.now) failure
-FailsFor (Check params orders script) holds failure = FailsToCheck (holds params.now) (holds orders.now) (holds script.now) failure
+FailsFor (Check params orders script) holds failure = FailsToTell (holds params.now) (holds orders.now) (holds script.now) failure
+FailsFor (Explain params orders script) holds failure = FailsToTell (holds params.now) (holds orders.now) (holds script.now) failure
 FailsFor (requests.Run orders script case) holds failure = FailsToRun (holds orders.now) (holds script.now) (holds case.now) failure
 
 -- the status and the text are what was asked for: the help, or the request's answer

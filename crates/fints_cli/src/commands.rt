@@ -4,16 +4,17 @@ ghost use Rattle.fints_cli.specs.Streams.{Gets, GetsNothing, GetsPrefix, IsFile,
 ghost use Rattle.fints_cli.specs.BuiltIn as texts;
 ghost use Rattle.fints_words.specs.declared.words.Request.TheVariants as request;
 ghost use Rattle.fints_texts.specs.Judge.{IsVerdictOf};
-ghost use Rattle.fints_reports.specs.ReportText.{IsReportOf};
+ghost use Rattle.fints_reports.specs.Told.{IsToldOf};
+ghost use Rattle.fints_reports.specs.declared.telling.Wanted.TheVariants as wants;
 ghost use Rattle.fints_reports.specs.RunText.{IsRunOf};
-ghost use Rattle.fints_cli.specs.Commands.{failure_status, IsJudgeFailure, ShowsFile, JudgesFile, FailsToJudge, ChecksFiles, IsCheckFailure, FailsToCheck, IsRunFailure, RunsFiles, FailsToRun, AnswersTo, IsUnloaded, FailsToShow, FailsFor, IsAnswered, IsCutOff, IsUsage, FailsWith};
+ghost use Rattle.fints_cli.specs.Commands.{failure_status, IsJudgeFailure, ShowsFile, JudgesFile, FailsToJudge, TellsFiles, IsScriptFailure, FailsToTell, IsRunFailure, RunsFiles, FailsToRun, AnswersTo, IsUnloaded, FailsToShow, FailsFor, IsAnswered, IsCutOff, IsUsage, FailsWith};
 ghost use Rattle.fints_words.specs.declared.words.Asked.TheVariants as asked;
 
 use crate::built_in;
 use crate::emitting::emit;
 use crate::reading::{LoadFault, MAX_CALLS, load};
 use crate::streams::{Files, Out};
-use fints_reports::{check_script, run_case};
+use fints_reports::{Wanted, run_case, tell_script};
 use fints_texts::{Fault, Reply, judge_message, show};
 use fints_words::{Asked, Request, read_words};
 use std::alloc::Global;
@@ -70,17 +71,18 @@ fn load_option<F: Files>(
     }
 }
 
-fn check_loaded(
+fn tell_loaded(
     alloc: Global,
     params: &[u8],
     orders: &[u8],
     script: &[u8],
+    wanted: Wanted,
 ) -> Result<Reply, Failure>
     ensures status { IfOk result (λ reply. reply.status ≤ 1) }
-    ensures told { IfOk result (λ reply. IsReportOf params.now orders.now script.now reply.status reply.text.items) }
-    ensures refused { IfErr result (λ f. IsCheckFailure params.now orders.now script.now f) }
+    ensures told { IfOk result (λ reply. IsToldOf wanted params.now orders.now script.now reply.status reply.text.items) }
+    ensures refused { IfErr result (λ f. IsScriptFailure params.now orders.now script.now f) }
 {
-    match check_script(alloc, params, orders, script) {
+    match tell_script(alloc, params, orders, script, wanted) {
         Ok(reply) => Ok(reply),
         Err(fault) => Err(Failure::Input(fault)),
     }
@@ -89,39 +91,42 @@ fn check_loaded(
 #[tactic(auto, unfolding(crate::specs::BuiltIn::capture, crate::specs::BuiltIn::orders, crate::specs::BuiltIn::script))]
 fn check_built_in(alloc: Global) -> Result<Reply, Failure>
     ensures status { IfOk result (λ reply. reply.status ≤ 1) }
-    ensures told { IfOk result (λ reply. IsReportOf texts.capture texts.orders texts.script reply.status reply.text.items) }
-    ensures refused { IfErr result (λ f. IsCheckFailure texts.capture texts.orders texts.script f) }
+    ensures told { IfOk result (λ reply. IsToldOf wants.Report texts.capture texts.orders texts.script reply.status reply.text.items) }
+    ensures refused { IfErr result (λ f. IsScriptFailure texts.capture texts.orders texts.script f) }
 {
-    check_loaded(
+    tell_loaded(
         alloc,
         built_in::CAPTURE,
         built_in::ORDERS,
         built_in::SCRIPT,
+        Wanted::Report,
     )
 }
 
-#[tactic(auto, using(crate::proofs::FileLemmas::files_checked, crate::proofs::FileLemmas::files_not_checked))]
-fn check_files<F: Files>(
+#[tactic(auto, using(crate::proofs::FileLemmas::files_told, crate::proofs::FileLemmas::files_not_told))]
+fn tell_files<F: Files>(
     alloc: Global,
     files: &mut F,
     params: &str,
     orders: &str,
     script: &str,
+    wanted: Wanted,
 ) -> Result<Reply, Failure>
     ensures status { IfOk result (λ reply. reply.status ≤ 1) }
-    ensures told { IfOk result (λ reply. ChecksFiles (F.holds files.old params.now) (F.holds files.old orders.now) (F.holds files.old script.now) reply.status reply.text.items) }
-    ensures refused { IfErr result (λ f. FailsToCheck (F.holds files.old params.now) (F.holds files.old orders.now) (F.holds files.old script.now) f) }
+    ensures told { IfOk result (λ reply. TellsFiles wanted (F.holds files.old params.now) (F.holds files.old orders.now) (F.holds files.old script.now) reply.status reply.text.items) }
+    ensures refused { IfErr result (λ f. FailsToTell (F.holds files.old params.now) (F.holds files.old orders.now) (F.holds files.old script.now) f) }
     ensures calls { F.calls files.new ≤ F.calls files.old + 3 * MAX_CALLS }
     ensures keeps { F.holds files.new ≡ F.holds files.old }
 {
     let params = load_option(alloc, files, "params", params, MAX_CAPTURE)?;
     let orders = load_option(alloc, files, "orders", orders, MAX_TEXT)?;
     let script = load_option(alloc, files, "script", script, MAX_TEXT)?;
-    check_loaded(
+    tell_loaded(
         alloc,
         params.as_slice(),
         orders.as_slice(),
         script.as_slice(),
+        wanted,
     )
 }
 
@@ -236,7 +241,12 @@ pub fn perform<F: Files>(
             params,
             orders,
             script,
-        } => check_files(alloc, files, params, orders, script),
+        } => tell_files(alloc, files, params, orders, script, Wanted::Report),
+        Request::Explain {
+            params,
+            orders,
+            script,
+        } => tell_files(alloc, files, params, orders, script, Wanted::Cases),
         Request::Run {
             orders,
             script,

@@ -9,7 +9,7 @@ mod streams;
 
 pub use commands::{Failure, execute, perform, respond};
 pub use emitting::emit;
-pub use fints_reports::{check_script, check_text, run_case};
+pub use fints_reports::{Wanted, check_text, run_case, tell_script};
 pub use fints_texts::{Fault, Reply, judge_message, show};
 pub use fints_words::{Asked, Request, read_words};
 pub use reading::{LoadFault, MAX_CALLS, load};

@@ -28,6 +28,12 @@ pub enum Request<'a> {
         orders: &'a str,
         script: &'a str,
     },
+    /// What the runs of a script break, and a case of each finding.
+    Explain {
+        params: &'a str,
+        orders: &'a str,
+        script: &'a str,
+    },
     /// The messages that a client sends under a case, by an order table and a script.
     Run {
         orders: &'a str,
@@ -73,12 +79,33 @@ fn judge_command<'a>(alloc: Global) -> Result<Command<'a>, AllocError> {
         .arg(file_option(alloc, "message", "The message"))
 }
 
-fn check_command<'a>(alloc: Global) -> Result<Command<'a>, AllocError> {
-    Command::new(alloc, "check")
-        .about("Names the rules that some run of a script breaks")
+// A command that takes a script.
+fn script_command<'a>(
+    alloc: Global,
+    name: &'a str,
+    about: &'a str,
+) -> Result<Command<'a>, AllocError> {
+    Command::new(alloc, name)
+        .about(about)
         .arg(file_option(alloc, "params", "The capture"))?
         .arg(file_option(alloc, "orders", "The order table"))?
         .arg(file_option(alloc, "script", "The script"))
+}
+
+fn check_command<'a>(alloc: Global) -> Result<Command<'a>, AllocError> {
+    script_command(
+        alloc,
+        "check",
+        "Names the rules that some run of a script breaks",
+    )
+}
+
+fn explain_command<'a>(alloc: Global) -> Result<Command<'a>, AllocError> {
+    script_command(
+        alloc,
+        "explain",
+        "Names the rules that some run of a script breaks, each with a case",
+    )
 }
 
 fn run_command<'a>(alloc: Global) -> Result<Command<'a>, AllocError> {
@@ -99,6 +126,7 @@ fn command_line<'a>(alloc: Global) -> Result<Command<'a>, AllocError> {
         .subcommand(show_command(alloc)?)?
         .subcommand(judge_command(alloc)?)?
         .subcommand(check_command(alloc)?)?
+        .subcommand(explain_command(alloc)?)?
         .subcommand(run_command(alloc)?)
 }
 
@@ -150,6 +178,11 @@ fn named_request<'a>(name: &str, options: &ArgMatches<'a>) -> Option<Request<'a>
             message: options.get_str("message")?,
         }),
         "check" => Some(Request::Check {
+            params: options.get_str("params")?,
+            orders: options.get_str("orders")?,
+            script: options.get_str("script")?,
+        }),
+        "explain" => Some(Request::Explain {
             params: options.get_str("params")?,
             orders: options.get_str("orders")?,
             script: options.get_str("script")?,
