@@ -54,11 +54,7 @@ fn write_steps(text: &mut Vec<u8>, plan: &Plan<'_>, report: &Report<'_>) -> Resu
 
 /// Writes the step by its name, the rule and the segment of a finding.
 #[tactic(auto, unfolding(crate::specs::ReportText::finding_text))]
-pub fn write_finding_text(
-    text: &mut Vec<u8>,
-    name: Name,
-    finding: &Finding,
-) -> Result<(), Memory>
+pub fn write_finding_text(text: &mut Vec<u8>, name: Name, finding: &Finding) -> Result<(), Memory>
     ensures { OnOk result (text.new.items ≡ text.old.items ++ finding_text name finding.now) }
 {
     let mut segment = Buffer::new();
