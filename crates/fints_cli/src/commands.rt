@@ -92,12 +92,7 @@ fn check_built_in(alloc: Global) -> Result<Reply, Failure>
     ensures told { IfOk result (λ reply. IsReportOf texts.capture texts.orders texts.script reply.status reply.text.items) }
     ensures refused { IfErr result (λ f. IsCheckFailure texts.capture texts.orders texts.script f) }
 {
-    check_loaded(
-        alloc,
-        built_in::CAPTURE,
-        built_in::ORDERS,
-        built_in::SCRIPT,
-    )
+    check_loaded(alloc, built_in::CAPTURE, built_in::ORDERS, built_in::SCRIPT)
 }
 
 #[tactic(auto, using(crate::proofs::FileLemmas::files_checked, crate::proofs::FileLemmas::files_not_checked))]
