@@ -1,8 +1,8 @@
 -- What a cut output got.
 use Rattle.std.proofs.Common.{◌≡◌, ℕ, List, subst, sym, Option}
-use Rattle.fints_cli.specs.declared.words.Request.{Request}
-use Rattle.fints_cli.specs.declared.words.Asked.{Asked}
-use Rattle.fints_cli.specs.declared.words.Asked.TheVariants.{Run}
+use Rattle.fints_words.specs.declared.words.Request.{Request}
+use Rattle.fints_words.specs.declared.words.Asked.{Asked}
+use Rattle.fints_words.specs.declared.words.Asked.TheVariants.{Run}
 use Rattle.fints_cli.specs.Streams.{GetsPrefix}
 use Rattle.fints_cli.specs.Commands.{AnswersTo, IsCutOff}
 

@@ -2,11 +2,12 @@
 use Rattle.std.proofs.Common.{ℕ, List, subst, Option, None, Some, IfSome}
 use Rattle.fints_texts.specs.declared.fault.Fault.{Fault}
 use Rattle.fints_texts.specs.Judge.{IsVerdictOf, IsJudgeRefusal}
-use Rattle.fints_texts.specs.RunText.{IsRunOf, IsRunRefusal}
+use Rattle.fints_reports.specs.ReportText.{IsReportOf, IsReportRefusal}
+use Rattle.fints_reports.specs.RunText.{IsRunOf, IsRunRefusal}
 use Rattle.fints_texts.specs.Show.{IsMemoryOrShowFault}
 use Rattle.fints_cli.specs.declared.commands.Failure.{Failure}
 use Rattle.fints_cli.specs.declared.commands.Failure.TheVariants.{Input, Unread}
-use Rattle.fints_cli.specs.Commands.{JudgesFile, IsJudgeFailure, FailsToJudge, RunsFiles, IsRunFailure, FailsToRun}
+use Rattle.fints_cli.specs.Commands.{JudgesFile, IsJudgeFailure, FailsToJudge, ChecksFiles, IsCheckFailure, FailsToCheck, RunsFiles, IsRunFailure, FailsToRun}
 use Rattle.fints_cli.specs.Streams.{IsFile}
 
 -- what holds of loaded bytes holds of what the files hold
@@ -22,6 +23,13 @@ files_judged a b c x y z status text h i j p = of_files (λ q r s. IsVerdictOf q
 pub files_failed : (a b c : Option (List ℕ)) (x y z : List ℕ) (f : Failure) → IsFile a x → IsFile b y → IsFile c z → IsJudgeFailure x y z f → FailsToJudge a b c f
 files_failed a b c x y z (Unread named) h i j p = absurd p
 files_failed a b c x y z (Input f) h i j p = of_files (λ q r s. IsJudgeRefusal q r s f) a b c x y z h i j p
+
+pub files_checked : (a b c : Option (List ℕ)) (x y z : List ℕ) (status : ℕ) (text : List ℕ) → IsFile a x → IsFile b y → IsFile c z → IsReportOf x y z status text → ChecksFiles a b c status text
+files_checked a b c x y z status text h i j p = of_files (λ q r s. IsReportOf q r s status text) a b c x y z h i j p
+
+pub files_not_checked : (a b c : Option (List ℕ)) (x y z : List ℕ) (f : Failure) → IsFile a x → IsFile b y → IsFile c z → IsCheckFailure x y z f → FailsToCheck a b c f
+files_not_checked a b c x y z (Unread named) h i j p = absurd p
+files_not_checked a b c x y z (Input f) h i j p = of_files (λ q r s. IsReportRefusal q r s f) a b c x y z h i j p
 
 pub files_run : (a b c : Option (List ℕ)) (x y z : List ℕ) (text : List ℕ) → IsFile a x → IsFile b y → IsFile c z → IsRunOf x y z text → RunsFiles a b c text
 files_run a b c x y z text h i j p = of_files (λ q r s. IsRunOf q r s text) a b c x y z h i j p

@@ -3,17 +3,17 @@ use Rattle.std.specs.Prelude.{◌≡◌, ◌⊎◌, ℕ, List, Option, IfSome, c
 use Rattle.fints_texts.specs.declared.fault.Fault.TheVariants.{Memory}
 use Rattle.fints_cli.specs.declared.commands.Failure.{Failure}
 use Rattle.fints_cli.specs.declared.commands.Failure.TheVariants.{Input, Unread}
-use Rattle.fints_cli.specs.declared.words.Request.{Request}
-use Rattle.fints_cli.specs.declared.words.Request.TheVariants.{BuiltIn, Show, Judge}
-use Rattle.fints_cli.specs.declared.words.Request.TheVariants as requests
-use Rattle.fints_cli.specs.declared.words.Asked.{Asked}
-use Rattle.fints_cli.specs.declared.words.Asked.TheVariants.{Help, Usage, NoMemory, Run}
+use Rattle.fints_words.specs.declared.words.Request.{Request}
+use Rattle.fints_words.specs.declared.words.Request.TheVariants.{BuiltIn, Show, Judge, Check}
+use Rattle.fints_words.specs.declared.words.Request.TheVariants as requests
+use Rattle.fints_words.specs.declared.words.Asked.{Asked}
+use Rattle.fints_words.specs.declared.words.Asked.TheVariants.{Help, Usage, NoMemory, Run}
 use Rattle.fints_cli.specs.BuiltIn as built_in
-use Rattle.fints_thin.specs.Thin.{IsReportOf}
 use Rattle.fints_cli.specs.Streams.{Gets, GetsPrefix}
 use Rattle.fints_texts.specs.Show.{IsShowOf, IsMemoryOrShowFault}
 use Rattle.fints_texts.specs.Judge.{IsVerdictOf, IsJudgeRefusal}
-use Rattle.fints_texts.specs.RunText.{IsRunOf, IsRunRefusal}
+use Rattle.fints_reports.specs.ReportText.{IsReportOf, IsReportRefusal}
+use Rattle.fints_reports.specs.RunText.{IsRunOf, IsRunRefusal}
 
 -- 3 for a refused input, 4 for want of memory, 5 for a file that couldn't be read
 abbrev pub failure_status : Failure → ℕ
@@ -30,6 +30,11 @@ abbrev pub JudgesFile : Option (List ℕ) → Option (List ℕ) → Option (List
 JudgesFile params orders message status text =
     IfSome params (λ capture. IfSome orders (λ table. IfSome message (λ bytes. IsVerdictOf capture table bytes status text)))
 
+-- the status and the text report on the script, where the bytes of the files are told
+abbrev pub ChecksFiles : Option (List ℕ) → Option (List ℕ) → Option (List ℕ) → ℕ → List ℕ → Type 0
+ChecksFiles params orders script status text =
+    IfSome params (λ capture. IfSome orders (λ table. IfSome script (λ steps. IsReportOf capture table steps status text)))
+
 -- the text tells the run of the case, where the bytes of the files are told
 abbrev pub RunsFiles : Option (List ℕ) → Option (List ℕ) → Option (List ℕ) → List ℕ → Type 0
 RunsFiles orders script case text =
@@ -37,9 +42,10 @@ RunsFiles orders script case text =
 
 -- the status and the text are the request's answer
 abbrev pub AnswersTo : Request → (List ℕ → Option (List ℕ)) → ℕ → List ℕ → Type 0
-AnswersTo BuiltIn holds status text = (status ≡ 0) × IsReportOf built_in.capture built_in.script text
+AnswersTo BuiltIn holds status text = IsReportOf built_in.capture built_in.orders built_in.script status text
 AnswersTo (Show params) holds status text = (status ≡ 0) × ShowsFile (holds params.now) text
 AnswersTo (Judge params orders message) holds status text = JudgesFile (holds params.now) (holds orders.now) (holds message.now) status text
+AnswersTo (Check params orders script) holds status text = ChecksFiles (holds params.now) (holds orders.now) (holds script.now) status text
 AnswersTo (requests.Run orders script case) holds status text = (status ≡ 0) × RunsFiles (holds orders.now) (holds script.now) (holds case.now) text
 
 -- the file of the option couldn't be read, or memory ran out
@@ -64,6 +70,17 @@ FailsToJudge params orders message (Unread named) = (named.now ≡ codes "params
 FailsToJudge params orders message (Input f) =
     IfSome params (λ capture. IfSome orders (λ table. IfSome message (λ bytes. IsJudgeRefusal capture table bytes f)))
 
+-- why there is no report on loaded bytes
+abbrev pub IsCheckFailure : List ℕ → List ℕ → List ℕ → Failure → Type 0
+IsCheckFailure params orders script (Unread named) = ⊥
+IsCheckFailure params orders script (Input f) = IsReportRefusal params orders script f
+
+-- why there is no report on a script, where the bytes of the files are told
+abbrev pub FailsToCheck : Option (List ℕ) → Option (List ℕ) → Option (List ℕ) → Failure → Type 0
+FailsToCheck params orders script (Unread named) = (named.now ≡ codes "params") ⊎ ((named.now ≡ codes "orders") ⊎ (named.now ≡ codes "script"))
+FailsToCheck params orders script (Input f) =
+    IfSome params (λ capture. IfSome orders (λ table. IfSome script (λ steps. IsReportRefusal capture table steps f)))
+
 -- why loaded bytes aren't run
 abbrev pub IsRunFailure : List ℕ → List ℕ → List ℕ → Failure → Type 0
 IsRunFailure orders script case (Unread named) = ⊥
@@ -77,10 +94,10 @@ FailsToRun orders script case (Input f) =
 
 -- why the request has no answer
 abbrev pub FailsFor : Request → (List ℕ → Option (List ℕ)) → Failure → Type 0
-FailsFor BuiltIn holds (Unread named) = ⊥
-FailsFor BuiltIn holds (Input f) = Unit {0}
+FailsFor BuiltIn holds failure = IsCheckFailure built_in.capture built_in.orders built_in.script failure
 FailsFor (Show params) holds failure = FailsToShow (holds params.now) failure
 FailsFor (Judge params orders message) holds failure = FailsToJudge (holds params.now) (holds orders.now) (holds message.now) failure
+FailsFor (Check params orders script) holds failure = FailsToCheck (holds params.now) (holds orders.now) (holds script.now) failure
 FailsFor (requests.Run orders script case) holds failure = FailsToRun (holds orders.now) (holds script.now) (holds case.now) failure
 
 -- the status and the text are what was asked for: the help, or the request's answer

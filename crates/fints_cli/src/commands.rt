@@ -2,20 +2,20 @@
 ghost use Rattle.std.specs.Prelude.{◌≡◌, ◌≤◌, ◌<◌, ◌+◌, ◌*◌, ◌⊎◌, ◌↔◌, [], None, IfOk, IfErr};
 ghost use Rattle.fints_cli.specs.Streams.{Gets, GetsNothing, GetsPrefix, IsFile, one_more};
 ghost use Rattle.fints_cli.specs.BuiltIn as texts;
-ghost use Rattle.fints_cli.specs.declared.words.Request.TheVariants as request;
-ghost use Rattle.fints_thin.specs.Thin.{IsReportOf};
+ghost use Rattle.fints_words.specs.declared.words.Request.TheVariants as request;
 ghost use Rattle.fints_texts.specs.Judge.{IsVerdictOf};
-ghost use Rattle.fints_texts.specs.RunText.{IsRunOf};
-ghost use Rattle.fints_cli.specs.Commands.{failure_status, IsJudgeFailure, ShowsFile, JudgesFile, FailsToJudge, IsRunFailure, RunsFiles, FailsToRun, AnswersTo, IsUnloaded, FailsToShow, FailsFor, IsAnswered, IsCutOff, IsUsage, FailsWith};
-ghost use Rattle.fints_cli.specs.declared.words.Asked.TheVariants as asked;
+ghost use Rattle.fints_reports.specs.ReportText.{IsReportOf};
+ghost use Rattle.fints_reports.specs.RunText.{IsRunOf};
+ghost use Rattle.fints_cli.specs.Commands.{failure_status, IsJudgeFailure, ShowsFile, JudgesFile, FailsToJudge, ChecksFiles, IsCheckFailure, FailsToCheck, IsRunFailure, RunsFiles, FailsToRun, AnswersTo, IsUnloaded, FailsToShow, FailsFor, IsAnswered, IsCutOff, IsUsage, FailsWith};
+ghost use Rattle.fints_words.specs.declared.words.Asked.TheVariants as asked;
 
 use crate::built_in;
 use crate::emitting::emit;
 use crate::reading::{LoadFault, MAX_CALLS, load};
 use crate::streams::{Files, Out};
-use crate::words::{Asked, Request, read_words};
-use fints_texts::{Fault, Reply, judge_message, run_case, show};
-use fints_thin::check_text;
+use fints_reports::{check_script, run_case};
+use fints_texts::{Fault, Reply, judge_message, show};
+use fints_words::{Asked, Request, read_words};
 use std::alloc::Global;
 use thiserror::Error;
 
@@ -70,16 +70,54 @@ fn load_option<F: Files>(
     }
 }
 
-#[tactic(auto, unfolding(crate::specs::BuiltIn::capture, crate::specs::BuiltIn::script))]
-fn report_built_in(alloc: Global) -> Result<Reply, Failure>
-    ensures status { IfOk result (λ reply. reply.status ≡ 0) }
-    ensures report { IfOk result (λ reply. IsReportOf texts.capture texts.script reply.text.items) }
-    ensures no_file { IfErr result (λ f. FailsFor request.BuiltIn (λ _. None) f) }
+fn check_loaded(
+    alloc: Global,
+    params: &[u8],
+    orders: &[u8],
+    script: &[u8],
+) -> Result<Reply, Failure>
+    ensures status { IfOk result (λ reply. reply.status ≤ 1) }
+    ensures told { IfOk result (λ reply. IsReportOf params.now orders.now script.now reply.status reply.text.items) }
+    ensures refused { IfErr result (λ f. IsCheckFailure params.now orders.now script.now f) }
 {
-    match check_text(alloc, built_in::CAPTURE, built_in::ORDERS, built_in::SCRIPT) {
-        Ok(text) => Ok(Reply { status: 0, text }),
+    match check_script(alloc, params, orders, script) {
+        Ok(reply) => Ok(reply),
         Err(fault) => Err(Failure::Input(fault)),
     }
+}
+
+#[tactic(auto, unfolding(crate::specs::BuiltIn::capture, crate::specs::BuiltIn::orders, crate::specs::BuiltIn::script))]
+fn check_built_in(alloc: Global) -> Result<Reply, Failure>
+    ensures status { IfOk result (λ reply. reply.status ≤ 1) }
+    ensures told { IfOk result (λ reply. IsReportOf texts.capture texts.orders texts.script reply.status reply.text.items) }
+    ensures refused { IfErr result (λ f. IsCheckFailure texts.capture texts.orders texts.script f) }
+{
+    check_loaded(alloc, built_in::CAPTURE, built_in::ORDERS, built_in::SCRIPT)
+}
+
+#[tactic(auto, using(crate::proofs::FileLemmas::files_checked, crate::proofs::FileLemmas::files_not_checked))]
+fn check_files<F: Files>(
+    alloc: Global,
+    files: &mut F,
+    params: &str,
+    orders: &str,
+    script: &str,
+) -> Result<Reply, Failure>
+    ensures status { IfOk result (λ reply. reply.status ≤ 1) }
+    ensures told { IfOk result (λ reply. ChecksFiles (F.holds files.old params.now) (F.holds files.old orders.now) (F.holds files.old script.now) reply.status reply.text.items) }
+    ensures refused { IfErr result (λ f. FailsToCheck (F.holds files.old params.now) (F.holds files.old orders.now) (F.holds files.old script.now) f) }
+    ensures calls { F.calls files.new ≤ F.calls files.old + 3 * MAX_CALLS }
+    ensures keeps { F.holds files.new ≡ F.holds files.old }
+{
+    let params = load_option(alloc, files, "params", params, MAX_CAPTURE)?;
+    let orders = load_option(alloc, files, "orders", orders, MAX_TEXT)?;
+    let script = load_option(alloc, files, "script", script, MAX_TEXT)?;
+    check_loaded(
+        alloc,
+        params.as_slice(),
+        orders.as_slice(),
+        script.as_slice(),
+    )
 }
 
 #[tactic(auto, using(crate::proofs::FileLemmas::file_fault))]
@@ -182,13 +220,18 @@ pub fn perform<F: Files>(
     ensures keeps { F.holds files.new ≡ F.holds files.old }
 {
     match request {
-        Request::BuiltIn => report_built_in(alloc),
+        Request::BuiltIn => check_built_in(alloc),
         Request::Show { params } => show_file(alloc, files, params),
         Request::Judge {
             params,
             orders,
             message,
         } => judge_file(alloc, files, params, orders, message),
+        Request::Check {
+            params,
+            orders,
+            script,
+        } => check_files(alloc, files, params, orders, script),
         Request::Run {
             orders,
             script,
@@ -277,8 +320,9 @@ pub fn respond<F: Files, O: Out, E: Out>(
 
 /// Does what the words after the program's name ask for, and gives the status: 0 where the answer
 /// or the help stands on the output, 2 for bad words, 3 for a refused input, 4 for want of memory,
-/// and 5 where a file couldn't be read or the output failed. Status 1 is that of a message that breaks a rule. Each status from 2 on has its line on
-/// the errors, where those take it.
+/// and 5 where a file couldn't be read or the output failed. Status 1 is that of a message that breaks
+/// a rule, and of a script with a run that does. Each status from 2 on has its line on the errors,
+/// where those take it.
 pub fn execute<F: Files, O: Out, E: Out>(
     alloc: Global,
     words: &[&str],
@@ -287,8 +331,8 @@ pub fn execute<F: Files, O: Out, E: Out>(
     err: &mut E,
 ) -> u8
     ensures status { result ≤ 5 }
-    ensures built_in { words.now ≡ [] → result ≡ 0
-        → IsAnswered (asked.Run request.BuiltIn) (F.holds files.old) 0 (O.told out.old) (O.told out.new) }
+    ensures built_in { words.now ≡ [] → result ≤ 1
+        → IsAnswered (asked.Run request.BuiltIn) (F.holds files.old) result (O.told out.old) (O.told out.new) }
     ensures silent { (result ≡ 2) ⊎ ((result ≡ 3) ⊎ (result ≡ 4))
         → GetsNothing (O.told out.old) (O.told out.new) }
     ensures fine { result ≤ 4 → O.failed_calls out.new ≡ O.failed_calls out.old }

@@ -1,4 +1,4 @@
-//! The command line: its words, files and streams, over bytes that are handed in.
+//! The commands, over words, files and streams that are handed in.
 #![tactic(auto)]
 
 pub mod built_in;
@@ -6,12 +6,11 @@ mod commands;
 mod emitting;
 mod reading;
 mod streams;
-mod words;
 
 pub use commands::{Failure, execute, perform, respond};
 pub use emitting::emit;
-pub use fints_texts::{Fault, Reply, judge_message, run_case, show};
-pub use fints_thin::check_text;
+pub use fints_reports::{check_script, check_text, run_case};
+pub use fints_texts::{Fault, Reply, judge_message, show};
+pub use fints_words::{Asked, Request, read_words};
 pub use reading::{LoadFault, MAX_CALLS, load};
 pub use streams::{Files, Out, ReadFault, WriteFault};
-pub use words::{Asked, Request, read_words};

@@ -1,6 +1,6 @@
 //! The commands over files and streams that fail.
 use crate::{Quirk, Shelf, Tape};
-use fints_cli::{Failure, LoadFault, Request, emit, execute, load, perform};
+use fints_cli::{Failure, LoadFault, Request, built_in, emit, execute, load, perform};
 use std::alloc::{AllocError, Global};
 use std::process::Abort;
 use std::test::Fail;
@@ -162,10 +162,20 @@ fn most_calls(rt: HostRuntime) -> Result<(), Fail> {
 
 #[test]
 fn replies(rt: HostRuntime) {
-    let files = [("c1", C1)];
-    let rows: [(Request<'_>, &[u8]); 2] = [
+    let files = [
+        ("c1", C1),
+        ("orders", built_in::ORDERS),
+        ("script", built_in::SCRIPT),
+    ];
+    let check = Request::Check {
+        params: "c1",
+        orders: "orders",
+        script: "script",
+    };
+    let rows: [(Request<'_>, &[u8]); 3] = [
         (Request::BuiltIn, REPORT),
         (Request::Show { params: "c1" }, SHOWN),
+        (check, REPORT),
     ];
     for (request, text) in rows {
         let mut shelf = Shelf::new(&files, Quirk::None);

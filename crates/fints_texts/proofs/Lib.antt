@@ -1,3 +1,2 @@
 pub mod JudgeLemmas
-pub mod RunLemmas
 pub mod ShowLemmas

@@ -1,5 +1,4 @@
--- What an answer says of the value that is looked for.
-use Rattle.std.specs.Prelude.{◌≡◌, Option, None, Some, Result, Ok, Err}
+-- The faults of inputs, by those of the layers below.
 use Rattle.fints_params.specs.declared.fault.ParamFault.{ParamFault}
 use Rattle.fints_params.specs.declared.fault.ParamFault.TheVariants as params
 use Rattle.fints_texts.specs.declared.fault.Fault.{Fault}
@@ -12,14 +11,7 @@ use Rattle.fints_cases.specs.declared.case_fault.CaseFault.{CaseFault}
 use Rattle.fints_cases.specs.declared.case_fault.CaseFault.TheVariants as cases
 use Rattle.fints_messages.specs.declared.message.JudgeFault.{JudgeFault}
 use Rattle.fints_messages.specs.declared.message.JudgeFault.TheVariants as message
-use Rattle.fints_texts.specs.declared.fault.Fault.TheVariants.{NotYet, Memory, Params, Orders, Script, Case, Message}
-
--- the value was found; or there is none; or memory ran out
-abbrev pub Gives : {X Y : Type 0} → (X → Y) → Result X Fault → Option Y → Type 0
-Gives view (Ok x) found = found ≡ Some (view x)
-Gives view (Err NotYet) found = found ≡ None
-Gives view (Err Memory) found = Unit {0}
-Gives view (Err _) found = ⊥
+use Rattle.fints_texts.specs.declared.fault.Fault.TheVariants.{Memory, Params, Orders, Script, Case, Message}
 
 -- want of memory is one fault, wherever it is met
 abbrev pub fault_of : ParamFault → Fault

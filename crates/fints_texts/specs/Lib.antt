@@ -1,4 +1,3 @@
 pub mod Fault
 pub mod Judge
-pub mod RunText
 pub mod Show

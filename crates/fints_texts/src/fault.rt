@@ -13,9 +13,6 @@ use thiserror::Error;
 /// Why inputs have no answer.
 #[derive(Clone, Copy, Debug, PartialEq, Eq, Error)]
 pub enum Fault {
-    /// The inputs aren't of the plain form that is checked so far.
-    #[error("not yet")]
-    NotYet,
     /// A growth was refused.
     #[error("memory")]
     Memory,

@@ -1,0 +1,80 @@
+-- What refuses an input is the refusal of the call.
+use Rattle.std.proofs.Common.{ℕ, List, inl, inr, sym, subst}
+use Rattle.fints_params.specs.declared.fault.ParamFault.{ParamFault}
+use Rattle.fints_params.specs.declared.fault.ParamFault.TheVariants as params
+use Rattle.fints_params.specs.Faults.{IsMemoryOr}
+use Rattle.fints_params.specs.Parameters.{Rows}
+use Rattle.fints_params.specs.Captures.{IsParamsOf, IsParamFault}
+use Rattle.fints_rules.specs.declared.orders.OrderRow.{OrderRow}
+use Rattle.fints_rules.specs.declared.orders.TableFault.{TableFault}
+use Rattle.fints_rules.specs.declared.orders.TableFault.TheVariants as orders
+use Rattle.fints_rules.specs.Orders.{DenotesTable, IsTableFault}
+use Rattle.fints_cases.specs.Cases.{IsRefusal}
+use Rattle.fints_cases.specs.declared.case_fault.CaseFault.{CaseFault}
+use Rattle.fints_cases.specs.declared.case_fault.CaseFault.TheVariants as cases
+use Rattle.fints_field_rows.specs.declared.fault.FaultKind.{FaultKind}
+use Rattle.fints_field_rows.specs.declared.fault.FaultKind.TheVariants as kinds
+use Rattle.fints_field_rows.specs.declared.fault.ScriptFault.{ScriptFault}
+use Rattle.fints_script.specs.Scripts.{ScriptValue, Refuses, IsFirstOf}
+use Rattle.fints_texts.specs.declared.fault.Fault.{Fault}
+use Rattle.fints_texts.specs.declared.fault.Fault.TheVariants.{Memory, Params, Case, NotAdmitted}
+use Rattle.fints_texts.specs.Fault.{fault_of, order_fault_of, kind_fault_of, script_fault_of, case_fault_of}
+use Rattle.fints_reports.specs.Plans.{ArePlan, IsPlanRefusal}
+use Rattle.fints_reports.specs.ReportText.{IsReportRefusal}
+use Rattle.fints_reports.specs.RunText.{IsCaseRefusal, IsRunRefusal}
+
+-- ---- order tables and scripts
+
+pub table_refused : (table script : List ℕ) (f : TableFault) → IsTableFault table f → IsPlanRefusal table script (order_fault_of f)
+table_refused table script orders.Memory p = tt
+table_refused table script orders.NotToml p = p
+table_refused table script orders.UnknownKey p = p
+table_refused table script (orders.BadRow n) p = p
+table_refused table script (orders.TwoRows n) p = p
+
+script_placed : (table script : List ℕ) (rows : List OrderRow) (kind : FaultKind) (f : ScriptFault) → DenotesTable table rows → IsFirstOf script f → IsPlanRefusal table script (kind_fault_of kind f)
+script_placed table script rows kinds.Memory f h p = tt
+script_placed table script rows _ f h p = ((rows, h), p)
+
+pub script_refused : (table script : List ℕ) (rows : List OrderRow) (f : ScriptFault) → DenotesTable table rows → Refuses script f → IsPlanRefusal table script (script_fault_of f)
+script_refused table script rows f h (inl e) = subst (λ g. IsPlanRefusal table script (script_fault_of g)) (sym e) tt
+script_refused table script rows f h (inr p) = script_placed table script rows f.kind f h p
+
+-- ---- runs
+
+pub case_refused : (script : ScriptValue) (case : List ℕ) (f : CaseFault) → IsRefusal case f → IsCaseRefusal script case (case_fault_of f)
+case_refused script case cases.Memory p = tt
+case_refused script case (cases.Bad line) p = p
+
+pub planned_refused : (table script case : List ℕ) (value : ScriptValue) (f : Fault) → ArePlan table script value → IsCaseRefusal value case f → IsRunRefusal table script case f
+planned_refused table script case value Memory h p = tt
+planned_refused table script case value (Case f) h p = ((value, h), p)
+planned_refused table script case value NotAdmitted h p = (value, h, p)
+planned_refused table script case value _ h p = absurd p
+
+-- no plan, no run
+pub unplanned_run : (table script case : List ℕ) (f : Fault) → IsPlanRefusal table script f → IsRunRefusal table script case f
+unplanned_run table script case (Case f) p = absurd p
+unplanned_run table script case NotAdmitted p = absurd p
+unplanned_run table script case _ p = p
+
+-- ---- reports
+
+pub params_refused : (capture table script : List ℕ) (f : ParamFault) → IsMemoryOr (IsParamFault capture) f → IsReportRefusal capture table script (fault_of f)
+params_refused capture table script params.Memory h = tt
+params_refused capture table script (params.Syntax s) (inl e) = absurd (cc)
+params_refused capture table script (params.Syntax s) (inr p) = p
+params_refused capture table script (params.BadElement s e) (inl q) = absurd (cc)
+params_refused capture table script (params.BadElement s e) (inr p) = p
+params_refused capture table script params.TwoBankParameters (inl e) = absurd (cc)
+params_refused capture table script params.TwoBankParameters (inr p) = p
+params_refused capture table script params.NoBankParameters (inl e) = absurd (cc)
+params_refused capture table script params.NoBankParameters (inr p) = p
+params_refused capture table script params.NoPinParameters (inl e) = absurd (cc)
+params_refused capture table script params.NoPinParameters (inr p) = p
+
+-- no plan, no report
+pub unplanned_report : (capture table script : List ℕ) (rows : Rows) (f : Fault) → IsParamsOf capture rows → IsPlanRefusal table script f → IsReportRefusal capture table script f
+unplanned_report capture table script rows Memory h p = tt
+unplanned_report capture table script rows (Params f) h p = absurd p
+unplanned_report capture table script rows _ h p = ((rows, h), p)

@@ -1,0 +1,4 @@
+pub mod Plans
+pub mod ReportText
+pub mod RunText
+pub mod StepNames

@@ -1,0 +1,26 @@
+-- The names of a script's steps; steps count from 1.
+use Rattle.std.specs.Prelude.{◌≤◌, ℕ, List, length, codes, Option, None, Some}
+use Rattle.fints_script.specs.Numbered.{numbered}
+use Rattle.fints_script.specs.Steps.{StepValue}
+use Rattle.fints_check.specs.declared.finding.Finding.{Finding}
+use Rattle.fints_wire.specs.declared.dialogue.Sent.{Sent}
+
+-- there is a step of this number
+abbrev pub IsWithin : List StepValue → ℕ → Type 0
+IsWithin steps n = (1 ≤ n) × (n ≤ length steps)
+
+abbrev pub name_in : Option StepValue → List ℕ
+name_in None = codes ""
+name_in (Some step) = step.name
+
+-- the name of step n
+abbrev pub step_name : List StepValue → ℕ → List ℕ
+step_name steps n = name_in (numbered steps n)
+
+-- the message is of one of the steps
+abbrev pub IsMessageOf : List StepValue → Sent → Type 0
+IsMessageOf steps m = IsWithin steps m.step
+
+-- the finding is of one of the steps
+abbrev pub IsFindingOf : List StepValue → Finding → Type 0
+IsFindingOf steps f = IsWithin steps f.step

@@ -1,0 +1,96 @@
+//! The text of `run`: the messages that a client sends under a case.
+ghost use Rattle.std.specs.Prelude.{◌≡◌, ◌++◌, OnOk, IfOk, IfErr};
+ghost use Rattle.std.specs.List.{All};
+ghost use Rattle.fints_script.specs.Plans.{Admits};
+ghost use Rattle.fints_reports.specs.StepNames.{IsMessageOf};
+ghost use Rattle.fints_reports.specs.RunText.{line_of, message_text, run_text, TellsRun, TellsCase, IsRunOf, IsCaseRefusal, IsRunRefusal};
+
+use fints_rules::OrderTable;
+use fints_script::{Case, Name, Plan, Script};
+use fints_syntax::Memory;
+use fints_texts::Fault;
+use fints_wire::{Sent, run};
+use itoa::Buffer;
+use std::alloc::Global;
+
+// Writes the line of a message of a step of this name.
+#[tactic(auto, unfolding(crate::specs::RunText::line_of))]
+fn write_line(text: &mut Vec<u8>, name: Name, sent: &Sent) -> Result<(), Memory>
+    ensures { OnOk result (text.new.items ≡ text.old.items ++ line_of name sent.now) }
+{
+    let mut number = Buffer::new();
+    let mut size = Buffer::new();
+    text.extend_from_slice(b"message ")?;
+    text.extend_from_slice(number.format(sent.number).as_bytes())?;
+    text.extend_from_slice(b" step ")?;
+    text.extend_from_slice(name.as_bytes())?;
+    text.extend_from_slice(b" size ")?;
+    text.extend_from_slice(size.format(sent.bytes.as_slice().len()).as_bytes())?;
+    text.push(b'\n')?;
+    Ok(())
+}
+
+#[tactic(auto, using(crate::proofs::StepLemmas::named), unfolding(crate::specs::RunText::message_text))]
+fn write_message(text: &mut Vec<u8>, plan: &Plan, sent: &Sent) -> Result<(), Memory>
+    requires { IsMessageOf plan.now.script.steps sent.now }
+    ensures { OnOk result (text.new.items
+        ≡ text.old.items ++ message_text plan.now.script.steps sent.now) }
+{
+    let step = plan.step(usize::from(sent.step));
+    write_line(text, step.name(), sent)?;
+    text.extend_from_slice(sent.bytes.as_slice())?;
+    text.push(b'\n')?;
+    Ok(())
+}
+
+fn write_messages(text: &mut Vec<u8>, plan: &Plan, sent: &[Sent]) -> Result<(), Memory>
+    requires { All (IsMessageOf plan.now.script.steps) sent.now }
+    ensures { OnOk result (text.new.items
+        ≡ text.old.items ++ run_text plan.now.script.steps sent.now) }
+{
+    for one in sent {
+        write_message(text, plan, one)?;
+    }
+    Ok(())
+}
+
+// The text of the run of a case with admitted values.
+fn run_admitted(alloc: Global, plan: &Plan, case: &Case) -> Result<Vec<u8>, Memory>
+    requires { Admits plan.now.script.fields case.now.values }
+    ensures { IfOk result (λ text. TellsRun plan.now.script case.now.values case.now.answers.items text.items) }
+{
+    let sent = run(alloc, plan, &case.values, case.answers.as_slice())?;
+    let mut text = Vec::new(alloc);
+    write_messages(&mut text, plan, sent.as_slice())?;
+    Ok(text)
+}
+
+// The text of the run of a case, by a plan.
+fn run_planned(alloc: Global, plan: &Plan, case: &[u8]) -> Result<Vec<u8>, Fault>
+    ensures told { IfOk result (λ text. TellsCase plan.now.script case.now text.items) }
+    ensures refused { IfErr result (λ f. IsCaseRefusal plan.now.script case.now f) }
+{
+    let case = Case::read(alloc, case)?;
+    if !plan.admits(&case.values) {
+        return Err(Fault::NotAdmitted);
+    }
+    let text = run_admitted(alloc, plan, &case)?;
+    Ok(text)
+}
+
+/// The messages that a client sends under a case, each behind a line that tells it. Of the refusals
+/// that of the order table comes first, then that of the script, then what the script leaves open
+/// with the order table, and then that of the case.
+pub fn run_case(alloc: Global, orders: &[u8], script: &[u8], case: &[u8]) -> Result<Vec<u8>, Fault>
+    ensures told { IfOk result (λ text. IsRunOf orders.now script.now case.now text.items) }
+    ensures refused { IfErr result (λ f. IsRunRefusal orders.now script.now case.now f) }
+{
+    let orders = OrderTable::read(alloc, orders)?;
+    let script = match Script::read(alloc, script) {
+        Ok(script) => script,
+        Err(fault) => return Err(Fault::from(fault)),
+    };
+    let plan = script.plan(&orders)?;
+    let text = run_planned(alloc, &plan, case)?;
+    Ok(text)
+}

@@ -1,4 +1,0 @@
-pub mod DocumentLemmas
-pub mod BankLemmas
-pub mod MessageLemmas
-pub mod ScriptLemmas

@@ -1,0 +1,6 @@
+//! The command line: what the words after the program's name ask for, as `clap` reads them.
+#![tactic(auto)]
+
+mod words;
+
+pub use words::{Asked, Request, read_words};
