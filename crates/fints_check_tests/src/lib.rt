@@ -2,8 +2,12 @@
 #![tactic(auto)]
 
 #[cfg(test)]
+mod brute_force;
+#[cfg(test)]
 mod numbers;
 #[cfg(test)]
 mod reports;
+#[cfg(test)]
+mod small_scripts;
 #[cfg(test)]
 mod ways;

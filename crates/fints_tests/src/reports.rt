@@ -25,6 +25,7 @@ repeat = 9
 branches = [{on = "0***", to = "again"}]
 segments = [{kind = "HKEND", version = 1, elements = ["$dialog", "$pad"]}]
 "#;
+
 const TEN: &[u8] = br#"[[field]]
 name = "pad"
 class = "digits"
@@ -74,7 +75,12 @@ segments = [{kind = "HKSAL", version = 5, elements = ["$dialog"]}]
     let rows: [(&[u8], &[u8], &[u8], &str); 4] = [
         (b"", b"x", b"x", "params NoBankParameters"),
         (built_in::CAPTURE, b"x", b"x", "orders NotToml"),
-        (built_in::CAPTURE, built_in::ORDERS, b"x", "script NotToml top"),
+        (
+            built_in::CAPTURE,
+            built_in::ORDERS,
+            b"x",
+            "script NotToml top",
+        ),
         (
             built_in::CAPTURE,
             built_in::ORDERS,
