@@ -4,6 +4,8 @@
 #[cfg(test)]
 mod brute_force;
 #[cfg(test)]
+mod cases;
+#[cfg(test)]
 mod numbers;
 #[cfg(test)]
 mod reports;

@@ -1,11 +1,11 @@
 //! Reports, row by row: what is found, and the greatest figures.
 ghost use Rattle.std.specs.Prelude.{◌≡◌};
 
-use fints_check::{Finding, Reached, Report, check};
+use fints_check::{Finding, Reached, Report, check, confirm};
 use fints_params::Params;
 use fints_rules::{OrderTable, Permissions};
 use fints_samples::{C, C1, END, FORK, SECOND_ACCOUNT, T};
-use fints_script::{Plan, Script};
+use fints_script::{Case, Plan, Script};
 use std::alloc::Global;
 use std::test::*;
 
@@ -51,7 +51,27 @@ pub fn told(
     Ok(told)
 }
 
-/// What the check of a plan tells, and how many steps and branches it looked at.
+// Each finding's case, written and read again, shows the finding.
+fn confirm_cases(
+    alloc: Global,
+    permissions: &Permissions<'_>,
+    plan: &Plan<'_>,
+    report: &Report<'_>,
+) -> Result<(), Fail> {
+    let findings = report.findings();
+    for i in 0..findings.len() {
+        let case = report.case(alloc, i)?;
+        let text = case.write(alloc)?;
+        let case = Case::read(alloc, text.as_slice())?;
+        if !confirm(alloc, permissions, plan, &findings[i], &case)? {
+            return Err(Fail::from("a case that doesn't show its finding"));
+        }
+    }
+    Ok(())
+}
+
+/// What the check of a plan tells, and how many steps and branches it looked at; its cases show what
+/// is found.
 pub fn checked(
     alloc: Global,
     permissions: &Permissions<'_>,
@@ -65,6 +85,7 @@ pub fn checked(
     if report.is_clean() != report.findings().is_empty() {
         return Err(Fail::from("clean"));
     }
+    confirm_cases(alloc, permissions, plan, &report)?;
     Ok((told, report.visits()))
 }
 

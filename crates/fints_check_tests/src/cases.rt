@@ -1,0 +1,89 @@
+//! Cases, and whether they show a finding.
+use crate::reports::ladder;
+use fints_check::{Finding, check, confirm};
+use fints_params::Params;
+use fints_rules::{OrderTable, Permissions, Rule};
+use fints_samples::{C, C1, SECOND_ACCOUNT, T};
+use fints_script::{Case, Plan, Script};
+use fints_wire::run;
+use std::alloc::Global;
+use std::test::*;
+
+// Whether the case shows the finding by script `SECOND_ACCOUNT`.
+fn is_confirmed(alloc: Global, finding: &Finding, case: &[u8]) -> Result<bool, Fail> {
+    let params = Params::read(alloc, C)?;
+    let orders = OrderTable::read(alloc, T)?;
+    let permissions = Permissions::build(alloc, &params, &orders)?;
+    let script = Script::read(alloc, SECOND_ACCOUNT)?;
+    let plan = script.plan(&orders)?;
+    let case = Case::read(alloc, case)?;
+    Ok(confirm(alloc, &permissions, &plan, finding, &case)?)
+}
+
+const SHOWN: &[u8] =
+    b"fints-case 1\nfield dialog 41\nfield pin 3030303030\nfield tan -\nfield acct 4445323232\n";
+const FIRST_ACCOUNT: &[u8] =
+    b"fints-case 1\nfield dialog 41\nfield pin 3030303030\nfield tan -\nfield acct 4445313131\n";
+const ANSWERED: &[u8] =
+    b"fints-case 1\nfield dialog 41\nfield pin 3030303030\nfield tan -\nfield acct 4445323232\nanswer 0020\n";
+const OTHER_SCRIPT: &[u8] = b"fints-case 1\nfield dialog 41\n";
+
+#[test]
+fn shown_findings(rt: HostRuntime) -> Result<(), Fail> {
+    let rows: [(u16, Rule, u16, &[u8], bool); 7] = [
+        (1, Rule::Signatures, 3, SHOWN, true),
+        (1, Rule::Signatures, 3, ANSWERED, true),
+        (1, Rule::Signatures, 3, FIRST_ACCOUNT, false),
+        (2, Rule::Signatures, 3, SHOWN, false),
+        (1, Rule::Signatures, 4, SHOWN, false),
+        (1, Rule::Account, 3, SHOWN, false),
+        (1, Rule::Signatures, 3, OTHER_SCRIPT, false),
+    ];
+    for (step, rule, segment, case, wanted) in rows {
+        let finding = Finding {
+            step,
+            rule,
+            segment,
+        };
+        let found = is_confirmed(rt.alloc(), &finding, case)?;
+        assert_eq!(rt; found, wanted, "{step} {rule} {segment}");
+    }
+    Ok(())
+}
+
+// How many answers a case has, and the number of the last message that it sends.
+fn replayed(alloc: Global, plan: &Plan<'_>, case: &Case) -> Result<(usize, u32), Fail> {
+    if !plan.admits(&case.values) {
+        return Err(Fail::from("values that aren't admitted"));
+    }
+    let sent = run(alloc, plan, &case.values, case.answers.as_slice())?;
+    match sent.last() {
+        Some(last) => Ok((case.answers.len(), last.number)),
+        None => Err(Fail::from("nothing is sent")),
+    }
+}
+
+// The same of the case of a script's first finding.
+fn first_case(alloc: Global, text: &[u8]) -> Result<(usize, u32), Fail> {
+    let params = Params::read(alloc, C1)?;
+    let orders = OrderTable::read(alloc, T)?;
+    let permissions = Permissions::build(alloc, &params, &orders)?;
+    let script = Script::read(alloc, text)?;
+    let plan = script.plan(&orders)?;
+    let report = check(alloc, &permissions, &plan)?;
+    if report.findings().is_empty() {
+        return Err(Fail::from("nothing is found"));
+    }
+    let case = report.case(alloc, 0)?;
+    replayed(alloc, &plan, &case)
+}
+
+// The first finding is that of step 197, whose last message has number 10,047.
+#[test]
+fn long_case(rt: HostRuntime) -> Result<(), Fail> {
+    let text = ladder(rt.alloc(), 200)?;
+    let (answers, number) = first_case(rt.alloc(), text.as_bytes())?;
+    assert_eq!(rt; answers, 10046);
+    assert_eq!(rt; number, 10047);
+    Ok(())
+}
