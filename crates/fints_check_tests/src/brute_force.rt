@@ -4,13 +4,12 @@
 ghost use Rattle.std.specs.Prelude.{◌≡◌};
 
 use crate::reports::{checked, ladder, told};
-use crate::small_scripts::{HEAD, KILOBYTE, ORDERS, OTHER, ROWS, WIDE, WORDS};
+use crate::small_scripts::{BANKS, HEAD, ORDERS, ROWS, VALUES, WORDS};
 use crate::ways::answers_to;
 use fints_check::{Finding, Reached};
 use fints_params::{Code, Params};
 use fints_rules::{Broken, OrderTable, Permissions, Rule, judge};
-use fints_samples::{C, C1};
-use fints_script::{Answer, Name, Plan, Script, Values};
+use fints_script::{Answer, Plan, Script, Values};
 use fints_wire::{Sent, run};
 use std::alloc::Global;
 use std::test::*;
@@ -18,21 +17,13 @@ use std::test::*;
 // A list of words: values of a script's fields, or the answers of a run.
 type Words<'a> = Vec<&'a str>;
 
-fn bank(name: &str) -> Result<&'static [u8], Fail> {
-    match name {
-        "c" => Ok(C),
-        "c1" => Ok(C1),
-        "kilobyte" => Ok(KILOBYTE),
-        "other" => Ok(OTHER),
-        "wide" => Ok(WIDE),
-        _ => Err(Fail::from("no such bank")),
-    }
-}
-
-fn meaning(word: &str) -> Result<&'static str, Fail> {
-    for (name, text) in WORDS {
-        if name == word {
-            return Ok(text);
+// What stands behind a word at the front of a line.
+fn meaning<'a>(lines: &'a str, word: &str) -> Result<&'a str, Fail> {
+    for line in lines.trim().lines() {
+        if let Some((name, text)) = line.split_once(" ") {
+            if name == word {
+                return Ok(text);
+            }
         }
     }
     Err(Fail::from("no such word"))
@@ -41,7 +32,11 @@ fn meaning(word: &str) -> Result<&'static str, Fail> {
 // Adds the text with the meaning of each word between two `#`.
 fn push_expanded(out: &mut String, text: &str) -> Result<(), Fail> {
     for (i, part) in text.split("#").enumerate() {
-        out.push_str(if i % 2 == 0 { part } else { meaning(part)? })?;
+        out.push_str(if i % 2 == 0 {
+            part
+        } else {
+            meaning(WORDS, part)?
+        })?;
     }
     Ok(())
 }
@@ -89,29 +84,31 @@ fn empty_list<'a>(alloc: Global) -> Result<Vec<Words<'a>>, Fail> {
     Ok(lists)
 }
 
-// What the row says of a field, else what stands in for a value that it doesn't vary.
-fn candidates<'a>(values: &'a str, name: &[u8]) -> &'a str {
+// The values that a text lists for a field.
+fn listed<'a>(values: &'a str, field: &[u8]) -> Option<&'a str> {
     for part in values.split(" ") {
-        if let Some((field, words)) = part.split_once("=") {
-            if field.as_bytes() == name {
-                return words;
+        if let Some((name, words)) = part.split_once("=") {
+            if name.as_bytes() == field {
+                return Some(words);
             }
         }
     }
-    match name {
-        b"dialog" => "D,?~30",
-        b"full" => "42",
-        _ => "7",
-    }
+    None
+}
+
+fn candidates<'a>(alloc: Global, values: &'a str, field: &[u8]) -> Result<Words<'a>, Fail> {
+    let words = match listed(values, field) {
+        Some(words) => words,
+        None => listed(VALUES, field).ok_or("no values")?,
+    };
+    Ok(words.split(",").collect(alloc)?)
 }
 
 // All choices of the listed values, a value for each field of the plan.
 fn choices<'a>(alloc: Global, plan: &Plan<'_>, values: &'a str) -> Result<Vec<Words<'a>>, Fail> {
     let mut lists = empty_list(alloc)?;
     for field in plan.fields() {
-        let words: Words<'a> = candidates(values, field.name.as_bytes())
-            .split(",")
-            .collect(alloc)?;
+        let words = candidates(alloc, values, field.name.as_bytes())?;
         lists = extended(alloc, lists.as_slice(), words.as_slice())?;
     }
     Ok(lists)
@@ -337,21 +334,72 @@ fn rank(rule: Rule) -> usize {
     Rule::ALL.iter().position(|it| *it == rule).unwrap_or(0)
 }
 
-// What the check of the row's script tells, what its runs show, and these.
-fn compared(alloc: Global, row: &str) -> Result<(String, String, Seen), Fail> {
-    let asked = read_row(alloc, row)?;
-    let params = Params::read(alloc, bank(asked.bank)?)?;
-    let orders = OrderTable::read(alloc, ORDERS)?;
-    let permissions = Permissions::build(alloc, &params, &orders)?;
-    let text = script_text(alloc, asked.fields, asked.steps)?;
-    let script = Script::read(alloc, text.as_bytes())?;
-    let plan = script.plan(&orders)?;
-    let (wanted, _) = checked(alloc, &permissions, &plan)?;
-    let mut seen = see_all(alloc, &permissions, &plan, &asked)?;
-    seen.findings
-        .sort_by_key(|it| (it.step, rank(it.rule), it.segment))?;
+// Puts the findings in order of step, rule and segment.
+fn sort(findings: &mut Vec<Finding>) -> Result<(), Fail> {
+    findings.sort_by_key(|it| (it.step, rank(it.rule), it.segment))?;
+    Ok(())
+}
+
+#[derive(Drop)]
+struct Inputs {
+    params: Params,
+    orders: OrderTable,
+    script: Script,
+}
+
+fn read_inputs(alloc: Global, bank: &str, script: &[u8]) -> Result<Inputs, Fail> {
+    let capture = meaning(BANKS, bank)?;
+    Ok(Inputs {
+        params: Params::read(alloc, capture.as_bytes())?,
+        orders: OrderTable::read(alloc, ORDERS)?,
+        script: Script::read(alloc, script)?,
+    })
+}
+
+// What the check of a script tells, what its runs show, and what was seen.
+#[derive(Drop)]
+struct Compared {
+    wanted: String,
+    shown: String,
+    seen: Seen,
+}
+
+fn shown_by(
+    alloc: Global,
+    permissions: &Permissions<'_>,
+    plan: &Plan<'_>,
+    mut seen: Seen,
+) -> Result<Compared, Fail>
+    requires { permissions.now.orders ≡ plan.now.orders }
+{
+    sort(&mut seen.findings)?;
     let shown = told(alloc, seen.figures.as_slice(), seen.findings.as_slice())?;
-    Ok((wanted, shown, seen))
+    let (wanted, _) = checked(alloc, permissions, plan)?;
+    Ok(Compared {
+        wanted,
+        shown,
+        seen,
+    })
+}
+
+fn compared_on_all(alloc: Global, row: &str) -> Result<Compared, Fail> {
+    let asked = read_row(alloc, row)?;
+    let text = script_text(alloc, asked.fields, asked.steps)?;
+    let inputs = read_inputs(alloc, asked.bank, text.as_bytes())?;
+    let permissions = Permissions::build(alloc, &inputs.params, &inputs.orders)?;
+    let plan = inputs.script.plan(&inputs.orders)?;
+    let seen = see_all(alloc, &permissions, &plan, &asked)?;
+    shown_by(alloc, &permissions, &plan, seen)
+}
+
+// Adds the rules of the findings that aren't among them.
+fn add_rules(rules: &mut Vec<Rule>, findings: &[Finding]) -> Result<(), Fail> {
+    for it in findings {
+        if !rules.contains(&it.rule) {
+            rules.push(it.rule)?;
+        }
+    }
+    Ok(())
 }
 
 // Each rule but P2, which takes 9,999 messages before it.
@@ -360,48 +408,45 @@ fn all_runs(rt: HostRuntime) -> Result<(), Fail> {
     let mut runs: u64 = 0;
     let mut rules = Vec::new(rt.alloc());
     for row in ROWS.trim().lines() {
-        let (wanted, shown, seen) = compared(rt.alloc(), row)?;
-        assert_eq!(rt; wanted.as_str(), shown.as_str(), "{row}");
-        runs = runs.saturating_add(seen.runs);
-        for it in seen.findings.as_slice() {
-            if !rules.contains(&it.rule) {
-                rules.push(it.rule)?;
-            }
-        }
+        let it = compared_on_all(rt.alloc(), row)?;
+        assert_eq!(rt; it.wanted.as_str(), it.shown.as_str(), "{row}");
+        runs = runs.saturating_add(it.seen.runs);
+        add_rules(&mut rules, it.seen.findings.as_slice())?;
     }
     assert_eq!(rt; rules.len(), 9);
     assert_eq!(rt; runs, 5348);
     Ok(())
 }
 
-// The figures and findings of the one run that leads to the last step's greatest number.
-fn seen_on_way(alloc: Global, text: &[u8]) -> Result<(String, String), Fail> {
-    let params = Params::read(alloc, C1)?;
-    let orders = OrderTable::read(alloc, ORDERS)?;
-    let permissions = Permissions::build(alloc, &params, &orders)?;
-    let script = Script::read(alloc, text)?;
-    let plan = script.plan(&orders)?;
-    let (wanted, _) = checked(alloc, &permissions, &plan)?;
-    let answers = answers_to(alloc, &plan, plan.step_count())?;
-    let values = values_of(alloc, &plan, &["?~30"])?;
-    let mut seen = nothing_seen(alloc, &plan)?;
+// Looks at the one run that leads to the last step's greatest number, with the longest dialogue id.
+fn see_way(alloc: Global, permissions: &Permissions<'_>, plan: &Plan<'_>) -> Result<Seen, Fail> {
+    let answers = answers_to(alloc, plan, plan.step_count())?;
+    let values = values_of(alloc, plan, &["?~30"])?;
+    let mut seen = nothing_seen(alloc, plan)?;
     see_run(
         alloc,
-        &permissions,
-        &plan,
+        permissions,
+        plan,
         &values,
         answers.as_slice(),
         &mut seen,
     )?;
-    let shown = told(alloc, seen.figures.as_slice(), seen.findings.as_slice())?;
-    Ok((wanted, shown))
+    Ok(seen)
+}
+
+fn compared_on_way(alloc: Global, text: &[u8]) -> Result<Compared, Fail> {
+    let inputs = read_inputs(alloc, "c1", text)?;
+    let permissions = Permissions::build(alloc, &inputs.params, &inputs.orders)?;
+    let plan = inputs.script.plan(&inputs.orders)?;
+    let seen = see_way(alloc, &permissions, &plan)?;
+    shown_by(alloc, &permissions, &plan, seen)
 }
 
 // P2: 10,200 messages in a row, the last 201 with numbers over 9,999.
 #[test]
 fn long_run(rt: HostRuntime) -> Result<(), Fail> {
     let text = ladder(rt.alloc(), 200)?;
-    let (wanted, shown) = seen_on_way(rt.alloc(), text.as_bytes())?;
-    assert_eq!(rt; wanted.as_str(), shown.as_str());
+    let it = compared_on_way(rt.alloc(), text.as_bytes())?;
+    assert_eq!(rt; it.wanted.as_str(), it.shown.as_str());
     Ok(())
 }

@@ -1,86 +1,35 @@
 //! Small scripts, with the values and answers under which all their runs are looked at, and the
 //! banks that they are checked against.
 
-/// Words in the rows, written as `#name#`, and what they stand for.
-pub const WORDS: [(&str, &str); 26] = [
-    ("a", r#"name = "a", segments ="#),
-    ("b", r#"name = "b", segments ="#),
-    ("c", r#"name = "c", segments ="#),
-    ("d", r#"name = "d", segments ="#),
-    (
-        "end",
-        r#"{kind = "HKEND", version = 1, elements = ["$dialog"]}"#,
-    ),
-    (
-        "end2",
-        r#"{kind = "HKEND", version = 2, elements = ["$dialog"]}"#,
-    ),
-    (
-        "pad",
-        r#"{kind = "HKEND", version = 1, elements = ["$dialog", "$pad"]}"#,
-    ),
-    (
-        "idn",
-        r#"{kind = "HKIDN", version = 2, elements = [["280", "10020030"], "9999999999", "0", "0"]}"#,
-    ),
-    ("vvb", r#"{kind = "HKVVB", version = 4}"#),
-    (
-        "sal",
-        r#"{kind = "HKSAL", version = 5, elements = [["1234567", "", "280", "10020030"], "N"]}"#,
-    ),
-    (
-        "sal2",
-        r#"{kind = "HKSAL", version = 5, elements = [["7654321", "", "280", "10020030"], "N"]}"#,
-    ),
-    (
-        "sal6",
-        r#"{kind = "HKSAL", version = 6, elements = [["1234567", "", "280", "10020030"], "N"]}"#,
-    ),
-    (
-        "sal7",
-        r#"{kind = "HKSAL", version = 7, elements = [["DE111"]]}"#,
-    ),
-    (
-        "salx",
-        r#"{kind = "HKSAL", version = 5, elements = ["$acct", "N"]}"#,
-    ),
-    (
-        "kaz",
-        r#"{kind = "HKKAZ", version = 5, elements = [["1234567", "", "280", "10020030"], "N"]}"#,
-    ),
-    (
-        "kaz2",
-        r#"{kind = "HKKAZ", version = 5, elements = [["7654321", "", "280", "10020030"], "N"]}"#,
-    ),
-    (
-        "ccs",
-        r#"{kind = "HKCCS", version = 1, elements = [["DE111"]]}"#,
-    ),
-    (
-        "ccs2",
-        r#"{kind = "HKCCS", version = 1, elements = [["DE222"]]}"#,
-    ),
-    (
-        "ccsx",
-        r#"{kind = "HKCCS", version = 1, elements = ["$acct"]}"#,
-    ),
-    (
-        "abc",
-        r#"{kind = "DKABC", version = 1, elements = ["$dialog"]}"#,
-    ),
-    ("xyz", r#"{kind = "DKXYZ", version = 1}"#),
-    (
-        "tan4",
-        r#"{kind = "HKTAN", version = 6, elements = ["4", "HKCCS"]}"#,
-    ),
-    (
-        "tan2",
-        r#"{kind = "HKTAN", version = 6, elements = ["2", "", "", "", "reference"]}"#,
-    ),
-    ("me", r#"signers = ["me"]"#),
-    ("may", r#"signers = ["may"]"#),
-    ("has", r#"signers = ["has"]"#),
-];
+/// Words in the rows, written as `#name#`, each with what it stands for.
+pub const WORDS: &str = r#"
+a name = "a", segments =
+b name = "b", segments =
+c name = "c", segments =
+d name = "d", segments =
+end {kind = "HKEND", version = 1, elements = ["$dialog"]}
+end2 {kind = "HKEND", version = 2, elements = ["$dialog"]}
+pad {kind = "HKEND", version = 1, elements = ["$dialog", "$pad"]}
+idn {kind = "HKIDN", version = 2, elements = [["280", "10020030"], "9999999999", "0", "0"]}
+vvb {kind = "HKVVB", version = 4}
+sal {kind = "HKSAL", version = 5, elements = [["1234567", "", "280", "10020030"], "N"]}
+sal2 {kind = "HKSAL", version = 5, elements = [["7654321", "", "280", "10020030"], "N"]}
+sal6 {kind = "HKSAL", version = 6, elements = [["1234567", "", "280", "10020030"], "N"]}
+sal7 {kind = "HKSAL", version = 7, elements = [["DE111"]]}
+salx {kind = "HKSAL", version = 5, elements = ["$acct", "N"]}
+kaz {kind = "HKKAZ", version = 5, elements = [["1234567", "", "280", "10020030"], "N"]}
+kaz2 {kind = "HKKAZ", version = 5, elements = [["7654321", "", "280", "10020030"], "N"]}
+ccs {kind = "HKCCS", version = 1, elements = [["DE111"]]}
+ccs2 {kind = "HKCCS", version = 1, elements = [["DE222"]]}
+ccsx {kind = "HKCCS", version = 1, elements = ["$acct"]}
+abc {kind = "DKABC", version = 1, elements = ["$dialog"]}
+xyz {kind = "DKXYZ", version = 1}
+tan4 {kind = "HKTAN", version = 6, elements = ["4", "HKCCS"]}
+tan2 {kind = "HKTAN", version = 6, elements = ["2", "", "", "", "reference"]}
+me signers = ["me"]
+may signers = ["may"]
+has signers = ["has"]
+"#;
 
 /// What each script begins with: a seal, a TAN that may be empty and one that may not, and three
 /// signers: one without a TAN, and one with each of them.
@@ -100,18 +49,19 @@ field = [
 pub const ORDERS: &[u8] =
     b"order = [{ kind = 'HKSAL', version = 5, account = 'national' }, { kind = 'HKKAZ', version = 5, account = 'national' }, { kind = 'HKSAL', version = 7, account = 'international' }, { kind = 'HKCCS', version = 1, account = 'international' }, { kind = 'DKABC', version = 1, account = 'none' }]";
 
-/// A bank of one kilobyte.
-pub const KILOBYTE: &[u8] =
-    b"HIBPA:3:3+12+280:10020030+Bank+1+1+300+1'HIPINS:9:1+1+1+0+5:38:6:::HKSAL:N:HKKAZ:N:HKCCS:J'";
+/// The banks: a least one, one with orders and accounts, one of one kilobyte, one of another protocol,
+/// and one with two rows of one order, with flags of both kinds for another, and with accounts that
+/// list an order twice and lock nothing that they don't list.
+pub const BANKS: &str = r#"
+c1 HIBPA:3:3+12+280:10020030+Bank+1+1+300+0'HIPINS:9:1+1+1+0+5:38:6:::HKSAL:N:HKKAZ:N:HKCCS:J'
+c HIBPA:3:3+12+280:10020030+Bank+1+1+300+0'HIPINS:9:1+1+1+0+5:38:6:::HKSAL:N:HKKAZ:N:HKCCS:J'HISALS:4:5+2+1+0'HISALS:5:7+2+1+0'HIKAZS:6:5+20+1+90:N:N'HICCSS:7:1+1+1+0'HITANS:8:6+1+1+0+J:N:0'HIUPA:10:4+user+3+0'HIUPD:11:6+1234567::280:10020030+DE111+cust+1+EUR+Name++Giro++HKSAL:1+HKKAZ:1+HKCCS:1'HIUPD:12:6+7654321::280:10020030+DE222+cust+1+EUR+Name++Giro++HKSAL:1+HKCCS:2'
+kilobyte HIBPA:3:3+12+280:10020030+Bank+1+1+300+1'HIPINS:9:1+1+1+0+5:38:6:::HKSAL:N:HKKAZ:N:HKCCS:J'
+other HIBPA:3:3+12+280:10020030+Bank+1+1+220+0'HIPINS:9:1+1+1+0+5:38:6:::HKSAL:N:HKKAZ:N:HKCCS:J'
+wide HIBPA:3:3+12+280:10020030+Bank+2+1+220:300+0'HIPINS:9:1+1+1+0+5:38:6:::HKSAL:N:HKKAZ:J:HKCCS:J:HKCCS:N:DKABC:N'HISALS:4:5+1+1+0'HISALS:5:5+3+0+0'HIKAZS:6:5+0+2+1+90:N:N'HICCSS:7:1+2+0+0'DIABCS:8:1+1+0+0'HITANS:8:6+1+2+0+J:N:0'HIUPA:10:4+user+3+1'HIUPD:11:6+1234567::280:10020030+DE111+cust+1+EUR+Name++Giro++HKCCS:3+HKCCS:1+HKSAL:2'HIUPD:12:6+7654321::280:10020030+DE222+cust+1+EUR+Name++Giro++HKCCS:2'HIUPD:13:6+7654321::280:10020030+DE333+cust+1+EUR+Name++Giro++HKSAL:3'
+"#;
 
-/// A bank of another protocol.
-pub const OTHER: &[u8] =
-    b"HIBPA:3:3+12+280:10020030+Bank+1+1+220+0'HIPINS:9:1+1+1+0+5:38:6:::HKSAL:N:HKKAZ:N:HKCCS:J'";
-
-/// A bank with two rows of one order, with flags of both kinds for another, and accounts that list an
-/// order twice; what they don't list is not locked.
-pub const WIDE: &[u8] =
-    b"HIBPA:3:3+12+280:10020030+Bank+2+1+220:300+0'HIPINS:9:1+1+1+0+5:38:6:::HKSAL:N:HKKAZ:J:HKCCS:J:HKCCS:N:DKABC:N'HISALS:4:5+1+1+0'HISALS:5:5+3+0+0'HIKAZS:6:5+0+2+1+90:N:N'HICCSS:7:1+2+0+0'DIABCS:8:1+1+0+0'HITANS:8:6+1+2+0+J:N:0'HIUPA:10:4+user+3+1'HIUPD:11:6+1234567::280:10020030+DE111+cust+1+EUR+Name++Giro++HKCCS:3+HKCCS:1+HKSAL:2'HIUPD:12:6+7654321::280:10020030+DE222+cust+1+EUR+Name++Giro++HKCCS:2'HIUPD:13:6+7654321::280:10020030+DE333+cust+1+EUR+Name++Giro++HKSAL:3'";
+/// The values of fields of which a row says nothing.
+pub const VALUES: &str = "dialog=D,?~30 tan=7 full=42";
 
 /// Each row: the bank; the answers, the codes of one joined by `+`; how many of them at most; the
 /// values of its fields besides the dialogue id; these fields; and the steps. A value `9~849` is 849
