@@ -22,10 +22,13 @@ fn is_confirmed(alloc: Global, finding: &Finding, case: &[u8]) -> Result<bool, F
 
 const SHOWN: &[u8] =
     b"fints-case 1\nfield dialog 41\nfield pin 3030303030\nfield tan -\nfield acct 4445323232\n";
+
 const FIRST_ACCOUNT: &[u8] =
     b"fints-case 1\nfield dialog 41\nfield pin 3030303030\nfield tan -\nfield acct 4445313131\n";
+
 const ANSWERED: &[u8] =
     b"fints-case 1\nfield dialog 41\nfield pin 3030303030\nfield tan -\nfield acct 4445323232\nanswer 0020\n";
+
 const OTHER_SCRIPT: &[u8] = b"fints-case 1\nfield dialog 41\n";
 
 #[test]
