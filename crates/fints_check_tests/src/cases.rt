@@ -1,4 +1,6 @@
 //! Cases, and whether they show a finding.
+ghost use Rattle.std.specs.Prelude.{◌≡◌};
+
 use crate::reports::ladder;
 use fints_check::{Finding, check, confirm};
 use fints_params::Params;
@@ -9,15 +11,38 @@ use fints_wire::run;
 use std::alloc::Global;
 use std::test::*;
 
+#[derive(Drop)]
+struct Inputs {
+    params: Params,
+    orders: OrderTable,
+    script: Script,
+}
+
+fn read_inputs(alloc: Global, capture: &[u8], script: &[u8]) -> Result<Inputs, Fail> {
+    Ok(Inputs {
+        params: Params::read(alloc, capture)?,
+        orders: OrderTable::read(alloc, T)?,
+        script: Script::read(alloc, script)?,
+    })
+}
+
+fn is_confirmed_by(
+    alloc: Global,
+    permissions: &Permissions<'_>,
+    plan: &Plan<'_>,
+    finding: &Finding,
+    case: &[u8],
+) -> Result<bool, Fail> {
+    let case = Case::read(alloc, case)?;
+    Ok(confirm(alloc, permissions, plan, finding, &case)?)
+}
+
 // Whether the case shows the finding by script `SECOND_ACCOUNT`.
 fn is_confirmed(alloc: Global, finding: &Finding, case: &[u8]) -> Result<bool, Fail> {
-    let params = Params::read(alloc, C)?;
-    let orders = OrderTable::read(alloc, T)?;
-    let permissions = Permissions::build(alloc, &params, &orders)?;
-    let script = Script::read(alloc, SECOND_ACCOUNT)?;
-    let plan = script.plan(&orders)?;
-    let case = Case::read(alloc, case)?;
-    Ok(confirm(alloc, &permissions, &plan, finding, &case)?)
+    let inputs = read_inputs(alloc, C, SECOND_ACCOUNT)?;
+    let permissions = Permissions::build(alloc, &inputs.params, &inputs.orders)?;
+    let plan = inputs.script.plan(&inputs.orders)?;
+    is_confirmed_by(alloc, &permissions, &plan, finding, case)
 }
 
 const SHOWN: &[u8] =
@@ -66,19 +91,27 @@ fn replayed(alloc: Global, plan: &Plan<'_>, case: &Case) -> Result<(usize, u32),
     }
 }
 
-// The same of the case of a script's first finding.
-fn first_case(alloc: Global, text: &[u8]) -> Result<(usize, u32), Fail> {
-    let params = Params::read(alloc, C1)?;
-    let orders = OrderTable::read(alloc, T)?;
-    let permissions = Permissions::build(alloc, &params, &orders)?;
-    let script = Script::read(alloc, text)?;
-    let plan = script.plan(&orders)?;
-    let report = check(alloc, &permissions, &plan)?;
+// The same of the case of the first finding.
+fn replayed_first(
+    alloc: Global,
+    permissions: &Permissions<'_>,
+    plan: &Plan<'_>,
+) -> Result<(usize, u32), Fail>
+    requires { permissions.now.orders ≡ plan.now.orders }
+{
+    let report = check(alloc, permissions, plan)?;
     if report.findings().is_empty() {
         return Err(Fail::from("nothing is found"));
     }
     let case = report.case(alloc, 0)?;
-    replayed(alloc, &plan, &case)
+    replayed(alloc, plan, &case)
+}
+
+fn first_case(alloc: Global, text: &[u8]) -> Result<(usize, u32), Fail> {
+    let inputs = read_inputs(alloc, C1, text)?;
+    let permissions = Permissions::build(alloc, &inputs.params, &inputs.orders)?;
+    let plan = inputs.script.plan(&inputs.orders)?;
+    replayed_first(alloc, &permissions, &plan)
 }
 
 // The first finding is that of step 197, whose last message has number 10,047.

@@ -1,5 +1,5 @@
 //! Reports, row by row: what is found, and the greatest figures.
-ghost use Rattle.std.specs.Prelude.{◌≡◌};
+ghost use Rattle.std.specs.Prelude.{◌≡◌, ◌<◌, length};
 
 use fints_check::{Finding, Reached, Report, check, confirm};
 use fints_params::Params;
@@ -51,23 +51,30 @@ pub fn told(
     Ok(told)
 }
 
-// Each finding's case, written and read again, shows the finding.
-fn confirm_cases(
+// The case of a finding, written and read again.
+fn case_again(alloc: Global, report: &Report<'_>, i: usize) -> Result<Case, Fail>
+    requires { i < length report.now.findings }
+{
+    let case = report.case(alloc, i)?;
+    let text = case.write(alloc)?;
+    Ok(Case::read(alloc, text.as_slice())?)
+}
+
+// Whether each finding's case shows the finding.
+fn are_shown(
     alloc: Global,
     permissions: &Permissions<'_>,
     plan: &Plan<'_>,
     report: &Report<'_>,
-) -> Result<(), Fail> {
+) -> Result<bool, Fail> {
     let findings = report.findings();
     for i in 0..findings.len() {
-        let case = report.case(alloc, i)?;
-        let text = case.write(alloc)?;
-        let case = Case::read(alloc, text.as_slice())?;
+        let case = case_again(alloc, report, i)?;
         if !confirm(alloc, permissions, plan, &findings[i], &case)? {
-            return Err(Fail::from("a case that doesn't show its finding"));
+            return Ok(false);
         }
     }
-    Ok(())
+    Ok(true)
 }
 
 /// What the check of a plan tells, and how many steps and branches it looked at; its cases show what
@@ -85,7 +92,9 @@ pub fn checked(
     if report.is_clean() != report.findings().is_empty() {
         return Err(Fail::from("clean"));
     }
-    confirm_cases(alloc, permissions, plan, &report)?;
+    if !are_shown(alloc, permissions, plan, &report)? {
+        return Err(Fail::from("a case that doesn't show its finding"));
+    }
     Ok((told, report.visits()))
 }
 
