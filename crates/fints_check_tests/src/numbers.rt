@@ -1,16 +1,13 @@
 //! Greatest numbers of steps.
-use fints_reach::greatest_numbers;
+use fints_reach::{Numbers, greatest_numbers};
 use fints_rules::OrderTable;
 use fints_samples::{FORK, T};
 use fints_script::Script;
 use std::alloc::Global;
 use std::test::*;
 
-// The greatest numbers of a script's steps, each with a blank after it, and then the visits.
-fn numbers_of(alloc: Global, text: &[u8]) -> Result<String, Fail> {
-    let orders = OrderTable::read(alloc, T)?;
-    let script = Script::read(alloc, text)?;
-    let numbers = greatest_numbers(alloc, &script.plan(&orders)?)?;
+// The greatest numbers, each with a blank after it, and then the visits.
+fn told(alloc: Global, numbers: &Numbers) -> Result<String, Fail> {
     let mut told = String::new(alloc);
     for number in numbers.greatest.as_slice() {
         match number {
@@ -20,6 +17,14 @@ fn numbers_of(alloc: Global, text: &[u8]) -> Result<String, Fail> {
     }
     told.push_str(format!(in alloc; "{}", numbers.visits)?.as_str())?;
     Ok(told)
+}
+
+// Those of a script's steps.
+fn numbers_of(alloc: Global, text: &[u8]) -> Result<String, Fail> {
+    let orders = OrderTable::read(alloc, T)?;
+    let script = Script::read(alloc, text)?;
+    let numbers = greatest_numbers(alloc, &script.plan(&orders)?)?;
+    told(alloc, &numbers)
 }
 
 const REPEATED: &[u8] = br#"
@@ -42,21 +47,33 @@ fn few_steps(rt: HostRuntime) -> Result<(), Fail> {
     Ok(())
 }
 
+// Adds a branch on such codes to step wi.
+fn push_branch(alloc: Global, text: &mut String, on: &str, i: u32) -> Result<(), Fail> {
+    text.push_str(format!(in alloc; "{{on = \"{on}\", to = \"w{i}\"}}, ")?.as_str())?;
+    Ok(())
+}
+
+// Adds step wi of so many.
+fn push_step(alloc: Global, text: &mut String, i: u16, count: u16) -> Result<(), Fail> {
+    let (i, count) = (u32::from(i), u32::from(count));
+    text.push_str(format!(in alloc;
+        "{{name = \"w{i}\", segments = [{{kind = \"HKEND\", version = 1, elements = [\"$dialog\"]}}], branches = ["
+    )?.as_str())?;
+    if i < count {
+        push_branch(alloc, text, "0***", i + 1)?;
+    }
+    if i + 1 < count {
+        push_branch(alloc, text, "3***", i + 2)?;
+    }
+    text.push_str("]},\n")?;
+    Ok(())
+}
+
 // Steps w1 to wn, each with a branch to the next one and one to that after it.
 fn ladder(alloc: Global, count: u16) -> Result<String, Fail> {
-    let count = u32::from(count);
     let mut text = String::from_str(alloc, "step = [\n")?;
     for i in 1..=count {
-        text.push_str(format!(in alloc;
-            "{{name = \"w{i}\", segments = [{{kind = \"HKEND\", version = 1, elements = [\"$dialog\"]}}], branches = ["
-        )?.as_str())?;
-        if i < count {
-            text.push_str(format!(in alloc; "{{on = \"0***\", to = \"w{}\"}}, ", i + 1)?.as_str())?;
-        }
-        if i + 1 < count {
-            text.push_str(format!(in alloc; "{{on = \"3***\", to = \"w{}\"}}", i + 2)?.as_str())?;
-        }
-        text.push_str("]},\n")?;
+        push_step(alloc, &mut text, i, count)?;
     }
     text.push_str("]")?;
     Ok(text)

@@ -35,21 +35,25 @@ fn way_len(alloc: Global, text: &[u8], n: usize) -> Result<usize, Fail>
     Ok(answers.len())
 }
 
-// The answers that lead to a script's last step: the numbers of their codes, with a `;` behind each
-// answer.
-fn way_of(alloc: Global, text: &[u8]) -> Result<String, Fail> {
-    let orders = OrderTable::read(alloc, T)?;
-    let script = Script::read(alloc, text)?;
-    let plan = script.plan(&orders)?;
-    let answers = answers_to(alloc, &plan, plan.step_count())?;
+// The numbers of the codes, with a `;` behind each answer.
+fn told(alloc: Global, answers: &[Answer]) -> Result<String, Fail> {
     let mut told = String::new(alloc);
-    for answer in answers.as_slice() {
+    for answer in answers {
         for code in answer.codes() {
             told.push_str(format!(in alloc; " {}", code.number())?.as_str())?;
         }
         told.push_str(";")?;
     }
     Ok(told)
+}
+
+// The answers that lead to a script's last step.
+fn way_of(alloc: Global, text: &[u8]) -> Result<String, Fail> {
+    let orders = OrderTable::read(alloc, T)?;
+    let script = Script::read(alloc, text)?;
+    let plan = script.plan(&orders)?;
+    let answers = answers_to(alloc, &plan, plan.step_count())?;
+    told(alloc, answers.as_slice())
 }
 
 const REPEATS: &[u8] = br#"

@@ -39,16 +39,26 @@ fn of(orders: u32, signatures: u32) -> Option<Limits> {
 
 #[test]
 fn limits(rt: HostRuntime) -> Result<(), Fail> {
-    let alloc = rt.alloc();
-    let later = b"HISALS:4:5+0+2'HISALS:5:5+3+1'";
-    let least = b"HISALS:4:5+5+0'HISALS:5:5+3+1'";
-    let open = b"HISALS:4:5+0+0'HISALS:5:5+0+0'";
-    assert_eq!(rt; limits_of(alloc, C, b"", b"HKKAZ", 5)?, of(20, 1));
-    assert_eq!(rt; limits_of(alloc, C, b"", b"HKSAL", 6)?, None);
-    assert_eq!(rt; limits_of(alloc, C1, later, b"HKSAL", 5)?, of(3, 2));
-    assert_eq!(rt; limits_of(alloc, C1, least, b"HKSAL", 5)?, of(3, 1));
-    assert_eq!(rt; limits_of(alloc, C1, open, b"HKSAL", 5)?, of(0, 0));
+    let rows: [(&[u8], &[u8], &[u8], u16, Option<Limits>); 5] = [
+        (C, b"", b"HKKAZ", 5, of(20, 1)),
+        (C, b"", b"HKSAL", 6, None),
+        (C1, b"HISALS:4:5+0+2'HISALS:5:5+3+1'", b"HKSAL", 5, of(3, 2)),
+        (C1, b"HISALS:4:5+5+0'HISALS:5:5+3+1'", b"HKSAL", 5, of(3, 1)),
+        (C1, b"HISALS:4:5+0+0'HISALS:5:5+0+0'", b"HKSAL", 5, of(0, 0)),
+    ];
+    for (capture, more, order, version, wanted) in rows {
+        let found = limits_of(rt.alloc(), capture, more, order, version)?;
+        assert_eq!(rt; found, wanted);
+    }
     Ok(())
+}
+
+// What the least bank demands of an order, where more pairs say J and N.
+fn demand_of(alloc: Global, order: &[u8]) -> Result<Demand, Fail> {
+    let orders = OrderTable::read(alloc, T)?;
+    let params = params(alloc, C1, b"HIPINS:9:1+1+1+0+5:38:6:::HKKAZ:J:HKCCS:N'")?;
+    let permissions = Permissions::build(alloc, &params, &orders)?;
+    Ok(permissions.demand(kind(order)?))
 }
 
 // J holds where some pair says it, before or behind an N.
@@ -60,19 +70,22 @@ fn demands(rt: HostRuntime) -> Result<(), Fail> {
         (b"HKKAZ", Demand::Tan),
         (b"HKPAE", Demand::Unlisted),
     ];
-    let orders = OrderTable::read(rt.alloc(), T)?;
-    let params = params(
-        rt.alloc(),
-        C1,
-        b"HIPINS:9:1+1+1+0+5:38:6:::HKKAZ:J:HKCCS:N'",
-    )?;
-    let permissions = Permissions::build(rt.alloc(), &params, &orders)?;
-    for (order, demand) in rows {
-        assert_eq!(rt; permissions.demand(kind(order)?), demand, "{order:?}");
+    for (order, wanted) in rows {
+        let found = demand_of(rt.alloc(), order)?;
+        assert_eq!(rt; found, wanted, "{order:?}");
     }
+    Ok(())
+}
+
+#[test]
+fn parts(rt: HostRuntime) -> Result<(), Fail> {
+    let order = kind(b"HKSAL")?;
+    let orders = OrderTable::read(rt.alloc(), T)?;
+    let params = Params::read(rt.alloc(), C1)?;
+    let permissions = Permissions::build(rt.alloc(), &params, &orders)?;
     assert_eq!(rt; permissions.bank().kinds, 1);
     assert_eq!(rt;
-        permissions.form(kind(b"HKSAL")?, 7),
+        permissions.form(order, 7),
         Some(AccountForm::International)
     );
     Ok(())
@@ -122,13 +135,18 @@ fn national(
 // All rows of an account count, and what is not listed is left open where the bank says so.
 #[test]
 fn national_permits(rt: HostRuntime) -> Result<(), Fail> {
-    let alloc = rt.alloc();
     let open = b"HIUPA:10:4+user+3+1'";
-    assert_eq!(rt; national(alloc, C, b"", &FIRST, 1)?, Permit::Allowed);
-    assert_eq!(rt; national(alloc, C, b"", &FIRST, 0)?, Permit::MoreSignatures);
-    assert_eq!(rt; national(alloc, C, b"", &OTHER, 1)?, Permit::Refused);
-    assert_eq!(rt; national(alloc, C, SECOND_ROW, &FIRST, 0)?, Permit::Allowed);
-    assert_eq!(rt; national(alloc, C1, open, &FIRST, 0)?, Permit::Allowed);
+    let rows: [(&[u8], &[u8], &[&[u8]], usize, Permit); 5] = [
+        (C, b"", &FIRST, 1, Permit::Allowed),
+        (C, b"", &FIRST, 0, Permit::MoreSignatures),
+        (C, b"", &OTHER, 1, Permit::Refused),
+        (C, SECOND_ROW, &FIRST, 0, Permit::Allowed),
+        (C1, open, &FIRST, 0, Permit::Allowed),
+    ];
+    for (capture, more, items, signatures, wanted) in rows {
+        let found = national(rt.alloc(), capture, more, items, signatures)?;
+        assert_eq!(rt; found, wanted);
+    }
     Ok(())
 }
 
@@ -140,11 +158,16 @@ fn international(alloc: Global, items: &[&[u8]], signatures: usize) -> Result<Pe
 
 #[test]
 fn international_permits(rt: HostRuntime) -> Result<(), Fail> {
-    let alloc = rt.alloc();
-    assert_eq!(rt; international(alloc, &IBAN, 1)?, Permit::MoreSignatures);
-    assert_eq!(rt; international(alloc, &BOTH, 1)?, Permit::MoreSignatures);
-    assert_eq!(rt; international(alloc, &BOTH, 2)?, Permit::Allowed);
-    assert_eq!(rt; international(alloc, &NO_IBAN, 1)?, Permit::Allowed);
+    let rows: [(&[&[u8]], usize, Permit); 4] = [
+        (&IBAN, 1, Permit::MoreSignatures),
+        (&BOTH, 1, Permit::MoreSignatures),
+        (&BOTH, 2, Permit::Allowed),
+        (&NO_IBAN, 1, Permit::Allowed),
+    ];
+    for (items, signatures, wanted) in rows {
+        let found = international(rt.alloc(), items, signatures)?;
+        assert_eq!(rt; found, wanted);
+    }
     Ok(())
 }
 
@@ -153,14 +176,26 @@ const END_MESSAGE: &[u8] = b"HNHBK:1:3+000000000055+300+0+1'HKEND:2:1+0'HNHBS:3:
 const UNSIGNED: &[u8] =
     b"HNHBK:1:3+000000000077+300+D+1'HKSAL:2:5+1234567::280:10020030+N'HNHBS:3:1+1'";
 
-#[test]
-fn judged(rt: HostRuntime) -> Result<(), Fail> {
-    let alloc = rt.alloc();
+// What the least bank says of a message.
+fn judged_by(alloc: Global, message: &[u8]) -> Result<Result<Vec<Broken>, JudgeFault>, Fail> {
     let orders = OrderTable::read(alloc, T)?;
     let params = Params::read(alloc, C1)?;
     let permissions = Permissions::build(alloc, &params, &orders)?;
-    assert!(rt; judge(alloc, &permissions, END_MESSAGE)?.is_empty());
-    let broken = judge(alloc, &permissions, UNSIGNED)?;
+    Ok(judge(alloc, &permissions, message))
+}
+
+#[test]
+fn judged(rt: HostRuntime) -> Result<(), Fail> {
+    let permitted = judged_by(rt.alloc(), END_MESSAGE)?;
+    assert!(rt; permitted.is_ok_and(|broken| broken.is_empty()));
+    let none = JudgeFault::NotAMessage { offset: 0 };
+    assert_eq!(rt; judged_by(rt.alloc(), b"x")?.err(), Some(none));
+    Ok(())
+}
+
+#[test]
+fn broken(rt: HostRuntime) -> Result<(), Fail> {
+    let broken = judged_by(rt.alloc(), UNSIGNED)??;
     let wanted = [
         Broken {
             rule: Rule::Version,
@@ -172,9 +207,12 @@ fn judged(rt: HostRuntime) -> Result<(), Fail> {
         },
     ];
     assert_eq!(rt; broken.as_slice(), wanted.as_slice());
-    let none = JudgeFault::NotAMessage { offset: 0 };
-    assert_eq!(rt; judge(alloc, &permissions, b"x").err(), Some(none));
-    let message = read_message(alloc, END_MESSAGE)?;
+    Ok(())
+}
+
+#[test]
+fn messages(rt: HostRuntime) -> Result<(), Fail> {
+    let message = read_message(rt.alloc(), END_MESSAGE)?;
     assert_eq!(rt; (message.size(), message.number()), (55, 1));
     assert_eq!(rt; message.protocol(), Some(300));
     assert_eq!(rt; message.body().len(), 1);

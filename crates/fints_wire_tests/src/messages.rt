@@ -4,7 +4,7 @@ use fints_params::Code;
 use fints_rules::OrderTable;
 use fints_samples::{FORK, SEALED_END, T};
 use fints_script::{Answer, Plan, Script, Values};
-use fints_wire::{build, run};
+use fints_wire::{Sent, build, run};
 use std::alloc::Global;
 use std::test::*;
 
@@ -71,19 +71,27 @@ fn sealed_pads(rt: HostRuntime) -> Result<(), Fail> {
     Ok(())
 }
 
-#[test]
-fn sent(rt: HostRuntime) -> Result<(), Fail> {
-    let alloc = rt.alloc();
-    let script = Script::read(alloc, FORK)?;
-    let orders = OrderTable::read(alloc, T)?;
-    let plan = script.plan(&orders)?;
-    let values = values(alloc, &[(b"dialog", b"D")])?;
-    let codes = vec![in alloc; Code::from_number(20).ok_or("code")?]?;
-    let answers = vec![in alloc; Answer::new(codes).ok_or("answer")?]?;
+// What is sent by a plan for a value of the dialogue id and an answer of one code.
+fn sent_by(alloc: Global, plan: &Plan, dialog: &[u8], code: Code) -> Result<Vec<Sent>, Fail> {
+    let values = values(alloc, &[(b"dialog", dialog)])?;
+    let answers = vec![in alloc; Answer::single(alloc, code)?]?;
     if !plan.admits(&values) {
         return Err(Fail::from("not admitted"));
     }
-    let sent = run(alloc, &plan, &values, answers.as_slice())?;
+    Ok(run(alloc, plan, &values, answers.as_slice())?)
+}
+
+fn sent_of(alloc: Global, script: &[u8], dialog: &[u8], code: Code) -> Result<Vec<Sent>, Fail> {
+    let script = Script::read(alloc, script)?;
+    let orders = OrderTable::read(alloc, T)?;
+    let plan = script.plan(&orders)?;
+    sent_by(alloc, &plan, dialog, code)
+}
+
+#[test]
+fn sent(rt: HostRuntime) -> Result<(), Fail> {
+    let code = Code::from_number(20).ok_or("code")?;
+    let sent = sent_of(rt.alloc(), FORK, b"D", code)?;
     let [one, done] = sent.as_slice() else {
         return Err(Fail::from("two messages"));
     };

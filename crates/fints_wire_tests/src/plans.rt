@@ -44,19 +44,34 @@ fn code(number: u16) -> Result<Code, Fail> {
 }
 
 #[test]
-fn answers(rt: HostRuntime) -> Result<(), Fail> {
+fn chosen(rt: HostRuntime) -> Result<(), Fail> {
+    let (late, early) = (code(9010)?, code(20)?);
+    let script = Script::read(rt.alloc(), FORK)?;
+    let one = &script.steps()[0];
+    assert_eq!(rt; one.choose(&[late, early]), Target::Step(3));
+    assert_eq!(rt; one.choose(&[late]), Target::Stop);
+    assert_eq!(rt; one.choose(&[]), Target::Stop);
+    Ok(())
+}
+
+#[test]
+fn openers(rt: HostRuntime) -> Result<(), Fail> {
+    let (least, other) = (code(0)?, code(1000)?);
+    let script = Script::read(rt.alloc(), FORK)?;
+    let one = &script.steps()[0];
+    assert_eq!(rt; one.branches().len(), 2);
+    assert_eq!(rt; one.opener(1), Some(least));
+    assert_eq!(rt; one.opener(2), None);
+    assert_eq!(rt; one.opener(3), Some(other));
+    Ok(())
+}
+
+#[test]
+fn parts(rt: HostRuntime) -> Result<(), Fail> {
     let script = Script::read(rt.alloc(), FORK)?;
     let orders = OrderTable::read(rt.alloc(), T)?;
     let plan = script.plan(&orders)?;
     assert_eq!(rt; plan.step_count(), 3);
-    let one = plan.step(1);
-    assert_eq!(rt; one.choose(&[code(9010)?, code(20)?]), Target::Step(3));
-    assert_eq!(rt; one.choose(&[code(9010)?]), Target::Stop);
-    assert_eq!(rt; one.choose(&[]), Target::Stop);
-    assert_eq!(rt; one.branches().len(), 2);
-    assert_eq!(rt; one.opener(1), Some(code(0)?));
-    assert_eq!(rt; one.opener(2), None);
-    assert_eq!(rt; one.opener(3), Some(code(1000)?));
     assert!(rt; plan.orders().same(&orders));
     assert!(rt; plan.seal().is_none());
     Ok(())

@@ -64,18 +64,28 @@ fn text_of(alloc: Global, values: &Values) -> Result<Vec<u8>, Fail> {
     Ok(text)
 }
 
+// The worst values of the escaped pad, as a text.
+fn longest(alloc: Global) -> Result<Vec<u8>, Fail> {
+    let mut text = b"dialog=".to_vec(alloc)?;
+    text.extend_from_slice(&[b'?'; 30])?;
+    text.extend_from_slice(b" pad=")?;
+    text.extend_from_slice(&[b'?'; 500])?;
+    text.push(b' ')?;
+    Ok(text)
+}
+
+fn worst_of(alloc: Global, script: &[u8]) -> Result<Vec<u8>, Fail> {
+    let orders = OrderTable::read(alloc, T)?;
+    let script = Script::read(alloc, script)?;
+    let worst = worst_values(alloc, &script.plan(&orders)?)?;
+    text_of(alloc, &worst)
+}
+
 #[test]
 fn worst_choice(rt: HostRuntime) -> Result<(), Fail> {
-    let alloc = rt.alloc();
-    let orders = OrderTable::read(alloc, T)?;
-    let script = Script::read(alloc, ESCAPED_PAD)?;
-    let worst = worst_values(alloc, &script.plan(&orders)?)?;
-    let mut wanted = b"dialog=".to_vec(alloc)?;
-    wanted.extend_from_slice(&[b'?'; 30])?;
-    wanted.extend_from_slice(b" pad=")?;
-    wanted.extend_from_slice(&[b'?'; 500])?;
-    wanted.push(b' ')?;
-    assert_eq!(rt; text_of(alloc, &worst)?.as_slice(), wanted.as_slice());
+    let wanted = longest(rt.alloc())?;
+    let found = worst_of(rt.alloc(), ESCAPED_PAD)?;
+    assert_eq!(rt; found.as_slice(), wanted.as_slice());
     Ok(())
 }
 
