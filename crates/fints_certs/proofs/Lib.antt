@@ -7,3 +7,4 @@ pub mod Promising
 pub mod Reaching
 pub mod Closing
 pub mod LinesMade
+pub mod Readable

@@ -1,12 +1,14 @@
 //! Laws of certificates: each function's contract is one.
 ghost use Rattle.std.specs.Prelude.{◌≡◌, ℕ, List, []};
+ghost use Rattle.std.specs.List.{All};
 ghost use Rattle.fints_check.specs.Figures.{AreFigures};
 ghost use Rattle.fints_check.specs.Findings.{AreFindings, EachIsPermitted, SentStepsAreClean};
+ghost use Rattle.fints_fields.specs.Names.{IsName};
 ghost use Rattle.fints_rules.specs.Permits.{Granted};
 ghost use Rattle.fints_script.specs.Scripts.{ScriptValue};
 ghost use Rattle.fints_script.specs.Sound.{IsSound};
 ghost use Rattle.fints_certs.specs.Certificates.{line_figures, line_names, step_names, IsClosedCertificate, KeepsPromise};
-ghost use Rattle.fints_certs.specs.CertTexts.{OneCertificate, IsFirstBadLine};
+ghost use Rattle.fints_certs.specs.CertTexts.{OneCertificate, IsCertificate, IsFirstBadLine};
 ghost use Rattle.fints_certs.specs.declared.certificate.Line.{Line as LineValue};
 
 use fints_script::laws::open_branches_lead;
@@ -36,6 +38,16 @@ pub fn greatest_closes()
     messages_are_read();
     last_messages();
     runs_by_steps();
+    visits_are_within();
+}
+
+/// The greatest figures of all steps are a certificate whose text can be read back, if the names are
+/// names.
+pub fn greatest_are_readable()
+    ensures { (script : ScriptValue) (lines : List LineValue) → IsSound script → line_names lines ≡ step_names script.steps → All (λ (line : LineValue). IsName line.name) lines → AreFigures script (line_figures lines) → IsCertificate lines }
+{
+    none_is_longer();
+    last_messages();
     visits_are_within();
 }
 

@@ -1,25 +1,31 @@
 //! The certificate of a report without findings.
 ghost use Rattle.std.specs.Prelude.{◌≡◌, ◌↔◌, [], IfOk, IfSome, IsSome};
+ghost use Rattle.std.specs.List.{All};
 ghost use Rattle.fints_check.specs.Figures.{AreFigures};
 ghost use Rattle.fints_certs.specs.Certificates.{line_figures, line_names, step_names, IsClosedCertificate};
+ghost use Rattle.fints_certs.specs.CertTexts.{IsCertificate};
+ghost use Rattle.fints_certs.specs.declared.certificate.Line.{Line as LineValue};
+ghost use Rattle.fints_fields.specs.Names.{IsName};
 
 use crate::certificate::{Certificate, Line};
-use crate::laws::greatest_closes;
+use crate::laws::{greatest_are_readable, greatest_closes};
 use fints_check::Report;
-use fints_script::Plan;
 use fints_syntax::Memory;
 use std::alloc::Global;
 
 // A line for each step, with its name and its greatest figures.
-fn lines_of(alloc: Global, plan: &Plan<'_>, report: &Report<'_>) -> Result<Vec<Line>, Memory>
-    requires { report.now.plan ≡ plan.now }
-    ensures names { IfOk result (λ lines. line_names lines.items ≡ step_names plan.now.script.steps) }
-    ensures figures { IfOk result (λ lines. AreFigures plan.now.script (line_figures lines.items)) }
+fn lines_of(alloc: Global, report: &Report<'_>) -> Result<Vec<Line>, Memory>
+    ensures names { IfOk result (λ lines. line_names lines.items ≡ step_names report.now.plan.script.steps) }
+    ensures figures { IfOk result (λ lines. AreFigures report.now.plan.script (line_figures lines.items)) }
+    ensures are_names { IfOk result (λ lines. All (λ (line : LineValue). IsName line.name) lines.items) }
 {
+    let plan = report.plan();
     let mut lines = Vec::new(alloc);
     for i in 0..plan.step_count() {
+        let name = plan.step(i + 1).name();
+        let _bytes = name.as_bytes();
         lines.push(Line {
-            name: plan.step(i + 1).name(),
+            name,
             reached: report.reached(i + 1),
         })?;
     }
@@ -27,23 +33,20 @@ fn lines_of(alloc: Global, plan: &Plan<'_>, report: &Report<'_>) -> Result<Vec<L
 }
 
 /// The certificate of a report without findings, with the greatest figures of its steps; `verify` of
-/// it is true. The plan is the report's.
-pub fn certificate_of(
-    alloc: Global,
-    plan: &Plan<'_>,
-    report: &Report<'_>,
-) -> Result<Option<Certificate>, Memory>
-    requires { report.now.plan ≡ plan.now }
+/// it is true, and its text can be read back.
+pub fn certificate_of(alloc: Global, report: &Report<'_>) -> Result<Option<Certificate>, Memory>
     ensures clean { IfOk result (λ found. IsSome found ↔ (report.now.findings ≡ [])) }
-    ensures figures { IfOk result (λ found. IfSome found (λ certificate. AreFigures plan.now.script (line_figures certificate))) }
-    ensures closed { IfOk result (λ found. IfSome found (IsClosedCertificate report.now.granted plan.now.script)) }
+    ensures figures { IfOk result (λ found. IfSome found (λ certificate. AreFigures report.now.plan.script (line_figures certificate))) }
+    ensures readable { IfOk result (λ found. IfSome found IsCertificate) }
+    ensures closed { IfOk result (λ found. IfSome found (IsClosedCertificate report.now.granted report.now.plan.script)) }
 {
     greatest_closes();
-    let _count = plan.step_count();
+    greatest_are_readable();
+    let _count = report.plan().step_count();
     let _findings = report.findings();
     if !report.is_clean() {
         return Ok(None);
     }
-    let lines = lines_of(alloc, plan, report)?;
+    let lines = lines_of(alloc, report)?;
     Ok(Some(Certificate::new(lines)))
 }

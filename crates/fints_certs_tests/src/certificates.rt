@@ -172,7 +172,7 @@ fn made(alloc: Global, permissions: &Permissions<'_>, plan: &Plan<'_>) -> Result
     requires { permissions.now.orders ≡ plan.now.orders }
 {
     let report = check(alloc, permissions, plan)?;
-    match certificate_of(alloc, plan, &report)? {
+    match certificate_of(alloc, &report)? {
         None => Ok(Vec::from_slice(alloc, b"none")?),
         Some(certificate) => {
             if !verify(permissions, plan, &certificate) {

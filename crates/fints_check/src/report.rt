@@ -54,6 +54,13 @@ impl<'a> Model for Report<'a> {
 }
 
 impl<'a> Report<'a> {
+    /// The plan that was checked.
+    pub fn plan(&self) -> &Plan<'a>
+        ensures { result.now ≡ self.now.plan }
+    {
+        self.plan
+    }
+
     /// The findings in order of step, rule and segment.
     pub fn findings(&self) -> &[Finding]
         ensures findings { result.now ≡ self.now.findings }

@@ -4,8 +4,9 @@ use Rattle.fints_texts.specs.declared.fault.Fault.TheVariants.{Memory}
 use Rattle.fints_cli.specs.declared.commands.Failure.{Failure}
 use Rattle.fints_cli.specs.declared.commands.Failure.TheVariants.{Input, Unread}
 use Rattle.fints_words.specs.declared.words.Request.{Request}
-use Rattle.fints_words.specs.declared.words.Request.TheVariants.{BuiltIn, Show, Judge, Check, Explain}
+use Rattle.fints_words.specs.declared.words.Request.TheVariants.{BuiltIn, Show, Judge, Check, Explain, Certify, Verify}
 use Rattle.fints_words.specs.declared.words.Request.TheVariants as requests
+use Rattle.fints_words.specs.declared.words.ScriptFiles.{ScriptFiles}
 use Rattle.fints_words.specs.declared.words.Asked.{Asked}
 use Rattle.fints_words.specs.declared.words.Asked.TheVariants.{Help, Usage, NoMemory, Run}
 use Rattle.fints_cli.specs.BuiltIn as built_in
@@ -14,8 +15,9 @@ use Rattle.fints_texts.specs.Show.{IsShowOf, IsMemoryOrShowFault}
 use Rattle.fints_texts.specs.Judge.{IsVerdictOf, IsJudgeRefusal}
 use Rattle.fints_reports.specs.Told.{IsRefused, IsToldOf}
 use Rattle.fints_reports.specs.declared.telling.Wanted.{Wanted}
-use Rattle.fints_reports.specs.declared.telling.Wanted.TheVariants.{Report, Cases}
+use Rattle.fints_reports.specs.declared.telling.Wanted.TheVariants.{Report, Cases, Certificate}
 use Rattle.fints_reports.specs.RunText.{IsRunOf, IsRunRefusal}
+use Rattle.fints_reports.specs.Verified.{IsUnverified, IsVerifiedOf}
 
 -- 3 for a refused input, 4 for want of memory, 5 for a file that couldn't be read
 abbrev pub failure_status : Failure → ℕ
@@ -33,9 +35,14 @@ JudgesFile params orders message status text =
     IfSome params (λ capture. IfSome orders (λ table. IfSome message (λ bytes. IsVerdictOf capture table bytes status text)))
 
 -- the status and the text tell what is wanted of the script, where the bytes of the files are told
-abbrev pub TellsFiles : Wanted → Option (List ℕ) → Option (List ℕ) → Option (List ℕ) → ℕ → List ℕ → Type 0
-TellsFiles wanted params orders script status text =
-    IfSome params (λ capture. IfSome orders (λ table. IfSome script (λ steps. IsToldOf wanted capture table steps status text)))
+abbrev pub TellsFiles : Wanted → (List ℕ → Option (List ℕ)) → ScriptFiles → ℕ → List ℕ → Type 0
+TellsFiles wanted holds named status text =
+    IfSome (holds named.params.now) (λ capture. IfSome (holds named.orders.now) (λ table. IfSome (holds named.script.now) (λ steps. IsToldOf wanted capture table steps status text)))
+
+-- the status and the text tell whether the certificate is closed, where the bytes of the files are told
+abbrev pub VerifiesFiles : (List ℕ → Option (List ℕ)) → ScriptFiles → List ℕ → ℕ → List ℕ → Type 0
+VerifiesFiles holds named certificate status text =
+    IfSome (holds named.params.now) (λ capture. IfSome (holds named.orders.now) (λ table. IfSome (holds named.script.now) (λ steps. IfSome (holds certificate) (λ lines. IsVerifiedOf capture table steps lines status text))))
 
 -- the text tells the run of the case, where the bytes of the files are told
 abbrev pub RunsFiles : Option (List ℕ) → Option (List ℕ) → Option (List ℕ) → List ℕ → Type 0
@@ -47,8 +54,10 @@ abbrev pub AnswersTo : Request → (List ℕ → Option (List ℕ)) → ℕ → 
 AnswersTo BuiltIn holds status text = IsToldOf Report built_in.capture built_in.orders built_in.script status text
 AnswersTo (Show params) holds status text = (status ≡ 0) × ShowsFile (holds params.now) text
 AnswersTo (Judge params orders message) holds status text = JudgesFile (holds params.now) (holds orders.now) (holds message.now) status text
-AnswersTo (Check params orders script) holds status text = TellsFiles Report (holds params.now) (holds orders.now) (holds script.now) status text
-AnswersTo (Explain params orders script) holds status text = TellsFiles Cases (holds params.now) (holds orders.now) (holds script.now) status text
+AnswersTo (Check named) holds status text = TellsFiles Report holds named status text
+AnswersTo (Explain named) holds status text = TellsFiles Cases holds named status text
+AnswersTo (Certify named) holds status text = TellsFiles Certificate holds named status text
+AnswersTo (Verify named certificate) holds status text = VerifiesFiles holds named certificate.now status text
 AnswersTo (requests.Run orders script case) holds status text = (status ≡ 0) × RunsFiles (holds orders.now) (holds script.now) (holds case.now) text
 
 -- the file of the option couldn't be read, or memory ran out
@@ -78,11 +87,26 @@ abbrev pub IsScriptFailure : List ℕ → List ℕ → List ℕ → Failure → 
 IsScriptFailure params orders script (Unread named) = ⊥
 IsScriptFailure params orders script (Input f) = IsRefused params orders script f
 
+-- an option that names one of the files of a command that reads a script
+abbrev pub IsScriptOption : List ℕ → Type 0
+IsScriptOption option = (option ≡ codes "params") ⊎ ((option ≡ codes "orders") ⊎ (option ≡ codes "script"))
+
 -- why nothing is told of a script, where the bytes of the files are told
-abbrev pub FailsToTell : Option (List ℕ) → Option (List ℕ) → Option (List ℕ) → Failure → Type 0
-FailsToTell params orders script (Unread named) = (named.now ≡ codes "params") ⊎ ((named.now ≡ codes "orders") ⊎ (named.now ≡ codes "script"))
-FailsToTell params orders script (Input f) =
-    IfSome params (λ capture. IfSome orders (λ table. IfSome script (λ steps. IsRefused capture table steps f)))
+abbrev pub FailsToTell : (List ℕ → Option (List ℕ)) → ScriptFiles → Failure → Type 0
+FailsToTell holds named (Unread option) = IsScriptOption option.now
+FailsToTell holds named (Input f) =
+    IfSome (holds named.params.now) (λ capture. IfSome (holds named.orders.now) (λ table. IfSome (holds named.script.now) (λ steps. IsRefused capture table steps f)))
+
+-- why nothing is told of loaded bytes of a certificate
+abbrev pub IsVerifyFailure : List ℕ → List ℕ → List ℕ → List ℕ → Failure → Type 0
+IsVerifyFailure params orders script certificate (Unread option) = ⊥
+IsVerifyFailure params orders script certificate (Input f) = IsUnverified params orders script certificate f
+
+-- why nothing is told of a certificate, where the bytes of the files are told
+abbrev pub FailsToVerify : (List ℕ → Option (List ℕ)) → ScriptFiles → List ℕ → Failure → Type 0
+FailsToVerify holds named certificate (Unread option) = IsScriptOption option.now ⊎ (option.now ≡ codes "cert")
+FailsToVerify holds named certificate (Input f) =
+    IfSome (holds named.params.now) (λ capture. IfSome (holds named.orders.now) (λ table. IfSome (holds named.script.now) (λ steps. IfSome (holds certificate) (λ lines. IsUnverified capture table steps lines f))))
 
 -- why loaded bytes aren't run
 abbrev pub IsRunFailure : List ℕ → List ℕ → List ℕ → Failure → Type 0
@@ -100,8 +124,10 @@ abbrev pub FailsFor : Request → (List ℕ → Option (List ℕ)) → Failure �
 FailsFor BuiltIn holds failure = IsScriptFailure built_in.capture built_in.orders built_in.script failure
 FailsFor (Show params) holds failure = FailsToShow (holds params.now) failure
 FailsFor (Judge params orders message) holds failure = FailsToJudge (holds params.now) (holds orders.now) (holds message.now) failure
-FailsFor (Check params orders script) holds failure = FailsToTell (holds params.now) (holds orders.now) (holds script.now) failure
-FailsFor (Explain params orders script) holds failure = FailsToTell (holds params.now) (holds orders.now) (holds script.now) failure
+FailsFor (Check named) holds failure = FailsToTell holds named failure
+FailsFor (Explain named) holds failure = FailsToTell holds named failure
+FailsFor (Certify named) holds failure = FailsToTell holds named failure
+FailsFor (Verify named certificate) holds failure = FailsToVerify holds named certificate.now failure
 FailsFor (requests.Run orders script case) holds failure = FailsToRun (holds orders.now) (holds script.now) (holds case.now) failure
 
 -- the status and the text are what was asked for: the help, or the request's answer

@@ -7,16 +7,17 @@ ghost use Rattle.fints_texts.specs.Judge.{IsVerdictOf};
 ghost use Rattle.fints_reports.specs.Told.{IsToldOf};
 ghost use Rattle.fints_reports.specs.declared.telling.Wanted.TheVariants as wants;
 ghost use Rattle.fints_reports.specs.RunText.{IsRunOf};
-ghost use Rattle.fints_cli.specs.Commands.{failure_status, IsJudgeFailure, ShowsFile, JudgesFile, FailsToJudge, TellsFiles, IsScriptFailure, FailsToTell, IsRunFailure, RunsFiles, FailsToRun, AnswersTo, IsUnloaded, FailsToShow, FailsFor, IsAnswered, IsCutOff, IsUsage, FailsWith};
+ghost use Rattle.fints_reports.specs.Verified.{IsVerifiedOf};
+ghost use Rattle.fints_cli.specs.Commands.{failure_status, IsJudgeFailure, ShowsFile, JudgesFile, FailsToJudge, TellsFiles, IsScriptFailure, FailsToTell, IsRunFailure, RunsFiles, FailsToRun, IsVerifyFailure, VerifiesFiles, FailsToVerify, AnswersTo, IsUnloaded, FailsToShow, FailsFor, IsAnswered, IsCutOff, IsUsage, FailsWith};
 ghost use Rattle.fints_words.specs.declared.words.Asked.TheVariants as asked;
 
 use crate::built_in;
 use crate::emitting::emit;
 use crate::reading::{LoadFault, MAX_CALLS, load};
 use crate::streams::{Files, Out};
-use fints_reports::{Wanted, run_case, tell_script};
+use fints_reports::{Wanted, run_case, tell_script, verify_script};
 use fints_texts::{Fault, Reply, judge_message, show};
-use fints_words::{Asked, Request, read_words};
+use fints_words::{Asked, Request, ScriptFiles, read_words};
 use std::alloc::Global;
 use thiserror::Error;
 
@@ -107,26 +108,67 @@ fn check_built_in(alloc: Global) -> Result<Reply, Failure>
 fn tell_files<F: Files>(
     alloc: Global,
     files: &mut F,
-    params: &str,
-    orders: &str,
-    script: &str,
+    named: &ScriptFiles<'_>,
     wanted: Wanted,
 ) -> Result<Reply, Failure>
     ensures status { IfOk result (λ reply. reply.status ≤ 1) }
-    ensures told { IfOk result (λ reply. TellsFiles wanted (F.holds files.old params.now) (F.holds files.old orders.now) (F.holds files.old script.now) reply.status reply.text.items) }
-    ensures refused { IfErr result (λ f. FailsToTell (F.holds files.old params.now) (F.holds files.old orders.now) (F.holds files.old script.now) f) }
+    ensures told { IfOk result (λ reply. TellsFiles wanted (F.holds files.old) named.now reply.status reply.text.items) }
+    ensures refused { IfErr result (λ f. FailsToTell (F.holds files.old) named.now f) }
     ensures calls { F.calls files.new ≤ F.calls files.old + 3 * MAX_CALLS }
     ensures keeps { F.holds files.new ≡ F.holds files.old }
 {
-    let params = load_option(alloc, files, "params", params, MAX_CAPTURE)?;
-    let orders = load_option(alloc, files, "orders", orders, MAX_TEXT)?;
-    let script = load_option(alloc, files, "script", script, MAX_TEXT)?;
+    let params = load_option(alloc, files, "params", named.params, MAX_CAPTURE)?;
+    let orders = load_option(alloc, files, "orders", named.orders, MAX_TEXT)?;
+    let script = load_option(alloc, files, "script", named.script, MAX_TEXT)?;
     tell_loaded(
         alloc,
         params.as_slice(),
         orders.as_slice(),
         script.as_slice(),
         wanted,
+    )
+}
+
+fn verify_loaded(
+    alloc: Global,
+    params: &[u8],
+    orders: &[u8],
+    script: &[u8],
+    certificate: &[u8],
+) -> Result<Reply, Failure>
+    ensures status { IfOk result (λ reply. reply.status ≤ 1) }
+    ensures told { IfOk result (λ reply. IsVerifiedOf params.now orders.now script.now certificate.now reply.status reply.text.items) }
+    ensures refused { IfErr result (λ f. IsVerifyFailure params.now orders.now script.now certificate.now f) }
+{
+    match verify_script(alloc, params, orders, script, certificate) {
+        Ok(reply) => Ok(reply),
+        Err(fault) => Err(Failure::Input(fault)),
+    }
+}
+
+#[tactic(auto, using(crate::proofs::FileLemmas::files_verified, crate::proofs::FileLemmas::files_not_verified))]
+fn verify_files<F: Files>(
+    alloc: Global,
+    files: &mut F,
+    named: &ScriptFiles<'_>,
+    certificate: &str,
+) -> Result<Reply, Failure>
+    ensures status { IfOk result (λ reply. reply.status ≤ 1) }
+    ensures told { IfOk result (λ reply. VerifiesFiles (F.holds files.old) named.now certificate.now reply.status reply.text.items) }
+    ensures refused { IfErr result (λ f. FailsToVerify (F.holds files.old) named.now certificate.now f) }
+    ensures calls { F.calls files.new ≤ F.calls files.old + 4 * MAX_CALLS }
+    ensures keeps { F.holds files.new ≡ F.holds files.old }
+{
+    let params = load_option(alloc, files, "params", named.params, MAX_CAPTURE)?;
+    let orders = load_option(alloc, files, "orders", named.orders, MAX_TEXT)?;
+    let script = load_option(alloc, files, "script", named.script, MAX_TEXT)?;
+    let certificate = load_option(alloc, files, "cert", certificate, MAX_TEXT)?;
+    verify_loaded(
+        alloc,
+        params.as_slice(),
+        orders.as_slice(),
+        script.as_slice(),
+        certificate.as_slice(),
     )
 }
 
@@ -226,7 +268,7 @@ pub fn perform<F: Files>(
     ensures status { IfOk result (λ reply. reply.status ≤ 1) }
     ensures answers { IfOk result (λ reply. AnswersTo request.now (F.holds files.old) reply.status reply.text.items) }
     ensures refused { IfErr result (λ f. FailsFor request.now (F.holds files.old) f) }
-    ensures calls { F.calls files.new ≤ F.calls files.old + 3 * MAX_CALLS }
+    ensures calls { F.calls files.new ≤ F.calls files.old + 4 * MAX_CALLS }
     ensures keeps { F.holds files.new ≡ F.holds files.old }
 {
     match request {
@@ -237,16 +279,13 @@ pub fn perform<F: Files>(
             orders,
             message,
         } => judge_file(alloc, files, params, orders, message),
-        Request::Check {
-            params,
-            orders,
-            script,
-        } => tell_files(alloc, files, params, orders, script, Wanted::Report),
-        Request::Explain {
-            params,
-            orders,
-            script,
-        } => tell_files(alloc, files, params, orders, script, Wanted::Cases),
+        Request::Check(named) => tell_files(alloc, files, named, Wanted::Report),
+        Request::Explain(named) => tell_files(alloc, files, named, Wanted::Cases),
+        Request::Certify(named) => tell_files(alloc, files, named, Wanted::Certificate),
+        Request::Verify {
+            files: named,
+            certificate,
+        } => verify_files(alloc, files, named, certificate),
         Request::Run {
             orders,
             script,
@@ -317,7 +356,7 @@ pub fn respond<F: Files, O: Out, E: Out>(
         ⊎ (IsCutOff asked.now (F.holds files.old) (O.told out.old) (O.told out.new)
         × (O.failed_calls out.new ≡ one_more (O.failed_calls out.old))) }
     ensures unread { result ≡ 2 → F.calls files.new ≡ F.calls files.old }
-    ensures calls { F.calls files.new ≤ F.calls files.old + 3 * MAX_CALLS }
+    ensures calls { F.calls files.new ≤ F.calls files.old + 4 * MAX_CALLS }
 {
     match asked {
         Asked::Help(text) => deliver(text.as_bytes(), 0, out, err),
@@ -336,8 +375,8 @@ pub fn respond<F: Files, O: Out, E: Out>(
 /// Does what the words after the program's name ask for, and gives the status: 0 where the answer
 /// or the help stands on the output, 2 for bad words, 3 for a refused input, 4 for want of memory,
 /// and 5 where a file couldn't be read or the output failed. Status 1 is that of a message that breaks
-/// a rule, and of a script with a run that does. Each status from 2 on has its line on the errors,
-/// where those take it.
+/// a rule, of a script with a run that does, and of a certificate that isn't closed. Each status from
+/// 2 on has its line on the errors, where those take it.
 pub fn execute<F: Files, O: Out, E: Out>(
     alloc: Global,
     words: &[&str],
@@ -354,7 +393,7 @@ pub fn execute<F: Files, O: Out, E: Out>(
     ensures failed { result ≡ 5 → GetsNothing (O.told out.old) (O.told out.new)
         ⊎ (O.failed_calls out.new ≡ one_more (O.failed_calls out.old)) }
     ensures unread { result ≡ 2 → F.calls files.new ≡ F.calls files.old }
-    ensures calls { F.calls files.new ≤ F.calls files.old + 3 * MAX_CALLS }
+    ensures calls { F.calls files.new ≤ F.calls files.old + 4 * MAX_CALLS }
 {
     let asked = read_words(alloc, words);
     respond(alloc, &asked, files, out, err)

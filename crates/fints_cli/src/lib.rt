@@ -9,8 +9,8 @@ mod streams;
 
 pub use commands::{Failure, execute, perform, respond};
 pub use emitting::emit;
-pub use fints_reports::{Wanted, check_text, run_case, tell_script};
+pub use fints_reports::{Wanted, check_text, run_case, tell_script, verify_script};
 pub use fints_texts::{Fault, Reply, judge_message, show};
-pub use fints_words::{Asked, Request, read_words};
+pub use fints_words::{Asked, Request, ScriptFiles, read_words};
 pub use reading::{LoadFault, MAX_CALLS, load};
 pub use streams::{Files, Out, ReadFault, WriteFault};

@@ -1,4 +1,5 @@
 pub mod CaseLemmas
+pub mod CertifyLemmas
 pub mod Refusals
 pub mod ReportLemmas
 pub mod StepLemmas

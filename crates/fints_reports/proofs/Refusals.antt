@@ -17,11 +17,12 @@ use Rattle.fints_field_rows.specs.declared.fault.FaultKind.TheVariants as kinds
 use Rattle.fints_field_rows.specs.declared.fault.ScriptFault.{ScriptFault}
 use Rattle.fints_script.specs.Scripts.{ScriptValue, Refuses, IsFirstOf}
 use Rattle.fints_texts.specs.declared.fault.Fault.{Fault}
-use Rattle.fints_texts.specs.declared.fault.Fault.TheVariants.{Memory, Params, Case, NotAdmitted}
+use Rattle.fints_texts.specs.declared.fault.Fault.TheVariants.{Memory, Params, Case, Certificate, NotAdmitted}
 use Rattle.fints_texts.specs.Fault.{fault_of, order_fault_of, kind_fault_of, script_fault_of, case_fault_of}
 use Rattle.fints_reports.specs.Plans.{ArePlan, IsPlanRefusal}
 use Rattle.fints_reports.specs.Told.{IsRefused}
 use Rattle.fints_reports.specs.RunText.{IsCaseRefusal, IsRunRefusal}
+use Rattle.fints_reports.specs.Verified.{IsCertificateRefusal, IsUnverified, IsVerifyRefusal}
 
 -- ---- order tables and scripts
 
@@ -78,3 +79,25 @@ pub unplanned_report : (capture table script : List ℕ) (rows : Rows) (f : Faul
 unplanned_report capture table script rows Memory h p = tt
 unplanned_report capture table script rows (Params f) h p = absurd p
 unplanned_report capture table script rows _ h p = ((rows, h), p)
+
+-- ---- certificates
+
+pub planned_verify : (table script cert : List ℕ) (value : ScriptValue) (f : Fault) → ArePlan table script value → IsCertificateRefusal cert f → IsVerifyRefusal table script cert f
+planned_verify table script cert value Memory h p = tt
+planned_verify table script cert value (Certificate line) h p = ((value, h), p)
+planned_verify table script cert value _ h p = absurd p
+
+-- no plan, no verdict
+pub unplanned_verify : (table script cert : List ℕ) (f : Fault) → IsPlanRefusal table script f → IsVerifyRefusal table script cert f
+unplanned_verify table script cert (Certificate line) p = absurd p
+unplanned_verify table script cert _ p = p
+
+pub unread_verify : (capture table script cert : List ℕ) (rows : Rows) (f : Fault) → IsParamsOf capture rows → IsVerifyRefusal table script cert f → IsUnverified capture table script cert f
+unread_verify capture table script cert rows Memory h p = tt
+unread_verify capture table script cert rows (Params f) h p = absurd p
+unread_verify capture table script cert rows _ h p = ((rows, h), p)
+
+-- no rows, no verdict
+pub params_unverified : (capture table script cert : List ℕ) (f : ParamFault) → IsMemoryOr (IsParamFault capture) f → IsUnverified capture table script cert (fault_of f)
+params_unverified capture table script cert params.Memory h = tt
+params_unverified capture table script cert f h = params_refused capture table script f h

@@ -1,3 +1,4 @@
+pub mod Certified
 pub mod Explaining
 pub mod ExplainText
 pub mod Headline
@@ -6,3 +7,4 @@ pub mod ReportText
 pub mod RunText
 pub mod StepNames
 pub mod Told
+pub mod Verified

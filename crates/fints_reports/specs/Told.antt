@@ -6,16 +6,18 @@ use Rattle.fints_rules.specs.Permits.{Granted}
 use Rattle.fints_script.specs.Scripts.{ScriptValue}
 use Rattle.fints_texts.specs.declared.fault.Fault.{Fault}
 use Rattle.fints_texts.specs.declared.fault.Fault.TheVariants.{Memory, Params}
+use Rattle.fints_reports.specs.Certified.{IsCertifiedBy}
 use Rattle.fints_reports.specs.ExplainText.{IsExplainedBy}
 use Rattle.fints_reports.specs.Plans.{ArePlan, IsPlanRefusal}
 use Rattle.fints_reports.specs.ReportText.{IsReportBy}
 use Rattle.fints_reports.specs.declared.telling.Wanted.{Wanted}
-use Rattle.fints_reports.specs.declared.telling.Wanted.TheVariants.{Report, Cases}
+use Rattle.fints_reports.specs.declared.telling.Wanted.TheVariants.{Report, Cases, Certificate}
 
 -- by what is wanted, what the text and the status tell
 abbrev pub IsToldBy : Wanted → Granted → ScriptValue → ℕ → List ℕ → Type 0
 IsToldBy Report granted script status text = IsReportBy granted script status text
 IsToldBy Cases granted script status text = IsExplainedBy granted script status text
+IsToldBy Certificate granted script status text = IsCertifiedBy granted script status text
 
 -- they tell it by these rows of parameters and the texts of an order table and of a script
 pub record IsToldOn (wanted : Wanted) (rows : Rows) (orders script : List ℕ) (status : ℕ) (text : List ℕ) : Type 0 where

@@ -1,11 +1,14 @@
-//! What the program tells of a script: the messages of a run, the report of what its runs break, and
-//! a case of each finding.
+//! What the program tells of a script: the messages of a run, the report of what its runs break, a
+//! case of each finding, its certificate, and whether a certificate is right.
 #![tactic(auto)]
 
+mod certifying;
 mod explaining;
 mod running;
 mod telling;
+mod verifying;
 mod writing;
 
 pub use running::run_case;
 pub use telling::{Wanted, check_text, tell, tell_script};
+pub use verifying::{verify_certificate, verify_script};

@@ -4,6 +4,7 @@ ghost use Rattle.fints_reports.specs.Plans.{IsPlanRefusal};
 ghost use Rattle.fints_reports.specs.Told.{IsRefused, IsToldBy, IsToldOf, IsToldOn};
 ghost use Rattle.fints_reports.specs.declared.telling.Wanted.TheVariants as wanted_is;
 
+use crate::certifying::certify;
 use crate::explaining::explain;
 use crate::writing::reply;
 use fints_check::check;
@@ -21,6 +22,8 @@ pub enum Wanted {
     Report,
     /// The report, and then a case of each finding.
     Cases,
+    /// The certificate where nothing is found, else the report.
+    Certificate,
 }
 
 // What is told of a plan, by good parameters.
@@ -37,6 +40,7 @@ fn tell_plan(
     match wanted {
         Wanted::Report => reply(alloc, plan, &report),
         Wanted::Cases => explain(alloc, plan, &report),
+        Wanted::Certificate => certify(alloc, plan, &report),
     }
 }
 

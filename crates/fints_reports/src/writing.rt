@@ -134,7 +134,8 @@ pub fn report_status(findings: &[Finding]) -> u8
 pub fn reply(alloc: Global, plan: &Plan<'_>, report: &Report<'_>) -> Result<Reply, Memory>
     requires plan { report.now.plan ≡ plan.now }
     requires figures { AreFigures plan.now.script report.now.figures }
-    ensures { IfOk result (λ reply. IsReportBy report.now.granted plan.now.script reply.status reply.text.items) }
+    ensures report { IfOk result (λ reply. IsReportBy report.now.granted plan.now.script reply.status reply.text.items) }
+    ensures status { IfOk result (λ reply. reply.status ≡ report_status report.now.findings) }
 {
     let mut text = Vec::new(alloc);
     write_report(&mut text, plan, report)?;

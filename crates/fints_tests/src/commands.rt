@@ -1,6 +1,6 @@
 //! The commands over files and streams that fail.
 use crate::{Quirk, Shelf, Tape};
-use fints_cli::{Failure, LoadFault, Request, built_in, emit, execute, load, perform};
+use fints_cli::{Failure, LoadFault, Request, ScriptFiles, built_in, emit, execute, load, perform};
 use std::alloc::{AllocError, Global};
 use std::process::Abort;
 use std::test::Fail;
@@ -17,6 +17,8 @@ skipped 0
 ";
 
 const REPORT: &[u8] = b"step end number 1 size 55\nclean\n";
+
+const CERTIFICATE: &[u8] = b"fints-cert 1\nstep end 1 55\n";
 
 // C1 with LFs up to so many bytes.
 fn padded(alloc: Global, len: usize) -> Result<Vec<u8>, AllocError> {
@@ -166,16 +168,23 @@ fn replies(rt: HostRuntime) {
         ("c1", C1),
         ("orders", built_in::ORDERS),
         ("script", built_in::SCRIPT),
+        ("cert", CERTIFICATE),
     ];
-    let check = Request::Check {
+    let named = ScriptFiles {
         params: "c1",
         orders: "orders",
         script: "script",
     };
-    let rows: [(Request<'_>, &[u8]); 3] = [
+    let verify = Request::Verify {
+        files: named,
+        certificate: "cert",
+    };
+    let rows: [(Request<'_>, &[u8]); 5] = [
         (Request::BuiltIn, REPORT),
         (Request::Show { params: "c1" }, SHOWN),
-        (check, REPORT),
+        (Request::Check(named), REPORT),
+        (Request::Certify(named), CERTIFICATE),
+        (verify, b"valid\n"),
     ];
     for (request, text) in rows {
         let mut shelf = Shelf::new(&files, Quirk::None);

@@ -34,6 +34,9 @@ pub enum Fault {
     /// The values of the case aren't those that the script admits.
     #[error("case NotAdmitted")]
     NotAdmitted,
+    /// The first line that is no line of a certificate there; lines count from 1.
+    #[error("cert line {line}")]
+    Certificate { line: u32 },
     /// The bytes are no message; want of memory is no such refusal.
     #[error("message {0}")]
     Message(JudgeFault),

@@ -7,6 +7,14 @@ use clap::error::ErrorKind;
 use clap::{Arg, ArgAction, ArgMatches, Command, Error};
 use std::alloc::{AllocError, Global};
 
+/// The files of a command that reads a script.
+#[derive(Clone, Copy, Debug, PartialEq, Eq)]
+pub struct ScriptFiles<'a> {
+    pub params: &'a str,
+    pub orders: &'a str,
+    pub script: &'a str,
+}
+
 /// A command with its files.
 #[derive(Debug, Drop)]
 pub enum Request<'a> {
@@ -23,16 +31,15 @@ pub enum Request<'a> {
         message: &'a str,
     },
     /// What the runs of a script break, by a capture and an order table.
-    Check {
-        params: &'a str,
-        orders: &'a str,
-        script: &'a str,
-    },
+    Check(ScriptFiles<'a>),
     /// What the runs of a script break, and a case of each finding.
-    Explain {
-        params: &'a str,
-        orders: &'a str,
-        script: &'a str,
+    Explain(ScriptFiles<'a>),
+    /// The certificate of a script whose runs break nothing, or else what they break.
+    Certify(ScriptFiles<'a>),
+    /// Whether a certificate of a script is closed.
+    Verify {
+        files: ScriptFiles<'a>,
+        certificate: &'a str,
     },
     /// The messages that a client sends under a case, by an order table and a script.
     Run {
@@ -108,6 +115,23 @@ fn explain_command<'a>(alloc: Global) -> Result<Command<'a>, AllocError> {
     )
 }
 
+fn certify_command<'a>(alloc: Global) -> Result<Command<'a>, AllocError> {
+    script_command(
+        alloc,
+        "certify",
+        "Prints the certificate of a script whose runs break no rule",
+    )
+}
+
+fn verify_command<'a>(alloc: Global) -> Result<Command<'a>, AllocError> {
+    script_command(
+        alloc,
+        "verify",
+        "Tells whether a certificate of a script is closed",
+    )?
+    .arg(file_option(alloc, "cert", "The certificate"))
+}
+
 fn run_command<'a>(alloc: Global) -> Result<Command<'a>, AllocError> {
     Command::new(alloc, "run")
         .about("Prints the messages that a client sends under a case")
@@ -127,6 +151,8 @@ fn command_line<'a>(alloc: Global) -> Result<Command<'a>, AllocError> {
         .subcommand(judge_command(alloc)?)?
         .subcommand(check_command(alloc)?)?
         .subcommand(explain_command(alloc)?)?
+        .subcommand(certify_command(alloc)?)?
+        .subcommand(verify_command(alloc)?)?
         .subcommand(run_command(alloc)?)
 }
 
@@ -166,6 +192,14 @@ pub fn read_words<'a>(alloc: Global, words: &'a [&'a str]) -> Asked<'a>
     }
 }
 
+fn script_files<'a>(options: &ArgMatches<'a>) -> Option<ScriptFiles<'a>> {
+    Some(ScriptFiles {
+        params: options.get_str("params")?,
+        orders: options.get_str("orders")?,
+        script: options.get_str("script")?,
+    })
+}
+
 // The command with its options, each of which the command line requires.
 fn named_request<'a>(name: &str, options: &ArgMatches<'a>) -> Option<Request<'a>> {
     match name {
@@ -177,15 +211,12 @@ fn named_request<'a>(name: &str, options: &ArgMatches<'a>) -> Option<Request<'a>
             orders: options.get_str("orders")?,
             message: options.get_str("message")?,
         }),
-        "check" => Some(Request::Check {
-            params: options.get_str("params")?,
-            orders: options.get_str("orders")?,
-            script: options.get_str("script")?,
-        }),
-        "explain" => Some(Request::Explain {
-            params: options.get_str("params")?,
-            orders: options.get_str("orders")?,
-            script: options.get_str("script")?,
+        "check" => Some(Request::Check(script_files(options)?)),
+        "explain" => Some(Request::Explain(script_files(options)?)),
+        "certify" => Some(Request::Certify(script_files(options)?)),
+        "verify" => Some(Request::Verify {
+            files: script_files(options)?,
+            certificate: options.get_str("cert")?,
         }),
         "run" => Some(Request::Run {
             orders: options.get_str("orders")?,

@@ -1,0 +1,34 @@
+//! The certificate of a script without findings.
+ghost use Rattle.std.specs.Prelude.{◌≡◌, IfOk};
+ghost use Rattle.fints_check.specs.Figures.{AreFigures};
+ghost use Rattle.fints_reports.specs.Certified.{IsCertifiedBy};
+ghost use Rattle.fints_certs.specs.CertTexts.{cert_text};
+
+use crate::writing::reply;
+use fints_certs::{Certificate, certificate_of};
+use fints_check::Report;
+use fints_script::Plan;
+use fints_syntax::Memory;
+use fints_texts::Reply;
+use std::alloc::Global;
+
+fn certificate_reply(alloc: Global, certificate: &Certificate) -> Result<Reply, Memory>
+    ensures status { IfOk result (λ reply. reply.status ≡ 0) }
+    ensures text { IfOk result (λ reply. reply.text.items ≡ cert_text certificate.now) }
+{
+    let text = certificate.write(alloc)?;
+    Ok(Reply { status: 0, text })
+}
+
+/// The certificate of a plan without findings, or else the report, with its status.
+pub fn certify(alloc: Global, plan: &Plan<'_>, report: &Report<'_>) -> Result<Reply, Memory>
+    requires plan { report.now.plan ≡ plan.now }
+    requires figures { AreFigures plan.now.script report.now.figures }
+    ensures { IfOk result (λ reply. IsCertifiedBy report.now.granted plan.now.script reply.status reply.text.items) }
+{
+    let _findings = report.findings();
+    match certificate_of(alloc, report)? {
+        Some(certificate) => certificate_reply(alloc, &certificate),
+        None => reply(alloc, plan, report),
+    }
+}
