@@ -1,0 +1,102 @@
+//! Words that are meant, perhaps, and lists of the words that there are.
+use crate::quoting::Quoted;
+use fints_syntax::Memory;
+use std::alloc::Global;
+use std::fmt;
+use std::fmt::{Display, Formatter, Write};
+use strsim::osa_distance;
+
+/// The longest text that is compared with words.
+const LONGEST: usize = 60;
+
+/// The most names that are listed.
+const MOST: usize = 8;
+
+// How many edits lead from the text to the word, if they are at most two and leave half of it.
+fn edits(alloc: Global, text: &str, word: &str) -> Result<Option<usize>, Memory> {
+    if word.len() > LONGEST {
+        return Ok(None);
+    }
+    if text.eq_ignore_ascii_case(word) {
+        return Ok(Some(0));
+    }
+    let count = osa_distance(alloc, text, word)?;
+    if count <= 2 && count.saturating_mul(2) <= word.len() {
+        Ok(Some(count))
+    } else {
+        Ok(None)
+    }
+}
+
+/// The word that is nearest to the text, if one is near.
+pub fn near<'a>(alloc: Global, words: &[&'a str], text: &str) -> Result<Option<&'a str>, Memory> {
+    if text.len() > LONGEST {
+        return Ok(None);
+    }
+    let mut best = None;
+    let mut least = 3;
+    for word in words {
+        if let Some(count) = edits(alloc, text, word)? {
+            if count < least {
+                least = count;
+                best = Some(*word);
+            }
+        }
+    }
+    Ok(best)
+}
+
+/// A text that is no word, with the word that was meant, if one is near.
+#[derive(Clone, Copy, Debug)]
+pub struct Guess<'a> {
+    pub text: &'a str,
+    pub near: Option<&'a str>,
+}
+
+/// The text with the nearest of the words.
+pub fn guess<'a>(alloc: Global, words: &[&'a str], text: &'a str) -> Result<Guess<'a>, Memory> {
+    let near = near(alloc, words, text)?;
+    Ok(Guess { text, near })
+}
+
+impl Display for Guess<'_> {
+    fn fmt<W: Write>(&self, f: &mut Formatter<W>) -> fmt::Result {
+        let text = Quoted(self.text);
+        match self.near {
+            Some(word) => {
+                let word = Quoted(word);
+                write!(f, "{text} (did you mean {word}?)")
+            }
+            None => write!(f, "{text}"),
+        }
+    }
+}
+
+/// Words in a row, with commas between.
+#[derive(Clone, Copy, Debug)]
+pub struct Joined<'a>(pub &'a [&'a str]);
+
+impl Display for Joined<'_> {
+    fn fmt<W: Write>(&self, f: &mut Formatter<W>) -> fmt::Result {
+        f.write_joined(self.0.iter(), ", ")
+    }
+}
+
+/// The first names of a list, in quotes.
+#[derive(Clone, Copy, Debug)]
+pub struct Known<'a>(pub &'a [&'a str]);
+
+impl Display for Known<'_> {
+    fn fmt<W: Write>(&self, f: &mut Formatter<W>) -> fmt::Result {
+        if self.0.is_empty() {
+            return f.write_str("there is none");
+        }
+        f.write_str("there are ")?;
+        f.write_joined(self.0.iter().take(MOST).map(|name| Quoted(name)), ", ")?;
+        if self.0.len() > MOST {
+            let more = self.0.len().saturating_sub(MOST);
+            write!(f, " and {more} more")?;
+        }
+        Ok(())
+    }
+}

@@ -1,0 +1,191 @@
+//! What the refusal of an order table is about.
+use crate::guessing::guess;
+use crate::keys::{Wanted, missing_key, no_table, unknown_key, wrong};
+use crate::places::{Told, row_at, row_named, text_in, told_at, told_of};
+use crate::quoting::{Quoted, Shown};
+use crate::unread::why_no_toml;
+use fints_documents::document;
+use fints_documents::document::member;
+use fints_documents::entries::text_at;
+use fints_documents::tables::{is_no_integer, is_no_text, is_outside, rows_of};
+use fints_rules::TableFault;
+use fints_syntax::Kind;
+use std::alloc::Global;
+use toml::{Table, Value};
+
+const WORDS: [&str; 3] = ["none", "national", "international"];
+
+fn is_reserved(text: &str) -> bool {
+    matches!(text, "HKIDN" | "HKVVB" | "HKSYN" | "HKEND" | "HKTAN")
+}
+
+fn is_order_kind(text: &str) -> bool {
+    text.len() == 5
+        && (text.starts_with("HK") || text.starts_with("DK"))
+        && Kind::parse(text.as_bytes()).is_some()
+}
+
+fn kind_slip(alloc: Global, text: &str) -> Told {
+    let shown = Quoted(text);
+    if is_reserved(text) {
+        return Ok(Some(
+            format!(in alloc; ": the kind {shown} names no account, and may not stand in an order table")?,
+        ));
+    }
+    if !is_order_kind(text) {
+        return Ok(Some(
+            format!(in alloc; ": the kind {shown} is none of an order; one has five characters A to Z and 0 to 9, of which HK or DK are the first")?,
+        ));
+    }
+    Ok(None)
+}
+
+fn form_slip(alloc: Global, text: &str) -> Told {
+    let guess = guess(alloc, &WORDS, text)?;
+    Ok(Some(
+        format!(in alloc; ": account is {guess}, and must be \"none\", \"national\" or \"international\"")?,
+    ))
+}
+
+fn wrong_key(table: &Table) -> Option<Wanted> {
+    if is_no_text(member(table, "kind")) {
+        return Some(Wanted {
+            key: "kind",
+            what: "a text",
+        });
+    }
+    let version = member(table, "version");
+    if is_no_integer(version) || is_outside(1, 999, version) {
+        return Some(Wanted {
+            key: "version",
+            what: "a number from 1 to 999, without quotes",
+        });
+    }
+    if is_no_text(member(table, "account")) {
+        return Some(Wanted {
+            key: "account",
+            what: "\"none\", \"national\" or \"international\"",
+        });
+    }
+    None
+}
+
+fn wrong_value(alloc: Global, table: &Table) -> Told {
+    let wanted = wrong_key(table);
+    if wanted.is_some() {
+        return wrong(alloc, table, wanted);
+    }
+    let found = kind_slip(alloc, text_at(table, "kind").unwrap_or(""))?;
+    if found.is_some() {
+        return Ok(found);
+    }
+    form_slip(alloc, text_at(table, "account").unwrap_or(""))
+}
+
+fn table_slip(alloc: Global, table: &Table) -> Told {
+    let keys = ["kind", "version", "account"];
+    let found = unknown_key(alloc, table, &keys, "an order")?;
+    if found.is_some() {
+        return Ok(found);
+    }
+    let found = missing_key(alloc, table, &keys, "an order")?;
+    if found.is_some() {
+        return Ok(found);
+    }
+    wrong_value(alloc, table)
+}
+
+fn bad_row(alloc: Global, rows: &[Value], number: u16) -> Told {
+    let Some(row) = row_at(rows, number) else {
+        return Ok(None);
+    };
+    let found = match row {
+        Value::Table(table) => table_slip(alloc, table)?,
+        _ => no_table(alloc, row)?,
+    };
+    let place = row_named("order", usize::from(number), row, "kind");
+    told_of(alloc, &place, found)
+}
+
+fn version_in(row: &Value) -> Option<i64> {
+    match row {
+        Value::Table(table) => member(table, "version")?.as_integer(),
+        _ => None,
+    }
+}
+
+fn is_same(a: &Value, b: &Value) -> bool {
+    text_in(a, "kind") == text_in(b, "kind") && version_in(a) == version_in(b)
+}
+
+fn two_rows(alloc: Global, rows: &[Value], number: u16) -> Told {
+    let Some(row) = row_at(rows, number) else {
+        return Ok(None);
+    };
+    let version = version_in(row).unwrap_or(0);
+    let place = row_named("order", usize::from(number), row, "kind");
+    match rows.iter().position(|other| is_same(row, other)) {
+        Some(earlier) => {
+            let earlier = earlier.saturating_add(1);
+            Ok(Some(
+                format!(in alloc; "{place}: order {earlier} has the same kind and version ({version}) already")?,
+            ))
+        }
+        None => Ok(None),
+    }
+}
+
+fn no_rows(alloc: Global, table: &Table) -> Told {
+    match member(table, "order") {
+        Some(value) => {
+            let shown = Shown(value);
+            Ok(Some(
+                format!(in alloc; "order is {shown}, and must be an array of tables: write [[order]], with two brackets")?,
+            ))
+        }
+        None => Ok(None),
+    }
+}
+
+fn many_rows(alloc: Global, rows: &[Value]) -> Told {
+    let count = rows.len();
+    Ok(Some(
+        format!(in alloc; "order has {count} rows, and may have 1000")?,
+    ))
+}
+
+fn rows_hint(alloc: Global, number: u16, table: &Table) -> Told {
+    let rows = rows_of(member(table, "order"));
+    if number == 0 {
+        return no_rows(alloc, table);
+    }
+    if rows.len() > 1000 {
+        return many_rows(alloc, rows);
+    }
+    bad_row(alloc, rows, number)
+}
+
+fn table_hint(alloc: Global, fault: &TableFault, table: &Table) -> Told {
+    match fault {
+        TableFault::UnknownKey => {
+            let found = unknown_key(alloc, table, &["order"], "an order table")?;
+            told_at(alloc, "top", found)
+        }
+        TableFault::BadRow { row } => rows_hint(alloc, *row, table),
+        TableFault::TwoRows { row } => {
+            two_rows(alloc, rows_of(member(table, "order")), *row)
+        }
+        _ => Ok(None),
+    }
+}
+
+/// What the refusal of an order table is about.
+pub fn orders_hint(alloc: Global, fault: &TableFault, text: &[u8]) -> Told {
+    if *fault == TableFault::NotToml {
+        return why_no_toml(alloc, text);
+    }
+    match document::read(alloc, text) {
+        Ok(table) => table_hint(alloc, fault, &table),
+        Err(_) => Ok(None),
+    }
+}
