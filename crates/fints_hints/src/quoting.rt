@@ -102,6 +102,7 @@ impl Display for Shown<'_> {
             Value::Float(_) => f.write_str("a number with a point"),
             Value::Boolean(flag) => write!(f, "{flag}"),
             Value::Datetime(_) => f.write_str("a date or a time"),
+            Value::Array(values) if values.is_empty() => f.write_str("an empty array"),
             Value::Array(_) => f.write_str("an array"),
             Value::Table(_) => f.write_str("a table"),
         }

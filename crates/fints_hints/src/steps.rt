@@ -80,13 +80,7 @@ fn wrong_value(alloc: Global, table: &Table) -> Told {
     if is_no_name(member(table, "name")) {
         return name_slip(alloc, table);
     }
-    match member(table, "segments") {
-        Some(Value::Array(rows)) if rows.is_empty() => Ok(Some(String::from_str(
-            alloc,
-            ": segments is an empty array, and must have at least one table",
-        )?)),
-        _ => wrong(alloc, table, wrong_key(table)),
-    }
+    wrong(alloc, table, wrong_key(table))
 }
 
 fn twice(alloc: Global, steps: &NamedRows<'_>, row: usize, table: &Table) -> Told {

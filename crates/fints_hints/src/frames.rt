@@ -1,0 +1,247 @@
+//! Segments that can't stand at their place in a message.
+use crate::quoting::Sample;
+use crate::syntax::{Numbered, trouble};
+use fints_messages::is_kind;
+use fints_syntax::{Kind, Memory, OwnedSegment, SegmentView, parse_number, parse_segment};
+use std::alloc::Global;
+
+/// What a segment is within a message.
+#[derive(Clone, Copy, Debug, PartialEq, Eq)]
+pub enum Part {
+    Opener,
+    Body,
+    Ender,
+    Other,
+}
+
+fn frame_version(kind: Kind) -> Option<u16> {
+    if is_kind(kind, b"HNHBK") || is_kind(kind, b"HNVSK") {
+        Some(3)
+    } else if is_kind(kind, b"HNSHK") {
+        Some(4)
+    } else if is_kind(kind, b"HNSHA") {
+        Some(2)
+    } else if is_kind(kind, b"HNVSD") || is_kind(kind, b"HNHBS") {
+        Some(1)
+    } else {
+        None
+    }
+}
+
+/// What the segment is.
+pub fn part_of(view: &SegmentView<'_>) -> Part {
+    let kind = view.id();
+    if is_kind(kind, b"HNSHK") && view.version() == 4 {
+        return Part::Opener;
+    }
+    if is_kind(kind, b"HNSHA") && view.version() == 2 {
+        return Part::Ender;
+    }
+    match frame_version(kind) {
+        Some(_) => Part::Other,
+        None => Part::Body,
+    }
+}
+
+/// How many segments of each part stand before a place, and where that is.
+#[derive(Clone, Copy, Debug)]
+pub struct Walk {
+    pub at: usize,
+    pub openers: usize,
+    pub body: usize,
+    pub ends: usize,
+}
+
+impl Walk {
+    /// The number that the next segment has.
+    pub fn next_number(&self) -> usize {
+        self.openers
+            .saturating_add(self.body)
+            .saturating_add(self.ends)
+            .saturating_add(2)
+    }
+
+    fn takes(&self, view: &SegmentView<'_>) -> bool {
+        if usize::from(view.number()) != self.next_number() {
+            return false;
+        }
+        match part_of(view) {
+            Part::Opener => self.body == 0 && self.ends == 0,
+            Part::Body => self.ends == 0,
+            Part::Ender => self.ends < self.openers,
+            Part::Other => false,
+        }
+    }
+
+    // The place behind a segment of so many bytes.
+    fn behind(&self, view: &SegmentView<'_>, len: usize) -> Walk {
+        let mut next = *self;
+        next.at = next.at.saturating_add(len);
+        match part_of(view) {
+            Part::Opener => next.openers = next.openers.saturating_add(1),
+            Part::Body => next.body = next.body.saturating_add(1),
+            Part::Ender => next.ends = next.ends.saturating_add(1),
+            Part::Other => {}
+        }
+        next
+    }
+}
+
+/// How far segments can stand between the first and the last of a message, from an offset on.
+pub fn walk_from(bytes: &[u8], from: usize) -> Walk {
+    let mut walk = Walk {
+        at: from,
+        openers: 0,
+        body: 0,
+        ends: 0,
+    };
+    for _ in 0..bytes.len() {
+        match parse_segment(bytes.get(walk.at..).unwrap_or(&[])) {
+            Ok((view, len)) if walk.takes(&view) => walk = walk.behind(&view, len),
+            _ => return walk,
+        }
+    }
+    walk
+}
+
+/// The segment by its number and identifier.
+pub fn named(view: &SegmentView<'_>) -> Numbered {
+    Numbered {
+        number: view.number(),
+        id: view.id(),
+    }
+}
+
+fn number_text(alloc: Global, view: &SegmentView<'_>, wanted: usize) -> Result<String, Memory> {
+    let name = named(view);
+    Ok(
+        format!(in alloc; "{name} must have the number {wanted}: segments are numbered 1, 2, 3 and so on")?,
+    )
+}
+
+fn order_text(alloc: Global, view: &SegmentView<'_>, why: &str) -> Result<String, Memory> {
+    let name = named(view);
+    Ok(format!(in alloc; "{name} {why}")?)
+}
+
+fn version_text(alloc: Global, view: &SegmentView<'_>, wanted: u16) -> Result<String, Memory> {
+    let name = named(view);
+    let version = view.version();
+    Ok(format!(in alloc; "{name} has version {version}, and must have {wanted}")?)
+}
+
+// Why a segment of the frame can't stand there.
+fn frame_text(alloc: Global, view: &SegmentView<'_>) -> Result<String, Memory> {
+    match frame_version(view.id()) {
+        Some(wanted) if wanted != view.version() => version_text(alloc, view, wanted),
+        _ if is_kind(view.id(), b"HNVSK") && view.number() != 998 => order_text(
+            alloc,
+            view,
+            "can't stand there: HNVSK has the number 998, and stands behind HNHBK",
+        ),
+        _ => order_text(alloc, view, "can't stand there, by the order of a message"),
+    }
+}
+
+/// Why a segment can't stand between the first and the last of a message.
+pub fn order_slip(
+    alloc: Global,
+    view: &SegmentView<'_>,
+    walk: &Walk,
+) -> Result<String, Memory> {
+    let part = part_of(view);
+    if part == Part::Other {
+        return frame_text(alloc, view);
+    }
+    if usize::from(view.number()) != walk.next_number() {
+        return number_text(alloc, view, walk.next_number());
+    }
+    match part {
+        Part::Opener => order_text(alloc, view, "must stand before all other segments but HNHBK"),
+        Part::Ender => order_text(
+            alloc,
+            view,
+            "is one HNSHA too many: there are as many as there are HNSHK",
+        ),
+        _ => order_text(alloc, view, "can't stand behind HNSHA"),
+    }
+}
+
+/// The number of a message, as an element spells it in 1 to 9 digits.
+pub fn message_number(segment: &OwnedSegment, element: usize) -> Option<u32> {
+    if element < 2 {
+        return None;
+    }
+    parse_number(segment.value(element, 1))
+}
+
+fn closing_text(alloc: Global, segment: &OwnedSegment, number: u32) -> Result<String, Memory> {
+    let shown = Sample(segment.value(2, 1));
+    Ok(
+        format!(in alloc; "element 2 of HNHBS is {shown}, and must be {number}, the number of the message in HNHBK")?,
+    )
+}
+
+fn counts_text(alloc: Global, walk: &Walk) -> Result<String, Memory> {
+    let Walk { openers, ends, .. } = *walk;
+    Ok(
+        format!(in alloc; "before HNHBS stand {openers} HNSHK and {ends} HNSHA; there must be as many of both")?,
+    )
+}
+
+/// Why a last segment, HNHBS version 1, can't stand there.
+pub fn last_slip(
+    alloc: Global,
+    view: &SegmentView<'_>,
+    walk: &Walk,
+    number: u32,
+) -> Result<String, Memory> {
+    let segment = view.to_owned(alloc)?;
+    if message_number(&segment, 2) != Some(number) {
+        return closing_text(alloc, &segment, number);
+    }
+    if usize::from(view.number()) != walk.next_number() {
+        return number_text(alloc, view, walk.next_number());
+    }
+    counts_text(alloc, walk)
+}
+
+/// Whether it is HNHBS version 1.
+pub fn is_last(view: &SegmentView<'_>) -> bool {
+    is_kind(view.id(), b"HNHBS") && view.version() == 1
+}
+
+/// Why no segment of a message stands at the front of bytes behind this walk.
+pub fn slip_at(
+    alloc: Global,
+    rest: &[u8],
+    walk: &Walk,
+    number: u32,
+) -> Result<String, Memory> {
+    match parse_segment(rest) {
+        Ok((view, _)) => {
+            if is_last(&view) {
+                last_slip(alloc, &view, walk, number)
+            } else {
+                order_slip(alloc, &view, walk)
+            }
+        }
+        Err(_) => unread_text(alloc, rest, walk),
+    }
+}
+
+// Why no segment can be read behind a walk.
+fn unread_text(alloc: Global, rest: &[u8], walk: &Walk) -> Result<String, Memory> {
+    if rest.is_empty() {
+        return Ok(String::from_str(
+            alloc,
+            "the bytes end there: HNHBS is missing",
+        )?);
+    }
+    let wanted = walk.next_number();
+    let text = trouble(alloc, rest)?;
+    let front = Sample(rest.get(..20).unwrap_or(rest));
+    Ok(
+        format!(in alloc; "what begins with {front}, at the place of segment {wanted},{text}")?,
+    )
+}

@@ -1,0 +1,132 @@
+//! Where bytes stop to be a segment, and why.
+use fints_syntax::parse_number;
+
+/// The most items of a segment.
+const MOST: usize = 20_000;
+
+/// Why bytes stop to be a segment.
+#[derive(Clone, Copy, Debug, PartialEq, Eq)]
+pub enum Why {
+    /// They end within an item.
+    Cut,
+    /// They end within a binary item of so many bytes, of which so many are there.
+    CutBinary { len: usize, there: usize },
+    /// An `@` begins an item, and digits with a second `@` don't follow.
+    NoLength,
+    /// Behind a binary item of so many bytes stands this byte, which is no separator.
+    NoSeparator { len: usize, after: u8 },
+    /// They have too many items.
+    Many,
+    /// They don't: a whole segment stands there.
+    Whole,
+}
+
+/// The element and the item, from 1 on, in which bytes stop to be a segment.
+#[derive(Clone, Copy, Debug)]
+pub struct Stop {
+    pub element: usize,
+    pub item: usize,
+    pub why: Why,
+}
+
+/// What stands at the front of bytes.
+#[derive(Clone, Copy, Debug)]
+enum Scanned {
+    /// An item of so many bytes, and the separator behind it.
+    Item { len: usize, after: u8 },
+    /// No item.
+    No(Why),
+}
+
+fn is_separator(byte: u8) -> bool {
+    matches!(byte, b'+' | b':' | b'\'')
+}
+
+fn scan_text(bytes: &[u8]) -> Scanned {
+    let mut escaped = false;
+    for (i, byte) in bytes.iter().enumerate() {
+        if escaped {
+            escaped = false;
+        } else if *byte == b'?' {
+            escaped = true;
+        } else if is_separator(*byte) {
+            return Scanned::Item {
+                len: i,
+                after: *byte,
+            };
+        }
+    }
+    Scanned::No(Why::Cut)
+}
+
+// The rest of a binary item of so many bytes, behind its second `@`.
+fn scan_rest(front: usize, len: usize, rest: &[u8]) -> Scanned {
+    match rest.get(len) {
+        Some(after) if is_separator(*after) => Scanned::Item {
+            len: front.saturating_add(len),
+            after: *after,
+        },
+        Some(after) => Scanned::No(Why::NoSeparator { len, after: *after }),
+        None => Scanned::No(Why::CutBinary {
+            len,
+            there: rest.len(),
+        }),
+    }
+}
+
+// An item that an `@` begins, behind which these bytes stand.
+fn scan_binary(tail: &[u8]) -> Scanned {
+    let Some(digits) = tail.iter().position(|b| !b.is_ascii_digit()) else {
+        return if tail.len() > 9 {
+            Scanned::No(Why::NoLength)
+        } else {
+            Scanned::No(Why::Cut)
+        };
+    };
+    let number = parse_number(tail.get(..digits).unwrap_or(&[]));
+    let rest = tail.get(digits.saturating_add(1)..).unwrap_or(&[]);
+    match (number, tail.get(digits)) {
+        (Some(len), Some(b'@')) => scan_rest(digits.saturating_add(2), len as usize, rest),
+        _ => Scanned::No(Why::NoLength),
+    }
+}
+
+fn scan_item(bytes: &[u8]) -> Scanned {
+    match bytes {
+        [b'@', tail @ ..] => scan_binary(tail),
+        _ => scan_text(bytes),
+    }
+}
+
+/// Where the bytes stop to be a segment.
+pub fn stop_of(bytes: &[u8]) -> Stop {
+    let mut at: usize = 0;
+    let mut element: usize = 1;
+    let mut item: usize = 1;
+    for _ in 0..MOST {
+        let (len, after) = match scan_item(bytes.get(at..).unwrap_or(&[])) {
+            Scanned::Item { len, after } => (len, after),
+            Scanned::No(why) => return Stop { element, item, why },
+        };
+        at = at.saturating_add(len).saturating_add(1);
+        match after {
+            b'\'' => {
+                return Stop {
+                    element,
+                    item,
+                    why: Why::Whole,
+                };
+            }
+            b'+' => {
+                element = element.saturating_add(1);
+                item = 1;
+            }
+            _ => item = item.saturating_add(1),
+        }
+    }
+    Stop {
+        element,
+        item,
+        why: Why::Many,
+    }
+}

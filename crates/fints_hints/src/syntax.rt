@@ -1,0 +1,226 @@
+//! Segments that can't be read.
+use crate::places::line_at;
+use crate::quoting::Sample;
+use crate::scanning::{Stop, Why, stop_of};
+use fints_syntax::{Kind, Memory, SyntaxKind, parse_number, parse_segment};
+use std::alloc::Global;
+use std::fmt;
+use std::fmt::{Display, Formatter, Write};
+
+/// The most bytes of a segment.
+const MOST: usize = 1_048_576;
+
+/// Bytes of an input: where they begin in it, and in what they stand.
+#[derive(Clone, Copy, Debug)]
+pub struct Region<'a> {
+    pub input: &'a [u8],
+    pub bytes: &'a [u8],
+    pub base: usize,
+    /// Empty, or a remark that the bytes are the data of an HNVSD.
+    pub within: &'static str,
+}
+
+/// The whole of an input.
+pub fn whole(input: &[u8]) -> Region<'_> {
+    Region {
+        input,
+        bytes: input,
+        base: 0,
+        within: "",
+    }
+}
+
+/// The remark on segments in the data of an HNVSD.
+pub const IN_DATA: &str = ", in the data of HNVSD,";
+
+// How many line breaks stand at the front.
+fn breaks_len(bytes: &[u8]) -> usize {
+    match bytes.iter().position(|b| *b != b'\r' && *b != b'\n') {
+        Some(len) => len,
+        None => bytes.len(),
+    }
+}
+
+// Where the next segment starts, at the place or behind line breaks.
+fn skip_breaks(bytes: &[u8], at: usize) -> usize {
+    at.saturating_add(breaks_len(bytes.get(at..).unwrap_or(&[])))
+}
+
+/// Where the first segment starts that can't be read.
+pub fn bad_start(bytes: &[u8]) -> Option<usize> {
+    let mut start = skip_breaks(bytes, 0);
+    for _ in 0..bytes.len() {
+        if start >= bytes.len() {
+            return None;
+        }
+        match parse_segment(bytes.get(start..)?) {
+            Ok((_, len)) => start = skip_breaks(bytes, start.saturating_add(len)),
+            Err(_) => return Some(start),
+        }
+    }
+    None
+}
+
+fn is_mark(byte: u8) -> bool {
+    matches!(byte, b':' | b'+' | b'\'')
+}
+
+// The bytes to the first mark, and those behind it.
+fn first_word(bytes: &[u8]) -> (&[u8], &[u8]) {
+    match bytes.iter().position(|b| is_mark(*b)) {
+        Some(end) => (
+            bytes.get(..end).unwrap_or(&[]),
+            bytes.get(end.saturating_add(1)..).unwrap_or(&[]),
+        ),
+        None => (bytes, &[]),
+    }
+}
+
+/// A segment by what its bytes begin with.
+#[derive(Clone, Copy, Debug)]
+struct Begin<'a>(&'a [u8]);
+
+impl Display for Begin<'_> {
+    fn fmt<W: Write>(&self, f: &mut Formatter<W>) -> fmt::Result {
+        let (id, rest) = first_word(self.0);
+        let (number, _) = first_word(rest);
+        let name = Sample(id);
+        match (Kind::parse(id), parse_number(number)) {
+            (Some(_), Some(number)) => {
+                write!(f, "segment {number} (")?;
+                write_kind(f, id)?;
+                f.write_str(")")
+            }
+            (Some(_), None) => write!(f, "a segment {name}"),
+            _ => {
+                let front = Sample(self.0.get(..20).unwrap_or(self.0));
+                write!(f, "what begins with {front}")
+            }
+        }
+    }
+}
+
+fn write_kind<W: Write>(f: &mut Formatter<W>, id: &[u8]) -> fmt::Result {
+    for byte in id {
+        f.write_char(char::from(*byte))?;
+    }
+    Ok(())
+}
+
+/// The number and the identifier of a segment.
+#[derive(Clone, Copy, Debug)]
+pub struct Numbered {
+    pub number: u16,
+    pub id: Kind,
+}
+
+impl Display for Numbered {
+    fn fmt<W: Write>(&self, f: &mut Formatter<W>) -> fmt::Result {
+        let number = self.number;
+        write!(f, "segment {number} (")?;
+        write_kind(f, self.id.as_bytes())?;
+        f.write_str(")")
+    }
+}
+
+// What stands in an item where the bytes end.
+fn cut_text(alloc: Global, stop: &Stop) -> Result<String, Memory> {
+    let Stop { element, item, why } = *stop;
+    match why {
+        Why::CutBinary { len, there } => Ok(
+            format!(in alloc; " has no end: the bytes stop in element {element}, item {item}, a binary item of {len} bytes of which {there} are there")?,
+        ),
+        _ => Ok(format!(in alloc; " has no end: the bytes stop in element {element}, item {item}")?),
+    }
+}
+
+fn binary_text(alloc: Global, stop: &Stop) -> Result<String, Memory> {
+    let Stop { element, item, why } = *stop;
+    match why {
+        Why::NoSeparator { len, after } => {
+            let after = [after];
+            let after = Sample(&after);
+            Ok(
+                format!(in alloc; ", element {element}, item {item}: behind the {len} bytes of a binary item stands {after}, and none of + : '; the length is wrong, or the bytes were changed")?,
+            )
+        }
+        _ => Ok(
+            format!(in alloc; ", element {element}, item {item}: an @ begins a binary item, written @length@ and so many bytes; a text that begins with @ is written ?@")?,
+        ),
+    }
+}
+
+fn long_text(alloc: Global, stop: &Stop) -> Result<String, Memory> {
+    match stop.why {
+        Why::Many => Ok(format!(in alloc; " has 20000 items or more")?),
+        _ => Ok(format!(in alloc; " has no end within {MOST} bytes")?),
+    }
+}
+
+// The bytes of a head: all before the second element.
+fn head_bytes(bytes: &[u8]) -> &[u8] {
+    match bytes.iter().position(|b| *b == b'+' || *b == b'\'') {
+        Some(end) => bytes.get(..end).unwrap_or(&[]),
+        None => bytes,
+    }
+}
+
+fn is_number(text: &[u8]) -> bool {
+    text.len() <= 3 && parse_number(text).is_some()
+}
+
+fn parts_cause(id: &[u8], number: &[u8], version: &[u8]) -> &'static str {
+    if Kind::parse(id).is_none() {
+        return "its identifier must have 1 to 6 characters A to Z and 0 to 9";
+    }
+    if !is_number(number) {
+        return "its number must have 1 to 3 digits";
+    }
+    if !is_number(version) {
+        return "its version must have 1 to 3 digits";
+    }
+    "behind the version may stand a reference of 1 to 3 digits, and nothing else"
+}
+
+fn head_cause(head: &[u8]) -> &'static str {
+    let count = head.split(|b| *b == b':').count();
+    if count < 3 {
+        return "it must have an identifier, a number and a version, with : between";
+    }
+    let (id, rest) = first_word(head);
+    let (number, rest) = first_word(rest);
+    let (version, _) = first_word(rest);
+    parts_cause(id, number, version)
+}
+
+fn head_text(alloc: Global, bytes: &[u8]) -> Result<String, Memory> {
+    let head = head_bytes(bytes);
+    let cause = head_cause(head);
+    let head = Sample(head);
+    Ok(format!(in alloc; " has the head {head}: {cause}")?)
+}
+
+/// Why no segment can be read at the front of the bytes, behind what names it.
+pub fn trouble(alloc: Global, bytes: &[u8]) -> Result<String, Memory> {
+    let window = bytes.get(..MOST).unwrap_or(bytes);
+    let stop = stop_of(window);
+    match parse_segment(bytes) {
+        Ok(_) => Ok(String::new(alloc)),
+        Err(fault) => match fault.kind {
+            SyntaxKind::BadBinary => binary_text(alloc, &stop),
+            SyntaxKind::TooLong => long_text(alloc, &stop),
+            SyntaxKind::BadHead => head_text(alloc, window),
+            _ => cut_text(alloc, &stop),
+        },
+    }
+}
+
+/// Why no segment can be read at a place of a region.
+pub fn trouble_at(alloc: Global, region: &Region<'_>, start: usize) -> Result<String, Memory> {
+    let rest = region.bytes.get(start..).unwrap_or(&[]);
+    let line = line_at(region.input, region.base.saturating_add(start));
+    let begin = Begin(rest);
+    let within = region.within;
+    let text = trouble(alloc, rest)?;
+    Ok(format!(in alloc; "{begin} in line {line}{within}{text}")?)
+}

@@ -1,0 +1,41 @@
+//! The hint of a refusal, whatever its input.
+use crate::admitted::admitted_hint;
+use crate::captures::params_hint;
+use crate::cases::case_hint;
+use crate::certs::cert_hint;
+use crate::messages::message_hint;
+use crate::orders::orders_hint;
+use crate::plans::plan_hint;
+use crate::scripts::script_hint;
+use fints_cases::CaseFault;
+use fints_syntax::Memory;
+use fints_texts::Fault;
+use std::alloc::Global;
+
+/// The bytes of the files that a command has read; empty where it has no such file.
+#[derive(Clone, Copy, Debug)]
+pub struct Inputs<'a> {
+    pub params: &'a [u8],
+    pub orders: &'a [u8],
+    pub script: &'a [u8],
+    pub case: &'a [u8],
+    pub certificate: &'a [u8],
+    pub message: &'a [u8],
+}
+
+/// What to look at, for a refusal of these inputs: a line without LF. None where there is no more to
+/// say, as for want of memory.
+pub fn hint(alloc: Global, fault: &Fault, inputs: &Inputs<'_>) -> Result<Option<String>, Memory> {
+    match fault {
+        Fault::Memory => Ok(None),
+        Fault::Params(fault) => params_hint(alloc, fault, inputs.params),
+        Fault::Orders(fault) => orders_hint(alloc, fault, inputs.orders),
+        Fault::Script(fault) => script_hint(alloc, fault, inputs.script),
+        Fault::Plan(fault) => plan_hint(alloc, fault, inputs.orders, inputs.script),
+        Fault::Case(CaseFault::Bad { line }) => case_hint(alloc, *line, inputs.case),
+        Fault::Case(CaseFault::Memory) => Ok(None),
+        Fault::NotAdmitted => admitted_hint(alloc, inputs.script, inputs.case),
+        Fault::Certificate { line } => cert_hint(alloc, *line, inputs.certificate),
+        Fault::Message(fault) => message_hint(alloc, fault, inputs.message),
+    }
+}
