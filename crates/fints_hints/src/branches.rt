@@ -1,5 +1,5 @@
 //! What is wrong with the branches of a step, and with targets.
-use crate::guessing::{Known, guess};
+use crate::guessing::{Known, guess_of};
 use crate::keys::{Wanted, missing_key, no_table, unknown_key, wrong};
 use crate::places::{Row, Told, names_of, told_of};
 use crate::quoting::{Character, Quoted, Shown};
@@ -19,7 +19,7 @@ fn no_step(alloc: Global, steps: &NamedRows<'_>, text: &str) -> Told {
     let mut names = names_of(alloc, steps.as_slice())?;
     names.push("again")?;
     names.push("stop")?;
-    let guess = guess(alloc, names.as_slice(), text)?;
+    let guess = guess_of(alloc, names.as_slice(), text)?;
     if guess.near.is_some() {
         return Ok(Some(format!(in alloc; ": no step is named {guess}")?));
     }

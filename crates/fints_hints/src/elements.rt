@@ -1,5 +1,5 @@
 //! What is wrong with elements.
-use crate::guessing::{Known, guess};
+use crate::guessing::{Known, guess_of};
 use crate::places::{Told, names_of, text_in};
 use crate::quoting::{Character, Quoted, Shown};
 use fints_field_rows::text::is_latin1;
@@ -163,7 +163,7 @@ fn first_slip<'a>(
 fn unknown_text(alloc: Global, fields: &NamedRows<'_>, name: &str) -> Result<String, Memory> {
     let mut names = names_of(alloc, fields.as_slice())?;
     names.push("dialog")?;
-    let guess = guess(alloc, names.as_slice(), name)?;
+    let guess = guess_of(alloc, names.as_slice(), name)?;
     if guess.near.is_some() {
         return Ok(format!(in alloc; ": no field is named {guess}")?);
     }

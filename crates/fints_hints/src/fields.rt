@@ -1,5 +1,5 @@
 //! What is wrong with a row of `field`.
-use crate::guessing::guess;
+use crate::guessing::guess_of;
 use crate::keys::{Wanted, missing_key, name_slip, no_table, unknown_key, wrong};
 use crate::listed::values_slip;
 use crate::places::{Told, row_at, row_named, told_of};
@@ -19,24 +19,24 @@ const CLASSES: [&str; 6] = ["digits", "plain", "text", "bin", "oneof", "account"
 #[derive(Clone, Copy, Debug, PartialEq, Eq)]
 enum Class {
     /// With `min` and `max`.
-    Sized,
+    Bounded,
     /// With `values`.
     Listed,
     /// There is no such class, or none is named.
-    None,
+    Unknown,
 }
 
 fn class_of(table: &Table) -> Class {
     match text_at(table, "class") {
-        Some("digits") | Some("plain") | Some("text") | Some("bin") => Class::Sized,
+        Some("digits") | Some("plain") | Some("text") | Some("bin") => Class::Bounded,
         Some("oneof") | Some("account") => Class::Listed,
-        _ => Class::None,
+        _ => Class::Unknown,
     }
 }
 
 fn unknown(alloc: Global, table: &Table) -> Told {
     match class_of(table) {
-        Class::Sized => unknown_key(
+        Class::Bounded => unknown_key(
             alloc,
             table,
             &["name", "class", "min", "max"],
@@ -48,7 +48,7 @@ fn unknown(alloc: Global, table: &Table) -> Told {
             &["name", "class", "values"],
             "a field of class oneof or account",
         ),
-        Class::None => unknown_key(
+        Class::Unknown => unknown_key(
             alloc,
             table,
             &["name", "class", "min", "max", "values"],
@@ -59,7 +59,7 @@ fn unknown(alloc: Global, table: &Table) -> Told {
 
 fn missing(alloc: Global, table: &Table) -> Told {
     match class_of(table) {
-        Class::Sized => missing_key(
+        Class::Bounded => missing_key(
             alloc,
             table,
             &["name", "class", "min", "max"],
@@ -71,12 +71,12 @@ fn missing(alloc: Global, table: &Table) -> Told {
             &["name", "class", "values"],
             "a field of class oneof or account",
         ),
-        Class::None => missing_key(alloc, table, &["name", "class"], "a field"),
+        Class::Unknown => missing_key(alloc, table, &["name", "class"], "a field"),
     }
 }
 
 fn no_class(alloc: Global, text: &str) -> Told {
-    let guess = guess(alloc, &CLASSES, text)?;
+    let guess = guess_of(alloc, &CLASSES, text)?;
     Ok(Some(
         format!(in alloc; ": there is no class {guess}; the classes are digits, plain, text, bin, oneof, account")?,
     ))
@@ -91,11 +91,11 @@ fn wrong_key(table: &Table) -> Option<Wanted> {
         });
     }
     match class_of(table) {
-        Class::Sized if is_no_integer(member(table, "min")) => Some(Wanted {
+        Class::Bounded if is_no_integer(member(table, "min")) => Some(Wanted {
             key: "min",
             what: number,
         }),
-        Class::Sized if is_no_integer(member(table, "max")) => Some(Wanted {
+        Class::Bounded if is_no_integer(member(table, "max")) => Some(Wanted {
             key: "max",
             what: number,
         }),
@@ -124,7 +124,7 @@ fn wrong_value(alloc: Global, table: &Table) -> Told {
         return wrong(alloc, table, wanted);
     }
     match text_at(table, "class") {
-        Some(text) if class_of(table) == Class::None => no_class(alloc, text),
+        Some(text) if class_of(table) == Class::Unknown => no_class(alloc, text),
         _ => values_of(alloc, FaultKind::WrongKind, table),
     }
 }
@@ -183,7 +183,7 @@ fn bounds_text(alloc: Global, min: i64, max: i64) -> Told {
 }
 
 fn past(alloc: Global, table: &Table) -> Told {
-    if class_of(table) != Class::Sized {
+    if class_of(table) != Class::Bounded {
         return values_of(alloc, FaultKind::Limit, table);
     }
     match (number_at(table, "min"), number_at(table, "max")) {

@@ -54,7 +54,7 @@ pub struct Guess<'a> {
 }
 
 /// The text with the nearest of the words.
-pub fn guess<'a>(alloc: Global, words: &[&'a str], text: &'a str) -> Result<Guess<'a>, Memory> {
+pub fn guess_of<'a>(alloc: Global, words: &[&'a str], text: &'a str) -> Result<Guess<'a>, Memory> {
     let near = near(alloc, words, text)?;
     Ok(Guess { text, near })
 }
@@ -91,7 +91,7 @@ impl Display for Known<'_> {
         if self.0.is_empty() {
             return f.write_str("there is none");
         }
-        f.write_str("there are ")?;
+        f.write_str("the names are ")?;
         f.write_joined(self.0.iter().copied().take(MOST).map(|name| Quoted(name)), ", ")?;
         if self.0.len() > MOST {
             let more = self.0.len().saturating_sub(MOST);

@@ -1,5 +1,5 @@
 //! Keys of tables: those that don't stand there, those that are missing, and names.
-use crate::guessing::{Joined, guess};
+use crate::guessing::{Joined, guess_of};
 use crate::places::Told;
 use crate::quoting::{Character, Quoted, Shown};
 use fints_documents::document::member;
@@ -26,7 +26,7 @@ pub fn unknown_key(alloc: Global, table: &Table, keys: &[&str], whose: &str) -> 
     let Some(key) = first_unknown(table, keys) else {
         return Ok(None);
     };
-    let guess = guess(alloc, keys, key)?;
+    let guess = guess_of(alloc, keys, key)?;
     let keys = Joined(keys);
     Ok(Some(
         format!(in alloc; ": unknown key {guess}; the keys of {whose} are {keys}")?,

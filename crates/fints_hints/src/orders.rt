@@ -1,5 +1,5 @@
 //! What the refusal of an order table is about.
-use crate::guessing::guess;
+use crate::guessing::guess_of;
 use crate::keys::{Wanted, missing_key, no_table, unknown_key, wrong};
 use crate::places::{Told, row_at, row_named, text_in, told_at, told_of};
 use crate::quoting::{Quoted, Shown};
@@ -41,7 +41,7 @@ fn kind_slip(alloc: Global, text: &str) -> Told {
 }
 
 fn form_slip(alloc: Global, text: &str) -> Told {
-    let guess = guess(alloc, &WORDS, text)?;
+    let guess = guess_of(alloc, &WORDS, text)?;
     Ok(Some(
         format!(in alloc; ": account is {guess}, and must be \"none\", \"national\" or \"international\"")?,
     ))

@@ -1,6 +1,6 @@
 //! What is wrong with a row of `step`.
 use crate::branches::{branches_slip, target_slip};
-use crate::guessing::{Known, guess};
+use crate::guessing::{Known, guess_of};
 use crate::keys::{Wanted, missing_key, name_slip, no_table, unknown_key, wrong};
 use crate::places::{Told, names_of, row_at, row_named, told_at, told_of};
 use crate::quoting::{Quoted, Shown};
@@ -163,7 +163,7 @@ fn own_slip(
 
 fn no_signer(alloc: Global, signers: &[Value], number: usize, name: &str) -> Told {
     let names = names_of(alloc, signers)?;
-    let guess = guess(alloc, names.as_slice(), name)?;
+    let guess = guess_of(alloc, names.as_slice(), name)?;
     if guess.near.is_some() {
         return Ok(Some(
             format!(in alloc; ", signers, entry {number}: no signer is named {guess}")?,
