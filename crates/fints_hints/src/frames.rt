@@ -242,6 +242,6 @@ fn unread_text(alloc: Global, rest: &[u8], walk: &Walk) -> Result<String, Memory
     let text = trouble(alloc, rest)?;
     let front = Sample(rest.get(..20).unwrap_or(rest));
     Ok(
-        format!(in alloc; "what begins with {front}, at the place of segment {wanted},{text}")?,
+        format!(in alloc; "at the place of segment {wanted} what begins with {front}{text}")?,
     )
 }

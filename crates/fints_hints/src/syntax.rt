@@ -31,7 +31,7 @@ pub fn whole(input: &[u8]) -> Region<'_> {
 }
 
 /// The remark on segments in the data of an HNVSD.
-pub const IN_DATA: &str = ", in the data of HNVSD,";
+pub const IN_DATA: &str = " (in the data of HNVSD)";
 
 // How many line breaks stand at the front.
 fn breaks_len(bytes: &[u8]) -> usize {
