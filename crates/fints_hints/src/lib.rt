@@ -1,0 +1,6 @@
+//! Hints.
+#![tactic(auto)]
+
+mod inputs;
+
+pub use inputs::{Inputs, hint};
