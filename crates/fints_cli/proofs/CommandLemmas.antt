@@ -1,10 +1,10 @@
 -- What a cut output got.
-use Rattle.std.proofs.Common.{◌≡◌, ℕ, List, subst, sym, Option}
+use Rattle.std.proofs.Common.{◌≡◌, ℕ, Bool, List, subst, sym, Option}
 use Rattle.fints_words.specs.declared.words.Request.{Request}
 use Rattle.fints_words.specs.declared.words.Asked.{Asked}
 use Rattle.fints_words.specs.declared.words.Asked.TheVariants.{Run}
 use Rattle.fints_cli.specs.Streams.{GetsPrefix}
 use Rattle.fints_cli.specs.Commands.{AnswersTo, IsCutOff}
 
-pub cut_answer : (asked : Asked) (request : Request) (holds : List ℕ → Option (List ℕ)) (status : ℕ) (text : List ℕ) (old new : Option (List ℕ)) → asked ≡ Run request → AnswersTo request holds status text → GetsPrefix old new text → IsCutOff asked holds old new
-cut_answer asked request holds status text old new is answers prefix = subst (λ a. IsCutOff a holds old new) (sym is) (status, text, answers, prefix)
+pub cut_answer : (asked : Asked) (request : Request) (hints : Bool) (holds : List ℕ → Option (List ℕ)) (status : ℕ) (text : List ℕ) (old new : Option (List ℕ)) → asked ≡ Run request hints → AnswersTo request holds status text → GetsPrefix old new text → IsCutOff asked holds old new
+cut_answer asked request hints holds status text old new is answers prefix = subst (λ a. IsCutOff a holds old new) (sym is) (status, text, answers, prefix)

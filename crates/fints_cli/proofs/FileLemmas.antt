@@ -1,16 +1,16 @@
 -- What holds of the bytes of files holds of what the files hold.
 use Rattle.std.proofs.Common.{ℕ, List, subst, Option, None, Some, IfSome}
-use Rattle.fints_texts.specs.declared.fault.Fault.{Fault}
 use Rattle.fints_texts.specs.Judge.{IsVerdictOf, IsJudgeRefusal}
 use Rattle.fints_reports.specs.Told.{IsRefused, IsToldOf}
 use Rattle.fints_reports.specs.declared.telling.Wanted.{Wanted}
 use Rattle.fints_reports.specs.RunText.{IsRunOf, IsRunRefusal}
 use Rattle.fints_reports.specs.Verified.{IsUnverified, IsVerifiedOf}
-use Rattle.fints_texts.specs.Show.{IsMemoryOrShowFault}
+use Rattle.fints_texts.specs.Show.{IsMemoryOrShowFault, IsShowOf}
+use Rattle.fints_words.specs.declared.words.RunFiles.{RunFiles}
 use Rattle.fints_words.specs.declared.words.ScriptFiles.{ScriptFiles}
-use Rattle.fints_cli.specs.declared.commands.Failure.{Failure}
-use Rattle.fints_cli.specs.declared.commands.Failure.TheVariants.{Input, Unread}
-use Rattle.fints_cli.specs.Commands.{JudgesFile, IsJudgeFailure, FailsToJudge, TellsFiles, IsScriptFailure, FailsToTell, VerifiesFiles, IsVerifyFailure, FailsToVerify, RunsFiles, IsRunFailure, FailsToRun}
+use Rattle.fints_cli.specs.declared.failing.Failure.{Failure}
+use Rattle.fints_cli.specs.declared.failing.Failure.TheVariants.{Input, Unread}
+use Rattle.fints_cli.specs.Commands.{ShowsFile, IsShowFailure, FailsToShow, JudgesFile, IsJudgeFailure, FailsToJudge, TellsFiles, IsScriptFailure, FailsToTell, VerifiesFiles, IsVerifyFailure, FailsToVerify, RunsFiles, IsRunFailure, FailsToRun}
 use Rattle.fints_cli.specs.Streams.{IsFile}
 
 -- what holds of the bytes of a file holds of what it holds
@@ -50,12 +50,16 @@ files_not_verified holds named path x y z w (Input f) h i j k p =
     of_files (λ q r s. IfSome (holds path) (λ l. IsUnverified q r s l f)) (holds named.params.now) (holds named.orders.now) (holds named.script.now) x y z h i j
     (of_file (λ l. IsUnverified x y z l f) (holds path) w k p)
 
-pub files_run : (a b c : Option (List ℕ)) (x y z : List ℕ) (text : List ℕ) → IsFile a x → IsFile b y → IsFile c z → IsRunOf x y z text → RunsFiles a b c text
-files_run a b c x y z text h i j p = of_files (λ q r s. IsRunOf q r s text) a b c x y z h i j p
+pub files_run : (holds : List ℕ → Option (List ℕ)) (named : RunFiles) (x y z : List ℕ) (only : Option ℕ) (text : List ℕ) → IsFile (holds named.orders.now) x → IsFile (holds named.script.now) y → IsFile (holds named.case.now) z → IsRunOf x y z only text → RunsFiles holds named only text
+files_run holds named x y z only text h i j p = of_files (λ q r s. IsRunOf q r s only text) (holds named.orders.now) (holds named.script.now) (holds named.case.now) x y z h i j p
 
-pub files_not_run : (a b c : Option (List ℕ)) (x y z : List ℕ) (f : Failure) → IsFile a x → IsFile b y → IsFile c z → IsRunFailure x y z f → FailsToRun a b c f
-files_not_run a b c x y z (Unread named) h i j p = absurd p
-files_not_run a b c x y z (Input f) h i j p = of_files (λ q r s. IsRunRefusal q r s f) a b c x y z h i j p
+pub files_not_run : (holds : List ℕ → Option (List ℕ)) (named : RunFiles) (x y z : List ℕ) (only : Option ℕ) (f : Failure) → IsFile (holds named.orders.now) x → IsFile (holds named.script.now) y → IsFile (holds named.case.now) z → IsRunFailure x y z only f → FailsToRun holds named only f
+files_not_run holds named x y z only (Unread option) h i j p = absurd p
+files_not_run holds named x y z only (Input f) h i j p = of_files (λ q r s. IsRunRefusal q r s only f) (holds named.orders.now) (holds named.script.now) (holds named.case.now) x y z h i j p
 
-pub file_fault : (held : Option (List ℕ)) (bytes : List ℕ) (f : Fault) → IsFile held bytes → IsMemoryOrShowFault bytes f → IfSome held (λ capture. IsMemoryOrShowFault capture f)
-file_fault held bytes f same refused = of_file (λ capture. IsMemoryOrShowFault capture f) held bytes same refused
+pub file_shown : (held : Option (List ℕ)) (bytes text : List ℕ) → IsFile held bytes → IsShowOf bytes text → ShowsFile held text
+file_shown held bytes text same shown = of_file (λ capture. IsShowOf capture text) held bytes same shown
+
+pub file_not_shown : (held : Option (List ℕ)) (bytes : List ℕ) (f : Failure) → IsFile held bytes → IsShowFailure bytes f → FailsToShow held f
+file_not_shown held bytes (Unread named) same refused = absurd refused
+file_not_shown held bytes (Input f) same refused = of_file (λ capture. IsMemoryOrShowFault capture f) held bytes same refused

@@ -1,11 +1,12 @@
 -- What the commands answer, and why they have no answer.
 use Rattle.std.specs.Prelude.{◌≡◌, ◌⊎◌, ℕ, List, Option, IfSome, codes, string_bytes}
-use Rattle.fints_texts.specs.declared.fault.Fault.TheVariants.{Memory}
-use Rattle.fints_cli.specs.declared.commands.Failure.{Failure}
-use Rattle.fints_cli.specs.declared.commands.Failure.TheVariants.{Input, Unread}
+use Rattle.fints_texts.specs.declared.fault.Fault.TheVariants.{Memory, NoMessage}
+use Rattle.fints_cli.specs.declared.failing.Failure.{Failure}
+use Rattle.fints_cli.specs.declared.failing.Failure.TheVariants.{Input, Unread}
 use Rattle.fints_words.specs.declared.words.Request.{Request}
 use Rattle.fints_words.specs.declared.words.Request.TheVariants.{BuiltIn, Show, Judge, Check, Explain, Certify, Verify}
 use Rattle.fints_words.specs.declared.words.Request.TheVariants as requests
+use Rattle.fints_words.specs.declared.words.RunFiles.{RunFiles}
 use Rattle.fints_words.specs.declared.words.ScriptFiles.{ScriptFiles}
 use Rattle.fints_words.specs.declared.words.Asked.{Asked}
 use Rattle.fints_words.specs.declared.words.Asked.TheVariants.{Help, Usage, NoMemory, Run}
@@ -19,9 +20,10 @@ use Rattle.fints_reports.specs.declared.telling.Wanted.TheVariants.{Report, Case
 use Rattle.fints_reports.specs.RunText.{IsRunOf, IsRunRefusal}
 use Rattle.fints_reports.specs.Verified.{IsUnverified, IsVerifiedOf}
 
--- 3 for a refused input, 4 for want of memory, 5 for a file that couldn't be read
+-- 2 for a message that a run doesn't reach, 3 for a refused input, 4 for want of memory, 5 for a file that couldn't be read
 abbrev pub failure_status : Failure → ℕ
 failure_status (Input Memory) = 4
+failure_status (Input (NoMessage number)) = 2
 failure_status (Input _) = 3
 failure_status (Unread option) = 5
 
@@ -44,10 +46,10 @@ abbrev pub VerifiesFiles : (List ℕ → Option (List ℕ)) → ScriptFiles → 
 VerifiesFiles holds named certificate status text =
     IfSome (holds named.params.now) (λ capture. IfSome (holds named.orders.now) (λ table. IfSome (holds named.script.now) (λ steps. IfSome (holds certificate) (λ lines. IsVerifiedOf capture table steps lines status text))))
 
--- the text tells the run of the case, where the bytes of the files are told
-abbrev pub RunsFiles : Option (List ℕ) → Option (List ℕ) → Option (List ℕ) → List ℕ → Type 0
-RunsFiles orders script case text =
-    IfSome orders (λ table. IfSome script (λ steps. IfSome case (λ bytes. IsRunOf table steps bytes text)))
+-- the text tells the run of the case, or one message of it, where the bytes of the files are told
+abbrev pub RunsFiles : (List ℕ → Option (List ℕ)) → RunFiles → Option ℕ → List ℕ → Type 0
+RunsFiles holds named only text =
+    IfSome (holds named.orders.now) (λ table. IfSome (holds named.script.now) (λ steps. IfSome (holds named.case.now) (λ bytes. IsRunOf table steps bytes only text)))
 
 -- the status and the text are the request's answer
 abbrev pub AnswersTo : Request → (List ℕ → Option (List ℕ)) → ℕ → List ℕ → Type 0
@@ -58,13 +60,18 @@ AnswersTo (Check named) holds status text = TellsFiles Report holds named status
 AnswersTo (Explain named) holds status text = TellsFiles Cases holds named status text
 AnswersTo (Certify named) holds status text = TellsFiles Certificate holds named status text
 AnswersTo (Verify named certificate) holds status text = VerifiesFiles holds named certificate.now status text
-AnswersTo (requests.Run orders script case) holds status text = (status ≡ 0) × RunsFiles (holds orders.now) (holds script.now) (holds case.now) text
+AnswersTo (requests.Run named only) holds status text = (status ≡ 0) × RunsFiles holds named only text
 
 -- the file of the option couldn't be read, or memory ran out
 abbrev pub IsUnloaded : List ℕ → Failure → Type 0
 IsUnloaded option (Unread named) = named.now ≡ option
 IsUnloaded option (Input Memory) = Unit {0}
 IsUnloaded option (Input _) = ⊥
+
+-- why loaded bytes aren't shown
+abbrev pub IsShowFailure : List ℕ → Failure → Type 0
+IsShowFailure capture (Unread named) = ⊥
+IsShowFailure capture (Input f) = IsMemoryOrShowFault capture f
 
 -- why a capture isn't shown, where its bytes are told
 abbrev pub FailsToShow : Option (List ℕ) → Failure → Type 0
@@ -109,15 +116,15 @@ FailsToVerify holds named certificate (Input f) =
     IfSome (holds named.params.now) (λ capture. IfSome (holds named.orders.now) (λ table. IfSome (holds named.script.now) (λ steps. IfSome (holds certificate) (λ lines. IsUnverified capture table steps lines f))))
 
 -- why loaded bytes aren't run
-abbrev pub IsRunFailure : List ℕ → List ℕ → List ℕ → Failure → Type 0
-IsRunFailure orders script case (Unread named) = ⊥
-IsRunFailure orders script case (Input f) = IsRunRefusal orders script case f
+abbrev pub IsRunFailure : List ℕ → List ℕ → List ℕ → Option ℕ → Failure → Type 0
+IsRunFailure orders script case only (Unread named) = ⊥
+IsRunFailure orders script case only (Input f) = IsRunRefusal orders script case only f
 
 -- why a case isn't run, where the bytes of the files are told
-abbrev pub FailsToRun : Option (List ℕ) → Option (List ℕ) → Option (List ℕ) → Failure → Type 0
-FailsToRun orders script case (Unread named) = (named.now ≡ codes "orders") ⊎ ((named.now ≡ codes "script") ⊎ (named.now ≡ codes "case"))
-FailsToRun orders script case (Input f) =
-    IfSome orders (λ table. IfSome script (λ steps. IfSome case (λ bytes. IsRunRefusal table steps bytes f)))
+abbrev pub FailsToRun : (List ℕ → Option (List ℕ)) → RunFiles → Option ℕ → Failure → Type 0
+FailsToRun holds named only (Unread option) = (option.now ≡ codes "orders") ⊎ ((option.now ≡ codes "script") ⊎ (option.now ≡ codes "case"))
+FailsToRun holds named only (Input f) =
+    IfSome (holds named.orders.now) (λ table. IfSome (holds named.script.now) (λ steps. IfSome (holds named.case.now) (λ bytes. IsRunRefusal table steps bytes only f)))
 
 -- why the request has no answer
 abbrev pub FailsFor : Request → (List ℕ → Option (List ℕ)) → Failure → Type 0
@@ -128,14 +135,14 @@ FailsFor (Check named) holds failure = FailsToTell holds named failure
 FailsFor (Explain named) holds failure = FailsToTell holds named failure
 FailsFor (Certify named) holds failure = FailsToTell holds named failure
 FailsFor (Verify named certificate) holds failure = FailsToVerify holds named certificate.now failure
-FailsFor (requests.Run orders script case) holds failure = FailsToRun (holds orders.now) (holds script.now) (holds case.now) failure
+FailsFor (requests.Run named only) holds failure = FailsToRun holds named only failure
 
 -- the status and the text are what was asked for: the help, or the request's answer
 abbrev pub IsTextFor : Asked → (List ℕ → Option (List ℕ)) → ℕ → List ℕ → Type 0
 IsTextFor (Help help) holds status text = (status ≡ 0) × (text ≡ string_bytes help)
 IsTextFor (Usage fault) holds status text = ⊥
 IsTextFor NoMemory holds status text = ⊥
-IsTextFor (Run request) holds status text = AnswersTo request holds status text
+IsTextFor (Run request hints) holds status text = AnswersTo request holds status text
 
 -- the output got the whole text
 abbrev pub IsAnswered : Asked → (List ℕ → Option (List ℕ)) → ℕ → Option (List ℕ) → Option (List ℕ) → Type 0
@@ -149,11 +156,11 @@ abbrev pub IsUsage : Asked → Type 0
 IsUsage (Help help) = ⊥
 IsUsage (Usage fault) = Unit {0}
 IsUsage NoMemory = ⊥
-IsUsage (Run request) = ⊥
+IsUsage (Run request hints) = ⊥
 
 -- the request has no answer, and this status
 abbrev pub FailsWith : ℕ → Asked → (List ℕ → Option (List ℕ)) → Type 0
 FailsWith status (Help help) holds = ⊥
 FailsWith status (Usage fault) holds = ⊥
 FailsWith status NoMemory holds = ⊥
-FailsWith status (Run request) holds = (f : Failure) × (failure_status f ≡ status) × FailsFor request holds f
+FailsWith status (Run request hints) holds = (f : Failure) × (failure_status f ≡ status) × FailsFor request holds f

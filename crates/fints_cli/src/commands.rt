@@ -1,56 +1,34 @@
 //! The commands, from words to a status.
-ghost use Rattle.std.specs.Prelude.{◌≡◌, ◌≤◌, ◌<◌, ◌+◌, ◌*◌, ◌⊎◌, ◌↔◌, [], None, IfOk, IfErr};
+ghost use Rattle.std.specs.Prelude.{◌≡◌, ◌≤◌, ◌<◌, ◌+◌, ◌*◌, ◌⊎◌, ◌↔◌, [], false, IfOk, IfErr};
 ghost use Rattle.fints_cli.specs.Streams.{Gets, GetsNothing, GetsPrefix, IsFile, one_more};
 ghost use Rattle.fints_cli.specs.BuiltIn as texts;
 ghost use Rattle.fints_words.specs.declared.words.Request.TheVariants as request;
 ghost use Rattle.fints_texts.specs.Judge.{IsVerdictOf};
+ghost use Rattle.fints_texts.specs.Show.{IsShowOf};
+ghost use Rattle.fints_words.specs.declared.words.Asked.{Asked};
 ghost use Rattle.fints_reports.specs.Told.{IsToldOf};
 ghost use Rattle.fints_reports.specs.declared.telling.Wanted.TheVariants as wants;
 ghost use Rattle.fints_reports.specs.RunText.{IsRunOf};
 ghost use Rattle.fints_reports.specs.Verified.{IsVerifiedOf};
-ghost use Rattle.fints_cli.specs.Commands.{failure_status, IsJudgeFailure, ShowsFile, JudgesFile, FailsToJudge, TellsFiles, IsScriptFailure, FailsToTell, IsRunFailure, RunsFiles, FailsToRun, IsVerifyFailure, VerifiesFiles, FailsToVerify, AnswersTo, IsUnloaded, FailsToShow, FailsFor, IsAnswered, IsCutOff, IsUsage, FailsWith};
+ghost use Rattle.fints_cli.specs.Commands.{failure_status, IsJudgeFailure, ShowsFile, JudgesFile, FailsToJudge, TellsFiles, IsScriptFailure, FailsToTell, IsRunFailure, RunsFiles, FailsToRun, IsVerifyFailure, VerifiesFiles, FailsToVerify, AnswersTo, IsUnloaded, IsShowFailure, FailsToShow, FailsFor, IsAnswered, IsCutOff, IsUsage, FailsWith};
 ghost use Rattle.fints_words.specs.declared.words.Asked.TheVariants as asked;
 
 use crate::built_in;
 use crate::emitting::emit;
-use crate::reading::{LoadFault, MAX_CALLS, load};
+use crate::failing::{Failure, Refusal, refused, unread};
+use crate::reading::{MAX_CALLS, load};
 use crate::streams::{Files, Out};
+use fints_hints::Inputs;
 use fints_reports::{Wanted, run_case, tell_script, verify_script};
-use fints_texts::{Fault, Reply, judge_message, show};
-use fints_words::{Asked, Request, ScriptFiles, read_words};
+use fints_texts::{Reply, judge_message, show};
+use fints_words::{Asked, Request, RunFiles, ScriptFiles, read_words};
 use std::alloc::Global;
-use thiserror::Error;
 
 // A capture or a message has at most this many bytes.
 const MAX_CAPTURE: usize = 4_194_304;
 
 // An order table, a script or a case has at most this many bytes.
 const MAX_TEXT: usize = 1_048_576;
-
-/// Why a command has no answer.
-#[derive(Clone, Copy, Debug, PartialEq, Eq, Error)]
-pub enum Failure {
-    /// An input is refused, or memory ran out.
-    #[error("{0}")]
-    Input(Fault),
-    /// The file of an option couldn't be read.
-    #[error("read --{0}")]
-    Unread(&'static str),
-}
-
-impl Failure {
-    /// The status of a command that ends so: 3 for a refused input, 4 for want of memory, and 5
-    /// for a file that couldn't be read.
-    pub fn status(&self) -> u8
-        ensures { result ≡ failure_status self.now }
-    {
-        match self {
-            Failure::Input(Fault::Memory) => 4,
-            Failure::Input(_) => 3,
-            Failure::Unread(_) => 5,
-        }
-    }
-}
 
 // Loads the file of an option.
 fn load_option<F: Files>(
@@ -59,49 +37,48 @@ fn load_option<F: Files>(
     option: &'static str,
     path: &str,
     limit: usize,
-) -> Result<Vec<u8>, Failure>
+    hints: bool,
+) -> Result<Vec<u8>, Refusal>
     ensures calls { F.calls files.new ≤ F.calls files.old + MAX_CALLS }
     ensures keeps { F.holds files.new ≡ F.holds files.old }
     ensures exact { IfOk result (λ bytes. IsFile (F.holds files.old path.now) bytes.items) }
-    ensures unread { IfErr result (λ f. IsUnloaded option.now f) }
+    ensures unread { IfErr result (λ r. IsUnloaded option.now r.failure) }
 {
     match load(alloc, files, path, limit) {
         Ok(bytes) => Ok(bytes),
-        Err(LoadFault::Memory) => Err(Failure::Input(Fault::Memory)),
-        Err(LoadFault::Unreadable) => Err(Failure::Unread(option)),
+        Err(fault) => Err(unread(alloc, option, path, fault, limit, hints)),
     }
 }
 
 fn tell_loaded(
     alloc: Global,
-    params: &[u8],
-    orders: &[u8],
-    script: &[u8],
+    inputs: &Inputs<'_>,
     wanted: Wanted,
-) -> Result<Reply, Failure>
+    hints: bool,
+) -> Result<Reply, Refusal>
     ensures status { IfOk result (λ reply. reply.status ≤ 1) }
-    ensures told { IfOk result (λ reply. IsToldOf wanted params.now orders.now script.now reply.status reply.text.items) }
-    ensures refused { IfErr result (λ f. IsScriptFailure params.now orders.now script.now f) }
+    ensures told { IfOk result (λ reply. IsToldOf wanted inputs.now.params.now inputs.now.orders.now inputs.now.script.now reply.status reply.text.items) }
+    ensures refused { IfErr result (λ r. IsScriptFailure inputs.now.params.now inputs.now.orders.now inputs.now.script.now r.failure) }
 {
-    match tell_script(alloc, params, orders, script, wanted) {
+    match tell_script(alloc, inputs.params, inputs.orders, inputs.script, wanted) {
         Ok(reply) => Ok(reply),
-        Err(fault) => Err(Failure::Input(fault)),
+        Err(fault) => Err(refused(alloc, fault, inputs, hints)),
     }
 }
 
 #[tactic(auto, unfolding(crate::specs::BuiltIn::capture, crate::specs::BuiltIn::orders, crate::specs::BuiltIn::script))]
-fn check_built_in(alloc: Global) -> Result<Reply, Failure>
+fn check_built_in(alloc: Global) -> Result<Reply, Refusal>
     ensures status { IfOk result (λ reply. reply.status ≤ 1) }
     ensures told { IfOk result (λ reply. IsToldOf wants.Report texts.capture texts.orders texts.script reply.status reply.text.items) }
-    ensures refused { IfErr result (λ f. IsScriptFailure texts.capture texts.orders texts.script f) }
+    ensures refused { IfErr result (λ r. IsScriptFailure texts.capture texts.orders texts.script r.failure) }
 {
-    tell_loaded(
-        alloc,
-        built_in::CAPTURE,
-        built_in::ORDERS,
-        built_in::SCRIPT,
-        Wanted::Report,
-    )
+    let inputs = Inputs {
+        params: built_in::CAPTURE,
+        orders: built_in::ORDERS,
+        script: built_in::SCRIPT,
+        ..Inputs::none()
+    };
+    tell_loaded(alloc, &inputs, Wanted::Report, false)
 }
 
 #[tactic(auto, using(crate::proofs::FileLemmas::files_told, crate::proofs::FileLemmas::files_not_told))]
@@ -110,39 +87,40 @@ fn tell_files<F: Files>(
     files: &mut F,
     named: &ScriptFiles<'_>,
     wanted: Wanted,
-) -> Result<Reply, Failure>
+    hints: bool,
+) -> Result<Reply, Refusal>
     ensures status { IfOk result (λ reply. reply.status ≤ 1) }
     ensures told { IfOk result (λ reply. TellsFiles wanted (F.holds files.old) named.now reply.status reply.text.items) }
-    ensures refused { IfErr result (λ f. FailsToTell (F.holds files.old) named.now f) }
+    ensures refused { IfErr result (λ r. FailsToTell (F.holds files.old) named.now r.failure) }
     ensures calls { F.calls files.new ≤ F.calls files.old + 3 * MAX_CALLS }
     ensures keeps { F.holds files.new ≡ F.holds files.old }
 {
-    let params = load_option(alloc, files, "params", named.params, MAX_CAPTURE)?;
-    let orders = load_option(alloc, files, "orders", named.orders, MAX_TEXT)?;
-    let script = load_option(alloc, files, "script", named.script, MAX_TEXT)?;
-    tell_loaded(
-        alloc,
-        params.as_slice(),
-        orders.as_slice(),
-        script.as_slice(),
-        wanted,
-    )
+    let params = load_option(alloc, files, "params", named.params, MAX_CAPTURE, hints)?;
+    let orders = load_option(alloc, files, "orders", named.orders, MAX_TEXT, hints)?;
+    let script = load_option(alloc, files, "script", named.script, MAX_TEXT, hints)?;
+    let inputs = Inputs {
+        params: params.as_slice(),
+        orders: orders.as_slice(),
+        script: script.as_slice(),
+        ..Inputs::none()
+    };
+    tell_loaded(alloc, &inputs, wanted, hints)
 }
 
-fn verify_loaded(
-    alloc: Global,
-    params: &[u8],
-    orders: &[u8],
-    script: &[u8],
-    certificate: &[u8],
-) -> Result<Reply, Failure>
+fn verify_loaded(alloc: Global, inputs: &Inputs<'_>, hints: bool) -> Result<Reply, Refusal>
     ensures status { IfOk result (λ reply. reply.status ≤ 1) }
-    ensures told { IfOk result (λ reply. IsVerifiedOf params.now orders.now script.now certificate.now reply.status reply.text.items) }
-    ensures refused { IfErr result (λ f. IsVerifyFailure params.now orders.now script.now certificate.now f) }
+    ensures told { IfOk result (λ reply. IsVerifiedOf inputs.now.params.now inputs.now.orders.now inputs.now.script.now inputs.now.certificate.now reply.status reply.text.items) }
+    ensures refused { IfErr result (λ r. IsVerifyFailure inputs.now.params.now inputs.now.orders.now inputs.now.script.now inputs.now.certificate.now r.failure) }
 {
-    match verify_script(alloc, params, orders, script, certificate) {
+    match verify_script(
+        alloc,
+        inputs.params,
+        inputs.orders,
+        inputs.script,
+        inputs.certificate,
+    ) {
         Ok(reply) => Ok(reply),
-        Err(fault) => Err(Failure::Input(fault)),
+        Err(fault) => Err(refused(alloc, fault, inputs, hints)),
     }
 }
 
@@ -152,54 +130,68 @@ fn verify_files<F: Files>(
     files: &mut F,
     named: &ScriptFiles<'_>,
     certificate: &str,
-) -> Result<Reply, Failure>
+    hints: bool,
+) -> Result<Reply, Refusal>
     ensures status { IfOk result (λ reply. reply.status ≤ 1) }
     ensures told { IfOk result (λ reply. VerifiesFiles (F.holds files.old) named.now certificate.now reply.status reply.text.items) }
-    ensures refused { IfErr result (λ f. FailsToVerify (F.holds files.old) named.now certificate.now f) }
+    ensures refused { IfErr result (λ r. FailsToVerify (F.holds files.old) named.now certificate.now r.failure) }
     ensures calls { F.calls files.new ≤ F.calls files.old + 4 * MAX_CALLS }
     ensures keeps { F.holds files.new ≡ F.holds files.old }
 {
-    let params = load_option(alloc, files, "params", named.params, MAX_CAPTURE)?;
-    let orders = load_option(alloc, files, "orders", named.orders, MAX_TEXT)?;
-    let script = load_option(alloc, files, "script", named.script, MAX_TEXT)?;
-    let certificate = load_option(alloc, files, "cert", certificate, MAX_TEXT)?;
-    verify_loaded(
-        alloc,
-        params.as_slice(),
-        orders.as_slice(),
-        script.as_slice(),
-        certificate.as_slice(),
-    )
+    let params = load_option(alloc, files, "params", named.params, MAX_CAPTURE, hints)?;
+    let orders = load_option(alloc, files, "orders", named.orders, MAX_TEXT, hints)?;
+    let script = load_option(alloc, files, "script", named.script, MAX_TEXT, hints)?;
+    let certificate = load_option(alloc, files, "cert", certificate, MAX_TEXT, hints)?;
+    let inputs = Inputs {
+        params: params.as_slice(),
+        orders: orders.as_slice(),
+        script: script.as_slice(),
+        certificate: certificate.as_slice(),
+        ..Inputs::none()
+    };
+    verify_loaded(alloc, &inputs, hints)
 }
 
-#[tactic(auto, using(crate::proofs::FileLemmas::file_fault))]
-fn show_file<F: Files>(alloc: Global, files: &mut F, params: &str) -> Result<Reply, Failure>
+fn show_loaded(alloc: Global, inputs: &Inputs<'_>, hints: bool) -> Result<Reply, Refusal>
     ensures status { IfOk result (λ reply. reply.status ≡ 0) }
-    ensures shown { IfOk result (λ reply. ShowsFile (F.holds files.old params.now) reply.text.items) }
-    ensures refused { IfErr result (λ f. FailsToShow (F.holds files.old params.now) f) }
-    ensures calls { F.calls files.new ≤ F.calls files.old + MAX_CALLS }
-    ensures keeps { F.holds files.new ≡ F.holds files.old }
+    ensures shown { IfOk result (λ reply. IsShowOf inputs.now.params.now reply.text.items) }
+    ensures refused { IfErr result (λ r. IsShowFailure inputs.now.params.now r.failure) }
 {
-    let capture = load_option(alloc, files, "params", params, MAX_CAPTURE)?;
-    match show(alloc, capture.as_slice()) {
+    match show(alloc, inputs.params) {
         Ok(text) => Ok(Reply { status: 0, text }),
-        Err(fault) => Err(Failure::Input(fault)),
+        Err(fault) => Err(refused(alloc, fault, inputs, hints)),
     }
 }
 
-fn judge_loaded(
+#[tactic(auto, using(crate::proofs::FileLemmas::file_shown, crate::proofs::FileLemmas::file_not_shown))]
+fn show_file<F: Files>(
     alloc: Global,
-    params: &[u8],
-    orders: &[u8],
-    message: &[u8],
-) -> Result<Reply, Failure>
-    ensures status { IfOk result (λ reply. reply.status ≤ 1) }
-    ensures judged { IfOk result (λ reply. IsVerdictOf params.now orders.now message.now reply.status reply.text.items) }
-    ensures refused { IfErr result (λ f. IsJudgeFailure params.now orders.now message.now f) }
+    files: &mut F,
+    params: &str,
+    hints: bool,
+) -> Result<Reply, Refusal>
+    ensures status { IfOk result (λ reply. reply.status ≡ 0) }
+    ensures shown { IfOk result (λ reply. ShowsFile (F.holds files.old params.now) reply.text.items) }
+    ensures refused { IfErr result (λ r. FailsToShow (F.holds files.old params.now) r.failure) }
+    ensures calls { F.calls files.new ≤ F.calls files.old + MAX_CALLS }
+    ensures keeps { F.holds files.new ≡ F.holds files.old }
 {
-    match judge_message(alloc, params, orders, message) {
+    let capture = load_option(alloc, files, "params", params, MAX_CAPTURE, hints)?;
+    let inputs = Inputs {
+        params: capture.as_slice(),
+        ..Inputs::none()
+    };
+    show_loaded(alloc, &inputs, hints)
+}
+
+fn judge_loaded(alloc: Global, inputs: &Inputs<'_>, hints: bool) -> Result<Reply, Refusal>
+    ensures status { IfOk result (λ reply. reply.status ≤ 1) }
+    ensures judged { IfOk result (λ reply. IsVerdictOf inputs.now.params.now inputs.now.orders.now inputs.now.message.now reply.status reply.text.items) }
+    ensures refused { IfErr result (λ r. IsJudgeFailure inputs.now.params.now inputs.now.orders.now inputs.now.message.now r.failure) }
+{
+    match judge_message(alloc, inputs.params, inputs.orders, inputs.message) {
         Ok(reply) => Ok(reply),
-        Err(fault) => Err(Failure::Input(fault)),
+        Err(fault) => Err(refused(alloc, fault, inputs, hints)),
     }
 }
 
@@ -210,32 +202,39 @@ fn judge_file<F: Files>(
     params: &str,
     orders: &str,
     message: &str,
-) -> Result<Reply, Failure>
+    hints: bool,
+) -> Result<Reply, Refusal>
     ensures status { IfOk result (λ reply. reply.status ≤ 1) }
     ensures judged { IfOk result (λ reply. JudgesFile (F.holds files.old params.now) (F.holds files.old orders.now) (F.holds files.old message.now) reply.status reply.text.items) }
-    ensures refused { IfErr result (λ f. FailsToJudge (F.holds files.old params.now) (F.holds files.old orders.now) (F.holds files.old message.now) f) }
+    ensures refused { IfErr result (λ r. FailsToJudge (F.holds files.old params.now) (F.holds files.old orders.now) (F.holds files.old message.now) r.failure) }
     ensures calls { F.calls files.new ≤ F.calls files.old + 3 * MAX_CALLS }
     ensures keeps { F.holds files.new ≡ F.holds files.old }
 {
-    let params = load_option(alloc, files, "params", params, MAX_CAPTURE)?;
-    let orders = load_option(alloc, files, "orders", orders, MAX_TEXT)?;
-    let message = load_option(alloc, files, "message", message, MAX_CAPTURE)?;
-    judge_loaded(
-        alloc,
-        params.as_slice(),
-        orders.as_slice(),
-        message.as_slice(),
-    )
+    let params = load_option(alloc, files, "params", params, MAX_CAPTURE, hints)?;
+    let orders = load_option(alloc, files, "orders", orders, MAX_TEXT, hints)?;
+    let message = load_option(alloc, files, "message", message, MAX_CAPTURE, hints)?;
+    let inputs = Inputs {
+        params: params.as_slice(),
+        orders: orders.as_slice(),
+        message: message.as_slice(),
+        ..Inputs::none()
+    };
+    judge_loaded(alloc, &inputs, hints)
 }
 
-fn run_loaded(alloc: Global, orders: &[u8], script: &[u8], case: &[u8]) -> Result<Reply, Failure>
+fn run_loaded(
+    alloc: Global,
+    inputs: &Inputs<'_>,
+    only: Option<u32>,
+    hints: bool,
+) -> Result<Reply, Refusal>
     ensures status { IfOk result (λ reply. reply.status ≡ 0) }
-    ensures told { IfOk result (λ reply. IsRunOf orders.now script.now case.now reply.text.items) }
-    ensures refused { IfErr result (λ f. IsRunFailure orders.now script.now case.now f) }
+    ensures told { IfOk result (λ reply. IsRunOf inputs.now.orders.now inputs.now.script.now inputs.now.case.now only reply.text.items) }
+    ensures refused { IfErr result (λ r. IsRunFailure inputs.now.orders.now inputs.now.script.now inputs.now.case.now only r.failure) }
 {
-    match run_case(alloc, orders, script, case) {
+    match run_case(alloc, inputs.orders, inputs.script, inputs.case, only) {
         Ok(text) => Ok(Reply { status: 0, text }),
-        Err(fault) => Err(Failure::Input(fault)),
+        Err(fault) => Err(refused(alloc, fault, inputs, hints)),
     }
 }
 
@@ -243,54 +242,61 @@ fn run_loaded(alloc: Global, orders: &[u8], script: &[u8], case: &[u8]) -> Resul
 fn run_files<F: Files>(
     alloc: Global,
     files: &mut F,
-    orders: &str,
-    script: &str,
-    case: &str,
-) -> Result<Reply, Failure>
+    named: &RunFiles<'_>,
+    only: Option<u32>,
+    hints: bool,
+) -> Result<Reply, Refusal>
     ensures status { IfOk result (λ reply. reply.status ≡ 0) }
-    ensures told { IfOk result (λ reply. RunsFiles (F.holds files.old orders.now) (F.holds files.old script.now) (F.holds files.old case.now) reply.text.items) }
-    ensures refused { IfErr result (λ f. FailsToRun (F.holds files.old orders.now) (F.holds files.old script.now) (F.holds files.old case.now) f) }
+    ensures told { IfOk result (λ reply. RunsFiles (F.holds files.old) named.now only reply.text.items) }
+    ensures refused { IfErr result (λ r. FailsToRun (F.holds files.old) named.now only r.failure) }
     ensures calls { F.calls files.new ≤ F.calls files.old + 3 * MAX_CALLS }
     ensures keeps { F.holds files.new ≡ F.holds files.old }
 {
-    let orders = load_option(alloc, files, "orders", orders, MAX_TEXT)?;
-    let script = load_option(alloc, files, "script", script, MAX_TEXT)?;
-    let case = load_option(alloc, files, "case", case, MAX_TEXT)?;
-    run_loaded(alloc, orders.as_slice(), script.as_slice(), case.as_slice())
+    let orders = load_option(alloc, files, "orders", named.orders, MAX_TEXT, hints)?;
+    let script = load_option(alloc, files, "script", named.script, MAX_TEXT, hints)?;
+    let case = load_option(alloc, files, "case", named.case, MAX_TEXT, hints)?;
+    let inputs = Inputs {
+        orders: orders.as_slice(),
+        script: script.as_slice(),
+        case: case.as_slice(),
+        ..Inputs::none()
+    };
+    run_loaded(alloc, &inputs, only, hints)
 }
 
-/// Answers a request over the files, all of which are read before any is looked at.
+/// Answers a request over the files, all of which are read before any is looked at. A refusal has
+/// a hint where that is asked for.
 pub fn perform<F: Files>(
     alloc: Global,
     request: &Request<'_>,
     files: &mut F,
-) -> Result<Reply, Failure>
+    hints: bool,
+) -> Result<Reply, Refusal>
     ensures status { IfOk result (λ reply. reply.status ≤ 1) }
     ensures answers { IfOk result (λ reply. AnswersTo request.now (F.holds files.old) reply.status reply.text.items) }
-    ensures refused { IfErr result (λ f. FailsFor request.now (F.holds files.old) f) }
+    ensures refused { IfErr result (λ r. FailsFor request.now (F.holds files.old) r.failure) }
     ensures calls { F.calls files.new ≤ F.calls files.old + 4 * MAX_CALLS }
     ensures keeps { F.holds files.new ≡ F.holds files.old }
 {
     match request {
         Request::BuiltIn => check_built_in(alloc),
-        Request::Show { params } => show_file(alloc, files, params),
+        Request::Show { params } => show_file(alloc, files, params, hints),
         Request::Judge {
             params,
             orders,
             message,
-        } => judge_file(alloc, files, params, orders, message),
-        Request::Check(named) => tell_files(alloc, files, named, Wanted::Report),
-        Request::Explain(named) => tell_files(alloc, files, named, Wanted::Cases),
-        Request::Certify(named) => tell_files(alloc, files, named, Wanted::Certificate),
+        } => judge_file(alloc, files, params, orders, message, hints),
+        Request::Check(named) => tell_files(alloc, files, named, Wanted::Report, hints),
+        Request::Explain(named) => tell_files(alloc, files, named, Wanted::Cases, hints),
+        Request::Certify(named) => tell_files(alloc, files, named, Wanted::Certificate, hints),
         Request::Verify {
             files: named,
             certificate,
-        } => verify_files(alloc, files, named, certificate),
+        } => verify_files(alloc, files, named, certificate, hints),
         Request::Run {
-            orders,
-            script,
-            case,
-        } => run_files(alloc, files, orders, script, case),
+            files: named,
+            message,
+        } => run_files(alloc, files, named, *message, hints),
     }
 }
 
@@ -317,6 +323,24 @@ fn tell_failure<E: Out>(alloc: Global, failure: &Failure, err: &mut E) -> u8
         }
         Err(_) => tell_memory(err),
     }
+}
+
+// Says on the errors what to look at.
+fn tell_hint<E: Out>(alloc: Global, hint: &str, err: &mut E) {
+    if let Ok(line) = format!(in alloc; "hint: {hint}\n") {
+        tell(line.as_bytes(), err);
+    }
+}
+
+// Says on the errors why there is no answer, and what to look at where there is a hint.
+fn tell_refusal<E: Out>(alloc: Global, refusal: &Refusal, err: &mut E) -> u8
+    ensures { (result ≡ failure_status refusal.now.failure) ⊎ (result ≡ 4) }
+{
+    let status = tell_failure(alloc, &refusal.failure, err);
+    if let Some(hint) = &refusal.hint {
+        tell_hint(alloc, hint.as_str(), err);
+    }
+    status
 }
 
 // Writes the text to the output.
@@ -346,7 +370,8 @@ pub fn respond<F: Files, O: Out, E: Out>(
     ensures status { result ≤ 5 }
     ensures answered { result ≤ 1
         → IsAnswered asked.now (F.holds files.old) result (O.told out.old) (O.told out.new) }
-    ensures usage { (result ≡ 2) ↔ IsUsage asked.now }
+    ensures usage { IsUsage asked.now → result ≡ 2 }
+    ensures only_usage { result ≡ 2 → IsUsage asked.now ⊎ FailsWith 2 asked.now (F.holds files.old) }
     ensures refused { result ≡ 3 → FailsWith 3 asked.now (F.holds files.old) }
     ensures silent { (result ≡ 2) ⊎ ((result ≡ 3) ⊎ (result ≡ 4))
         → GetsNothing (O.told out.old) (O.told out.new) }
@@ -355,7 +380,7 @@ pub fn respond<F: Files, O: Out, E: Out>(
         → (FailsWith 5 asked.now (F.holds files.old) × GetsNothing (O.told out.old) (O.told out.new))
         ⊎ (IsCutOff asked.now (F.holds files.old) (O.told out.old) (O.told out.new)
         × (O.failed_calls out.new ≡ one_more (O.failed_calls out.old))) }
-    ensures unread { result ≡ 2 → F.calls files.new ≡ F.calls files.old }
+    ensures unread { IsUsage asked.now → F.calls files.new ≡ F.calls files.old }
     ensures calls { F.calls files.new ≤ F.calls files.old + 4 * MAX_CALLS }
 {
     match asked {
@@ -365,16 +390,17 @@ pub fn respond<F: Files, O: Out, E: Out>(
             2
         }
         Asked::NoMemory => tell_memory(err),
-        Asked::Run(request) => match perform(alloc, request, files) {
+        Asked::Run { request, hints } => match perform(alloc, request, files, *hints) {
             Ok(reply) => deliver(reply.text.as_slice(), reply.status, out, err),
-            Err(failure) => tell_failure(alloc, &failure, err),
+            Err(refusal) => tell_refusal(alloc, &refusal, err),
         },
     }
 }
 
 /// Does what the words after the program's name ask for, and gives the status: 0 where the answer
-/// or the help stands on the output, 2 for bad words, 3 for a refused input, 4 for want of memory,
-/// and 5 where a file couldn't be read or the output failed. Status 1 is that of a message that breaks
+/// or the help stands on the output, 2 for bad words and for a message that a run doesn't reach, 3
+/// for a refused input, 4 for want of memory, and 5 where a file couldn't be read or the output
+/// failed. Status 1 is that of a message that breaks
 /// a rule, of a script with a run that does, and of a certificate that isn't closed. Each status from
 /// 2 on has its line on the errors, where those take it.
 pub fn execute<F: Files, O: Out, E: Out>(
@@ -386,13 +412,14 @@ pub fn execute<F: Files, O: Out, E: Out>(
 ) -> u8
     ensures status { result ≤ 5 }
     ensures built_in { words.now ≡ [] → result ≤ 1
-        → IsAnswered (asked.Run request.BuiltIn) (F.holds files.old) result (O.told out.old) (O.told out.new) }
+        → IsAnswered (asked.Run request.BuiltIn false) (F.holds files.old) result (O.told out.old) (O.told out.new) }
     ensures silent { (result ≡ 2) ⊎ ((result ≡ 3) ⊎ (result ≡ 4))
         → GetsNothing (O.told out.old) (O.told out.new) }
     ensures fine { result ≤ 4 → O.failed_calls out.new ≡ O.failed_calls out.old }
     ensures failed { result ≡ 5 → GetsNothing (O.told out.old) (O.told out.new)
         ⊎ (O.failed_calls out.new ≡ one_more (O.failed_calls out.old)) }
-    ensures unread { result ≡ 2 → F.calls files.new ≡ F.calls files.old }
+    ensures unread { result ≡ 2 → (F.calls files.new ≡ F.calls files.old)
+        ⊎ ((asked : Asked) × FailsWith 2 asked (F.holds files.old)) }
     ensures calls { F.calls files.new ≤ F.calls files.old + 4 * MAX_CALLS }
 {
     let asked = read_words(alloc, words);

@@ -4,13 +4,15 @@
 pub mod built_in;
 mod commands;
 mod emitting;
+mod failing;
 mod reading;
 mod streams;
 
-pub use commands::{Failure, execute, perform, respond};
+pub use commands::{execute, perform, respond};
 pub use emitting::emit;
+pub use failing::{Failure, Refusal};
 pub use fints_reports::{Wanted, check_text, run_case, tell_script, verify_script};
 pub use fints_texts::{Fault, Reply, judge_message, show};
-pub use fints_words::{Asked, Request, ScriptFiles, read_words};
+pub use fints_words::{Asked, Request, RunFiles, ScriptFiles, read_words};
 pub use reading::{LoadFault, MAX_CALLS, load};
 pub use streams::{Files, Out, ReadFault, WriteFault};

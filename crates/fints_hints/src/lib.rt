@@ -19,6 +19,7 @@ mod orders;
 mod places;
 mod plans;
 mod quoting;
+mod runs;
 mod scanning;
 mod scripts;
 mod segments;

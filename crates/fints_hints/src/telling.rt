@@ -6,6 +6,7 @@ use crate::certs::cert_hint;
 use crate::messages::message_hint;
 use crate::orders::orders_hint;
 use crate::plans::plan_hint;
+use crate::runs::run_hint;
 use crate::scripts::script_hint;
 use fints_cases::CaseFault;
 use fints_syntax::Memory;
@@ -23,6 +24,20 @@ pub struct Inputs<'a> {
     pub message: &'a [u8],
 }
 
+impl Inputs<'_> {
+    /// No files.
+    pub fn none<'a>() -> Inputs<'a> {
+        Inputs {
+            params: b"",
+            orders: b"",
+            script: b"",
+            case: b"",
+            certificate: b"",
+            message: b"",
+        }
+    }
+}
+
 /// What to look at, for a refusal of these inputs: a line without LF. None where there is no more to
 /// say, as for want of memory.
 pub fn hint(alloc: Global, fault: &Fault, inputs: &Inputs<'_>) -> Result<Option<String>, Memory> {
@@ -35,6 +50,7 @@ pub fn hint(alloc: Global, fault: &Fault, inputs: &Inputs<'_>) -> Result<Option<
         Fault::Case(CaseFault::Bad { line }) => case_hint(alloc, *line, inputs.case),
         Fault::Case(CaseFault::Memory) => Ok(None),
         Fault::NotAdmitted => admitted_hint(alloc, inputs.script, inputs.case),
+        Fault::NoMessage { number } => run_hint(alloc, *number, inputs.script, inputs.case),
         Fault::Certificate { line } => cert_hint(alloc, *line, inputs.certificate),
         Fault::Message(fault) => message_hint(alloc, fault, inputs.message),
     }

@@ -27,6 +27,25 @@ fn rest_of_line(text: &str, offset: usize) -> Option<&str> {
     if line.is_empty() { None } else { Some(line) }
 }
 
+// What stands before an offset, from the start of its line.
+fn before(text: &str, offset: usize) -> &str {
+    let front = text.get(..offset).unwrap_or("");
+    front.rsplit('\n').next().unwrap_or("")
+}
+
+// The refusal at the end of a line.
+fn ended(alloc: Global, line: usize, column: usize, why: &str, text: &str) -> Told {
+    if text.is_empty() {
+        return Ok(Some(
+            format!(in alloc; "line {line}, column {column}: {why}; there the line ends")?,
+        ));
+    }
+    let text = Quoted(text);
+    Ok(Some(
+        format!(in alloc; "line {line}, column {column}: {why}; there ends the line {text}")?,
+    ))
+}
+
 fn refusal(alloc: Global, text: &str, error: &Error) -> Told {
     let Some(span) = error.span() else {
         return Ok(None);
@@ -41,9 +60,7 @@ fn refusal(alloc: Global, text: &str, error: &Error) -> Told {
                 format!(in alloc; "line {line}, column {column}: {why}; there stands {rest}")?,
             ))
         }
-        None => Ok(Some(
-            format!(in alloc; "line {line}, column {column}: {why}; there the line ends")?,
-        )),
+        None => ended(alloc, line, column, why, before(text, span.start)),
     }
 }
 

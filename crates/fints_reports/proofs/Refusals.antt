@@ -1,5 +1,5 @@
 -- What refuses an input is the refusal of the call.
-use Rattle.std.proofs.Common.{ℕ, List, inl, inr, sym, subst}
+use Rattle.std.proofs.Common.{ℕ, List, Option, Some, inl, inr, ap, sym, subst}
 use Rattle.fints_params.specs.declared.fault.ParamFault.{ParamFault}
 use Rattle.fints_params.specs.declared.fault.ParamFault.TheVariants as params
 use Rattle.fints_params.specs.Faults.{IsMemoryOr}
@@ -9,19 +9,23 @@ use Rattle.fints_rules.specs.declared.orders.OrderRow.{OrderRow}
 use Rattle.fints_rules.specs.declared.orders.TableFault.{TableFault}
 use Rattle.fints_rules.specs.declared.orders.TableFault.TheVariants as orders
 use Rattle.fints_rules.specs.Orders.{DenotesTable, IsTableFault}
-use Rattle.fints_cases.specs.Cases.{IsRefusal}
+use Rattle.fints_cases.specs.Cases.{IsCaseOf, IsRefusal}
+use Rattle.fints_cases.specs.declared.values.NamedValue.{NamedValue}
 use Rattle.fints_cases.specs.declared.case_fault.CaseFault.{CaseFault}
 use Rattle.fints_cases.specs.declared.case_fault.CaseFault.TheVariants as cases
 use Rattle.fints_field_rows.specs.declared.fault.FaultKind.{FaultKind}
 use Rattle.fints_field_rows.specs.declared.fault.FaultKind.TheVariants as kinds
 use Rattle.fints_field_rows.specs.declared.fault.ScriptFault.{ScriptFault}
+use Rattle.fints_script.specs.Plans.{Admits}
 use Rattle.fints_script.specs.Scripts.{ScriptValue, Refuses, IsFirstOf}
+use Rattle.fints_wire.specs.Runs.{Run}
+use Rattle.fints_wire.specs.declared.dialogue.Sent.{Sent}
 use Rattle.fints_texts.specs.declared.fault.Fault.{Fault}
-use Rattle.fints_texts.specs.declared.fault.Fault.TheVariants.{Memory, Params, Case, Certificate, NotAdmitted}
+use Rattle.fints_texts.specs.declared.fault.Fault.TheVariants.{Memory, Params, Case, Certificate, NotAdmitted, NoMessage}
 use Rattle.fints_texts.specs.Fault.{fault_of, order_fault_of, kind_fault_of, script_fault_of, case_fault_of}
 use Rattle.fints_reports.specs.Plans.{ArePlan, IsPlanRefusal}
 use Rattle.fints_reports.specs.Told.{IsRefused}
-use Rattle.fints_reports.specs.RunText.{IsCaseRefusal, IsRunRefusal}
+use Rattle.fints_reports.specs.RunText.{IsAdmittedRefusal, IsCaseRefusal, IsRunRefusal, IsUnsent, IsUnsentRefusal}
 use Rattle.fints_reports.specs.Verified.{IsCertificateRefusal, IsUnverified, IsVerifyRefusal}
 
 -- ---- order tables and scripts
@@ -43,21 +47,35 @@ script_refused table script rows f h (inr p) = script_placed table script rows f
 
 -- ---- runs
 
-pub case_refused : (script : ScriptValue) (case : List ℕ) (f : CaseFault) → IsRefusal case f → IsCaseRefusal script case (case_fault_of f)
-case_refused script case cases.Memory p = tt
-case_refused script case (cases.Bad line) p = p
+pub case_refused : (script : ScriptValue) (case : List ℕ) (only : Option ℕ) (f : CaseFault) → IsRefusal case f → IsCaseRefusal script case only (case_fault_of f)
+case_refused script case only cases.Memory p = tt
+case_refused script case only (cases.Bad line) p = p
 
-pub planned_refused : (table script case : List ℕ) (value : ScriptValue) (f : Fault) → ArePlan table script value → IsCaseRefusal value case f → IsRunRefusal table script case f
-planned_refused table script case value Memory h p = tt
-planned_refused table script case value (Case f) h p = ((value, h), p)
-planned_refused table script case value NotAdmitted h p = (value, h, p)
-planned_refused table script case value _ h p = absurd p
+pub admitted_refused : (script : ScriptValue) (case : List ℕ) (values : List NamedValue) (answers : List (List ℕ)) (only : Option ℕ) (f : Fault) → IsCaseOf case values answers → Admits script.fields values → IsAdmittedRefusal script values answers only f → IsCaseRefusal script case only f
+admitted_refused script case values answers only Memory h i p = tt
+admitted_refused script case values answers only (NoMessage number) h i p =
+    (p.0, record { values = values; answers = answers; case_is = h; admitted = i; not_reached = p.1 })
+admitted_refused script case values answers only _ h i p = absurd p
+
+pub unsent_refused : (script : ScriptValue) (values : List NamedValue) (answers : List (List ℕ)) (sent : List Sent) (number : ℕ) (f : Fault) → Run script values answers sent → IsUnsentRefusal sent number f → IsAdmittedRefusal script values answers (Some number) f
+unsent_refused script values answers sent number Memory h p = tt
+unsent_refused script values answers sent number (NoMessage n) h p =
+    (ap Some (sym p.0), record { sent = sent; run = h; unsent = subst (IsUnsent sent) (sym p.0) p.1 })
+unsent_refused script values answers sent number _ h p = absurd p
+
+pub planned_refused : (table script case : List ℕ) (value : ScriptValue) (only : Option ℕ) (f : Fault) → ArePlan table script value → IsCaseRefusal value case only f → IsRunRefusal table script case only f
+planned_refused table script case value only Memory h p = tt
+planned_refused table script case value only (Case f) h p = ((value, h), p)
+planned_refused table script case value only NotAdmitted h p = (value, h, p)
+planned_refused table script case value only (NoMessage number) h p = (p.0, (value, h, p.1))
+planned_refused table script case value only _ h p = absurd p
 
 -- no plan, no run
-pub unplanned_run : (table script case : List ℕ) (f : Fault) → IsPlanRefusal table script f → IsRunRefusal table script case f
-unplanned_run table script case (Case f) p = absurd p
-unplanned_run table script case NotAdmitted p = absurd p
-unplanned_run table script case _ p = p
+pub unplanned_run : (table script case : List ℕ) (only : Option ℕ) (f : Fault) → IsPlanRefusal table script f → IsRunRefusal table script case only f
+unplanned_run table script case only (Case f) p = absurd p
+unplanned_run table script case only NotAdmitted p = absurd p
+unplanned_run table script case only (NoMessage number) p = absurd p
+unplanned_run table script case only _ p = p
 
 -- ---- reports
 

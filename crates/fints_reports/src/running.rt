@@ -3,7 +3,7 @@ ghost use Rattle.std.specs.Prelude.{◌≡◌, ◌++◌, OnOk, IfOk, IfErr};
 ghost use Rattle.std.specs.List.{All};
 ghost use Rattle.fints_script.specs.Plans.{Admits};
 ghost use Rattle.fints_reports.specs.StepNames.{IsMessageOf};
-ghost use Rattle.fints_reports.specs.RunText.{line_of, message_text, run_text, TellsRun, TellsCase, IsRunOf, IsCaseRefusal, IsRunRefusal};
+ghost use Rattle.fints_reports.specs.RunText.{line_of, message_text, run_text, IsMessageIn, IsUnsentRefusal, TellsRun, TellsCase, IsRunOf, IsAdmittedRefusal, IsCaseRefusal, IsRunRefusal};
 
 use fints_rules::OrderTable;
 use fints_script::{Case, Name, Plan, Script};
@@ -54,36 +54,80 @@ fn write_messages(text: &mut Vec<u8>, plan: &Plan, sent: &[Sent]) -> Result<(), 
     Ok(())
 }
 
+// The messages, each behind its line.
+fn all_messages(alloc: Global, plan: &Plan, sent: &[Sent]) -> Result<Vec<u8>, Memory>
+    requires { All (IsMessageOf plan.now.script.steps) sent.now }
+    ensures { IfOk result (λ text. text.items ≡ run_text plan.now.script.steps sent.now) }
+{
+    let mut text = Vec::new(alloc);
+    write_messages(&mut text, plan, sent)?;
+    Ok(text)
+}
+
+// The bytes of the message of this number.
+fn one_message(alloc: Global, sent: &[Sent], number: u32) -> Result<Vec<u8>, Fault>
+    ensures told { IfOk result (λ text. IsMessageIn sent.now number text.items) }
+    ensures refused { IfErr result (λ f. IsUnsentRefusal sent.now number f) }
+{
+    for message in sent {
+        if message.number == number {
+            let bytes = message.bytes.as_slice().to_vec(alloc)?;
+            return Ok(bytes);
+        }
+    }
+    Err(Fault::NoMessage { number })
+}
+
 // The text of the run of a case with admitted values.
-fn run_admitted(alloc: Global, plan: &Plan, case: &Case) -> Result<Vec<u8>, Memory>
+fn run_admitted(
+    alloc: Global,
+    plan: &Plan,
+    case: &Case,
+    only: Option<u32>,
+) -> Result<Vec<u8>, Fault>
     requires { Admits plan.now.script.fields case.now.values }
-    ensures { IfOk result (λ text. TellsRun plan.now.script case.now.values case.now.answers.items text.items) }
+    ensures told { IfOk result (λ text. TellsRun plan.now.script case.now.values case.now.answers.items only text.items) }
+    ensures refused { IfErr result (λ f. IsAdmittedRefusal plan.now.script case.now.values case.now.answers.items only f) }
 {
     let sent = run(alloc, plan, &case.values, case.answers.as_slice())?;
-    let mut text = Vec::new(alloc);
-    write_messages(&mut text, plan, sent.as_slice())?;
+    let text = match only {
+        None => all_messages(alloc, plan, sent.as_slice())?,
+        Some(number) => one_message(alloc, sent.as_slice(), number)?,
+    };
     Ok(text)
 }
 
 // The text of the run of a case, by a plan.
-fn run_planned(alloc: Global, plan: &Plan, case: &[u8]) -> Result<Vec<u8>, Fault>
-    ensures told { IfOk result (λ text. TellsCase plan.now.script case.now text.items) }
-    ensures refused { IfErr result (λ f. IsCaseRefusal plan.now.script case.now f) }
+fn run_planned(
+    alloc: Global,
+    plan: &Plan,
+    case: &[u8],
+    only: Option<u32>,
+) -> Result<Vec<u8>, Fault>
+    ensures told { IfOk result (λ text. TellsCase plan.now.script case.now only text.items) }
+    ensures refused { IfErr result (λ f. IsCaseRefusal plan.now.script case.now only f) }
 {
     let case = Case::read(alloc, case)?;
     if !plan.admits(&case.values) {
         return Err(Fault::NotAdmitted);
     }
-    let text = run_admitted(alloc, plan, &case)?;
-    Ok(text)
+    run_admitted(alloc, plan, &case, only)
 }
 
-/// The messages that a client sends under a case, each behind a line that tells it. Of the refusals
-/// that of the order table comes first, then that of the script, then what the script leaves open
-/// with the order table, and then that of the case.
-pub fn run_case(alloc: Global, orders: &[u8], script: &[u8], case: &[u8]) -> Result<Vec<u8>, Fault>
-    ensures told { IfOk result (λ text. IsRunOf orders.now script.now case.now text.items) }
-    ensures refused { IfErr result (λ f. IsRunRefusal orders.now script.now case.now f) }
+/// The messages that a client sends under a case, each behind a line that tells it; or, where a
+/// number is given, the bytes of the message of that number alone; numbers count from 1. Of the
+/// refusals that of the order table comes first, then that of the script, then what the script
+/// leaves open with the order table, then that of the case, and then that of a number that the run
+/// doesn't reach.
+pub fn run_case(
+    alloc: Global,
+    orders: &[u8],
+    script: &[u8],
+    case: &[u8],
+    only: Option<u32>,
+) -> Result<Vec<u8>, Fault>
+    ensures told { IfOk result (λ text. IsRunOf orders.now script.now case.now only text.items) }
+    ensures refused { IfErr result (λ f. IsRunRefusal orders.now script.now case.now only f) }
 {
     let orders = OrderTable::read(alloc, orders)?;
     let script = match Script::read(alloc, script) {
@@ -91,6 +135,6 @@ pub fn run_case(alloc: Global, orders: &[u8], script: &[u8], case: &[u8]) -> Res
         Err(fault) => return Err(Fault::from(fault)),
     };
     let plan = script.plan(&orders)?;
-    let text = run_planned(alloc, &plan, case)?;
+    let text = run_planned(alloc, &plan, case, only)?;
     Ok(text)
 }

@@ -142,7 +142,7 @@ fn limits(rt: HostRuntime) {
                 assert!(rt; is_read, "{limit}");
                 assert_eq!(rt; read.as_slice(), bytes.as_slice(), "{limit}");
             }
-            Err(fault) => assert!(rt; !is_read && fault == LoadFault::Unreadable, "{limit}"),
+            Err(fault) => assert!(rt; !is_read && fault == LoadFault::TooLong, "{limit}"),
         }
     }
 }
@@ -188,20 +188,20 @@ fn replies(rt: HostRuntime) {
     ];
     for (request, text) in rows {
         let mut shelf = Shelf::new(&files, Quirk::None);
-        match perform(rt.alloc(), &request, &mut shelf) {
+        match perform(rt.alloc(), &request, &mut shelf, false) {
             Ok(reply) => {
                 assert_eq!(rt; reply.status, 0);
                 assert_eq!(rt; reply.text.as_slice(), text);
             }
-            Err(failure) => assert!(rt; false, "{failure}"),
+            Err(refusal) => assert!(rt; false, "{}", refusal.failure),
         }
     }
     let mut shelf = Shelf::new(&[], Quirk::None);
-    match perform(rt.alloc(), &Request::Show { params: "c1" }, &mut shelf) {
+    match perform(rt.alloc(), &Request::Show { params: "c1" }, &mut shelf, false) {
         Ok(_) => assert!(rt; false, "no file"),
-        Err(failure) => {
-            assert_eq!(rt; failure.status(), 5);
-            assert!(rt; failure == Failure::Unread("params"));
+        Err(refusal) => {
+            assert_eq!(rt; refusal.failure.status(), 5);
+            assert!(rt; refusal.failure == Failure::Unread("params"));
         }
     }
 }

@@ -34,6 +34,9 @@ pub enum Fault {
     /// The values of the case aren't those that the script admits.
     #[error("case NotAdmitted")]
     NotAdmitted,
+    /// The run of the case has no message of this number; numbers count from 1.
+    #[error("run NoMessage {number}")]
+    NoMessage { number: u32 },
     /// The first line that is no line of a certificate there; lines count from 1.
     #[error("cert line {line}")]
     Certificate { line: u32 },

@@ -1,11 +1,33 @@
 //! What the words of the command line ask for.
-ghost use Rattle.std.specs.Prelude.{◌≡◌, []};
+ghost use Rattle.std.specs.Prelude.{◌≡◌, [], false};
 ghost use Rattle.fints_words.specs.declared.words.Asked.TheVariants as asked;
 ghost use Rattle.fints_words.specs.declared.words.Request.TheVariants as request;
 
 use clap::error::ErrorKind;
-use clap::{Arg, ArgAction, ArgMatches, Command, Error};
+use clap::{Arg, ArgAction, ArgMatches, Command, Error, value_parser};
 use std::alloc::{AllocError, Global};
+
+// What stands after the options of `fints --help`.
+const ABOUT_FILES: &str = "Without words: the report on a built-in script.
+
+Statuses:
+  0  clean, shown, permitted, valid or run; a certificate or this help
+  1  a rule is broken, or a certificate isn't valid
+  2  usage error
+  3  an input is refused
+  4  out of memory
+  5  a file couldn't be read, or the output failed
+
+Files:
+  capture      what the bank sent: segments up to ', as bytes; HIBPA 3 and HIPINS 1 among them
+  order table  TOML: for each order [[order]] with kind, version, account
+  script       TOML: [[field]], [[signer]], [seal] and the steps, [[step]]
+  case         lines: 'fints-case 1', 'field NAME HEX' for each field, 'answer CODE CODE ..'
+  certificate  lines: 'fints-cert 1', 'step NAME NUMBER SIZE' or 'step NAME -' for each step
+  message      the segments of one message, HNHBK to HNHBS, as bytes";
+
+// What stands after the options of a command's help.
+const SEE_HELP: &str = "The statuses and the files: fints --help";
 
 /// The files of a command that reads a script.
 #[derive(Clone, Copy, Debug, PartialEq, Eq)]
@@ -13,6 +35,14 @@ pub struct ScriptFiles<'a> {
     pub params: &'a str,
     pub orders: &'a str,
     pub script: &'a str,
+}
+
+/// The files of a command that sends the messages of a case.
+#[derive(Clone, Copy, Debug, PartialEq, Eq)]
+pub struct RunFiles<'a> {
+    pub orders: &'a str,
+    pub script: &'a str,
+    pub case: &'a str,
 }
 
 /// A command with its files.
@@ -41,11 +71,11 @@ pub enum Request<'a> {
         files: ScriptFiles<'a>,
         certificate: &'a str,
     },
-    /// The messages that a client sends under a case, by an order table and a script.
+    /// The messages that a client sends under a case, by an order table and a script, or the one
+    /// message of a number.
     Run {
-        orders: &'a str,
-        script: &'a str,
-        case: &'a str,
+        files: RunFiles<'a>,
+        message: Option<u32>,
     },
 }
 
@@ -58,8 +88,8 @@ pub enum Asked<'a> {
     Usage(String),
     /// There was no memory to tell.
     NoMemory,
-    /// A command.
-    Run(Request<'a>),
+    /// A command, and whether a refusal is to be explained by a hint.
+    Run { request: Request<'a>, hints: bool },
 }
 
 // An option that takes a file.
@@ -72,15 +102,22 @@ fn file_option<'a>(alloc: Global, name: &'a str, help: &'a str) -> Arg<'a> {
         .action(ArgAction::Set)
 }
 
+// A command.
+fn command<'a>(alloc: Global, name: &'a str, about: &'a str) -> Command<'a> {
+    Command::new(alloc, name).about(about).after_help(SEE_HELP)
+}
+
 fn show_command<'a>(alloc: Global) -> Result<Command<'a>, AllocError> {
-    Command::new(alloc, "show")
-        .about("Shows what a capture says of the bank and the user")
-        .arg(file_option(alloc, "params", "The capture"))
+    command(
+        alloc,
+        "show",
+        "Shows what a capture says of the bank and the user",
+    )
+    .arg(file_option(alloc, "params", "The capture"))
 }
 
 fn judge_command<'a>(alloc: Global) -> Result<Command<'a>, AllocError> {
-    Command::new(alloc, "judge")
-        .about("Names the rules that a message breaks")
+    command(alloc, "judge", "Names the rules that a message breaks")
         .arg(file_option(alloc, "params", "The capture"))?
         .arg(file_option(alloc, "orders", "The order table"))?
         .arg(file_option(alloc, "message", "The message"))
@@ -92,8 +129,7 @@ fn script_command<'a>(
     name: &'a str,
     about: &'a str,
 ) -> Result<Command<'a>, AllocError> {
-    Command::new(alloc, name)
-        .about(about)
+    command(alloc, name, about)
         .arg(file_option(alloc, "params", "The capture"))?
         .arg(file_option(alloc, "orders", "The order table"))?
         .arg(file_option(alloc, "script", "The script"))
@@ -133,20 +169,50 @@ fn verify_command<'a>(alloc: Global) -> Result<Command<'a>, AllocError> {
 }
 
 fn run_command<'a>(alloc: Global) -> Result<Command<'a>, AllocError> {
-    Command::new(alloc, "run")
-        .about("Prints the messages that a client sends under a case")
-        .arg(file_option(alloc, "orders", "The order table"))?
-        .arg(file_option(alloc, "script", "The script"))?
-        .arg(file_option(alloc, "case", "The case"))
+    command(
+        alloc,
+        "run",
+        "Prints the messages that a client sends under a case",
+    )
+    .arg(file_option(alloc, "orders", "The order table"))?
+    .arg(file_option(alloc, "script", "The script"))?
+    .arg(file_option(alloc, "case", "The case"))?
+    .arg(message_option(alloc))
+}
+
+// The option that takes the number of a message.
+fn message_option<'a>(alloc: Global) -> Arg<'a> {
+    Arg::new(alloc, "message")
+        .long("message")
+        .value_name("N")
+        .help("Only the bytes of message N")
+        .value_parser(value_parser!(u32))
+        .action(ArgAction::Set)
+}
+
+// The option that each command has.
+fn hints_option<'a>(alloc: Global) -> Arg<'a> {
+    Arg::new(alloc, "hints")
+        .long("hints")
+        .help("Adds to a refusal a line that names what to look at")
+        .global(true)
+        .action(ArgAction::SetTrue)
+}
+
+// The program, but for its commands.
+fn program<'a>(alloc: Global) -> Result<Command<'a>, AllocError> {
+    Command::new(alloc, "fints")
+        .bin_name("fints")?
+        .version("0.1.0")
+        .about("Checks FinTS 3.0 dialogue scripts")
+        .after_help(ABOUT_FILES)
+        .no_binary_name(true)
+        .subcommand_required(true)
+        .arg(hints_option(alloc))
 }
 
 fn command_line<'a>(alloc: Global) -> Result<Command<'a>, AllocError> {
-    Command::new(alloc, "fints")
-        .bin_name("fints")?
-        .about("Checks FinTS 3.0 dialogue scripts")
-        .no_binary_name(true)
-        .disable_help_subcommand(true)
-        .subcommand_required(true)
+    program(alloc)?
         .subcommand(show_command(alloc)?)?
         .subcommand(judge_command(alloc)?)?
         .subcommand(check_command(alloc)?)?
@@ -171,10 +237,13 @@ fn told<'a>(alloc: Global, error: &Error) -> Asked<'a> {
 /// What the words after the program's name ask for: with no words, the report of the built-in
 /// texts.
 pub fn read_words<'a>(alloc: Global, words: &'a [&'a str]) -> Asked<'a>
-    ensures { words.now ≡ [] → result ≡ asked.Run request.BuiltIn }
+    ensures { words.now ≡ [] → result ≡ asked.Run request.BuiltIn false }
 {
     if words.is_empty() {
-        return Asked::Run(Request::BuiltIn);
+        return Asked::Run {
+            request: Request::BuiltIn,
+            hints: false,
+        };
     }
     let Ok(command) = command_line(alloc) else {
         return Asked::NoMemory;
@@ -187,7 +256,10 @@ pub fn read_words<'a>(alloc: Global, words: &'a [&'a str]) -> Asked<'a>
         return Asked::NoMemory;
     };
     match named_request(name, options) {
-        Some(request) => Asked::Run(request),
+        Some(request) => Asked::Run {
+            request,
+            hints: options.get_flag("hints"),
+        },
         None => Asked::NoMemory,
     }
 }
@@ -197,6 +269,14 @@ fn script_files<'a>(options: &ArgMatches<'a>) -> Option<ScriptFiles<'a>> {
         params: options.get_str("params")?,
         orders: options.get_str("orders")?,
         script: options.get_str("script")?,
+    })
+}
+
+fn run_files<'a>(options: &ArgMatches<'a>) -> Option<RunFiles<'a>> {
+    Some(RunFiles {
+        orders: options.get_str("orders")?,
+        script: options.get_str("script")?,
+        case: options.get_str("case")?,
     })
 }
 
@@ -219,9 +299,8 @@ fn named_request<'a>(name: &str, options: &ArgMatches<'a>) -> Option<Request<'a>
             certificate: options.get_str("cert")?,
         }),
         "run" => Some(Request::Run {
-            orders: options.get_str("orders")?,
-            script: options.get_str("script")?,
-            case: options.get_str("case")?,
+            files: run_files(options)?,
+            message: options.get_one::<u32>("message"),
         }),
         _ => None,
     }

@@ -6,5 +6,5 @@ use Rattle.fints_reports.proofs.running.run_case.Goals as goal
 
 pub returns-in-Err-clause-refused : goal.returns-in-Err-clause-refused
 returns-in-Err-clause-refused c =
-    subst (IsRunRefusal c.args.orders.now c.args.script.now c.args.case.now) (sym c.from.ensures)
-    (unplanned_run c.args.orders.now c.args.script.now c.args.case.now (script_fault_of c.in-Err.fault) (script_refused c.args.orders.now c.args.script.now c.in_ok-orders.orders c.in-Err.fault c.in_ok-orders.ensures.table c.in-Err.ensures.fault))
+    subst (IsRunRefusal c.args.orders.now c.args.script.now c.args.case.now c.args.only) (sym c.from.ensures)
+    (unplanned_run c.args.orders.now c.args.script.now c.args.case.now c.args.only (script_fault_of c.in-Err.fault) (script_refused c.args.orders.now c.args.script.now c.in_ok-orders.orders c.in-Err.fault c.in_ok-orders.ensures.table c.in-Err.ensures.fault))
