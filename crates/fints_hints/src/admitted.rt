@@ -69,16 +69,14 @@ fn counted_text(alloc: Global, field: &Field, counted: &Counted, value: &[u8]) -
     } = *counted;
     let len = value.len();
     if len < usize::from(min) || len > usize::from(max) {
-        return Ok(Some(
-            format!(in alloc; "its value has {len} bytes, and must have {min} to {max}")?,
-        ));
+        return Ok(Some(format!(in alloc;
+            "its value has {len} bytes, and must have {min} to {max}"
+        )?));
     }
     match value.iter().position(|byte| !fits(field, *byte)) {
         Some(place) => {
             let number = place.saturating_add(1);
-            Ok(Some(
-                format!(in alloc; "byte {number} of its value {each}; the class is {class}")?,
-            ))
+            Ok(Some(format!(in alloc; "byte {number} of its value {each}; the class is {class}")?))
         }
         None => Ok(None),
     }
@@ -92,15 +90,13 @@ fn value_text(alloc: Global, field: &Field, value: &[u8]) -> Told {
     match field {
         Field::OneOf(c) => {
             let count = c.values.as_slice().len();
-            Ok(Some(
-                format!(in alloc; "its value is none of the {count} that the script lists")?,
-            ))
+            Ok(Some(format!(in alloc; "its value is none of the {count} that the script lists")?))
         }
         _ => {
             let count = field.accounts().len();
-            Ok(Some(
-                format!(in alloc; "its value is none of the {count} accounts that the script lists, their items written with : between")?,
-            ))
+            Ok(Some(format!(in alloc;
+                "its value is none of the {count} accounts that the script lists, their items written with : between"
+            )?))
         }
     }
 }
@@ -113,9 +109,9 @@ fn other_name(alloc: Global, place: usize, field: &NamedField, pair: &NamedValue
     let line = line_of(place);
     let wanted = shown_name(&field.name);
     let found = shown_name(&pair.name);
-    Ok(Some(
-        format!(in alloc; "line {line} tells the field {found}, and must tell {wanted}; the fields stand in the order of the script")?,
-    ))
+    Ok(Some(format!(in alloc;
+        "line {line} tells the field {found}, and must tell {wanted}; the fields stand in the order of the script"
+    )?))
 }
 
 fn pair_text(alloc: Global, place: usize, field: &NamedField, pair: &NamedValue) -> Told {
@@ -150,17 +146,17 @@ fn count_text(alloc: Global, fields: &[NamedField], pairs: &[NamedValue]) -> Tol
     if let Some(field) = fields.get(pairs.len()) {
         let line = line_of(pairs.len());
         let name = shown_name(&field.name);
-        return Ok(Some(
-            format!(in alloc; "the field {name} of the script is missing; it must stand in line {line}")?,
-        ));
+        return Ok(Some(format!(in alloc;
+            "the field {name} of the script is missing; it must stand in line {line}"
+        )?));
     }
     match pairs.get(fields.len()) {
         Some(pair) => {
             let line = line_of(fields.len());
             let name = shown_name(&pair.name);
-            Ok(Some(
-                format!(in alloc; "line {line} tells the field {name}, and the script has no more fields")?,
-            ))
+            Ok(Some(format!(in alloc;
+                "line {line} tells the field {name}, and the script has no more fields"
+            )?))
         }
         None => Ok(None),
     }

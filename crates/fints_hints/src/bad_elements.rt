@@ -48,11 +48,7 @@ fn push_data(
     Ok(())
 }
 
-fn push_placed(
-    alloc: Global,
-    spots: &mut Vec<Spot>,
-    placed: &Placed<'_>,
-) -> Result<(), Memory> {
+fn push_placed(alloc: Global, spots: &mut Vec<Spot>, placed: &Placed<'_>) -> Result<(), Memory> {
     if is_sealed(placed) {
         if let Some(Item::Bin(bytes)) = placed.segment.item(2, 1) {
             let start = placed.segment.item_start(2, 1).unwrap_or(0);
@@ -83,17 +79,13 @@ fn is_number_or_empty(text: &[u8]) -> bool {
 
 fn element_text(alloc: Global, element: usize, value: &[u8], what: &str) -> Told {
     let shown = Sample(value);
-    Ok(Some(
-        format!(in alloc; "element {element} is {shown}, and must be {what}")?,
-    ))
+    Ok(Some(format!(in alloc; "element {element} is {shown}, and must be {what}")?))
 }
 
 fn item_text(alloc: Global, element: usize, place: usize, value: &[u8], what: &str) -> Told {
     let item = place.saturating_add(1);
     let shown = Sample(value);
-    Ok(Some(
-        format!(in alloc; "element {element}, item {item} is {shown}, and must be {what}")?,
-    ))
+    Ok(Some(format!(in alloc; "element {element}, item {item} is {shown}, and must be {what}")?))
 }
 
 fn protocols_slip(alloc: Global, items: &[OwnedItem]) -> Told {
@@ -162,9 +154,9 @@ fn pair_text(alloc: Global, place: usize, kind: &[u8], flag: &[u8]) -> Told {
     let item = place.saturating_add(2);
     let kind = Sample(kind);
     let flag = Sample(flag);
-    Ok(Some(
-        format!(in alloc; "element 5, item {item} is {flag}, and must be J or N: whether {kind} needs a TAN")?,
-    ))
+    Ok(Some(format!(in alloc;
+        "element 5, item {item} is {flag}, and must be J or N: whether {kind} needs a TAN"
+    )?))
 }
 
 fn pins_slip(alloc: Global, items: &[OwnedItem]) -> Told {

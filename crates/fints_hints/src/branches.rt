@@ -24,22 +24,20 @@ fn no_step(alloc: Global, steps: &NamedRows<'_>, text: &str) -> Told {
         return Ok(Some(format!(in alloc; ": no step is named {guess}")?));
     }
     let known = Known(names.as_slice());
-    Ok(Some(
-        format!(in alloc; ": no step is named {guess}; {known}")?,
-    ))
+    Ok(Some(format!(in alloc; ": no step is named {guess}; {known}")?))
 }
 
 fn backward(alloc: Global, place: usize, row: usize, text: &str) -> Told {
     let shown = Quoted(text);
     if place == row {
-        return Ok(Some(
-            format!(in alloc; ": {shown} is this step itself; to send it once more write \"again\", and give it the key repeat")?,
-        ));
+        return Ok(Some(format!(in alloc;
+            ": {shown} is this step itself; to send it once more write \"again\", and give it the key repeat"
+        )?));
     }
     let number = place.saturating_add(1);
-    Ok(Some(
-        format!(in alloc; ": {shown} is step {number}, an earlier one; a target is a later step, \"again\" or \"stop\"")?,
-    ))
+    Ok(Some(format!(in alloc;
+        ": {shown} is step {number}, an earlier one; a target is a later step, \"again\" or \"stop\""
+    )?))
 }
 
 fn name_slip(
@@ -73,9 +71,9 @@ pub fn target_slip(
         Some(Value::String(text)) => name_slip(alloc, kind, steps, row, text.as_str()),
         Some(value) if kind == FaultKind::WrongKind => {
             let shown = Shown(value);
-            Ok(Some(
-                format!(in alloc; " is {shown}, and must be a text: the name of a later step, \"again\" or \"stop\"")?,
-            ))
+            Ok(Some(format!(in alloc;
+                " is {shown}, and must be a text: the name of a later step, \"again\" or \"stop\""
+            )?))
         }
         _ => Ok(None),
     }
@@ -93,15 +91,15 @@ fn pattern_slip(alloc: Global, text: &str) -> Told {
     match text.chars().find(|ch| !is_place(*ch)) {
         Some(ch) => {
             let ch = Character(ch);
-            Ok(Some(
-                format!(in alloc; ": the pattern {shown} has the character {ch}; a pattern has four, each a digit or *")?,
-            ))
+            Ok(Some(format!(in alloc;
+                ": the pattern {shown} has the character {ch}; a pattern has four, each a digit or *"
+            )?))
         }
         None => {
             let count = text.len();
-            Ok(Some(
-                format!(in alloc; ": the pattern {shown} has {count} characters; a pattern has four, each a digit or *")?,
-            ))
+            Ok(Some(format!(in alloc;
+                ": the pattern {shown} has {count} characters; a pattern has four, each a digit or *"
+            )?))
         }
     }
 }

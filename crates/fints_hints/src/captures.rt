@@ -4,9 +4,7 @@ use crate::places::{Told, line_at};
 use crate::quoting::Sample;
 use crate::syntax::{IN_DATA, Numbered, Region, bad_start, trouble_at, whole};
 use fints_params::ParamFault;
-use fints_syntax::{
-    Item, MAX_CAPTURE, Memory, Placed, SyntaxFault, SyntaxKind, parse_placed,
-};
+use fints_syntax::{Item, MAX_CAPTURE, Memory, Placed, SyntaxFault, SyntaxKind, parse_placed};
 use std::alloc::Global;
 
 // The data of an HNVSD version 1, and where they begin in the capture.
@@ -57,9 +55,7 @@ fn inner_text(alloc: Global, capture: &[u8]) -> Told {
 fn syntax_text(alloc: Global, fault: &SyntaxFault, capture: &[u8]) -> Told {
     if fault.kind == SyntaxKind::CaptureTooLong {
         let len = capture.len();
-        return Ok(Some(
-            format!(in alloc; "longer than {MAX_CAPTURE} bytes: it has {len}")?,
-        ));
+        return Ok(Some(format!(in alloc; "longer than {MAX_CAPTURE} bytes: it has {len}")?));
     }
     let window = capture.get(..MAX_CAPTURE).unwrap_or(capture);
     match bad_start(window) {
@@ -92,9 +88,9 @@ fn is_named(spot: &Spot, id: &[u8]) -> bool {
 fn two_text(alloc: Global, capture: &[u8], first: &Spot, second: &Spot) -> Told {
     let second = spot_text(alloc, capture, second)?;
     let first = spot_text(alloc, capture, first)?;
-    Ok(Some(
-        format!(in alloc; "{second} is a second HIBPA version 3; the first is {first}. A capture has one bank's parameters, once")?,
-    ))
+    Ok(Some(format!(in alloc;
+        "{second} is a second HIBPA version 3; the first is {first}. A capture has one bank's parameters, once"
+    )?))
 }
 
 fn two_banks(alloc: Global, capture: &[u8], spots: &[Spot]) -> Told {
@@ -122,13 +118,13 @@ fn none_text(
         Some(other) => {
             let place = spot_text(alloc, capture, other)?;
             let found = other.segment.head.version;
-            Ok(Some(
-                format!(in alloc; "no segment is {shown} version {version}, {what}; {place} has version {found}")?,
-            ))
+            Ok(Some(format!(in alloc;
+                "no segment is {shown} version {version}, {what}; {place} has version {found}"
+            )?))
         }
-        None => Ok(Some(
-            format!(in alloc; "none of the {count} segments is {shown} version {version}, {what}")?,
-        )),
+        None => Ok(Some(format!(in alloc;
+            "none of the {count} segments is {shown} version {version}, {what}"
+        )?)),
     }
 }
 

@@ -116,18 +116,18 @@ fn shown_name(name: &Name) -> &str {
 fn order_text(alloc: Global, line: u32, name: Name, before: &[u8]) -> Told {
     let shown = shown_name(&name);
     if let Some(earlier) = earlier_line(before, name) {
-        return Ok(Some(
-            format!(in alloc; "line {line}: the field {shown} stands in line {earlier} already")?,
-        ));
+        return Ok(Some(format!(in alloc;
+            "line {line}: the field {shown} stands in line {earlier} already"
+        )?));
     }
     if has_answer(before) {
-        return Ok(Some(
-            format!(in alloc; "line {line}: the field {shown} stands behind an answer; all fields come first")?,
-        ));
+        return Ok(Some(format!(in alloc;
+            "line {line}: the field {shown} stands behind an answer; all fields come first"
+        )?));
     }
-    Ok(Some(
-        format!(in alloc; "line {line}: the field {shown} is the first; the first is dialog, the id of the dialogue")?,
-    ))
+    Ok(Some(format!(in alloc;
+        "line {line}: the field {shown} is the first; the first is dialog, the id of the dialogue"
+    )?))
 }
 
 fn named_text(alloc: Global, line: u32, name: Name, value: &[u8], before: &[u8]) -> Told {
@@ -197,9 +197,9 @@ fn answer_text(alloc: Global, line: u32, codes: &[u8], before: &[u8]) -> Told {
             "an answer stands before the fields; the first line behind \"fints-case 1\" tells the field dialog",
         );
     }
-    Ok(Some(
-        format!(in alloc; "line {line}: code {code} of the answer isn't four digits behind one space")?,
-    ))
+    Ok(Some(format!(in alloc;
+        "line {line}: code {code} of the answer isn't four digits behind one space"
+    )?))
 }
 
 fn first_text(alloc: Global) -> Told {

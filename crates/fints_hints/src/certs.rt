@@ -20,33 +20,31 @@ fn is_figure(text: &[u8]) -> bool {
 
 // The number, from 1, of the earlier line that tells a step of this name.
 fn earlier_line(before: &[u8], name: &[u8]) -> Option<usize> {
-    let place = before
-        .split(|b| *b == b'\n')
-        .position(|line| match after(line, b"step ") {
-            Some(rest) => match split_once(rest, b' ') {
-                Some((other, _)) => other == name,
-                None => false,
-            },
+    let place = before.split(|b| *b == b'\n').position(|line| match after(line, b"step ") {
+        Some(rest) => match split_once(rest, b' ') {
+            Some((other, _)) => other == name,
             None => false,
-        })?;
+        },
+        None => false,
+    })?;
     Some(place.saturating_add(1))
 }
 
 fn again_text(alloc: Global, line: u32, name: &[u8], before: &[u8]) -> Told {
     let shown = Sample(name);
     match earlier_line(before, name) {
-        Some(earlier) => Ok(Some(
-            format!(in alloc; "line {line}: the step {shown} stands in line {earlier} already")?,
-        )),
+        Some(earlier) => Ok(Some(format!(in alloc;
+            "line {line}: the step {shown} stands in line {earlier} already"
+        )?)),
         None => Ok(None),
     }
 }
 
 fn figure_text(alloc: Global, line: u32, what: &str, text: &[u8]) -> Told {
     let shown = Sample(text);
-    Ok(Some(
-        format!(in alloc; "line {line}: the {what} {shown} must have 1 to 9 digits, of which the first isn't 0")?,
-    ))
+    Ok(Some(format!(in alloc;
+        "line {line}: the {what} {shown} must have 1 to 9 digits, of which the first isn't 0"
+    )?))
 }
 
 fn figures_text(alloc: Global, line: u32, name: &[u8], figures: &[u8], before: &[u8]) -> Told {
@@ -79,9 +77,9 @@ fn step_text(alloc: Global, line: u32, rest: &[u8], before: &[u8]) -> Told {
     };
     if Name::parse(name).is_none() {
         let shown = Sample(name);
-        return Ok(Some(
-            format!(in alloc; "line {line}: {shown} is no name; one has 1 to 40 characters a to z, 0 to 9, _ and -")?,
-        ));
+        return Ok(Some(format!(in alloc;
+            "line {line}: {shown} is no name; one has 1 to 40 characters a to z, 0 to 9, _ and -"
+        )?));
     }
     figures_text(alloc, line, name, figures, before)
 }

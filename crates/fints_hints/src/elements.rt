@@ -168,24 +168,24 @@ fn unknown_text(alloc: Global, fields: &NamedRows<'_>, name: &str) -> Result<Str
         return Ok(format!(in alloc; ": no field is named {guess}")?);
     }
     let known = Known(names.as_slice());
-    Ok(
-        format!(in alloc; ": no field is named {guess}; {known}. A text that begins with $ is written \"=$..\"")?,
-    )
+    Ok(format!(in alloc;
+        ": no field is named {guess}; {known}. A text that begins with $ is written \"=$..\""
+    )?)
 }
 
 fn digits_text(alloc: Global, digits: &str) -> Result<String, Memory> {
     match digits.chars().find(|ch| !ch.is_digit(16)) {
         Some(ch) => {
             let ch = Character(ch);
-            Ok(
-                format!(in alloc; ": the character {ch} behind % is no hex digit. A text that begins with % is written \"=%..\"")?,
-            )
+            Ok(format!(in alloc;
+                ": the character {ch} behind % is no hex digit. A text that begins with % is written \"=%..\""
+            )?)
         }
         None => {
             let count = digits.len();
-            Ok(
-                format!(in alloc; ": behind % stand {count} hex digits, an odd number; two make a byte")?,
-            )
+            Ok(format!(in alloc;
+                ": behind % stand {count} hex digits, an odd number; two make a byte"
+            )?)
         }
     }
 }
@@ -200,9 +200,9 @@ pub fn not_latin1(alloc: Global, text: &str) -> Result<String, Memory> {
     match text.chars().find(|ch| !is_latin1_char(*ch)) {
         Some(ch) => {
             let ch = Character(ch);
-            Ok(
-                format!(in alloc; ": the text {shown} has the character {ch}; a text has U+0020 to U+007E and U+00A0 to U+00FF")?,
-            )
+            Ok(format!(in alloc;
+                ": the text {shown} has the character {ch}; a text has U+0020 to U+007E and U+00A0 to U+00FF"
+            )?)
         }
         None => Ok(format!(in alloc; ": the text {shown}")?),
     }
@@ -219,9 +219,9 @@ fn no_text(alloc: Global, in_array: bool, value: &Value) -> Result<String, Memor
 
 fn account_text(alloc: Global, name: &str) -> Result<String, Memory> {
     let shown = Quoted(name);
-    Ok(
-        format!(in alloc; ": the field {shown} is of class account; such a field is an element by itself (no array), in the segments of a step")?,
-    )
+    Ok(format!(in alloc;
+        ": the field {shown} is of class account; such a field is an element by itself (no array), in the segments of a step"
+    )?)
 }
 
 fn slip_text(

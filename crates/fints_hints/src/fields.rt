@@ -77,9 +77,9 @@ fn missing(alloc: Global, table: &Table) -> Told {
 
 fn no_class(alloc: Global, text: &str) -> Told {
     let guess = guess_of(alloc, &CLASSES, text)?;
-    Ok(Some(
-        format!(in alloc; ": there is no class {guess}; the classes are digits, plain, text, bin, oneof, account")?,
-    ))
+    Ok(Some(format!(in alloc;
+        ": there is no class {guess}; the classes are digits, plain, text, bin, oneof, account"
+    )?))
 }
 
 fn wrong_key(table: &Table) -> Option<Wanted> {
@@ -131,9 +131,7 @@ fn wrong_value(alloc: Global, table: &Table) -> Told {
 
 fn taken(alloc: Global, number: usize, name: &str) -> Told {
     let name = Quoted(name);
-    Ok(Some(
-        format!(in alloc; ": the name {name} is that of field {number} already")?,
-    ))
+    Ok(Some(format!(in alloc; ": the name {name} is that of field {number} already")?))
 }
 
 fn twice(alloc: Global, rows: &NamedRows<'_>, number: u16, table: &Table) -> Told {
@@ -162,19 +160,15 @@ fn is_past(number: i64) -> bool {
 
 fn bounds_text(alloc: Global, min: i64, max: i64) -> Told {
     if is_past(min) {
-        return Ok(Some(
-            format!(in alloc; ": min is {min}, and must be from 0 to 10000")?,
-        ));
+        return Ok(Some(format!(in alloc; ": min is {min}, and must be from 0 to 10000")?));
     }
     if is_past(max) {
-        return Ok(Some(
-            format!(in alloc; ": max is {max}, and must be from 0 to 10000")?,
-        ));
+        return Ok(Some(format!(in alloc; ": max is {max}, and must be from 0 to 10000")?));
     }
     if max < min {
-        return Ok(Some(
-            format!(in alloc; ": min is {min} and max is {max}; min may not be over max")?,
-        ));
+        return Ok(Some(format!(in alloc;
+            ": min is {min} and max is {max}; min may not be over max"
+        )?));
     }
     Ok(Some(String::from_str(
         alloc,

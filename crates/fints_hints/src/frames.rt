@@ -114,9 +114,9 @@ pub fn named(view: &SegmentView<'_>) -> Numbered {
 
 fn number_text(alloc: Global, view: &SegmentView<'_>, wanted: usize) -> Result<String, Memory> {
     let name = named(view);
-    Ok(
-        format!(in alloc; "{name} must have the number {wanted}: segments are numbered 1, 2, 3 and so on")?,
-    )
+    Ok(format!(in alloc;
+        "{name} must have the number {wanted}: segments are numbered 1, 2, 3 and so on"
+    )?)
 }
 
 fn order_text(alloc: Global, view: &SegmentView<'_>, why: &str) -> Result<String, Memory> {
@@ -144,11 +144,7 @@ fn frame_text(alloc: Global, view: &SegmentView<'_>) -> Result<String, Memory> {
 }
 
 /// Why a segment can't stand between the first and the last of a message.
-pub fn order_slip(
-    alloc: Global,
-    view: &SegmentView<'_>,
-    walk: &Walk,
-) -> Result<String, Memory> {
+pub fn order_slip(alloc: Global, view: &SegmentView<'_>, walk: &Walk) -> Result<String, Memory> {
     let part = part_of(view);
     if part == Part::Other {
         return frame_text(alloc, view);
@@ -157,7 +153,11 @@ pub fn order_slip(
         return number_text(alloc, view, walk.next_number());
     }
     match part {
-        Part::Opener => order_text(alloc, view, "must stand before all other segments but HNHBK"),
+        Part::Opener => order_text(
+            alloc,
+            view,
+            "must stand before all other segments but HNHBK",
+        ),
         Part::Ender => order_text(
             alloc,
             view,
@@ -177,16 +177,16 @@ pub fn message_number(segment: &OwnedSegment, element: usize) -> Option<u32> {
 
 fn closing_text(alloc: Global, segment: &OwnedSegment, number: u32) -> Result<String, Memory> {
     let shown = Sample(segment.value(2, 1));
-    Ok(
-        format!(in alloc; "element 2 of HNHBS is {shown}, and must be {number}, the number of the message in HNHBK")?,
-    )
+    Ok(format!(in alloc;
+        "element 2 of HNHBS is {shown}, and must be {number}, the number of the message in HNHBK"
+    )?)
 }
 
 fn counts_text(alloc: Global, walk: &Walk) -> Result<String, Memory> {
     let Walk { openers, ends, .. } = *walk;
-    Ok(
-        format!(in alloc; "before HNHBS stand {openers} HNSHK and {ends} HNSHA; there must be as many of both")?,
-    )
+    Ok(format!(in alloc;
+        "before HNHBS stand {openers} HNSHK and {ends} HNSHA; there must be as many of both"
+    )?)
 }
 
 /// Why a last segment, HNHBS version 1, can't stand there.
@@ -211,13 +211,18 @@ pub fn is_last(view: &SegmentView<'_>) -> bool {
     is_kind(view.id(), b"HNHBS") && view.version() == 1
 }
 
+/// Why no segment can be read where this one must stand.
+pub fn unread_text(alloc: Global, rest: &[u8], what: &str) -> Result<String, Memory> {
+    if rest.is_empty() {
+        return Ok(format!(in alloc; "the bytes end there, and {what} is missing")?);
+    }
+    let text = trouble(alloc, rest)?;
+    let front = Sample(rest.get(..20).unwrap_or(rest));
+    Ok(format!(in alloc; "there must stand {what}; what begins with {front}{text}")?)
+}
+
 /// Why no segment of a message stands at the front of bytes behind this walk.
-pub fn slip_at(
-    alloc: Global,
-    rest: &[u8],
-    walk: &Walk,
-    number: u32,
-) -> Result<String, Memory> {
+pub fn slip_at(alloc: Global, rest: &[u8], walk: &Walk, number: u32) -> Result<String, Memory> {
     match parse_segment(rest) {
         Ok((view, _)) => {
             if is_last(&view) {
@@ -226,22 +231,11 @@ pub fn slip_at(
                 order_slip(alloc, &view, walk)
             }
         }
-        Err(_) => unread_text(alloc, rest, walk),
+        Err(_) if rest.is_empty() => unread_text(alloc, rest, "HNHBS"),
+        Err(_) => {
+            let wanted = walk.next_number();
+            let what = format!(in alloc; "segment {wanted}")?;
+            unread_text(alloc, rest, what.as_str())
+        }
     }
-}
-
-// Why no segment can be read behind a walk.
-fn unread_text(alloc: Global, rest: &[u8], walk: &Walk) -> Result<String, Memory> {
-    if rest.is_empty() {
-        return Ok(String::from_str(
-            alloc,
-            "the bytes end there: HNHBS is missing",
-        )?);
-    }
-    let wanted = walk.next_number();
-    let text = trouble(alloc, rest)?;
-    let front = Sample(rest.get(..20).unwrap_or(rest));
-    Ok(
-        format!(in alloc; "at the place of segment {wanted} what begins with {front}{text}")?,
-    )
 }

@@ -92,7 +92,10 @@ impl Display for Known<'_> {
             return f.write_str("there is none");
         }
         f.write_str("the names are ")?;
-        f.write_joined(self.0.iter().copied().take(MOST).map(|name| Quoted(name)), ", ")?;
+        f.write_joined(
+            self.0.iter().copied().take(MOST).map(|name| Quoted(name)),
+            ", ",
+        )?;
         if self.0.len() > MOST {
             let more = self.0.len().saturating_sub(MOST);
             write!(f, " and {more} more")?;

@@ -28,9 +28,7 @@ pub fn unknown_key(alloc: Global, table: &Table, keys: &[&str], whose: &str) -> 
     };
     let guess = guess_of(alloc, keys, key)?;
     let keys = Joined(keys);
-    Ok(Some(
-        format!(in alloc; ": unknown key {guess}; the keys of {whose} are {keys}")?,
-    ))
+    Ok(Some(format!(in alloc; ": unknown key {guess}; the keys of {whose} are {keys}")?))
 }
 
 fn first_missing<'a>(table: &Table, keys: &[&'a str]) -> Option<&'a str> {
@@ -48,9 +46,7 @@ pub fn missing_key(alloc: Global, table: &Table, keys: &[&str], whose: &str) -> 
         return Ok(None);
     };
     let keys = Joined(keys);
-    Ok(Some(
-        format!(in alloc; ": the key \"{key}\" is missing; {whose} needs {keys}")?,
-    ))
+    Ok(Some(format!(in alloc; ": the key \"{key}\" is missing; {whose} needs {keys}")?))
 }
 
 /// A key, and what must stand there.
@@ -68,9 +64,7 @@ pub fn wrong(alloc: Global, table: &Table, wanted: Option<Wanted>) -> Told {
     match member(table, key) {
         Some(value) => {
             let shown = Shown(value);
-            Ok(Some(
-                format!(in alloc; ": {key} is {shown}, and must be {what}")?,
-            ))
+            Ok(Some(format!(in alloc; ": {key} is {shown}, and must be {what}")?))
         }
         None => Ok(None),
     }
@@ -91,15 +85,15 @@ fn bad_name(alloc: Global, name: &str) -> Told {
     match name.chars().find(|ch| !is_name_char(*ch)) {
         Some(ch) => {
             let ch = Character(ch);
-            Ok(Some(
-                format!(in alloc; ": the name {shown} has the character {ch}; a name has 1 to 40 of a to z, 0 to 9, _ and -")?,
-            ))
+            Ok(Some(format!(in alloc;
+                ": the name {shown} has the character {ch}; a name has 1 to 40 of a to z, 0 to 9, _ and -"
+            )?))
         }
         None => {
             let count = name.len();
-            Ok(Some(
-                format!(in alloc; ": the name {shown} has {count} characters; a name has 1 to 40 of a to z, 0 to 9, _ and -")?,
-            ))
+            Ok(Some(format!(in alloc;
+                ": the name {shown} has {count} characters; a name has 1 to 40 of a to z, 0 to 9, _ and -"
+            )?))
         }
     }
 }

@@ -123,9 +123,9 @@ fn slip_text(alloc: Global, slip: &ValueSlip<'_>) -> Result<String, Memory> {
             let shown = Shown(*value);
             Ok(format!(in alloc; " is {shown}, and must be an array of 1 to 6 texts")?)
         }
-        ValueSlip::Count(count) => Ok(
-            format!(in alloc; " has {count} texts; an account has 1 to 6, the items of its element")?,
-        ),
+        ValueSlip::Count(count) => Ok(format!(in alloc;
+            " has {count} texts; an account has 1 to 6, the items of its element"
+        )?),
         ValueSlip::NotLatin1(text) => not_latin1(alloc, text),
         ValueSlip::Long(count) => {
             Ok(format!(in alloc; " has {count} characters, and may have {MOST}")?)
@@ -176,9 +176,7 @@ fn twice_text(alloc: Global, values: &[Value]) -> Told {
         Some((earlier, later)) => {
             let entry = later.saturating_add(1);
             let first = earlier.saturating_add(1);
-            Ok(Some(
-                format!(in alloc; ", values, entry {entry} is the same as entry {first}")?,
-            ))
+            Ok(Some(format!(in alloc; ", values, entry {entry} is the same as entry {first}")?))
         }
         None => Ok(None),
     }
@@ -194,9 +192,7 @@ fn first_text(alloc: Global, kind: FaultKind, accounts: bool, values: &[Value]) 
 fn limit_text(alloc: Global, accounts: bool, values: &[Value]) -> Told {
     let count = values.len();
     if count == 0 || count > 100 {
-        return Ok(Some(
-            format!(in alloc; ": values has {count} entries, and must have 1 to 100")?,
-        ));
+        return Ok(Some(format!(in alloc; ": values has {count} entries, and must have 1 to 100")?));
     }
     first_text(alloc, FaultKind::Limit, accounts, values)
 }

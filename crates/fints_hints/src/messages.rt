@@ -1,6 +1,6 @@
 //! Why bytes are no message.
 use crate::frames::{
-    Walk, is_last, last_slip, message_number, named, order_slip, slip_at, walk_from,
+    Walk, is_last, last_slip, message_number, named, order_slip, slip_at, unread_text, walk_from,
 };
 use crate::places::Told;
 use crate::quoting::Sample;
@@ -38,9 +38,9 @@ fn size_of(text: &[u8]) -> Option<u64> {
 fn size_text(alloc: Global, size: u64, bytes: &[u8]) -> Result<String, Memory> {
     let len = bytes.len();
     match bytes.last() {
-        Some(b'\n') => Ok(
-            format!(in alloc; "HNHBK says {size} bytes, and there are {len}, of which the last is a line feed")?,
-        ),
+        Some(b'\n') => Ok(format!(in alloc;
+            "HNHBK says {size} bytes, and there are {len}, of which the last is a line feed"
+        )?),
         _ => Ok(format!(in alloc; "HNHBK says {size} bytes, and there are {len}")?),
     }
 }
@@ -48,15 +48,15 @@ fn size_text(alloc: Global, size: u64, bytes: &[u8]) -> Result<String, Memory> {
 fn head_slip(alloc: Global, segment: &OwnedSegment, bytes: &[u8]) -> Result<String, Memory> {
     let shown = Sample(segment.value(2, 1));
     match size_of(segment.value(2, 1)) {
-        None => Ok(
-            format!(in alloc; "element 2 of HNHBK is {shown}, and must be the number of bytes of the message, in 12 digits")?,
-        ),
+        None => Ok(format!(in alloc;
+            "element 2 of HNHBK is {shown}, and must be the number of bytes of the message, in 12 digits"
+        )?),
         Some(size) if size != bytes.len() as u64 => size_text(alloc, size, bytes),
         _ => {
             let number = Sample(segment.value(5, 1));
-            Ok(
-                format!(in alloc; "element 5 of HNHBK is {number}, and must be the number of the message, 1 to 9 digits")?,
-            )
+            Ok(format!(in alloc;
+                "element 5 of HNHBK is {number}, and must be the number of the message, 1 to 9 digits"
+            )?)
         }
     }
 }
@@ -66,9 +66,9 @@ fn first_slip(alloc: Global, view: &SegmentView<'_>, bytes: &[u8]) -> Result<Str
     let name = named(view);
     let version = view.version();
     if !is_head(view) {
-        return Ok(
-            format!(in alloc; "a message begins with HNHBK version 3; these bytes begin with {name} version {version}")?,
-        );
+        return Ok(format!(in alloc;
+            "a message begins with HNHBK version 3; these bytes begin with {name} version {version}"
+        )?);
     }
     if view.number() != 1 {
         return Ok(format!(in alloc; "{name} must have the number 1")?);
@@ -83,9 +83,7 @@ fn no_segment(alloc: Global, bytes: &[u8]) -> Result<String, Memory> {
     }
     let text = trouble(alloc, bytes)?;
     let front = Sample(bytes.get(..20).unwrap_or(bytes));
-    Ok(
-        format!(in alloc; "a message begins with HNHBK; what begins with {front}{text}")?,
-    )
+    Ok(format!(in alloc; "a message begins with HNHBK; what begins with {front}{text}")?)
 }
 
 fn start_text(alloc: Global, bytes: &[u8]) -> Result<String, Memory> {
@@ -103,44 +101,44 @@ fn left_text(alloc: Global, bytes: &[u8], at: usize) -> Result<String, Memory> {
 }
 
 // Why the data of an HNVSD are no inner segments.
-fn data_slip(alloc: Global, data: &[u8], number: u32) -> Result<String, Memory> {
+fn data_slip(alloc: Global, data: &[u8]) -> Result<String, Memory> {
     let walk = walk_from(data, 0);
     let Walk { openers, ends, .. } = walk;
     if walk.at < data.len() {
-        let text = inner_slip(alloc, data.get(walk.at..).unwrap_or(&[]), &walk, number)?;
+        let text = inner_slip(alloc, data.get(walk.at..).unwrap_or(&[]), &walk)?;
         let at = walk.at;
         return Ok(format!(in alloc; "in the data of HNVSD, at offset {at} of them, {text}")?);
     }
-    Ok(
-        format!(in alloc; "in the data of HNVSD stand {openers} HNSHK and {ends} HNSHA; there must be as many of both")?,
-    )
+    Ok(format!(in alloc;
+        "in the data of HNVSD stand {openers} HNSHK and {ends} HNSHA; there must be as many of both"
+    )?)
 }
 
 // Why no inner segment stands at the front of data.
-fn inner_slip(alloc: Global, rest: &[u8], walk: &Walk, number: u32) -> Result<String, Memory> {
+fn inner_slip(alloc: Global, rest: &[u8], walk: &Walk) -> Result<String, Memory> {
     match parse_segment(rest) {
         Ok((view, _)) => order_slip(alloc, &view, walk),
-        Err(_) => slip_at(alloc, rest, walk, number),
+        Err(_) => unread_text(alloc, rest, "a segment"),
     }
 }
 
 // Why the segment behind HNVSK is no envelope.
-fn envelope_slip(alloc: Global, view: &SegmentView<'_>, number: u32) -> Result<String, Memory> {
+fn envelope_slip(alloc: Global, view: &SegmentView<'_>) -> Result<String, Memory> {
     let name = named(view);
     if !is_envelope(view) {
         let version = view.version();
-        return Ok(
-            format!(in alloc; "behind HNVSK must stand HNVSD version 1, and there stands {name} version {version}")?,
-        );
+        return Ok(format!(in alloc;
+            "behind HNVSK must stand HNVSD version 1, and there stands {name} version {version}"
+        )?);
     }
     if view.number() != 999 {
         return Ok(format!(in alloc; "{name} must have the number 999")?);
     }
     match view.item(2, 1) {
-        Some(Item::Bin(data)) => data_slip(alloc, data, number),
-        _ => Ok(
-            format!(in alloc; "element 2 of HNVSD must be a binary item: @length@ and the inner segments")?,
-        ),
+        Some(Item::Bin(data)) => data_slip(alloc, data),
+        _ => Ok(format!(in alloc;
+            "element 2 of HNVSD must be a binary item: @length@ and the inner segments"
+        )?),
     }
 }
 
@@ -164,9 +162,11 @@ fn behind_envelope(
         Ok((last, _)) if is_last(&last) => last_slip(alloc, &last, &walk, number),
         Ok((other, _)) => {
             let name = named(&other);
-            Ok(format!(in alloc; "behind HNVSD must stand HNHBS version 1, and there stands {name}")?)
+            Ok(format!(in alloc;
+                "behind HNVSD must stand HNHBS version 1, and there stands {name}"
+            )?)
         }
-        Err(_) => slip_at(alloc, rest, &walk, number),
+        Err(_) => unread_text(alloc, rest, "HNHBS"),
     }
 }
 
@@ -182,19 +182,14 @@ fn sealed_text(
         Ok((view, len)) => {
             let end = start.saturating_add(len);
             if at == start {
-                return envelope_slip(alloc, &view, number);
+                return envelope_slip(alloc, &view);
             }
             if at == end {
                 return behind_envelope(alloc, &view, bytes.get(at..).unwrap_or(&[]), number);
             }
             left_text(alloc, bytes, at)
         }
-        Err(_) => slip_at(
-            alloc,
-            bytes.get(start..).unwrap_or(&[]),
-            &walk_from(&[], 0),
-            number,
-        ),
+        Err(_) => unread_text(alloc, bytes.get(start..).unwrap_or(&[]), "HNVSD"),
     }
 }
 

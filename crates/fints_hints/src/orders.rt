@@ -28,23 +28,23 @@ fn is_order_kind(text: &str) -> bool {
 fn kind_slip(alloc: Global, text: &str) -> Told {
     let shown = Quoted(text);
     if is_reserved(text) {
-        return Ok(Some(
-            format!(in alloc; ": the kind {shown} names no account, and may not stand in an order table")?,
-        ));
+        return Ok(Some(format!(in alloc;
+            ": the kind {shown} names no account, and may not stand in an order table"
+        )?));
     }
     if !is_order_kind(text) {
-        return Ok(Some(
-            format!(in alloc; ": the kind {shown} is none of an order; one has five characters A to Z and 0 to 9, of which HK or DK are the first")?,
-        ));
+        return Ok(Some(format!(in alloc;
+            ": the kind {shown} is none of an order; one has five characters A to Z and 0 to 9, of which HK or DK are the first"
+        )?));
     }
     Ok(None)
 }
 
 fn form_slip(alloc: Global, text: &str) -> Told {
     let guess = guess_of(alloc, &WORDS, text)?;
-    Ok(Some(
-        format!(in alloc; ": account is {guess}, and must be \"none\", \"national\" or \"international\"")?,
-    ))
+    Ok(Some(format!(in alloc;
+        ": account is {guess}, and must be \"none\", \"national\" or \"international\""
+    )?))
 }
 
 fn wrong_key(table: &Table) -> Option<Wanted> {
@@ -127,9 +127,9 @@ fn two_rows(alloc: Global, rows: &[Value], number: u16) -> Told {
     match rows.iter().position(|other| is_same(row, other)) {
         Some(earlier) => {
             let earlier = earlier.saturating_add(1);
-            Ok(Some(
-                format!(in alloc; "{place}: order {earlier} has the same kind and version ({version}) already")?,
-            ))
+            Ok(Some(format!(in alloc;
+                "{place}: order {earlier} has the same kind and version ({version}) already"
+            )?))
         }
         None => Ok(None),
     }
@@ -139,9 +139,9 @@ fn no_rows(alloc: Global, table: &Table) -> Told {
     match member(table, "order") {
         Some(value) => {
             let shown = Shown(value);
-            Ok(Some(
-                format!(in alloc; "order is {shown}, and must be an array of tables: write [[order]], with two brackets")?,
-            ))
+            Ok(Some(format!(in alloc;
+                "order is {shown}, and must be an array of tables: write [[order]], with two brackets"
+            )?))
         }
         None => Ok(None),
     }
@@ -149,9 +149,7 @@ fn no_rows(alloc: Global, table: &Table) -> Told {
 
 fn many_rows(alloc: Global, rows: &[Value]) -> Told {
     let count = rows.len();
-    Ok(Some(
-        format!(in alloc; "order has {count} rows, and may have 1000")?,
-    ))
+    Ok(Some(format!(in alloc; "order has {count} rows, and may have 1000")?))
 }
 
 fn rows_hint(alloc: Global, number: u16, table: &Table) -> Told {
@@ -172,9 +170,7 @@ fn table_hint(alloc: Global, fault: &TableFault, table: &Table) -> Told {
             told_at(alloc, "top", found)
         }
         TableFault::BadRow { row } => rows_hint(alloc, *row, table),
-        TableFault::TwoRows { row } => {
-            two_rows(alloc, rows_of(member(table, "order")), *row)
-        }
+        TableFault::TwoRows { row } => { two_rows(alloc, rows_of(member(table, "order")), *row) }
         _ => Ok(None),
     }
 }

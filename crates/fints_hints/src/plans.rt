@@ -72,9 +72,9 @@ fn place_text(
     let name = shown_name(&name);
     let kind = Bare(std::str::from_utf8(template.kind.as_bytes()).unwrap_or(""));
     let version = template.version;
-    Ok(
-        format!(in alloc; "step {number} ({name}), {kind} version {version}, entry {entry} of its segments")?,
-    )
+    Ok(format!(in alloc;
+        "step {number} ({name}), {kind} version {version}, entry {entry} of its segments"
+    )?)
 }
 
 fn form_word(form: Option<AccountForm>) -> &'static str {
@@ -91,15 +91,15 @@ fn account_text(
     form: Option<AccountForm>,
 ) -> Result<String, Memory> {
     let form = form_word(form);
-    Ok(
-        format!(in alloc; "{place}: element 2 names the account ({form} in the order table), and in it stands {open}; write its items as texts, or one string $NAME of a field of class account")?,
-    )
+    Ok(format!(in alloc;
+        "{place}: element 2 names the account ({form} in the order table), and in it stands {open}; write its items as texts, or one string $NAME of a field of class account"
+    )?)
 }
 
 fn process_text(alloc: Global, place: &str, open: &str) -> Result<String, Memory> {
-    Ok(
-        format!(in alloc; "{place}: element 2 is the TAN process, and in it stands {open}; write the process as a text, as in \"4\"")?,
-    )
+    Ok(format!(in alloc;
+        "{place}: element 2 is the TAN process, and in it stands {open}; write the process as a text, as in \"4\""
+    )?)
 }
 
 /// What of a plan's fault is the same for accounts and processes.

@@ -78,13 +78,19 @@ fn end_text(alloc: Global, last: &Last, step: &Step, end: End) -> Told {
     let repeat = step.repeat();
     let text = match end {
         End::NoAnswer => {
-            format!(in alloc; "the last message of the run is number {number}, of the step {name}; the case has no answer to it")?
+            format!(in alloc;
+                "the last message of the run is number {number}, of the step {name}; the case has no answer to it"
+            )?
         }
         End::Stop => {
-            format!(in alloc; "the last message of the run is number {number}, of the step {name}; its answer leads to stop")?
+            format!(in alloc;
+                "the last message of the run is number {number}, of the step {name}; its answer leads to stop"
+            )?
         }
         End::Repeated => {
-            format!(in alloc; "the last message of the run is number {number}, of the step {name}; its answer leads to again, and its repeat is {repeat}")?
+            format!(in alloc;
+                "the last message of the run is number {number}, of the step {name}; its answer leads to again, and its repeat is {repeat}"
+            )?
         }
     };
     Ok(Some(text))
@@ -101,10 +107,7 @@ fn run_text(alloc: Global, script: &Script, case: &Case) -> Told {
 /// Which message of a case's run is the last, and why.
 pub fn run_hint(alloc: Global, number: u32, script: &[u8], text: &[u8]) -> Told {
     if number == 0 {
-        return Ok(Some(String::from_str(
-            alloc,
-            "the first message of a run is number 1",
-        )?));
+        return Ok(Some(String::from_str(alloc, "the first message of a run is number 1")?));
     }
     let Ok(script) = Script::read(alloc, script) else {
         return Ok(None);

@@ -37,9 +37,7 @@ fn wrong_key(table: &Table) -> Option<Wanted> {
 fn many(alloc: Global, table: &Table, key: &str, most: usize) -> Told {
     let count = rows_of(member(table, key)).len();
     if count > most {
-        Ok(Some(
-            format!(in alloc; ": {key} has {count} rows, and may have {most}")?,
-        ))
+        Ok(Some(format!(in alloc; ": {key} has {count} rows, and may have {most}")?))
     } else {
         Ok(None)
     }
@@ -81,9 +79,7 @@ fn place_hint(alloc: Global, fault: &ScriptFault, around: &Around<'_>) -> Told {
     match fault.place {
         Place::Top => Ok(None),
         Place::Field(row) => field_hint(alloc, fault.kind, around.fields, row),
-        Place::Signer(row) => {
-            signer_hint(alloc, fault.kind, around.fields, around.signers, row)
-        }
+        Place::Signer(row) => { signer_hint(alloc, fault.kind, around.fields, around.signers, row) }
         Place::Seal => seal_hint(alloc, fault.kind, around.fields, around.seal),
         Place::Step(row) => step_hint(alloc, fault.kind, around, row),
     }

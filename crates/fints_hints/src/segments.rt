@@ -43,14 +43,14 @@ fn is_frame_kind(text: &str) -> bool {
 fn kind_slip(alloc: Global, text: &str) -> Told {
     let shown = Quoted(text);
     if is_frame_kind(text) {
-        return Ok(Some(
-            format!(in alloc; ": the kind {shown} is one of the frame, which the keys signers and sealed give a message")?,
-        ));
+        return Ok(Some(format!(in alloc;
+            ": the kind {shown} is one of the frame, which the keys signers and sealed give a message"
+        )?));
     }
     if Kind::parse(text.as_bytes()).is_none() {
-        return Ok(Some(
-            format!(in alloc; ": the kind {shown} is no identifier; one has 1 to 6 characters A to Z and 0 to 9")?,
-        ));
+        return Ok(Some(format!(in alloc;
+            ": the kind {shown} is no identifier; one has 1 to 6 characters A to Z and 0 to 9"
+        )?));
     }
     Ok(None)
 }

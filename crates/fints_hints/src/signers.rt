@@ -36,9 +36,7 @@ fn many(alloc: Global, value: Option<&Value>) -> Told {
         _ => 0,
     };
     if count > MOST {
-        Ok(Some(
-            format!(in alloc; " has {count} items, and may have {MOST}")?,
-        ))
+        Ok(Some(format!(in alloc; " has {count} items, and may have {MOST}")?))
     } else {
         Ok(None)
     }
@@ -99,9 +97,7 @@ fn twice(alloc: Global, rows: &[Value], table: &Table) -> Told {
         Some(place) => {
             let name = Quoted(name);
             let number = place.saturating_add(1);
-            Ok(Some(
-                format!(in alloc; ": the name {name} is that of signer {number} already")?,
-            ))
+            Ok(Some(format!(in alloc; ": the name {name} is that of signer {number} already")?))
         }
         None => Ok(None),
     }
@@ -156,9 +152,9 @@ pub fn seal_hint(
         }
         Some(other) => {
             let shown = Shown(other);
-            Ok(Some(
-                format!(in alloc; "seal is {shown}, and must be an array: the elements of HNVSK from element 2 on")?,
-            ))
+            Ok(Some(format!(in alloc;
+                "seal is {shown}, and must be an array: the elements of HNVSK from element 2 on"
+            )?))
         }
         None => Ok(None),
     }

@@ -87,16 +87,14 @@ fn twice(alloc: Global, steps: &NamedRows<'_>, row: usize, table: &Table) -> Tol
     let name = text_at(table, "name").unwrap_or("");
     let shown = Quoted(name);
     if name == "again" || name == "stop" {
-        return Ok(Some(
-            format!(in alloc; ": no step may be named {shown}, a word that targets have")?,
-        ));
+        return Ok(Some(format!(in alloc;
+            ": no step may be named {shown}, a word that targets have"
+        )?));
     }
     match steps.place_of(name) {
         Some(place) if place < row => {
             let number = place.saturating_add(1);
-            Ok(Some(
-                format!(in alloc; ": the name {shown} is that of step {number} already")?,
-            ))
+            Ok(Some(format!(in alloc; ": the name {shown} is that of step {number} already")?))
         }
         _ => Ok(None),
     }
@@ -105,9 +103,7 @@ fn twice(alloc: Global, steps: &NamedRows<'_>, row: usize, table: &Table) -> Tol
 fn many(alloc: Global, table: &Table, key: &str, most: usize) -> Told {
     let count = rows_of(member(table, key)).len();
     if count > most {
-        Ok(Some(
-            format!(in alloc; ": {key} has {count} entries, and may have {most}")?,
-        ))
+        Ok(Some(format!(in alloc; ": {key} has {count} entries, and may have {most}")?))
     } else {
         Ok(None)
     }
@@ -165,21 +161,19 @@ fn no_signer(alloc: Global, signers: &[Value], number: usize, name: &str) -> Tol
     let names = names_of(alloc, signers)?;
     let guess = guess_of(alloc, names.as_slice(), name)?;
     if guess.near.is_some() {
-        return Ok(Some(
-            format!(in alloc; ", signers, entry {number}: no signer is named {guess}")?,
-        ));
+        return Ok(Some(format!(in alloc;
+            ", signers, entry {number}: no signer is named {guess}"
+        )?));
     }
     let known = Known(names.as_slice());
-    Ok(Some(
-        format!(in alloc; ", signers, entry {number}: no signer is named {guess}; {known}")?,
-    ))
+    Ok(Some(format!(in alloc; ", signers, entry {number}: no signer is named {guess}; {known}")?))
 }
 
 fn no_text(alloc: Global, number: usize, value: &Value) -> Told {
     let shown = Shown(value);
-    Ok(Some(
-        format!(in alloc; ", signers, entry {number} is {shown}, and must be a text: the name of a signer")?,
-    ))
+    Ok(Some(format!(in alloc;
+        ", signers, entry {number} is {shown}, and must be a text: the name of a signer"
+    )?))
 }
 
 fn signature_slip(

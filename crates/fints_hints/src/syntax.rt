@@ -127,10 +127,12 @@ impl Display for Numbered {
 fn cut_text(alloc: Global, stop: &Stop) -> Result<String, Memory> {
     let Stop { element, item, why } = *stop;
     match why {
-        Why::CutBinary { len, there } => Ok(
-            format!(in alloc; " has no end: the bytes stop in element {element}, item {item}, a binary item of {len} bytes of which {there} are there")?,
-        ),
-        _ => Ok(format!(in alloc; " has no end: the bytes stop in element {element}, item {item}")?),
+        Why::CutBinary { len, there } => Ok(format!(in alloc;
+            " has no end: the bytes stop in element {element}, item {item}, a binary item of {len} bytes of which {there} are there"
+        )?),
+        _ => Ok(format!(in alloc;
+            " has no end: the bytes stop in element {element}, item {item}"
+        )?),
     }
 }
 
@@ -140,13 +142,13 @@ fn binary_text(alloc: Global, stop: &Stop) -> Result<String, Memory> {
         Why::NoSeparator { len, after } => {
             let after = [after];
             let after = Sample(&after);
-            Ok(
-                format!(in alloc; ", element {element}, item {item}: behind the {len} bytes of a binary item stands {after}, and none of + : '; the length is wrong, or the bytes were changed")?,
-            )
+            Ok(format!(in alloc;
+                ", element {element}, item {item}: behind the {len} bytes of a binary item stands {after}, and none of + : '; the length is wrong, or the bytes were changed"
+            )?)
         }
-        _ => Ok(
-            format!(in alloc; ", element {element}, item {item}: an @ begins a binary item, written @length@ and so many bytes; a text that begins with @ is written ?@")?,
-        ),
+        _ => Ok(format!(in alloc;
+            ", element {element}, item {item}: an @ begins a binary item, written @length@ and so many bytes; a text that begins with @ is written ?@"
+        )?),
     }
 }
 
@@ -183,8 +185,11 @@ fn parts_cause(id: &[u8], number: &[u8], version: &[u8]) -> &'static str {
 }
 
 fn head_cause(head: &[u8]) -> &'static str {
-    let count = head.split(|b| *b == b':').count();
-    if count < 3 {
+    if head.contains(&b'?') || head.contains(&b'@') {
+        return "it must be identifier:number:version, or with :reference behind";
+    }
+    let colons = head.iter().filter(|b| **b == b':').count();
+    if colons < 2 {
         return "it must have an identifier, a number and a version, with : between";
     }
     let (id, rest) = first_word(head);

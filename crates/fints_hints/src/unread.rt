@@ -8,16 +8,14 @@ use toml::de::Error;
 /// That a text is too long.
 pub fn too_long(alloc: Global, text: &[u8]) -> Told {
     let len = text.len();
-    Ok(Some(
-        format!(in alloc; "longer than {MAX_TEXT} bytes: it has {len}")?,
-    ))
+    Ok(Some(format!(in alloc; "longer than {MAX_TEXT} bytes: it has {len}")?))
 }
 
 fn not_utf8(alloc: Global, text: &[u8], offset: usize) -> Told {
     let line = line_at(text, offset);
-    Ok(Some(
-        format!(in alloc; "not UTF-8: the first bad byte is at offset {offset}, in line {line}")?,
-    ))
+    Ok(Some(format!(in alloc;
+        "not UTF-8: the first bad byte is at offset {offset}, in line {line}"
+    )?))
 }
 
 // What stands at an offset, to the end of its line.
@@ -36,14 +34,12 @@ fn before(text: &str, offset: usize) -> &str {
 // The refusal at the end of a line.
 fn ended(alloc: Global, line: usize, column: usize, why: &str, text: &str) -> Told {
     if text.is_empty() {
-        return Ok(Some(
-            format!(in alloc; "line {line}, column {column}: {why}; there the line ends")?,
-        ));
+        return Ok(Some(format!(in alloc;
+            "line {line}, column {column}: {why}; there the line ends"
+        )?));
     }
     let text = Quoted(text);
-    Ok(Some(
-        format!(in alloc; "line {line}, column {column}: {why}; there ends the line {text}")?,
-    ))
+    Ok(Some(format!(in alloc; "line {line}, column {column}: {why}; there ends the line {text}")?))
 }
 
 fn refusal(alloc: Global, text: &str, error: &Error) -> Told {
@@ -56,9 +52,7 @@ fn refusal(alloc: Global, text: &str, error: &Error) -> Told {
     match rest_of_line(text, span.start) {
         Some(rest) => {
             let rest = Quoted(rest);
-            Ok(Some(
-                format!(in alloc; "line {line}, column {column}: {why}; there stands {rest}")?,
-            ))
+            Ok(Some(format!(in alloc; "line {line}, column {column}: {why}; there stands {rest}")?))
         }
         None => ended(alloc, line, column, why, before(text, span.start)),
     }

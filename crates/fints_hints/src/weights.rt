@@ -169,10 +169,7 @@ fn items_figures(measured: &Measured<'_>, values: &[Value]) -> Figures {
         items: 0,
     };
     for value in values {
-        total = add(
-            total,
-            text_figures(measured, value.as_str().unwrap_or("")),
-        );
+        total = add(total, text_figures(measured, value.as_str().unwrap_or("")));
     }
     total
 }
@@ -205,9 +202,9 @@ fn elements_of<'a>(row: &'a Value, key: &str) -> &'a [Value] {
 
 fn many_text(alloc: Global, number: usize, row: &Value, count: u64) -> Told {
     let place = row_named(", segment", number, row, "kind");
-    Ok(Some(
-        format!(in alloc; "{place}: elements has {count} items, and may have {MOST_ITEMS}; an account field counts as its value with the most items")?,
-    ))
+    Ok(Some(format!(in alloc;
+        "{place}: elements has {count} items, and may have {MOST_ITEMS}; an account field counts as its value with the most items"
+    )?))
 }
 
 // The first segment with too many items.
@@ -249,7 +246,10 @@ fn heaviest(measured: &Measured<'_>, rows: &[Value]) -> (Weight, u64) {
 }
 
 fn signer_weight(measured: &Measured<'_>, signers: &[Value], name: &str) -> u64 {
-    match signers.iter().find(|row| text_in(row, "name") == Some(name)) {
+    match signers
+        .iter()
+        .find(|row| text_in(row, "name") == Some(name))
+    {
         Some(row) => {
             let head = segment_figures(measured, elements_of(row, "head")).written;
             let end = segment_figures(measured, elements_of(row, "end")).written;
@@ -262,11 +262,7 @@ fn signer_weight(measured: &Measured<'_>, signers: &[Value], name: &str) -> u64 
 fn signers_weight(measured: &Measured<'_>, signers: &[Value], names: &[Value]) -> u64 {
     let mut total: u64 = 0;
     for name in names {
-        total = total.saturating_add(signer_weight(
-            measured,
-            signers,
-            name.as_str().unwrap_or(""),
-        ));
+        total = total.saturating_add(signer_weight(measured, signers, name.as_str().unwrap_or("")));
     }
     total
 }
@@ -296,9 +292,9 @@ fn weight_text(alloc: Global, measured: &Measured<'_>, parts: &Parts<'_>) -> Tol
         .saturating_add(signers_weight(measured, parts.signers, parts.names))
         .saturating_add(seal_weight(measured, parts.seal));
     let Weight { place, weight } = most;
-    Ok(Some(
-        format!(in alloc; ": the step weighs {total}, and may weigh 1000000: 15 for each segment, and for each item 1 and its longest length; segment {place} weighs most, {weight}")?,
-    ))
+    Ok(Some(format!(in alloc;
+        ": the step weighs {total}, and may weigh 1000000: 15 for each segment, and for each item 1 and its longest length; segment {place} weighs most, {weight}"
+    )?))
 }
 
 /// What makes a step too large, where nothing else is wrong with it.
