@@ -184,7 +184,7 @@ fn digits_text(alloc: Global, digits: &str) -> Result<String, Memory> {
         None => {
             let count = digits.len();
             Ok(format!(in alloc;
-                ": behind % stand {count} hex digits, an odd number; two make a byte"
+                ": behind % stands an odd number of hex digits, {count}; two make a byte"
             )?)
         }
     }

@@ -76,14 +76,24 @@ impl Display for Sample<'_> {
     }
 }
 
-/// A character by its number, as in U+20AC.
+/// A character in quotes, or by its number, as in U+20AC, where it isn't printable ASCII.
 #[derive(Clone, Copy, Debug)]
 pub struct Character(pub char);
 
 impl Display for Character {
     fn fmt<W: Write>(&self, f: &mut Formatter<W>) -> fmt::Result {
-        let code = u32::from(self.0);
-        write!(f, "U+{code:04X}")
+        let Character(ch) = *self;
+        match ch {
+            ' '..='~' => {
+                f.write_str("\"")?;
+                write_shown(f, ch)?;
+                f.write_str("\"")
+            }
+            _ => {
+                let code = u32::from(ch);
+                write!(f, "U+{code:04X}")
+            }
+        }
     }
 }
 
