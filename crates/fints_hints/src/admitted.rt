@@ -1,9 +1,9 @@
 //! Which value of a case a script doesn't admit. The value itself may be a secret: it is never told.
-use crate::places::Told;
-use crate::quoting::Bare;
 use fints_cases::{Case, NamedValue};
 use fints_field_rows::NamedField;
 use fints_fields::{Field, FieldClass, Name};
+use fints_hint_words::places::Told;
+use fints_hint_words::quoting::Bare;
 use fints_script::Script;
 use fints_syntax::Memory;
 use std::alloc::Global;

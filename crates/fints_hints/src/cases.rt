@@ -1,7 +1,7 @@
 //! Which line of a case is bad, and what it should look like. The value of a field may be a secret: it
 //! is never told, nor is a line that has no other form.
-use crate::places::Told;
 use fints_fields::Name;
+use fints_hint_words::places::Told;
 use fints_lines::{after, split_once};
 use fints_params::Code;
 use fints_syntax::Memory;

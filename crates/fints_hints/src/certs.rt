@@ -1,8 +1,8 @@
 //! Which line of a certificate is bad, and what it should look like.
 use crate::cases::{End, end_of, end_text, place_of};
-use crate::places::Told;
-use crate::quoting::Sample;
 use fints_fields::Name;
+use fints_hint_words::places::Told;
+use fints_hint_words::quoting::Sample;
 use fints_lines::{after, split_once};
 use fints_syntax::parse_number;
 use std::alloc::Global;

@@ -1,13 +1,13 @@
 //! What the refusal of an order table is about.
-use crate::guessing::guess_of;
-use crate::keys::{Wanted, missing_key, no_table, unknown_key, wrong};
-use crate::places::{Told, row_at, row_named, text_in, told_at, told_of};
-use crate::quoting::{Quoted, Shown};
-use crate::unread::why_no_toml;
 use fints_documents::document;
 use fints_documents::document::member;
 use fints_documents::entries::text_at;
 use fints_documents::tables::{is_no_integer, is_no_text, is_outside, rows_of};
+use fints_hint_words::guessing::guess_of;
+use fints_hint_words::keys::{Wanted, missing_key, no_table, unknown_key, wrong};
+use fints_hint_words::places::{Told, row_at, row_named, text_in, told_at, told_of};
+use fints_hint_words::quoting::{Quoted, Shown};
+use fints_hint_words::unread::why_no_toml;
 use fints_rules::TableFault;
 use fints_syntax::Kind;
 use std::alloc::Global;

@@ -1,8 +1,8 @@
 //! Which segment of a script leaves its account or its TAN process open, and what to write.
-use crate::places::Told;
-use crate::quoting::Bare;
 use fints_field_rows::NamedField;
 use fints_fields::{Field, Name};
+use fints_hint_words::places::Told;
+use fints_hint_words::quoting::Bare;
 use fints_rules::{AccountForm, OrderTable};
 use fints_script::{PlanFault, Script, Step};
 use fints_syntax::Memory;

@@ -1,8 +1,8 @@
 //! Why a run has no message of a number.
-use crate::places::Told;
-use crate::quoting::Bare;
 use fints_cases::{Answer, Case};
 use fints_fields::Name;
+use fints_hint_words::places::Told;
+use fints_hint_words::quoting::Bare;
 use fints_script::{Script, Step, Target};
 use std::alloc::Global;
 

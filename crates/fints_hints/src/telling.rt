@@ -1,14 +1,13 @@
 //! The hint of a refusal, whatever its input.
 use crate::admitted::admitted_hint;
-use crate::captures::params_hint;
 use crate::cases::case_hint;
 use crate::certs::cert_hint;
-use crate::messages::message_hint;
 use crate::orders::orders_hint;
 use crate::plans::plan_hint;
 use crate::runs::run_hint;
-use crate::scripts::script_hint;
 use fints_cases::CaseFault;
+use fints_script_hints::script_hint;
+use fints_segment_hints::{message_hint, params_hint};
 use fints_syntax::Memory;
 use fints_texts::Fault;
 use std::alloc::Global;

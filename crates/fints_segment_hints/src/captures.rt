@@ -1,8 +1,8 @@
 //! What the refusal of a capture is about.
 use crate::bad_elements::{Spot, bad_element, flat};
-use crate::places::{Told, line_at};
-use crate::quoting::Sample;
 use crate::syntax::{IN_DATA, Numbered, Region, bad_start, trouble_at, whole};
+use fints_hint_words::places::{Told, line_at};
+use fints_hint_words::quoting::Sample;
 use fints_params::ParamFault;
 use fints_syntax::{Item, MAX_CAPTURE, Memory, Placed, SyntaxFault, SyntaxKind, parse_placed};
 use std::alloc::Global;

@@ -1,7 +1,7 @@
 //! Segments that can't be read.
-use crate::places::line_at;
-use crate::quoting::Sample;
 use crate::scanning::{Stop, Why, stop_of};
+use fints_hint_words::places::line_at;
+use fints_hint_words::quoting::Sample;
 use fints_syntax::{Kind, Memory, SyntaxKind, parse_number, parse_segment};
 use std::alloc::Global;
 use std::fmt;

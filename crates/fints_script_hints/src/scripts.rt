@@ -1,14 +1,14 @@
 //! What the refusal of a script is about.
 use crate::fields::field_hint;
-use crate::keys::{Wanted, missing_key, unknown_key, wrong};
-use crate::places::{Told, told_at};
 use crate::signers::{seal_hint, signer_hint};
 use crate::steps::{Around, step_hint};
-use crate::unread::{too_long, why_no_toml};
 use fints_documents::document;
 use fints_documents::document::{MAX_TEXT, member};
 use fints_documents::tables::{is_no_array, is_no_list, rows_of};
 use fints_field_rows::{FaultKind, NamedRows, Place, ScriptFault};
+use fints_hint_words::keys::{Wanted, missing_key, unknown_key, wrong};
+use fints_hint_words::places::{Told, told_at};
+use fints_hint_words::unread::{too_long, why_no_toml};
 use std::alloc::Global;
 use toml::Table;
 

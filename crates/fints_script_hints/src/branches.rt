@@ -1,13 +1,13 @@
 //! What is wrong with the branches of a step, and with targets.
-use crate::guessing::{Known, guess_of};
-use crate::keys::{Wanted, missing_key, no_table, unknown_key, wrong};
-use crate::places::{Row, Told, names_of, told_of};
-use crate::quoting::{Character, Quoted, Shown};
 use fints_cases::Pattern;
 use fints_documents::document::member;
 use fints_documents::entries::text_at;
 use fints_documents::tables::is_no_text;
 use fints_field_rows::{FaultKind, NamedRows};
+use fints_hint_words::guessing::{Known, guess_of};
+use fints_hint_words::keys::{Wanted, missing_key, no_table, unknown_key, wrong};
+use fints_hint_words::places::{Row, Told, names_of, told_of};
+use fints_hint_words::quoting::{Character, Quoted, Shown};
 use std::alloc::Global;
 use toml::{Table, Value};
 

@@ -1,9 +1,9 @@
 //! How many items the segments of a step have, and how much they weigh.
-use crate::places::{Told, row_named, text_in};
 use fints_documents::document::member;
 use fints_documents::entries::text_at;
 use fints_documents::tables::rows_of;
 use fints_field_rows::NamedRows;
+use fints_hint_words::places::{Told, row_named, text_in};
 use fints_syntax::Memory;
 use std::alloc::Global;
 use toml::{Table, Value};

@@ -1,9 +1,5 @@
 //! What is wrong with a row of `step`.
 use crate::branches::{branches_slip, target_slip};
-use crate::guessing::{Known, guess_of};
-use crate::keys::{Wanted, missing_key, name_slip, no_table, unknown_key, wrong};
-use crate::places::{Told, names_of, row_at, row_named, told_at, told_of};
-use crate::quoting::{Quoted, Shown};
 use crate::segments::segments_slip;
 use crate::weights::{Parts, size_slip};
 use fints_documents::document::member;
@@ -13,6 +9,10 @@ use fints_documents::tables::{
 };
 use fints_field_rows::names::is_no_name;
 use fints_field_rows::{FaultKind, NamedRows};
+use fints_hint_words::guessing::{Known, guess_of};
+use fints_hint_words::keys::{Wanted, missing_key, name_slip, no_table, unknown_key, wrong};
+use fints_hint_words::places::{Told, names_of, row_at, row_named, told_at, told_of};
+use fints_hint_words::quoting::{Quoted, Shown};
 use std::alloc::Global;
 use toml::{Table, Value};
 

@@ -1,13 +1,13 @@
 //! What is wrong with a row of `signer`, or with the seal.
-use crate::elements::elements_slip;
-use crate::keys::{Wanted, missing_key, name_slip, no_table, unknown_key, wrong};
-use crate::places::{Told, row_at, row_named, told_at, told_of};
-use crate::quoting::{Quoted, Shown};
 use fints_documents::document::member;
 use fints_documents::entries::{is_named, text_at};
 use fints_documents::tables::is_no_array;
 use fints_field_rows::names::is_no_name;
 use fints_field_rows::{FaultKind, NamedRows};
+use fints_hint_words::elements::elements_slip;
+use fints_hint_words::keys::{Wanted, missing_key, name_slip, no_table, unknown_key, wrong};
+use fints_hint_words::places::{Told, row_at, row_named, told_at, told_of};
+use fints_hint_words::quoting::{Quoted, Shown};
 use std::alloc::Global;
 use toml::{Table, Value};
 

@@ -1,12 +1,12 @@
 //! What is wrong with the segments of a step.
-use crate::elements::elements_slip;
-use crate::keys::{Wanted, missing_key, no_table, unknown_key, wrong};
-use crate::places::{Told, row_named, told_of};
-use crate::quoting::Quoted;
 use fints_documents::document::member;
 use fints_documents::entries::text_at;
 use fints_documents::tables::{is_no_array, is_no_integer, is_no_text, is_outside};
 use fints_field_rows::{FaultKind, NamedRows};
+use fints_hint_words::elements::elements_slip;
+use fints_hint_words::keys::{Wanted, missing_key, no_table, unknown_key, wrong};
+use fints_hint_words::places::{Told, row_named, told_of};
+use fints_hint_words::quoting::Quoted;
 use fints_syntax::Kind;
 use std::alloc::Global;
 use toml::{Table, Value};

@@ -2,9 +2,9 @@
 use crate::frames::{
     Walk, is_last, last_slip, message_number, named, order_slip, slip_at, unread_text, walk_from,
 };
-use crate::places::Told;
-use crate::quoting::Sample;
 use crate::syntax::trouble;
+use fints_hint_words::places::Told;
+use fints_hint_words::quoting::Sample;
 use fints_messages::{JudgeFault, is_kind};
 use fints_syntax::{Item, Memory, OwnedSegment, SegmentView, parse_segment};
 use std::alloc::Global;

@@ -1,14 +1,14 @@
 //! What is wrong with a row of `field`.
-use crate::guessing::guess_of;
-use crate::keys::{Wanted, missing_key, name_slip, no_table, unknown_key, wrong};
-use crate::listed::values_slip;
-use crate::places::{Told, row_at, row_named, told_of};
-use crate::quoting::Quoted;
 use fints_documents::document::member;
 use fints_documents::entries::text_at;
 use fints_documents::tables::{is_no_array, is_no_integer, is_no_text};
 use fints_field_rows::names::is_no_name;
 use fints_field_rows::{FaultKind, NamedRows};
+use fints_hint_words::guessing::guess_of;
+use fints_hint_words::keys::{Wanted, missing_key, name_slip, no_table, unknown_key, wrong};
+use fints_hint_words::listed::values_slip;
+use fints_hint_words::places::{Told, row_at, row_named, told_of};
+use fints_hint_words::quoting::Quoted;
 use std::alloc::Global;
 use toml::{Table, Value};
 

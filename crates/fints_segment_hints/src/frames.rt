@@ -1,6 +1,6 @@
 //! Segments that can't stand at their place in a message.
-use crate::quoting::Sample;
 use crate::syntax::{Numbered, trouble};
+use fints_hint_words::quoting::Sample;
 use fints_messages::is_kind;
 use fints_syntax::{Kind, Memory, OwnedSegment, SegmentView, parse_number, parse_segment};
 use std::alloc::Global;

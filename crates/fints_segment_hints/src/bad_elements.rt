@@ -1,6 +1,6 @@
 //! Elements of a capture that can't be read.
-use crate::places::Told;
-use crate::quoting::Sample;
+use fints_hint_words::places::Told;
+use fints_hint_words::quoting::Sample;
 use fints_params::Code;
 use fints_syntax::{Item, Memory, OwnedItem, OwnedSegment, Placed, parse_number, parse_placed};
 use std::alloc::Global;

@@ -1,0 +1,12 @@
+//! What the refusal of a script is about.
+#![tactic(auto)]
+
+mod branches;
+mod fields;
+mod scripts;
+mod segments;
+mod signers;
+mod steps;
+mod weights;
+
+pub use scripts::script_hint;

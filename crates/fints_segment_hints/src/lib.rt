@@ -1,0 +1,12 @@
+//! What the refusal of a capture or of a message is about.
+#![tactic(auto)]
+
+mod bad_elements;
+mod captures;
+mod frames;
+mod messages;
+mod scanning;
+mod syntax;
+
+pub use captures::params_hint;
+pub use messages::message_hint;
