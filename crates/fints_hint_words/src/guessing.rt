@@ -48,18 +48,22 @@ pub fn near<'a>(alloc: Global, words: &[&'a str], text: &str) -> Result<Option<&
 
 /// A text that is no word, with the word that was meant, if one is near.
 #[derive(Clone, Copy, Debug)]
-pub struct Guess<'a> {
-    pub text: &'a str,
-    pub near: Option<&'a str>,
+pub struct Guess<'t, 'n> {
+    pub text: &'t str,
+    pub near: Option<&'n str>,
 }
 
 /// The text with the nearest of the words.
-pub fn guess_of<'a>(alloc: Global, words: &[&'a str], text: &'a str) -> Result<Guess<'a>, Memory> {
+pub fn guess_of<'t, 'n>(
+    alloc: Global,
+    words: &[&'n str],
+    text: &'t str,
+) -> Result<Guess<'t, 'n>, Memory> {
     let near = near(alloc, words, text)?;
     Ok(Guess { text, near })
 }
 
-impl Display for Guess<'_> {
+impl Display for Guess<'_, '_> {
     fn fmt<W: Write>(&self, f: &mut Formatter<W>) -> fmt::Result {
         let text = Quoted(self.text);
         match self.near {
