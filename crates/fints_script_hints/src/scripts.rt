@@ -85,16 +85,26 @@ fn place_hint(alloc: Global, fault: &ScriptFault, around: &Around<'_>) -> Told {
     }
 }
 
+fn around_hint(
+    alloc: Global,
+    fault: &ScriptFault,
+    table: &Table,
+    fields: &NamedRows<'_>,
+    steps: &NamedRows<'_>,
+) -> Told {
+    let around = Around {
+        fields,
+        signers: rows_of(member(table, "signer")),
+        seal: member(table, "seal"),
+        steps,
+    };
+    place_hint(alloc, fault, &around)
+}
+
 fn rows_hint(alloc: Global, fault: &ScriptFault, table: &Table) -> Told {
     let fields = NamedRows::new(alloc, rows_of(member(table, "field")))?;
     let steps = NamedRows::new(alloc, rows_of(member(table, "step")))?;
-    let around = Around {
-        fields: &fields,
-        signers: rows_of(member(table, "signer")),
-        seal: member(table, "seal"),
-        steps: &steps,
-    };
-    place_hint(alloc, fault, &around)
+    around_hint(alloc, fault, table, &fields, &steps)
 }
 
 fn table_hint(alloc: Global, fault: &ScriptFault, table: &Table) -> Told {
