@@ -31,7 +31,10 @@ impl Inputs<'_> {
 }
 
 /// What to look at.
-pub fn hint(alloc: Global, fault: &Fault, inputs: &Inputs<'_>) -> Result<Option<String>, Memory> {
-    let _ = (alloc, fault, inputs);
+pub fn hint(
+    _alloc: Global,
+    _fault: &Fault,
+    _inputs: &Inputs<'_>,
+) -> Result<Option<String>, Memory> {
     Ok(None)
 }
