@@ -1,16 +1,12 @@
 //! Which value of a case a script doesn't admit. The value itself may be a secret: it is never told.
+use crate::labels::{label_of, name_text};
 use fints_cases::{Case, NamedValue};
 use fints_field_rows::NamedField;
-use fints_fields::{Field, FieldClass, Name};
+use fints_fields::{Field, FieldClass};
 use fints_hint_words::places::Told;
-use fints_hint_words::quoting::Bare;
 use fints_script::Script;
 use fints_syntax::Memory;
 use std::alloc::Global;
-
-fn shown_name(name: &Name) -> Bare<'_> {
-    Bare(std::str::from_utf8(name.as_bytes()).unwrap_or(""))
-}
 
 /// Which bytes a value of a class has.
 #[derive(Clone, Copy, Debug)]
@@ -105,18 +101,30 @@ fn line_of(place: usize) -> usize {
     place.saturating_add(2)
 }
 
-fn other_name(alloc: Global, place: usize, field: &NamedField, pair: &NamedValue) -> Told {
+fn other_name(
+    alloc: Global,
+    fields: &[NamedField],
+    place: usize,
+    field: &NamedField,
+    pair: &NamedValue,
+) -> Told {
     let line = line_of(place);
-    let wanted = shown_name(&field.name);
-    let found = shown_name(&pair.name);
+    let wanted = name_text(&field.name);
+    let found = label_of(alloc, fields, &pair.name)?;
     Ok(Some(format!(in alloc;
-        "line {line} tells the field {found}, and must tell {wanted}; the fields stand in the order of the script"
+        "line {line} tells {found}, and must tell {wanted}; the fields stand in the order of the script"
     )?))
 }
 
-fn pair_text(alloc: Global, place: usize, field: &NamedField, pair: &NamedValue) -> Told {
+fn pair_text(
+    alloc: Global,
+    fields: &[NamedField],
+    place: usize,
+    field: &NamedField,
+    pair: &NamedValue,
+) -> Told {
     if pair.name != field.name {
-        return other_name(alloc, place, field, pair);
+        return other_name(alloc, fields, place, field, pair);
     }
     if field.class.admits(pair.value.as_slice()) {
         return Ok(None);
@@ -124,7 +132,7 @@ fn pair_text(alloc: Global, place: usize, field: &NamedField, pair: &NamedValue)
     match value_text(alloc, &field.class, pair.value.as_slice())? {
         Some(why) => {
             let line = line_of(place);
-            let name = shown_name(&field.name);
+            let name = name_text(&field.name);
             Ok(Some(format!(in alloc; "line {line}, the field {name}: {why}")?))
         }
         None => Ok(None),
@@ -133,7 +141,7 @@ fn pair_text(alloc: Global, place: usize, field: &NamedField, pair: &NamedValue)
 
 fn first_pair(alloc: Global, fields: &[NamedField], pairs: &[NamedValue]) -> Told {
     for (i, (field, pair)) in fields.iter().zip(pairs.iter()).enumerate() {
-        let found = pair_text(alloc, i, field, pair)?;
+        let found = pair_text(alloc, fields, i, field, pair)?;
         if found.is_some() {
             return Ok(found);
         }
@@ -145,20 +153,20 @@ fn first_pair(alloc: Global, fields: &[NamedField], pairs: &[NamedValue]) -> Tol
 fn count_text(alloc: Global, fields: &[NamedField], pairs: &[NamedValue]) -> Told {
     if let Some(field) = fields.get(pairs.len()) {
         let line = line_of(pairs.len());
-        let name = shown_name(&field.name);
+        let name = name_text(&field.name);
         return Ok(Some(format!(in alloc;
             "the field {name} of the script is missing; it must stand in line {line}"
         )?));
     }
-    match pairs.get(fields.len()) {
-        Some(pair) => {
+    match fields.last() {
+        Some(last) if pairs.len() > fields.len() => {
             let line = line_of(fields.len());
-            let name = shown_name(&pair.name);
+            let name = name_text(&last.name);
             Ok(Some(format!(in alloc;
-                "line {line} tells the field {name}, and the script has no more fields"
+                "line {line} tells a field too many; the last one of the script is {name}"
             )?))
         }
-        None => Ok(None),
+        _ => Ok(None),
     }
 }
 

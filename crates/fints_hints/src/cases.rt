@@ -1,9 +1,12 @@
 //! Which line of a case is bad, and what it should look like. The value of a field may be a secret: it
 //! is never told, nor is a line that has no other form.
+use crate::labels::label_of;
+use fints_field_rows::NamedField;
 use fints_fields::Name;
 use fints_hint_words::places::Told;
 use fints_lines::{after, split_once};
 use fints_params::Code;
+use fints_script::Script;
 use fints_syntax::Memory;
 use std::alloc::Global;
 
@@ -108,46 +111,49 @@ fn has_field(before: &[u8]) -> bool {
         .any(|line| line.starts_with(b"field "))
 }
 
-fn shown_name(name: &Name) -> &str {
-    std::str::from_utf8(name.as_bytes()).unwrap_or("")
-}
-
 // Why the line of a field with a good value may not stand there.
-fn order_text(alloc: Global, line: u32, name: Name, before: &[u8]) -> Told {
-    let shown = shown_name(&name);
+fn order_text(alloc: Global, fields: &[NamedField], line: u32, name: Name, before: &[u8]) -> Told {
+    let shown = label_of(alloc, fields, &name)?;
     if let Some(earlier) = earlier_line(before, name) {
         return Ok(Some(format!(in alloc;
-            "line {line}: the field {shown} stands in line {earlier} already"
+            "line {line}: {shown} stands in line {earlier} already"
         )?));
     }
     if has_answer(before) {
         return Ok(Some(format!(in alloc;
-            "line {line}: the field {shown} stands behind an answer; all fields come first"
+            "line {line}: {shown} stands behind an answer; all fields come first"
         )?));
     }
     Ok(Some(format!(in alloc;
-        "line {line}: the field {shown} is the first; the first is dialog, the id of the dialogue"
+        "line {line}: {shown} is the first; the first is dialog, the id of the dialogue"
     )?))
 }
 
-fn named_text(alloc: Global, line: u32, name: Name, value: &[u8], before: &[u8]) -> Told {
+fn named_text(
+    alloc: Global,
+    fields: &[NamedField],
+    line: u32,
+    name: Name,
+    value: &[u8],
+    before: &[u8],
+) -> Told {
     let why = if value == b"-".as_slice() {
         ""
     } else {
         hex_slip(value)
     };
     if why.is_empty() {
-        return order_text(alloc, line, name, before);
+        return order_text(alloc, fields, line, name, before);
     }
-    let shown = shown_name(&name);
-    Ok(Some(format!(in alloc; "line {line}: the field {shown}: {why}")?))
+    let shown = label_of(alloc, fields, &name)?;
+    Ok(Some(format!(in alloc; "line {line}: {shown}: {why}")?))
 }
 
 fn told_line(alloc: Global, line: u32, why: &str) -> Told {
     Ok(Some(format!(in alloc; "line {line}: {why}")?))
 }
 
-fn field_text(alloc: Global, line: u32, rest: &[u8], before: &[u8]) -> Told {
+fn field_text(alloc: Global, fields: &[NamedField], line: u32, rest: &[u8], before: &[u8]) -> Told {
     match split_once(rest, b' ') {
         None => told_line(
             alloc,
@@ -155,7 +161,7 @@ fn field_text(alloc: Global, line: u32, rest: &[u8], before: &[u8]) -> Told {
             "the line of a field is \"field NAME VALUE\", with one space between; a value of no bytes is -",
         ),
         Some((name, value)) => match Name::parse(name) {
-            Some(name) => named_text(alloc, line, name, value, before),
+            Some(name) => named_text(alloc, fields, line, name, value, before),
             None => told_line(
                 alloc,
                 line,
@@ -210,12 +216,12 @@ fn first_text(alloc: Global) -> Told {
     )
 }
 
-fn line_text(alloc: Global, line: u32, text: &[u8], before: &[u8]) -> Told {
+fn line_text(alloc: Global, fields: &[NamedField], line: u32, text: &[u8], before: &[u8]) -> Told {
     if line <= 1 {
         return first_text(alloc);
     }
     if let Some(rest) = after(text, b"field ") {
-        return field_text(alloc, line, rest, before);
+        return field_text(alloc, fields, line, rest, before);
     }
     match after(text, b"answer") {
         Some(codes) => answer_text(alloc, line, codes, before),
@@ -239,11 +245,18 @@ fn ended_text(alloc: Global, line: u32, end: End) -> Told {
     }
 }
 
-/// Why a line of a case is none.
-pub fn case_hint(alloc: Global, line: u32, text: &[u8]) -> Told {
+fn place_text(alloc: Global, fields: &[NamedField], line: u32, text: &[u8]) -> Told {
     let place = place_of(text, line);
     match (end_of(&place), place.line) {
-        (End::Good, Some(bad)) => line_text(alloc, line, bad, place.before),
+        (End::Good, Some(bad)) => line_text(alloc, fields, line, bad, place.before),
         (end, _) => ended_text(alloc, line, end),
+    }
+}
+
+/// Why a line of a case is none, where the case is one for this script.
+pub fn case_hint(alloc: Global, line: u32, script: &[u8], text: &[u8]) -> Told {
+    match Script::read(alloc, script) {
+        Ok(script) => place_text(alloc, script.fields(), line, text),
+        Err(_) => place_text(alloc, &[], line, text),
     }
 }

@@ -5,6 +5,7 @@
 mod admitted;
 mod cases;
 mod certs;
+mod labels;
 mod orders;
 mod plans;
 mod runs;

@@ -1,6 +1,7 @@
 //! Which segment of a script leaves its account or its TAN process open, and what to write.
+use crate::labels::name_text;
 use fints_field_rows::NamedField;
-use fints_fields::{Field, Name};
+use fints_fields::Field;
 use fints_hint_words::places::Told;
 use fints_hint_words::quoting::Bare;
 use fints_rules::{AccountForm, OrderTable};
@@ -8,10 +9,6 @@ use fints_script::{PlanFault, Script, Step};
 use fints_syntax::Memory;
 use fints_templates::{Template, TemplateItem};
 use std::alloc::Global;
-
-fn shown_name(name: &Name) -> Bare<'_> {
-    Bare(std::str::from_utf8(name.as_bytes()).unwrap_or(""))
-}
 
 fn class_name(field: &Field) -> &'static str {
     match field {
@@ -34,7 +31,7 @@ fn items_of(template: &Template) -> &[TemplateItem] {
 fn field_text(alloc: Global, fields: &[NamedField], place: usize) -> Result<String, Memory> {
     match fields.get(place) {
         Some(field) => {
-            let name = shown_name(&field.name);
+            let name = name_text(&field.name);
             let class = class_name(&field.class);
             Ok(format!(in alloc; "${name}, a field of class {class}")?)
         }
@@ -69,7 +66,7 @@ fn place_text(
     template: &Template,
 ) -> Result<String, Memory> {
     let name = step.name();
-    let name = shown_name(&name);
+    let name = name_text(&name);
     let kind = Bare(std::str::from_utf8(template.kind.as_bytes()).unwrap_or(""));
     let version = template.version;
     Ok(format!(in alloc;

@@ -1,8 +1,7 @@
 //! Why a run has no message of a number.
+use crate::labels::name_text;
 use fints_cases::{Answer, Case};
-use fints_fields::Name;
 use fints_hint_words::places::Told;
-use fints_hint_words::quoting::Bare;
 use fints_script::{Script, Step, Target};
 use std::alloc::Global;
 
@@ -67,14 +66,10 @@ fn last_of(steps: &[Step], answers: &[Answer]) -> (Last, End) {
     (last, End::NoAnswer)
 }
 
-fn shown_name(name: &Name) -> Bare<'_> {
-    Bare(std::str::from_utf8(name.as_bytes()).unwrap_or(""))
-}
-
 fn end_text(alloc: Global, last: &Last, step: &Step, end: End) -> Told {
     let number = last.number;
     let name = step.name();
-    let name = shown_name(&name);
+    let name = name_text(&name);
     let repeat = step.repeat();
     let text = match end {
         End::NoAnswer => {

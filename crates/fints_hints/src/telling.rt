@@ -46,7 +46,7 @@ pub fn hint(alloc: Global, fault: &Fault, inputs: &Inputs<'_>) -> Result<Option<
         Fault::Orders(fault) => orders_hint(alloc, fault, inputs.orders),
         Fault::Script(fault) => script_hint(alloc, fault, inputs.script),
         Fault::Plan(fault) => plan_hint(alloc, fault, inputs.orders, inputs.script),
-        Fault::Case(CaseFault::Bad { line }) => case_hint(alloc, *line, inputs.case),
+        Fault::Case(CaseFault::Bad { line }) => case_hint(alloc, *line, inputs.script, inputs.case),
         Fault::Case(CaseFault::Memory) => Ok(None),
         Fault::NotAdmitted => admitted_hint(alloc, inputs.script, inputs.case),
         Fault::NoMessage { number } => run_hint(alloc, *number, inputs.script, inputs.case),

@@ -1,5 +1,5 @@
 //! Segments that can't stand at their place in a message.
-use crate::syntax::{Numbered, trouble};
+use crate::syntax::{Numbered, front_of, trouble};
 use fints_hint_words::quoting::Sample;
 use fints_messages::is_kind;
 use fints_syntax::{Kind, Memory, OwnedSegment, SegmentView, parse_number, parse_segment};
@@ -217,7 +217,7 @@ pub fn unread_text(alloc: Global, rest: &[u8], what: &str) -> Result<String, Mem
         return Ok(format!(in alloc; "the bytes end there, and {what} is missing")?);
     }
     let text = trouble(alloc, rest)?;
-    let front = Sample(rest.get(..20).unwrap_or(rest));
+    let front = Sample(front_of(rest));
     Ok(format!(in alloc; "there must stand {what}; what begins with {front}{text}")?)
 }
 

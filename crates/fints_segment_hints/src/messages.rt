@@ -2,7 +2,7 @@
 use crate::frames::{
     Walk, is_last, last_slip, message_number, named, order_slip, slip_at, unread_text, walk_from,
 };
-use crate::syntax::trouble;
+use crate::syntax::{front_of, trouble};
 use fints_hint_words::places::Told;
 use fints_hint_words::quoting::Sample;
 use fints_messages::{JudgeFault, is_kind};
@@ -82,7 +82,7 @@ fn no_segment(alloc: Global, bytes: &[u8]) -> Result<String, Memory> {
         return Ok(String::from_str(alloc, "there are no bytes")?);
     }
     let text = trouble(alloc, bytes)?;
-    let front = Sample(bytes.get(..20).unwrap_or(bytes));
+    let front = Sample(front_of(bytes));
     Ok(format!(in alloc; "a message begins with HNHBK; what begins with {front}{text}")?)
 }
 
@@ -96,8 +96,10 @@ fn start_text(alloc: Global, bytes: &[u8]) -> Result<String, Memory> {
 fn left_text(alloc: Global, bytes: &[u8], at: usize) -> Result<String, Memory> {
     let rest = bytes.get(at..).unwrap_or(&[]);
     let count = rest.len();
-    let front = Sample(rest);
-    Ok(format!(in alloc; "behind HNHBS, the last segment, stand {count} more bytes: {front}")?)
+    let front = Sample(front_of(rest));
+    Ok(format!(in alloc;
+        "behind HNHBS, the last segment, stand {count} more bytes, which begin with {front}"
+    )?)
 }
 
 // Why the data of an HNVSD are no inner segments.

@@ -93,7 +93,7 @@ impl Display for Begin<'_> {
             }
             (Some(_), None) => write!(f, "a segment {name}"),
             _ => {
-                let front = Sample(self.0.get(..20).unwrap_or(self.0));
+                let front = Sample(front_of(self.0));
                 write!(f, "what begins with {front}")
             }
         }
@@ -167,6 +167,12 @@ fn head_bytes(bytes: &[u8]) -> &[u8] {
     }
 }
 
+/// The first bytes, at most 20 and none behind a head: what follows may be a PIN or a TAN.
+pub fn front_of(bytes: &[u8]) -> &[u8] {
+    let head = head_bytes(bytes);
+    head.get(..20).unwrap_or(head)
+}
+
 fn is_number(text: &[u8]) -> bool {
     text.len() <= 3 && parse_number(text).is_some()
 }
@@ -201,7 +207,7 @@ fn head_cause(head: &[u8]) -> &'static str {
 fn head_text(alloc: Global, bytes: &[u8]) -> Result<String, Memory> {
     let head = head_bytes(bytes);
     let cause = head_cause(head);
-    let head = Sample(head);
+    let head = Sample(front_of(head));
     Ok(format!(in alloc; " has the head {head}: {cause}")?)
 }
 
