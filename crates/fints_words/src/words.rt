@@ -21,7 +21,7 @@ Statuses:
 Files:
   capture      what the bank sent: segments up to ', as bytes; HIBPA 3 and HIPINS 1 among them
   order table  TOML: for each order [[order]] with kind, version, account
-  script       TOML: [[field]], [[signer]], [seal] and the steps, [[step]]
+  script       TOML: seal = [..] first, then [[field]], [[signer]] and the steps, [[step]]
   case         lines: 'fints-case 1', 'field NAME HEX' for each field, 'answer CODE CODE ..'
   certificate  lines: 'fints-cert 1', 'step NAME NUMBER SIZE' or 'step NAME -' for each step
   message      the segments of one message, HNHBK to HNHBS, as bytes";
