@@ -98,12 +98,7 @@ fn run_admitted(
 }
 
 // The text of the run of a case, by a plan.
-fn run_planned(
-    alloc: Global,
-    plan: &Plan,
-    case: &[u8],
-    only: Option<u32>,
-) -> Result<Vec<u8>, Fault>
+fn run_planned(alloc: Global, plan: &Plan, case: &[u8], only: Option<u32>) -> Result<Vec<u8>, Fault>
     ensures told { IfOk result (λ text. TellsCase plan.now.script case.now only text.items) }
     ensures refused { IfErr result (λ f. IsCaseRefusal plan.now.script case.now only f) }
 {

@@ -197,7 +197,12 @@ fn replies(rt: HostRuntime) {
         }
     }
     let mut shelf = Shelf::new(&[], Quirk::None);
-    match perform(rt.alloc(), &Request::Show { params: "c1" }, &mut shelf, false) {
+    match perform(
+        rt.alloc(),
+        &Request::Show { params: "c1" },
+        &mut shelf,
+        false,
+    ) {
         Ok(_) => assert!(rt; false, "no file"),
         Err(refusal) => {
             assert_eq!(rt; refusal.failure.status(), 5);

@@ -37,7 +37,14 @@ fn one_message(rt: HostRuntime) -> Result<(), Fail> {
     let bytes = run_case(alloc, built_in::ORDERS, built_in::SCRIPT, CASE, Some(1))?;
     assert_eq!(rt; bytes.as_slice(), MESSAGE);
     for number in [0, 2, u32::MAX] {
-        let run = run_case(alloc, built_in::ORDERS, built_in::SCRIPT, CASE, Some(number)).err();
+        let run = run_case(
+            alloc,
+            built_in::ORDERS,
+            built_in::SCRIPT,
+            CASE,
+            Some(number),
+        )
+        .err();
         assert_eq!(rt; run, Some(Fault::NoMessage { number }));
     }
     Ok(())
@@ -51,7 +58,14 @@ fn refusals(rt: HostRuntime) {
     let judged = judge_message(alloc, built_in::CAPTURE, built_in::ORDERS, b"x").err();
     let no_message = JudgeFault::NotAMessage { offset: 0 };
     assert_eq!(rt; judged, Some(Fault::Message(no_message)));
-    let run = run_case(alloc, built_in::ORDERS, built_in::SCRIPT, b"fints-case 2", None).err();
+    let run = run_case(
+        alloc,
+        built_in::ORDERS,
+        built_in::SCRIPT,
+        b"fints-case 2",
+        None,
+    )
+    .err();
     assert_eq!(rt; run, Some(Fault::Case(CaseFault::Bad { line: 1 })));
 }
 
