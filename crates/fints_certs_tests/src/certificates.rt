@@ -1,14 +1,23 @@
 //! Certificates, row by row: what comes of a text, and the certificates of reports.
 ghost use Rattle.std.specs.Prelude.{◌≡◌};
 
+use crate::inputs::read_inputs;
 use fints_certs::{Certificate, certificate_of, verify};
 use fints_check::check;
-use fints_params::Params;
-use fints_rules::{OrderTable, Permissions};
+use fints_rules::Permissions;
 use fints_samples::{C, C1, END, FORK, SECOND_ACCOUNT, T};
-use fints_script::{Plan, Script};
+use fints_script::Plan;
 use std::alloc::Global;
 use std::test::*;
+
+// A certificate is written as it was read.
+fn written_again(alloc: Global, certificate: &Certificate, text: &[u8]) -> Result<(), Fail> {
+    let written = certificate.write(alloc)?;
+    if written.as_slice() != text {
+        return Err(Fail::from("written otherwise"));
+    }
+    Ok(())
+}
 
 // What comes of a text: whether the certificate is closed, or the line that is refused.
 fn outcome(
@@ -22,10 +31,7 @@ fn outcome(
     match Certificate::read(alloc, text) {
         Err(fault) => Ok(format!(in alloc; "{fault}")?),
         Ok(certificate) => {
-            let written = certificate.write(alloc)?;
-            if written.as_slice() != text {
-                return Err(Fail::from("written otherwise"));
-            }
+            written_again(alloc, &certificate, text)?;
             let closed = verify(permissions, plan, &certificate);
             Ok(format!(in alloc; "{closed}")?)
         }
@@ -33,11 +39,9 @@ fn outcome(
 }
 
 fn outcome_of(alloc: Global, capture: &[u8], script: &[u8], text: &[u8]) -> Result<String, Fail> {
-    let params = Params::read(alloc, capture)?;
-    let orders = OrderTable::read(alloc, T)?;
-    let permissions = Permissions::build(alloc, &params, &orders)?;
-    let script = Script::read(alloc, script)?;
-    let plan = script.plan(&orders)?;
+    let inputs = read_inputs(alloc, capture, T, script)?;
+    let permissions = Permissions::build(alloc, &inputs.params, &inputs.orders)?;
+    let plan = inputs.script.plan(&inputs.orders)?;
     outcome(alloc, &permissions, &plan, text)
 }
 
@@ -63,9 +67,9 @@ fn looked_at(
     let Some((text, wanted)) = row.split_once(" ; ") else {
         return Err(Fail::from("two parts"));
     };
+    let wanted = String::from_str(alloc, wanted)?;
     let text = with_feeds(alloc, text)?;
-    let found = outcome_of(alloc, capture, script, text.as_bytes())?;
-    Ok((found, String::from_str(alloc, wanted)?))
+    Ok((outcome_of(alloc, capture, script, text.as_bytes())?, wanted))
 }
 
 // Certificates for the script whose second step no run sends.
@@ -184,11 +188,9 @@ fn made(alloc: Global, permissions: &Permissions<'_>, plan: &Plan<'_>) -> Result
 }
 
 fn made_of(alloc: Global, capture: &[u8], script: &[u8]) -> Result<Vec<u8>, Fail> {
-    let params = Params::read(alloc, capture)?;
-    let orders = OrderTable::read(alloc, T)?;
-    let permissions = Permissions::build(alloc, &params, &orders)?;
-    let script = Script::read(alloc, script)?;
-    let plan = script.plan(&orders)?;
+    let inputs = read_inputs(alloc, capture, T, script)?;
+    let permissions = Permissions::build(alloc, &inputs.params, &inputs.orders)?;
+    let plan = inputs.script.plan(&inputs.orders)?;
     made(alloc, &permissions, &plan)
 }
 

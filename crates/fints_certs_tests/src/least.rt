@@ -2,12 +2,12 @@
 //! that names a step that runs send as unreached, they aren't closed.
 ghost use Rattle.std.specs.Prelude.{◌≡◌};
 
+use crate::inputs::read_inputs;
 use fints_certs::{Certificate, Line, Reached, certificate_of, verify};
 use fints_check::check;
-use fints_params::Params;
-use fints_rules::{OrderTable, Permissions};
+use fints_rules::Permissions;
 use fints_samples::{C1, T};
-use fints_script::{Plan, Script};
+use fints_script::Plan;
 use std::alloc::Global;
 use std::test::*;
 
@@ -140,11 +140,9 @@ fn reached_by(alloc: Global, permissions: &Permissions<'_>, plan: &Plan<'_>) -> 
 
 // How many steps of the script runs send.
 fn reached_of(alloc: Global, script: &[u8]) -> Result<usize, Fail> {
-    let params = Params::read(alloc, C1)?;
-    let orders = OrderTable::read(alloc, T)?;
-    let permissions = Permissions::build(alloc, &params, &orders)?;
-    let script = Script::read(alloc, script)?;
-    let plan = script.plan(&orders)?;
+    let inputs = read_inputs(alloc, C1, T, script)?;
+    let permissions = Permissions::build(alloc, &inputs.params, &inputs.orders)?;
+    let plan = inputs.script.plan(&inputs.orders)?;
     reached_by(alloc, &permissions, &plan)
 }
 

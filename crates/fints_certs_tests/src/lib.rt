@@ -4,6 +4,8 @@
 #[cfg(test)]
 mod certificates;
 #[cfg(test)]
+mod inputs;
+#[cfg(test)]
 mod least;
 #[cfg(test)]
 mod long_texts;

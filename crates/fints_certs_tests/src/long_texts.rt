@@ -36,12 +36,13 @@ fn many_names(rt: HostRuntime) -> Result<(), Fail> {
 // next one passes it.
 #[test]
 fn past_the_limit(rt: HostRuntime) -> Result<(), Fail> {
-    let text = lines(rt.alloc(), 74897)?;
-    assert_eq!(rt; told(rt.alloc(), text.as_str())?, Ok(74897));
-    let text = lines(rt.alloc(), 75000)?;
-    assert_eq!(rt;
-        told(rt.alloc(), text.as_str())?,
-        Err(CertFault::Bad { line: 74899 })
-    );
+    let rows = [
+        (74_897, Ok(74_897)),
+        (75_000, Err(CertFault::Bad { line: 74_899 })),
+    ];
+    for (count, wanted) in rows {
+        let text = lines(rt.alloc(), count)?;
+        assert_eq!(rt; told(rt.alloc(), text.as_str())?, wanted);
+    }
     Ok(())
 }

@@ -3,13 +3,14 @@
 //! report.
 ghost use Rattle.std.specs.Prelude.{◌≡◌};
 
+use crate::inputs::{Inputs, read_inputs};
 use crate::reports::{checked, ladder, told};
 use crate::small_scripts::{BANKS, HEAD, ORDERS, ROWS, VALUES, WORDS};
 use crate::ways::answers_to;
 use fints_check::{Finding, Reached};
-use fints_params::{Code, Params};
-use fints_rules::{Broken, OrderTable, Permissions, Rule, judge};
-use fints_script::{Answer, Plan, Script, Values};
+use fints_params::Code;
+use fints_rules::{Broken, Permissions, Rule, judge};
+use fints_script::{Answer, Plan, Values};
 use fints_wire::{Sent, run};
 use std::alloc::Global;
 use std::test::*;
@@ -340,20 +341,9 @@ fn sort(findings: &mut Vec<Finding>) -> Result<(), Fail> {
     Ok(())
 }
 
-#[derive(Drop)]
-struct Inputs {
-    params: Params,
-    orders: OrderTable,
-    script: Script,
-}
-
-fn read_inputs(alloc: Global, bank: &str, script: &[u8]) -> Result<Inputs, Fail> {
+fn read_by(alloc: Global, bank: &str, script: &[u8]) -> Result<Inputs, Fail> {
     let capture = meaning(BANKS, bank)?;
-    Ok(Inputs {
-        params: Params::read(alloc, capture.as_bytes())?,
-        orders: OrderTable::read(alloc, ORDERS)?,
-        script: Script::read(alloc, script)?,
-    })
+    read_inputs(alloc, capture.as_bytes(), ORDERS, script)
 }
 
 // What the check of a script tells, what its runs show, and what was seen.
@@ -382,10 +372,14 @@ fn shown_by(
     })
 }
 
+fn read_asked(alloc: Global, asked: &Asked<'_>) -> Result<Inputs, Fail> {
+    let text = script_text(alloc, asked.fields, asked.steps)?;
+    read_by(alloc, asked.bank, text.as_bytes())
+}
+
 fn compared_on_all(alloc: Global, row: &str) -> Result<Compared, Fail> {
     let asked = read_row(alloc, row)?;
-    let text = script_text(alloc, asked.fields, asked.steps)?;
-    let inputs = read_inputs(alloc, asked.bank, text.as_bytes())?;
+    let inputs = read_asked(alloc, &asked)?;
     let permissions = Permissions::build(alloc, &inputs.params, &inputs.orders)?;
     let plan = inputs.script.plan(&inputs.orders)?;
     let seen = see_all(alloc, &permissions, &plan, &asked)?;
@@ -435,7 +429,7 @@ fn see_way(alloc: Global, permissions: &Permissions<'_>, plan: &Plan<'_>) -> Res
 }
 
 fn compared_on_way(alloc: Global, text: &[u8]) -> Result<Compared, Fail> {
-    let inputs = read_inputs(alloc, "c1", text)?;
+    let inputs = read_by(alloc, "c1", text)?;
     let permissions = Permissions::build(alloc, &inputs.params, &inputs.orders)?;
     let plan = inputs.script.plan(&inputs.orders)?;
     let seen = see_way(alloc, &permissions, &plan)?;

@@ -1,30 +1,15 @@
 //! Cases, and whether they show a finding.
 ghost use Rattle.std.specs.Prelude.{◌≡◌};
 
+use crate::inputs::read_inputs;
 use crate::reports::ladder;
 use fints_check::{Finding, check, confirm};
-use fints_params::Params;
-use fints_rules::{OrderTable, Permissions, Rule};
+use fints_rules::{Permissions, Rule};
 use fints_samples::{C, C1, SECOND_ACCOUNT, T};
-use fints_script::{Case, Plan, Script};
+use fints_script::{Case, Plan};
 use fints_wire::run;
 use std::alloc::Global;
 use std::test::*;
-
-#[derive(Drop)]
-struct Inputs {
-    params: Params,
-    orders: OrderTable,
-    script: Script,
-}
-
-fn read_inputs(alloc: Global, capture: &[u8], script: &[u8]) -> Result<Inputs, Fail> {
-    Ok(Inputs {
-        params: Params::read(alloc, capture)?,
-        orders: OrderTable::read(alloc, T)?,
-        script: Script::read(alloc, script)?,
-    })
-}
 
 fn is_confirmed_by(
     alloc: Global,
@@ -39,7 +24,7 @@ fn is_confirmed_by(
 
 // Whether the case shows the finding by script `SECOND_ACCOUNT`.
 fn is_confirmed(alloc: Global, finding: &Finding, case: &[u8]) -> Result<bool, Fail> {
-    let inputs = read_inputs(alloc, C, SECOND_ACCOUNT)?;
+    let inputs = read_inputs(alloc, C, T, SECOND_ACCOUNT)?;
     let permissions = Permissions::build(alloc, &inputs.params, &inputs.orders)?;
     let plan = inputs.script.plan(&inputs.orders)?;
     is_confirmed_by(alloc, &permissions, &plan, finding, case)
@@ -108,7 +93,7 @@ fn replayed_first(
 }
 
 fn first_case(alloc: Global, text: &[u8]) -> Result<(usize, u32), Fail> {
-    let inputs = read_inputs(alloc, C1, text)?;
+    let inputs = read_inputs(alloc, C1, T, text)?;
     let permissions = Permissions::build(alloc, &inputs.params, &inputs.orders)?;
     let plan = inputs.script.plan(&inputs.orders)?;
     replayed_first(alloc, &permissions, &plan)

@@ -6,6 +6,8 @@ mod brute_force;
 #[cfg(test)]
 mod cases;
 #[cfg(test)]
+mod inputs;
+#[cfg(test)]
 mod numbers;
 #[cfg(test)]
 mod reports;

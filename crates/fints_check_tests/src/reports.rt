@@ -1,11 +1,11 @@
 //! Reports, row by row: what is found, and the greatest figures.
 ghost use Rattle.std.specs.Prelude.{◌≡◌, ◌<◌, length};
 
+use crate::inputs::read_inputs;
 use fints_check::{Finding, Reached, Report, check, confirm};
-use fints_params::Params;
-use fints_rules::{OrderTable, Permissions};
+use fints_rules::Permissions;
 use fints_samples::{C, C1, END, FORK, SECOND_ACCOUNT, T};
-use fints_script::{Case, Plan, Script};
+use fints_script::{Case, Plan};
 use std::alloc::Global;
 use std::test::*;
 
@@ -87,24 +87,22 @@ pub fn checked(
     requires { permissions.now.orders ≡ plan.now.orders }
 {
     let report = check(alloc, permissions, plan)?;
-    let figures = figures_of(alloc, plan, &report)?;
-    let told = told(alloc, figures.as_slice(), report.findings())?;
     if report.is_clean() != report.findings().is_empty() {
         return Err(Fail::from("clean"));
     }
     if !are_shown(alloc, permissions, plan, &report)? {
         return Err(Fail::from("a case that doesn't show its finding"));
     }
+    let figures = figures_of(alloc, plan, &report)?;
+    let told = told(alloc, figures.as_slice(), report.findings())?;
     Ok((told, report.visits()))
 }
 
 // What the check of a script tells.
 fn report_of(alloc: Global, capture: &[u8], text: &[u8]) -> Result<(String, u64), Fail> {
-    let params = Params::read(alloc, capture)?;
-    let orders = OrderTable::read(alloc, T)?;
-    let permissions = Permissions::build(alloc, &params, &orders)?;
-    let script = Script::read(alloc, text)?;
-    let plan = script.plan(&orders)?;
+    let inputs = read_inputs(alloc, capture, T, text)?;
+    let permissions = Permissions::build(alloc, &inputs.params, &inputs.orders)?;
+    let plan = inputs.script.plan(&inputs.orders)?;
     checked(alloc, &permissions, &plan)
 }
 
@@ -152,17 +150,27 @@ class = "digits", min = 0, max = 968 ;  ; 1 1024;
 class = "digits", min = 0, max = 969 ;  ; 1 1025;1 P3 size 0;
 "#;
 
+// What is told of the template with the row's first two parts, and what is wanted.
+fn looked_at<'a>(
+    alloc: Global,
+    capture: &[u8],
+    template: &str,
+    row: &'a str,
+) -> Result<(String, &'a str), Fail> {
+    let parts: Vec<&'a str> = row.split(" ; ").collect(alloc)?;
+    let [first, second, wanted] = parts.as_slice() else {
+        return Err(Fail::from("three parts"));
+    };
+    let text = filled(alloc, template, &[*first, *second])?;
+    let (found, _) = report_of(alloc, capture, text.as_bytes())?;
+    Ok((found, *wanted))
+}
+
 #[test]
 fn sizes(rt: HostRuntime) -> Result<(), Fail> {
-    let alloc = rt.alloc();
     for row in PADS.trim().lines() {
-        let parts: Vec<&str> = row.split(" ; ").collect(alloc)?;
-        let [field, rest, wanted] = parts.as_slice() else {
-            return Err(Fail::from("three parts"));
-        };
-        let text = filled(alloc, PADDED, &[*field, *rest])?;
-        let (found, _) = report_of(alloc, KILOBYTE, text.as_bytes())?;
-        assert_eq!(rt; found.as_str(), *wanted, "{row}");
+        let (found, wanted) = looked_at(rt.alloc(), KILOBYTE, PADDED, row)?;
+        assert_eq!(rt; found.as_str(), wanted, "{row}");
     }
     Ok(())
 }
@@ -198,16 +206,19 @@ fn without_figures(told: &str) -> &str {
 
 #[test]
 fn orders(rt: HostRuntime) -> Result<(), Fail> {
-    let alloc = rt.alloc();
     for row in ORDERS.trim().lines() {
-        let parts: Vec<&str> = row.split(" ; ").collect(alloc)?;
-        let [least, segments, wanted] = parts.as_slice() else {
-            return Err(Fail::from("three parts"));
-        };
-        let text = filled(alloc, SIGNED, &[*least, *segments])?;
-        let (found, _) = report_of(alloc, C, text.as_bytes())?;
-        assert_eq!(rt; without_figures(found.as_str()), *wanted, "{row}");
+        let (found, wanted) = looked_at(rt.alloc(), C, SIGNED, row)?;
+        assert_eq!(rt; without_figures(found.as_str()), wanted, "{row}");
     }
+    Ok(())
+}
+
+// Adds step si, which leads to another.
+fn push_rung(alloc: Global, text: &mut String, i: u16, next: u16) -> Result<(), Fail> {
+    let step = format!(in alloc;
+        "{{name = \"s{i}\", segments = [{{kind = \"HKEND\", version = 1, elements = [\"$dialog\"]}}], repeat = 51, branches = [{{on = \"0***\", to = \"again\"}}], default = \"s{next}\"}},\n"
+    )?;
+    text.push_str(step.as_str())?;
     Ok(())
 }
 
@@ -215,11 +226,7 @@ fn orders(rt: HostRuntime) -> Result<(), Fail> {
 pub fn ladder(alloc: Global, count: u16) -> Result<String, Fail> {
     let mut text = String::from_str(alloc, "step = [\n")?;
     for i in 1..count {
-        text.push_str(format!(in alloc;
-            "{{name = \"s{i}\", segments = [{{kind = \"HKEND\", version = 1, elements = [\"$dialog\"]}}], repeat = 51, branches = [{{on = \"0***\", to = \"again\"}}], default = \"s{}\"}},\n",
-            i + 1
-        )?
-        .as_str())?;
+        push_rung(alloc, &mut text, i, i + 1)?;
     }
     text.push_str(format!(in alloc;
         "{{name = \"s{count}\", segments = [{{kind = \"HKEND\", version = 1, elements = [\"$dialog\"]}}], repeat = 51, branches = [{{on = \"0***\", to = \"again\"}}]}}]"

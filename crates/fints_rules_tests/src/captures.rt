@@ -2,6 +2,7 @@
 use fints_params::{Code, ParamFault, Params, Usage, feedback_codes};
 use fints_samples::{C, C1};
 use fints_syntax::{SyntaxFault, SyntaxKind};
+use std::alloc::Global;
 use std::test::*;
 
 fn incomplete(offset: usize) -> ParamFault {
@@ -14,13 +15,25 @@ fn bad(segment: u16, element: usize) -> ParamFault {
 }
 
 #[test]
-fn rows(rt: HostRuntime) -> Result<(), Fail> {
+fn bank_rows(rt: HostRuntime) -> Result<(), Fail> {
     let params = Params::read(rt.alloc(), C)?;
     assert_eq!(rt; params.bank().code.as_slice(), b"10020030".as_slice());
     assert_eq!(rt; params.bank().protocols.as_slice(), [300].as_slice());
+    Ok(())
+}
+
+#[test]
+fn counts(rt: HostRuntime) -> Result<(), Fail> {
+    let params = Params::read(rt.alloc(), C)?;
     assert_eq!(rt; params.pins().len(), 3);
     assert_eq!(rt; params.usage(), Usage::Locked);
     assert_eq!(rt; params.skipped(), 0);
+    Ok(())
+}
+
+#[test]
+fn order_rows(rt: HostRuntime) -> Result<(), Fail> {
+    let params = Params::read(rt.alloc(), C)?;
     let [_, _, statement, _, _] = params.orders() else {
         return Err(Fail::from("five orders"));
     };
@@ -29,6 +42,12 @@ fn rows(rt: HostRuntime) -> Result<(), Fail> {
         (statement.version, statement.orders, statement.signatures),
         (5, 20, 1)
     );
+    Ok(())
+}
+
+#[test]
+fn account_rows(rt: HostRuntime) -> Result<(), Fail> {
+    let params = Params::read(rt.alloc(), C)?;
     let [_, second] = params.accounts() else {
         return Err(Fail::from("two accounts"));
     };
@@ -74,19 +93,29 @@ fn fronts(rt: HostRuntime) {
     }
 }
 
-// 70 segments of 19,000 elements that are no entries, nearly 4 MiB.
-#[test]
-fn many_elements(rt: HostRuntime) -> Result<(), Fail> {
-    let alloc = rt.alloc();
+// Adds a segment of 19,000 elements that are no entries.
+fn push_account(capture: &mut Vec<u8>) -> Result<(), Fail> {
+    capture.extend_from_slice(b"HIUPD:5:6++++++++++")?;
+    for _ in 0..19_000 {
+        capture.extend_from_slice(b"ab+")?;
+    }
+    capture.push(b'\'')?;
+    Ok(())
+}
+
+// 70 such segments, nearly 4 MiB.
+fn wide_accounts(alloc: Global) -> Result<Vec<u8>, Fail> {
     let mut capture = C1.to_vec(alloc)?;
     for _ in 0..70 {
-        capture.extend_from_slice(b"HIUPD:5:6++++++++++")?;
-        for _ in 0..19_000 {
-            capture.extend_from_slice(b"ab+")?;
-        }
-        capture.push(b'\'')?;
+        push_account(&mut capture)?;
     }
-    let params = Params::read(alloc, capture.as_slice())?;
+    Ok(capture)
+}
+
+#[test]
+fn many_elements(rt: HostRuntime) -> Result<(), Fail> {
+    let capture = wide_accounts(rt.alloc())?;
+    let params = Params::read(rt.alloc(), capture.as_slice())?;
     assert_eq!(rt; params.accounts().len(), 70);
     assert_eq!(rt; params.skipped(), 1_330_000);
     Ok(())
@@ -94,11 +123,15 @@ fn many_elements(rt: HostRuntime) -> Result<(), Fail> {
 
 #[test]
 fn codes(rt: HostRuntime) -> Result<(), Fail> {
-    let alloc = rt.alloc();
     let feedback = b"HIRMG:2:2+0010::Received'HIRMS:3:2:4+0030::TAN++3060::Note'";
-    let found = feedback_codes(alloc, feedback)?;
-    let numbers: Vec<u16> = found.iter().map(|code| code.number()).collect(alloc)?;
+    let found = feedback_codes(rt.alloc(), feedback)?;
+    let numbers: Vec<u16> = found.iter().map(|code| code.number()).collect(rt.alloc())?;
     assert_eq!(rt; numbers.as_slice(), [10, 30, 3060].as_slice());
+    Ok(())
+}
+
+#[test]
+fn code_faults(rt: HostRuntime) {
     let rows: [(&[u8], ParamFault); 4] = [
         (
             b"HIRMG:2:2+0010::Received'HIRMS:3:2:4+30::TAN+3060::Note'",
@@ -109,14 +142,14 @@ fn codes(rt: HostRuntime) -> Result<(), Fail> {
         (b"HNVSD:999:1+@14@HIRMG:2:2+x'HI'", incomplete(28)),
     ];
     for (message, fault) in rows {
-        assert_eq!(rt;
-            feedback_codes(alloc, message).err(),
-            Some(fault),
-            "{message:?}"
-        );
+        let found = feedback_codes(rt.alloc(), message).err();
+        assert_eq!(rt; found, Some(fault), "{message:?}");
     }
+}
+
+#[test]
+fn code_numbers(rt: HostRuntime) {
     assert_eq!(rt; Code::from_number(30), Code::parse(b"0030"));
     assert_eq!(rt; Code::from_number(9999), Code::parse(b"9999"));
     assert_eq!(rt; Code::from_number(10000), None);
-    Ok(())
 }

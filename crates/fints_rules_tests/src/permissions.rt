@@ -13,11 +13,26 @@ fn kind(text: &[u8]) -> Result<Kind, Fail> {
     Ok(Kind::parse(text).ok_or("kind")?)
 }
 
-// The parameters of the capture and of more segments.
-fn params(alloc: Global, capture: &[u8], more: &[u8]) -> Result<Params, Fail> {
+// A bank's parameters and the order table.
+#[derive(Drop)]
+struct Bank {
+    params: Params,
+    orders: OrderTable,
+}
+
+fn joined(alloc: Global, capture: &[u8], more: &[u8]) -> Result<Vec<u8>, Fail> {
     let mut whole = capture.to_vec(alloc)?;
     whole.extend_from_slice(more)?;
-    Ok(Params::read(alloc, whole.as_slice())?)
+    Ok(whole)
+}
+
+// The bank of the capture and of more segments.
+fn bank(alloc: Global, capture: &[u8], more: &[u8]) -> Result<Bank, Fail> {
+    let whole = joined(alloc, capture, more)?;
+    Ok(Bank {
+        params: Params::read(alloc, whole.as_slice())?,
+        orders: OrderTable::read(alloc, T)?,
+    })
 }
 
 fn limits_of(
@@ -27,10 +42,10 @@ fn limits_of(
     order: &[u8],
     version: u16,
 ) -> Result<Option<Limits>, Fail> {
-    let orders = OrderTable::read(alloc, T)?;
-    let params = params(alloc, capture, more)?;
-    let permissions = Permissions::build(alloc, &params, &orders)?;
-    Ok(permissions.limits(kind(order)?, version))
+    let order = kind(order)?;
+    let bank = bank(alloc, capture, more)?;
+    let permissions = Permissions::build(alloc, &bank.params, &bank.orders)?;
+    Ok(permissions.limits(order, version))
 }
 
 fn of(orders: u32, signatures: u32) -> Option<Limits> {
@@ -55,10 +70,10 @@ fn limits(rt: HostRuntime) -> Result<(), Fail> {
 
 // What the least bank demands of an order, where more pairs say J and N.
 fn demand_of(alloc: Global, order: &[u8]) -> Result<Demand, Fail> {
-    let orders = OrderTable::read(alloc, T)?;
-    let params = params(alloc, C1, b"HIPINS:9:1+1+1+0+5:38:6:::HKKAZ:J:HKCCS:N'")?;
-    let permissions = Permissions::build(alloc, &params, &orders)?;
-    Ok(permissions.demand(kind(order)?))
+    let order = kind(order)?;
+    let bank = bank(alloc, C1, b"HIPINS:9:1+1+1+0+5:38:6:::HKKAZ:J:HKCCS:N'")?;
+    let permissions = Permissions::build(alloc, &bank.params, &bank.orders)?;
+    Ok(permissions.demand(order))
 }
 
 // J holds where some pair says it, before or behind an N.
@@ -80,9 +95,8 @@ fn demands(rt: HostRuntime) -> Result<(), Fail> {
 #[test]
 fn parts(rt: HostRuntime) -> Result<(), Fail> {
     let order = kind(b"HKSAL")?;
-    let orders = OrderTable::read(rt.alloc(), T)?;
-    let params = Params::read(rt.alloc(), C1)?;
-    let permissions = Permissions::build(rt.alloc(), &params, &orders)?;
+    let bank = bank(rt.alloc(), C1, b"")?;
+    let permissions = Permissions::build(rt.alloc(), &bank.params, &bank.orders)?;
     assert_eq!(rt; permissions.bank().kinds, 1);
     assert_eq!(rt;
         permissions.form(order, 7),
@@ -114,10 +128,10 @@ fn permit(
     account: &AccountKey<'_>,
     signatures: usize,
 ) -> Result<Permit, Fail> {
-    let orders = OrderTable::read(alloc, T)?;
-    let params = params(alloc, capture, more)?;
-    let permissions = Permissions::build(alloc, &params, &orders)?;
-    Ok(permissions.permit(kind(order)?, account, signatures))
+    let order = kind(order)?;
+    let bank = bank(alloc, capture, more)?;
+    let permissions = Permissions::build(alloc, &bank.params, &bank.orders)?;
+    Ok(permissions.permit(order, account, signatures))
 }
 
 // A balance of a national account.
@@ -178,9 +192,8 @@ const UNSIGNED: &[u8] =
 
 // What the least bank says of a message.
 fn judged_by(alloc: Global, message: &[u8]) -> Result<Result<Vec<Broken>, JudgeFault>, Fail> {
-    let orders = OrderTable::read(alloc, T)?;
-    let params = Params::read(alloc, C1)?;
-    let permissions = Permissions::build(alloc, &params, &orders)?;
+    let bank = bank(alloc, C1, b"")?;
+    let permissions = Permissions::build(alloc, &bank.params, &bank.orders)?;
     Ok(judge(alloc, &permissions, message))
 }
 
@@ -215,6 +228,12 @@ fn messages(rt: HostRuntime) -> Result<(), Fail> {
     let message = read_message(rt.alloc(), END_MESSAGE)?;
     assert_eq!(rt; (message.size(), message.number()), (55, 1));
     assert_eq!(rt; message.protocol(), Some(300));
+    Ok(())
+}
+
+#[test]
+fn message_parts(rt: HostRuntime) -> Result<(), Fail> {
+    let message = read_message(rt.alloc(), END_MESSAGE)?;
     assert_eq!(rt; message.body().len(), 1);
     assert_eq!(rt; message.ends().len(), 0);
     Ok(())

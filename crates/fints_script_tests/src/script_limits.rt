@@ -174,6 +174,14 @@ field = [{name = "t", class = "text", min = 0, max = 10000},
   {name = "d", class = "digits", min = 0, max = 10000},
   {name = "e", class = "digits", min = 0, max = "#;
 
+// A step whose first segment has 49 texts of 10,000 bytes, and more.
+fn heavy(alloc: Global, digits: &str, after: &str) -> Result<String, Fail> {
+    let before = format!(in alloc;
+        "{BEFORE_DIGITS}{digits}}}]\nstep = [{{name = \"a\", segments = [{{kind = \"HKEND\", version = 1, elements = ["
+    )?;
+    repeated(alloc, before.as_str(), r#""$t","#, 49, after)
+}
+
 // A step whose first segment has 49 texts of 10,000 bytes, which weighs 980,064, and more: with so
 // many digits it weighs 1,000,000, and with so many more.
 #[test]
@@ -191,10 +199,7 @@ fn weights(rt: HostRuntime) -> Result<(), Fail> {
     ];
     for (most, past, after) in rows {
         for (digits, wanted) in [(most, "read"), (past, "Limit step 1")] {
-            let before = format!(in rt.alloc();
-                "{BEFORE_DIGITS}{digits}}}]\nstep = [{{name = \"a\", segments = [{{kind = \"HKEND\", version = 1, elements = ["
-            )?;
-            let text = repeated(rt.alloc(), before.as_str(), r#""$t","#, 49, after)?;
+            let text = heavy(rt.alloc(), digits, after)?;
             let found = fault_of(rt.alloc(), text.as_str())?;
             assert_eq!(rt; found.as_str(), wanted, "{after}");
         }
@@ -219,6 +224,11 @@ fn two_hundred_steps(rt: HostRuntime) -> Result<(), Fail> {
     let text = steps(rt.alloc(), 200)?;
     let script = Script::read(rt.alloc(), text.as_bytes())?;
     assert_eq!(rt; script.steps().len(), 200);
+    Ok(())
+}
+
+#[test]
+fn one_step_more(rt: HostRuntime) -> Result<(), Fail> {
     let text = steps(rt.alloc(), 201)?;
     let found = fault_of(rt.alloc(), text.as_str())?;
     assert_eq!(rt; found.as_str(), "Limit top");

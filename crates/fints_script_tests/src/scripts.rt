@@ -8,8 +8,20 @@ use fints_syntax::OwnedItem;
 use std::alloc::{AllocError, Global};
 use std::test::*;
 
-// Elements as a text: `:` behind each item, and `+` behind each element. `dialog` stands in angle
-// brackets, a field by its place in brackets, a binary item behind `@`.
+// An item with `:` behind it. `dialog` stands in angle brackets, a field by its place in brackets, a
+// binary item behind `@`.
+fn push_item(alloc: Global, out: &mut Vec<u8>, item: &TemplateItem) -> Result<(), Fail> {
+    match item {
+        TemplateItem::Dialog => out.extend_from_slice(b"<dialog>")?,
+        TemplateItem::Field(place) => push_text(out, format!(in alloc; "[{place}]"))?,
+        TemplateItem::Literal(OwnedItem::Text(text)) => out.extend_from_slice(text.as_slice())?,
+        TemplateItem::Literal(OwnedItem::Bin(bytes)) => push_word(out, b"@", bytes.as_slice())?,
+    }
+    out.push(b':')?;
+    Ok(())
+}
+
+// Elements as a text, with `+` behind each.
 fn push_elements(
     alloc: Global,
     out: &mut Vec<u8>,
@@ -20,18 +32,7 @@ fn push_elements(
     }
     for items in elements.as_slice() {
         for item in items.as_slice() {
-            match item {
-                TemplateItem::Dialog => out.extend_from_slice(b"<dialog>")?,
-                TemplateItem::Field(place) => push_text(out, format!(in alloc; "[{place}]"))?,
-                TemplateItem::Literal(OwnedItem::Text(text)) => {
-                    out.extend_from_slice(text.as_slice())?
-                }
-                TemplateItem::Literal(OwnedItem::Bin(bytes)) => {
-                    out.push(b'@')?;
-                    out.extend_from_slice(bytes.as_slice())?;
-                }
-            }
-            out.push(b':')?;
+            push_item(alloc, out, item)?;
         }
         out.push(b'+')?;
     }
@@ -125,6 +126,14 @@ fn push_script(alloc: Global, out: &mut Vec<u8>, script: &Script) -> Result<(), 
     Ok(())
 }
 
+// The parts of a script, as a text.
+fn shown(alloc: Global, text: &[u8]) -> Result<Vec<u8>, Fail> {
+    let script = Script::read(alloc, text)?;
+    let mut out = Vec::new(alloc);
+    push_script(alloc, &mut out, &script)?;
+    Ok(out)
+}
+
 const END_SHOWN: &[u8] = b"field dialog text 1 30
 step end sealed false signers [] repeat 1 default Stop
 HKEND 1 <dialog>:+
@@ -211,9 +220,7 @@ fn parts(rt: HostRuntime) -> Result<(), Fail> {
         (RICH.as_bytes(), RICH_SHOWN),
     ];
     for (text, wanted) in rows {
-        let script = Script::read(rt.alloc(), text)?;
-        let mut found = Vec::new(rt.alloc());
-        push_script(rt.alloc(), &mut found, &script)?;
+        let found = shown(rt.alloc(), text)?;
         assert_eq!(rt; found.as_slice(), wanted);
     }
     Ok(())

@@ -16,17 +16,26 @@ const SENT: &[u8] =
     b"message 1 step end size 55\nHNHBK:1:3+000000000055+300+0+1'HKEND:2:1+0'HNHBS:3:1+1'\n";
 
 #[test]
-fn answers(rt: HostRuntime) -> Result<(), Fail> {
-    let alloc = rt.alloc();
-    let text = show(alloc, built_in::CAPTURE)?;
+fn shown(rt: HostRuntime) -> Result<(), Fail> {
+    let text = show(rt.alloc(), built_in::CAPTURE)?;
     assert_eq!(rt;
         text.as_slice(),
         b"bank 280 10020030 kinds 1 kilobytes 0 protocols 300\npin HKSAL N\npin HKKAZ N\npin HKCCS J\nusage 0\nskipped 0\n".as_slice()
     );
-    let reply = judge_message(alloc, built_in::CAPTURE, built_in::ORDERS, MESSAGE)?;
+    Ok(())
+}
+
+#[test]
+fn judged(rt: HostRuntime) -> Result<(), Fail> {
+    let reply = judge_message(rt.alloc(), built_in::CAPTURE, built_in::ORDERS, MESSAGE)?;
     assert_eq!(rt; reply.status, 0);
     assert_eq!(rt; reply.text.as_slice(), b"permitted\n".as_slice());
-    let text = run_case(alloc, built_in::ORDERS, built_in::SCRIPT, CASE, None)?;
+    Ok(())
+}
+
+#[test]
+fn sent(rt: HostRuntime) -> Result<(), Fail> {
+    let text = run_case(rt.alloc(), built_in::ORDERS, built_in::SCRIPT, CASE, None)?;
     assert_eq!(rt; text.as_slice(), SENT);
     Ok(())
 }
@@ -101,33 +110,46 @@ fn assert_run(
     assert_eq!(rt; got, status);
 }
 
-// A text of 1,048,576 bytes is read, and no longer one. The third line of a case is no LF.
+// A text of 1,048,576 bytes is read, and no longer one.
 #[test]
-fn longest_texts(rt: HostRuntime) -> Result<(), Fail> {
-    let rows: [(usize, u8, u8, [&[u8]; 3]); 2] = [
-        (1_048_576, 0, 3, [b"", b"", b"error: case line 3\n"]),
-        (
-            1_048_577,
-            5,
-            5,
-            [
-                b"error: read --orders\n",
-                b"error: read --script\n",
-                b"error: read --case\n",
-            ],
-        ),
+fn longest_order_tables(rt: HostRuntime) -> Result<(), Fail> {
+    let rows: [(usize, u8, &[u8]); 2] = [
+        (1_048_576, 0, b""),
+        (1_048_577, 5, b"error: read --orders\n"),
     ];
-    for (len, status, case_status, errors) in rows {
-        let [of_orders, of_script, of_case] = errors;
+    for (len, status, errors) in rows {
         let orders = padded(rt.alloc(), built_in::ORDERS, len)?;
         let texts = (orders.as_slice(), built_in::SCRIPT, CASE);
-        assert_run(&rt, rt.alloc(), texts, status, of_orders);
+        assert_run(&rt, rt.alloc(), texts, status, errors);
+    }
+    Ok(())
+}
+
+#[test]
+fn longest_scripts(rt: HostRuntime) -> Result<(), Fail> {
+    let rows: [(usize, u8, &[u8]); 2] = [
+        (1_048_576, 0, b""),
+        (1_048_577, 5, b"error: read --script\n"),
+    ];
+    for (len, status, errors) in rows {
         let script = padded(rt.alloc(), built_in::SCRIPT, len)?;
         let texts = (built_in::ORDERS, script.as_slice(), CASE);
-        assert_run(&rt, rt.alloc(), texts, status, of_script);
+        assert_run(&rt, rt.alloc(), texts, status, errors);
+    }
+    Ok(())
+}
+
+// The third line of a case is no LF.
+#[test]
+fn longest_cases(rt: HostRuntime) -> Result<(), Fail> {
+    let rows: [(usize, u8, &[u8]); 2] = [
+        (1_048_576, 3, b"error: case line 3\n"),
+        (1_048_577, 5, b"error: read --case\n"),
+    ];
+    for (len, status, errors) in rows {
         let case = padded(rt.alloc(), CASE, len)?;
         let texts = (built_in::ORDERS, built_in::SCRIPT, case.as_slice());
-        assert_run(&rt, rt.alloc(), texts, case_status, of_case);
+        assert_run(&rt, rt.alloc(), texts, status, errors);
     }
     Ok(())
 }

@@ -2,6 +2,7 @@
 use crate::samples::{name, values};
 use fints_params::Code;
 use fints_script::{Answer, Case, CaseFault};
+use std::alloc::Global;
 use std::test::*;
 
 const VALUES: &[u8] =
@@ -53,13 +54,28 @@ fn one_code(rt: HostRuntime) -> Result<(), Fail> {
 // Of a name twice the first value counts.
 #[test]
 fn first_values(rt: HostRuntime) -> Result<(), Fail> {
+    let (tan, pin) = (name(b"tan")?, name(b"pin")?);
     let values = values(rt.alloc(), &[(b"tan", b"7"), (b"tan", b"8")])?;
     assert_eq!(rt; values.pairs().len(), 2);
-    assert_eq!(rt; values.get(name(b"tan")?), Some(b"7".as_slice()));
-    assert_eq!(rt; values.get(name(b"pin")?), None);
+    assert_eq!(rt; values.get(tan), Some(b"7".as_slice()));
+    assert_eq!(rt; values.get(pin), None);
+    Ok(())
+}
+
+#[test]
+fn unknown_versions(rt: HostRuntime) {
     let fault = Case::read(rt.alloc(), b"fints-case 2").err();
     assert_eq!(rt; fault, Some(CaseFault::Bad { line: 1 }));
-    Ok(())
+}
+
+// A case with one value of so many bytes, as it is written.
+fn long_text(alloc: Global, bytes: usize) -> Result<Vec<u8>, Fail> {
+    let value = vec![in alloc; b'0'; bytes]?;
+    let case = Case {
+        values: values(alloc, &[(b"dialog", value.as_slice())])?,
+        answers: Vec::new(alloc),
+    };
+    Ok(case.write(alloc)?)
 }
 
 // A case with one long value is read up to 1,048,576 bytes, and can be longer when it is written.
@@ -70,12 +86,7 @@ fn longest_case(rt: HostRuntime) -> Result<(), Fail> {
         (524_275, 1_048_577, Some(CaseFault::Bad { line: 2 })),
     ];
     for (bytes, len, fault) in rows {
-        let value = vec![in rt.alloc(); b'0'; bytes]?;
-        let case = Case {
-            values: values(rt.alloc(), &[(b"dialog", value.as_slice())])?,
-            answers: Vec::new(rt.alloc()),
-        };
-        let text = case.write(rt.alloc())?;
+        let text = long_text(rt.alloc(), bytes)?;
         assert_eq!(rt; text.len(), len);
         assert_eq!(rt; Case::read(rt.alloc(), text.as_slice()).err(), fault);
     }

@@ -16,6 +16,19 @@ fn message(alloc: Global, plan: &Plan, number: u32, values: &Values) -> Result<V
     Ok(build(alloc, plan, 1, number, values)?)
 }
 
+// That of a script, for the values of these pairs.
+fn message_of(
+    alloc: Global,
+    script: &[u8],
+    number: u32,
+    pairs: &[(&[u8], &[u8])],
+) -> Result<Vec<u8>, Fail> {
+    let orders = OrderTable::read(alloc, T)?;
+    let script = Script::read(alloc, script)?;
+    let values = values(alloc, pairs)?;
+    message(alloc, &script.plan(&orders)?, number, &values)
+}
+
 const TRANSFER: &[u8] = br#"
 field = [{name = "acct", class = "account", values = [["DE111", "x+y"], ["DE222", "z"]]}]
 step = [{name = "pay", segments = [{kind = "HKCCS", version = 1, elements = ["$acct", ["$dialog", "%00"]]}]}]
@@ -38,12 +51,8 @@ fn built(rt: HostRuntime) -> Result<(), Fail> {
         ),
         (SEALED_END, 1, &[(b"dialog", b"D")], SEALED_1),
     ];
-    let orders = OrderTable::read(rt.alloc(), T)?;
     for (text, number, pairs, wanted) in rows {
-        let script = Script::read(rt.alloc(), text)?;
-        let plan = script.plan(&orders)?;
-        let values = values(rt.alloc(), pairs)?;
-        let bytes = message(rt.alloc(), &plan, number, &values)?;
+        let bytes = message_of(rt.alloc(), text, number, pairs)?;
         assert_eq!(rt; bytes.as_slice(), wanted);
     }
     Ok(())
@@ -58,14 +67,10 @@ step = [{name = "end", sealed = true, segments = [{kind = "HKEND", version = 1, 
 // The length of what is sealed has three digits, and then four.
 #[test]
 fn sealed_pads(rt: HostRuntime) -> Result<(), Fail> {
-    let alloc = rt.alloc();
-    let script = Script::read(alloc, SEALED_PAD)?;
-    let orders = OrderTable::read(alloc, T)?;
-    let plan = script.plan(&orders)?;
     for (zeros, len) in [(986, 1156), (987, 1158)] {
-        let pad = vec![in alloc; b'0'; zeros]?;
-        let values = values(alloc, &[(b"dialog", b"D"), (b"pad", pad.as_slice())])?;
-        let bytes = message(alloc, &plan, 1, &values)?;
+        let pad = vec![in rt.alloc(); b'0'; zeros]?;
+        let pairs: [(&[u8], &[u8]); 2] = [(b"dialog", b"D"), (b"pad", pad.as_slice())];
+        let bytes = message_of(rt.alloc(), SEALED_PAD, 1, &pairs)?;
         assert_eq!(rt; bytes.len(), len);
     }
     Ok(())

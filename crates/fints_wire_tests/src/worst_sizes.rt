@@ -89,14 +89,18 @@ fn worst_choice(rt: HostRuntime) -> Result<(), Fail> {
     Ok(())
 }
 
+fn least_of(alloc: Global, script: &[u8]) -> Result<Vec<u8>, Fail> {
+    let orders = OrderTable::read(alloc, T)?;
+    let script = Script::read(alloc, script)?;
+    let least = least_values(alloc, &script.plan(&orders)?)?;
+    text_of(alloc, &least)
+}
+
 #[test]
 fn least_choice(rt: HostRuntime) -> Result<(), Fail> {
-    let alloc = rt.alloc();
-    let orders = OrderTable::read(alloc, T)?;
-    let script = Script::read(alloc, BALANCE)?;
-    let least = least_values(alloc, &script.plan(&orders)?)?;
+    let found = least_of(rt.alloc(), BALANCE)?;
     let wanted = b"dialog=A pin=00000 tan= ".as_slice();
-    assert_eq!(rt; text_of(alloc, &least)?.as_slice(), wanted);
+    assert_eq!(rt; found.as_slice(), wanted);
     Ok(())
 }
 
@@ -150,16 +154,20 @@ fn script_of(alloc: Global, row: &str, sealed: bool) -> Result<Script, Fail> {
     Ok(Script::read(alloc, text.as_bytes())?)
 }
 
+fn is_attained_by(alloc: Global, row: &str, sealed: bool) -> Result<bool, Fail> {
+    let orders = OrderTable::read(alloc, T)?;
+    let script = script_of(alloc, row, sealed)?;
+    let plan = script.plan(&orders)?;
+    let worst = worst_values(alloc, &plan)?;
+    are_attained(alloc, &plan, &worst)
+}
+
 #[test]
 fn attained_sizes(rt: HostRuntime) -> Result<(), Fail> {
-    let alloc = rt.alloc();
-    let orders = OrderTable::read(alloc, T)?;
     for row in SCRIPTS.trim().lines() {
         for sealed in [false, true] {
-            let script = script_of(alloc, row, sealed)?;
-            let plan = script.plan(&orders)?;
-            let worst = worst_values(alloc, &plan)?;
-            assert!(rt; are_attained(alloc, &plan, &worst)?, "{row}");
+            let is_attained = is_attained_by(rt.alloc(), row, sealed)?;
+            assert!(rt; is_attained, "{row}");
         }
     }
     Ok(())
