@@ -1,10 +1,11 @@
 -- The plan that the texts of an order table and of a script give together, and why they give none.
 use Rattle.std.specs.Prelude.{ℕ, List}
 use Rattle.fints_rules.specs.declared.orders.OrderRow.{OrderRow}
-use Rattle.fints_rules.specs.Orders.{DenotesTable, IsTableFault}
+use Rattle.fints_rules.specs.Orders.{DenotesTable}
 use Rattle.fints_script.specs.Plans.{IsClosed, IsPlanFault}
 use Rattle.fints_script.specs.Scripts.{ScriptValue, Denotes, IsFirstOf}
 use Rattle.fints_script.specs.declared.opens.PlanFault.{PlanFault}
+use Rattle.fints_texts.specs.Judge.{IsTableRefusal}
 use Rattle.fints_texts.specs.declared.fault.Fault.{Fault}
 use Rattle.fints_texts.specs.declared.fault.Fault.TheVariants.{Memory, Orders, Script, Plan}
 
@@ -26,7 +27,7 @@ pub record IsLeftOpen (orders script : List ℕ) (f : PlanFault) : Type 0 where
 -- want of memory, or the first refusal: of the order table, of the script, of what it leaves open
 abbrev pub IsPlanRefusal : List ℕ → List ℕ → Fault → Type 0
 IsPlanRefusal orders script Memory = Unit {0}
-IsPlanRefusal orders script (Orders f) = IsTableFault orders f
+IsPlanRefusal orders script (Orders f) = IsTableRefusal orders f
 IsPlanRefusal orders script (Script f) = ((table : List OrderRow) × DenotesTable orders table) × IsFirstOf script f
 IsPlanRefusal orders script (Plan f) = IsLeftOpen orders script f
 IsPlanRefusal orders script _ = ⊥

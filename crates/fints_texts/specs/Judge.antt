@@ -7,8 +7,12 @@ use Rattle.fints_params.specs.Captures.{IsParamsOf, IsParamFault}
 use Rattle.fints_rules.specs.declared.orders.OrderRow.{OrderRow}
 use Rattle.fints_rules.specs.declared.rule.Broken.{Broken}
 use Rattle.fints_rules.specs.Orders.{DenotesTable, IsTableFault}
+use Rattle.fints_rules.specs.declared.orders.TableFault.{TableFault}
+use Rattle.fints_rules.specs.declared.orders.TableFault.TheVariants as table_faults
 use Rattle.fints_rules.specs.Breaks.{IsJudged}
 use Rattle.fints_messages.specs.Read.{IsRefusal}
+use Rattle.fints_messages.specs.declared.message.JudgeFault.{JudgeFault}
+use Rattle.fints_messages.specs.declared.message.JudgeFault.TheVariants as message_faults
 use Rattle.fints_rules.specs.RuleNames.{rule_name}
 use Rattle.fints_texts.specs.declared.fault.Fault.{Fault}
 use Rattle.fints_texts.specs.declared.fault.Fault.TheVariants.{Memory, Params, Orders, Message}
@@ -50,16 +54,26 @@ pub record AreGood (params orders : List ℕ) : Type 0 where
   pub rows_are : IsParamsOf params rows
   pub table_is : DenotesTable orders table
 
+-- why an order table is refused, which is never want of memory
+abbrev pub IsTableRefusal : List ℕ → TableFault → Type 0
+IsTableRefusal orders table_faults.Memory = ⊥
+IsTableRefusal orders f = IsTableFault orders f
+
+-- why bytes are no message, which is never want of memory
+abbrev pub IsStop : List ℕ → JudgeFault → Type 0
+IsStop message message_faults.Memory = ⊥
+IsStop message (message_faults.NotAMessage offset) = IsRefusal message (message_faults.NotAMessage offset)
+
 -- want of memory, or the refusal of the message
 abbrev pub IsMessageRefusal : List ℕ → Fault → Type 0
 IsMessageRefusal message Memory = Unit {0}
-IsMessageRefusal message (Message f) = IsRefusal message f
+IsMessageRefusal message (Message f) = IsStop message f
 IsMessageRefusal message _ = ⊥
 
 -- want of memory, or the first refusal: of the capture, of the order table, of the message
 abbrev pub IsJudgeRefusal : List ℕ → List ℕ → List ℕ → Fault → Type 0
 IsJudgeRefusal params orders message Memory = Unit {0}
 IsJudgeRefusal params orders message (Params f) = IsParamFault params f
-IsJudgeRefusal params orders message (Orders f) = ((rows : Rows) × IsParamsOf params rows) × IsTableFault orders f
-IsJudgeRefusal params orders message (Message f) = AreGood params orders × IsRefusal message f
+IsJudgeRefusal params orders message (Orders f) = ((rows : Rows) × IsParamsOf params rows) × IsTableRefusal orders f
+IsJudgeRefusal params orders message (Message f) = AreGood params orders × IsStop message f
 IsJudgeRefusal params orders message _ = ⊥
