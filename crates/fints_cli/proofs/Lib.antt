@@ -1,3 +1,4 @@
 pub mod FileLemmas
 pub mod StreamLemmas
 pub mod CommandLemmas
+pub mod ReasonLemmas

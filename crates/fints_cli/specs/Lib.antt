@@ -1,3 +1,4 @@
 pub mod Streams
 pub mod BuiltIn
+pub mod Loading
 pub mod Commands

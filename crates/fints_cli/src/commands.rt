@@ -1,5 +1,5 @@
 //! The commands, from words to a status.
-ghost use Rattle.std.specs.Prelude.{◌≡◌, ◌≤◌, ◌<◌, ◌+◌, ◌*◌, ◌⊎◌, ◌↔◌, [], false, IfOk, IfErr};
+ghost use Rattle.std.specs.Prelude.{◌≡◌, ◌≤◌, ◌<◌, ◌+◌, ◌-◌, ◌*◌, ◌^◌, ◌⊎◌, ◌↔◌, min, [], ◌∷◌, codes, false, IfOk, IfErr};
 ghost use Rattle.fints_cli.specs.Streams.{Gets, GetsNothing, GetsPrefix, IsFile, one_more};
 ghost use Rattle.fints_cli.specs.BuiltIn as texts;
 ghost use Rattle.fints_words.specs.declared.words.Request.TheVariants as request;
@@ -10,7 +10,8 @@ ghost use Rattle.fints_reports.specs.Told.{IsToldOf};
 ghost use Rattle.fints_reports.specs.declared.telling.Wanted.TheVariants as wants;
 ghost use Rattle.fints_reports.specs.RunText.{IsRunOf};
 ghost use Rattle.fints_reports.specs.Verified.{IsVerifiedOf};
-ghost use Rattle.fints_cli.specs.Commands.{failure_status, IsJudgeFailure, ShowsFile, JudgesFile, FailsToJudge, TellsFiles, IsScriptFailure, FailsToTell, IsRunFailure, RunsFiles, FailsToRun, IsVerifyFailure, VerifiesFiles, FailsToVerify, AnswersTo, IsUnloaded, IsShowFailure, FailsToShow, FailsFor, IsAnswered, IsCutOff, IsResponse, IsUsage, FailsWith};
+ghost use Rattle.fints_cli.specs.Loading.{wire_file, script_files, judge_files, verify_files, run_files, files_of, IsUnreadOf};
+ghost use Rattle.fints_cli.specs.Commands.{failure_status, IsJudgeFailure, ShowsFile, JudgesFile, FailsToJudge, TellsFiles, IsScriptFailure, FailsToTell, IsRunFailure, RunsFiles, FailsToRun, IsVerifyFailure, VerifiesFiles, FailsToVerify, AnswersTo, IsUnloaded, IsShowFailure, FailsToShow, FailsFor, IsAnswered, IsCutOff, IsResponse, IsUsage, FailsToRead, FailsWith};
 ghost use Rattle.fints_words.specs.declared.words.Asked.TheVariants as asked;
 
 use crate::built_in;
@@ -43,6 +44,9 @@ fn load_option<F: Files>(
     ensures keeps { F.holds files.new ≡ F.holds files.old }
     ensures exact { IfOk result (λ bytes. IsFile (F.holds files.old path.now) bytes.items) }
     ensures unread { IfErr result (λ r. IsUnloaded option.now r.failure) }
+    ensures counted { min (F.calls files.old) (2 ^ 64 - 1) ≤ F.calls files.new }
+    ensures fine { IfOk result (λ _. F.failed_reads files.new ≡ F.failed_reads files.old) }
+    ensures reason { IfErr result (λ r. IsUnreadOf (record { option = option.now; path = path.now; limit = limit } ∷ []) (F.holds files.old) (record { calls = F.calls files.old; failed = F.failed_reads files.old }) (record { calls = F.calls files.new; failed = F.failed_reads files.new }) r.failure) }
 {
     match load(alloc, files, path, limit) {
         Ok(bytes) => Ok(bytes),
@@ -92,6 +96,7 @@ fn tell_files<F: Files>(
     ensures status { IfOk result (λ reply. reply.status ≤ 1) }
     ensures told { IfOk result (λ reply. TellsFiles wanted (F.holds files.old) named.now reply.status reply.text.items) }
     ensures refused { IfErr result (λ r. FailsToTell (F.holds files.old) named.now r.failure) }
+    ensures reason { IfErr result (λ r. IsUnreadOf (script_files named.now) (F.holds files.old) (record { calls = F.calls files.old; failed = F.failed_reads files.old }) (record { calls = F.calls files.new; failed = F.failed_reads files.new }) r.failure) }
     ensures calls { F.calls files.new ≤ F.calls files.old + 3 * MAX_CALLS }
     ensures keeps { F.holds files.new ≡ F.holds files.old }
 {
@@ -135,6 +140,7 @@ fn verify_files<F: Files>(
     ensures status { IfOk result (λ reply. reply.status ≤ 1) }
     ensures told { IfOk result (λ reply. VerifiesFiles (F.holds files.old) named.now certificate.now reply.status reply.text.items) }
     ensures refused { IfErr result (λ r. FailsToVerify (F.holds files.old) named.now certificate.now r.failure) }
+    ensures reason { IfErr result (λ r. IsUnreadOf (verify_files named.now certificate.now) (F.holds files.old) (record { calls = F.calls files.old; failed = F.failed_reads files.old }) (record { calls = F.calls files.new; failed = F.failed_reads files.new }) r.failure) }
     ensures calls { F.calls files.new ≤ F.calls files.old + 4 * MAX_CALLS }
     ensures keeps { F.holds files.new ≡ F.holds files.old }
 {
@@ -173,6 +179,7 @@ fn show_file<F: Files>(
     ensures status { IfOk result (λ reply. reply.status ≡ 0) }
     ensures shown { IfOk result (λ reply. ShowsFile (F.holds files.old params.now) reply.text.items) }
     ensures refused { IfErr result (λ r. FailsToShow (F.holds files.old params.now) r.failure) }
+    ensures reason { IfErr result (λ r. IsUnreadOf (wire_file (codes "params") params.now ∷ []) (F.holds files.old) (record { calls = F.calls files.old; failed = F.failed_reads files.old }) (record { calls = F.calls files.new; failed = F.failed_reads files.new }) r.failure) }
     ensures calls { F.calls files.new ≤ F.calls files.old + MAX_CALLS }
     ensures keeps { F.holds files.new ≡ F.holds files.old }
 {
@@ -207,6 +214,7 @@ fn judge_file<F: Files>(
     ensures status { IfOk result (λ reply. reply.status ≤ 1) }
     ensures judged { IfOk result (λ reply. JudgesFile (F.holds files.old params.now) (F.holds files.old orders.now) (F.holds files.old message.now) reply.status reply.text.items) }
     ensures refused { IfErr result (λ r. FailsToJudge (F.holds files.old params.now) (F.holds files.old orders.now) (F.holds files.old message.now) r.failure) }
+    ensures reason { IfErr result (λ r. IsUnreadOf (judge_files params.now orders.now message.now) (F.holds files.old) (record { calls = F.calls files.old; failed = F.failed_reads files.old }) (record { calls = F.calls files.new; failed = F.failed_reads files.new }) r.failure) }
     ensures calls { F.calls files.new ≤ F.calls files.old + 3 * MAX_CALLS }
     ensures keeps { F.holds files.new ≡ F.holds files.old }
 {
@@ -249,6 +257,7 @@ fn run_files<F: Files>(
     ensures status { IfOk result (λ reply. reply.status ≡ 0) }
     ensures told { IfOk result (λ reply. RunsFiles (F.holds files.old) named.now only reply.text.items) }
     ensures refused { IfErr result (λ r. FailsToRun (F.holds files.old) named.now only r.failure) }
+    ensures reason { IfErr result (λ r. IsUnreadOf (run_files named.now) (F.holds files.old) (record { calls = F.calls files.old; failed = F.failed_reads files.old }) (record { calls = F.calls files.new; failed = F.failed_reads files.new }) r.failure) }
     ensures calls { F.calls files.new ≤ F.calls files.old + 3 * MAX_CALLS }
     ensures keeps { F.holds files.new ≡ F.holds files.old }
 {
@@ -275,6 +284,7 @@ pub fn perform<F: Files>(
     ensures status { IfOk result (λ reply. reply.status ≤ 1) }
     ensures answers { IfOk result (λ reply. AnswersTo request.now (F.holds files.old) reply.status reply.text.items) }
     ensures refused { IfErr result (λ r. FailsFor request.now (F.holds files.old) r.failure) }
+    ensures reason { IfErr result (λ r. IsUnreadOf (files_of request.now) (F.holds files.old) (record { calls = F.calls files.old; failed = F.failed_reads files.old }) (record { calls = F.calls files.new; failed = F.failed_reads files.new }) r.failure) }
     ensures calls { F.calls files.new ≤ F.calls files.old + 4 * MAX_CALLS }
     ensures keeps { F.holds files.new ≡ F.holds files.old }
 {
@@ -377,7 +387,7 @@ pub fn respond<F: Files, O: Out, E: Out>(
         → GetsNothing (O.told out.old) (O.told out.new) }
     ensures fine { result ≤ 4 → O.failed_calls out.new ≡ O.failed_calls out.old }
     ensures failed { result ≡ 5
-        → (FailsWith 5 asked.now (F.holds files.old) × GetsNothing (O.told out.old) (O.told out.new))
+        → (FailsToRead asked.now (F.holds files.old) (record { calls = F.calls files.old; failed = F.failed_reads files.old }) (record { calls = F.calls files.new; failed = F.failed_reads files.new }) × GetsNothing (O.told out.old) (O.told out.new))
         ⊎ (IsCutOff asked.now (F.holds files.old) (O.told out.old) (O.told out.new)
         × (O.failed_calls out.new ≡ one_more (O.failed_calls out.old))) }
     ensures unread { IsUsage asked.now → F.calls files.new ≡ F.calls files.old }
@@ -413,7 +423,7 @@ pub fn execute<F: Files, O: Out, E: Out>(
     ensures status { result ≤ 5 }
     ensures built_in { words.now ≡ [] → result ≤ 1
         → IsAnswered (asked.Run request.BuiltIn false) (F.holds files.old) result (O.told out.old) (O.told out.new) }
-    ensures responds { (asked : Asked) × IsResponse asked (F.holds files.old) result (O.told out.old) (O.told out.new) }
+    ensures responds { (asked : Asked) × IsResponse asked (F.holds files.old) (record { calls = F.calls files.old; failed = F.failed_reads files.old }) (record { calls = F.calls files.new; failed = F.failed_reads files.new }) result (O.told out.old) (O.told out.new) }
     ensures silent { (result ≡ 2) ⊎ ((result ≡ 3) ⊎ (result ≡ 4))
         → GetsNothing (O.told out.old) (O.told out.new) }
     ensures fine { result ≤ 4 → O.failed_calls out.new ≡ O.failed_calls out.old }

@@ -8,4 +8,4 @@ returns-clause-responds g c =
         usage = c.respond.ensures.only_usage;
         refused = c.respond.ensures.refused;
         silent = c.respond.ensures.silent;
-        failed = λ five. unread_or_cut _ _ _ _ _ (c.respond.ensures.failed five) })
+        failed = λ five. unread_or_cut _ _ _ _ _ _ _ (c.respond.ensures.failed five) })

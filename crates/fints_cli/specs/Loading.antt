@@ -1,0 +1,93 @@
+-- Which files a request names, and why one of them couldn't be read.
+use Rattle.std.specs.Prelude.{min, ◌+◌, ◌-◌, ◌^◌, ◌≡◌, ◌≤◌, ◌<◌, ◌⊎◌, ℕ, List, [], ◌∷◌, ◌++◌, length, Option, IfSome, codes}
+use Rattle.fints_cli.specs.declared.failing.Failure.{Failure}
+use Rattle.fints_cli.specs.declared.failing.Failure.TheVariants.{Input, Unread}
+use Rattle.fints_cli.specs.declared.reading.LoadFault.{LoadFault}
+use Rattle.fints_cli.specs.declared.reading.LoadFault.TheVariants.{Unreadable, TooLong, TooManyCalls, Memory}
+use Rattle.fints_cli.specs.Streams.{one_more}
+use Rattle.fints_words.specs.declared.words.Request.{Request}
+use Rattle.fints_words.specs.declared.words.Request.TheVariants.{BuiltIn, Show, Judge, Check, Explain, Certify, Verify}
+use Rattle.fints_words.specs.declared.words.Request.TheVariants as requests
+use Rattle.fints_words.specs.declared.words.RunFiles.{RunFiles}
+use Rattle.fints_words.specs.declared.words.ScriptFiles.{ScriptFiles}
+
+-- the file of an option: its path, and how many bytes it may have
+pub record NamedFile : Type 0 where
+  pub option : List ℕ
+  pub path : List ℕ
+  pub limit : ℕ
+
+-- a capture or a message
+abbrev pub wire_file : List ℕ → List ℕ → NamedFile
+wire_file option path = record { option = option; path = path; limit = 4194304 }
+
+-- an order table, a script, a case or a certificate
+abbrev pub text_file : List ℕ → List ℕ → NamedFile
+text_file option path = record { option = option; path = path; limit = 1048576 }
+
+abbrev pub script_files : ScriptFiles → List NamedFile
+script_files named =
+    wire_file (codes "params") named.params.now ∷ text_file (codes "orders") named.orders.now ∷ text_file (codes "script") named.script.now ∷ []
+
+abbrev pub judge_files : List ℕ → List ℕ → List ℕ → List NamedFile
+judge_files params orders message =
+    wire_file (codes "params") params ∷ text_file (codes "orders") orders ∷ wire_file (codes "message") message ∷ []
+
+abbrev pub verify_files : ScriptFiles → List ℕ → List NamedFile
+verify_files named certificate =
+    wire_file (codes "params") named.params.now ∷ text_file (codes "orders") named.orders.now ∷ text_file (codes "script") named.script.now
+    ∷ text_file (codes "cert") certificate ∷ []
+
+abbrev pub run_files : RunFiles → List NamedFile
+run_files named =
+    text_file (codes "orders") named.orders.now ∷ text_file (codes "script") named.script.now ∷ text_file (codes "case") named.case.now ∷ []
+
+-- the files that a request names
+abbrev pub files_of : Request → List NamedFile
+files_of BuiltIn = []
+files_of (Show params) = wire_file (codes "params") params.now ∷ []
+files_of (Judge params orders message) = judge_files params.now orders.now message.now
+files_of (Check named) = script_files named
+files_of (Explain named) = script_files named
+files_of (Certify named) = script_files named
+files_of (Verify named certificate) = verify_files named certificate.now
+files_of (requests.Run named only) = run_files named
+
+-- how many reads were asked for so far, and how many of them failed, each counted up to the greatest `u64`
+pub record Reads : Type 0 where
+  pub calls : ℕ
+  pub failed : ℕ
+
+-- one read more failed
+abbrev pub HasFailed : Reads → Reads → Type 0
+HasFailed before after = after.failed ≡ one_more before.failed
+
+-- a file whose bytes are told is longer than its limit
+abbrev pub IsLonger : Option (List ℕ) → ℕ → Type 0
+IsLonger held limit = IfSome held (λ bytes. limit < length bytes)
+
+-- as many reads were asked for as one file may take
+abbrev pub AreUsedUp : Reads → Reads → Type 0
+AreUsedUp before after = min (before.calls + 5000000) (2 ^ 64 - 1) ≤ after.calls
+
+-- why a file wasn't loaded, unless memory ran out
+abbrev pub IsLoadFault : LoadFault → Option (List ℕ) → ℕ → Reads → Reads → Type 0
+IsLoadFault (Unreadable cause) held limit before after = HasFailed before after
+IsLoadFault TooLong held limit before after = IsLonger held limit
+IsLoadFault TooManyCalls held limit before after = AreUsedUp before after
+IsLoadFault Memory held limit before after = Unit {0}
+
+-- the file couldn't be read
+abbrev pub IsUnreadable : Option (List ℕ) → ℕ → Reads → Reads → Type 0
+IsUnreadable held limit before after = HasFailed before after ⊎ (IsLonger held limit ⊎ AreUsedUp before after)
+
+-- one of these files, that of the option, couldn't be read
+abbrev pub HasUnreadable : List NamedFile → (List ℕ → Option (List ℕ)) → Reads → Reads → List ℕ → Type 0
+HasUnreadable [] holds before after option = ⊥
+HasUnreadable (file ∷ files) holds before after option =
+    ((option ≡ file.option) × IsUnreadable (holds file.path) file.limit before after) ⊎ HasUnreadable files holds before after option
+
+-- where a file is answered as unread, it is one of these that couldn't be read
+abbrev pub IsUnreadOf : List NamedFile → (List ℕ → Option (List ℕ)) → Reads → Reads → Failure → Type 0
+IsUnreadOf files holds before after (Unread option) = HasUnreadable files holds before after option.now
+IsUnreadOf files holds before after (Input f) = Unit {0}
