@@ -1,4 +1,4 @@
--- What the reader of cases knows on its way through a text.
+-- What the reader of cases knows on its way through a text. Private contracts alone cite these words.
 use Rattle.std.specs.Prelude.{ℕ, ◌≡◌, ◌≢◌, ◌<◌, ◌≤◌, List, [], ◌∷◌, ◌++◌, codes, length, slice_get}
 use Rattle.std.specs.Option.{ForSome}
 use Rattle.std.specs.List.{All, AllPairs}

@@ -1,4 +1,4 @@
--- What may stand in element 2 of a template's segment, and what the rules ask of it. Contracts of private functions alone have these words.
+-- What may stand in element 2 of a template's segment, and what the rules ask of it. Private contracts alone cite these words.
 use Rattle.std.specs.Prelude.{ℕ, Bool, true, false, ◌&&◌, if◌then◌else◌, List, [], ◌∷◌, map, get_or, slice_get, Option, Some, None}
 use Rattle.std.specs.Str.{bytes_eq}
 use Rattle.fints_syntax.specs.Segment.{item_value}

@@ -1,4 +1,4 @@
--- What the kinds of a step's templates tell. Contracts of private functions alone have these words.
+-- What the kinds of a step's templates tell. Private contracts alone cite these words.
 use Rattle.std.specs.Prelude.{codes, ◌≡◌, ◌≤◌, ℕ, Bool, not, ◌&&◌, List, length, map, filter, count_by, slice_get, slice_index, Some}
 use Rattle.std.specs.List.{list_any}
 use Rattle.std.specs.Str.{bytes_eq}

@@ -1,4 +1,4 @@
--- The facts of a step's message, as far as the step tells them, and the rules over them. Contracts of private functions alone have these words.
+-- The facts of a step's message, as far as the step tells them, and the rules over them. Private contracts alone cite these words.
 use Rattle.std.specs.Prelude.{codes, ◌≡◌, ◌⊎◌, ◌↔◌, ℕ, ◌+◌, List, [], length, slice_get, Option, Some, Any, IsTrue}
 use Rattle.std.specs.List.{list_any}
 use Rattle.std.specs.Set.{distinct_count}

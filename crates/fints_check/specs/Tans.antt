@@ -1,4 +1,4 @@
--- Which signers have a TAN under every choice. Contracts of private functions alone have these words.
+-- Which signers have a TAN under every choice. Private contracts alone cite these words.
 use Rattle.std.specs.Prelude.{◌≡◌, ℕ, List, [], get_or, slice_get, Option, Some, None, Any}
 use Rattle.fints_syntax.specs.Segment.{item_value}
 use Rattle.fints_fields.specs.Fields.{field_domain}

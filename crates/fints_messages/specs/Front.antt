@@ -1,4 +1,4 @@
--- What a look at the segments between HNHBK and HNHBS finds.
+-- What a look at the segments between HNHBK and HNHBS finds. Private contracts alone cite these words.
 use Rattle.std.specs.Prelude.{◌≡◌, ℕ, ◌+◌, ◌<◌, ◌≤◌, List, [], ◌∷◌, ◌++◌, length, drop, Option, Some, None}
 use Rattle.std.specs.List.{AllByRecursion}
 use Rattle.fints_syntax.specs.Spelling.{Spelled}

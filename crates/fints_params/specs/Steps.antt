@@ -1,4 +1,4 @@
--- What a reader that goes from segment to segment has read so far, and where it stops.
+-- What a reader that goes from segment to segment has read so far, and where it stops. Private contracts alone cite these words.
 use Rattle.std.specs.Prelude.{◌+◌, ◌<◌, ◌≤◌, ◌^◌, ◌∷◌, [], ◌++◌, List, length, map}
 use Rattle.fints_syntax.specs.Segment.{segment_bytes}
 use Rattle.fints_syntax.specs.Capture.{MAX_CAPTURE}

@@ -1,4 +1,4 @@
--- What a segment adds to the rows so far.
+-- What a segment adds to the rows so far. Private contracts alone cite these words.
 use Rattle.std.specs.Prelude.{◌≡◌, ℕ, ◌+◌, ◌-◌, ◌^◌, min, ◌||◌, ◌&&◌, true, not, if◌then◌else◌, List, [], ◌∷◌, ◌++◌, Option, Some, None}
 use Rattle.std.specs.List.{filter, filter_map, flat_map, cons_option}
 use Rattle.fints_syntax.specs.declared.item.OwnedSegment.{OwnedSegment}

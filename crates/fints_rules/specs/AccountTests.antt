@@ -1,4 +1,4 @@
--- Whether an order's account permits it, where the order names one.
+-- Whether an order's account permits it, where the order names one. Private contracts alone cite these words.
 use Rattle.std.specs.Prelude.{ℕ, Option, Some, None}
 use Rattle.fints_rules.specs.declared.permissions.Permit.{Permit}
 use Rattle.fints_rules.specs.Accounts.{Account}

@@ -1,4 +1,4 @@
--- The faults of bytes of any length, read as segments with line breaks between them.
+-- The faults of bytes of any length, read as segments with line breaks between them. Private contracts alone cite these words.
 use Rattle.std.specs.Prelude.{◌≡◌, ℕ, List}
 use Rattle.fints_syntax.specs.Capture.{FaultsAt, MAX_CAPTURE}
 use Rattle.fints_syntax.specs.declared.fault.SyntaxFault.{SyntaxFault}

@@ -1,4 +1,4 @@
--- How long a message is: each item counts with the byte after it.
+-- How long a message is: each item counts with the byte after it. Private contracts alone cite these words.
 use Rattle.std.specs.Prelude.{ℕ, ◌+◌, ◌==◌, if◌then◌else◌, codes, List, [], ◌∷◌, length, map, get_or, Bool, true, false}
 use Rattle.std.specs.Fmt.{decimal}
 use Rattle.fints_syntax.specs.declared.item.OwnedItem.{OwnedItem}

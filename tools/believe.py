@@ -1,0 +1,153 @@
+#!/usr/bin/env python3
+"""What must be believed: the lines of definitions that the contracts of public calls reach, crate by crate.
+
+tools/believe.py           a table: lines of definitions in specs/, and those that public contracts reach
+tools/believe.py --apart   the spec files of which public contracts reach nothing, and those that they reach in part
+
+A definition's lines are its signature, its equations and the comment above it. The contracts of laws
+are left out: what a law says is proved, so nobody need believe it.
+"""
+import collections
+import glob
+import os
+import re
+import sys
+
+TOP = os.path.dirname(os.path.dirname(os.path.abspath(__file__)))
+WORD = re.compile(r"[A-Za-z_][\w'-]*")
+START = re.compile(r"^(?:(?:pub|abbrev|unfoldable|opaque) )*(?:record |data )?(?:pub )?([A-Za-z_][\w'-]*)(?: .*)?:")
+
+
+class Definition:
+    def __init__(self, crate, file, name):
+        self.crate, self.file, self.name, self.lines, self.text = crate, file, name, 0, ""
+
+
+def imports(text, begin):
+    """The names that a text takes from spec files, each with where it stands; and the files under other names."""
+    names, files = {}, {}
+    for at in re.finditer(begin + r"use Rattle\.(fints_\w+)\.specs\.([\w.]+?)(?:\.\{([^}]*)\}| as (\w+));?$", text, re.M):
+        crate, path, taken, other = at.groups()
+        if path.startswith("declared"):
+            continue
+        if other:
+            files[other] = (crate, path)
+        for name in (taken or "").split(","):
+            first, _, then = name.strip().partition(" as ")
+            names[then or first] = (crate, path, first)
+    return names, files
+
+
+def read_specs():
+    definitions, scopes = {}, {}
+    for path in sorted(glob.glob(f"{TOP}/crates/*/specs/*.antt")):
+        crate, file = path.split("/")[-3], os.path.basename(path)[:-5]
+        if file == "Lib":
+            continue
+        with open(path, encoding="utf-8") as it:
+            text = it.read()
+        scopes[crate, file] = imports(text, "")
+        current, comment = None, []
+        for line in text.split("\n")[1:]:
+            if not line.strip() or line.startswith(("use ", "pub use ")):
+                comment = []
+                continue
+            if line.startswith("--"):
+                comment.append(line)
+                continue
+            start = START.match(line)
+            if start and not line.startswith(" "):
+                current = definitions[crate, file, start[1]] = Definition(crate, file, start[1])
+                current.lines += len(comment)
+            comment = []
+            if current:
+                current.lines += 1
+                current.text += line + "\n"
+    return definitions, scopes
+
+
+def found(text, scope, at, definitions):
+    """The definitions that a text names."""
+    names, files = scope
+    for word in set(WORD.findall(text)):
+        key = names.get(word) or (*at, word)
+        if key in definitions:
+            yield key
+    for other, name in set(re.findall(r"\b(\w+)\.([\w'-]+)", text)):
+        if other in files and (*files[other], name) in definitions:
+            yield (*files[other], name)
+
+
+def exported(crate):
+    """The names and the modules that the crate hands out."""
+    with open(f"{TOP}/crates/{crate}/src/lib.rt", encoding="utf-8") as it:
+        text = it.read()
+    names = set()
+    for taken in re.findall(r"^pub use [\w:]+::(?:\{([^}]*)\}|\w+);", text, re.M):
+        names |= set(WORD.findall(taken))
+    names |= set(re.findall(r"^pub use [\w:]+::(\w+);", text, re.M))
+    return names, set(re.findall(r"^pub mod (\w+);", text, re.M))
+
+
+def public_clauses(text, names, is_public):
+    """The contracts of public functions and traits, and what the models of public types say."""
+    for item in re.split(r"\n\n(?=\S)", text):
+        head = next((it for it in item.split("\n") if re.match(r"(pub |unsafe )?(fn|impl|trait|struct|enum)\b", it)), "")
+        called = set(WORD.findall(head.split("{")[0]))
+        if not is_public and not called & names:
+            continue
+        if "struct " in head or "enum " in head or " trait " in head:
+            yield item
+            continue
+        own = head.startswith("impl") and " for " in head
+        for function in re.split(r"^ *(?=(?:pub )?fn )", item, flags=re.M):
+            if own or function.startswith("pub fn") or not re.match(r"(pub )?fn ", function):
+                yield "\n".join(it for it in re.split(r"^ *\{$", function, maxsplit=1, flags=re.M)[0].split("\n"))
+
+
+def roots(definitions):
+    for path in sorted(glob.glob(f"{TOP}/crates/*/src/**/*.rt", recursive=True)):
+        crate, module = path.split("/crates/")[1].split("/")[0], os.path.basename(path)[:-3]
+        if "law" in module or crate.endswith("_tests") or not os.path.exists(f"{TOP}/crates/{crate}/src/lib.rt"):
+            continue
+        with open(path, encoding="utf-8") as it:
+            text = it.read()
+        scope = imports(text, "ghost ")
+        names, modules = exported(crate)
+        for clause in public_clauses(text, names, module in modules):
+            yield from found(clause, scope, (crate, ""), definitions)
+
+
+def reached_from(definitions, scopes):
+    left, reached = list(set(roots(definitions))), set()
+    while left:
+        key = left.pop()
+        if key not in reached:
+            reached.add(key)
+            left += found(definitions[key].text, scopes[key[:2]], key[:2], definitions)
+    return reached
+
+
+def main():
+    definitions, scopes = read_specs()
+    reached = reached_from(definitions, scopes)
+    if "--apart" in sys.argv:
+        by_file = collections.defaultdict(list)
+        for key, it in definitions.items():
+            by_file[key[:2]].append((key in reached, it.name))
+        for (crate, file), names in by_file.items():
+            apart = [name for is_reached, name in names if not is_reached]
+            if apart:
+                print(f"{crate}/specs/{file}.antt: {'all' if len(apart) == len(names) else ' '.join(apart)}")
+        return
+    lines, believed = collections.Counter(), collections.Counter()
+    for key, it in definitions.items():
+        lines[it.crate] += it.lines
+        believed[it.crate] += it.lines * (key in reached)
+    print("| Crate | Lines of definitions | Reached by public contracts |\n|---|---|---|")
+    for crate in sorted(lines):
+        print(f"| `{crate}` | {lines[crate]} | {believed[crate]} |")
+    print(f"| all | {sum(lines.values())} | {sum(believed.values())} |")
+
+
+main()
