@@ -27,7 +27,7 @@ fn joined(alloc: Global, capture: &[u8], more: &[u8]) -> Result<Vec<u8>, Fail> {
 }
 
 // The bank of the capture and of more segments.
-fn bank(alloc: Global, capture: &[u8], more: &[u8]) -> Result<Bank, Fail> {
+fn bank_of(alloc: Global, capture: &[u8], more: &[u8]) -> Result<Bank, Fail> {
     let whole = joined(alloc, capture, more)?;
     Ok(Bank {
         params: Params::read(alloc, whole.as_slice())?,
@@ -43,7 +43,7 @@ fn limits_of(
     version: u16,
 ) -> Result<Option<Limits>, Fail> {
     let order = kind(order)?;
-    let bank = bank(alloc, capture, more)?;
+    let bank = bank_of(alloc, capture, more)?;
     let permissions = Permissions::build(alloc, &bank.params, &bank.orders)?;
     Ok(permissions.limits(order, version))
 }
@@ -71,7 +71,7 @@ fn limits(rt: HostRuntime) -> Result<(), Fail> {
 // What the least bank demands of an order, where more pairs say J and N.
 fn demand_of(alloc: Global, order: &[u8]) -> Result<Demand, Fail> {
     let order = kind(order)?;
-    let bank = bank(alloc, C1, b"HIPINS:9:1+1+1+0+5:38:6:::HKKAZ:J:HKCCS:N'")?;
+    let bank = bank_of(alloc, C1, b"HIPINS:9:1+1+1+0+5:38:6:::HKKAZ:J:HKCCS:N'")?;
     let permissions = Permissions::build(alloc, &bank.params, &bank.orders)?;
     Ok(permissions.demand(order))
 }
@@ -95,7 +95,7 @@ fn demands(rt: HostRuntime) -> Result<(), Fail> {
 #[test]
 fn parts(rt: HostRuntime) -> Result<(), Fail> {
     let order = kind(b"HKSAL")?;
-    let bank = bank(rt.alloc(), C1, b"")?;
+    let bank = bank_of(rt.alloc(), C1, b"")?;
     let permissions = Permissions::build(rt.alloc(), &bank.params, &bank.orders)?;
     assert_eq!(rt; permissions.bank().kinds, 1);
     assert_eq!(rt;
@@ -129,7 +129,7 @@ fn permit(
     signatures: usize,
 ) -> Result<Permit, Fail> {
     let order = kind(order)?;
-    let bank = bank(alloc, capture, more)?;
+    let bank = bank_of(alloc, capture, more)?;
     let permissions = Permissions::build(alloc, &bank.params, &bank.orders)?;
     Ok(permissions.permit(order, account, signatures))
 }
@@ -192,7 +192,7 @@ const UNSIGNED: &[u8] =
 
 // What the least bank says of a message.
 fn judged_by(alloc: Global, message: &[u8]) -> Result<Result<Vec<Broken>, JudgeFault>, Fail> {
-    let bank = bank(alloc, C1, b"")?;
+    let bank = bank_of(alloc, C1, b"")?;
     let permissions = Permissions::build(alloc, &bank.params, &bank.orders)?;
     Ok(judge(alloc, &permissions, message))
 }
