@@ -3,3 +3,5 @@ pub mod FieldLemmas
 pub mod TextLemmas
 pub mod CleanFields
 pub mod FirstPlaces
+pub mod OneField
+pub mod FirstFaults

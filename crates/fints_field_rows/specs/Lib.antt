@@ -6,3 +6,4 @@ pub mod FieldFaults
 pub mod FieldTables
 pub mod FaultOrder
 pub mod Places
+pub mod Laws

@@ -7,6 +7,7 @@ mod field_faults;
 mod field_values;
 mod fields;
 mod kinds;
+pub mod laws;
 mod named_rows;
 pub mod names;
 pub mod text;

@@ -5,3 +5,4 @@ pub mod Greatest
 pub mod FirstOf
 pub mod Telling
 pub mod Domains
+pub mod OneClass

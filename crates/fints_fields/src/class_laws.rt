@@ -1,4 +1,4 @@
-//! Laws of the classes that list their values: each function's contract is one.
+//! Laws of the classes: each function's contract is one.
 ghost use Rattle.std.specs.Prelude.{◌≡◌, ℕ, List, [], ◌∷◌, Some, length, map, slice_get};
 ghost use Rattle.fints_fields.specs.Fields.{IsListedAt, field_accounts, field_domain, field_items, field_longest, field_shortest};
 ghost use Rattle.fints_fields.specs.Joined.{joined};
@@ -8,6 +8,10 @@ ghost use Rattle.fints_fields.specs.declared.field.Field.{Field};
 ghost use Rattle.fints_fields.specs.Lengths.{text_len};
 ghost use Rattle.fints_fields.specs.Listed.{IsFirstOfGreatest, IsFirstOfLeast, account_text, first_with};
 ghost use Rattle.fints_fields.specs.declared.field.Field.TheVariants as fields;
+ghost use Rattle.fints_fields.specs.declared.counted.Bin.{Bin};
+ghost use Rattle.fints_fields.specs.declared.counted.Digits.{Digits};
+ghost use Rattle.fints_fields.specs.declared.counted.Plain.{Plain};
+ghost use Rattle.fints_fields.specs.declared.counted.Text.{Text};
 ghost use Rattle.fints_fields.specs.declared.listing.Account.{Account};
 ghost use Rattle.fints_fields.specs.declared.listing.OneOf.{OneOf};
 
@@ -53,4 +57,14 @@ pub fn others_are_one_item()
 /// Where a field admits the empty value, its shortest value is empty.
 pub fn empty_is_shortest()
     ensures { (f : Field) → field_domain f [] → field_shortest f ≡ [] }
+{}
+
+/// A class is given by its bounds, or by its listed values: no two classes of a kind have the same.
+pub fn one_class()
+    ensures digits { (c d : Digits) → c.min ≡ d.min → c.max ≡ d.max → c ≡ d }
+    ensures plain { (c d : Plain) → c.min ≡ d.min → c.max ≡ d.max → c ≡ d }
+    ensures text { (c d : Text) → c.min ≡ d.min → c.max ≡ d.max → c ≡ d }
+    ensures bin { (c d : Bin) → c.min ≡ d.min → c.max ≡ d.max → c ≡ d }
+    ensures oneof { (c d : OneOf) → c.values ≡ d.values → c ≡ d }
+    ensures account { (c d : Account) → c.values ≡ d.values → c ≡ d }
 {}
