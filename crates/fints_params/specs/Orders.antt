@@ -8,12 +8,20 @@ use Rattle.fints_params.specs.declared.rows.OrderParam.{OrderParam}
 use Rattle.fints_syntax.specs.Values.{value_at}
 use Rattle.fints_params.specs.Reading.{number_in, tells}
 
--- the kind of the orders that the identifier speaks of
-abbrev pub is_order_identifier : List ℕ → Bool
-is_order_identifier id = length id == 6 && (get_or id 0 0 == 72 || get_or id 0 0 == 68) && get_or id 1 0 == 73 && get_or id 5 0 == 83 && not (bytes_eq id (codes "HIPINS"))
+-- the byte at a place of the identifier is this letter; places count from 0
+abbrev pub has_letter : List ℕ → ℕ → List ℕ → Bool
+has_letter id place letter = get_or id place 0 == get_or letter 0 0
 
+-- HIabcS and DIabcS, but for HIPINS
+abbrev pub is_order_identifier : List ℕ → Bool
+is_order_identifier id =
+    length id == 6 && (has_letter id 0 (codes "H") || has_letter id 0 (codes "D")) && has_letter id 1 (codes "I") && has_letter id 5 (codes "S")
+    && not (bytes_eq id (codes "HIPINS"))
+
+-- the kind of the orders that the identifier speaks of: HKabc or DKabc
 abbrev pub order_kind : List ℕ → Option (List ℕ)
-order_kind id = if is_order_identifier id then kind_from (get_or id 0 0 ∷ 75 ∷ get_or id 2 0 ∷ get_or id 3 0 ∷ get_or id 4 0 ∷ []) else None
+order_kind id =
+    if is_order_identifier id then kind_from (get_or id 0 0 ∷ get_or (codes "K") 0 0 ∷ get_or id 2 0 ∷ get_or id 3 0 ∷ get_or id 4 0 ∷ []) else None
 
 -- what the segment says of the kind, if it has both numbers
 abbrev pub order_of : OwnedSegment → List ℕ → Option OrderParam

@@ -17,7 +17,7 @@ mod window;
 mod writing;
 
 pub use bytes::Bytes;
-pub use capture::{MAX_CAPTURE, Placed, parse_all, parse_placed};
+pub use capture::{Placed, parse_all, parse_placed};
 pub use fault::{Memory, SyntaxFault, SyntaxKind};
 pub use item::{Elements, Head, OwnedItem, OwnedSegment};
 pub use kind::Kind;
