@@ -3,7 +3,7 @@ use Rattle.std.proofs.Common.{◌≡◌, ◌⊎◌, inl, inr, ℕ, Bool, List, s
 use Rattle.fints_words.specs.declared.words.Request.{Request}
 use Rattle.fints_words.specs.declared.words.Asked.{Asked}
 use Rattle.fints_words.specs.declared.words.Asked.TheVariants.{Run}
-use Rattle.fints_cli.specs.Loading.{Reads}
+use Rattle.fints_cli.specs.Loading.{ReadCounts}
 use Rattle.fints_cli.specs.Streams.{GetsNothing, GetsPrefix}
 use Rattle.fints_cli.specs.Commands.{AnswersTo, FailsToRead, IsCutOff}
 
@@ -11,6 +11,6 @@ pub cut_answer : (asked : Asked) (request : Request) (hints : Bool) (holds : Lis
 cut_answer asked request hints holds status text old new is answers prefix = subst (λ a. IsCutOff a holds old new) (sym is) (status, text, answers, prefix)
 
 -- beside a cut output, what else is known of it is left out
-pub unread_or_cut : (asked : Asked) (holds : List ℕ → Option (List ℕ)) (before after : Reads) (old new : Option (List ℕ)) (more : Type 0) → (FailsToRead asked holds before after × GetsNothing old new) ⊎ (IsCutOff asked holds old new × more) → (FailsToRead asked holds before after × GetsNothing old new) ⊎ IsCutOff asked holds old new
+pub unread_or_cut : (asked : Asked) (holds : List ℕ → Option (List ℕ)) (before after : ReadCounts) (old new : Option (List ℕ)) (more : Type 0) → (FailsToRead asked holds before after × GetsNothing old new) ⊎ (IsCutOff asked holds old new × more) → (FailsToRead asked holds before after × GetsNothing old new) ⊎ IsCutOff asked holds old new
 unread_or_cut asked holds before after old new more (inl p) = inl p
 unread_or_cut asked holds before after old new more (inr p) = inr p.0

@@ -3,21 +3,21 @@ use Rattle.std.proofs.Common.{min, arith, ◌+◌, ◌-◌, ◌^◌, ◌≡◌, 
 use Rattle.fints_cli.specs.declared.failing.Failure.{Failure}
 use Rattle.fints_cli.specs.declared.failing.Failure.TheVariants.{Input, Unread}
 use Rattle.fints_cli.specs.Commands.{IsShowFailure, IsJudgeFailure, IsScriptFailure, IsVerifyFailure, IsRunFailure}
-use Rattle.fints_cli.specs.Loading.{NamedFile, Reads, IsUnreadable, IsUnreadOf}
+use Rattle.fints_cli.specs.Loading.{NamedFile, ReadCounts, IsUnreadable, IsUnreadOf}
 use Rattle.fints_cli.specs.Streams.{one_more}
 
 -- no read failed between the two, and reads are only added
-pub record GoesOn (before after : Reads) : Type 0 where
+pub record GoesOn (before after : ReadCounts) : Type 0 where
   pub same : after.failed ≡ before.failed
   pub counted : min before.calls (2 ^ 64 - 1) ≤ after.calls
 
-pub goes_on : (a b c : Reads) → GoesOn a b → GoesOn b c → GoesOn a c
+pub goes_on : (a b c : ReadCounts) → GoesOn a b → GoesOn b c → GoesOn a c
 goes_on a b c h i =
     let first = h.counted in
     let second = i.counted in
     record { same = i.same ∙ h.same; counted = omega arith }
 
-unreadable_after : (held : Option (List ℕ)) (limit : ℕ) (a b c : Reads) → GoesOn a b → IsUnreadable held limit b c → IsUnreadable held limit a c
+unreadable_after : (held : Option (List ℕ)) (limit : ℕ) (a b c : ReadCounts) → GoesOn a b → IsUnreadable held limit b c → IsUnreadable held limit a c
 unreadable_after held limit a b c h (inl failed) = inl (failed ∙ ap one_more h.same)
 unreadable_after held limit a b c h (inr (inl longer)) = inr (inl longer)
 unreadable_after held limit a b c h (inr (inr used)) =
@@ -25,35 +25,35 @@ unreadable_after held limit a b c h (inr (inr used)) =
     inr (inr (omega arith))
 
 -- one file that couldn't be read, among more
-pub unread_here : (file : NamedFile) (more : List NamedFile) (h0 h1 : List ℕ → Option (List ℕ)) (a b c : Reads) (f : Failure) → h1 ≡ h0 → GoesOn a b → IsUnreadOf (file ∷ []) h1 b c f → IsUnreadOf (file ∷ more) h0 a c f
+pub unread_here : (file : NamedFile) (more : List NamedFile) (h0 h1 : List ℕ → Option (List ℕ)) (a b c : ReadCounts) (f : Failure) → h1 ≡ h0 → GoesOn a b → IsUnreadOf (file ∷ []) h1 b c f → IsUnreadOf (file ∷ more) h0 a c f
 unread_here file more h0 h1 a b c (Input f) same on p = tt
 unread_here file more h0 h1 a b c (Unread option) same on (inl p) =
     inl (p.0, unreadable_after (h0 file.path) file.limit a b c on (subst (λ h. IsUnreadable (h file.path) file.limit b c) same p.1))
 unread_here file more h0 h1 a b c (Unread option) same on (inr p) = absurd p
 
 -- one of these, among one more
-pub unread_next : (file : NamedFile) (more : List NamedFile) (holds : List ℕ → Option (List ℕ)) (a c : Reads) (f : Failure) → IsUnreadOf more holds a c f → IsUnreadOf (file ∷ more) holds a c f
+pub unread_next : (file : NamedFile) (more : List NamedFile) (holds : List ℕ → Option (List ℕ)) (a c : ReadCounts) (f : Failure) → IsUnreadOf more holds a c f → IsUnreadOf (file ∷ more) holds a c f
 unread_next file more holds a c (Input f) p = tt
 unread_next file more holds a c (Unread option) p = inr p
 
 -- ---- where all files were read, none is answered as unread
 
-pub show_loaded : (files : List NamedFile) (holds : List ℕ → Option (List ℕ)) (a c : Reads) (x : List ℕ) (f : Failure) → IsShowFailure x f → IsUnreadOf files holds a c f
+pub show_loaded : (files : List NamedFile) (holds : List ℕ → Option (List ℕ)) (a c : ReadCounts) (x : List ℕ) (f : Failure) → IsShowFailure x f → IsUnreadOf files holds a c f
 show_loaded files holds a c x (Input f) p = tt
 show_loaded files holds a c x (Unread option) p = absurd p
 
-pub judge_loaded : (files : List NamedFile) (holds : List ℕ → Option (List ℕ)) (a c : Reads) (x y z : List ℕ) (f : Failure) → IsJudgeFailure x y z f → IsUnreadOf files holds a c f
+pub judge_loaded : (files : List NamedFile) (holds : List ℕ → Option (List ℕ)) (a c : ReadCounts) (x y z : List ℕ) (f : Failure) → IsJudgeFailure x y z f → IsUnreadOf files holds a c f
 judge_loaded files holds a c x y z (Input f) p = tt
 judge_loaded files holds a c x y z (Unread option) p = absurd p
 
-pub script_loaded : (files : List NamedFile) (holds : List ℕ → Option (List ℕ)) (a c : Reads) (x y z : List ℕ) (f : Failure) → IsScriptFailure x y z f → IsUnreadOf files holds a c f
+pub script_loaded : (files : List NamedFile) (holds : List ℕ → Option (List ℕ)) (a c : ReadCounts) (x y z : List ℕ) (f : Failure) → IsScriptFailure x y z f → IsUnreadOf files holds a c f
 script_loaded files holds a c x y z (Input f) p = tt
 script_loaded files holds a c x y z (Unread option) p = absurd p
 
-pub verify_loaded : (files : List NamedFile) (holds : List ℕ → Option (List ℕ)) (a c : Reads) (x y z w : List ℕ) (f : Failure) → IsVerifyFailure x y z w f → IsUnreadOf files holds a c f
+pub verify_loaded : (files : List NamedFile) (holds : List ℕ → Option (List ℕ)) (a c : ReadCounts) (x y z w : List ℕ) (f : Failure) → IsVerifyFailure x y z w f → IsUnreadOf files holds a c f
 verify_loaded files holds a c x y z w (Input f) p = tt
 verify_loaded files holds a c x y z w (Unread option) p = absurd p
 
-pub run_loaded : (files : List NamedFile) (holds : List ℕ → Option (List ℕ)) (a c : Reads) (x y z : List ℕ) (only : Option ℕ) (f : Failure) → IsRunFailure x y z only f → IsUnreadOf files holds a c f
+pub run_loaded : (files : List NamedFile) (holds : List ℕ → Option (List ℕ)) (a c : ReadCounts) (x y z : List ℕ) (only : Option ℕ) (f : Failure) → IsRunFailure x y z only f → IsUnreadOf files holds a c f
 run_loaded files holds a c x y z only (Input f) p = tt
 run_loaded files holds a c x y z only (Unread option) p = absurd p

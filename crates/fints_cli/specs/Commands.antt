@@ -11,7 +11,7 @@ use Rattle.fints_words.specs.declared.words.ScriptFiles.{ScriptFiles}
 use Rattle.fints_words.specs.declared.words.Asked.{Asked}
 use Rattle.fints_words.specs.declared.words.Asked.TheVariants.{Help, Usage, NoMemory, Run}
 use Rattle.fints_cli.specs.BuiltIn as built_in
-use Rattle.fints_cli.specs.Loading.{Reads, files_of, IsUnreadOf}
+use Rattle.fints_cli.specs.Loading.{ReadCounts, files_of, IsUnreadOf}
 use Rattle.fints_cli.specs.Streams.{Gets, GetsNothing, GetsPrefix}
 use Rattle.fints_texts.specs.Show.{IsShowOf, IsMemoryOrShowFault}
 use Rattle.fints_texts.specs.Judge.{IsVerdictOf, IsJudgeRefusal}
@@ -167,7 +167,7 @@ FailsWith status NoMemory holds = ⊥
 FailsWith status (Run request hints) holds = (f : Failure) × (failure_status f ≡ status) × FailsFor request holds f
 
 -- the request has no answer, since a file that it names couldn't be read
-abbrev pub FailsToRead : Asked → (List ℕ → Option (List ℕ)) → Reads → Reads → Type 0
+abbrev pub FailsToRead : Asked → (List ℕ → Option (List ℕ)) → ReadCounts → ReadCounts → Type 0
 FailsToRead (Help help) holds before after = ⊥
 FailsToRead (Usage fault) holds before after = ⊥
 FailsToRead NoMemory holds before after = ⊥
@@ -175,7 +175,7 @@ FailsToRead (Run request hints) holds before after = (f : Failure) × (failure_s
 
 -- The status, and what the output got, are those of what was asked for: up to status 1 the whole text, from 2 to 4 nothing,
 -- and at 5 nothing where a file couldn't be read, else a prefix of the text.
-pub record IsResponse (asked : Asked) (holds : List ℕ → Option (List ℕ)) (before after : Reads) (status : ℕ) (old new : Option (List ℕ)) : Type 0 where
+pub record IsResponse (asked : Asked) (holds : List ℕ → Option (List ℕ)) (before after : ReadCounts) (status : ℕ) (old new : Option (List ℕ)) : Type 0 where
   pub answered : status ≤ 1 → IsAnswered asked holds status old new
   pub usage : status ≡ 2 → IsUsage asked ⊎ FailsWith 2 asked holds
   pub refused : status ≡ 3 → FailsWith 3 asked holds

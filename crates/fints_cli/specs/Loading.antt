@@ -54,12 +54,12 @@ files_of (Verify named certificate) = verify_files named certificate.now
 files_of (requests.Run named only) = run_files named
 
 -- how many reads were asked for so far, and how many of them failed, each counted up to the greatest `u64`
-pub record Reads : Type 0 where
+pub record ReadCounts : Type 0 where
   pub calls : ℕ
   pub failed : ℕ
 
 -- one read more failed
-abbrev pub HasFailed : Reads → Reads → Type 0
+abbrev pub HasFailed : ReadCounts → ReadCounts → Type 0
 HasFailed before after = after.failed ≡ one_more before.failed
 
 -- a file whose bytes are told is longer than its limit
@@ -67,27 +67,27 @@ abbrev pub IsLonger : Option (List ℕ) → ℕ → Type 0
 IsLonger held limit = IfSome held (λ bytes. limit < length bytes)
 
 -- as many reads were asked for as one file may take
-abbrev pub AreUsedUp : Reads → Reads → Type 0
+abbrev pub AreUsedUp : ReadCounts → ReadCounts → Type 0
 AreUsedUp before after = min (before.calls + 5000000) (2 ^ 64 - 1) ≤ after.calls
 
 -- why a file wasn't loaded, unless memory ran out
-abbrev pub IsLoadFault : LoadFault → Option (List ℕ) → ℕ → Reads → Reads → Type 0
+abbrev pub IsLoadFault : LoadFault → Option (List ℕ) → ℕ → ReadCounts → ReadCounts → Type 0
 IsLoadFault (Unreadable cause) held limit before after = HasFailed before after
 IsLoadFault TooLong held limit before after = IsLonger held limit
 IsLoadFault TooManyCalls held limit before after = AreUsedUp before after
 IsLoadFault Memory held limit before after = Unit {0}
 
 -- the file couldn't be read
-abbrev pub IsUnreadable : Option (List ℕ) → ℕ → Reads → Reads → Type 0
+abbrev pub IsUnreadable : Option (List ℕ) → ℕ → ReadCounts → ReadCounts → Type 0
 IsUnreadable held limit before after = HasFailed before after ⊎ (IsLonger held limit ⊎ AreUsedUp before after)
 
 -- one of these files, that of the option, couldn't be read
-abbrev pub HasUnreadable : List NamedFile → (List ℕ → Option (List ℕ)) → Reads → Reads → List ℕ → Type 0
+abbrev pub HasUnreadable : List NamedFile → (List ℕ → Option (List ℕ)) → ReadCounts → ReadCounts → List ℕ → Type 0
 HasUnreadable [] holds before after option = ⊥
 HasUnreadable (file ∷ files) holds before after option =
     ((option ≡ file.option) × IsUnreadable (holds file.path) file.limit before after) ⊎ HasUnreadable files holds before after option
 
 -- where a file is answered as unread, it is one of these that couldn't be read
-abbrev pub IsUnreadOf : List NamedFile → (List ℕ → Option (List ℕ)) → Reads → Reads → Failure → Type 0
+abbrev pub IsUnreadOf : List NamedFile → (List ℕ → Option (List ℕ)) → ReadCounts → ReadCounts → Failure → Type 0
 IsUnreadOf files holds before after (Unread option) = HasUnreadable files holds before after option.now
 IsUnreadOf files holds before after (Input f) = Unit {0}

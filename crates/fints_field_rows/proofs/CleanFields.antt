@@ -13,7 +13,7 @@ use Rattle.fints_documents.specs.Document.{item_list}
 use Rattle.fints_documents.specs.Entries.{has_key, text_at}
 use Rattle.fints_field_rows.specs.RowNames.{is_name, is_no_name}
 use Rattle.fints_field_rows.specs.FaultOrder.{first_kind, none_of}
-use Rattle.fints_field_rows.specs.FieldFaults.{account_has, bounds_have, class_has, class_of, field_fault, field_has, is_bin, is_item_count, is_no_class, is_taken, is_value_count, items_have, lacks_keys, listed_have, same_text, same_texts, same_value, some_are_same, text_has, value_has, values_have}
+use Rattle.fints_field_rows.specs.FieldFaults.{account_has, bounds_have, class_has, class_of, field_fault, field_has, is_bin, is_item_count, is_no_class, is_taken_field, is_value_count, account_items_have, lacks_class_keys, listed_have, same_text, same_texts, same_value, some_are_same, text_has, value_has, values_have}
 use Rattle.fints_field_rows.specs.FieldTables.{account_value, listed, text_value, AreAccounts, AreBounds, AreTexts, HasName, IsCleanClass}
 use Rattle.fints_fields.specs.Listed.{IsAccountList, IsShort}
 use Rattle.fints_fields.specs.Names.{IsName}
@@ -152,7 +152,7 @@ record IsGoodAccount (d : Data) : Type 0 where
   latin : account_has kinds.NotLatin1 d ≡ false
   limit : account_has kinds.Limit d ≡ false
 
-good_items : (items : List Data) → items_have kinds.WrongKind items ≡ false → items_have kinds.NotLatin1 items ≡ false → items_have kinds.Limit items ≡ false → All IsGoodText items
+good_items : (items : List Data) → account_items_have kinds.WrongKind items ≡ false → account_items_have kinds.NotLatin1 items ≡ false → account_items_have kinds.Limit items ≡ false → All IsGoodText items
 good_items items w l m =
     let wrong = none_has (text_has kinds.WrongKind) items (or_parts (not (is_item_count (length items))) (list_any (text_has kinds.WrongKind) items) w).1 in
     let latin = none_has (text_has kinds.NotLatin1) items l in
@@ -174,7 +174,7 @@ same_account (boolean b) e g h is = let w = g.wrong in cc
 same_account (datetime t) e g h is = let w = g.wrong in cc
 same_account (table ms) e g h is = let w = g.wrong in cc
 
-account_list : (items : List Data) → items_have kinds.WrongKind items ≡ false → items_have kinds.Limit items ≡ false → IsAccountList (map text_value items)
+account_list : (items : List Data) → account_items_have kinds.WrongKind items ≡ false → account_items_have kinds.Limit items ≡ false → IsAccountList (map text_value items)
 account_list items w m =
     let count = not-false (is_item_count (length items)) (or_parts (not (is_item_count (length items))) (list_any (text_has kinds.WrongKind) items) w).0 in
     let parts = and_parts (ltb 0 (length items)) (leb (length items) 6) count in
@@ -280,7 +280,7 @@ listed_accounts (Some (datetime t)) s h = let w = h.wrong in cc
 listed_accounts (Some (table ms)) s h = let w = h.wrong in cc
 
 -- the keys of the class, by the class
-clean_keys : (ms : Members) (o : Option ClassName) → is_some (get_member (codes "class") ms) ≡ true → is_no_class (get_member (codes "class") ms) o ≡ false → lacks_keys o ms ≡ false → NoFault (λ kind. class_has kind o ms) → IsCleanClass ms o
+clean_keys : (ms : Members) (o : Option ClassName) → is_some (get_member (codes "class") ms) ≡ true → is_no_class (get_member (codes "class") ms) o ≡ false → lacks_class_keys o ms ≡ false → NoFault (λ kind. class_has kind o ms) → IsCleanClass ms o
 clean_keys ms None s n l h = elim (cases_Bool (is_some (get_member (codes "class") ms))) [
   | inl e ↦ let bad : (true && true) ≡ false = rw e at n in cc
   | inr e ↦ absurd (false≢true (sym e ∙ s))
@@ -301,10 +301,10 @@ clean_keys ms (Some names.Bin) s n l h =
     bounds names.Bin (get_member (codes "min") ms) (get_member (codes "max") ms) keys.0 keys.1 h.wrong h.limit
 
 module _ (earlier : List Data) (ms : Members) (h : field_fault earlier (table ms) ≡ None) where
-  keys_there : ((has_key (codes "name") ms && has_key (codes "class") ms) ≡ true) × (lacks_keys (class_of ms) ms ≡ false)
+  keys_there : ((has_key (codes "name") ms && has_key (codes "class") ms) ≡ true) × (lacks_class_keys (class_of ms) ms ≡ false)
   unfolding field_has
   keys_there =
-      let missing = or_parts (not (has_key (codes "name") ms && has_key (codes "class") ms)) (lacks_keys (class_of ms) ms) (none_of (λ kind. field_has kind earlier ms) h).missing in
+      let missing = or_parts (not (has_key (codes "name") ms && has_key (codes "class") ms)) (lacks_class_keys (class_of ms) ms) (none_of (λ kind. field_has kind earlier ms) h).missing in
       (not-false (has_key (codes "name") ms && has_key (codes "class") ms) missing.0, missing.1)
 
   wrong_kinds : ((is_no_name (get_member (codes "name") ms) || is_no_class (get_member (codes "class") ms) (class_of ms)) ≡ false) × (class_has kinds.WrongKind (class_of ms) ms ≡ false)
@@ -315,7 +315,7 @@ module _ (earlier : List Data) (ms : Members) (h : field_fault earlier (table ms
   unfolding field_has
   class_faults =
       let all = no_fault (λ kind. field_has kind earlier ms) h in
-      record { wrong = wrong_kinds.1; latin = all.latin; double = (or_parts (is_taken earlier (text_at (codes "name") ms)) (class_has kinds.Duplicate (class_of ms) ms) all.double).1; limit = all.limit }
+      record { wrong = wrong_kinds.1; latin = all.latin; double = (or_parts (is_taken_field earlier (text_at (codes "name") ms)) (class_has kinds.Duplicate (class_of ms) ms) all.double).1; limit = all.limit }
 
   clean_class : IsCleanClass ms (class_of ms)
   clean_class =

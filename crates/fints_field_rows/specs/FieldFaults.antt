@@ -2,9 +2,10 @@
 use Rattle.std.specs.Prelude.{codes, ℕ, pos, negsuc, nat_le, nat_lt, Bool, true, false, ◌&&◌, ◌||◌, not, ◌==◌, if◌then◌else◌, List, [], ◌∷◌, length, Option, Some, None, option_and_then, is_some}
 use Rattle.std.specs.List.{list_any}
 use Rattle.std.specs.Str.{bytes_eq, chars}
-use Rattle.toml.specs.Data.{Data, string, integer, array, table, Members, get_member, as_integer}
+use Rattle.toml.specs.Data.{Data, string, integer, array, table, Members, get_member}
 use Rattle.fints_documents.specs.Document.{item_list, only_keys}
 use Rattle.fints_documents.specs.Entries.{has_key, is_named, text_at}
+use Rattle.fints_documents.specs.Tables.{is_no_integer}
 use Rattle.fints_field_rows.specs.RowNames.{is_no_name}
 use Rattle.fints_field_rows.specs.FaultOrder.{first_kind}
 use Rattle.fints_field_rows.specs.Texts.{is_latin1}
@@ -40,20 +41,15 @@ field_keys None = codes "name" ∷ codes "class" ∷ codes "min" ∷ codes "max"
 field_keys (Some class) = if is_sized class then codes "name" ∷ codes "class" ∷ codes "min" ∷ codes "max" ∷ [] else codes "name" ∷ codes "class" ∷ codes "values" ∷ []
 
 -- a key of the class is absent
-abbrev pub lacks_keys : Option ClassName → Members → Bool
-lacks_keys None ms = false
-lacks_keys (Some class) ms = if is_sized class then not (has_key (codes "min") ms && has_key (codes "max") ms) else not (has_key (codes "values") ms)
+abbrev pub lacks_class_keys : Option ClassName → Members → Bool
+lacks_class_keys None ms = false
+lacks_class_keys (Some class) ms = if is_sized class then not (has_key (codes "min") ms && has_key (codes "max") ms) else not (has_key (codes "values") ms)
 
 -- a class is there, and none of this name
 abbrev pub is_no_class : Option Data → Option ClassName → Bool
 is_no_class value class = is_some value && not (is_some class)
 
 -- ---- bounds
-
--- there is a value, and it is no integer
-abbrev pub is_no_integer : Option Data → Bool
-is_no_integer None = false
-is_no_integer (Some d) = not (is_some (as_integer d))
 
 -- an integer outside 0 to 10,000
 abbrev pub is_past : Option Data → Bool
@@ -94,13 +90,13 @@ text_has _ _ = false
 abbrev pub is_item_count : ℕ → Bool
 is_item_count n = nat_lt 0 n && nat_le n 6
 
-abbrev pub items_have : FaultKind → List Data → Bool
-items_have kinds.WrongKind items = not (is_item_count (length items)) || list_any (text_has kinds.WrongKind) items
-items_have kind items = list_any (text_has kind) items
+abbrev pub account_items_have : FaultKind → List Data → Bool
+account_items_have kinds.WrongKind items = not (is_item_count (length items)) || list_any (text_has kinds.WrongKind) items
+account_items_have kind items = list_any (text_has kind) items
 
 -- a fault of this kind stands in a listed account
 abbrev pub account_has : FaultKind → Data → Bool
-account_has kind (array items) = items_have kind (item_list items)
+account_has kind (array items) = account_items_have kind (item_list items)
 account_has kinds.WrongKind _ = true
 account_has _ _ = false
 
@@ -156,16 +152,16 @@ class_has kind (Some class) ms =
     else listed_have kind class (get_member (codes "values") ms)
 
 -- the name stands already: it is the built-in field's, or that of an earlier entry
-abbrev pub is_taken : List Data → Option (List ℕ) → Bool
-is_taken earlier None = false
-is_taken earlier (Some name) = bytes_eq name (codes "dialog") || list_any (is_named name) earlier
+abbrev pub is_taken_field : List Data → Option (List ℕ) → Bool
+is_taken_field earlier None = false
+is_taken_field earlier (Some name) = bytes_eq name (codes "dialog") || list_any (is_named name) earlier
 
 -- a fault of this kind stands in a field's table, behind earlier entries
 unfoldable pub field_has : FaultKind → List Data → Members → Bool
 field_has kinds.UnknownKey earlier ms = not (only_keys (field_keys (class_of ms)) ms)
-field_has kinds.Missing earlier ms = not (has_key (codes "name") ms && has_key (codes "class") ms) || lacks_keys (class_of ms) ms
+field_has kinds.Missing earlier ms = not (has_key (codes "name") ms && has_key (codes "class") ms) || lacks_class_keys (class_of ms) ms
 field_has kinds.WrongKind earlier ms = (is_no_name (get_member (codes "name") ms) || is_no_class (get_member (codes "class") ms) (class_of ms)) || class_has kinds.WrongKind (class_of ms) ms
-field_has kinds.Duplicate earlier ms = is_taken earlier (text_at (codes "name") ms) || class_has kinds.Duplicate (class_of ms) ms
+field_has kinds.Duplicate earlier ms = is_taken_field earlier (text_at (codes "name") ms) || class_has kinds.Duplicate (class_of ms) ms
 field_has kind earlier ms = class_has kind (class_of ms) ms
 
 -- the first fault of an entry of `field`, behind earlier entries

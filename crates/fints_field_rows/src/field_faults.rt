@@ -6,7 +6,7 @@ ghost use Rattle.toml.specs.Data.{get_member};
 ghost use Rattle.toml.specs.View.{table_view, view};
 ghost use Rattle.fints_documents.specs.Document.{only_keys};
 ghost use Rattle.fints_documents.specs.Entries.{is_named};
-ghost use Rattle.fints_field_rows.specs.FieldFaults.{account_has, are_crossed, bounds_have, class_has, field_fault, field_has, field_keys, is_item_count, is_no_class, is_no_integer, is_past, is_taken, is_value_count, is_zero, items_have, lacks_keys, listed_have, same_text, same_texts, same_value, some_are_same, text_has, value_has, values_have};
+ghost use Rattle.fints_field_rows.specs.FieldFaults.{account_has, are_crossed, bounds_have, class_has, field_fault, field_has, field_keys, is_item_count, is_no_class, is_past, is_taken_field, is_value_count, is_zero, account_items_have, lacks_class_keys, listed_have, same_text, same_texts, same_value, some_are_same, text_has, value_has, values_have};
 
 use crate::fault::FaultKind;
 use crate::field_class::{ClassName, class_of};
@@ -15,6 +15,7 @@ use crate::names::is_no_name;
 use crate::text;
 use fints_documents::document::{member, only_keys};
 use fints_documents::entries::{has_key, some_is_named, text_at};
+use fints_documents::tables::is_no_integer;
 use toml::{Table, Value};
 
 /// The greatest length of a field.
@@ -37,8 +38,8 @@ fn only_field_keys(class: Option<ClassName>, table: &Table) -> bool
     }
 }
 
-fn lacks_keys(class: Option<ClassName>, table: &Table) -> bool
-    ensures { result ≡ lacks_keys class (table_view table.now) }
+fn lacks_class_keys(class: Option<ClassName>, table: &Table) -> bool
+    ensures { result ≡ lacks_class_keys class (table_view table.now) }
 {
     match class {
         None => false,
@@ -59,15 +60,6 @@ fn is_no_class(value: Option<&Value>, class: Option<ClassName>) -> bool
 }
 
 // ---- bounds
-
-fn is_no_integer(value: Option<&Value>) -> bool
-    ensures { result ≡ is_no_integer (option_map (λ v. view v.now) value.entry) }
-{
-    match value {
-        None => false,
-        Some(value) => value.as_integer().is_none(),
-    }
-}
 
 fn is_past(value: Option<&Value>) -> bool
     ensures { result ≡ is_past (option_map (λ v. view v.now) value.entry) }
@@ -146,8 +138,8 @@ fn is_item_count(count: usize) -> bool
     0 < count && count <= 6
 }
 
-fn items_have(kind: FaultKind, items: &[Value]) -> bool
-    ensures { result ≡ items_have kind (map view items.now) }
+fn account_items_have(kind: FaultKind, items: &[Value]) -> bool
+    ensures { result ≡ account_items_have kind (map view items.now) }
 {
     match kind {
         FaultKind::WrongKind => !is_item_count(items.len()) || some_text_has(kind, items),
@@ -159,7 +151,7 @@ fn account_has(kind: FaultKind, value: &Value) -> bool
     ensures { result ≡ account_has kind (view value.now) }
 {
     match value {
-        Value::Array(items) => items_have(kind, items.as_slice()),
+        Value::Array(items) => account_items_have(kind, items.as_slice()),
         _ => kind == FaultKind::WrongKind,
     }
 }
@@ -296,8 +288,8 @@ fn class_has(kind: FaultKind, class: Option<ClassName>, table: &Table) -> bool
     }
 }
 
-fn is_taken(earlier: &[Value], name: Option<&str>) -> bool
-    ensures { result ≡ is_taken (map view earlier.now) (option_map (λ n. n.now) name.entry) }
+fn is_taken_field(earlier: &[Value], name: Option<&str>) -> bool
+    ensures { result ≡ is_taken_field (map view earlier.now) (option_map (λ n. n.now) name.entry) }
 {
     match name {
         None => false,
@@ -314,7 +306,7 @@ fn field_has(kind: FaultKind, earlier: &[Value], table: &Table) -> bool
     match kind {
         FaultKind::UnknownKey => !only_field_keys(class, &*table),
         FaultKind::Missing => {
-            !(has_key(&*table, "name") && has_key(&*table, "class")) || lacks_keys(class, &*table)
+            !(has_key(&*table, "name") && has_key(&*table, "class")) || lacks_class_keys(class, &*table)
         }
         FaultKind::WrongKind => {
             is_no_name(member(&*table, "name"))
@@ -322,7 +314,7 @@ fn field_has(kind: FaultKind, earlier: &[Value], table: &Table) -> bool
                 || class_has(kind, class, &*table)
         }
         FaultKind::Duplicate => {
-            is_taken(earlier, text_at(&*table, "name")) || class_has(kind, class, &*table)
+            is_taken_field(earlier, text_at(&*table, "name")) || class_has(kind, class, &*table)
         }
         _ => class_has(kind, class, &*table),
     }

@@ -134,9 +134,9 @@ IsTableFault text (faults.TwoRows n) = HasOrders text (λ found. IsTwoRowsAt fou
 IsTableFault text faults.Memory = Unit {0}
 
 -- the row of a kind and version
-abbrev pub is_order : List ℕ → ℕ → OrderRow → Bool
-is_order kind version row = bytes_eq row.kind kind && (row.version == version)
+abbrev pub is_order_of : List ℕ → ℕ → OrderRow → Bool
+is_order_of kind version row = bytes_eq row.kind kind && (row.version == version)
 
 -- how element 2 of an order names its account, where the table has the order
 abbrev pub form_of : List OrderRow → List ℕ → ℕ → Option AccountForm
-form_of rows kind version = option_map (λ row. row.form) (find (is_order kind version) rows)
+form_of rows kind version = option_map (λ row. row.form) (find (is_order_of kind version) rows)

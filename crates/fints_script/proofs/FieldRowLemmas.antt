@@ -7,7 +7,7 @@ use Rattle.toml.specs.View.{view}
 use Rattle.fints_field_rows.specs.declared.fields.NamedField.{NamedField}
 use Rattle.fints_field_rows.specs.FieldFaults.{field_fault}
 use Rattle.fints_field_rows.specs.FieldTables.{IsFieldOf}
-use Rattle.fints_script.specs.Scripts.{AreFields, look_at_field}
+use Rattle.fints_script.specs.Scripts.{DenoteFields, look_at_field}
 
 all_zip_push : {A B : Type 0} (R : A → B → Type 0) (xs : List A) (ys : List B) (x : A) (y : B) → AllZip R xs ys → R x y → AllZip R (xs ++ x ∷ []) (ys ++ y ∷ [])
 all_zip_push R [] [] x y h r = (r, tt)
@@ -15,8 +15,8 @@ all_zip_push R [] (b ∷ bs) x y h r = absurd h
 all_zip_push R (a ∷ more) [] x y h r = absurd h
 all_zip_push R (a ∷ more) (b ∷ bs) x y h r = (h.0, all_zip_push R more bs x y h.1 r)
 
-pub fields_more : (vs : List Value) (i : ℕ) (d : Value) (fields : List NamedField) (f : NamedField) → i < length vs → AreFields (map view (take i vs)) fields → IsFieldOf (view (get_or vs i d)) f.name f.class
-    → AreFields (map view (take (i + 1) vs)) (fields ++ f ∷ [])
+pub fields_more : (vs : List Value) (i : ℕ) (d : Value) (fields : List NamedField) (f : NamedField) → i < length vs → DenoteFields (map view (take i vs)) fields → IsFieldOf (view (get_or vs i d)) f.name f.class
+    → DenoteFields (map view (take (i + 1) vs)) (fields ++ f ∷ [])
 fields_more vs i d fields f h are is =
     let entries : map view (take i vs) ++ view (get_or vs i d) ∷ [] ≡ map view (take (i + 1) vs) = sym (ap (map view) (take_more vs i d h) ∙ map_push view (take i vs) (get_or vs i d)) in
     record {

@@ -14,7 +14,7 @@ use Rattle.fints_field_rows.specs.declared.fault.FaultKind.TheVariants as kinds
 use Rattle.fints_field_rows.specs.declared.fields.NamedField.{NamedField}
 use Rattle.fints_field_rows.specs.FaultOrder.{first_kind, none_of}
 use Rattle.fints_field_rows.specs.Faults.{AreClean}
-use Rattle.fints_field_rows.specs.FieldFaults.{class_of, class_has, field_has, field_fault, is_taken as is_field_taken}
+use Rattle.fints_field_rows.specs.FieldFaults.{class_of, class_has, field_has, field_fault, is_taken_field}
 use Rattle.fints_field_rows.specs.FieldTables.{IsFieldOf}
 use Rattle.fints_field_rows.specs.RowNames.{is_name, is_no_name, name_of}
 use Rattle.fints_templates.specs.Signers.{is_taken}
@@ -83,8 +83,8 @@ named_field : (earlier : List Data) (row : Data) (field : NamedField) → field_
 unfolding field_has
 named_field earlier (table ms) field h is =
     let double : field_has kinds.Duplicate earlier ms ≡ false = (none_of (λ kind. field_has kind earlier ms) h).double in
-    let taken = or_parts (is_field_taken earlier (text_at (codes "name") ms)) (class_has kinds.Duplicate (class_of ms) ms) double in
-    let free = subst (λ o. is_field_taken earlier o ≡ false) is.0 taken.0 in
+    let taken = or_parts (is_taken_field earlier (text_at (codes "name") ms)) (class_has kinds.Duplicate (class_of ms) ms) double in
+    let free = subst (λ o. is_taken_field earlier o ≡ false) is.0 taken.0 in
     let parts = or_parts (bytes_eq field.name (codes "dialog")) (list_any (is_named field.name) earlier) free in
     (is.0, λ e. false≢true (sym parts.0 ∙ (bytes_eq-Decides field.name (codes "dialog")).1 e), parts.1)
 named_field earlier (string text) field h is = absurd is

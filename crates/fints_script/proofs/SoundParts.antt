@@ -19,7 +19,7 @@ use Rattle.fints_fields.specs.Fields.{field_most_items}
 use Rattle.fints_templates.specs.Figures.{figures_of}
 use Rattle.fints_field_rows.specs.NamedFields.{is_account, is_account_at}
 use Rattle.fints_templates.specs.Elements.{elements_have, elements_value}
-use Rattle.fints_templates.specs.Weights.{total, item_count, element_count, items_in, no_figures, MAX_ITEMS}
+use Rattle.fints_templates.specs.Weights.{total, item_count, element_count, items_in, no_figures, MAX_TEMPLATE_ITEMS}
 use Rattle.fints_templates.specs.Signers.{signer_has, signer_value, signer_fault, signer_of, ends_have, has_many_items, limit_of, table_fault, seal_fault, seal_value}
 use Rattle.fints_script.specs.Sound.{IsInRange, IsSingle, IsFrameElement, IsSoundFrame, IsSoundSigner}
 use Rattle.fints_script.proofs.SoundElements.{frame_elements}
@@ -79,7 +79,7 @@ module _ (first : NamedField) (others : List NamedField) (named : first.name ≡
       → IsSoundFrame (first ∷ others) (elements_value (first ∷ others) o)
   sound_frame o wrong no_name few =
       let each = frame_elements first others named o wrong no_name in
-      record { each = each; few = subst (λ n. n ≤ MAX_ITEMS) (sym (list_counts (first ∷ others) (elements_value (first ∷ others) o) each)) (not_past MAX_ITEMS _ few) }
+      record { each = each; few = subst (λ n. n ≤ MAX_TEMPLATE_ITEMS) (sym (list_counts (first ∷ others) (elements_value (first ∷ others) o) each)) (not_past MAX_TEMPLATE_ITEMS _ few) }
 
   sound_table : (earlier : List Data) (ms : Members) → table_fault (first ∷ others) earlier ms ≡ None → IsSoundSigner (first ∷ others) (signer_value (first ∷ others) ms)
   unfolding signer_has

@@ -20,7 +20,7 @@ use Rattle.fints_templates.specs.declared.template.Signer.{Signer}
 use Rattle.fints_documents.specs.Entries.{has_key}
 use Rattle.fints_templates.specs.Elements.{elements_have}
 use Rattle.fints_documents.specs.Tables.{is_outside, number_or, is_no_integer, is_no_list, rows_of}
-use Rattle.fints_templates.specs.Weights.{items_in, MAX_ITEMS}
+use Rattle.fints_templates.specs.Weights.{items_in, MAX_TEMPLATE_ITEMS}
 use Rattle.fints_templates.specs.Figures.{figures_of}
 use Rattle.fints_script.specs.Steps.{place_of_signer, signature_has, signature_value}
 use Rattle.fints_templates.specs.Segments.{frame_kinds, is_body_kind, is_no_kind, segment_keys_have, segment_has, kind_of, template_value, template_of}
@@ -107,7 +107,7 @@ module _ (first : NamedField) (others : List NamedField) (named : first.name ≡
     pub unnamed : has kinds.NoSuchName ≡ false
     pub past : has kinds.Limit ≡ false
 
-  sound_members : (ms : Members) → IsClean (λ kind. segment_keys_have kind (first ∷ others) ms) → items_in (map figures_of (first ∷ others)) (template_value (first ∷ others) ms).elements ≤ MAX_ITEMS
+  sound_members : (ms : Members) → IsClean (λ kind. segment_keys_have kind (first ∷ others) ms) → items_in (map figures_of (first ∷ others)) (template_value (first ∷ others) ms).elements ≤ MAX_TEMPLATE_ITEMS
       → IsSoundTemplate (first ∷ others) (template_value (first ∷ others) ms)
   unfolding segment_keys_have
   sound_members ms clean few =
@@ -125,7 +125,7 @@ module _ (first : NamedField) (others : List NamedField) (named : first.name ≡
         few = few;
       }
 
-  pub sound_template : (row : Data) → IsClean (λ kind. segment_has kind (first ∷ others) row) → items_in (map figures_of (first ∷ others)) (template_of (first ∷ others) row).elements ≤ MAX_ITEMS → IsSoundTemplate (first ∷ others) (template_of (first ∷ others) row)
+  pub sound_template : (row : Data) → IsClean (λ kind. segment_has kind (first ∷ others) row) → items_in (map figures_of (first ∷ others)) (template_of (first ∷ others) row).elements ≤ MAX_TEMPLATE_ITEMS → IsSoundTemplate (first ∷ others) (template_of (first ∷ others) row)
   sound_template (table ms) clean few = sound_members ms clean few
   sound_template (string text) clean few = absurd (false≢true (sym clean.wrong))
   sound_template (integer z) clean few = absurd (false≢true (sym clean.wrong))
@@ -136,7 +136,7 @@ module _ (first : NamedField) (others : List NamedField) (named : first.name ≡
 
   pub sound_templates : (rows : List Data) → list_any (segment_has kinds.Missing (first ∷ others)) rows ≡ false → list_any (segment_has kinds.WrongKind (first ∷ others)) rows ≡ false
       → list_any (segment_has kinds.NoSuchName (first ∷ others)) rows ≡ false → list_any (segment_has kinds.Limit (first ∷ others)) rows ≡ false
-      → list_any (λ (t : Template). nat_lt MAX_ITEMS (items_in (map figures_of (first ∷ others)) t.elements)) (map (template_of (first ∷ others)) rows) ≡ false
+      → list_any (λ (t : Template). nat_lt MAX_TEMPLATE_ITEMS (items_in (map figures_of (first ∷ others)) t.elements)) (map (template_of (first ∷ others)) rows) ≡ false
       → All (IsSoundTemplate (first ∷ others)) (map (template_of (first ∷ others)) rows)
   sound_templates [] m w n l few = All-nil (IsSoundTemplate (first ∷ others))
   sound_templates (row ∷ rows) m w n l few =
@@ -144,9 +144,9 @@ module _ (first : NamedField) (others : List NamedField) (named : first.name ≡
       let b = or_parts (segment_has kinds.WrongKind (first ∷ others) row) (list_any (segment_has kinds.WrongKind (first ∷ others)) rows) w in
       let d = or_parts (segment_has kinds.NoSuchName (first ∷ others) row) (list_any (segment_has kinds.NoSuchName (first ∷ others)) rows) n in
       let e = or_parts (segment_has kinds.Limit (first ∷ others) row) (list_any (segment_has kinds.Limit (first ∷ others)) rows) l in
-      let f = or_parts (nat_lt MAX_ITEMS (items_in (map figures_of (first ∷ others)) (template_of (first ∷ others) row).elements)) _ few in
+      let f = or_parts (nat_lt MAX_TEMPLATE_ITEMS (items_in (map figures_of (first ∷ others)) (template_of (first ∷ others) row).elements)) _ few in
       All-cons (IsSoundTemplate (first ∷ others)) (template_of (first ∷ others) row) (map (template_of (first ∷ others)) rows)
-      (sound_template row (record { missing = a.0; wrong = b.0; unnamed = d.0; past = e.0 }) (not_past MAX_ITEMS _ f.0))
+      (sound_template row (record { missing = a.0; wrong = b.0; unnamed = d.0; past = e.0 }) (not_past MAX_TEMPLATE_ITEMS _ f.0))
       (sound_templates rows a.1 b.1 d.1 e.1 f.1)
 
 -- ---- signatures

@@ -64,15 +64,15 @@ abbrev pub rows_are_wrong : Members → Bool
 rows_are_wrong ms = is_no_array (get_member (codes "field") ms) || (is_no_array (get_member (codes "signer") ms) || is_no_list (get_member (codes "step") ms))
 
 -- more rows than a script may have
-abbrev pub counts_are_past : Members → Bool
-counts_are_past ms = nat_lt MAX_FIELDS (length (field_rows ms)) || (nat_lt MAX_SIGNERS (length (signer_rows ms)) || nat_lt MAX_STEPS (length (step_rows ms)))
+abbrev pub row_counts_are_past : Members → Bool
+row_counts_are_past ms = nat_lt MAX_FIELDS (length (field_rows ms)) || (nat_lt MAX_SIGNERS (length (signer_rows ms)) || nat_lt MAX_STEPS (length (step_rows ms)))
 
 -- a fault of this kind stands in the top keys
 unfoldable pub top_has : FaultKind → Members → Bool
 top_has kinds.UnknownKey ms = not (only_keys top_keys ms)
 top_has kinds.Missing ms = not (has_key (codes "step") ms)
 top_has kinds.WrongKind ms = rows_are_wrong ms
-top_has kinds.Limit ms = counts_are_past ms
+top_has kinds.Limit ms = row_counts_are_past ms
 top_has _ ms = false
 
 abbrev pub top_fault : Members → Option FaultKind
@@ -95,7 +95,7 @@ abbrev pub IsDialogField : NamedField → Type 0
 IsDialogField field = (field.name ≡ codes "dialog") × IsDialogClass field.class
 
 -- the built-in field, and the field of each row
-pub record AreFields (rows : List Data) (fields : List NamedField) : Type 0 where
+pub record DenoteFields (rows : List Data) (fields : List NamedField) : Type 0 where
   pub dialog : NamedField
   pub others : List NamedField
   pub all : fields ≡ dialog ∷ others
@@ -115,7 +115,7 @@ surroundings ms fields signers seal = surroundings_on (step_rows ms) fields sign
 pub record HasFields (ms : Members) (fields : List NamedField) : Type 0 where
   pub top : top_fault ms ≡ None
   pub clean : AreClean (look_at_field (field_rows ms)) (field_rows ms) (length (field_rows ms))
-  pub are : AreFields (field_rows ms) fields
+  pub are : DenoteFields (field_rows ms) fields
 
 -- and the rows of `signer` are these signers
 pub record HasSigners (ms : Members) (fields : List NamedField) (signers : List Signer) : Type 0 where

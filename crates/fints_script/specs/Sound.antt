@@ -8,7 +8,7 @@ use Rattle.fints_script.specs.Plans.{is_account_field}
 use Rattle.fints_script.specs.Scripts.{ScriptValue, IsDialogField, MAX_FIELDS, MAX_SIGNERS, MAX_STEPS}
 use Rattle.fints_script.specs.Steps.{StepValue, Surroundings, step_weight, MAX_WEIGHT}
 use Rattle.fints_templates.specs.Segments.{frame_kinds}
-use Rattle.fints_templates.specs.Weights.{items_in, MAX_ITEMS}
+use Rattle.fints_templates.specs.Weights.{items_in, MAX_TEMPLATE_ITEMS}
 use Rattle.fints_cases.specs.declared.answers.Branch.{Branch}
 use Rattle.fints_cases.specs.declared.answers.Target.{Target}
 use Rattle.fints_cases.specs.declared.answers.Target.TheVariants as targets
@@ -43,7 +43,7 @@ pub record IsBodyElement (fields : List NamedField) (items : List TemplateItem) 
   pub alone : IsTrue (is_account_field fields items) ⊎ All (IsSingle fields) items
 
 abbrev pub HasFewItems : List NamedField → List (List TemplateItem) → Type 0
-HasFewItems fields elements = items_in (map figures_of fields) elements ≤ MAX_ITEMS
+HasFewItems fields elements = items_in (map figures_of fields) elements ≤ MAX_TEMPLATE_ITEMS
 
 -- the elements of a signer's segment, or of the seal
 pub record IsSoundFrame (fields : List NamedField) (elements : List (List TemplateItem)) : Type 0 where

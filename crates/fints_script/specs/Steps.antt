@@ -12,7 +12,7 @@ use Rattle.fints_templates.specs.Elements.{is_wrong_kind}
 use Rattle.fints_field_rows.specs.FaultOrder.{first_kind}
 use Rattle.fints_field_rows.specs.Faults.{or_later}
 use Rattle.fints_cases.specs.Patterns.{pattern_in}
-use Rattle.fints_templates.specs.Weights.{total, segment_weight, signer_weight, items_in, MAX_ITEMS}
+use Rattle.fints_templates.specs.Weights.{total, segment_weight, signer_weight, items_in, MAX_TEMPLATE_ITEMS}
 use Rattle.fints_templates.specs.Signers.{is_taken, limit_of}
 use Rattle.fints_templates.specs.Segments.{segment_has, template_of}
 use Rattle.fints_field_rows.specs.declared.fault.FaultKind.{FaultKind}
@@ -131,8 +131,8 @@ values_are_wrong ms =
     || (is_no_array (get_member (codes "signers") ms) || is_no_array (get_member (codes "branches") ms))
 
 -- too many segments, signers or branches, or a bad number of messages
-abbrev pub counts_are_past : Members → Bool
-counts_are_past ms =
+abbrev pub step_counts_are_past : Members → Bool
+step_counts_are_past ms =
     (is_outside 1 99 (get_member (codes "repeat") ms) || nat_lt 100 (length (rows_of (get_member (codes "segments") ms))))
     || (nat_lt 9 (length (rows_of (get_member (codes "signers") ms))) || nat_lt 20 (length (rows_of (get_member (codes "branches") ms))))
 
@@ -142,8 +142,8 @@ is_reserved None = false
 is_reserved (Some text) = is_word text
 
 -- a required key is absent, or a sealed step has no seal
-abbrev pub lacks_keys : Bool → Members → Bool
-lacks_keys has_seal ms = not (has_key (codes "name") ms && has_key (codes "segments") ms) || (is_set (get_member (codes "sealed") ms) && not has_seal)
+abbrev pub lacks_step_keys : Bool → Members → Bool
+lacks_step_keys has_seal ms = not (has_key (codes "name") ms && has_key (codes "segments") ms) || (is_set (get_member (codes "sealed") ms) && not has_seal)
 
 -- the name may not stand here: it is a word, or that of an earlier row
 abbrev pub is_second : List Data → ℕ → Members → Bool
@@ -152,10 +152,10 @@ is_second rows i ms = is_reserved (text_at (codes "name") ms) || is_taken (take 
 -- a fault of this kind stands in the own keys of the step in row i
 unfoldable pub keys_have : FaultKind → Surroundings → ℕ → Members → Bool
 keys_have kinds.UnknownKey around i ms = not (only_keys step_keys ms)
-keys_have kinds.Missing around i ms = lacks_keys (is_some around.seal) ms
+keys_have kinds.Missing around i ms = lacks_step_keys (is_some around.seal) ms
 keys_have kinds.WrongKind around i ms = values_are_wrong ms
 keys_have kinds.Duplicate around i ms = is_second around.rows i ms
-keys_have kinds.Limit around i ms = counts_are_past ms
+keys_have kinds.Limit around i ms = step_counts_are_past ms
 keys_have _ around i ms = false
 
 unfoldable pub step_has : FaultKind → Surroundings → ℕ → Members → Bool
@@ -202,7 +202,7 @@ step_weight around step =
 
 -- some segment has more items than it may
 abbrev pub has_large_segment : List Figures → List Template → Bool
-has_large_segment figures templates = list_any (λ (t : Template). nat_lt MAX_ITEMS (items_in figures t.elements)) templates
+has_large_segment figures templates = list_any (λ (t : Template). nat_lt MAX_TEMPLATE_ITEMS (items_in figures t.elements)) templates
 
 -- a segment has too many items, or the step is too heavy
 abbrev pub is_too_large : Surroundings → StepValue → Bool

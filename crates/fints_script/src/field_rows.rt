@@ -3,7 +3,7 @@ ghost use Rattle.std.specs.Prelude.{◌≡◌, ◌≤◌, length, map, IfOk, IfE
 ghost use Rattle.toml.specs.View.{view};
 ghost use Rattle.fints_field_rows.specs.Faults.{AreClean};
 ghost use Rattle.fints_script.specs.RowFaults.{RefusesRow};
-ghost use Rattle.fints_script.specs.Scripts.{look_at_field, AreFields, IsDialogField};
+ghost use Rattle.fints_script.specs.Scripts.{look_at_field, DenoteFields, IsDialogField};
 ghost use Rattle.fints_field_rows.specs.declared.fault.Place.TheVariants as places;
 
 use crate::rows::placed;
@@ -27,7 +27,7 @@ fn dialog_field() -> NamedField
 pub fn read_fields(alloc: Global, rows: &[Value]) -> Result<Fields, ScriptFault>
     requires { length rows.now ≤ 100 }
     ensures clean { IfOk result (λ v. AreClean (look_at_field (map view rows.now)) (map view rows.now) (length rows.now)) }
-    ensures fields { IfOk result (AreFields (map view rows.now)) }
+    ensures fields { IfOk result (DenoteFields (map view rows.now)) }
     ensures fault { IfErr result (RefusesRow (λ n. places.Field n) (look_at_field (map view rows.now)) (map view rows.now)) }
 {
     let mut fields = Vec::new(alloc);

@@ -8,7 +8,7 @@ ghost use Rattle.fints_field_rows.specs.Faults.{Tells, AreClean};
 ghost use Rattle.fints_script.specs.RowFaults.{RefusesRow, RefusesSeal};
 ghost use Rattle.fints_script.specs.Steps.{step_fault, step_of};
 ghost use Rattle.fints_field_rows.specs.declared.fault.Place.TheVariants as places;
-ghost use Rattle.fints_script.specs.Scripts.{ScriptValue, top_has, top_fault, rows_are_wrong, counts_are_past, IsScriptOf, HasFields, RefusesTable, IsRead, Denotes, Refuses, at_top, signer_rows, step_rows, look_at_signer, surroundings, surroundings_on};
+ghost use Rattle.fints_script.specs.Scripts.{ScriptValue, top_has, top_fault, rows_are_wrong, row_counts_are_past, IsScriptOf, HasFields, RefusesTable, IsRead, Denotes, Refuses, at_top, signer_rows, step_rows, look_at_signer, surroundings, surroundings_on};
 ghost use Rattle.fints_templates.specs.Signers.{signer_of, seal_fault, seal_value};
 
 use crate::around::Around;
@@ -113,8 +113,8 @@ fn at_top(kind: FaultKind) -> ScriptFault
     }
 }
 
-fn counts_are_past(table: &Table) -> bool
-    ensures { result ≡ counts_are_past (table_view table.now) }
+fn row_counts_are_past(table: &Table) -> bool
+    ensures { result ≡ row_counts_are_past (table_view table.now) }
 {
     rows_of(document::member(table, "field")).len() > MAX_FIELDS
         || rows_of(document::member(table, "signer")).len() > MAX_SIGNERS
@@ -139,7 +139,7 @@ fn top_has(kind: FaultKind, table: &Table) -> bool
         }
         FaultKind::Missing => !has_key(table, "step"),
         FaultKind::WrongKind => values_are_wrong(table),
-        FaultKind::Limit => counts_are_past(table),
+        FaultKind::Limit => row_counts_are_past(table),
         _ => false,
     }
 }

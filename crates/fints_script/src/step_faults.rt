@@ -5,7 +5,7 @@ ghost use Rattle.std.specs.Str.{bytes_eq};
 ghost use Rattle.toml.specs.View.{view, table_view};
 ghost use Rattle.fints_documents.specs.Document.{only_keys};
 ghost use Rattle.fints_field_rows.specs.FaultOrder.{first_kind};
-ghost use Rattle.fints_script.specs.Steps.{place_of_signer, signature_has, parts_have, values_are_wrong, counts_are_past, is_reserved, lacks_keys, is_second, step_keys, keys_have, step_has};
+ghost use Rattle.fints_script.specs.Steps.{place_of_signer, signature_has, parts_have, values_are_wrong, step_counts_are_past, is_reserved, lacks_step_keys, is_second, step_keys, keys_have, step_has};
 ghost use Rattle.fints_templates.specs.Signers.{is_taken};
 ghost use Rattle.fints_script.specs.Around.{surroundings_of};
 
@@ -90,8 +90,8 @@ fn values_are_wrong(table: &Table) -> bool
         || is_no_array(document::member(table, "branches"))
 }
 
-fn counts_are_past(table: &Table) -> bool
-    ensures { result ≡ counts_are_past (table_view table.now) }
+fn step_counts_are_past(table: &Table) -> bool
+    ensures { result ≡ step_counts_are_past (table_view table.now) }
 {
     is_outside(1, 99, document::member(table, "repeat"))
         || rows_of(document::member(table, "segments")).len() > 100
@@ -108,8 +108,8 @@ fn is_reserved(name: Option<&str>) -> bool
     }
 }
 
-fn lacks_keys(has_seal: bool, table: &Table) -> bool
-    ensures { result ≡ lacks_keys has_seal (table_view table.now) }
+fn lacks_step_keys(has_seal: bool, table: &Table) -> bool
+    ensures { result ≡ lacks_step_keys has_seal (table_view table.now) }
 {
     !(has_key(table, "name") && has_key(table, "segments"))
         || is_set(document::member(table, "sealed")) && !has_seal
@@ -142,10 +142,10 @@ fn keys_have(kind: FaultKind, around: &Around<'_>, row: usize, table: &Table) ->
 {
     match kind {
         FaultKind::UnknownKey => !only_step_keys(table),
-        FaultKind::Missing => lacks_keys(around.seal.is_some(), table),
+        FaultKind::Missing => lacks_step_keys(around.seal.is_some(), table),
         FaultKind::WrongKind => values_are_wrong(table),
         FaultKind::Duplicate => is_second(around.rows, row, table),
-        FaultKind::Limit => counts_are_past(table),
+        FaultKind::Limit => step_counts_are_past(table),
         _ => false,
     }
 }

@@ -39,12 +39,12 @@ item_has kind fields free (string text) = reading_has kind fields free (reading_
 item_has kind fields free _ = is_wrong_kind kind
 
 -- an array of items has at least one, and an account field doesn't stand there
-abbrev pub items_have : FaultKind → List NamedField → List Data → Bool
-items_have kind fields ds = (is_wrong_kind kind && (length ds == 0)) || list_any (item_has kind fields false) ds
+abbrev pub element_items_have : FaultKind → List NamedField → List Data → Bool
+element_items_have kind fields ds = (is_wrong_kind kind && (length ds == 0)) || list_any (item_has kind fields false) ds
 
 -- an element is a string, or an array of strings
 abbrev pub element_has : FaultKind → List NamedField → Bool → Data → Bool
-element_has kind fields free (array ds) = items_have kind fields (item_list ds)
+element_has kind fields free (array ds) = element_items_have kind fields (item_list ds)
 element_has kind fields free d = item_has kind fields free d
 
 -- a list of elements is an array; a key that is absent has none

@@ -9,7 +9,7 @@ use Rattle.fints_field_rows.specs.RowNames.{name_value, name_of}
 use Rattle.fints_templates.specs.Elements.{elements_have, elements_value}
 use Rattle.fints_field_rows.specs.FaultOrder.{first_kind}
 use Rattle.fints_field_rows.specs.Faults.{or_later}
-use Rattle.fints_templates.specs.Weights.{total, MAX_ITEMS}
+use Rattle.fints_templates.specs.Weights.{total, MAX_TEMPLATE_ITEMS}
 use Rattle.fints_field_rows.specs.declared.fault.FaultKind.{FaultKind}
 use Rattle.fints_field_rows.specs.declared.fault.FaultKind.TheVariants as kinds
 use Rattle.fints_field_rows.specs.declared.fields.NamedField.{NamedField}
@@ -28,13 +28,13 @@ is_taken earlier (Some name) = list_any (is_named name) earlier
 abbrev pub ends_have : FaultKind → List NamedField → Members → Bool
 ends_have kind fields ms = elements_have kind fields false (get_member (codes "head") ms) || elements_have kind fields false (get_member (codes "end") ms)
 
-abbrev pub lacks_keys : Members → Bool
-lacks_keys ms = not (has_key (codes "name") ms && (has_key (codes "head") ms && has_key (codes "end") ms))
+abbrev pub lacks_signer_keys : Members → Bool
+lacks_signer_keys ms = not (has_key (codes "name") ms && (has_key (codes "head") ms && has_key (codes "end") ms))
 
 -- a fault of this kind stands in a signer's table, behind earlier rows
 unfoldable pub signer_has : FaultKind → List NamedField → List Data → Members → Bool
 signer_has kinds.UnknownKey fields earlier ms = not (only_keys signer_keys ms)
-signer_has kinds.Missing fields earlier ms = lacks_keys ms
+signer_has kinds.Missing fields earlier ms = lacks_signer_keys ms
 signer_has kinds.WrongKind fields earlier ms = is_no_name (get_member (codes "name") ms) || ends_have kinds.WrongKind fields ms
 signer_has kinds.Duplicate fields earlier ms = is_taken earlier (text_at (codes "name") ms)
 signer_has kind fields earlier ms = ends_have kind fields ms
@@ -48,7 +48,7 @@ signer_value fields ms = record {
 
 -- more items than a list of elements may have; no account field stands here, so that each item counts once
 abbrev pub has_many_items : List (List TemplateItem) → Bool
-has_many_items elements = nat_lt MAX_ITEMS (total length elements)
+has_many_items elements = nat_lt MAX_TEMPLATE_ITEMS (total length elements)
 
 abbrev pub limit_of : Bool → Option FaultKind
 limit_of past = if past then Some kinds.Limit else None

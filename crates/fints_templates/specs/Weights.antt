@@ -44,8 +44,8 @@ abbrev pub items_in : List Figures → List (List TemplateItem) → ℕ
 items_in figures elements = total (element_count figures) elements
 
 -- the most items of a list of elements
-abbrev pub MAX_ITEMS : ℕ
-MAX_ITEMS = 10000
+abbrev pub MAX_TEMPLATE_ITEMS : ℕ
+MAX_TEMPLATE_ITEMS = 10000
 
 -- what is left of an allowance after a cost; none where it doesn't cover it
 abbrev pub Spends : ℕ → ℕ → Option ℕ → Type 0

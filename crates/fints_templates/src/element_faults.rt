@@ -4,7 +4,7 @@ ghost use Rattle.std.specs.List.{list_any, list_all};
 ghost use Rattle.toml.specs.View.{view};
 ghost use Rattle.hex.specs.Hex.{is_hex_digit};
 ghost use Rattle.fints_templates.specs.ItemTexts.{read_as};
-ghost use Rattle.fints_templates.specs.Elements.{is_hex, reading_has, is_wrong_kind, item_has, items_have, element_has, elements_have};
+ghost use Rattle.fints_templates.specs.Elements.{is_hex, reading_has, is_wrong_kind, item_has, element_items_have, element_has, elements_have};
 
 use crate::item_text::{ItemText, item_text};
 use fints_field_rows::text::is_latin1;
@@ -68,8 +68,8 @@ fn some_item_has(kind: FaultKind, fields: &Fields, values: &[Value]) -> bool
     false
 }
 
-fn items_have(kind: FaultKind, fields: &Fields, values: &[Value]) -> bool
-    ensures { result ≡ items_have kind fields.now (map view values.now) }
+fn element_items_have(kind: FaultKind, fields: &Fields, values: &[Value]) -> bool
+    ensures { result ≡ element_items_have kind fields.now (map view values.now) }
 {
     is_wrong_kind(kind) && values.is_empty() || some_item_has(kind, fields, values)
 }
@@ -78,7 +78,7 @@ fn element_has(kind: FaultKind, fields: &Fields, free: bool, value: &Value) -> b
     ensures { result ≡ element_has kind fields.now free (view value.now) }
 {
     match value {
-        Value::Array(values) => items_have(kind, fields, values.as_slice()),
+        Value::Array(values) => element_items_have(kind, fields, values.as_slice()),
         _ => item_has(kind, fields, free, value),
     }
 }

@@ -4,7 +4,7 @@ ghost use Rattle.toml.specs.View.{view, table_view};
 ghost use Rattle.fints_templates.specs.Elements.{elements_have};
 ghost use Rattle.fints_field_rows.specs.FaultOrder.{first_kind};
 ghost use Rattle.fints_field_rows.specs.Faults.{Tells};
-ghost use Rattle.fints_templates.specs.Signers.{is_taken, ends_have, lacks_keys, signer_has, signer_value, table_fault, signer_fault, signer_of, seal_fault, seal_value};
+ghost use Rattle.fints_templates.specs.Signers.{is_taken, ends_have, lacks_signer_keys, signer_has, signer_value, table_fault, signer_fault, signer_of, seal_fault, seal_value};
 
 use crate::element_faults::elements_have;
 use crate::element_values::elements_value;
@@ -35,8 +35,8 @@ fn ends_have(kind: FaultKind, fields: &Fields, table: &Table) -> bool
         || elements_have(kind, fields, false, document::member(table, "end"))
 }
 
-fn lacks_keys(table: &Table) -> bool
-    ensures { result ≡ lacks_keys (table_view table.now) }
+fn lacks_signer_keys(table: &Table) -> bool
+    ensures { result ≡ lacks_signer_keys (table_view table.now) }
 {
     !(has_key(table, "name") && has_key(table, "head") && has_key(table, "end"))
 }
@@ -47,7 +47,7 @@ fn signer_has(kind: FaultKind, fields: &Fields, earlier: &[Value], table: &Table
 {
     match kind {
         FaultKind::UnknownKey => !document::only_keys(table, &["name", "head", "end"]),
-        FaultKind::Missing => lacks_keys(table),
+        FaultKind::Missing => lacks_signer_keys(table),
         FaultKind::WrongKind => {
             is_no_name(document::member(table, "name")) || ends_have(kind, fields, table)
         }

@@ -1,7 +1,7 @@
 //! How much templates weigh, and how many items they have.
 ghost use Rattle.std.specs.Prelude.{◌≡◌, ◌↔◌, ◌+◌, ◌<◌, ◌≤◌, IsTrue, IfOk, length, map, get_or};
 ghost use Rattle.std.specs.Fmt.{decimal};
-ghost use Rattle.fints_templates.specs.Weights.{Spends, total, item_weight, element_weight, segment_weight, signer_weight, item_count, element_count, items_in, no_figures, MAX_ITEMS};
+ghost use Rattle.fints_templates.specs.Weights.{Spends, total, item_weight, element_weight, segment_weight, signer_weight, item_count, element_count, items_in, no_figures, MAX_TEMPLATE_ITEMS};
 ghost use Rattle.fints_templates.specs.Figures.{figures_of};
 
 use crate::template::{Signer, TemplateElements, TemplateItem};
@@ -139,7 +139,7 @@ fn spend_elements(allowance: u64, figures: &[Figures], elements: &TemplateElemen
 /// Whether the elements have more items than a list may, a field counting as its value with the
 /// most items.
 pub fn has_too_many_items(figures: &[Figures], elements: &TemplateElements) -> bool
-    ensures { IsTrue result ↔ (MAX_ITEMS < items_in figures.now elements.now) }
+    ensures { IsTrue result ↔ (MAX_TEMPLATE_ITEMS < items_in figures.now elements.now) }
 {
     spend_elements(10_000, figures, elements).is_none()
 }
@@ -156,7 +156,7 @@ fn spend_entries(allowance: u64, elements: &TemplateElements) -> Option<u64>
 
 /// Whether the elements have more items than a list may, each counted once.
 pub fn has_many_items(elements: &TemplateElements) -> bool
-    ensures { IsTrue result ↔ (MAX_ITEMS < total length elements.now) }
+    ensures { IsTrue result ↔ (MAX_TEMPLATE_ITEMS < total length elements.now) }
 {
     spend_entries(10_000, elements).is_none()
 }

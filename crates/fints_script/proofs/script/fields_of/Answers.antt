@@ -4,7 +4,7 @@ use Rattle.toml.specs.Data.{Data}
 use Rattle.toml.specs.View.{view, table_view}
 use Rattle.fints_field_rows.specs.Faults.{AreClean}
 use Rattle.fints_documents.specs.Tables.{rows_of}
-use Rattle.fints_script.specs.Scripts.{field_rows, look_at_field, AreFields}
+use Rattle.fints_script.specs.Scripts.{field_rows, look_at_field, DenoteFields}
 use Rattle.fints_script.proofs.TopLemmas.{counts_kept}
 use Rattle.fints_script.proofs.script.fields_of.Goals as goal
 
@@ -23,5 +23,5 @@ returns-clause-fields c =
     record {
       top = c.requires;
       clean = subst (λ (rs : List Data). AreClean (look_at_field rs) rs (length rs)) same (subst (AreClean (look_at_field rows) rows) count c.in_ok-fields.ensures.clean);
-      are = subst (λ (rs : List Data). AreFields rs c.in_ok-fields.fields) same c.in_ok-fields.ensures.fields;
+      are = subst (λ (rs : List Data). DenoteFields rs c.in_ok-fields.fields) same c.in_ok-fields.ensures.fields;
     }
