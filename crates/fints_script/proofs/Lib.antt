@@ -12,3 +12,4 @@ pub mod SoundScripts
 pub mod SoundParts
 pub mod SoundSteps
 pub mod ClosedSegments
+pub mod OneScript

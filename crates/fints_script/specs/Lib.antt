@@ -5,3 +5,4 @@ pub mod RowFaults
 pub mod Plans
 pub mod Numbered
 pub mod Sound
+pub mod Laws
