@@ -22,7 +22,7 @@ use Rattle.fints_templates.specs.declared.template.Signer.{Signer}
 use Rattle.fints_templates.specs.declared.template.TemplateItem.{TemplateItem}
 use Rattle.fints_templates.specs.Signers.{signer_of, seal_fault, seal_value}
 use Rattle.fints_script.specs.Steps.{step_fault, step_of}
-use Rattle.fints_script.specs.Scripts.{AreFields, Denotes, FieldFault, HasFields, HasSeal, HasSigners, IsDialogClass, IsDialogField, IsFaultOf, IsFirstOf, IsNoToml, IsScriptOf, IsTooLong, MAX_TEXT, ScriptValue, SealFault, SignerFault, StepFault, TopFault, field_rows, look_at_field, look_at_signer, signer_rows, step_rows, surroundings, top_fault}
+use Rattle.fints_script.specs.Scripts.{DenoteFields, Denotes, FieldFault, HasFields, HasSeal, HasSigners, IsDialogClass, IsDialogField, IsFaultOf, IsFirstOf, IsNoToml, IsScriptOf, IsTooLong, MAX_TEXT, ScriptValue, SealFault, SignerFault, StepFault, TopFault, field_rows, look_at_field, look_at_signer, signer_rows, step_rows, surroundings, top_fault}
 
 same_fault : (f g : ScriptFault) → f.kind ≡ g.kind → f.place ≡ g.place → f ≡ g
 same_fault f g kind place = λ i. record { kind = kind i; place = place i }
@@ -60,7 +60,7 @@ module _ (one_text : (c d : Text) → c.min ≡ d.min → c.max ≡ d.max → c 
       let rest : fs ≡ gs = others_once rows fs gs h.1 i.1 in
       λ j. first j ∷ rest j
 
-  one_fields : (rows : List Data) (fs gs : List NamedField) → AreFields rows fs → AreFields rows gs → fs ≡ gs
+  one_fields : (rows : List Data) (fs gs : List NamedField) → DenoteFields rows fs → DenoteFields rows gs → fs ≡ gs
   one_fields rows fs gs h i =
       let first : h.dialog ≡ i.dialog = one_dialog h.dialog i.dialog h.built_in i.built_in in
       let rest : h.others ≡ i.others = others_once rows h.others i.others h.each i.each in
