@@ -92,24 +92,24 @@ segment_begins ((s ∷ ss) ∷ es) seg =
     let front = front_item s ss es in
     subst Begins (sym front.1) (begins-append (spelled_bytes s) front.0 (spelled_begins s (kind_begins _ (head_id s ss seg.head))))
 
-segment_clean : (es : List (List Spelled)) (x : List ℕ) → IsSegment es → IsClean (segment_bytes es ++ x)
+pub segment_clean : (es : List (List Spelled)) (x : List ℕ) → IsSegment es → IsClean (segment_bytes es ++ x)
 segment_clean es x seg =
     let b = begins-append (segment_bytes es) x (segment_begins es seg) in
     subst IsClean (sym b.text) b.no_break
 
-segment_some : (es : List (List Spelled)) (x : List ℕ) → IsSegment es → [] ≡ segment_bytes es ++ x → ⊥
+pub segment_some : (es : List (List Spelled)) (x : List ℕ) → IsSegment es → [] ≡ segment_bytes es ++ x → ⊥
 segment_some es x seg e = let b = begins-append (segment_bytes es) x (segment_begins es seg) in let q : [] ≡ b.first ∷ b.more = e ∙ b.text in cc
 
 -- ---- line breaks before what begins with none are the same in each reading
 
-same_gap : (g h x y : List ℕ) → AllByRecursion IsBreak g → AllByRecursion IsBreak h → IsClean x → IsClean y → g ++ x ≡ h ++ y → x ≡ y
+pub same_gap : (g h x y : List ℕ) → AllByRecursion IsBreak g → AllByRecursion IsBreak h → IsClean x → IsClean y → g ++ x ≡ h ++ y → x ≡ y
 same_gap [] [] x y p q c d e = e
 same_gap [] (b ∷ h) x y p q c d e = absurd (let c' : IsClean (b ∷ (h ++ y)) = subst IsClean e c in c' q.0)
 same_gap (b ∷ g) [] x y p q c d e = absurd (let d' : IsClean (b ∷ (g ++ x)) = subst IsClean (sym e) d in d' p.0)
 same_gap (a ∷ g) (b ∷ h) x y p q c d e = same_gap g h x y p.1 q.1 c d (same_tail a b (g ++ x) (h ++ y) e)
 
 -- a piece and what follows it
-regroup : (p : Piece) (ps : List Piece) (x : List ℕ) → flat_map piece_bytes (p ∷ ps) ++ x ≡ p.gap ++ (segment_bytes p.elements ++ (flat_map piece_bytes ps ++ x))
+pub regroup : (p : Piece) (ps : List Piece) (x : List ℕ) → flat_map piece_bytes (p ∷ ps) ++ x ≡ p.gap ++ (segment_bytes p.elements ++ (flat_map piece_bytes ps ++ x))
 regroup p ps x = simp append_assoc
 
 -- one piece alone, against line breaks at the end
@@ -120,7 +120,7 @@ no_piece p ps tail x h b e =
     segment_some p.elements (flat_map piece_bytes ps ++ x) h.segment (sym (same_gap p.gap tail rest [] h.gap b (segment_clean p.elements _ h.segment) tt both))
 
 -- the first pieces are of one segment, and so is what follows
-same_piece : (p q : Piece) (ps qs : List Piece) (x y : List ℕ) → IsPiece p → IsPiece q → flat_map piece_bytes (p ∷ ps) ++ x ≡ flat_map piece_bytes (q ∷ qs) ++ y
+pub same_piece : (p q : Piece) (ps qs : List Piece) (x y : List ℕ) → IsPiece p → IsPiece q → flat_map piece_bytes (p ∷ ps) ++ x ≡ flat_map piece_bytes (q ∷ qs) ++ y
     → (p.elements ≡ q.elements) × (flat_map piece_bytes ps ++ x ≡ flat_map piece_bytes qs ++ y)
 same_piece p q ps qs x y h g e =
     let a = flat_map piece_bytes ps ++ x in
@@ -148,7 +148,7 @@ one_capture input s t (x, b, r) (y, d, q) =
 
 -- ---- bytes with a fault are no capture
 
-kind_only : (kind : SyntaxKind) (o : ℕ) (input : List ℕ) → KindAt kind o input → BeginsWithSegment (window_of input) → ⊥
+pub kind_only : (kind : SyntaxKind) (o : ℕ) (input : List ℕ) → KindAt kind o input → BeginsWithSegment (window_of input) → ⊥
 kind_only Memory o input h b = h
 kind_only CaptureTooLong o input h b = h
 kind_only BadBinary o input h b = bad_only (window_of input) o h b
@@ -170,7 +170,7 @@ goes_on (p ∷ ps) [] x gap more first h g b d clean none e =
 goes_on (p ∷ ps) (q ∷ qs) x gap more first h g b d clean none e =
     goes_on ps qs x gap more first h.1 g.1 b d clean none (same_piece p q ps qs x (gap ++ first ∷ more) h.0 g.0 e).1
 
-no_capture_at : (input : List ℕ) (kind : SyntaxKind) (o : ℕ) (s : List (List (List Spelled))) → FaultsAt input kind o → IsCapture input s → ⊥
+pub no_capture_at : (input : List ℕ) (kind : SyntaxKind) (o : ℕ) (s : List (List (List Spelled))) → FaultsAt input kind o → IsCapture input s → ⊥
 no_capture_at input kind o s f (x, b, r) =
     goes_on r.pieces f.reads.pieces x f.gap f.more f.first r.each f.reads.each b f.breaks f.no_break (kind_only kind f.at (f.first ∷ f.more) f.fault) (sym r.text ∙ f.reads.text)
 

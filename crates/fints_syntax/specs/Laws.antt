@@ -1,10 +1,12 @@
 -- The laws of segment texts. Each is the contract of a public function, which a proof in a crate above calls for it.
-use Rattle.std.specs.Prelude.{◌≡◌, ◌≢◌, ◌≤◌, ◌++◌, ℕ, List, length, take, Some}
+use Rattle.std.specs.Prelude.{◌≡◌, ◌≢◌, ◌≤◌, ◌↔◌, ◌++◌, ℕ, List, length, map, take, Some}
 use Rattle.fints_syntax.specs.Spelling.{Spelled}
 use Rattle.fints_syntax.specs.Segment.{segment_bytes, values_of, head_of, IsFramed, IsSegment}
-use Rattle.fints_syntax.specs.Faults.{BeginsWithSegment, window_of}
-use Rattle.fints_syntax.specs.Capture.{IsCapture, IsCaptureFault, MAX_CAPTURE}
+use Rattle.fints_syntax.specs.Owned.{IsOwned}
+use Rattle.fints_syntax.specs.Faults.{BeginsWithSegment, IsFault, window_of}
+use Rattle.fints_syntax.specs.Capture.{IsCapture, IsPlacedCapture, IsCaptureFault, MAX_CAPTURE}
 use Rattle.fints_syntax.specs.Written.{segment_values, written_tree, written_segment, IsWritable}
+use Rattle.fints_syntax.specs.declared.capture.Placed.{Placed}
 use Rattle.fints_syntax.specs.declared.fault.SyntaxFault.{SyntaxFault}
 use Rattle.fints_syntax.specs.declared.fault.SyntaxKind.TheVariants.{Memory}
 use Rattle.fints_syntax.specs.declared.item.OwnedSegment.{OwnedSegment}
@@ -36,6 +38,34 @@ NothingElseIsRead =
     (s : OwnedSegment) (rest : List ℕ) (es : List (List Spelled)) (len : ℕ) → IsWritable s → IsSegment es → len ≤ length (written_segment s ++ rest) → take len (written_segment s ++ rest) ≡ segment_bytes es
     → (es ≡ written_tree s) × (len ≡ length (written_segment s))
 
+-- the bytes begin with a text of this segment, of so many bytes
+pub record BeginsWithText (bytes : List ℕ) (s : OwnedSegment) (len : ℕ) : Type 0 where
+  pub elements : List (List Spelled)
+  pub segment : IsSegment elements
+  pub values : IsOwned elements s
+  pub text : take len bytes ≡ segment_bytes elements
+  pub within : len ≤ length bytes
+
+-- elements have one list of values
+abbrev pub OneOwnedSegment : Type 0
+OneOwnedSegment = (es : List (List Spelled)) (s t : OwnedSegment) → IsOwned es s → IsOwned es t → s ≡ t
+
+-- bytes begin with a text of one segment, and that text has one length
+abbrev pub OneReading : Type 0
+OneReading = (bytes : List ℕ) (s t : OwnedSegment) (len n : ℕ) → BeginsWithText bytes s len → BeginsWithText bytes t n → (s ≡ t) × (len ≡ n)
+
+-- what is written for a segment within the limits is read back as that segment and as nothing else, whatever bytes follow it
+abbrev pub WrittenIsReadBack : Type 0
+WrittenIsReadBack = (s t : OwnedSegment) (rest : List ℕ) (len : ℕ) → IsWritable s → BeginsWithText (written_segment s ++ rest) t len ↔ ((t ≡ s) × (len ≡ length (written_segment s)))
+
+-- bytes that begin with no segment have one fault at most: one kind, and one offset
+abbrev pub OneFault : Type 0
+OneFault = (input : List ℕ) (f g : SyntaxFault) → IsFault input f → IsFault input g → f ≡ g
+
+-- bytes with such a fault begin with no segment
+abbrev pub NoSegmentAtFault : Type 0
+NoSegmentAtFault = (input : List ℕ) (f : SyntaxFault) → IsFault input f → BeginsWithSegment (window_of input) → ⊥
+
 -- a capture is one list of segments
 abbrev pub OneCapture : Type 0
 OneCapture = (input : List ℕ) (s t : List (List (List Spelled))) → IsCapture input s → IsCapture input t → s ≡ t
@@ -43,3 +73,15 @@ OneCapture = (input : List ℕ) (s t : List (List (List Spelled))) → IsCapture
 -- bytes with a fault, but for want of memory, are no capture
 abbrev pub NoCaptureAtFault : Type 0
 NoCaptureAtFault = (input : List ℕ) (f : SyntaxFault) (s : List (List (List Spelled))) → IsCaptureFault input f → f.kind ≢ Memory → length input ≤ MAX_CAPTURE → IsCapture input s → ⊥
+
+-- the segments of a capture stand at one list of places
+abbrev pub OnePlacedCapture : Type 0
+OnePlacedCapture = (input : List ℕ) (p q : List Placed) → IsPlacedCapture input p → IsPlacedCapture input q → p ≡ q
+
+-- placed segments, without their places, are the segments of the capture
+abbrev pub PlacedIsCapture : Type 0
+PlacedIsCapture = (input : List ℕ) (placed : List Placed) → IsPlacedCapture input placed → IsCapture input (map (λ p. p.segment) placed)
+
+-- a capture has one fault at most, but for want of memory: one kind, and one offset
+abbrev pub OneCaptureFault : Type 0
+OneCaptureFault = (input : List ℕ) (f g : SyntaxFault) → IsCaptureFault input f → IsCaptureFault input g → f.kind ≢ Memory → g.kind ≢ Memory → f ≡ g
