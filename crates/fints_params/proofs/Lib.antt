@@ -8,3 +8,4 @@ pub mod RowsSoFar
 pub mod FoundCodes
 pub mod Sizes
 pub mod Bounds
+pub mod OneMeaning

@@ -11,3 +11,4 @@ pub mod Opened
 pub mod Captures
 pub mod Taken
 pub mod Steps
+pub mod Laws

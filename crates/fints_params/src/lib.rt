@@ -9,6 +9,7 @@ mod fault;
 mod feedback;
 mod gathered;
 mod gathering;
+pub mod laws;
 mod opening;
 mod orders;
 mod params;

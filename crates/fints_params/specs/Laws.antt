@@ -1,0 +1,29 @@
+-- The laws of what captures tell: their bytes have one meaning at most. Each is the contract of a public function.
+use Rattle.std.specs.Prelude.{◌≡◌, ℕ, List}
+use Rattle.fints_params.specs.declared.fault.ParamFault.{ParamFault}
+use Rattle.fints_params.specs.Parameters.{Rows}
+use Rattle.fints_params.specs.Captures.{IsParamsOf, IsParamFault, IsCodesOf, IsCodeFault}
+
+-- a capture has one set of rows at most
+abbrev pub OneParams : Type 0
+OneParams = (capture : List ℕ) (a b : Rows) → IsParamsOf capture a → IsParamsOf capture b → a ≡ b
+
+-- it has one first refusal at most
+abbrev pub OneParamFault : Type 0
+OneParamFault = (capture : List ℕ) (f g : ParamFault) → IsParamFault capture f → IsParamFault capture g → f ≡ g
+
+-- it never has rows and a refusal
+abbrev pub NoParamsAtFault : Type 0
+NoParamsAtFault = (capture : List ℕ) (rows : Rows) (f : ParamFault) → IsParamsOf capture rows → IsParamFault capture f → ⊥
+
+-- a message has one list of codes at most
+abbrev pub OneCodes : Type 0
+OneCodes = (message a b : List ℕ) → IsCodesOf message a → IsCodesOf message b → a ≡ b
+
+-- it has one first refusal at most
+abbrev pub OneCodeFault : Type 0
+OneCodeFault = (message : List ℕ) (f g : ParamFault) → IsCodeFault message f → IsCodeFault message g → f ≡ g
+
+-- it never has codes and a refusal
+abbrev pub NoCodesAtFault : Type 0
+NoCodesAtFault = (message numbers : List ℕ) (f : ParamFault) → IsCodesOf message numbers → IsCodeFault message f → ⊥
