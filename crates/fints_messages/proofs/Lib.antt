@@ -8,3 +8,4 @@ pub mod ItemValues
 pub mod Uniques
 pub mod Wholes
 pub mod Numbers
+pub mod OneStop

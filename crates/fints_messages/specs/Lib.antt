@@ -3,3 +3,4 @@ pub mod Parts
 pub mod Messages
 pub mod Read
 pub mod Front
+pub mod Laws

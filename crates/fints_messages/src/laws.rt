@@ -1,12 +1,24 @@
 //! Laws of messages: each function's contract is one.
 ghost use Rattle.std.specs.Prelude.{◌≡◌, ◌+◌, ℕ, List, length};
 ghost use Rattle.fints_messages.specs.Messages.{MessageView, IsMessage, IsNumbered};
+ghost use Rattle.fints_messages.specs.Laws.{OneStop, NoStopInMessage, OneRefusal, NoRefusalOfMessage};
 
 use fints_syntax::laws::one_segment_text;
 
 /// The bytes determine what the message holds.
 pub fn one_message()
     ensures { (bytes : List ℕ) (m n : MessageView) → IsMessage bytes m → IsMessage bytes n → m ≡ n }
+{
+    one_segment_text();
+}
+
+/// Bytes cease to be a message at one place at most and have one refusal at most; a message has
+/// neither.
+pub fn one_stop()
+    ensures place { OneStop }
+    ensures not_both { NoStopInMessage }
+    ensures refusal { OneRefusal }
+    ensures not_refused { NoRefusalOfMessage }
 {
     one_segment_text();
 }
