@@ -32,7 +32,7 @@ fn number_of_item(item: &Item<'_>, least: usize, most: usize) -> Option<u64>
     Some(number)
 }
 
-/// The number that stands there, of `least` to `most` digits.
+/// The number that stands at an item of an element, from element 2 on, of `least` to `most` digits.
 pub fn number_at(
     view: &SegmentView<'_>,
     element: usize,
@@ -52,7 +52,7 @@ pub fn number_at(
     }
 }
 
-/// The data of a binary item.
+/// The data of a binary item of an element, from element 2 on.
 pub fn data_at<'a>(view: &SegmentView<'a>, element: usize, item: usize) -> Option<&'a [u8]>
     requires element { 1 < element }
     requires item { 0 < item }

@@ -7,3 +7,4 @@ pub mod AccountLemmas
 pub mod Judged
 pub mod Risings
 pub mod Refusals
+pub mod OneTable

@@ -3,6 +3,7 @@ pub mod Accounts
 pub mod AccountRows
 pub mod Orders
 pub mod OrderFaults
+pub mod Laws
 pub mod Permits
 pub mod LimitMaps
 pub mod RuleNames

@@ -44,8 +44,8 @@ pub fn extremes_are_admitted()
     ensures shortest { (fields : List NamedField) → Admits fields (shortest_choice fields) }
 {}
 
-/// What stands at an element of a filled segment: the items of the template's element, of which the
-/// literal ones hang on no choice and no number.
+/// What stands at an element of a filled segment, from element 2 on: the items of the template's
+/// element, of which the literal ones hang on no choice and no number.
 pub fn elements_are_filled()
     ensures values { (filling : FillingValue) (n e : ℕ) (t : Template) → values_at (filled_segment filling n t) e ≡ map item_value (filled_element filling (element_at t e)) }
     ensures literal { (filling other : FillingValue) (n m e : ℕ) (t : Template) → list_all is_literal (element_at t e) ≡ true → values_at (filled_segment filling n t) e ≡ values_at (filled_segment other m t) e }
