@@ -4,8 +4,11 @@ use crate::syntax::{IN_DATA, Numbered, Region, bad_start, trouble_at, whole};
 use fints_hint_words::places::{Told, line_at};
 use fints_hint_words::quoting::Sample;
 use fints_params::ParamFault;
-use fints_syntax::{Item, MAX_CAPTURE, Memory, Placed, SyntaxFault, SyntaxKind, parse_placed};
+use fints_syntax::{Item, Memory, Placed, SyntaxFault, SyntaxKind, parse_placed};
 use std::alloc::Global;
+
+/// The most bytes of a capture.
+const MAX_CAPTURE: usize = 4_194_304;
 
 // The data of an HNVSD version 1, and where they begin in the capture.
 fn data_of<'a>(placed: &Placed<'a>) -> Option<(&'a [u8], usize)> {
