@@ -3,8 +3,7 @@ use Rattle.std.proofs.Common.{◌≡◌, ◌⊎◌, inl, inr, ℕ, Bool, List, s
 use Rattle.fints_words.specs.declared.words.Request.{Request}
 use Rattle.fints_words.specs.declared.words.Asked.{Asked}
 use Rattle.fints_words.specs.declared.words.Asked.TheVariants.{Run}
-use Rattle.fints_cli.specs.Loading.{ReadCounts}
-use Rattle.fints_cli.specs.Streams.{GetsNothing, GetsPrefix}
+use Rattle.fints_cli.specs.Streams.{ReadCounts, GetsNothing, GetsPrefix}
 use Rattle.fints_cli.specs.Commands.{AnswersTo, FailsToRead, IsCutOff}
 
 pub cut_answer : (asked : Asked) (request : Request) (hints : Bool) (holds : List ℕ → Option (List ℕ)) (status : ℕ) (text : List ℕ) (old new : Option (List ℕ)) → asked ≡ Run request hints → AnswersTo request holds status text → GetsPrefix old new text → IsCutOff asked holds old new

@@ -1,10 +1,23 @@
 -- Why a file couldn't be read, seen from before the files that were read first.
-use Rattle.std.proofs.Common.{min, arith, ◌+◌, ◌-◌, ◌^◌, ◌≡◌, ◌≤◌, ◌⊎◌, inl, inr, ap, sym, subst, ◌∙◌, ℕ, List, [], ◌∷◌, Option}
+use Rattle.std.proofs.Common.{min, arith, ◌+◌, ◌-◌, ◌^◌, ◌≡◌, ◌≤◌, ◌⊎◌, inl, inr, refl, ap, sym, subst, ◌∙◌, ℕ, List, [], ◌∷◌, Option}
 use Rattle.fints_cli.specs.declared.failing.Failure.{Failure}
 use Rattle.fints_cli.specs.declared.failing.Failure.TheVariants.{Input, Unread}
-use Rattle.fints_cli.specs.Commands.{IsShowFailure, IsJudgeFailure, IsScriptFailure, IsVerifyFailure, IsRunFailure}
-use Rattle.fints_cli.specs.Loading.{NamedFile, ReadCounts, IsUnreadable, IsUnreadOf}
-use Rattle.fints_cli.specs.Streams.{one_more}
+use Rattle.fints_cli.specs.declared.reading.LoadFault.{LoadFault}
+use Rattle.fints_cli.specs.declared.reading.LoadFault.TheVariants as load_faults
+use Rattle.fints_texts.specs.declared.fault.Fault.TheVariants as texts
+use Rattle.fints_cli.specs.Commands.{IsUnloaded, IsShowFailure, IsJudgeFailure, IsScriptFailure, IsVerifyFailure, IsRunFailure}
+use Rattle.fints_cli.specs.Loading.{NamedFile, IsLoadFault, IsUnreadable, IsUnreadOf}
+use Rattle.fints_cli.specs.Streams.{ReadCounts, one_more}
+
+-- a file that wasn't loaded, by the option that named it
+pub option_unread : (fault : LoadFault) (option path : List ℕ) (limit : ℕ) (holds : List ℕ → Option (List ℕ)) (a b : ReadCounts) (f : Failure) → (fault ≡ load_faults.Memory → f ≡ Input texts.Memory) → IsUnloaded option f → IsLoadFault fault (holds path) limit a b → IsUnreadOf (record { option = option; path = path; limit = limit } ∷ []) holds a b f
+option_unread fault option path limit holds a b (Input g) memory told p = tt
+option_unread (load_faults.Unreadable cause) option path limit holds a b (Unread named) memory told p = inl (told, inl p)
+option_unread load_faults.TooLong option path limit holds a b (Unread named) memory told p = inl (told, inr (inl p))
+option_unread load_faults.TooManyCalls option path limit holds a b (Unread named) memory told p = inl (told, inr (inr p))
+option_unread load_faults.Memory option path limit holds a b (Unread named) memory told p =
+    let never = memory refl in
+    absurd (cc)
 
 -- no read failed between the two, and reads are only added
 pub record GoesOn (before after : ReadCounts) : Type 0 where

@@ -4,7 +4,7 @@ use Rattle.fints_cli.specs.declared.failing.Failure.{Failure}
 use Rattle.fints_cli.specs.declared.failing.Failure.TheVariants.{Input, Unread}
 use Rattle.fints_cli.specs.declared.reading.LoadFault.{LoadFault}
 use Rattle.fints_cli.specs.declared.reading.LoadFault.TheVariants.{Unreadable, TooLong, TooManyCalls, Memory}
-use Rattle.fints_cli.specs.Streams.{one_more}
+use Rattle.fints_cli.specs.Streams.{ReadCounts, one_more}
 use Rattle.fints_words.specs.declared.words.Request.{Request}
 use Rattle.fints_words.specs.declared.words.Request.TheVariants.{BuiltIn, Show, Judge, Check, Explain, Certify, Verify}
 use Rattle.fints_words.specs.declared.words.Request.TheVariants as requests
@@ -52,11 +52,6 @@ files_of (Explain named) = script_files named
 files_of (Certify named) = script_files named
 files_of (Verify named certificate) = verify_files named certificate.now
 files_of (requests.Run named only) = run_files named
-
--- how many reads were asked for so far, and how many of them failed, each counted up to the greatest `u64`
-pub record ReadCounts : Type 0 where
-  pub calls : ℕ
-  pub failed : ℕ
 
 -- one read more failed
 abbrev pub HasFailed : ReadCounts → ReadCounts → Type 0

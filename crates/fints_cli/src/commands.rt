@@ -40,13 +40,13 @@ fn load_option<F: Files>(
     limit: usize,
     hints: bool,
 ) -> Result<Vec<u8>, Refusal>
-    ensures calls { F.calls files.new ≤ F.calls files.old + MAX_CALLS }
+    ensures calls { (F.reads files.new).calls ≤ (F.reads files.old).calls + MAX_CALLS }
     ensures keeps { F.holds files.new ≡ F.holds files.old }
     ensures exact { IfOk result (λ bytes. IsFile (F.holds files.old path.now) bytes.items) }
     ensures unread { IfErr result (λ r. IsUnloaded option.now r.failure) }
-    ensures counted { min (F.calls files.old) (2 ^ 64 - 1) ≤ F.calls files.new }
-    ensures fine { IfOk result (λ _. F.failed_reads files.new ≡ F.failed_reads files.old) }
-    ensures reason { IfErr result (λ r. IsUnreadOf (record { option = option.now; path = path.now; limit = limit } ∷ []) (F.holds files.old) (record { calls = F.calls files.old; failed = F.failed_reads files.old }) (record { calls = F.calls files.new; failed = F.failed_reads files.new }) r.failure) }
+    ensures counted { min ((F.reads files.old).calls) (2 ^ 64 - 1) ≤ (F.reads files.new).calls }
+    ensures fine { IfOk result (λ _. (F.reads files.new).failed ≡ (F.reads files.old).failed) }
+    ensures reason { IfErr result (λ r. IsUnreadOf (record { option = option.now; path = path.now; limit = limit } ∷ []) (F.holds files.old) (F.reads files.old) (F.reads files.new) r.failure) }
 {
     match load(alloc, files, path, limit) {
         Ok(bytes) => Ok(bytes),
@@ -96,8 +96,8 @@ fn tell_files<F: Files>(
     ensures status { IfOk result (λ reply. reply.status ≤ 1) }
     ensures told { IfOk result (λ reply. TellsFiles wanted (F.holds files.old) named.now reply.status reply.text.items) }
     ensures refused { IfErr result (λ r. FailsToTell (F.holds files.old) named.now r.failure) }
-    ensures reason { IfErr result (λ r. IsUnreadOf (script_files named.now) (F.holds files.old) (record { calls = F.calls files.old; failed = F.failed_reads files.old }) (record { calls = F.calls files.new; failed = F.failed_reads files.new }) r.failure) }
-    ensures calls { F.calls files.new ≤ F.calls files.old + 3 * MAX_CALLS }
+    ensures reason { IfErr result (λ r. IsUnreadOf (script_files named.now) (F.holds files.old) (F.reads files.old) (F.reads files.new) r.failure) }
+    ensures calls { (F.reads files.new).calls ≤ (F.reads files.old).calls + 3 * MAX_CALLS }
     ensures keeps { F.holds files.new ≡ F.holds files.old }
 {
     let params = load_option(alloc, files, "params", named.params, MAX_CAPTURE, hints)?;
@@ -140,8 +140,8 @@ fn verify_files<F: Files>(
     ensures status { IfOk result (λ reply. reply.status ≤ 1) }
     ensures told { IfOk result (λ reply. VerifiesFiles (F.holds files.old) named.now certificate.now reply.status reply.text.items) }
     ensures refused { IfErr result (λ r. FailsToVerify (F.holds files.old) named.now certificate.now r.failure) }
-    ensures reason { IfErr result (λ r. IsUnreadOf (verify_files named.now certificate.now) (F.holds files.old) (record { calls = F.calls files.old; failed = F.failed_reads files.old }) (record { calls = F.calls files.new; failed = F.failed_reads files.new }) r.failure) }
-    ensures calls { F.calls files.new ≤ F.calls files.old + 4 * MAX_CALLS }
+    ensures reason { IfErr result (λ r. IsUnreadOf (verify_files named.now certificate.now) (F.holds files.old) (F.reads files.old) (F.reads files.new) r.failure) }
+    ensures calls { (F.reads files.new).calls ≤ (F.reads files.old).calls + 4 * MAX_CALLS }
     ensures keeps { F.holds files.new ≡ F.holds files.old }
 {
     let params = load_option(alloc, files, "params", named.params, MAX_CAPTURE, hints)?;
@@ -179,8 +179,8 @@ fn show_file<F: Files>(
     ensures status { IfOk result (λ reply. reply.status ≡ 0) }
     ensures shown { IfOk result (λ reply. ShowsFile (F.holds files.old params.now) reply.text.items) }
     ensures refused { IfErr result (λ r. FailsToShow (F.holds files.old params.now) r.failure) }
-    ensures reason { IfErr result (λ r. IsUnreadOf (wire_file (codes "params") params.now ∷ []) (F.holds files.old) (record { calls = F.calls files.old; failed = F.failed_reads files.old }) (record { calls = F.calls files.new; failed = F.failed_reads files.new }) r.failure) }
-    ensures calls { F.calls files.new ≤ F.calls files.old + MAX_CALLS }
+    ensures reason { IfErr result (λ r. IsUnreadOf (wire_file (codes "params") params.now ∷ []) (F.holds files.old) (F.reads files.old) (F.reads files.new) r.failure) }
+    ensures calls { (F.reads files.new).calls ≤ (F.reads files.old).calls + MAX_CALLS }
     ensures keeps { F.holds files.new ≡ F.holds files.old }
 {
     let capture = load_option(alloc, files, "params", params, MAX_CAPTURE, hints)?;
@@ -214,8 +214,8 @@ fn judge_file<F: Files>(
     ensures status { IfOk result (λ reply. reply.status ≤ 1) }
     ensures judged { IfOk result (λ reply. JudgesFile (F.holds files.old params.now) (F.holds files.old orders.now) (F.holds files.old message.now) reply.status reply.text.items) }
     ensures refused { IfErr result (λ r. FailsToJudge (F.holds files.old params.now) (F.holds files.old orders.now) (F.holds files.old message.now) r.failure) }
-    ensures reason { IfErr result (λ r. IsUnreadOf (judge_files params.now orders.now message.now) (F.holds files.old) (record { calls = F.calls files.old; failed = F.failed_reads files.old }) (record { calls = F.calls files.new; failed = F.failed_reads files.new }) r.failure) }
-    ensures calls { F.calls files.new ≤ F.calls files.old + 3 * MAX_CALLS }
+    ensures reason { IfErr result (λ r. IsUnreadOf (judge_files params.now orders.now message.now) (F.holds files.old) (F.reads files.old) (F.reads files.new) r.failure) }
+    ensures calls { (F.reads files.new).calls ≤ (F.reads files.old).calls + 3 * MAX_CALLS }
     ensures keeps { F.holds files.new ≡ F.holds files.old }
 {
     let params = load_option(alloc, files, "params", params, MAX_CAPTURE, hints)?;
@@ -257,8 +257,8 @@ fn run_files<F: Files>(
     ensures status { IfOk result (λ reply. reply.status ≡ 0) }
     ensures told { IfOk result (λ reply. RunsFiles (F.holds files.old) named.now only reply.text.items) }
     ensures refused { IfErr result (λ r. FailsToRun (F.holds files.old) named.now only r.failure) }
-    ensures reason { IfErr result (λ r. IsUnreadOf (run_files named.now) (F.holds files.old) (record { calls = F.calls files.old; failed = F.failed_reads files.old }) (record { calls = F.calls files.new; failed = F.failed_reads files.new }) r.failure) }
-    ensures calls { F.calls files.new ≤ F.calls files.old + 3 * MAX_CALLS }
+    ensures reason { IfErr result (λ r. IsUnreadOf (run_files named.now) (F.holds files.old) (F.reads files.old) (F.reads files.new) r.failure) }
+    ensures calls { (F.reads files.new).calls ≤ (F.reads files.old).calls + 3 * MAX_CALLS }
     ensures keeps { F.holds files.new ≡ F.holds files.old }
 {
     let orders = load_option(alloc, files, "orders", named.orders, MAX_TEXT, hints)?;
@@ -284,8 +284,8 @@ pub fn perform<F: Files>(
     ensures status { IfOk result (λ reply. reply.status ≤ 1) }
     ensures answers { IfOk result (λ reply. AnswersTo request.now (F.holds files.old) reply.status reply.text.items) }
     ensures refused { IfErr result (λ r. FailsFor request.now (F.holds files.old) r.failure) }
-    ensures reason { IfErr result (λ r. IsUnreadOf (files_of request.now) (F.holds files.old) (record { calls = F.calls files.old; failed = F.failed_reads files.old }) (record { calls = F.calls files.new; failed = F.failed_reads files.new }) r.failure) }
-    ensures calls { F.calls files.new ≤ F.calls files.old + 4 * MAX_CALLS }
+    ensures reason { IfErr result (λ r. IsUnreadOf (files_of request.now) (F.holds files.old) (F.reads files.old) (F.reads files.new) r.failure) }
+    ensures calls { (F.reads files.new).calls ≤ (F.reads files.old).calls + 4 * MAX_CALLS }
     ensures keeps { F.holds files.new ≡ F.holds files.old }
 {
     match request {
@@ -387,11 +387,11 @@ pub fn respond<F: Files, O: Out, E: Out>(
         → GetsNothing (O.told out.old) (O.told out.new) }
     ensures fine { result ≤ 4 → O.failed_calls out.new ≡ O.failed_calls out.old }
     ensures failed { result ≡ 5
-        → (FailsToRead asked.now (F.holds files.old) (record { calls = F.calls files.old; failed = F.failed_reads files.old }) (record { calls = F.calls files.new; failed = F.failed_reads files.new }) × GetsNothing (O.told out.old) (O.told out.new))
+        → (FailsToRead asked.now (F.holds files.old) (F.reads files.old) (F.reads files.new) × GetsNothing (O.told out.old) (O.told out.new))
         ⊎ (IsCutOff asked.now (F.holds files.old) (O.told out.old) (O.told out.new)
         × (O.failed_calls out.new ≡ one_more (O.failed_calls out.old))) }
-    ensures unread { IsUsage asked.now → F.calls files.new ≡ F.calls files.old }
-    ensures calls { F.calls files.new ≤ F.calls files.old + 4 * MAX_CALLS }
+    ensures unread { IsUsage asked.now → (F.reads files.new).calls ≡ (F.reads files.old).calls }
+    ensures calls { (F.reads files.new).calls ≤ (F.reads files.old).calls + 4 * MAX_CALLS }
 {
     match asked {
         Asked::Help(text) => deliver(text.as_bytes(), 0, out, err),
@@ -423,15 +423,15 @@ pub fn execute<F: Files, O: Out, E: Out>(
     ensures status { result ≤ 5 }
     ensures built_in { words.now ≡ [] → result ≤ 1
         → IsAnswered (asked.Run request.BuiltIn false) (F.holds files.old) result (O.told out.old) (O.told out.new) }
-    ensures responds { (asked : Asked) × IsResponse asked (F.holds files.old) (record { calls = F.calls files.old; failed = F.failed_reads files.old }) (record { calls = F.calls files.new; failed = F.failed_reads files.new }) result (O.told out.old) (O.told out.new) }
+    ensures responds { (asked : Asked) × IsResponse asked (F.holds files.old) (F.reads files.old) (F.reads files.new) result (O.told out.old) (O.told out.new) }
     ensures silent { (result ≡ 2) ⊎ ((result ≡ 3) ⊎ (result ≡ 4))
         → GetsNothing (O.told out.old) (O.told out.new) }
     ensures fine { result ≤ 4 → O.failed_calls out.new ≡ O.failed_calls out.old }
     ensures failed { result ≡ 5 → GetsNothing (O.told out.old) (O.told out.new)
         ⊎ (O.failed_calls out.new ≡ one_more (O.failed_calls out.old)) }
-    ensures unread { result ≡ 2 → (F.calls files.new ≡ F.calls files.old)
+    ensures unread { result ≡ 2 → ((F.reads files.new).calls ≡ (F.reads files.old).calls)
         ⊎ ((asked : Asked) × FailsWith 2 asked (F.holds files.old)) }
-    ensures calls { F.calls files.new ≤ F.calls files.old + 4 * MAX_CALLS }
+    ensures calls { (F.reads files.new).calls ≤ (F.reads files.old).calls + 4 * MAX_CALLS }
 {
     let asked = read_words(alloc, words);
     respond(alloc, &asked, files, out, err)

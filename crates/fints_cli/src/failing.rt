@@ -2,6 +2,8 @@
 ghost use Rattle.std.specs.Prelude.{◌≡◌};
 ghost use Rattle.fints_cli.specs.Commands.{failure_status, IsUnloaded};
 ghost use Rattle.fints_cli.specs.declared.failing.Failure.TheVariants as failure;
+ghost use Rattle.fints_cli.specs.declared.reading.LoadFault.TheVariants as load_fault;
+ghost use Rattle.fints_texts.specs.declared.fault.Fault.TheVariants as texts;
 
 use crate::reading::LoadFault;
 use fints_hints::{Inputs, hint};
@@ -82,7 +84,8 @@ pub fn unread(
     limit: usize,
     hints: bool,
 ) -> Refusal
-    ensures { IsUnloaded option.now result.failure }
+    ensures told { IsUnloaded option.now result.failure }
+    ensures memory { fault ≡ load_fault.Memory → result.failure ≡ failure.Input texts.Memory }
 {
     let failure = match fault {
         LoadFault::Memory => Failure::Input(Fault::Memory),
