@@ -4,7 +4,8 @@ use Rattle.fints_reports.proofs.running.run_case.Goals as goal
 
 pub returns-in_err-inputs-clause-refused : goal.returns-in_err-inputs-clause-refused
 returns-in_err-inputs-clause-refused c =
-    unplanned_run c.args.orders.now c.args.script.now c.args.case.now c.args.only c.in_err-inputs.field-0.0 c.in_err-inputs.ensures.refused
+    let refused = unplanned_run c.args.orders.now c.args.script.now c.args.case.now c.args.only c.in_err-inputs.field-0.0 c.in_err-inputs.ensures.refused in
+    search rules
 
 pub returns-in_err-text-clause-refused : goal.returns-in_err-text-clause-refused
 returns-in_err-text-clause-refused c =

@@ -1,10 +1,12 @@
+use Rattle.std.proofs.Common.{rules}
 use Rattle.fints_reports.proofs.Refusals.{unplanned_verify}
 use Rattle.fints_reports.proofs.ReportLemmas.{verified_on}
 use Rattle.fints_reports.proofs.verifying.verify_certificate.Goals as goal
 
 pub returns-in_err-inputs-clause-refused : goal.returns-in_err-inputs-clause-refused
 returns-in_err-inputs-clause-refused c =
-    unplanned_verify c.args.orders.now c.args.script.now c.args.certificate.now c.in_err-inputs.field-0.0 c.in_err-inputs.ensures.refused
+    let refused = unplanned_verify c.args.orders.now c.args.script.now c.args.certificate.now c.in_err-inputs.field-0.0 c.in_err-inputs.ensures.refused in
+    search rules
 
 pub returns-clause-told : goal.returns-clause-told
 returns-clause-told c =
