@@ -30,5 +30,5 @@ AreValuesOf report i values =
     → Shows report.granted report.plan.script f values answers
 
 -- these values and answers show the finding
-abbrev pub IsCaseOf : ReportValue → ℕ → List NamedValue → List (List ℕ) → Type 0
-IsCaseOf report i values answers = (f : Finding) → slice_get report.findings i ≡ Some f → Shows report.granted report.plan.script f values answers
+abbrev pub ShowsFindingAt : ReportValue → ℕ → List NamedValue → List (List ℕ) → Type 0
+ShowsFindingAt report i values answers = (f : Finding) → slice_get report.findings i ≡ Some f → Shows report.granted report.plan.script f values answers

@@ -5,7 +5,7 @@ ghost use Rattle.fints_script.specs.Numbered.{numbered};
 ghost use Rattle.fints_script.specs.Steps.{StepValue};
 ghost use Rattle.fints_check.specs.Figures.{AreFigures, FiguresAre};
 ghost use Rattle.fints_check.specs.Findings.{AreFindings, EachIsPermitted, IsBefore, IsReal, SentStepsAreClean};
-ghost use Rattle.fints_check.specs.Reports.{AreValuesOf, IsCaseOf, IsWayOf};
+ghost use Rattle.fints_check.specs.Reports.{AreValuesOf, IsWayOf, ShowsFindingAt};
 ghost use Rattle.fints_check.specs.Searching.{AreFiguresAt, IsGreatestAt};
 ghost use Rattle.fints_check.specs.declared.finding.Finding.{Finding as FindingValue};
 
@@ -140,7 +140,7 @@ impl<'a> Report<'a> {
     /// count from 0.
     pub fn case(&self, alloc: Global, i: usize) -> Result<Case, Memory>
         requires { i < length self.now.findings }
-        ensures { IfOk result (λ case. IsCaseOf self.now i case.values case.answers.items) }
+        ensures { IfOk result (λ case. ShowsFindingAt self.now i case.values case.answers.items) }
     {
         let answers = self.way(alloc, i)?;
         let values = self.values(alloc, i)?;
