@@ -1,5 +1,5 @@
 //! Why a command has no answer.
-ghost use Rattle.std.specs.Prelude.{◌≡◌};
+ghost use Rattle.std.specs.Prelude.{◌≡◌, ◌≢◌};
 ghost use Rattle.fints_cli.specs.Commands.{failure_status, IsUnloaded};
 ghost use Rattle.fints_cli.specs.declared.failing.Failure.TheVariants as failure;
 ghost use Rattle.fints_cli.specs.declared.reading.LoadFault.TheVariants as load_fault;
@@ -85,6 +85,7 @@ pub fn unread(
     hints: bool,
 ) -> Refusal
     ensures told { IsUnloaded option.now result.failure }
+    ensures file { fault ≢ load_fault.Memory → result.failure ≡ failure.Unread option }
     ensures memory { fault ≡ load_fault.Memory → result.failure ≡ failure.Input texts.Memory }
 {
     let failure = match fault {
