@@ -1,11 +1,11 @@
 -- Why a file couldn't be read, and what that says of the status.
-use Rattle.std.proofs.Common.{◌≡◌, ◌≤◌, inl, inr, refl, ℕ, List, [], ◌∷◌, Option}
+use Rattle.std.proofs.Common.{arith, ◌≡◌, ◌≤◌, inl, inr, refl, ℕ, List, [], ◌∷◌, Option}
 use Rattle.fints_cli.specs.declared.failing.Failure.{Failure}
 use Rattle.fints_cli.specs.declared.failing.Failure.TheVariants.{Input, Unread}
 use Rattle.fints_cli.specs.declared.reading.LoadFault.{LoadFault}
 use Rattle.fints_cli.specs.declared.reading.LoadFault.TheVariants as load_faults
 use Rattle.fints_texts.specs.declared.fault.Fault.TheVariants as texts
-use Rattle.fints_cli.specs.Commands.{IsUnloaded, failure_status}
+use Rattle.fints_cli.specs.Commands.{IsUnloaded, IsVerifyFailure, failure_status}
 use Rattle.fints_cli.specs.Loading.{NamedFile, IsLoadFault, NoneFailed, FollowsReading}
 use Rattle.fints_cli.specs.Streams.{ReadCounts}
 
@@ -22,6 +22,12 @@ option_unread load_faults.Memory option path limit holds a b (Unread named) memo
 
 -- a failure up to status 3 is a refusal, and comes after reads of which none failed
 pub read_before : (files : List NamedFile) (holds : List ℕ → Option (List ℕ)) (a b : ReadCounts) (f : Failure) → FollowsReading files holds a b f → failure_status f ≤ 3 → NoneFailed a b
-read_before files holds a b (Unread option) p low = absurd (cc)
-read_before files holds a b (Input texts.Memory) p low = absurd (cc)
+read_before files holds a b (Unread option) p low = absurd (omega arith)
+read_before files holds a b (Input texts.Memory) p low = absurd (omega arith)
 read_before files holds a b (Input f) p low = p
+
+-- where all files were read, a refusal follows from it
+pub verify_follows : (files : List NamedFile) (holds : List ℕ → Option (List ℕ)) (a b : ReadCounts) (x y z w : List ℕ) (f : Failure) → IsVerifyFailure x y z w f → NoneFailed a b → FollowsReading files holds a b f
+verify_follows files holds a b x y z w (Unread option) p none = absurd p
+verify_follows files holds a b x y z w (Input texts.Memory) p none = tt
+verify_follows files holds a b x y z w (Input f) p none = none

@@ -63,6 +63,11 @@ AnswersTo (Certify named) holds status text = TellsFiles Certificate holds named
 AnswersTo (Verify named certificate) holds status text = VerifiesFiles holds named certificate.now status text
 AnswersTo (requests.Run named only) holds status text = (status ≡ 0) × RunsFiles holds named only text
 
+-- the file of the option couldn't be read
+abbrev pub IsUnreadAs : List ℕ → Failure → Type 0
+IsUnreadAs option (Unread named) = named.now ≡ option
+IsUnreadAs option (Input f) = ⊥
+
 -- the file of the option couldn't be read, or memory ran out
 abbrev pub IsUnloaded : List ℕ → Failure → Type 0
 IsUnloaded option (Unread named) = named.now ≡ option
