@@ -57,7 +57,7 @@ def read_specs():
                 comment.append(line)
                 continue
             start = START.match(line)
-            if start and not line.startswith(" "):
+            if start and not line.startswith(" ") and (crate, file, start[1]) not in definitions:
                 current = definitions[crate, file, start[1]] = Definition(crate, file, start[1])
                 current.lines += len(comment)
             comment = []
