@@ -306,7 +306,8 @@ fn field_has(kind: FaultKind, earlier: &[Value], table: &Table) -> bool
     match kind {
         FaultKind::UnknownKey => !only_field_keys(class, &*table),
         FaultKind::Missing => {
-            !(has_key(&*table, "name") && has_key(&*table, "class")) || lacks_class_keys(class, &*table)
+            !(has_key(&*table, "name") && has_key(&*table, "class"))
+                || lacks_class_keys(class, &*table)
         }
         FaultKind::WrongKind => {
             is_no_name(member(&*table, "name"))
