@@ -5,7 +5,7 @@ tools/believe.py           a table: lines of definitions in specs/, and those th
 tools/believe.py --apart   the spec files of which public contracts reach nothing, and those that they reach in part
 
 A definition's lines are its signature, its equations and the comment above it. The contracts of laws
-are left out: what a law says is proved, so nobody need believe it.
+and the files of laws are left out: what a law says is proved, so nobody need believe it.
 """
 import collections
 import glob
@@ -42,7 +42,8 @@ def read_specs():
     definitions, scopes = {}, {}
     for path in sorted(glob.glob(f"{TOP}/crates/*/specs/*.antt")):
         crate, file = path.split("/")[-3], os.path.basename(path)[:-5]
-        if file == "Lib":
+        # what stands in the files of laws is proved
+        if file == "Lib" or file.endswith("Laws"):
             continue
         with open(path, encoding="utf-8") as it:
             text = it.read()
@@ -56,7 +57,7 @@ def read_specs():
                 comment.append(line)
                 continue
             start = START.match(line)
-            if start and not line.startswith(" "):
+            if start and not line.startswith(" ") and (crate, file, start[1]) not in definitions:
                 current = definitions[crate, file, start[1]] = Definition(crate, file, start[1])
                 current.lines += len(comment)
             comment = []

@@ -60,6 +60,10 @@ GoesOn steps lines number (targets.Step to) = IsEntered steps lines to (number +
 GoesOn steps lines number targets.Again = Unit {0}
 GoesOn steps lines number targets.Stop = Unit {0}
 
+-- the branch of the step, if some answer fires it, goes on in this way
+abbrev pub BranchGoesOn : List StepValue → List Line → ℕ → StepValue → ℕ → Type 0
+BranchGoesOn steps lines number step branch = IsOpen step.branches branch → GoesOn steps lines number (target_of step.branches step.otherwise branch)
+
 -- the length of the step's longest message of this number
 abbrev pub worst_len : ScriptValue → StepValue → ℕ → ℕ
 worst_len script step number = length (message_bytes script step number (longest_choice script.fields))
@@ -71,13 +75,17 @@ pub record LineHolds (granted : Granted) (script : ScriptValue) (lines : List Li
   pub size : worst_len script step figures.number ≤ figures.size
   pub fits : granted.rows.bank.kilobytes ≢ 0 → figures.size ≤ 1024 * granted.rows.bank.kilobytes
   pub clean : IsCleanStep granted script step
-  pub onward : (branch : ℕ) → IsOpen step.branches branch → GoesOn script.steps lines figures.number (target_of step.branches step.otherwise branch)
+  pub onward : (branch : ℕ) → BranchGoesOn script.steps lines figures.number step branch
+
+-- what holds of each step that is named as reached
+abbrev pub AreLinesTrue : Granted → ScriptValue → List Line → Type 0
+AreLinesTrue granted script lines = (n : ℕ) (step : StepValue) (figures : Reached) → numbered script.steps n ≡ Some step → Names lines n figures → LineHolds granted script lines step figures
 
 -- one line for each step, in order, with its name; step 1 is reached, with a number that is enough; and what holds of each step that is named as reached
 pub record IsClosedCertificate (granted : Granted) (script : ScriptValue) (lines : List Line) : Type 0 where
   pub names : line_names lines ≡ step_names script.steps
   pub first : IsEntered script.steps lines 1 1
-  pub each : (n : ℕ) (step : StepValue) (figures : Reached) → numbered script.steps n ≡ Some step → Names lines n figures → LineHolds granted script lines step figures
+  pub each : AreLinesTrue granted script lines
 
 -- ---- what it promises
 

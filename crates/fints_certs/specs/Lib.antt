@@ -1,4 +1,5 @@
 pub mod Certificates
 pub mod CertTexts
 pub mod CertReading
+pub mod Laws
 pub mod Verifying

@@ -1,15 +1,7 @@
 //! Laws of certificates: each function's contract is one.
-ghost use Rattle.std.specs.Prelude.{◌≡◌, ℕ, List, []};
-ghost use Rattle.std.specs.List.{All};
-ghost use Rattle.fints_check.specs.Figures.{AreFigures};
-ghost use Rattle.fints_check.specs.Findings.{AreFindings, EachIsPermitted, SentStepsAreClean};
-ghost use Rattle.fints_fields.specs.Names.{IsName};
-ghost use Rattle.fints_rules.specs.Permits.{Granted};
-ghost use Rattle.fints_script.specs.Scripts.{ScriptValue};
-ghost use Rattle.fints_script.specs.Sound.{IsSound};
-ghost use Rattle.fints_certs.specs.Certificates.{line_figures, line_names, step_names, IsClosedCertificate, KeepsPromise};
-ghost use Rattle.fints_certs.specs.CertTexts.{OneCertificate, IsCertificate, IsFirstBadLine};
-ghost use Rattle.fints_certs.specs.declared.certificate.Line.{Line as LineValue};
+ghost use Rattle.std.specs.Prelude.{◌≡◌, ℕ, List};
+ghost use Rattle.fints_certs.specs.CertTexts.{OneCertificate, IsFirstBadLine};
+ghost use Rattle.fints_certs.specs.Laws.{ClosedIsPermitted, ClosedKeepsPromise, GreatestIsClosed, GreatestIsReadable};
 
 use fints_script::laws::open_branches_lead;
 use fints_wire::laws::{extremes_are_admitted, messages_are_read, none_is_longer};
@@ -17,8 +9,8 @@ use fints_wire::run_laws::{each_is_last, last_messages, runs_by_steps, visits_ar
 
 /// A closed certificate keeps its promise, and every message of every run is permitted.
 pub fn closed_promises()
-    ensures promise { (granted : Granted) (script : ScriptValue) (lines : List LineValue) → IsSound script → IsClosedCertificate granted script lines → KeepsPromise script lines }
-    ensures permitted { (granted : Granted) (script : ScriptValue) (lines : List LineValue) → IsSound script → IsClosedCertificate granted script lines → EachIsPermitted granted script }
+    ensures promise { ClosedKeepsPromise }
+    ensures permitted { ClosedIsPermitted }
 {
     open_branches_lead();
     none_is_longer();
@@ -31,7 +23,7 @@ pub fn closed_promises()
 
 /// The greatest figures of all steps are a closed certificate where nothing is found.
 pub fn greatest_closes()
-    ensures { (granted : Granted) (script : ScriptValue) (lines : List LineValue) → IsSound script → line_names lines ≡ step_names script.steps → AreFigures script (line_figures lines) → AreFindings granted script [] → SentStepsAreClean granted script → IsClosedCertificate granted script lines }
+    ensures { GreatestIsClosed }
 {
     open_branches_lead();
     extremes_are_admitted();
@@ -44,7 +36,7 @@ pub fn greatest_closes()
 /// The greatest figures of all steps are a certificate whose text can be read back, if the names are
 /// names.
 pub fn greatest_are_readable()
-    ensures { (script : ScriptValue) (lines : List LineValue) → IsSound script → line_names lines ≡ step_names script.steps → All (λ (line : LineValue). IsName line.name) lines → AreFigures script (line_figures lines) → IsCertificate lines }
+    ensures { GreatestIsReadable }
 {
     none_is_longer();
     last_messages();

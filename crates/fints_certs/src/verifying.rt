@@ -3,11 +3,9 @@ ghost use Rattle.std.specs.Prelude.{◌≡◌, ◌≢◌, ◌↔◌, ◌≤◌, 
 ghost use Rattle.fints_cases.specs.Answers.{IsOpen, IsOpenTo, target_of};
 ghost use Rattle.fints_check.specs.Breakable.{IsCleanStep};
 ghost use Rattle.fints_check.specs.Findings.{EachIsPermitted};
-ghost use Rattle.fints_check.specs.declared.finding.Reached.{Reached as ReachedValue};
 ghost use Rattle.fints_script.specs.Numbered.{numbered};
-ghost use Rattle.fints_script.specs.Steps.{StepValue};
-ghost use Rattle.fints_certs.specs.Certificates.{figures_at, line_names, step_names, Covers, IsEntered, GoesOn, Names, LineHolds, IsClosedCertificate, KeepsPromise};
-ghost use Rattle.fints_certs.specs.Verifying.{AreRepeats};
+ghost use Rattle.fints_certs.specs.Certificates.{figures_at, line_names, step_names, AreLinesTrue, BranchGoesOn, Covers, IsClosedCertificate, IsEntered, KeepsPromise, LineHolds};
+ghost use Rattle.fints_certs.specs.Verifying.{AreRepeats, TellsLine};
 
 use crate::certificate::{Certificate, Line};
 use crate::laws::closed_promises;
@@ -129,7 +127,7 @@ fn branch_goes_on(
     requires small { number ≤ 9999 }
     requires from { 1 ≤ branch }
     requires to { branch ≤ length step.now.branches + 1 }
-    ensures { IsTrue result ↔ (IsOpen step.now.branches branch → GoesOn plan.now.script.steps lines.now number (target_of step.now.branches step.now.otherwise branch)) }
+    ensures { IsTrue result ↔ BranchGoesOn plan.now.script.steps lines.now number step.now branch }
 {
     let _count = plan.step_count();
     match step.target(branch) {
@@ -152,7 +150,7 @@ fn goes_on(
     requires at { numbered plan.now.script.steps n ≡ Some step.now }
     requires repeats { AreRepeats plan.now.script.steps repeats.now }
     requires small { number ≤ 9999 }
-    ensures { IsTrue result ↔ ((branch : ℕ) → IsOpen step.now.branches branch → GoesOn plan.now.script.steps lines.now number (target_of step.now.branches step.now.otherwise branch)) }
+    ensures { IsTrue result ↔ ((branch : ℕ) → BranchGoesOn plan.now.script.steps lines.now number step.now branch) }
 {
     for branch in 1..step.branches().len() + 2 {
         if !branch_goes_on(plan, lines, repeats, n, step, number, branch) {
@@ -221,7 +219,7 @@ fn step_holds(
     requires last { n ≤ length plan.now.script.steps }
     requires orders { permissions.now.orders ≡ plan.now.orders }
     requires repeats { AreRepeats plan.now.script.steps repeats.now }
-    ensures { (step : StepValue) → numbered plan.now.script.steps n ≡ Some step → (IsTrue result ↔ ((figures : ReachedValue) → Names lines.now n figures → LineHolds permissions.now plan.now.script lines.now step figures)) }
+    ensures { TellsLine permissions.now plan.now.script lines.now n result }
 {
     match figures(lines, n) {
         Some(reached) => line_holds(permissions, plan, lines, repeats, n, plan.step(n), reached),
@@ -237,7 +235,7 @@ fn steps_hold(
 ) -> bool
     requires orders { permissions.now.orders ≡ plan.now.orders }
     requires repeats { AreRepeats plan.now.script.steps repeats.now }
-    ensures { IsTrue result ↔ ((n : ℕ) (step : StepValue) (figures : ReachedValue) → numbered plan.now.script.steps n ≡ Some step → Names lines.now n figures → LineHolds permissions.now plan.now.script lines.now step figures) }
+    ensures { IsTrue result ↔ AreLinesTrue permissions.now plan.now.script lines.now }
 {
     for n in 1..plan.step_count() + 1 {
         if !step_holds(permissions, plan, lines, repeats, n) {

@@ -18,7 +18,7 @@ use Rattle.fints_script.specs.Steps.{StepValue}
 use Rattle.fints_templates.specs.declared.template.Template.{Template}
 use Rattle.fints_wire.specs.Views.{message_view}
 use Rattle.fints_check.specs.Breakable.{CanBreak, IsOther}
-use Rattle.fints_check.specs.Choosing.{BreaksWith, IsChoice}
+use Rattle.fints_check.specs.Choosing.{BreaksWith, IsChoice, TemplateBreaksWith}
 use Rattle.fints_check.specs.Elements.{accounts_asked, has_process, literals, template_facts}
 use Rattle.fints_check.specs.Kinds.{AreCounts, is_end, template_count, template_kinds}
 use Rattle.fints_check.specs.Tans.{SomeTan}
@@ -53,6 +53,10 @@ TemplateBreaks granted fields f r t count =
     Any (λ account. SegmentBreaks granted f r (template_facts t count account)) (accounts_asked fields r t)
     ⊎ ((accounts_asked fields r t ≡ []) × SegmentBreaks granted f r (template_facts t count (literals t)))
 
+-- if the template's segment breaks the rule, it does with this account set, or, where none is, with its literals
+abbrev pub IsTemplateChoice : Granted → List NamedField → MessageFacts → Rule → Template → ℕ → Option SetAccount → Type 0
+IsTemplateChoice granted fields f r t count choice = TemplateBreaks granted fields f r t count → TemplateBreaksWith granted fields f r t count choice
+
 -- the segment of this number, behind HNHBK and the signers' HNSHK, breaks it
 pub record TemplateBreaksAt (granted : Granted) (fields : List NamedField) (step : StepValue) (f : MessageFacts) (r : Rule) (number : ℕ) : Type 0 where
   pub i : ℕ
@@ -63,6 +67,10 @@ pub record TemplateBreaksAt (granted : Granted) (fields : List NamedField) (step
 
 abbrev pub StepBreaks : Granted → List NamedField → StepValue → MessageFacts → Rule → ℕ → Type 0
 StepBreaks granted fields step f r place = ((place ≡ 0) × MessageBreaks granted f r) ⊎ TemplateBreaksAt granted fields step f r place
+
+-- if the step's facts break the rule at the place, they do with this account set, or with none
+abbrev pub IsStepChoice : Granted → List NamedField → StepValue → MessageFacts → Rule → ℕ → Option SetAccount → Type 0
+IsStepChoice granted fields step f r place choice = StepBreaks granted fields step f r place → BreaksWith granted fields step f r place choice
 
 -- ---- the law that joins the step's facts and its messages
 

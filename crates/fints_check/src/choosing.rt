@@ -1,13 +1,11 @@
 //! The values of a case: the least ones, of which at most one is another listed account.
-ghost use Rattle.std.specs.Prelude.{◌≡◌, ◌≢◌, ◌∷◌, ◌++◌, [], ℕ, Any, MatchOption, IfOk, OnOk};
+ghost use Rattle.std.specs.Prelude.{◌≡◌, ◌≢◌, ◌∷◌, ◌++◌, [], ℕ, MatchOption, IfOk, OnOk};
 ghost use Rattle.std.specs.List.{slice_get};
-ghost use Rattle.fints_rules.specs.Rules.{SegmentBreaks};
 ghost use Rattle.fints_templates.specs.declared.template.TemplateItem.TheVariants as template_item;
 ghost use Rattle.fints_wire.specs.Choices.{value_of};
-ghost use Rattle.fints_check.specs.Choosing.{BreaksWith, HasBreaking, IsChoice, IsChoiceWith, TemplateBreaksWith, value_with};
-ghost use Rattle.fints_check.specs.Elements.{template_facts};
+ghost use Rattle.fints_check.specs.Choosing.{IsBreakingPlace, IsChoice, IsChoiceWith, value_with};
 ghost use Rattle.fints_check.specs.Kinds.{AreCounts};
-ghost use Rattle.fints_check.specs.StepFacts.{StepBreaks, TemplateBreaks};
+ghost use Rattle.fints_check.specs.StepFacts.{IsStepChoice, IsTemplateChoice};
 
 use crate::elements::element_two;
 use crate::step_facts::StepFacts;
@@ -51,7 +49,7 @@ fn first_account(
     count: usize,
     accounts: &[AccountValue],
 ) -> Option<usize>
-    ensures { MatchOption result (Any (λ account. SegmentBreaks permissions.now facts.now rule (template_facts template.now count account)) accounts.now → ⊥) (HasBreaking permissions.now facts.now rule template.now count accounts.now) }
+    ensures { IsBreakingPlace permissions.now facts.now rule template.now count accounts.now result }
 {
     for i in 0..accounts.len() {
         if account_breaks(permissions, facts, rule, template, count, &accounts[i]) {
@@ -80,7 +78,7 @@ fn template_choice(
     template: &Template,
     count: usize,
 ) -> Option<SetAccount>
-    ensures { TemplateBreaks permissions.now fields.now facts.now rule template.now count → TemplateBreaksWith permissions.now fields.now facts.now rule template.now count result }
+    ensures { IsTemplateChoice permissions.now fields.now facts.now rule template.now count result }
 {
     let accounts = accounts_asked(fields, rule, template);
     match first_account(permissions, facts, rule, template, count, accounts) {
@@ -103,7 +101,7 @@ pub fn step_choice(
     place: usize,
 ) -> Option<SetAccount>
     requires { AreCounts step.now.templates facts.now.counts }
-    ensures { StepBreaks permissions.now fields.now step.now facts.now.message rule place → BreaksWith permissions.now fields.now step.now facts.now.message rule place result }
+    ensures { IsStepChoice permissions.now fields.now step.now facts.now.message rule place result }
 {
     let first = 2 + step.signers().len();
     if place < first {

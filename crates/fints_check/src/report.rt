@@ -1,11 +1,11 @@
 //! Reports: what the runs of a plan break, and the greatest figures of its steps.
-ghost use Rattle.std.specs.Prelude.{◌≡◌, ◌↔◌, ◌<◌, ◌≤◌, ℕ, List, [], slice_get, length, map, is_some, Some, AllPairs, Contains, IfOk, IsTrue};
+ghost use Rattle.std.specs.Prelude.{◌≡◌, ◌↔◌, ◌<◌, ◌≤◌, [], length, map, is_some, Some, AllPairs, Contains, IfOk, IsTrue};
 ghost use Rattle.fints_reach.specs.Numbers.{all_visits, looked_at, reached_visits};
-ghost use Rattle.fints_reach.specs.Ways.{LeadsTo};
 ghost use Rattle.fints_script.specs.Numbered.{numbered};
 ghost use Rattle.fints_script.specs.Steps.{StepValue};
 ghost use Rattle.fints_check.specs.Figures.{AreFigures, FiguresAre};
-ghost use Rattle.fints_check.specs.Findings.{AreFindings, EachIsPermitted, IsBefore, IsReal, SentStepsAreClean, Shows};
+ghost use Rattle.fints_check.specs.Findings.{AreFindings, EachIsPermitted, IsBefore, IsReal, SentStepsAreClean};
+ghost use Rattle.fints_check.specs.Reports.{AreValuesOf, IsWayOf, ShowsFindingAt};
 ghost use Rattle.fints_check.specs.Searching.{AreFiguresAt, IsGreatestAt};
 ghost use Rattle.fints_check.specs.declared.finding.Finding.{Finding as FindingValue};
 
@@ -110,7 +110,7 @@ impl<'a> Report<'a> {
     /// number; findings count from 0. It is the same for all findings of a step.
     pub fn way(&self, alloc: Global, i: usize) -> Result<Vec<Answer>, Memory>
         requires { i < length self.now.findings }
-        ensures { IfOk result (λ answers. (f : FindingValue) → slice_get self.now.findings i ≡ Some f → LeadsTo self.now.plan.script.steps self.now.numbers f.step answers.items) }
+        ensures { IfOk result (λ answers. IsWayOf self.now i answers.items) }
     {
         last_messages();
         visits_are_within();
@@ -123,7 +123,7 @@ impl<'a> Report<'a> {
     /// findings count from 0.
     pub fn values(&self, alloc: Global, i: usize) -> Result<Values, Memory>
         requires { i < length self.now.findings }
-        ensures { IfOk result (λ values. (f : FindingValue) (answers : List (List ℕ)) → slice_get self.now.findings i ≡ Some f → LeadsTo self.now.plan.script.steps self.now.numbers f.step answers → Shows self.now.granted self.now.plan.script f values answers) }
+        ensures { IfOk result (λ values. AreValuesOf self.now i values) }
     {
         last_messages();
         visits_are_within();
@@ -140,7 +140,7 @@ impl<'a> Report<'a> {
     /// count from 0.
     pub fn case(&self, alloc: Global, i: usize) -> Result<Case, Memory>
         requires { i < length self.now.findings }
-        ensures { IfOk result (λ case. (f : FindingValue) → slice_get self.now.findings i ≡ Some f → Shows self.now.granted self.now.plan.script f case.values case.answers.items) }
+        ensures { IfOk result (λ case. ShowsFindingAt self.now i case.values case.answers.items) }
     {
         let answers = self.way(alloc, i)?;
         let values = self.values(alloc, i)?;

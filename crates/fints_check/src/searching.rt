@@ -1,17 +1,14 @@
 //! The search for findings: of each reached step each rule, at each place.
-ghost use Rattle.std.specs.Prelude.{◌≡◌, ◌↔◌, ◌<◌, ◌≤◌, ◌+◌, ℕ, List, Some, None, length, IsTrue, OnOk};
-ghost use Rattle.fints_cases.specs.declared.values.NamedValue.{NamedValue};
-ghost use Rattle.fints_rules.specs.Breaks.{Breaks, rule_number};
+ghost use Rattle.std.specs.Prelude.{◌≡◌, ◌↔◌, ◌<◌, ◌≤◌, ◌+◌, Some, None, length, IsTrue, OnOk};
+ghost use Rattle.fints_rules.specs.Breaks.{rule_number};
 ghost use Rattle.fints_rules.specs.Rules.{MessageBreaks};
 ghost use Rattle.fints_rules.specs.declared.rule.Rule.{Rule as RuleValue};
 ghost use Rattle.fints_rules.specs.declared.rule.Rule.TheVariants as rules;
 ghost use Rattle.fints_script.specs.Numbered.{numbered};
-ghost use Rattle.fints_script.specs.Plans.{Admits};
 ghost use Rattle.fints_script.specs.Steps.{StepValue};
-ghost use Rattle.fints_wire.specs.Views.{message_view};
 ghost use Rattle.fints_check.specs.Findings.{IsReal};
 ghost use Rattle.fints_check.specs.StepFacts.{AreFactsOf};
-ghost use Rattle.fints_check.specs.Searching.{AreFiguresAt, AreFoundTo, BreaksUnder, IsGreatestAt, facts_at};
+ghost use Rattle.fints_check.specs.Searching.{AreFiguresAt, AreFoundTo, BreaksIfTold, IsGreatestAt, IsToldIfBroken, facts_at};
 
 use crate::finding::{Finding, Reached};
 use crate::step_facts::{StepFacts, step_facts};
@@ -67,8 +64,8 @@ fn is_broken(
     requires orders { permissions.now.orders ≡ plan.now.orders }
     requires facts { AreFactsOf plan.now.script n facts.now }
     requires figures { (step : StepValue) → numbered plan.now.script.steps n ≡ Some step → AreFiguresAt plan.now.script step figures }
-    ensures some { (step : StepValue) → numbered plan.now.script.steps n ≡ Some step → IsTrue result → BreaksUnder permissions.now plan.now.script step figures.number rule place }
-    ensures each { (step : StepValue) (values : List NamedValue) (lower : ℕ) → numbered plan.now.script.steps n ≡ Some step → Admits plan.now.script.fields values → 1 ≤ lower → lower ≤ figures.number → Breaks permissions.now (message_view plan.now.script step lower values) rule place → IsTrue result }
+    ensures some { BreaksIfTold permissions.now plan.now.script n figures.number rule place result }
+    ensures each { IsToldIfBroken permissions.now plan.now.script n figures.number rule place result }
 {
     extremes_are_admitted();
     messages_are_read();

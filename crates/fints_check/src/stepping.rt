@@ -1,13 +1,10 @@
 //! Which rules other than P2 and P3 the message of a step can break, for all admitted values and
 //! all numbers.
-ghost use Rattle.std.specs.Prelude.{ℕ, List, ◌≡◌, ◌↔◌, ◌≤◌, IsTrue, Some, length};
-ghost use Rattle.fints_cases.specs.declared.values.NamedValue.{NamedValue};
-ghost use Rattle.fints_rules.specs.Breaks.{Breaks};
+ghost use Rattle.std.specs.Prelude.{◌≡◌, ◌↔◌, ◌≤◌, IsTrue, Some, length};
 ghost use Rattle.fints_script.specs.Numbered.{numbered};
-ghost use Rattle.fints_script.specs.Plans.{Admits};
 ghost use Rattle.fints_script.specs.Steps.{StepValue};
-ghost use Rattle.fints_wire.specs.Views.{message_view};
-ghost use Rattle.fints_check.specs.Breakable.{CanBreak, IsCleanStep, IsOther, NeverBreaks};
+ghost use Rattle.fints_check.specs.Breakable.{IsCleanStep, IsOther};
+ghost use Rattle.fints_check.specs.Searching.{CanBreakIfTold, IsToldIfBreaks, IsToldIfNeverBreaks};
 ghost use Rattle.fints_check.specs.StepFacts.{AreFactsOf};
 
 use crate::laws::templates_decide;
@@ -34,10 +31,10 @@ pub fn breaks(
     requires facts { AreFactsOf plan.now.script n facts.now }
 
     // Then some admitted values make it break the rule there, at every number..
-    ensures some { (step : StepValue) → numbered plan.now.script.steps n ≡ Some step → IsOther rule → IsTrue result → CanBreak permissions.now plan.now.script step rule place }
+    ensures some { CanBreakIfTold permissions.now plan.now.script n rule place result }
 
     // ..and else none do, at any.
-    ensures each { (step : StepValue) (number : ℕ) (values : List NamedValue) → numbered plan.now.script.steps n ≡ Some step → IsOther rule → Admits plan.now.script.fields values → Breaks permissions.now (message_view plan.now.script step number values) rule place → IsTrue result }
+    ensures each { IsToldIfBreaks permissions.now plan.now.script n rule place result }
 {
     templates_decide();
     closed_segments();
@@ -66,7 +63,7 @@ fn never_breaks(
     requires orders { permissions.now.orders ≡ plan.now.orders }
     requires facts { AreFactsOf plan.now.script n facts.now }
     requires other { IsOther rule }
-    ensures { (step : StepValue) → numbered plan.now.script.steps n ≡ Some step → IsTrue result ↔ NeverBreaks permissions.now plan.now.script step rule }
+    ensures { IsToldIfNeverBreaks permissions.now plan.now.script n rule result }
 {
     bodies_are_templates();
     let step = plan.step(n);

@@ -11,8 +11,8 @@ use Rattle.fints_words.specs.declared.words.ScriptFiles.{ScriptFiles}
 use Rattle.fints_words.specs.declared.words.Asked.{Asked}
 use Rattle.fints_words.specs.declared.words.Asked.TheVariants.{Help, Usage, NoMemory, Run}
 use Rattle.fints_cli.specs.BuiltIn as built_in
-use Rattle.fints_cli.specs.Loading.{files_of, IsUnreadOf}
-use Rattle.fints_cli.specs.Streams.{ReadCounts, Gets, GetsNothing, GetsPrefix}
+use Rattle.fints_cli.specs.Loading.{files_of, NoneFailed, FollowsReading}
+use Rattle.fints_cli.specs.Streams.{ReadCounts, Gets, GetsNothing, GetsPrefix, one_more}
 use Rattle.fints_texts.specs.Show.{IsShowOf, IsMemoryOrShowFault}
 use Rattle.fints_texts.specs.Judge.{IsVerdictOf, IsJudgeRefusal}
 use Rattle.fints_reports.specs.Told.{IsRefused, IsToldOf}
@@ -63,6 +63,11 @@ AnswersTo (Certify named) holds status text = TellsFiles Certificate holds named
 AnswersTo (Verify named certificate) holds status text = VerifiesFiles holds named certificate.now status text
 AnswersTo (requests.Run named only) holds status text = (status ≡ 0) × RunsFiles holds named only text
 
+-- the file of the option couldn't be read
+abbrev pub IsUnreadAs : List ℕ → Failure → Type 0
+IsUnreadAs option (Unread named) = named.now ≡ option
+IsUnreadAs option (Input f) = ⊥
+
 -- the file of the option couldn't be read, or memory ran out
 abbrev pub IsUnloaded : List ℕ → Failure → Type 0
 IsUnloaded option (Unread named) = named.now ≡ option
@@ -76,7 +81,7 @@ IsShowFailure capture (Input f) = IsMemoryOrShowFault capture f
 
 -- why a capture isn't shown, where its bytes are told
 abbrev pub FailsToShow : Option (List ℕ) → Failure → Type 0
-FailsToShow held (Unread named) = named.now ≡ codes "params"
+FailsToShow held (Unread named) = Unit {0}
 FailsToShow held (Input f) = IfSome held (λ capture. IsMemoryOrShowFault capture f)
 
 -- why loaded bytes aren't judged
@@ -86,7 +91,7 @@ IsJudgeFailure params orders message (Input f) = IsJudgeRefusal params orders me
 
 -- why a message isn't judged, where the bytes of the files are told
 abbrev pub FailsToJudge : Option (List ℕ) → Option (List ℕ) → Option (List ℕ) → Failure → Type 0
-FailsToJudge params orders message (Unread named) = (named.now ≡ codes "params") ⊎ ((named.now ≡ codes "orders") ⊎ (named.now ≡ codes "message"))
+FailsToJudge params orders message (Unread named) = Unit {0}
 FailsToJudge params orders message (Input f) =
     IfSome params (λ capture. IfSome orders (λ table. IfSome message (λ bytes. IsJudgeRefusal capture table bytes f)))
 
@@ -95,13 +100,9 @@ abbrev pub IsScriptFailure : List ℕ → List ℕ → List ℕ → Failure → 
 IsScriptFailure params orders script (Unread named) = ⊥
 IsScriptFailure params orders script (Input f) = IsRefused params orders script f
 
--- an option that names one of the files of a command that reads a script
-abbrev pub IsScriptOption : List ℕ → Type 0
-IsScriptOption option = (option ≡ codes "params") ⊎ ((option ≡ codes "orders") ⊎ (option ≡ codes "script"))
-
 -- why nothing is told of a script, where the bytes of the files are told
 abbrev pub FailsToTell : (List ℕ → Option (List ℕ)) → ScriptFiles → Failure → Type 0
-FailsToTell holds named (Unread option) = IsScriptOption option.now
+FailsToTell holds named (Unread option) = Unit {0}
 FailsToTell holds named (Input f) =
     IfSome (holds named.params.now) (λ capture. IfSome (holds named.orders.now) (λ table. IfSome (holds named.script.now) (λ steps. IsRefused capture table steps f)))
 
@@ -112,7 +113,7 @@ IsVerifyFailure params orders script certificate (Input f) = IsUnverified params
 
 -- why nothing is told of a certificate, where the bytes of the files are told
 abbrev pub FailsToVerify : (List ℕ → Option (List ℕ)) → ScriptFiles → List ℕ → Failure → Type 0
-FailsToVerify holds named certificate (Unread option) = IsScriptOption option.now ⊎ (option.now ≡ codes "cert")
+FailsToVerify holds named certificate (Unread option) = Unit {0}
 FailsToVerify holds named certificate (Input f) =
     IfSome (holds named.params.now) (λ capture. IfSome (holds named.orders.now) (λ table. IfSome (holds named.script.now) (λ steps. IfSome (holds certificate) (λ lines. IsUnverified capture table steps lines f))))
 
@@ -123,11 +124,11 @@ IsRunFailure orders script case only (Input f) = IsRunRefusal orders script case
 
 -- why a case isn't run, where the bytes of the files are told
 abbrev pub FailsToRun : (List ℕ → Option (List ℕ)) → RunFiles → Option ℕ → Failure → Type 0
-FailsToRun holds named only (Unread option) = (option.now ≡ codes "orders") ⊎ ((option.now ≡ codes "script") ⊎ (option.now ≡ codes "case"))
+FailsToRun holds named only (Unread option) = Unit {0}
 FailsToRun holds named only (Input f) =
     IfSome (holds named.orders.now) (λ table. IfSome (holds named.script.now) (λ steps. IfSome (holds named.case.now) (λ bytes. IsRunRefusal table steps bytes only f)))
 
--- why the request has no answer
+-- why the request has no answer; which files may be answered as unread stands in `Loading`
 abbrev pub FailsFor : Request → (List ℕ → Option (List ℕ)) → Failure → Type 0
 FailsFor BuiltIn holds failure = IsScriptFailure built_in.capture built_in.orders built_in.script failure
 FailsFor (Show params) holds failure = FailsToShow (holds params.now) failure
@@ -171,13 +172,16 @@ abbrev pub FailsToRead : Asked → (List ℕ → Option (List ℕ)) → ReadCoun
 FailsToRead (Help help) holds before after = ⊥
 FailsToRead (Usage fault) holds before after = ⊥
 FailsToRead NoMemory holds before after = ⊥
-FailsToRead (Run request hints) holds before after = (f : Failure) × (failure_status f ≡ 5) × FailsFor request holds f × IsUnreadOf (files_of request) holds before after f
+FailsToRead (Run request hints) holds before after = (f : Failure) × (failure_status f ≡ 5) × FailsFor request holds f × FollowsReading (files_of request) holds before after f
 
--- The status, and what the output got, are those of what was asked for: up to status 1 the whole text, from 2 to 4 nothing,
--- and at 5 nothing where a file couldn't be read, else a prefix of the text.
-pub record IsResponse (asked : Asked) (holds : List ℕ → Option (List ℕ)) (before after : ReadCounts) (status : ℕ) (old new : Option (List ℕ)) : Type 0 where
+-- The status, what the output got and how reads and writes went are those of what was asked for: up to status 1 the whole text,
+-- from 2 to 4 nothing, and at 5 nothing where a file couldn't be read, else a prefix of the text, after which a write failed.
+pub record IsResponse (asked : Asked) (holds : List ℕ → Option (List ℕ)) (before after : ReadCounts) (lost lost_after : ℕ) (status : ℕ) (old new : Option (List ℕ)) : Type 0 where
   pub answered : status ≤ 1 → IsAnswered asked holds status old new
   pub usage : status ≡ 2 → IsUsage asked ⊎ FailsWith 2 asked holds
+  pub unread : IsUsage asked → after.calls ≡ before.calls
   pub refused : status ≡ 3 → FailsWith 3 asked holds
+  pub read : status ≤ 3 → NoneFailed before after
   pub silent : (status ≡ 2) ⊎ ((status ≡ 3) ⊎ (status ≡ 4)) → GetsNothing old new
-  pub failed : status ≡ 5 → (FailsToRead asked holds before after × GetsNothing old new) ⊎ IsCutOff asked holds old new
+  pub fine : status ≤ 4 → lost_after ≡ lost
+  pub failed : status ≡ 5 → (FailsToRead asked holds before after × GetsNothing old new) ⊎ (IsCutOff asked holds old new × (lost_after ≡ one_more lost))

@@ -4,6 +4,7 @@ use Rattle.fints_cli.specs.declared.failing.Failure.{Failure}
 use Rattle.fints_cli.specs.declared.failing.Failure.TheVariants.{Input, Unread}
 use Rattle.fints_cli.specs.declared.reading.LoadFault.{LoadFault}
 use Rattle.fints_cli.specs.declared.reading.LoadFault.TheVariants.{Unreadable, TooLong, TooManyCalls, Memory}
+use Rattle.fints_texts.specs.declared.fault.Fault.TheVariants as texts
 use Rattle.fints_cli.specs.Streams.{ReadCounts, one_more}
 use Rattle.fints_words.specs.declared.words.Request.{Request}
 use Rattle.fints_words.specs.declared.words.Request.TheVariants.{BuiltIn, Show, Judge, Check, Explain, Certify, Verify}
@@ -72,17 +73,22 @@ IsLoadFault TooLong held limit before after = IsLonger held limit
 IsLoadFault TooManyCalls held limit before after = AreUsedUp before after
 IsLoadFault Memory held limit before after = Unit {0}
 
--- the file couldn't be read
+-- what lets a file be answered as unread: a read failed; it is longer than its limit, or doesn't tell its bytes; or as many reads were asked for as one file may take
 abbrev pub IsUnreadable : Option (List ℕ) → ℕ → ReadCounts → ReadCounts → Type 0
 IsUnreadable held limit before after = HasFailed before after ⊎ (IsLonger held limit ⊎ AreUsedUp before after)
 
--- one of these files, that of the option, couldn't be read
+-- the option is that of one of these files, which may be answered as unread
 abbrev pub HasUnreadable : List NamedFile → (List ℕ → Option (List ℕ)) → ReadCounts → ReadCounts → List ℕ → Type 0
 HasUnreadable [] holds before after option = ⊥
 HasUnreadable (file ∷ files) holds before after option =
     ((option ≡ file.option) × IsUnreadable (holds file.path) file.limit before after) ⊎ HasUnreadable files holds before after option
 
--- where a file is answered as unread, it is one of these that couldn't be read
-abbrev pub IsUnreadOf : List NamedFile → (List ℕ → Option (List ℕ)) → ReadCounts → ReadCounts → Failure → Type 0
-IsUnreadOf files holds before after (Unread option) = HasUnreadable files holds before after option.now
-IsUnreadOf files holds before after (Input f) = Unit {0}
+-- no read failed
+abbrev pub NoneFailed : ReadCounts → ReadCounts → Type 0
+NoneFailed before after = after.failed ≡ before.failed
+
+-- a failure after these files were read: one of them may be answered as unread, or none failed and an input is refused, or memory ran out
+abbrev pub FollowsReading : List NamedFile → (List ℕ → Option (List ℕ)) → ReadCounts → ReadCounts → Failure → Type 0
+FollowsReading files holds before after (Unread option) = HasUnreadable files holds before after option.now
+FollowsReading files holds before after (Input texts.Memory) = Unit {0}
+FollowsReading files holds before after (Input f) = NoneFailed before after

@@ -10,7 +10,7 @@ ghost use Rattle.fints_reports.specs.Told.{IsToldOf};
 ghost use Rattle.fints_reports.specs.declared.telling.Wanted.TheVariants as wants;
 ghost use Rattle.fints_reports.specs.RunText.{IsRunOf};
 ghost use Rattle.fints_reports.specs.Verified.{IsVerifiedOf};
-ghost use Rattle.fints_cli.specs.Loading.{wire_file, script_files, judge_files, verify_files, run_files, files_of, IsUnreadOf};
+ghost use Rattle.fints_cli.specs.Loading.{wire_file, script_files, judge_files, verify_files, run_files, files_of, NoneFailed, FollowsReading};
 ghost use Rattle.fints_cli.specs.Commands.{failure_status, IsJudgeFailure, ShowsFile, JudgesFile, FailsToJudge, TellsFiles, IsScriptFailure, FailsToTell, IsRunFailure, RunsFiles, FailsToRun, IsVerifyFailure, VerifiesFiles, FailsToVerify, AnswersTo, IsUnloaded, IsShowFailure, FailsToShow, FailsFor, IsAnswered, IsCutOff, IsResponse, IsUsage, FailsToRead, FailsWith};
 ghost use Rattle.fints_words.specs.declared.words.Asked.TheVariants as asked;
 
@@ -46,7 +46,7 @@ fn load_option<F: Files>(
     ensures unread { IfErr result (λ r. IsUnloaded option.now r.failure) }
     ensures counted { min ((F.reads files.old).calls) (2 ^ 64 - 1) ≤ (F.reads files.new).calls }
     ensures fine { IfOk result (λ _. (F.reads files.new).failed ≡ (F.reads files.old).failed) }
-    ensures reason { IfErr result (λ r. IsUnreadOf (record { option = option.now; path = path.now; limit = limit } ∷ []) (F.holds files.old) (F.reads files.old) (F.reads files.new) r.failure) }
+    ensures reason { IfErr result (λ r. FollowsReading (record { option = option.now; path = path.now; limit = limit } ∷ []) (F.holds files.old) (F.reads files.old) (F.reads files.new) r.failure) }
 {
     match load(alloc, files, path, limit) {
         Ok(bytes) => Ok(bytes),
@@ -96,7 +96,8 @@ fn tell_files<F: Files>(
     ensures status { IfOk result (λ reply. reply.status ≤ 1) }
     ensures told { IfOk result (λ reply. TellsFiles wanted (F.holds files.old) named.now reply.status reply.text.items) }
     ensures refused { IfErr result (λ r. FailsToTell (F.holds files.old) named.now r.failure) }
-    ensures reason { IfErr result (λ r. IsUnreadOf (script_files named.now) (F.holds files.old) (F.reads files.old) (F.reads files.new) r.failure) }
+    ensures read { IfOk result (λ _. NoneFailed (F.reads files.old) (F.reads files.new)) }
+    ensures reason { IfErr result (λ r. FollowsReading (script_files named.now) (F.holds files.old) (F.reads files.old) (F.reads files.new) r.failure) }
     ensures calls { (F.reads files.new).calls ≤ (F.reads files.old).calls + 3 * MAX_CALLS }
     ensures keeps { F.holds files.new ≡ F.holds files.old }
 {
@@ -140,7 +141,8 @@ fn verify_files<F: Files>(
     ensures status { IfOk result (λ reply. reply.status ≤ 1) }
     ensures told { IfOk result (λ reply. VerifiesFiles (F.holds files.old) named.now certificate.now reply.status reply.text.items) }
     ensures refused { IfErr result (λ r. FailsToVerify (F.holds files.old) named.now certificate.now r.failure) }
-    ensures reason { IfErr result (λ r. IsUnreadOf (verify_files named.now certificate.now) (F.holds files.old) (F.reads files.old) (F.reads files.new) r.failure) }
+    ensures read { IfOk result (λ _. NoneFailed (F.reads files.old) (F.reads files.new)) }
+    ensures reason { IfErr result (λ r. FollowsReading (verify_files named.now certificate.now) (F.holds files.old) (F.reads files.old) (F.reads files.new) r.failure) }
     ensures calls { (F.reads files.new).calls ≤ (F.reads files.old).calls + 4 * MAX_CALLS }
     ensures keeps { F.holds files.new ≡ F.holds files.old }
 {
@@ -179,7 +181,8 @@ fn show_file<F: Files>(
     ensures status { IfOk result (λ reply. reply.status ≡ 0) }
     ensures shown { IfOk result (λ reply. ShowsFile (F.holds files.old params.now) reply.text.items) }
     ensures refused { IfErr result (λ r. FailsToShow (F.holds files.old params.now) r.failure) }
-    ensures reason { IfErr result (λ r. IsUnreadOf (wire_file (codes "params") params.now ∷ []) (F.holds files.old) (F.reads files.old) (F.reads files.new) r.failure) }
+    ensures read { IfOk result (λ _. NoneFailed (F.reads files.old) (F.reads files.new)) }
+    ensures reason { IfErr result (λ r. FollowsReading (wire_file (codes "params") params.now ∷ []) (F.holds files.old) (F.reads files.old) (F.reads files.new) r.failure) }
     ensures calls { (F.reads files.new).calls ≤ (F.reads files.old).calls + MAX_CALLS }
     ensures keeps { F.holds files.new ≡ F.holds files.old }
 {
@@ -214,7 +217,8 @@ fn judge_file<F: Files>(
     ensures status { IfOk result (λ reply. reply.status ≤ 1) }
     ensures judged { IfOk result (λ reply. JudgesFile (F.holds files.old params.now) (F.holds files.old orders.now) (F.holds files.old message.now) reply.status reply.text.items) }
     ensures refused { IfErr result (λ r. FailsToJudge (F.holds files.old params.now) (F.holds files.old orders.now) (F.holds files.old message.now) r.failure) }
-    ensures reason { IfErr result (λ r. IsUnreadOf (judge_files params.now orders.now message.now) (F.holds files.old) (F.reads files.old) (F.reads files.new) r.failure) }
+    ensures read { IfOk result (λ _. NoneFailed (F.reads files.old) (F.reads files.new)) }
+    ensures reason { IfErr result (λ r. FollowsReading (judge_files params.now orders.now message.now) (F.holds files.old) (F.reads files.old) (F.reads files.new) r.failure) }
     ensures calls { (F.reads files.new).calls ≤ (F.reads files.old).calls + 3 * MAX_CALLS }
     ensures keeps { F.holds files.new ≡ F.holds files.old }
 {
@@ -257,7 +261,8 @@ fn run_files<F: Files>(
     ensures status { IfOk result (λ reply. reply.status ≡ 0) }
     ensures told { IfOk result (λ reply. RunsFiles (F.holds files.old) named.now only reply.text.items) }
     ensures refused { IfErr result (λ r. FailsToRun (F.holds files.old) named.now only r.failure) }
-    ensures reason { IfErr result (λ r. IsUnreadOf (run_files named.now) (F.holds files.old) (F.reads files.old) (F.reads files.new) r.failure) }
+    ensures read { IfOk result (λ _. NoneFailed (F.reads files.old) (F.reads files.new)) }
+    ensures reason { IfErr result (λ r. FollowsReading (run_files named.now) (F.holds files.old) (F.reads files.old) (F.reads files.new) r.failure) }
     ensures calls { (F.reads files.new).calls ≤ (F.reads files.old).calls + 3 * MAX_CALLS }
     ensures keeps { F.holds files.new ≡ F.holds files.old }
 {
@@ -284,7 +289,8 @@ pub fn perform<F: Files>(
     ensures status { IfOk result (λ reply. reply.status ≤ 1) }
     ensures answers { IfOk result (λ reply. AnswersTo request.now (F.holds files.old) reply.status reply.text.items) }
     ensures refused { IfErr result (λ r. FailsFor request.now (F.holds files.old) r.failure) }
-    ensures reason { IfErr result (λ r. IsUnreadOf (files_of request.now) (F.holds files.old) (F.reads files.old) (F.reads files.new) r.failure) }
+    ensures read { IfOk result (λ _. NoneFailed (F.reads files.old) (F.reads files.new)) }
+    ensures reason { IfErr result (λ r. FollowsReading (files_of request.now) (F.holds files.old) (F.reads files.old) (F.reads files.new) r.failure) }
     ensures calls { (F.reads files.new).calls ≤ (F.reads files.old).calls + 4 * MAX_CALLS }
     ensures keeps { F.holds files.new ≡ F.holds files.old }
 {
@@ -391,6 +397,7 @@ pub fn respond<F: Files, O: Out, E: Out>(
         ⊎ (IsCutOff asked.now (F.holds files.old) (O.told out.old) (O.told out.new)
         × (O.failed_calls out.new ≡ one_more (O.failed_calls out.old))) }
     ensures unread { IsUsage asked.now → (F.reads files.new).calls ≡ (F.reads files.old).calls }
+    ensures read { result ≤ 3 → NoneFailed (F.reads files.old) (F.reads files.new) }
     ensures calls { (F.reads files.new).calls ≤ (F.reads files.old).calls + 4 * MAX_CALLS }
 {
     match asked {
@@ -421,16 +428,8 @@ pub fn execute<F: Files, O: Out, E: Out>(
     err: &mut E,
 ) -> u8
     ensures status { result ≤ 5 }
-    ensures built_in { words.now ≡ [] → result ≤ 1
-        → IsAnswered (asked.Run request.BuiltIn false) (F.holds files.old) result (O.told out.old) (O.told out.new) }
-    ensures responds { (asked : Asked) × IsResponse asked (F.holds files.old) (F.reads files.old) (F.reads files.new) result (O.told out.old) (O.told out.new) }
-    ensures silent { (result ≡ 2) ⊎ ((result ≡ 3) ⊎ (result ≡ 4))
-        → GetsNothing (O.told out.old) (O.told out.new) }
-    ensures fine { result ≤ 4 → O.failed_calls out.new ≡ O.failed_calls out.old }
-    ensures failed { result ≡ 5 → GetsNothing (O.told out.old) (O.told out.new)
-        ⊎ (O.failed_calls out.new ≡ one_more (O.failed_calls out.old)) }
-    ensures unread { result ≡ 2 → ((F.reads files.new).calls ≡ (F.reads files.old).calls)
-        ⊎ ((asked : Asked) × FailsWith 2 asked (F.holds files.old)) }
+    ensures responds { (what : Asked) × (words.now ≡ [] → what ≡ asked.Run request.BuiltIn false)
+        × IsResponse what (F.holds files.old) (F.reads files.old) (F.reads files.new) (O.failed_calls out.old) (O.failed_calls out.new) result (O.told out.old) (O.told out.new) }
     ensures calls { (F.reads files.new).calls ≤ (F.reads files.old).calls + 4 * MAX_CALLS }
 {
     let asked = read_words(alloc, words);

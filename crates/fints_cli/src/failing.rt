@@ -1,6 +1,6 @@
 //! Why a command has no answer.
-ghost use Rattle.std.specs.Prelude.{◌≡◌};
-ghost use Rattle.fints_cli.specs.Commands.{failure_status, IsUnloaded};
+ghost use Rattle.std.specs.Prelude.{◌≡◌, ◌≢◌};
+ghost use Rattle.fints_cli.specs.Commands.{failure_status, IsUnloaded, IsUnreadAs};
 ghost use Rattle.fints_cli.specs.declared.failing.Failure.TheVariants as failure;
 ghost use Rattle.fints_cli.specs.declared.reading.LoadFault.TheVariants as load_fault;
 ghost use Rattle.fints_texts.specs.declared.fault.Fault.TheVariants as texts;
@@ -85,6 +85,7 @@ pub fn unread(
     hints: bool,
 ) -> Refusal
     ensures told { IsUnloaded option.now result.failure }
+    ensures file { fault ≢ load_fault.Memory → IsUnreadAs option.now result.failure }
     ensures memory { fault ≡ load_fault.Memory → result.failure ≡ failure.Input texts.Memory }
 {
     let failure = match fault {

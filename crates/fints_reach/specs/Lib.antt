@@ -1,4 +1,5 @@
 pub mod Closed
+pub mod Laws
 pub mod Leading
 pub mod Numbers
 pub mod Passes

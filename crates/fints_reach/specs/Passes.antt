@@ -67,3 +67,7 @@ pub record IsPassed (step : StepValue) (n : ℕ) (cell : Option ℕ) (old new be
   pub sent : (f : ℕ) → cell ≡ Some f → (e : ℕ) × Has old n e × ((f ≡ e) ⊎ (Leads step Again × (f ≡ e + (step.repeat - 1))))
   pub row : (f : ℕ) → cell ≡ Some f → (e : ℕ) × Has old n e × EndsRow step e f
   pub each : (k : ℕ) → IsSameAt old new before after k ⊎ ((f : ℕ) × (cell ≡ Some f) × Leads step (Step k) × Has new k (f + 1) × Has after k n)
+
+-- step n is passed so
+abbrev pub StepIsPassed : List StepValue → ℕ → Option ℕ → List (Option ℕ) → List (Option ℕ) → List (Option ℕ) → List (Option ℕ) → Type 0
+StepIsPassed steps n cell old new before after = (step : StepValue) → numbered steps n ≡ Some step → IsPassed step n cell old new before after

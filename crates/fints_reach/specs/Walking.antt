@@ -1,11 +1,12 @@
 -- What is found on the way to a step, back and forth. Private contracts alone cite these words.
-use Rattle.std.specs.Prelude.{ℕ, ◌≡◌, ◌<◌, ◌≤◌, Option, Some, List, [], ◌∷◌, length}
+use Rattle.std.specs.Prelude.{ℕ, ◌≡◌, ◌<◌, ◌≤◌, ◌+◌, Option, Some, List, [], ◌∷◌, length}
 use Rattle.fints_cases.specs.declared.answers.Target.{Target}
 use Rattle.fints_script.specs.Numbered.{numbered}
 use Rattle.fints_script.specs.Steps.{StepValue}
 use Rattle.fints_wire.specs.Runs.{RouteTo, answered}
 use Rattle.fints_reach.specs.Numbers.{Has}
 use Rattle.fints_reach.specs.Sources.{AreSources, EndsRow}
+use Rattle.fints_reach.specs.Ways.{LeadsTo}
 
 -- the code alone leads from the step to this target
 pub record IsCodeTo (step : StepValue) (to : Target) (code : ℕ) : Type 0 where
@@ -21,6 +22,16 @@ pub record EntersTo (steps : List StepValue) (numbers : List (Option ℕ)) (n : 
   pub row : EndsRow step from number
   pub has : Has numbers n number
   pub route : RouteTo steps answers (record { step = n; number = from; times = 1 })
+
+-- where the old answers lead to the first message of such a row, the new ones lead to its last
+abbrev pub EndsTheRow : List StepValue → ℕ → List (List ℕ) → List (List ℕ) → Type 0
+EndsTheRow steps n old new = (numbers : List (Option ℕ)) → EntersTo steps numbers n old → LeadsTo steps numbers n new
+
+-- where the old answers lead to a message of step n, the new ones lead to one of step `to` after it, the first in a row
+abbrev pub LeadsOn : List StepValue → ℕ → ℕ → List (List ℕ) → List (List ℕ) → Type 0
+LeadsOn steps n to old new =
+    (number times : ℕ) → RouteTo steps old (record { step = n; number = number; times = times })
+    → RouteTo steps new (record { step = to; number = number + 1; times = 1 })
 
 -- these are the sources of numbers, of which step n has one
 pub record HasWay (sources : List (Option ℕ)) (n : ℕ) : Type 0 where

@@ -2,11 +2,10 @@
 ghost use Rattle.std.specs.Prelude.{◌≡◌, ◌<◌, ◌≤◌, ◌+◌, ℕ, length, map, replicate, is_some, IfOk, IsTrue, IsFalse, Some, None};
 ghost use Rattle.fints_script.specs.Numbered.{numbered};
 ghost use Rattle.fints_script.specs.Sound.{IsOnward};
-ghost use Rattle.fints_script.specs.Steps.{StepValue};
 ghost use Rattle.fints_cases.specs.declared.answers.Target.{Target};
 ghost use Rattle.fints_reach.specs.Leading.{Leads};
 ghost use Rattle.fints_reach.specs.Numbers.{AreGreatest, Has, looked_at, visits_at};
-ghost use Rattle.fints_reach.specs.Passes.{AreOpen, AreRaised, IsPassed, IsRaised};
+ghost use Rattle.fints_reach.specs.Passes.{AreOpen, AreRaised, IsRaised, StepIsPassed};
 ghost use Rattle.fints_reach.specs.Sources.{AreSources};
 
 use crate::opening::{later_step, open_branches, spare};
@@ -103,7 +102,7 @@ fn pass_step(
     requires long { length entries.old.items ≡ length plan.now.script.steps }
     requires wide { length sources.old.items ≡ length plan.now.script.steps }
     requires small { (e : ℕ) → Has entries.old.items n e → e < 20000 }
-    ensures { (step : StepValue) → numbered plan.now.script.steps n ≡ Some step → IsPassed step n result entries.old.items entries.new.items sources.old.items sources.new.items }
+    ensures { StepIsPassed plan.now.script.steps n result entries.old.items entries.new.items sources.old.items sources.new.items }
 {
     let _count = plan.step_count();
     match entries[n - 1] {

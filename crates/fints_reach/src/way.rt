@@ -1,14 +1,13 @@
 //! Ways: answers of the bank after which a run ends with a step's message of greatest number.
-ghost use Rattle.std.specs.Prelude.{◌≡◌, ◌↔◌, ◌<◌, ◌≤◌, ◌+◌, ◌∷◌, ◌++◌, [], ℕ, length, List, Option, Some, IsTrue, MatchOption, IfOk, OnOk};
+ghost use Rattle.std.specs.Prelude.{◌≡◌, ◌↔◌, ◌<◌, ◌≤◌, ◌∷◌, ◌++◌, [], ℕ, length, Some, IsTrue, MatchOption, IfOk, OnOk};
 ghost use Rattle.fints_cases.specs.declared.answers.Target.{Target};
 ghost use Rattle.fints_script.specs.Numbered.{numbered};
 ghost use Rattle.fints_script.specs.Steps.{StepValue};
-ghost use Rattle.fints_wire.specs.Runs.{RouteTo};
 ghost use Rattle.fints_reach.specs.Leading.{Leads};
 ghost use Rattle.fints_reach.specs.Numbers.{Has};
 ghost use Rattle.fints_reach.specs.Passes.{IsOpenAt, target_at};
 ghost use Rattle.fints_reach.specs.Sources.{AreSources};
-ghost use Rattle.fints_reach.specs.Walking.{EntersTo, HasWay, IsCodeTo, IsWayBack};
+ghost use Rattle.fints_reach.specs.Walking.{EndsTheRow, HasWay, IsCodeTo, IsWayBack, LeadsOn};
 ghost use Rattle.fints_reach.specs.Ways.{LeadsTo};
 
 use crate::passing::Numbers;
@@ -67,7 +66,7 @@ fn push_code(alloc: Global, answers: &mut Vec<Answer>, code: Code) -> Result<(),
 fn push_row(alloc: Global, plan: &Plan, n: usize, answers: &mut Vec<Answer>) -> Result<(), Memory>
     requires from { 1 ≤ n }
     requires to { n ≤ length plan.now.script.steps }
-    ensures { OnOk result ((numbers : List (Option ℕ)) → EntersTo plan.now.script.steps numbers n answers.old.items → LeadsTo plan.now.script.steps numbers n answers.new.items) }
+    ensures { OnOk result (EndsTheRow plan.now.script.steps n answers.old.items answers.new.items) }
 {
     routes_grow();
     let step = plan.step(n);
@@ -90,7 +89,7 @@ fn push_onward(
     requires from { 1 ≤ n }
     requires last { n ≤ length plan.now.script.steps }
     requires leads { (step : StepValue) → numbered plan.now.script.steps n ≡ Some step → Leads step (Target.Step to) }
-    ensures { OnOk result ((number times : ℕ) → RouteTo plan.now.script.steps answers.old.items (record { step = n; number = number; times = times }) → RouteTo plan.now.script.steps answers.new.items (record { step = to; number = number + 1; times = 1 })) }
+    ensures { OnOk result (LeadsOn plan.now.script.steps n to answers.old.items answers.new.items) }
 {
     routes_grow();
     match code_to(plan.step(n), Target::Step(to)) {

@@ -4,6 +4,7 @@
 
 mod certifying;
 mod explaining;
+mod inputs;
 mod running;
 mod telling;
 mod verifying;

@@ -5,8 +5,8 @@ ghost use Rattle.fints_script.specs.Plans.{Admits};
 ghost use Rattle.fints_reports.specs.StepNames.{IsMessageOf};
 ghost use Rattle.fints_reports.specs.RunText.{line_of, message_text, run_text, IsMessageIn, IsUnsentRefusal, TellsRun, TellsCase, IsRunOf, IsAdmittedRefusal, IsCaseRefusal, IsRunRefusal};
 
-use fints_rules::OrderTable;
-use fints_script::{Case, Name, Plan, Script};
+use crate::inputs::read_inputs;
+use fints_script::{Case, Name, Plan};
 use fints_syntax::Memory;
 use fints_texts::Fault;
 use fints_wire::{Sent, run};
@@ -124,12 +124,8 @@ pub fn run_case(
     ensures told { IfOk result (λ text. IsRunOf orders.now script.now case.now only text.items) }
     ensures refused { IfErr result (λ f. IsRunRefusal orders.now script.now case.now only f) }
 {
-    let orders = OrderTable::read(alloc, orders)?;
-    let script = match Script::read(alloc, script) {
-        Ok(script) => script,
-        Err(fault) => return Err(Fault::from(fault)),
-    };
-    let plan = script.plan(&orders)?;
+    let inputs = read_inputs(alloc, orders, script)?;
+    let plan = inputs.script.plan(&inputs.orders)?;
     let text = run_planned(alloc, &plan, case, only)?;
     Ok(text)
 }

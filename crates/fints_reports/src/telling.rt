@@ -6,11 +6,12 @@ ghost use Rattle.fints_reports.specs.declared.telling.Wanted.TheVariants as want
 
 use crate::certifying::certify;
 use crate::explaining::explain;
+use crate::inputs::read_inputs;
 use crate::writing::reply;
 use fints_check::check;
 use fints_params::Params;
-use fints_rules::{OrderTable, Permissions};
-use fints_script::{Plan, Script};
+use fints_rules::Permissions;
+use fints_script::Plan;
 use fints_syntax::Memory;
 use fints_texts::{Fault, Reply};
 use std::alloc::Global;
@@ -57,12 +58,8 @@ pub fn tell(
     ensures told { IfOk result (λ reply. IsToldOn wanted params.now orders.now script.now reply.status reply.text.items) }
     ensures refused { IfErr result (λ f. IsPlanRefusal orders.now script.now f) }
 {
-    let orders = OrderTable::read(alloc, orders)?;
-    let script = match Script::read(alloc, script) {
-        Ok(script) => script,
-        Err(fault) => return Err(Fault::from(fault)),
-    };
-    let plan = script.plan(&orders)?;
+    let inputs = read_inputs(alloc, orders, script)?;
+    let plan = inputs.script.plan(&inputs.orders)?;
     let reply = tell_plan(alloc, params, &plan, wanted)?;
     Ok(reply)
 }

@@ -3,10 +3,11 @@ ghost use Rattle.std.specs.Prelude.{◌≡◌, ◌↔◌, IsTrue, IfOk, IfErr};
 ghost use Rattle.fints_certs.specs.CertTexts.{IsCertificateOf};
 ghost use Rattle.fints_reports.specs.Verified.{IsCertificateRefusal, IsUnverified, IsVerifiedBy, IsVerifiedOf, IsVerifiedOn, IsVerifyRefusal, TellsWhether};
 
+use crate::inputs::read_inputs;
 use fints_certs::{CertFault, Certificate, verify};
 use fints_params::Params;
-use fints_rules::{OrderTable, Permissions};
-use fints_script::{Plan, Script};
+use fints_rules::Permissions;
+use fints_script::Plan;
 use fints_syntax::Memory;
 use fints_texts::{Fault, Reply};
 use std::alloc::Global;
@@ -69,12 +70,8 @@ pub fn verify_certificate(
     ensures told { IfOk result (λ reply. IsVerifiedOn params.now orders.now script.now certificate.now reply.status reply.text.items) }
     ensures refused { IfErr result (λ f. IsVerifyRefusal orders.now script.now certificate.now f) }
 {
-    let orders = OrderTable::read(alloc, orders)?;
-    let script = match Script::read(alloc, script) {
-        Ok(script) => script,
-        Err(fault) => return Err(Fault::from(fault)),
-    };
-    let plan = script.plan(&orders)?;
+    let inputs = read_inputs(alloc, orders, script)?;
+    let plan = inputs.script.plan(&inputs.orders)?;
     let reply = verify_plan(alloc, params, &plan, certificate)?;
     Ok(reply)
 }

@@ -51,10 +51,14 @@ elements_len sizes elements = total (element_len sizes) elements
 abbrev pub head_len : List ℕ → ℕ → ℕ → ℕ
 head_len kind n version = items_size (head_items (make_segment kind n version []).head)
 
+-- the segment of a template, numbered n
+abbrev pub segment_len : Sizes → ℕ → Template → ℕ
+segment_len sizes n t = head_len t.kind n t.version + elements_len sizes t.elements
+
 -- segments, numbered from n
 abbrev pub segments_len : Sizes → ℕ → List Template → ℕ
 segments_len sizes n [] = 0
-segments_len sizes n (t ∷ ts) = head_len t.kind n t.version + elements_len sizes t.elements + segments_len sizes (n + 1) ts
+segments_len sizes n (t ∷ ts) = segment_len sizes n t + segments_len sizes (n + 1) ts
 
 -- a binary item of n bytes, with its own length
 abbrev pub binary_size : ℕ → ℕ
@@ -65,6 +69,10 @@ abbrev pub middle_len : Bool → ℕ → ℕ → ℕ
 middle_len false seal inner = inner
 middle_len true seal inner = head_len (codes "HNVSK") 998 3 + seal + head_len (codes "HNVSD") 999 1 + binary_size inner
 
+-- what stands between the first segment and the last
+abbrev pub between_len : ScriptValue → StepValue → Sizes → ℕ
+between_len script step sizes = middle_len step.sealed (elements_len sizes (seal_of script)) (segments_len sizes 2 (templates_of script step))
+
 abbrev pub number_len : ℕ → ℕ
 number_len number = 1 + length (decimal number)
 
@@ -72,5 +80,5 @@ number_len number = 1 + length (decimal number)
 abbrev pub message_len : ScriptValue → StepValue → Sizes → ℕ → ℕ
 message_len script step sizes number =
     head_len (codes "HNHBK") 1 3 + 17 + sizes.dialog + number_len number
-    + middle_len step.sealed (elements_len sizes (seal_of script)) (segments_len sizes 2 (templates_of script step))
+    + between_len script step sizes
     + head_len (codes "HNHBS") (2 + length (templates_of script step)) 1 + number_len number

@@ -4,3 +4,4 @@ pub mod Lengths
 pub mod Choices
 pub mod Runs
 pub mod Views
+pub mod Laws

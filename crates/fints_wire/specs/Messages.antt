@@ -1,5 +1,5 @@
 -- The message of a step.
-use Rattle.std.specs.Prelude.{ℕ, ◌+◌, ◌-◌, codes, List, [], ◌∷◌, ◌++◌, length, map, get_or, replicate, Bool, true, false, Some, None}
+use Rattle.std.specs.Prelude.{ℕ, ◌≡◌, ◌+◌, ◌-◌, codes, List, [], ◌∷◌, ◌++◌, length, map, get_or, replicate, slice_get, Bool, true, false, Some, None}
 use Rattle.std.specs.List.{flat_map}
 use Rattle.std.specs.Fmt.{decimal}
 use Rattle.fints_syntax.specs.declared.item.OwnedItem.{OwnedItem}
@@ -53,6 +53,10 @@ seal_of script = elim script.seal [ None ↦ [] | Some seal ↦ seal ]
 abbrev pub envelope : List (List OwnedItem) → List OwnedSegment → List OwnedSegment
 envelope seal inner = make_segment (codes "HNVSK") 998 3 seal ∷ make_segment (codes "HNVSD") 999 1 ((Bin (segments_text inner) ∷ []) ∷ []) ∷ []
 
+-- the text of the envelope round inner segments of this text
+abbrev pub envelope_text : List (List OwnedItem) → List ℕ → List ℕ
+envelope_text seal inner = written_segment (make_segment (codes "HNVSK") 998 3 seal) ++ written_segment (make_segment (codes "HNVSD") 999 1 ((Bin inner ∷ []) ∷ []))
+
 -- between the first segment and the last: the inner segments, or the envelope round them
 abbrev pub middle_segments : Bool → List (List OwnedItem) → List OwnedSegment → List OwnedSegment
 middle_segments false seal inner = inner
@@ -69,11 +73,19 @@ first_segment size dialog number = make_segment (codes "HNHBK") 1 3 ((Text (twel
 abbrev pub last_segment : ℕ → ℕ → OwnedSegment
 last_segment n number = make_segment (codes "HNHBS") n 1 ((Text (decimal number) ∷ []) ∷ [])
 
+-- what a step sends between the first segment and the last
+abbrev pub between_segments : ScriptValue → StepValue → FillingValue → List OwnedSegment
+between_segments script step filling = middle_segments step.sealed (filled_elements filling (seal_of script)) (inner_segments script step filling)
+
 -- the segments behind HNHBK; the last has the number after the last inner one
 abbrev pub later_segments : ScriptValue → StepValue → FillingValue → ℕ → List OwnedSegment
 later_segments script step filling number =
-    middle_segments step.sealed (filled_elements filling (seal_of script)) (inner_segments script step filling)
+    between_segments script step filling
     ++ last_segment (2 + length (templates_of script step)) number ∷ []
+
+-- the text of what follows the first segment behind that segment, which has the size of the whole; whatever the size, it has 12 digits
+abbrev pub text_with_first : List OwnedItem → ℕ → List ℕ → List ℕ
+text_with_first dialog number later = written_segment (first_segment (length (written_segment (first_segment 0 dialog number)) + length later) dialog number) ++ later
 
 -- the message with a size in its first segment
 abbrev pub message_with : ScriptValue → StepValue → FillingValue → ℕ → ℕ → List OwnedSegment
@@ -83,6 +95,10 @@ message_with script step filling number size = first_segment size filling.dialog
 abbrev pub message_size : ScriptValue → StepValue → FillingValue → ℕ → ℕ
 message_size script step filling number = length (segments_text (message_with script step filling number 0))
 
+-- how long the message of a step, of this number, is under a choice
+abbrev pub size_under : ScriptValue → StepValue → ℕ → List NamedValue → ℕ
+size_under script step number values = message_size script step (filling_of script.fields values number) number
+
 abbrev pub message_segments : ScriptValue → StepValue → ℕ → List NamedValue → List OwnedSegment
 message_segments script step number values =
     let filling : FillingValue = filling_of script.fields values number in
@@ -91,3 +107,7 @@ message_segments script step number values =
 -- the bytes of the message of a step, of this number, under a choice
 abbrev pub message_bytes : ScriptValue → StepValue → ℕ → List NamedValue → List ℕ
 message_bytes script step number values = segments_text (message_segments script step number values)
+
+-- this is so for the step of this number, counted from 1
+abbrev pub OfStep : List StepValue → ℕ → (StepValue → Type 0) → Type 0
+OfStep steps n so = (s : StepValue) → slice_get steps (n - 1) ≡ Some s → so s

@@ -1,13 +1,11 @@
 //! The bytes of a step's message.
-ghost use Rattle.std.specs.Prelude.{◌≡◌, ◌<◌, ◌≤◌, ◌-◌, ◌+◌, ◌++◌, ◌∷◌, [], codes, length, slice_get, All, Some, IfOk, OnOk};
+ghost use Rattle.std.specs.Prelude.{◌≡◌, ◌<◌, ◌≤◌, ◌++◌, length, All, IfOk, OnOk};
 ghost use Rattle.fints_syntax.specs.Written.{written_segment};
-ghost use Rattle.fints_syntax.specs.declared.item.OwnedItem.TheVariants.{Bin};
 ghost use Rattle.fints_messages.specs.Messages.{IsMessage};
 ghost use Rattle.fints_script.specs.Plans.{Admits};
 ghost use Rattle.fints_script.specs.Sound.{IsSoundStep};
-ghost use Rattle.fints_script.specs.Steps.{StepValue};
-ghost use Rattle.fints_wire.specs.Filling.{AreFilled, TemplatesAreFilled, filled_elements, filled_segment, filling_of, make_segment};
-ghost use Rattle.fints_wire.specs.Messages.{first_segment, inner_segments, later_segments, message_bytes, message_size, middle_segments, seal_of, segments_text, templates_of};
+ghost use Rattle.fints_wire.specs.Filling.{AreFilled, TemplatesAreFilled, filled_elements, filled_segment};
+ghost use Rattle.fints_wire.specs.Messages.{OfStep, between_segments, envelope_text, first_segment, inner_segments, later_segments, message_bytes, seal_of, segments_text, size_under, templates_of, text_with_first};
 ghost use Rattle.fints_wire.specs.Views.{message_view};
 
 use crate::filling::{Filling, filled_elements};
@@ -70,7 +68,7 @@ fn envelope_text(
     inner: Vec<u8>,
 ) -> Result<Vec<u8>, Memory>
     requires { AreFilled filling.now (seal_of plan.now.script) }
-    ensures { IfOk result (λ v. v.items ≡ written_segment (make_segment (codes "HNVSK") 998 3 (filled_elements filling.now (seal_of plan.now.script))) ++ written_segment (make_segment (codes "HNVSD") 999 1 ((Bin inner.items ∷ []) ∷ []))) }
+    ensures { IfOk result (λ v. v.items ≡ envelope_text (filled_elements filling.now (seal_of plan.now.script)) inner.items) }
 {
     let seal = seal_segment(seal_elements(alloc, plan, filling)?);
     let data = data_segment(alloc, inner)?;
@@ -90,7 +88,7 @@ fn middle_text(
     requires step { IsSoundStep plan.now.script step.now }
     requires filled { TemplatesAreFilled filling.now (templates_of plan.now.script step.now) }
     requires seal { AreFilled filling.now (seal_of plan.now.script) }
-    ensures { IfOk result (λ v. v.items ≡ segments_text (middle_segments step.now.sealed (filled_elements filling.now (seal_of plan.now.script)) (inner_segments plan.now.script step.now filling.now))) }
+    ensures { IfOk result (λ v. v.items ≡ segments_text (between_segments plan.now.script step.now filling.now)) }
 {
     let inner = inner_text(alloc, plan, step, filling)?;
     if !step.sealed() {
@@ -137,7 +135,7 @@ fn message_text(
     later: &[u8],
 ) -> Result<Vec<u8>, Memory>
     requires { 0 < length filling.now.dialog }
-    ensures { IfOk result (λ v. v.items ≡ written_segment (first_segment (length (written_segment (first_segment 0 filling.now.dialog number)) + length later.now) filling.now.dialog number) ++ later.now) }
+    ensures { IfOk result (λ v. v.items ≡ text_with_first filling.now.dialog number later.now) }
 {
     let size = first_text(alloc, 0, filling, number)?.len() + later.len();
     let mut out = first_text(alloc, size as u64, filling, number)?;
@@ -159,10 +157,10 @@ pub fn build(
     requires first { 1 ≤ number }
     requires last { number ≤ 99999 }
     requires admits { Admits plan.now.script.fields values.now }
-    ensures bytes { (s : StepValue) → slice_get plan.now.script.steps (step - 1) ≡ Some s → IfOk result (λ bytes. bytes.items ≡ message_bytes plan.now.script s number values.now) }
-    ensures size { (s : StepValue) → slice_get plan.now.script.steps (step - 1) ≡ Some s → IfOk result (λ bytes. length bytes.items ≡ message_size plan.now.script s (filling_of plan.now.script.fields values.now number) number) }
+    ensures bytes { OfStep plan.now.script.steps step (λ s. IfOk result (λ bytes. bytes.items ≡ message_bytes plan.now.script s number values.now)) }
+    ensures size { OfStep plan.now.script.steps step (λ s. IfOk result (λ bytes. length bytes.items ≡ size_under plan.now.script s number values.now)) }
     ensures short { IfOk result (λ bytes. length bytes.items < 1048576) }
-    ensures view { (s : StepValue) → slice_get plan.now.script.steps (step - 1) ≡ Some s → IfOk result (λ bytes. IsMessage bytes.items (message_view plan.now.script s number values.now)) }
+    ensures view { OfStep plan.now.script.steps step (λ s. IfOk result (λ bytes. IsMessage bytes.items (message_view plan.now.script s number values.now))) }
 {
     messages_are_read();
     let step = plan.step(step);

@@ -1,16 +1,14 @@
 //! How long a step's messages are at most.
-ghost use Rattle.std.specs.Prelude.{codes, ◌≡◌, ◌<◌, ◌≤◌, ◌+◌, ◌^◌, ℕ, List, Some, get_or, length, map};
+ghost use Rattle.std.specs.Prelude.{codes, ◌≡◌, ◌<◌, ◌≤◌, ◌+◌, ◌^◌, Some, get_or, length, map};
 ghost use Rattle.std.specs.Fmt.{decimal};
 ghost use Rattle.fints_syntax.specs.Kind.{IsKindText};
 ghost use Rattle.fints_syntax.specs.Spelling.{written};
 ghost use Rattle.fints_script.specs.Numbered.{numbered};
-ghost use Rattle.fints_script.specs.Plans.{Admits};
 ghost use Rattle.fints_script.specs.Sound.{IsSound, IsSoundStep};
 ghost use Rattle.fints_script.specs.Steps.{StepValue};
-ghost use Rattle.fints_cases.specs.declared.values.NamedValue.{NamedValue};
-ghost use Rattle.fints_wire.specs.Choices.{longest_choice};
-ghost use Rattle.fints_wire.specs.Lengths.{binary_size, element_len, elements_len, head_len, item_len, longest_size, longest_sizes, message_len, middle_len, segments_len};
-ghost use Rattle.fints_wire.specs.Messages.{message_bytes, seal_of, templates_of};
+ghost use Rattle.fints_wire.specs.Choices.{NoneIsLonger, longest_message};
+ghost use Rattle.fints_wire.specs.Lengths.{between_len, binary_size, element_len, elements_len, head_len, item_len, longest_size, longest_sizes, message_len, segment_len, segments_len};
+ghost use Rattle.fints_wire.specs.Messages.{seal_of, templates_of};
 
 use crate::part::{Part, part_at, part_count};
 use fints_script::{FieldClass, Plan, Step, TemplateItem};
@@ -106,8 +104,8 @@ fn head_size(kind: Kind, n: u64, version: u64) -> u64
 // What a segment of this number adds to what was counted before it.
 fn count_part(plan: &Plan, number: u32, part: &Part, n: u64, before: u64) -> u64
     requires kind { IsKindText part.now.kind }
-    requires small { before + (head_len part.now.kind n part.now.version + elements_len (longest_sizes plan.now.script.fields number) part.now.elements) < 2 ^ 63 }
-    ensures { result ≡ before + (head_len part.now.kind n part.now.version + elements_len (longest_sizes plan.now.script.fields number) part.now.elements) }
+    requires small { before + segment_len (longest_sizes plan.now.script.fields number) n part.now < 2 ^ 63 }
+    ensures { result ≡ before + segment_len (longest_sizes plan.now.script.fields number) n part.now }
 {
     let head = head_size(part.kind, n, u64::from(part.version));
     count_elements(plan, number, part.elements.as_slice(), before + head)
@@ -151,7 +149,7 @@ fn middle_size<'a>(plan: &'a Plan<'a>, step: &'a Step, number: u32) -> u64
     requires sound { IsSound plan.now.script }
     requires step { IsSoundStep plan.now.script step.now }
     requires number { number ≤ 99999 }
-    ensures { result ≡ middle_len step.now.sealed (elements_len (longest_sizes plan.now.script.fields number) (seal_of plan.now.script)) (segments_len (longest_sizes plan.now.script.fields number) 2 (templates_of plan.now.script step.now)) }
+    ensures { result ≡ between_len plan.now.script step.now (longest_sizes plan.now.script.fields number) }
 {
     let inner = segments_size(plan, step, number);
     if !step.sealed() {
@@ -185,8 +183,8 @@ pub fn worst_size(plan: &Plan, step: usize, number: u32) -> u64
     requires to { step ≤ length plan.now.script.steps }
     requires first { 1 ≤ number }
     requires last { number ≤ 99999 }
-    ensures attained { (s : StepValue) → numbered plan.now.script.steps step ≡ Some s → result ≡ length (message_bytes plan.now.script s number (longest_choice plan.now.script.fields)) }
-    ensures most { (s : StepValue) (values : List NamedValue) (lower : ℕ) → numbered plan.now.script.steps step ≡ Some s → Admits plan.now.script.fields values → 1 ≤ lower → lower ≤ number → length (message_bytes plan.now.script s lower values) ≤ result }
+    ensures attained { (s : StepValue) → numbered plan.now.script.steps step ≡ Some s → result ≡ length (longest_message plan.now.script s number) }
+    ensures most { NoneIsLonger plan.now.script step number result }
     ensures short { result < 1048576 }
 {
     message_size(plan, plan.step(step), number)
