@@ -59,6 +59,11 @@ pub record OneBranchFires (branches : List Branch) (otherwise : Target) (codes :
   pub alone : (other : ℕ) → Fires branches codes other → other ≡ branch
   pub leads_to : leads branches otherwise codes ≡ target_of branches otherwise branch
 
+-- a code that matches a branch and no earlier one leads, by itself, where the branch does
+abbrev pub OpenersLead : List Branch → Target → Type 0
+OpenersLead branches otherwise =
+    (b code : ℕ) → 1 ≤ b → b ≤ length branches + 1 → IsOpener branches b code → leads branches otherwise (code ∷ []) ≡ target_of branches otherwise b
+
 -- some answer leads to this target
 pub record CanLead (branches : List Branch) (otherwise target : Target) : Type 0 where
   pub codes : List ℕ

@@ -1,6 +1,6 @@
 //! Laws of answers and cases: each function's contract is one.
-ghost use Rattle.std.specs.Prelude.{◌≡◌, ◌≤◌, ◌+◌, ◌↔◌, ℕ, List, [], ◌∷◌, length};
-ghost use Rattle.fints_cases.specs.Answers.{OneCodeFires, OneBranchFires, CanLead, IsOpener, IsOpenTo, leads, target_of};
+ghost use Rattle.std.specs.Prelude.{◌≡◌, ◌↔◌, ℕ, List};
+ghost use Rattle.fints_cases.specs.Answers.{OneCodeFires, OneBranchFires, OpenersLead, CanLead, IsOpenTo};
 ghost use Rattle.fints_cases.specs.Cases.{OneCase, IsFirstBadLine};
 ghost use Rattle.fints_cases.specs.declared.answers.Branch.{Branch};
 ghost use Rattle.fints_cases.specs.declared.answers.Target.{Target};
@@ -22,7 +22,7 @@ pub fn open_branches_lead()
 
 /// An opener alone leads to its branch's target.
 pub fn openers_lead()
-    ensures { (branches : List Branch) (otherwise : Target) (b code : ℕ) → 1 ≤ b → b ≤ length branches + 1 → IsOpener branches b code → leads branches otherwise (code ∷ []) ≡ target_of branches otherwise b }
+    ensures { (branches : List Branch) (otherwise : Target) → OpenersLead branches otherwise }
 {}
 
 /// A text stands for one case at most.

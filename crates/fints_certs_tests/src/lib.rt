@@ -6,6 +6,4 @@ mod certificates;
 #[cfg(test)]
 mod inputs;
 #[cfg(test)]
-mod least;
-#[cfg(test)]
 mod long_texts;

@@ -2,8 +2,6 @@
 #![tactic(auto)]
 
 #[cfg(test)]
-mod brute_force;
-#[cfg(test)]
 mod cases;
 #[cfg(test)]
 mod inputs;
@@ -11,7 +9,5 @@ mod inputs;
 mod numbers;
 #[cfg(test)]
 mod reports;
-#[cfg(test)]
-mod small_scripts;
 #[cfg(test)]
 mod ways;

@@ -35,12 +35,8 @@ fn finding_text(alloc: Global, finding: &Finding) -> Result<String, Fail> {
     Ok(format!(in alloc; "{} {} {};", finding.step, finding.rule, finding.segment)?)
 }
 
-/// The figures of each step, and then the findings, with a `;` behind each.
-pub fn told(
-    alloc: Global,
-    figures: &[Option<Reached>],
-    findings: &[Finding],
-) -> Result<String, Fail> {
+// The figures of each step, and then the findings, with a `;` behind each.
+fn told(alloc: Global, figures: &[Option<Reached>], findings: &[Finding]) -> Result<String, Fail> {
     let mut told = String::new(alloc);
     for reached in figures {
         told.push_str(figure_text(alloc, *reached)?.as_str())?;
@@ -77,9 +73,9 @@ fn are_shown(
     Ok(true)
 }
 
-/// What the check of a plan tells, and how many steps and branches it looked at; its cases show what
-/// is found.
-pub fn checked(
+// What the check of a plan tells, and how many steps and branches it looked at; its cases show what
+// is found.
+fn checked(
     alloc: Global,
     permissions: &Permissions<'_>,
     plan: &Plan<'_>,
@@ -121,8 +117,8 @@ fn samples(rt: HostRuntime) -> Result<(), Fail> {
     Ok(())
 }
 
-/// The template with a piece in the place of each `#`.
-pub fn filled(alloc: Global, template: &str, pieces: &[&str]) -> Result<String, Fail> {
+// The template with a piece in the place of each `#`.
+fn filled(alloc: Global, template: &str, pieces: &[&str]) -> Result<String, Fail> {
     let mut text = String::new(alloc);
     for (i, part) in template.split("#").enumerate() {
         text.push_str(part)?;

@@ -9,8 +9,8 @@ use fints_script::{Answer, Plan, Script};
 use std::alloc::Global;
 use std::test::*;
 
-/// Answers that lead to step n's greatest number.
-pub fn answers_to(alloc: Global, plan: &Plan<'_>, n: usize) -> Result<Vec<Answer>, Fail>
+// Answers that lead to step n's greatest number.
+fn answers_to(alloc: Global, plan: &Plan<'_>, n: usize) -> Result<Vec<Answer>, Fail>
     requires from { 1 ≤ n }
     requires to { n ≤ length plan.now.script.steps }
 {

@@ -46,7 +46,8 @@ fn load_option<F: Files>(
     ensures unread { IfErr result (λ r. IsUnloaded option.now r.failure) }
     ensures counted { min ((F.reads files.old).calls) (2 ^ 64 - 1) ≤ (F.reads files.new).calls }
     ensures fine { IfOk result (λ _. (F.reads files.new).failed ≡ (F.reads files.old).failed) }
-    ensures reason { IfErr result (λ r. FollowsReading (record { option = option.now; path = path.now; limit = limit } ∷ []) (F.holds files.old) (F.reads files.old) (F.reads files.new) r.failure) }
+    ensures reason { IfErr result (λ r.
+        FollowsReading (record { option = option.now; path = path.now; limit = limit } ∷ []) (F.holds files.old) (F.reads files.old) (F.reads files.new) r.failure) }
 {
     match load(alloc, files, path, limit) {
         Ok(bytes) => Ok(bytes),
@@ -115,8 +116,10 @@ fn tell_files<F: Files>(
 
 fn verify_loaded(alloc: Global, inputs: &Inputs<'_>, hints: bool) -> Result<Reply, Refusal>
     ensures status { IfOk result (λ reply. reply.status ≤ 1) }
-    ensures told { IfOk result (λ reply. IsVerifiedOf inputs.now.params.now inputs.now.orders.now inputs.now.script.now inputs.now.certificate.now reply.status reply.text.items) }
-    ensures refused { IfErr result (λ r. IsVerifyFailure inputs.now.params.now inputs.now.orders.now inputs.now.script.now inputs.now.certificate.now r.failure) }
+    ensures told { IfOk result (λ reply.
+        IsVerifiedOf inputs.now.params.now inputs.now.orders.now inputs.now.script.now inputs.now.certificate.now reply.status reply.text.items) }
+    ensures refused { IfErr result (λ r.
+        IsVerifyFailure inputs.now.params.now inputs.now.orders.now inputs.now.script.now inputs.now.certificate.now r.failure) }
 {
     match verify_script(
         alloc,
@@ -142,7 +145,8 @@ fn verify_files<F: Files>(
     ensures told { IfOk result (λ reply. VerifiesFiles (F.holds files.old) named.now certificate.now reply.status reply.text.items) }
     ensures refused { IfErr result (λ r. FailsToVerify (F.holds files.old) named.now certificate.now r.failure) }
     ensures read { IfOk result (λ _. NoneFailed (F.reads files.old) (F.reads files.new)) }
-    ensures reason { IfErr result (λ r. FollowsReading (verify_files named.now certificate.now) (F.holds files.old) (F.reads files.old) (F.reads files.new) r.failure) }
+    ensures reason { IfErr result (λ r.
+        FollowsReading (verify_files named.now certificate.now) (F.holds files.old) (F.reads files.old) (F.reads files.new) r.failure) }
     ensures calls { (F.reads files.new).calls ≤ (F.reads files.old).calls + 4 * MAX_CALLS }
     ensures keeps { F.holds files.new ≡ F.holds files.old }
 {
@@ -182,7 +186,8 @@ fn show_file<F: Files>(
     ensures shown { IfOk result (λ reply. ShowsFile (F.holds files.old params.now) reply.text.items) }
     ensures refused { IfErr result (λ r. FailsToShow (F.holds files.old params.now) r.failure) }
     ensures read { IfOk result (λ _. NoneFailed (F.reads files.old) (F.reads files.new)) }
-    ensures reason { IfErr result (λ r. FollowsReading (wire_file (codes "params") params.now ∷ []) (F.holds files.old) (F.reads files.old) (F.reads files.new) r.failure) }
+    ensures reason { IfErr result (λ r.
+        FollowsReading (wire_file (codes "params") params.now ∷ []) (F.holds files.old) (F.reads files.old) (F.reads files.new) r.failure) }
     ensures calls { (F.reads files.new).calls ≤ (F.reads files.old).calls + MAX_CALLS }
     ensures keeps { F.holds files.new ≡ F.holds files.old }
 {
@@ -215,10 +220,12 @@ fn judge_file<F: Files>(
     hints: bool,
 ) -> Result<Reply, Refusal>
     ensures status { IfOk result (λ reply. reply.status ≤ 1) }
-    ensures judged { IfOk result (λ reply. JudgesFile (F.holds files.old params.now) (F.holds files.old orders.now) (F.holds files.old message.now) reply.status reply.text.items) }
+    ensures judged { IfOk result (λ reply.
+        JudgesFile (F.holds files.old params.now) (F.holds files.old orders.now) (F.holds files.old message.now) reply.status reply.text.items) }
     ensures refused { IfErr result (λ r. FailsToJudge (F.holds files.old params.now) (F.holds files.old orders.now) (F.holds files.old message.now) r.failure) }
     ensures read { IfOk result (λ _. NoneFailed (F.reads files.old) (F.reads files.new)) }
-    ensures reason { IfErr result (λ r. FollowsReading (judge_files params.now orders.now message.now) (F.holds files.old) (F.reads files.old) (F.reads files.new) r.failure) }
+    ensures reason { IfErr result (λ r.
+        FollowsReading (judge_files params.now orders.now message.now) (F.holds files.old) (F.reads files.old) (F.reads files.new) r.failure) }
     ensures calls { (F.reads files.new).calls ≤ (F.reads files.old).calls + 3 * MAX_CALLS }
     ensures keeps { F.holds files.new ≡ F.holds files.old }
 {

@@ -1,10 +1,7 @@
 -- A row denotes one field.
-use Rattle.std.proofs.Common.{◌≡◌, ℕ, List, Option, Some, sym, ◌∙◌, ap}
+use Rattle.std.proofs.Common.{◌≡◌, ℕ, List, Option, sym, ◌∙◌, ap}
 use Rattle.toml.specs.Data.{Data, string, integer, float, boolean, datetime, array, table, Members}
-use Rattle.fints_field_rows.specs.FieldFaults.{field_fault}
 use Rattle.fints_field_rows.specs.FieldTables.{HasClass, IsFieldOf, IsNumber}
-use Rattle.fints_field_rows.specs.Laws.{DenotesField}
-use Rattle.fints_field_rows.specs.declared.fault.FaultKind.{FaultKind}
 use Rattle.fints_fields.specs.declared.counted.Bin.{Bin}
 use Rattle.fints_fields.specs.declared.counted.Digits.{Digits}
 use Rattle.fints_fields.specs.declared.counted.Plain.{Plain}
@@ -45,6 +42,3 @@ module _ (given : GivenClasses) where
   one_field (boolean b) name other field second h i = absurd h
   one_field (datetime t) name other field second h i = absurd h
   one_field (array ds) name other field second h i = absurd h
-
-pub no_field : (earlier : List Data) (row : Data) (kind : FaultKind) (name : List ℕ) (field : Field) → field_fault earlier row ≡ Some kind → DenotesField earlier row name field → ⊥
-no_field earlier row kind name field is h = let none = h.clean in cc

@@ -1,25 +1,15 @@
 -- The laws of rows: which field a row denotes, and which fault is the first. Each is the contract of a public function.
-use Rattle.std.specs.Prelude.{◌≡◌, ℕ, Bool, true, false, List, ◌∷◌, ◌++◌, length, All, Option, Some, None}
+use Rattle.std.specs.Prelude.{◌≡◌, ℕ, Bool, true, false, List, ◌∷◌, ◌++◌, length, All, Option, Some}
 use Rattle.toml.specs.Data.{Data}
 use Rattle.fints_fields.specs.declared.field.Field.{Field}
 use Rattle.fints_field_rows.specs.FaultOrder.{first_kind, kind_order}
 use Rattle.fints_field_rows.specs.Faults.{AreClean, IsFirstFault}
-use Rattle.fints_field_rows.specs.FieldFaults.{field_fault}
 use Rattle.fints_field_rows.specs.FieldTables.{IsFieldOf}
 use Rattle.fints_field_rows.specs.declared.fault.FaultKind.{FaultKind}
 
--- no fault stands in the row behind the earlier ones, and it is the field of this name
-pub record DenotesField (earlier : List Data) (row : Data) (name : List ℕ) (field : Field) : Type 0 where
-  pub clean : field_fault earlier row ≡ None
-  pub is : IsFieldOf row name field
-
--- a row is one field at most, behind whichever rows it stands
+-- a row is one field at most
 abbrev pub OneField : Type 0
 OneField = (row : Data) (name other : List ℕ) (field second : Field) → IsFieldOf row name field → IsFieldOf row other second → (name ≡ other) × (field ≡ second)
-
--- a row with a fault denotes none
-abbrev pub NoFieldAtFault : Type 0
-NoFieldAtFault = (earlier : List Data) (row : Data) (kind : FaultKind) (name : List ℕ) (field : Field) → field_fault earlier row ≡ Some kind → DenotesField earlier row name field → ⊥
 
 -- a fault of the kind stands in the place, and none of a kind before it in the order
 pub record IsFirstKind (has : FaultKind → Bool) (kind : FaultKind) : Type 0 where

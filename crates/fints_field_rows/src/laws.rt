@@ -1,12 +1,11 @@
 //! Laws of rows: each function's contract is one.
-ghost use Rattle.fints_field_rows.specs.Laws.{NoFieldAtFault, NoFirstWhereClean, OneField, OneFirstFault, OneFirstKind, ToldIsFirst};
+ghost use Rattle.fints_field_rows.specs.Laws.{NoFirstWhereClean, OneField, OneFirstFault, OneFirstKind, ToldIsFirst};
 
 use fints_fields::class_laws::one_class;
 
-/// A row denotes one field at most, and none where a fault stands in it.
+/// A row denotes one field at most.
 pub fn one_field()
-    ensures one { OneField }
-    ensures none_at_fault { NoFieldAtFault }
+    ensures { OneField }
 {
     one_class();
 }

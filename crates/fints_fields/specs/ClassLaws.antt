@@ -1,4 +1,4 @@
--- How long the values of a class are written.
+-- How long the values of a class are written. Lemmas with their proofs: nothing here need be believed.
 use Rattle.std.specs.Prelude.{ℕ, ◌≡◌, ◌+◌, ◌*◌, ◌^◌, ◌<◌, ◌≤◌, ◌||◌, false, List, [], ◌∷◌, length, map, All, replicate, suc, zero}
 use Rattle.std.specs.Fmt.{decimal}
 use Rattle.std.proofs.Common.{refl, sym, ◌∙◌, arith, inl, inr, eqb}

@@ -1,4 +1,4 @@
--- The laws of a field are those of its class.
+-- The laws of a field are those of its class. Lemmas with their proofs: nothing here need be believed.
 use Rattle.std.specs.Prelude.{ℕ, ◌≡◌, ◌<◌, ◌≤◌, List, [], length}
 use Rattle.std.proofs.Common.{arith, inl, refl}
 use Rattle.fints_fields.specs.Joined.{joined}

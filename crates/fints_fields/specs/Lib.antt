@@ -9,3 +9,4 @@ pub mod AccountFields
 pub mod ListedLaws
 pub mod Fields
 pub mod FieldLaws
+pub mod AccountLaws

@@ -1,4 +1,4 @@
--- The longest and the shortest of listed values are listed, and none is longer or shorter.
+-- The longest and the shortest of listed values are listed, and none is longer or shorter. Lemmas with their proofs: nothing here need be believed.
 use Rattle.std.specs.Prelude.{ℕ, ◌≡◌, ◌<◌, ◌≤◌, max, true, false, List, [], ◌∷◌, length, map, All}
 use Rattle.std.specs.Str.{bytes_eq}
 use Rattle.std.proofs.Common.{refl, ap, sym, arith, inl, inr, ltb}

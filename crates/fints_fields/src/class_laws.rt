@@ -1,12 +1,13 @@
 //! Laws of the classes: each function's contract is one.
-ghost use Rattle.std.specs.Prelude.{◌≡◌, ℕ, List, [], ◌∷◌, Some, length, map, slice_get};
-ghost use Rattle.fints_fields.specs.Fields.{IsListedAt, field_accounts, field_domain, field_items, field_longest, field_shortest};
+ghost use Rattle.std.specs.Prelude.{◌≡◌, ℕ, List, [], ◌∷◌, length, map};
+ghost use Rattle.fints_fields.specs.AccountLaws.{IsListedSomewhere, ListedAreAdmitted, ListedStandAsItems, TextIsOneAccount};
+ghost use Rattle.fints_fields.specs.Fields.{field_accounts, field_domain, field_items, field_longest, field_shortest};
 ghost use Rattle.fints_fields.specs.Joined.{joined};
 ghost use Rattle.fints_syntax.specs.Segment.{item_value};
 ghost use Rattle.fints_syntax.specs.declared.item.OwnedItem.{OwnedItem};
 ghost use Rattle.fints_fields.specs.declared.field.Field.{Field};
 ghost use Rattle.fints_fields.specs.Lengths.{text_len};
-ghost use Rattle.fints_fields.specs.Listed.{IsFirstOfGreatest, IsFirstOfLeast, account_text, first_with};
+ghost use Rattle.fints_fields.specs.Listed.{IsFirstOfGreatest, IsFirstOfLeast, account_text};
 ghost use Rattle.fints_fields.specs.declared.field.Field.TheVariants as fields;
 ghost use Rattle.fints_fields.specs.declared.counted.Bin.{Bin};
 ghost use Rattle.fints_fields.specs.declared.counted.Digits.{Digits};
@@ -35,18 +36,18 @@ pub fn account_is_its_items()
 
 /// The text of a listed account tells its items: no two listed accounts have the same text.
 pub fn text_is_one_account()
-    ensures { (c : Account) (j : ℕ) (a : List (List ℕ)) → slice_get c.values j ≡ Some a → first_with account_text [] c.values (account_text a) ≡ a }
+    ensures { TextIsOneAccount }
 {}
 
 /// A value of an account field is the text of a listed account, and stands as its items.
 pub fn account_values_are_listed()
-    ensures { (c : Account) (v : List ℕ) → field_domain (fields.Account c) v → (place : ℕ) × (account : List (List ℕ)) × IsListedAt (fields.Account c) v place account }
+    ensures { (c : Account) (v : List ℕ) → field_domain (fields.Account c) v → IsListedSomewhere (fields.Account c) v }
 {}
 
 /// The text of each listed account is a value of the field, and stands as that account's items.
 pub fn listed_accounts_are_values()
-    ensures admitted { (f : Field) (place : ℕ) (account : List (List ℕ)) → slice_get (field_accounts f) place ≡ Some account → field_domain f (account_text account) }
-    ensures items { (f : Field) (place : ℕ) (account : List (List ℕ)) → slice_get (field_accounts f) place ≡ Some account → IsListedAt f (account_text account) place account }
+    ensures admitted { ListedAreAdmitted }
+    ensures items { ListedStandAsItems }
 {}
 
 /// A field that lists no accounts stands as one item with its value.

@@ -171,7 +171,7 @@ fn field_text(alloc: Global, fields: &[NamedField], line: u32, rest: &[u8], befo
     }
 }
 
-// Where the codes of an answer stop to be codes, each behind a space: the first is 1.
+// Where the codes of an answer cease to be codes, each behind a space: the first is 1.
 fn bad_code(codes: &[u8]) -> usize {
     let mut rest = codes;
     let mut count: usize = 1;

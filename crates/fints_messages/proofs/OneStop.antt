@@ -56,7 +56,3 @@ pub one_refusal : OneSegmentText → (bytes : List ℕ) (f g : JudgeFault) → I
 one_refusal law bytes Memory g h k n m = absurd (n refl)
 one_refusal law bytes (NotAMessage a) Memory h k n m = absurd (m refl)
 one_refusal law bytes (NotAMessage a) (NotAMessage b) h k n m = ap NotAMessage (one_stop law bytes a b h.stops k.stops)
-
-pub no_refusal : (bytes : List ℕ) (f : JudgeFault) (m : MessageView) → IsRefusal bytes f → f ≢ Memory → IsMessage bytes m → ⊥
-no_refusal bytes Memory m h n is = n refl
-no_refusal bytes (NotAMessage a) m h n is = h.none m is

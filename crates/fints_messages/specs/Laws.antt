@@ -20,7 +20,3 @@ NoStopInMessage = (bytes : List ℕ) (a : ℕ) (m : MessageView) → CeasesAt by
 -- bytes have one refusal at most, but for want of memory
 abbrev pub OneRefusal : Type 0
 OneRefusal = (bytes : List ℕ) (f g : JudgeFault) → IsRefusal bytes f → IsRefusal bytes g → f ≢ Memory → g ≢ Memory → f ≡ g
-
--- a message has none
-abbrev pub NoRefusalOfMessage : Type 0
-NoRefusalOfMessage = (bytes : List ℕ) (f : JudgeFault) (m : MessageView) → IsRefusal bytes f → f ≢ Memory → IsMessage bytes m → ⊥

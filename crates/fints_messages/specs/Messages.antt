@@ -1,4 +1,4 @@
--- Which bytes are a message, and where bytes stop to be one.
+-- Which bytes are a message, and where bytes cease to be one.
 use Rattle.std.specs.Prelude.{codes, ◌≡◌, ◌⊎◌, ℕ, ◌+◌, List, [], ◌∷◌, ◌++◌, length, Option, Some, IsTrue}
 use Rattle.std.specs.List.{AllByRecursion}
 use Rattle.fints_syntax.specs.Spelling.{Spelled}
@@ -119,7 +119,7 @@ pub record Stops (BeginsOne IsOne : List OwnedSegment → Type 0) (bytes : List 
   pub no_next : (t : List (List Spelled)) (more : List ℕ) → IsSegment t → rest ≡ segment_bytes t ++ more → BeginsOne (segments_of (front ++ t ∷ [])) → ⊥
   pub unfinished : rest ≡ [] → IsOne (segments_of front) → ⊥
 
--- the bytes are no message, and the offset is where they stop to be one
+-- the bytes are no message, and the offset is where they cease to be one
 pub record IsNoMessage (bytes : List ℕ) (offset : ℕ) : Type 0 where
   pub none : (m : MessageView) → IsMessage bytes m → ⊥
   pub stops : Stops (Begins (length bytes)) (IsWhole (length bytes)) bytes offset

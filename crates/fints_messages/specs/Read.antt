@@ -4,7 +4,7 @@ use Rattle.fints_messages.specs.Messages.{IsNoMessage}
 use Rattle.fints_messages.specs.declared.message.JudgeFault.{JudgeFault}
 use Rattle.fints_messages.specs.declared.message.JudgeFault.TheVariants.{Memory, NotAMessage}
 
--- where memory didn't run out, the bytes are no message, and stop to be one at the offset
+-- where memory didn't run out, the bytes are no message, and cease to be one at the offset
 abbrev pub IsRefusal : List ℕ → JudgeFault → Type 0
 IsRefusal bytes Memory = Unit {0}
 IsRefusal bytes (NotAMessage offset) = IsNoMessage bytes offset

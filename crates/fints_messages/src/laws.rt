@@ -1,7 +1,7 @@
 //! Laws of messages: each function's contract is one.
 ghost use Rattle.std.specs.Prelude.{◌≡◌, ◌+◌, ℕ, List, length};
 ghost use Rattle.fints_messages.specs.Messages.{MessageView, IsMessage, IsNumbered};
-ghost use Rattle.fints_messages.specs.Laws.{OneStop, NoStopInMessage, OneRefusal, NoRefusalOfMessage};
+ghost use Rattle.fints_messages.specs.Laws.{OneStop, NoStopInMessage, OneRefusal};
 
 use fints_syntax::laws::one_segment_text;
 
@@ -12,13 +12,12 @@ pub fn one_message()
     one_segment_text();
 }
 
-/// Bytes cease to be a message at one place at most and have one refusal at most; a message has
-/// neither.
+/// Bytes cease to be a message at one place at most and have one refusal at most; a message ceases
+/// nowhere to be one.
 pub fn one_stop()
     ensures place { OneStop }
     ensures not_both { NoStopInMessage }
     ensures refusal { OneRefusal }
-    ensures not_refused { NoRefusalOfMessage }
 {
     one_segment_text();
 }

@@ -1,4 +1,4 @@
--- Closed numbers: a table of numbers of steps, of any origin, that no answer leads out of. Whoever has one needs no run to know that none exceeds it.
+-- Closed numbers: a table of numbers of steps, of any origin, that no answer leads out of. Whoever has one needs no run to know that none exceeds it. Laws and private contracts alone cite these words.
 use Rattle.std.specs.Prelude.{ℕ, ◌≡◌, ◌≤◌, ◌+◌, ◌-◌, Option, Some, List, length}
 use Rattle.fints_cases.specs.declared.answers.Target.TheVariants.{Step, Again}
 use Rattle.fints_script.specs.Numbered.{numbered}

@@ -1,8 +1,12 @@
 -- One more row of a capture, in the maps of limits and of demands.
-use Rattle.std.proofs.Common.{◌≡◌, ◌≢◌, ℕ, zero, suc, ◌+◌, ◌<◌, ◌≤◌, Bool, true, false, cond, List, [], ◌∷◌, ◌++◌, length, get_or, take, max, Option, Some, None, refl, ap, ◌∙◌, sym, subst, arith, inl, inr, ◌⊎◌}
+use Rattle.std.proofs.Common.{◌≡◌, ◌≢◌, ◌&&◌, ◌==◌, ℕ, zero, suc, ◌+◌, ◌<◌, ◌≤◌, Bool, true, false, cond, List, [], ◌∷◌, ◌++◌, length, get_or, take, max, Option, Some, None, refl, ap, ◌∙◌, sym, subst, arith, inl, inr, ◌⊎◌}
 use Rattle.std.specs.Prelude.{Any}
 use Rattle.std.specs.Bool.{Decides}
-use Rattle.std.specs.Cmp.{unsigned_Decides}
+use Rattle.std.specs.Cmp.{unsigned_Decides, unsigned_ties}
+use Rattle.std.specs.Cmp.Lexicographic.{slice_cmp, texts_ties}
+use Rattle.std.specs.declared.cmp.Ordering.{Ordering}
+use Rattle.std.specs.declared.cmp.Ordering.TheVariants.{Less, Equal, Greater}
+use Rattle.std.specs.Ordering.{is_eq, nat_cmp, ordering_then}
 use Rattle.std.specs.Str.{bytes_eq}
 use Rattle.std.proofs.lemmas.Bool.{cases_lt}
 use Rattle.std.proofs.lemmas.Bool.Decides.{Decides-and, nat_tests}
@@ -15,9 +19,23 @@ use Rattle.fints_params.specs.declared.rows.PinRow.{PinRow}
 use Rattle.fints_rules.specs.declared.limits.OrderKey.{OrderKey}
 use Rattle.fints_rules.specs.declared.limits.Limits.{Limits}
 use Rattle.fints_rules.specs.Permits.{is_param_of, params_of, IsLeastLimit, IsGreatestNeed, IsLimits, LimitsAre, IsListed, IsListedWithTan}
-use Rattle.fints_rules.specs.LimitMaps.{key_eq, lower, with_limits, with_pin, PinIs}
+use Rattle.fints_rules.specs.LimitMaps.{key_cmp, lower, with_limits, with_pin, PinIs}
 
-pub key_decides : (a b : OrderKey) → Decides (key_eq a b) (a ≡ b)
+-- keys of one kind and version
+abbrev key_eq : OrderKey → OrderKey → Bool
+key_eq a b = bytes_eq a.kind b.kind && (a.version == b.version)
+
+then_ties : (o p : Ordering) → is_eq (ordering_then o p) ≡ (is_eq o && is_eq p)
+then_ties Less p = refl
+then_ties Equal p = refl
+then_ties Greater p = refl
+
+key_ties : (a b : OrderKey) → is_eq (key_cmp a b) ≡ key_eq a b
+key_ties a b =
+    then_ties (slice_cmp nat_cmp a.kind b.kind) (nat_cmp a.version b.version)
+    ∙ (ap (λ (h : Bool). h && is_eq (nat_cmp a.version b.version)) (sym (texts_ties a.kind b.kind)) ∙ ap (λ (h : Bool). bytes_eq a.kind b.kind && h) (sym (unsigned_ties a.version b.version)))
+
+key_decides : (a b : OrderKey) → Decides (key_eq a b) (a ≡ b)
 key_decides a b =
     let d = Decides-and _ _ (bytes_eq-Decides a.kind b.kind) (unsigned_Decides a.version b.version) in
     (λ h. let p = d.0 h in λ i. record { kind = p.0 i; version = p.1 i }, λ e. d.1 (ap (λ (k : OrderKey). k.kind) e, ap (λ (k : OrderKey). k.version) e))
@@ -126,14 +144,15 @@ limits_chosen false rs row found old now v f o is n = rw (n, append-nil rs) o
 
 pub limits_step : (q : OrderKey) (rows : List OrderParam) (i : ℕ) (row : OrderParam) (found old now : Option Limits) (v : Limits) → i < length rows → row ≡ get_or rows i row
     → LimitsAre (params_of row.kind row.version (take i rows)) found → LimitsAre (params_of q.kind q.version (take i rows)) old → v ≡ with_limits found row
-    → now ≡ cond (is_param_of q.kind q.version row) (Some v) old → LimitsAre (params_of q.kind q.version (take (i + 1) rows)) now
+    → now ≡ cond (is_eq (key_cmp (record { kind = row.kind; version = row.version }) q)) (Some v) old → LimitsAre (params_of q.kind q.version (take (i + 1) rows)) now
 limits_step q rows i row found old now v lt at f o is n =
     let key : OrderKey = record { kind = row.kind; version = row.version } in
     let more : params_of q.kind q.version (take (i + 1) rows) ≡ params_of q.kind q.version (take i rows) ++ cond (is_param_of q.kind q.version row) (row ∷ []) [] =
     params_more q rows i row lt ∙ ap (λ (r : OrderParam). params_of q.kind q.version (take i rows) ++ cond (is_param_of q.kind q.version r) (r ∷ []) []) (sym at) in
     let same : is_param_of q.kind q.version row ≡ true → LimitsAre (params_of q.kind q.version (take i rows)) found = λ h.
     let e : key ≡ q = (key_decides key q).0 h in subst (λ (k : OrderKey). LimitsAre (params_of k.kind k.version (take i rows)) found) e f in
-    subst (λ rs. LimitsAre rs now) (sym more) (limits_chosen (is_param_of q.kind q.version row) (params_of q.kind q.version (take i rows)) row found old now v same o is n)
+    let chosen : now ≡ cond (is_param_of q.kind q.version row) (Some v) old = n ∙ ap (λ b. cond b (Some v) old) (key_ties key q) in
+    subst (λ rs. LimitsAre rs now) (sym more) (limits_chosen (is_param_of q.kind q.version row) (params_of q.kind q.version (take i rows)) row found old now v same o is chosen)
 
 -- ---- demands
 
@@ -180,7 +199,7 @@ pins_chosen false rs row kind found old now v same f o is n = rw n (pin_other rs
 
 pub pins_step : (kind : List ℕ) (rows : List PinRow) (i : ℕ) (row : PinRow) (found old now : Option Bool) (v : Bool) → i < length rows → row ≡ get_or rows i row
     → PinIs (take i rows) row.kind found → PinIs (take i rows) kind old → v ≡ with_pin found row
-    → now ≡ cond (bytes_eq row.kind kind) (Some v) old → PinIs (take (i + 1) rows) kind now
+    → now ≡ cond (is_eq (slice_cmp nat_cmp row.kind kind)) (Some v) old → PinIs (take (i + 1) rows) kind now
 pins_step kind rows i row found old now v lt at f o is n =
     let more : take (i + 1) rows ≡ take i rows ++ row ∷ [] = take_more rows i row lt ∙ ap (λ (r : PinRow). take i rows ++ r ∷ []) (sym at) in
-    subst (λ rs. PinIs rs kind now) (sym more) (pins_chosen (bytes_eq row.kind kind) (take i rows) row kind found old now v (bytes_eq-Decides row.kind kind) f o is n)
+    subst (λ rs. PinIs rs kind now) (sym more) (pins_chosen (bytes_eq row.kind kind) (take i rows) row kind found old now v (bytes_eq-Decides row.kind kind) f o is (n ∙ ap (λ b. cond b (Some v) old) (sym (texts_ties row.kind kind))))

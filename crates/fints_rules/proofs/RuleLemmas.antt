@@ -1,6 +1,8 @@
 -- The rules of a whole message.
 use Rattle.std.proofs.Common.{◌≡◌, ℕ, ◌+◌, ◌<◌, Bool, true, false, cond, not, ◌&&◌, ◌||◌, ◌==◌, List, [], ◌∷◌, ◌++◌, length, get_or, take, map, Some, Option, refl, ap, ◌∙◌, sym, subst, arith}
 use Rattle.std.specs.Prelude.{Any, Contains, filter, unwrap_or, IsTrue, ◌↔◌}
+use Rattle.std.specs.Cmp.Lexicographic.{slice_cmp, texts_ties}
+use Rattle.std.specs.Ordering.{is_eq, nat_cmp}
 use Rattle.std.specs.Set.{distinct_count, unique_keys, is_member}
 use Rattle.std.specs.Str.{bytes_eq}
 use Rattle.std.proofs.lemmas.List.{append-nil, get_or_default, map-append, take_more}
@@ -133,9 +135,10 @@ counts_chosen true before n v old now h o is e = rw (e, is, h refl) refl
 counts_chosen false before n v old now h o is e = rw e o
 
 pub counts_more : (kind : List ℕ) (body : List OwnedSegment) (i : ℕ) (s : OwnedSegment) (before v : ℕ) (old now : Option ℕ) → i < length body → s ≡ get_or body i s
-    → before ≡ count_of s.head.id (take i body) → unwrap_or old 0 ≡ count_of kind (take i body) → v ≡ before + 1 → now ≡ cond (bytes_eq s.head.id kind) (Some v) old
+    → before ≡ count_of s.head.id (take i body) → unwrap_or old 0 ≡ count_of kind (take i body) → v ≡ before + 1 → now ≡ cond (is_eq (slice_cmp nat_cmp s.head.id kind)) (Some v) old
     → unwrap_or now 0 ≡ count_of kind (take (i + 1) body)
 counts_more kind body i s before v old now lt at is o v_is e =
     let same : bytes_eq s.head.id kind ≡ true → before ≡ count_of kind (take i body) = λ h. is ∙ ap (λ k. count_of k (take i body)) ((bytes_eq-Decides s.head.id kind).0 h) in
-    counts_chosen (bytes_eq s.head.id kind) before (count_of kind (take i body)) v old now same o v_is e
+    let found : now ≡ cond (bytes_eq s.head.id kind) (Some v) old = e ∙ ap (λ b. cond b (Some v) old) (sym (texts_ties s.head.id kind)) in
+    counts_chosen (bytes_eq s.head.id kind) before (count_of kind (take i body)) v old now same o v_is found
     ∙ sym (count_more kind body i s (bytes_eq s.head.id kind) lt (ap (λ (x : OwnedSegment). bytes_eq x.head.id kind) (sym at)))

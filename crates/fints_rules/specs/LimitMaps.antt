@@ -1,14 +1,17 @@
 -- The maps of limits and demands, row by row.
-use Rattle.std.specs.Prelude.{ℕ, Bool, true, false, ◌&&◌, ◌||◌, ◌==◌, if◌then◌else◌, List, max, nat_lt, Option, Some, None}
-use Rattle.std.specs.Str.{bytes_eq}
+use Rattle.std.specs.Prelude.{ℕ, Bool, true, false, ◌||◌, ◌==◌, if◌then◌else◌, List, max, nat_lt, Option, Some, None}
+use Rattle.std.specs.Cmp.Lexicographic.{slice_cmp}
+use Rattle.std.specs.declared.cmp.Ordering.{Ordering}
+use Rattle.std.specs.Ordering.{nat_cmp, ordering_then}
 use Rattle.fints_params.specs.declared.rows.OrderParam.{OrderParam}
 use Rattle.fints_params.specs.declared.rows.PinRow.{PinRow}
 use Rattle.fints_rules.specs.declared.limits.OrderKey.{OrderKey}
 use Rattle.fints_rules.specs.declared.limits.Limits.{Limits}
 use Rattle.fints_rules.specs.Permits.{LimitsAre, params_of, IsListed, IsListedWithTan}
 
-abbrev pub key_eq : OrderKey → OrderKey → Bool
-key_eq a b = bytes_eq a.kind b.kind && (a.version == b.version)
+-- in order of kind, then of version
+abbrev pub key_cmp : OrderKey → OrderKey → Ordering
+key_cmp a b = ordering_then (slice_cmp nat_cmp a.kind b.kind) (nat_cmp a.version b.version)
 
 -- the lower of two limits, of which 0 is none
 abbrev pub lower : ℕ → ℕ → ℕ

@@ -75,16 +75,25 @@ BreaksOrders rows s = IsOrder s × Any (λ row. IsRowFor s row × (row.orders �
 abbrev pub BreaksListed : Rows → SegmentFactsValue → Type 0
 BreaksListed rows s = IsPlainOrder s × (IsListed rows.pins s.kind → ⊥)
 
--- P8: some row of the order's kind and version needs more signatures, or every entry of its account does
-abbrev pub BreaksSignatures : Rows → List OrderRow → MessageFacts → SegmentFactsValue → Type 0
-BreaksSignatures rows table f s =
-    (IsOrder s × Any (λ row. IsRowFor s row × (f.signatures < row.signatures)) rows.orders)
-    ⊎ (IsPlainOrder s × ((account : Account) × NamesAccount table s account × AllNeedMore rows account s.kind f.signatures))
+-- some row of the order's kind and version needs more signatures
+abbrev pub OrderNeedsMore : Rows → SegmentFactsValue → ℕ → Type 0
+OrderNeedsMore rows s signatures = Any (λ row. IsRowFor s row × (signatures < row.signatures)) rows.orders
 
--- P9: the order isn't in the order table, or no entry of its account is there and such orders are locked
+-- every entry of the order's account needs more signatures
+abbrev pub AccountNeedsMore : Rows → List OrderRow → SegmentFactsValue → ℕ → Type 0
+AccountNeedsMore rows table s signatures = (account : Account) × NamesAccount table s account × AllNeedMore rows account s.kind signatures
+
+-- P8
+abbrev pub BreaksSignatures : Rows → List OrderRow → MessageFacts → SegmentFactsValue → Type 0
+BreaksSignatures rows table f s = (IsOrder s × OrderNeedsMore rows s f.signatures) ⊎ (IsPlainOrder s × AccountNeedsMore rows table s f.signatures)
+
+-- no entry of the order's account is there, and such orders are locked
+abbrev pub AccountIsLocked : Rows → List OrderRow → SegmentFactsValue → Type 0
+AccountIsLocked rows table s = (account : Account) × NamesAccount table s account × IsLocked rows account s.kind
+
+-- P9: the order isn't in the order table, or its account is locked
 abbrev pub BreaksAccount : Rows → List OrderRow → SegmentFactsValue → Type 0
-BreaksAccount rows table s =
-    IsPlainOrder s × ((form_of table s.kind s.version ≡ None) ⊎ ((account : Account) × NamesAccount table s account × IsLocked rows account s.kind))
+BreaksAccount rows table s = IsPlainOrder s × ((form_of table s.kind s.version ≡ None) ⊎ AccountIsLocked rows table s)
 
 -- an HKTAN of process 2 sends a TAN
 abbrev pub SendsTan : SegmentFactsValue → Type 0

@@ -1,18 +1,19 @@
 //! The limits of each kind and version of orders, and whether a kind demands a TAN.
 ghost use Rattle.std.specs.Prelude.{◌≡◌, IfOk, Some, max};
-ghost use Rattle.std.specs.Str.{bytes_eq};
-ghost use Rattle.indexmap.specs.IndexMap.{get};
+ghost use Rattle.std.specs.BTreeMap.{get};
+ghost use Rattle.std.specs.Cmp.Lexicographic.{slice_cmp};
+ghost use Rattle.std.specs.Ordering.{nat_cmp};
 ghost use Rattle.fints_rules.specs.declared.limits.OrderKey.{OrderKey};
 ghost use Rattle.fints_rules.specs.Permits.{LimitsAre, params_of};
-ghost use Rattle.fints_rules.specs.LimitMaps.{key_eq, lower, with_limits, with_pin, HoldsLimits, HoldsPins};
+ghost use Rattle.fints_rules.specs.LimitMaps.{key_cmp, lower, with_limits, with_pin, HoldsLimits, HoldsPins};
 
 use fints_params::{OrderParam, PinRow};
 use fints_syntax::{Kind, Memory};
-use indexmap::IndexMap;
 use std::alloc::Global;
+use std::collections::BTreeMap;
 
 /// A kind and a version.
-#[derive(Clone, Copy, Debug, PartialEq, Eq, Hash)]
+#[derive(Clone, Copy, Debug, PartialEq, Eq, PartialOrd, Ord)]
 pub struct OrderKey {
     pub kind: Kind,
     pub version: u16,
@@ -69,10 +70,10 @@ fn with_limits(found: Option<Limits>, row: &OrderParam) -> Limits
 }
 
 /// The limits of each kind and version of the rows.
-pub fn limit_map(alloc: Global, rows: &[OrderParam]) -> Result<IndexMap<OrderKey, Limits>, Memory>
-    ensures { IfOk result (λ m. HoldsLimits rows.now (get key_eq m)) }
+pub fn limit_map(alloc: Global, rows: &[OrderParam]) -> Result<BTreeMap<OrderKey, Limits>, Memory>
+    ensures { IfOk result (λ m. HoldsLimits rows.now (get key_cmp m)) }
 {
-    let mut map = IndexMap::new(alloc);
+    let mut map = BTreeMap::new(alloc);
     for row in rows {
         let key = OrderKey {
             kind: row.kind,
@@ -95,10 +96,10 @@ fn with_pin(found: Option<bool>, row: &PinRow) -> bool
 }
 
 /// Whether each kind of the pairs demands a TAN.
-pub fn pin_map(alloc: Global, rows: &[PinRow]) -> Result<IndexMap<Kind, bool>, Memory>
-    ensures { IfOk result (λ m. HoldsPins rows.now (get bytes_eq m)) }
+pub fn pin_map(alloc: Global, rows: &[PinRow]) -> Result<BTreeMap<Kind, bool>, Memory>
+    ensures { IfOk result (λ m. HoldsPins rows.now (get (slice_cmp nat_cmp) m)) }
 {
-    let mut map = IndexMap::new(alloc);
+    let mut map = BTreeMap::new(alloc);
     for row in rows {
         let found = map.get(&row.kind).copied();
         map.insert(row.kind, with_pin(found, row))?;

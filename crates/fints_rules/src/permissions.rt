@@ -10,8 +10,8 @@ use crate::limits::{Demand, Limits, OrderKey, limit_map, pin_map};
 use crate::orders::{AccountForm, OrderTable};
 use fints_params::{AccountRow, BankRow, Entry, Params, Usage};
 use fints_syntax::{Kind, Memory};
-use indexmap::IndexMap;
 use std::alloc::Global;
+use std::collections::BTreeMap;
 use std::marker::Model;
 
 /// Whether an account permits an order.
@@ -30,8 +30,8 @@ pub enum Permit {
 pub struct Permissions<'a> {
     params: &'a Params,
     orders: &'a OrderTable,
-    limits: IndexMap<OrderKey, Limits>,
-    pins: IndexMap<Kind, bool>,
+    limits: BTreeMap<OrderKey, Limits>,
+    pins: BTreeMap<Kind, bool>,
 }
 
 impl<'a> Model for Permissions<'a> {
@@ -39,13 +39,14 @@ impl<'a> Model for Permissions<'a> {
 
     ghost Value = { Granted };
 
-    ghost use Rattle.std.specs.Str.{bytes_eq};
-    ghost use Rattle.indexmap.specs.IndexMap.{get};
-    ghost use Rattle.fints_rules.specs.LimitMaps.{key_eq, HoldsLimits, HoldsPins};
+    ghost use Rattle.std.specs.BTreeMap.{get};
+    ghost use Rattle.std.specs.Cmp.Lexicographic.{slice_cmp};
+    ghost use Rattle.std.specs.Ordering.{nat_cmp};
+    ghost use Rattle.fints_rules.specs.LimitMaps.{key_cmp, HoldsLimits, HoldsPins};
 
     ghost view = { λ p. record { rows = p.params.now; orders = p.orders.now } };
 
-    ghost invariant = { λ p. HoldsLimits p.params.now.orders (get key_eq p.limits) × HoldsPins p.params.now.pins (get bytes_eq p.pins) };
+    ghost invariant = { λ p. HoldsLimits p.params.now.orders (get key_cmp p.limits) × HoldsPins p.params.now.pins (get (slice_cmp nat_cmp) p.pins) };
 }
 
 impl<'a> Permissions<'a> {

@@ -2,9 +2,9 @@
 ghost use Rattle.std.specs.Prelude.{◌≡◌, ◌≢◌, ◌<◌, ◌↔◌, ◌⊎◌, IsTrue, Any};
 ghost use Rattle.fints_rules.specs.Accounts.{account_of, Account};
 ghost use Rattle.fints_rules.specs.AccountTests.{AccountPermitIs};
-ghost use Rattle.fints_rules.specs.Permits.{IsListed, IsListedWithTan, AllNeedMore, IsLocked};
+ghost use Rattle.fints_rules.specs.Permits.{IsListed, IsListedWithTan};
 ghost use Rattle.fints_rules.specs.Breaks.{BreaksAt};
-ghost use Rattle.fints_rules.specs.Rules.{IsRowFor, NamesAccount, CarriesTan, SendsTan, BreaksVersion, BreaksOrders, BreaksListed, BreaksSignatures, BreaksAccount, BreaksTan, SegmentBreaks};
+ghost use Rattle.fints_rules.specs.Rules.{IsRowFor, OrderNeedsMore, AccountNeedsMore, AccountIsLocked, CarriesTan, SendsTan, BreaksVersion, BreaksOrders, BreaksListed, BreaksSignatures, BreaksAccount, BreaksTan, SegmentBreaks};
 
 use crate::account::AccountKey;
 use crate::facts::{MessageFacts, SegmentFacts};
@@ -105,7 +105,7 @@ fn row_needs_more(
     segment: &SegmentFacts<'_>,
     signatures: usize,
 ) -> bool
-    ensures { IsTrue result ↔ Any (λ row. IsRowFor segment.now row × (signatures < row.signatures)) permissions.now.rows.orders }
+    ensures { IsTrue result ↔ OrderNeedsMore permissions.now.rows segment.now signatures }
 {
     match permissions.limits(segment.kind(), segment.version()) {
         None => false,
@@ -118,7 +118,7 @@ fn account_needs_more(
     facts: &MessageFacts,
     segment: &SegmentFacts<'_>,
 ) -> bool
-    ensures { IsTrue result ↔ ((account : Account) × NamesAccount permissions.now.orders segment.now account × AllNeedMore permissions.now.rows account segment.now.kind facts.now.signatures) }
+    ensures { IsTrue result ↔ AccountNeedsMore permissions.now.rows permissions.now.orders segment.now facts.now.signatures }
 {
     match account_permit(permissions, facts, segment) {
         None => false,
@@ -133,7 +133,7 @@ fn account_is_locked(
     facts: &MessageFacts,
     segment: &SegmentFacts<'_>,
 ) -> bool
-    ensures { IsTrue result ↔ ((account : Account) × NamesAccount permissions.now.orders segment.now account × IsLocked permissions.now.rows account segment.now.kind) }
+    ensures { IsTrue result ↔ AccountIsLocked permissions.now.rows permissions.now.orders segment.now }
 {
     match account_permit(permissions, facts, segment) {
         None => false,

@@ -1,9 +1,11 @@
 //! What the rules ask of all segments of a message, found once before they are looked at.
 ghost use Rattle.std.specs.Prelude.{◌≡◌, ◌&&◌, ◌==◌, IfOk, unwrap_or};
+ghost use Rattle.std.specs.BTreeMap.{get};
+ghost use Rattle.std.specs.Cmp.Lexicographic.{slice_cmp};
 ghost use Rattle.std.specs.List.{list_any};
+ghost use Rattle.std.specs.Ordering.{nat_cmp};
 ghost use Rattle.std.specs.Set.{distinct_count};
 ghost use Rattle.std.specs.Str.{bytes_eq};
-ghost use Rattle.indexmap.specs.IndexMap.{get};
 ghost use Rattle.fints_rules.specs.Kinds.{is_plain_order};
 ghost use Rattle.fints_rules.specs.Facts.{count_of, plain_kinds, has_process, is_end, has_tan, facts_of, segment_facts};
 ghost use Rattle.fints_rules.specs.Tallies.{HoldsCounts};
@@ -12,8 +14,8 @@ use crate::facts::{MessageFacts, SegmentFacts};
 use crate::kinds::{is_plain_order, is_tan_order};
 use fints_messages::{Message, is_kind};
 use fints_syntax::{Kind, Memory, OwnedSegment};
-use indexmap::IndexMap;
 use std::alloc::Global;
+use std::collections::BTreeMap;
 use std::marker::Model;
 
 // ---- kinds
@@ -21,12 +23,12 @@ use std::marker::Model;
 // How many segments have each kind, and how many kinds of orders other than HKTAN there are.
 #[derive(Drop)]
 struct Counts {
-    by_kind: IndexMap<Kind, usize>,
+    by_kind: BTreeMap<Kind, usize>,
     kinds: usize,
 }
 
-fn count_in(by_kind: &IndexMap<Kind, usize>, kind: Kind) -> usize
-    ensures { result ≡ unwrap_or (get bytes_eq by_kind.now kind) 0 }
+fn count_in(by_kind: &BTreeMap<Kind, usize>, kind: Kind) -> usize
+    ensures { result ≡ unwrap_or (get (slice_cmp nat_cmp) by_kind.now kind) 0 }
 {
     by_kind.get(&kind).copied().unwrap_or(0)
 }
@@ -40,10 +42,10 @@ fn is_new(before: usize, kind: Kind) -> bool
 
 // The counts of a body.
 fn count(alloc: Global, body: &[OwnedSegment]) -> Result<Counts, Memory>
-    ensures by_kind { IfOk result (λ c. HoldsCounts body.now (get bytes_eq c.by_kind)) }
+    ensures by_kind { IfOk result (λ c. HoldsCounts body.now (get (slice_cmp nat_cmp) c.by_kind)) }
     ensures kinds { IfOk result (λ c. c.kinds ≡ distinct_count bytes_eq (plain_kinds body.now)) }
 {
-    let mut by_kind = IndexMap::new(alloc);
+    let mut by_kind = BTreeMap::new(alloc);
     let mut kinds = 0;
     for segment in body {
         let kind = segment.head.id;
@@ -121,8 +123,9 @@ pub struct Tally<'a> {
 }
 
 impl<'a> Model for Tally<'a> {
-    ghost use Rattle.std.specs.Str.{bytes_eq};
-    ghost use Rattle.indexmap.specs.IndexMap.{get};
+    ghost use Rattle.std.specs.BTreeMap.{get};
+    ghost use Rattle.std.specs.Cmp.Lexicographic.{slice_cmp};
+    ghost use Rattle.std.specs.Ordering.{nat_cmp};
     ghost use Rattle.fints_messages.specs.Messages.{MessageView};
     ghost use Rattle.std.specs.Prelude.{◌≡◌};
     ghost use Rattle.fints_rules.specs.Facts.{facts_of};
@@ -132,7 +135,7 @@ impl<'a> Model for Tally<'a> {
 
     ghost view = { λ t. t.message.now };
 
-    ghost invariant = { λ t. HoldsCounts t.message.now.body (get bytes_eq t.counts.by_kind) × (t.facts ≡ facts_of t.message.now) };
+    ghost invariant = { λ t. HoldsCounts t.message.now.body (get (slice_cmp nat_cmp) t.counts.by_kind) × (t.facts ≡ facts_of t.message.now) };
 }
 
 impl<'a> Tally<'a> {

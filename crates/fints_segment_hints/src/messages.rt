@@ -225,7 +225,7 @@ fn text_at(alloc: Global, bytes: &[u8], at: usize) -> Result<String, Memory> {
     }
 }
 
-/// Why bytes are no message: what stands where they stop to be one.
+/// Why bytes are no message: what stands where they cease to be one.
 pub fn message_hint(alloc: Global, fault: &JudgeFault, bytes: &[u8]) -> Told {
     match fault {
         JudgeFault::Memory => Ok(None),

@@ -1,10 +1,10 @@
-//! Where bytes stop to be a segment, and why.
+//! Where bytes cease to be a segment, and why.
 use fints_syntax::parse_number;
 
 /// The most items of a segment.
 const MOST: usize = 20_000;
 
-/// Why bytes stop to be a segment.
+/// Why bytes cease to be a segment.
 #[derive(Clone, Copy, Debug, PartialEq, Eq)]
 pub enum Why {
     /// They end within an item.
@@ -21,7 +21,7 @@ pub enum Why {
     Whole,
 }
 
-/// The element and the item, from 1 on, in which bytes stop to be a segment.
+/// The element and the item, from 1 on, in which bytes cease to be a segment.
 #[derive(Clone, Copy, Debug)]
 pub struct Stop {
     pub element: usize,
@@ -98,7 +98,7 @@ fn scan_item(bytes: &[u8]) -> Scanned {
     }
 }
 
-/// Where the bytes stop to be a segment.
+/// Where the bytes cease to be a segment.
 pub fn stop_of(bytes: &[u8]) -> Stop {
     let mut at: usize = 0;
     let mut element: usize = 1;

@@ -50,7 +50,7 @@ pub record BeginsWithText (bytes : List ℕ) (s : OwnedSegment) (len : ℕ) : Ty
 abbrev pub OneOwnedSegment : Type 0
 OneOwnedSegment = (es : List (List Spelled)) (s t : OwnedSegment) → IsOwned es s → IsOwned es t → s ≡ t
 
--- bytes begin with a text of one segment, and that text has one length
+-- bytes begin with a text of one segment at most, and that text has one length
 abbrev pub OneReading : Type 0
 OneReading = (bytes : List ℕ) (s t : OwnedSegment) (len n : ℕ) → BeginsWithText bytes s len → BeginsWithText bytes t n → (s ≡ t) × (len ≡ n)
 
@@ -70,7 +70,7 @@ NoSegmentAtFault = (input : List ℕ) (f : SyntaxFault) → IsFault input f → 
 abbrev pub OneCapture : Type 0
 OneCapture = (input : List ℕ) (s t : List (List (List Spelled))) → IsCapture input s → IsCapture input t → s ≡ t
 
--- bytes with a fault, but for want of memory, are no capture
+-- bytes with a fault, but for want of memory, are no capture where they are within the limit
 abbrev pub NoCaptureAtFault : Type 0
 NoCaptureAtFault = (input : List ℕ) (f : SyntaxFault) (s : List (List (List Spelled))) → IsCaptureFault input f → f.kind ≢ Memory → length input ≤ MAX_CAPTURE → IsCapture input s → ⊥
 

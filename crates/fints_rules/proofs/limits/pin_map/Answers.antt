@@ -1,7 +1,8 @@
 use Rattle.std.proofs.Common.{arith, ◌<◌, length, subst}
 use Rattle.std.proofs.lemmas.List.{take_all}
-use Rattle.std.specs.Str.{bytes_eq}
-use Rattle.indexmap.specs.IndexMap.{get}
+use Rattle.std.specs.BTreeMap.{get}
+use Rattle.std.specs.Cmp.Lexicographic.{slice_cmp}
+use Rattle.std.specs.Ordering.{nat_cmp}
 use Rattle.fints_rules.specs.LimitMaps.{HoldsPins}
 use Rattle.fints_rules.proofs.LimitLemmas.{pins_step}
 use Rattle.fints_rules.proofs.limits.pin_map.Goals as goal
@@ -16,4 +17,4 @@ loop-row-preserved c q =
     (c.in_ok-insert.ensures.updates.0 q)
 
 pub returns : goal.returns
-returns c = subst (λ rs. HoldsPins rs (get bytes_eq c.loop-row.map)) (take_all c.loop-row.row-index c.args.rows.now c.loop-row-test.false) c.loop-row.invariant
+returns c = subst (λ rs. HoldsPins rs (get (slice_cmp nat_cmp) c.loop-row.map)) (take_all c.loop-row.row-index c.args.rows.now c.loop-row-test.false) c.loop-row.invariant

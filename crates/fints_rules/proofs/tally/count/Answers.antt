@@ -1,6 +1,7 @@
 use Rattle.std.proofs.Common.{arith, ◌≡◌, ◌+◌, ◌∙◌, refl, take, sym}
-use Rattle.std.specs.Str.{bytes_eq}
-use Rattle.indexmap.specs.IndexMap.{get}
+use Rattle.std.specs.BTreeMap.{get}
+use Rattle.std.specs.Cmp.Lexicographic.{slice_cmp}
+use Rattle.std.specs.Ordering.{nat_cmp}
 use Rattle.fints_rules.specs.Facts.{count_of}
 use Rattle.fints_rules.specs.Tallies.{HoldsCounts}
 use Rattle.fints_rules.proofs.RuleLemmas.{kinds_more, counts_more}
@@ -14,7 +15,7 @@ loop-segment-preserved c =
     let s = c.segment-item.result in
     let before = c.count_in-before.result in
     let is : before ≡ count_of s.head.id (take i body) = c.count_in-before.ensures ∙ c.loop-segment.invariant.counts s.head.id in
-    let counts : HoldsCounts (take (i + 1) body) (get bytes_eq c.insert.new.self) = λ kind. counts_more kind body i s before (before + 1) _ _ c.loop-segment-test.true c.segment-item.is is (c.loop-segment.invariant.counts kind) refl (c.in_ok-insert.ensures.updates.0 kind) in
+    let counts : HoldsCounts (take (i + 1) body) (get (slice_cmp nat_cmp) c.insert.new.self) = λ kind. counts_more kind body i s before (before + 1) _ _ c.loop-segment-test.true c.segment-item.is is (c.loop-segment.invariant.counts kind) refl (c.in_ok-insert.ensures.updates.0 kind) in
     let raw = kinds_more body i s before c.loop-segment-test.true c.segment-item.is is in
     let more = rw (sym c.is_new.ensures) at raw in
     let old = c.loop-segment.invariant.kinds in
