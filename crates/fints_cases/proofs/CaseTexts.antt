@@ -134,7 +134,7 @@ digits_number a b c d p q r s n (la, ha, pa) (lb, hb, qb) (lc, hc, rc) (ld, hd, 
 pub code_digits : (a b c d n : ℕ) → code_in (a ∷ b ∷ c ∷ d ∷ []) ≡ Some n → (n < 10000) × (code_text n ≡ a ∷ b ∷ c ∷ d ∷ [])
 code_digits a b c d n h =
     let told = cond_some _ _ n h in
-    let all = both _ _ told.0 in
+    let all = both _ _ (both _ _ told.0).0 in
     let one = both _ _ all.0 in
     let two = both _ _ one.1 in
     let three = both _ _ two.1 in

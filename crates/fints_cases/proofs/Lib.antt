@@ -4,4 +4,3 @@ pub mod CaseReads
 pub mod CaseLines
 pub mod CaseTexts
 pub mod Firing
-pub mod PatternTests

@@ -1,21 +1,18 @@
 -- Patterns of feedback codes, which are numbers from 0 to 9,999.
-use Rattle.std.specs.Prelude.{ℕ, ◌≡◌, ◌≤◌, ◌⊎◌, ◌+◌, ◌/◌, ◌%◌, ◌==◌, ◌&&◌, ◌||◌, nat_le, if◌then◌else◌, Bool, List, [], ◌∷◌, length, Option, Some, None}
-use Rattle.std.specs.List.{All, list_all, zip}
+use Rattle.std.specs.Prelude.{ℕ, ◌+◌, ◌/◌, ◌%◌, ◌==◌, ◌&&◌, ◌||◌, if◌then◌else◌, Bool, List, [], ◌∷◌, length, Option, Some, None}
+use Rattle.std.specs.List.{list_all, zip}
+use Rattle.std.specs.Char.{is_ascii_digit}
 
 -- a digit or `*` (42)
-abbrev pub IsPlace : ℕ → Type 0
-IsPlace c = ((48 ≤ c) × (c ≤ 57)) ⊎ (c ≡ 42)
+abbrev pub is_place : ℕ → Bool
+is_place c = is_ascii_digit c || c == 42
 
 -- four of these
-abbrev pub IsPattern : List ℕ → Type 0
-IsPattern text = (length text ≡ 4) × All IsPlace text
-
--- the same as a test that computes
-abbrev pub is_place : ℕ → Bool
-is_place c = (nat_le 48 c && nat_le c 57) || c == 42
+abbrev pub is_pattern : List ℕ → Bool
+is_pattern text = (length text == 4) && list_all is_place text
 
 abbrev pub pattern_in : List ℕ → Option (List ℕ)
-pattern_in text = if (length text == 4) && list_all is_place text then Some text else None
+pattern_in text = if is_pattern text then Some text else None
 
 -- the four digits of a code, as characters
 abbrev pub code_text : ℕ → List ℕ

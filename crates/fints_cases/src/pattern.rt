@@ -1,7 +1,7 @@
 //! Patterns of feedback codes.
-ghost use Rattle.std.specs.Prelude.{◌≡◌, ◌<◌, ◌↔◌, SomeIff, IsTrue};
+ghost use Rattle.std.specs.Prelude.{◌≡◌, ◌<◌};
 ghost use Rattle.std.specs.List.{list_any};
-ghost use Rattle.fints_cases.specs.Patterns.{IsPlace, IsPattern, pattern_in, fits, code_text, matches};
+ghost use Rattle.fints_cases.specs.Patterns.{is_place, pattern_in, fits, code_text, matches};
 
 use fints_params::Code;
 use std::marker::Model;
@@ -13,21 +13,21 @@ pub struct Pattern {
 }
 
 impl Model for Pattern {
-    ghost use Rattle.std.specs.Prelude.{ℕ, List};
+    ghost use Rattle.std.specs.Prelude.{ℕ, List, IsTrue};
 
     ghost Value = { List ℕ };
 
-    ghost use Rattle.fints_cases.specs.Patterns.{IsPattern};
+    ghost use Rattle.fints_cases.specs.Patterns.{is_pattern};
 
     ghost view = { λ p. p.places };
 
-    ghost invariant = { λ p. IsPattern p.places };
+    ghost invariant = { λ p. IsTrue (is_pattern p.places) };
 
     ghost inverse = { λ text. record { places = text } };
 }
 
 fn is_place(c: u8) -> bool
-    ensures { IsTrue result ↔ IsPlace c }
+    ensures { result ≡ is_place c }
 {
     c.is_ascii_digit() || c == b'*'
 }
@@ -52,24 +52,19 @@ pub fn digits_of(code: Code) -> [u8; 4]
     ]
 }
 
-fn places_in(text: &[u8]) -> Option<Pattern>
-    ensures { SomeIff result (IsPattern text.now) text.now }
-{
-    match text {
-        [a, b, c, d] if text.iter().all(|place| is_place(*place)) => Some(Pattern {
-            places: [*a, *b, *c, *d],
-        }),
-        _ => None,
-    }
-}
-
 impl Pattern {
     /// The pattern that the characters are, if they are one.
     pub fn parse(text: &[u8]) -> Option<Pattern>
-        ensures pattern { SomeIff result (IsPattern text.now) text.now }
-        ensures tested { result ≡ pattern_in text.now }
+        ensures { result ≡ pattern_in text.now }
     {
-        places_in(text)
+        match text {
+            [a, b, c, d] if is_place(*a) && is_place(*b) && is_place(*c) && is_place(*d) => {
+                Some(Pattern {
+                    places: [*a, *b, *c, *d],
+                })
+            }
+            _ => None,
+        }
     }
 
     /// Whether each place is `*` or has the code's digit.

@@ -4,8 +4,8 @@ use Rattle.std.specs.Prelude.{Any, IsTrue}
 use Rattle.fints_rules.specs.Accounts.{Account}
 use Rattle.fints_rules.specs.Kinds.{is_tan_order}
 use Rattle.fints_rules.specs.Orders.{form_of}
-use Rattle.fints_rules.specs.Permits.{Granted, AllNeedMore}
-use Rattle.fints_rules.specs.Rules.{CarriesTan, IsRowFor, MessageBreaks, NamesAccount, SegmentBreaks}
+use Rattle.fints_rules.specs.Permits.{Granted, params_of, AllNeedMore}
+use Rattle.fints_rules.specs.Rules.{CarriesTan, MessageBreaks, NamesAccount, SegmentBreaks}
 use Rattle.fints_rules.specs.SegmentFacts.{SegmentFactsValue}
 use Rattle.fints_rules.specs.declared.facts.MessageFacts.{MessageFacts}
 use Rattle.fints_rules.specs.declared.orders.AccountForm.{AccountForm}
@@ -48,7 +48,7 @@ pub segment_no_better : (granted : Granted) (f g : MessageFacts) → IsNoBetter 
 segment_no_better granted f g w s rule.Version b = b
 segment_no_better granted f g w s rule.Orders b = b
 segment_no_better granted f g w s rule.Listed b = b
-segment_no_better granted f g w s rule.Signatures (inl b) = inl (b.0, subst (λ (n : ℕ). Any (λ row. IsRowFor s row × (n < row.signatures)) granted.rows.orders) (sym w.signatures) b.1)
+segment_no_better granted f g w s rule.Signatures (inl b) = inl (b.0, subst (λ (n : ℕ). Any (λ row. n < row.signatures) (params_of s.kind s.version granted.rows.orders)) (sym w.signatures) b.1)
 segment_no_better granted f g w s rule.Signatures (inr (plain, (who, names, more))) = inr (plain, (who, names, subst (AllNeedMore granted.rows who s.kind) (sym w.signatures) more))
 segment_no_better granted f g w s rule.Account b = b
 segment_no_better granted f g w s rule.Tan (inl b) = inl (b.0, b.1, λ carries. b.2 (carried f g w carries))

@@ -1,7 +1,6 @@
 pub mod NameTests
-pub mod FieldLemmas
-pub mod TextLemmas
-pub mod CleanFields
+pub mod PartLemmas
+pub mod Listings
 pub mod FirstPlaces
 pub mod OneField
 pub mod FirstFaults

@@ -1,5 +1,5 @@
 -- The order in which the kinds of faults are tried in one place.
-use Rattle.std.specs.Prelude.{◌≡◌, Bool, true, false, if◌then◌else◌, List, [], ◌∷◌, Option, Some, None, refl}
+use Rattle.std.specs.Prelude.{◌≡◌, ℕ, nat_le, Bool, true, false, if◌then◌else◌, List, [], ◌∷◌, Option, Some, None, refl}
 use Rattle.std.specs.List.{find}
 use Rattle.std.proofs.Common.{sym}
 use Rattle.std.proofs.lemmas.Option.{none-some}
@@ -12,6 +12,25 @@ kind_order = kinds.UnknownKey ∷ kinds.Missing ∷ kinds.WrongKind ∷ kinds.No
 -- the first kind of which a fault stands in the place
 abbrev pub first_kind : (FaultKind → Bool) → Option FaultKind
 first_kind has = find has kind_order
+
+-- how early a kind is told; want of memory is told before all
+abbrev pub rank : FaultKind → ℕ
+rank kinds.Memory = 0
+rank kinds.NotToml = 1
+rank kinds.UnknownKey = 2
+rank kinds.Missing = 3
+rank kinds.WrongKind = 4
+rank kinds.NotLatin1 = 5
+rank kinds.BadHex = 6
+rank kinds.Duplicate = 7
+rank kinds.NoSuchName = 8
+rank kinds.BackwardJump = 9
+rank kinds.BadPattern = 10
+rank kinds.Limit = 11
+
+-- of two kinds, the one that is told
+abbrev pub first_of : FaultKind → FaultKind → FaultKind
+first_of j k = if nat_le (rank j) (rank k) then j else k
 
 -- no fault of any kind that a place may have
 pub record HasNone (has : FaultKind → Bool) : Type 0 where

@@ -4,7 +4,7 @@ use Rattle.toml.specs.Data.{Data}
 use Rattle.fints_fields.specs.declared.field.Field.{Field}
 use Rattle.fints_field_rows.specs.FaultOrder.{first_kind, kind_order}
 use Rattle.fints_field_rows.specs.Faults.{AreClean, IsFirstFault}
-use Rattle.fints_field_rows.specs.FieldTables.{IsFieldOf}
+use Rattle.fints_field_rows.specs.Fields.{IsFieldOf}
 use Rattle.fints_field_rows.specs.declared.fault.FaultKind.{FaultKind}
 
 -- a row is one field at most

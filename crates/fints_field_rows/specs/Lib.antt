@@ -2,8 +2,9 @@ pub mod RowNames
 pub mod Texts
 pub mod Faults
 pub mod NamedFields
-pub mod FieldFaults
-pub mod FieldTables
 pub mod FaultOrder
+pub mod Parts
+pub mod Fields
+pub mod FieldParts
 pub mod Places
 pub mod Laws

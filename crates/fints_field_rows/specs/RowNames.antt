@@ -12,6 +12,10 @@ is_name_byte b = ((nat_le 97 b && nat_le b 122) || (nat_le 48 b && nat_le b 57))
 abbrev pub is_name : List ℕ → Bool
 is_name text = (nat_lt 0 (length text) && nat_le (length text) 40) && list_all is_name_byte text
 
+-- the name that a text is, if it is one
+abbrev pub parsed : List ℕ → Option (List ℕ)
+parsed text = if is_name text then Some text else None
+
 -- there is a value, and it is no name
 abbrev pub is_no_name : Option Data → Bool
 is_no_name None = false

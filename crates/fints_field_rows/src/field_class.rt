@@ -1,10 +1,13 @@
 //! The class that a field's table names.
 ghost use Rattle.std.specs.Prelude.{◌≡◌};
-ghost use Rattle.toml.specs.View.{table_view};
-ghost use Rattle.fints_field_rows.specs.FieldFaults.{class_named, class_of, is_bin, is_sized};
+ghost use Rattle.toml.specs.View.{table_view, view};
+ghost use Rattle.fints_documents.specs.Document.{only_keys};
+ghost use Rattle.fints_field_rows.specs.Fields.{class_name_in, class_named, class_of, field_keys, is_sized};
 
-use fints_documents::entries;
-use toml::Table;
+use crate::fault::FaultKind;
+use crate::parts::required;
+use fints_documents::document::only_keys;
+use toml::{Table, Value};
 
 /// The name of a class.
 #[derive(Clone, Copy, Debug, PartialEq, Eq)]
@@ -17,39 +20,50 @@ pub enum ClassName {
     Account,
 }
 
-fn class_named(text: &str) -> Option<ClassName>
+fn class_named(text: &str) -> Result<ClassName, FaultKind>
     ensures { result ≡ class_named text.now }
 {
     match text {
-        "digits" => Some(ClassName::Digits),
-        "plain" => Some(ClassName::Plain),
-        "text" => Some(ClassName::Text),
-        "bin" => Some(ClassName::Bin),
-        "oneof" => Some(ClassName::OneOf),
-        "account" => Some(ClassName::Account),
-        _ => None,
+        "digits" => Ok(ClassName::Digits),
+        "plain" => Ok(ClassName::Plain),
+        "text" => Ok(ClassName::Text),
+        "bin" => Ok(ClassName::Bin),
+        "oneof" => Ok(ClassName::OneOf),
+        "account" => Ok(ClassName::Account),
+        _ => Err(FaultKind::WrongKind),
     }
 }
 
-/// The class of a field's table, where it names one.
-#[tactic(auto, unfolding(crate::specs::FieldFaults::class_of))]
-pub fn class_of(table: &Table) -> Option<ClassName>
+fn class_name_in(value: &Value) -> Result<ClassName, FaultKind>
+    ensures { result ≡ class_name_in (view value.now) }
+{
+    match value {
+        Value::String(text) => class_named(text.as_str()),
+        _ => Err(FaultKind::WrongKind),
+    }
+}
+
+/// The class of a field's table.
+#[tactic(auto, unfolding(crate::specs::Fields::class_of))]
+pub fn class_of(table: &Table) -> Result<ClassName, FaultKind>
     ensures { result ≡ class_of (table_view table.now) }
 {
-    class_named(entries::text_at(table, "class")?)
+    class_name_in(required(table, "class")?)
 }
 
-impl ClassName {
-    /// Whether the class has `min` and `max`; the others have `values`.
-    pub fn is_sized(self) -> bool
-        ensures { result ≡ is_sized self }
-    {
-        !matches!(self, ClassName::OneOf | ClassName::Account)
-    }
+fn is_sized(class: ClassName) -> bool
+    ensures { result ≡ is_sized class }
+{
+    !matches!(class, ClassName::OneOf | ClassName::Account)
+}
 
-    pub fn is_bin(self) -> bool
-        ensures { result ≡ is_bin self }
-    {
-        self == ClassName::Bin
+/// Whether the table has no keys but those of its class.
+pub fn only_field_keys(class: Result<ClassName, FaultKind>, table: &Table) -> bool
+    ensures { result ≡ only_keys (field_keys class) (table_view table.now) }
+{
+    match class {
+        Err(_) => only_keys(table, &["name", "class", "min", "max", "values"]),
+        Ok(class) if is_sized(class) => only_keys(table, &["name", "class", "min", "max"]),
+        Ok(_) => only_keys(table, &["name", "class", "values"]),
     }
 }

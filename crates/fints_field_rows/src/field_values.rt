@@ -1,198 +1,141 @@
-//! Fields read from their tables.
-ghost use Rattle.std.specs.Prelude.{◌≡◌, ◌≤◌, ℕ, IfOk, Some, codes, map, option_map};
-ghost use Rattle.toml.specs.Data.{get_member};
+//! The bounds and the listed values of a field.
+ghost use Rattle.std.specs.Prelude.{◌≡◌, ◌≤◌, All, length, map};
 ghost use Rattle.toml.specs.View.{table_view, view};
-ghost use Rattle.fints_documents.specs.Entries.{text_at};
-ghost use Rattle.fints_field_rows.specs.FieldFaults.{class_of};
-ghost use Rattle.fints_field_rows.specs.FieldTables.{AreAccounts, AreBounds, AreTexts, HasBounds, HasClass, HasName, IsCleanClass, IsFaultless, IsFieldOf, IsNumber, account_value, listed, text_value};
+ghost use Rattle.fints_field_rows.specs.Fields.{account_in, account_of, accounts_class, class_value, entries_of, length_at, length_in, lengths_in, listed_in, text_in, texts_class};
+ghost use Rattle.fints_field_rows.specs.Parts.{Gives, each, seen};
 
-use crate::field_class::{ClassName, class_of};
-use crate::text;
-use fints_documents::document::{member, number_between};
-use fints_documents::entries::text_at;
-use fints_fields::{
-    Account, AccountValue, Accounts, Bin, Digits, Field, Name, OneOf, Plain, Text, Texts,
-};
-use fints_syntax::{Bytes, Memory};
+use crate::fault::FaultKind;
+use crate::parts::{both, more, required};
+use crate::text::{is_latin1, latin1};
+use fints_documents::document::number_between;
+use fints_fields::{Account, AccountValue, Accounts, Field, OneOf, Texts, are_distinct};
+use fints_syntax::Bytes;
 use std::alloc::Global;
 use toml::{Table, Value};
 
-fn name_of(table: &Table) -> Name
-    requires { HasName (table_view table.now) }
-    ensures { text_at (codes "name") (table_view table.now) ≡ Some result }
-{
-    match text_at(table, "name") {
-        Some(text) => match Name::parse(text.as_bytes()) {
-            Some(name) => name,
-            None => unreachable!(),
-        },
-        None => unreachable!(),
-    }
-}
+/// The greatest length of a field.
+const MAX_LEN: u16 = 10_000;
 
-fn entries_in(value: &Value) -> &[Value]
-    ensures { map view result.now ≡ listed (Some (view value.now)) }
+/// The most texts of an account.
+const MAX_ITEMS: usize = 6;
+
+// ---- bounds
+
+fn length_in(value: &Value) -> Result<u16, FaultKind>
+    ensures { result ≡ length_in (view value.now) }
 {
     match value {
-        Value::Array(values) => values.as_slice(),
-        _ => &[],
+        Value::Integer(_) => number_between(0, MAX_LEN, value).ok_or(FaultKind::Limit),
+        _ => Err(FaultKind::WrongKind),
     }
 }
 
-fn listed(value: Option<&Value>) -> &[Value]
-    ensures { map view result.now ≡ listed (option_map (λ v. view v.now) value.entry) }
+fn length_at(table: &Table, key: &str) -> Result<u16, FaultKind>
+    ensures { result ≡ length_at key.now (table_view table.now) }
+{
+    length_in(required(table, key)?)
+}
+
+/// The values of `min` and `max`.
+pub fn lengths_in(table: &Table) -> Result<(u16, u16), FaultKind>
+    ensures { result ≡ lengths_in (table_view table.now) }
+{
+    both(length_at(table, "min"), length_at(table, "max"))
+}
+
+// ---- listed values
+
+fn entries_of(value: &Value) -> Result<&[Value], FaultKind>
+    ensures { seen (λ v. map view v.now) result ≡ entries_of (view value.now) }
 {
     match value {
-        Some(value) => entries_in(value),
-        None => &[],
+        Value::Array(entries) => Ok(entries.as_slice()),
+        _ => Err(FaultKind::WrongKind),
     }
 }
 
-fn text_of(alloc: Global, value: &Value) -> Result<Bytes, Memory>
-    ensures { IfOk result (λ bytes. bytes ≡ text_value (view value.now)) }
+fn text_in(alloc: Global, value: &Value) -> Result<Bytes, FaultKind>
+    ensures { Gives (λ text. text) result (text_in (view value.now)) }
 {
     match value {
-        Value::String(text) => Ok(Bytes::new(text::latin1(alloc, text.as_str())?)),
-        _ => Ok(Bytes::new(Vec::new(alloc))),
+        Value::String(text) => {
+            if !is_latin1(text.as_str()) {
+                return Err(FaultKind::NotLatin1);
+            }
+            Ok(Bytes::new(latin1(alloc, text.as_str())?))
+        }
+        _ => Err(FaultKind::WrongKind),
     }
 }
 
-fn texts_of(alloc: Global, values: &[Value]) -> Result<Texts, Memory>
-    ensures { IfOk result (λ texts. texts ≡ map text_value (map view values.now)) }
+/// The texts of a list.
+pub fn texts_in(alloc: Global, values: &[Value]) -> Result<Vec<Bytes>, FaultKind>
+    ensures { Gives (λ v. v.items) result (each text_in (map view values.now)) }
 {
-    let mut texts = Texts::new(alloc);
+    let mut texts = Ok(Vec::new(alloc));
     for value in values {
-        let text = text_of(alloc, value)?;
-        texts.push(text)?;
+        texts = more(texts, text_in(alloc, value));
     }
-    Ok(texts)
+    texts
 }
 
-fn items_of(alloc: Global, values: &[Value]) -> Result<Vec<Bytes>, Memory>
-    ensures { IfOk result (λ items. items.items ≡ map text_value (map view values.now)) }
+fn account_of(alloc: Global, items: &[Value]) -> Result<AccountValue, FaultKind>
+    ensures { Gives (λ account. account) result (account_of (map view items.now)) }
 {
-    let mut items = Vec::new(alloc);
+    if items.is_empty() || items.len() > MAX_ITEMS {
+        return Err(FaultKind::WrongKind);
+    }
+    let texts = texts_in(alloc, items)?;
+    Ok(AccountValue::new(alloc, texts)?)
+}
+
+fn account_in(alloc: Global, value: &Value) -> Result<AccountValue, FaultKind>
+    ensures { Gives (λ account. account) result (account_in (view value.now)) }
+{
+    account_of(alloc, entries_of(value)?)
+}
+
+/// The accounts of a list.
+pub fn accounts_in(alloc: Global, values: &[Value]) -> Result<Vec<AccountValue>, FaultKind>
+    ensures { Gives (λ v. v.items) result (each account_in (map view values.now)) }
+{
+    let mut accounts = Ok(Vec::new(alloc));
     for value in values {
-        let item = text_of(alloc, value)?;
-        items.push(item)?;
+        accounts = more(accounts, account_in(alloc, value));
     }
-    Ok(items)
+    accounts
 }
 
-fn account_of(alloc: Global, value: &Value) -> Result<AccountValue, Memory>
-    ensures { IfOk result (λ account. account ≡ account_value (view value.now)) }
+/// The entries of `values`.
+pub fn listed_in(table: &Table) -> Result<&[Value], FaultKind>
+    ensures { seen (λ v. map view v.now) result ≡ listed_in (table_view table.now) }
 {
-    match value {
-        Value::Array(items) => {
-            let texts = items_of(alloc, items.as_slice())?;
-            let account = AccountValue::new(alloc, texts)?;
-            Ok(account)
-        }
-        _ => AccountValue::new(alloc, Vec::new(alloc)),
-    }
+    entries_of(required(table, "values")?)
 }
 
-fn accounts_of(alloc: Global, values: &[Value]) -> Result<Accounts, Memory>
-    ensures { IfOk result (λ accounts. accounts ≡ map account_value (map view values.now)) }
+/// A field of one of these texts.
+pub fn texts_class(texts: Vec<Bytes>) -> Result<Field, FaultKind>
+    ensures { seen class_value result ≡ texts_class texts.items }
 {
-    let mut accounts = Accounts::new(alloc);
-    for value in values {
-        let account = account_of(alloc, value)?;
-        accounts.push(account)?;
+    if !are_distinct(&texts) {
+        return Err(FaultKind::Duplicate);
     }
-    Ok(accounts)
-}
-
-fn one_of(alloc: Global, values: &[Value]) -> Result<OneOf, Memory>
-    requires { AreTexts (map text_value (map view values.now)) }
-    ensures { IfOk result (λ c. c.values ≡ map text_value (map view values.now)) }
-{
-    let texts = texts_of(alloc, values)?;
-    match OneOf::new(texts) {
-        Some(class) => Ok(class),
-        None => unreachable!(),
+    match OneOf::new(Texts::new(texts)) {
+        Some(class) => Ok(Field::OneOf(class)),
+        None => Err(FaultKind::Limit),
     }
 }
 
-fn account(alloc: Global, values: &[Value]) -> Result<Account, Memory>
-    requires { AreAccounts (map account_value (map view values.now)) }
-    ensures { IfOk result (λ c. c.values ≡ map account_value (map view values.now)) }
+/// A field of one of these accounts.
+pub fn accounts_class(accounts: Vec<AccountValue>) -> Result<Field, FaultKind>
+    requires { All (λ account. (1 ≤ length account) × (length account ≤ 6)) accounts.items }
+    ensures { seen class_value result ≡ accounts_class accounts.items }
 {
-    let accounts = accounts_of(alloc, values)?;
-    match Account::new(accounts) {
-        Some(class) => Ok(class),
-        None => unreachable!(),
+    if !are_distinct(&accounts) {
+        return Err(FaultKind::Duplicate);
     }
-}
-
-fn number_of(value: Option<&Value>) -> Option<u16>
-    ensures some { (n : ℕ) → IsNumber (option_map (λ v. view v.now) value.entry) n → n ≤ 10000 → result ≡ Some n }
-{
-    number_between(0, 10_000, value?)
-}
-
-/// The bounds `min` and `max` of a table.
-fn bounds_of(table: &Table) -> (u16, u16)
-    requires { (least : ℕ) × AreBounds (get_member (codes "min") (table_view table.now)) (get_member (codes "max") (table_view table.now)) least }
-    ensures least { (least : ℕ) → AreBounds (get_member (codes "min") (table_view table.now)) (get_member (codes "max") (table_view table.now)) least → least ≤ result.0 }
-    ensures bounds { HasBounds (table_view table.now) result.0 result.1 }
-    ensures ordered { result.0 ≤ result.1 }
-    ensures short { result.1 ≤ 10000 }
-{
-    match (
-        number_of(member(&*table, "min")),
-        number_of(member(&*table, "max")),
-    ) {
-        (Some(min), Some(max)) => (min, max),
-        _ => unreachable!(),
-    }
-}
-
-/// The field that a table without faults denotes, by its class.
-fn class_field(alloc: Global, table: &Table) -> Result<Field, Memory>
-    requires { IsCleanClass (table_view table.now) (class_of (table_view table.now)) }
-    ensures { IfOk result (HasClass (table_view table.now)) }
-{
-    match class_of(&*table) {
-        Some(ClassName::Digits) => {
-            let (min, max) = bounds_of(table);
-            Ok(Field::Digits(Digits { min, max }))
-        }
-        Some(ClassName::Plain) => {
-            let (min, max) = bounds_of(table);
-            Ok(Field::Plain(Plain { min, max }))
-        }
-        Some(ClassName::Text) => {
-            let (min, max) = bounds_of(table);
-            Ok(Field::Text(Text { min, max }))
-        }
-        Some(ClassName::Bin) => {
-            let (min, max) = bounds_of(table);
-            Ok(Field::Bin(Bin { min, max }))
-        }
-        Some(ClassName::OneOf) => {
-            let c = one_of(alloc, listed(member(table, "values")))?;
-            Ok(Field::OneOf(c))
-        }
-        Some(ClassName::Account) => {
-            let c = account(alloc, listed(member(table, "values")))?;
-            Ok(Field::Account(c))
-        }
-        None => unreachable!(),
-    }
-}
-
-/// The name and the field that an entry of `field` without faults denotes.
-pub fn field_of(alloc: Global, entry: &Value) -> Result<(Name, Field), Memory>
-    requires { IsFaultless (view entry.now) }
-    ensures { IfOk result (λ f. IsFieldOf (view entry.now) f.0 f.1) }
-{
-    match entry {
-        Value::Table(table) => {
-            let name = name_of(&*table);
-            let field = class_field(alloc, table)?;
-            Ok((name, field))
-        }
-        _ => unreachable!(),
+    match Account::new(Accounts::new(accounts)) {
+        Some(class) => Ok(Field::Account(class)),
+        None => Err(FaultKind::Limit),
     }
 }

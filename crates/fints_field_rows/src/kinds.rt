@@ -4,6 +4,7 @@ ghost use Rattle.fints_field_rows.specs.declared.fault.FaultKind.TheVariants as 
 
 use crate::fault::FaultKind;
 use fints_syntax::Memory;
+use std::alloc::AllocFailed;
 
 /// The kinds in the order in which they are tried in one place.
 pub const KINDS: [FaultKind; 10] = [
@@ -24,5 +25,13 @@ impl From<Memory> for FaultKind {
 
     fn from(_e: Memory) -> FaultKind {
         FaultKind::Memory
+    }
+}
+
+impl<T: Drop> From<AllocFailed<T>> for FaultKind {
+    ghost from_gives = { λ _ kind. kind ≡ kinds.Memory };
+
+    fn from(_e: AllocFailed<T>) -> FaultKind {
+        FaultKind::from(Memory)
     }
 }

@@ -1,31 +1,17 @@
 //! Names in the rows of a script.
 ghost use Rattle.std.specs.Prelude.{◌≡◌, codes, option_map};
-ghost use Rattle.std.specs.List.{list_all};
 ghost use Rattle.toml.specs.View.{view, table_view};
-ghost use Rattle.fints_field_rows.specs.RowNames.{is_name, is_name_byte, is_no_name, name_of, name_value};
+ghost use Rattle.fints_field_rows.specs.RowNames.{is_no_name, name_of, name_value, parsed};
 
 use fints_documents::entries::text_at;
 use fints_fields::Name;
 use toml::{Table, Value};
 
-fn is_name_byte(b: u8) -> bool
-    ensures { result ≡ is_name_byte b }
+/// The name that the text is, if it is one.
+pub fn parsed(text: &str) -> Option<Name>
+    ensures { result ≡ parsed text.now }
 {
-    matches!(b, b'a'..=b'z' | b'0'..=b'9' | b'_' | b'-')
-}
-
-fn are_name_bytes(bytes: &[u8]) -> bool
-    ensures { result ≡ list_all is_name_byte bytes.now }
-{
-    bytes.iter().all(|b| is_name_byte(*b))
-}
-
-/// Whether the text is a name.
-pub fn is_name(text: &str) -> bool
-    ensures { result ≡ is_name text.now }
-{
-    let bytes = text.as_bytes();
-    !bytes.is_empty() && bytes.len() <= 40 && are_name_bytes(bytes)
+    Name::parse(text.as_bytes())
 }
 
 /// Whether there is a value that is no name.
@@ -34,7 +20,7 @@ pub fn is_no_name(value: Option<&Value>) -> bool
 {
     match value {
         None => false,
-        Some(Value::String(text)) => !is_name(text.as_str()),
+        Some(Value::String(text)) => parsed(text.as_str()).is_none(),
         Some(_) => true,
     }
 }
@@ -50,8 +36,8 @@ fn name_of(text: Option<&str>) -> Name
     ensures { result ≡ name_of (option_map (λ t. t.now) text.entry) }
 {
     match text {
-        Some(text) if is_name(text) => Name::parse(text.as_bytes()).unwrap_or(dialog()),
-        _ => dialog(),
+        Some(text) => parsed(text).unwrap_or(dialog()),
+        None => dialog(),
     }
 }
 

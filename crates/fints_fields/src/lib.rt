@@ -13,7 +13,7 @@ mod name;
 pub use class::FieldClass;
 pub use counted::{Bin, Digits, Plain, Text};
 pub use field::Field;
-pub use listed::AccountValue;
+pub use listed::{AccountValue, Listed, are_distinct};
 pub use listing::{Account, OneOf};
 pub use lists::{Accounts, Texts};
 pub use name::Name;

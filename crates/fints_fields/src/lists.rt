@@ -1,9 +1,8 @@
 //! Lists of texts and of accounts.
-ghost use Rattle.std.specs.Prelude.{◌≡◌, ◌++◌, ◌∷◌, [], IfOk, OnErr};
+ghost use Rattle.std.specs.Prelude.{◌≡◌};
 
 use crate::listed::AccountValue;
-use fints_syntax::{Bytes, Memory};
-use std::alloc::Global;
+use fints_syntax::Bytes;
 use std::marker::Model;
 
 /// Texts in a row; a contract sees the lists.
@@ -21,20 +20,10 @@ impl Model for Texts {
 }
 
 impl Texts {
-    pub fn new(alloc: Global) -> Texts
-        ensures { result ≡ [] }
+    pub fn new(items: Vec<Bytes>) -> Texts
+        ensures { result ≡ items.items }
     {
-        Texts {
-            items: Vec::new(alloc),
-        }
-    }
-
-    pub fn push(&mut self, text: Bytes) -> Result<(), Memory>
-        ensures ok { IfOk result (λ _. self.new ≡ self.old ++ text ∷ []) }
-        ensures err { OnErr result (self.new ≡ self.old) }
-    {
-        self.items.push(text)?;
-        Ok(())
+        Texts { items }
     }
 
     pub fn as_slice(&self) -> &[Bytes]
@@ -59,20 +48,10 @@ impl Model for Accounts {
 }
 
 impl Accounts {
-    pub fn new(alloc: Global) -> Accounts
-        ensures { result ≡ [] }
+    pub fn new(items: Vec<AccountValue>) -> Accounts
+        ensures { result ≡ items.items }
     {
-        Accounts {
-            items: Vec::new(alloc),
-        }
-    }
-
-    pub fn push(&mut self, account: AccountValue) -> Result<(), Memory>
-        ensures ok { IfOk result (λ _. self.new ≡ self.old ++ account ∷ []) }
-        ensures err { OnErr result (self.new ≡ self.old) }
-    {
-        self.items.push(account)?;
-        Ok(())
+        Accounts { items }
     }
 
     pub fn as_slice(&self) -> &[AccountValue]

@@ -7,8 +7,9 @@ use Rattle.std.proofs.lemmas.Bool.{and_parts}
 use Rattle.std.proofs.lemmas.Slice.Eq.{bytes_eq-Decides}
 use Rattle.fints_syntax.specs.declared.item.OwnedItem.TheVariants.{Text}
 use Rattle.fints_syntax.specs.declared.item.OwnedSegment.{OwnedSegment}
-use Rattle.fints_messages.specs.Segments.{number_of}
-use Rattle.fints_messages.specs.Parts.{is_segment, part_of}
+use Rattle.fints_syntax.specs.Number.{number_of}
+use Rattle.fints_syntax.specs.Values.{is_named}
+use Rattle.fints_messages.specs.Parts.{part_of}
 use Rattle.fints_messages.specs.Messages.{IsNumbered, IsInner, IsLast, IsKey, IsPlainTail, IsSealedTail, IsTail}
 use Rattle.fints_messages.specs.Front.{IsHalf, Follows, CanStand, BeginsBy, IsNumber}
 use Rattle.fints_messages.specs.declared.part.Part.{Part}
@@ -73,7 +74,7 @@ inner_half ss body ends k h n = record { openers = h.opened; openers_are = h.ope
 abbrev part_by : List ℕ → ℕ → Part
 part_by id version = part_of (record { head = record { id = id; number = 0; version = version; reference = None }; elements = [] })
 
-kind_is : (kind : List ℕ) (version : ℕ) (s : OwnedSegment) → IsTrue (is_segment kind version s) → s.head.id ≡ kind
+kind_is : (kind : List ℕ) (version : ℕ) (s : OwnedSegment) → IsTrue (is_named s kind version) → s.head.id ≡ kind
 kind_is kind version s h = (bytes_eq-Decides s.head.id kind).0 (and_parts (bytes_eq s.head.id kind) (s.head.version == version) h).0
 
 pub key_other : (s : OwnedSegment) → IsKey s → part_of s ≡ Other

@@ -4,7 +4,8 @@ use Rattle.std.proofs.lemmas.List.{append-nil, drop-drop, length-map, length-tak
 use Rattle.fints_syntax.specs.Spelling.{Spelled}
 use Rattle.fints_syntax.specs.Segment.{segment_bytes, IsSegment}
 use Rattle.fints_syntax.specs.declared.item.OwnedSegment.{OwnedSegment}
-use Rattle.fints_messages.specs.Segments.{segment_of, segments_of, text_of}
+use Rattle.fints_syntax.specs.Owned.{segment_of, segments_of}
+use Rattle.fints_messages.specs.Segments.{text_of}
 use Rattle.fints_messages.specs.Parts.{part_of}
 use Rattle.fints_messages.specs.declared.part.Part.TheVariants.{Opener, Body, Ender}
 use Rattle.fints_messages.specs.Messages.{IsNumbered}

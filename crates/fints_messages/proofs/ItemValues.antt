@@ -18,7 +18,7 @@ use Rattle.fints_syntax.specs.Spelling.{TextUnit, unit_value, text, binary}
 use Rattle.std.specs.Borrow.{Bor}
 use Rattle.fints_syntax.specs.declared.text.Item.{Item}
 use Rattle.fints_syntax.specs.declared.text.Item.TheVariants as items
-use Rattle.fints_messages.specs.Segments.{segment_of}
+use Rattle.fints_syntax.specs.Owned.{segment_of}
 use Rattle.fints_syntax.specs.Values.{item_at, value_at}
 use Rattle.fints_syntax.specs.Number.{number_in}
 

@@ -6,7 +6,8 @@ use Rattle.fints_syntax.specs.Spelling.{Spelled}
 use Rattle.fints_syntax.specs.Segment.{segment_bytes, IsSegment}
 use Rattle.fints_syntax.specs.Laws.{OneSegmentText}
 use Rattle.fints_syntax.specs.declared.item.OwnedSegment.{OwnedSegment}
-use Rattle.fints_messages.specs.Segments.{segment_of, segments_of, text_of}
+use Rattle.fints_syntax.specs.Owned.{segment_of, segments_of}
+use Rattle.fints_messages.specs.Segments.{text_of}
 use Rattle.fints_messages.specs.Messages.{MessageView, IsMessage, IsWhole, Begins}
 use Rattle.fints_messages.specs.Read.{IsRefusal}
 use Rattle.fints_messages.specs.Laws.{CeasesAt}

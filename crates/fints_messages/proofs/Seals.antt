@@ -9,9 +9,10 @@ use Rattle.fints_syntax.specs.Segment.{segment_bytes, IsSegment}
 use Rattle.fints_syntax.specs.declared.item.OwnedItem.TheVariants.{Bin}
 use Rattle.fints_syntax.specs.declared.item.OwnedSegment.{OwnedSegment}
 use Rattle.fints_syntax.specs.Laws.{OneSegmentText}
-use Rattle.fints_messages.specs.Segments.{no_head, segment_of, segments_of, text_of, IsText}
+use Rattle.fints_syntax.specs.Owned.{no_head, segment_of, segments_of}
+use Rattle.fints_messages.specs.Segments.{text_of, IsText}
 use Rattle.fints_syntax.specs.Values.{item_at}
-use Rattle.fints_messages.specs.Parts.{is_segment}
+use Rattle.fints_syntax.specs.Values.{is_named}
 use Rattle.fints_messages.specs.Messages.{IsInner, IsTail, IsKey, IsEnvelope, IsLast, IsNumbered, Stops}
 use Rattle.fints_messages.specs.Front.{IsFront, IsNext, HasNoNext, NoneStands, CanStand, IsNumber, IsEndOf, BeginsBy, IsWholeBy, IsReadBy, IsSealedRest, IsOpened}
 use Rattle.fints_messages.proofs.Texts.{segment_positive, rest_of}
@@ -57,7 +58,7 @@ data_inner law bytes at k body ends inner b e f none t g n =
 pub envelope_text : (inner : List OwnedSegment) (s : OwnedSegment) (bytes : List ℕ) → item_at s 2 1 ≡ Bin bytes → IsEnvelope inner s → IsText bytes inner
 envelope_text inner s bytes e h = let same : h.bytes ≡ bytes = let j = h.item in cc in subst (λ z. IsText z inner) same h.holds
 
-pub opened : (s : OwnedSegment) (bytes : List ℕ) (at k : ℕ) (body ends : List (List (List Spelled))) → IsTrue (is_segment (codes "HNVSD") 1 s) → s.head.number ≡ 999 → item_at s 2 1 ≡ Bin bytes → IsFront bytes at k body ends
+pub opened : (s : OwnedSegment) (bytes : List ℕ) (at k : ℕ) (body ends : List (List (List Spelled))) → IsTrue (is_named s (codes "HNVSD") 1) → s.head.number ≡ 999 → item_at s 2 1 ≡ Bin bytes → IsFront bytes at k body ends
     → length bytes ≤ at → length ends ≡ k → IsOpened s k (segments_of body) (segments_of ends)
 opened s bytes at k body ends kind place item f le n = record {
   inner = segments_of f.trees;

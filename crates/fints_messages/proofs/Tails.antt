@@ -4,7 +4,8 @@ use Rattle.std.proofs.lemmas.List.{append-nil, length-map, length-drop, drop_all
 use Rattle.fints_syntax.specs.Spelling.{Spelled}
 use Rattle.fints_syntax.specs.Segment.{segment_bytes, IsSegment}
 use Rattle.fints_syntax.specs.declared.item.OwnedSegment.{OwnedSegment}
-use Rattle.fints_messages.specs.Segments.{segment_of, segments_of, text_of}
+use Rattle.fints_syntax.specs.Owned.{segment_of, segments_of}
+use Rattle.fints_messages.specs.Segments.{text_of}
 use Rattle.fints_messages.specs.Messages.{IsTail, IsKey, Stops}
 use Rattle.fints_messages.specs.Front.{IsFront, IsNext, HasNoNext, NoneStands, CanStand, IsNumber, IsEndOf, BeginsBy, IsWholeBy, IsReadBy}
 use Rattle.fints_messages.proofs.Texts.{all_append, text-snoc, segments-snoc}

@@ -1,16 +1,14 @@
 -- Segment texts, one after the other.
-use Rattle.std.proofs.Common.{◌≡◌, ℕ, ◌+◌, ◌<◌, List, [], ◌∷◌, ◌++◌, length, get_or, take, unwrap_or, refl, ap, ◌∙◌, sym, arith, subst, append_assoc, length-append}
+use Rattle.std.proofs.Common.{◌≡◌, ℕ, ◌<◌, List, [], ◌∷◌, ◌++◌, length, refl, ap, ◌∙◌, sym, arith, subst, append_assoc, length-append}
 use Rattle.std.specs.List.{AllByRecursion}
-use Rattle.std.proofs.lemmas.List.{append-nil, append_cancel_left, map-append, take_more}
+use Rattle.std.proofs.lemmas.List.{append-nil, append_cancel_left, map-append}
 use Rattle.std.proofs.lemmas.List.Concat.{flat_map-append}
 use Rattle.fints_syntax.specs.Spelling.{Spelled, spelled_bytes}
 use Rattle.fints_syntax.specs.Segment.{Token, tokens_bytes, token_bytes, element_tokens, segment_bytes, IsSegment}
-use Rattle.fints_syntax.specs.Segment.{values_of, head_of}
-use Rattle.fints_syntax.specs.Owned.{IsOwned}
-use Rattle.fints_syntax.specs.declared.item.OwnedSegment.{OwnedSegment}
 use Rattle.fints_syntax.specs.Faults.{BeginsWithSegment, window_of}
 use Rattle.fints_syntax.specs.Laws.{OneSegmentText, SegmentIsRead}
-use Rattle.fints_messages.specs.Segments.{no_head, segment_of, segments_of, text_of}
+use Rattle.fints_syntax.specs.Owned.{segment_of, segments_of}
+use Rattle.fints_messages.specs.Segments.{text_of}
 
 pub all_append : {X : Type 0} (P : X → Type 0) (xs ys : List X) → AllByRecursion P xs → AllByRecursion P ys → AllByRecursion P (xs ++ ys)
 all_append P [] ys h g = g
@@ -63,15 +61,3 @@ segments-snoc xs t = map-append segment_of xs (t ∷ [])
 pub no_segment : SegmentIsRead → (input : List ℕ) → (BeginsWithSegment (window_of input) → ⊥) → (t : List (List Spelled)) (more : List ℕ) → IsSegment t → input ≡ segment_bytes t ++ more → ⊥
 no_segment law input none t more h e =
     none (subst (λ i. BeginsWithSegment (window_of i)) (sym e) (law t more h))
-
--- ---- segments by their values
-
-owned_is : (tree : List (List Spelled)) (s : OwnedSegment) → IsOwned tree s → s ≡ segment_of tree
-owned_is tree s h = let head : s.head ≡ unwrap_or (head_of (values_of tree)) no_head = ap (λ o. unwrap_or o no_head) (sym h.head) in λ i. record { head = head i; elements = h.elements_are i }
-
--- one more
-pub segments-more : (views : List (List (List Spelled))) (i : ℕ) (tree : List (List Spelled)) (s : OwnedSegment) (old new : List OwnedSegment) → i < length views → tree ≡ get_or views i tree → old ≡ segments_of (take i views) → IsOwned tree s
-    → new ≡ old ++ s ∷ [] → new ≡ segments_of (take (i + 1) views)
-segments-more views i tree s old new lt at so_far h is =
-    is ∙ ap (λ l. l ++ s ∷ []) so_far ∙ ap (λ x. segments_of (take i views) ++ x ∷ []) (owned_is tree s h) ∙ sym (segments-snoc (take i views) tree)
-    ∙ ap segments_of (ap (λ t. take i views ++ t ∷ []) at ∙ sym (take_more views i tree lt))

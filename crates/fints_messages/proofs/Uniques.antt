@@ -6,7 +6,7 @@ use Rattle.std.proofs.lemmas.Bool.Decides.{nat_tests}
 use Rattle.fints_syntax.specs.declared.item.OwnedSegment.{OwnedSegment}
 use Rattle.fints_syntax.specs.Laws.{OneSegmentText}
 use Rattle.fints_messages.specs.Messages.{MessageView, IsInner, IsTail, IsForm, IsMessage, IsPlainTail, IsEnvelope}
-use Rattle.fints_messages.specs.Segments.{number_of}
+use Rattle.fints_syntax.specs.Number.{number_of}
 use Rattle.fints_syntax.specs.Values.{value_at}
 use Rattle.fints_messages.proofs.Ranks.{IsRanked}
 use Rattle.fints_messages.proofs.Forms.{rank_of, inner_ranked, split, at_end, inside, key_not_plain}

@@ -6,7 +6,9 @@ use Rattle.fints_syntax.specs.Spelling.{Spelled}
 use Rattle.fints_syntax.specs.Segment.{segment_bytes, IsSegment}
 use Rattle.fints_syntax.specs.declared.item.OwnedSegment.{OwnedSegment}
 use Rattle.fints_syntax.specs.Laws.{OneSegmentText}
-use Rattle.fints_messages.specs.Segments.{segment_of, segments_of, text_of, number_of}
+use Rattle.fints_syntax.specs.Number.{number_of}
+use Rattle.fints_syntax.specs.Owned.{segment_of, segments_of}
+use Rattle.fints_messages.specs.Segments.{text_of}
 use Rattle.fints_syntax.specs.Values.{value_at}
 use Rattle.fints_messages.specs.Messages.{MessageView, IsFirst, IsTail, IsForm, IsMessage, IsWhole, Begins, Stops, IsNoMessage}
 use Rattle.fints_messages.specs.Front.{IsNext, HasNoNext, BeginsBy, IsWholeBy, IsReadBy}

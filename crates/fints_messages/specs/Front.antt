@@ -4,7 +4,9 @@ use Rattle.std.specs.List.{AllByRecursion}
 use Rattle.fints_syntax.specs.Spelling.{Spelled}
 use Rattle.fints_syntax.specs.Segment.{segment_bytes, IsSegment}
 use Rattle.fints_syntax.specs.declared.item.OwnedSegment.{OwnedSegment}
-use Rattle.fints_messages.specs.Segments.{segment_of, segments_of, text_of, number_of}
+use Rattle.fints_syntax.specs.Number.{number_of}
+use Rattle.fints_syntax.specs.Owned.{segment_of, segments_of}
+use Rattle.fints_messages.specs.Segments.{text_of}
 use Rattle.fints_messages.specs.Parts.{part_of}
 use Rattle.fints_messages.specs.Messages.{IsNumbered, IsInner, IsEnvelope, IsKey, IsLast, Stops}
 use Rattle.fints_messages.specs.declared.front.Inner.{Inner}

@@ -5,10 +5,13 @@ use Rattle.fints_syntax.specs.Spelling.{Spelled}
 use Rattle.fints_syntax.specs.Segment.{segment_bytes, IsSegment}
 use Rattle.fints_syntax.specs.declared.item.OwnedItem.TheVariants.{Bin}
 use Rattle.fints_syntax.specs.declared.item.OwnedSegment.{OwnedSegment}
-use Rattle.fints_messages.specs.Segments.{segments_of, text_of, IsText, number_of}
+use Rattle.fints_syntax.specs.Number.{number_of}
+use Rattle.fints_syntax.specs.Owned.{segments_of}
+use Rattle.fints_messages.specs.Segments.{text_of, IsText}
 use Rattle.fints_syntax.specs.Values.{item_at, value_at}
 use Rattle.fints_syntax.specs.Number.{number_in}
-use Rattle.fints_messages.specs.Parts.{is_segment, part_of}
+use Rattle.fints_syntax.specs.Values.{is_named}
+use Rattle.fints_messages.specs.Parts.{part_of}
 use Rattle.fints_messages.specs.declared.part.Part.TheVariants.{Opener, Body, Ender}
 
 -- What a message holds. The number of its signatures is that of `ends`.
@@ -35,24 +38,24 @@ pub record IsInner (segments body ends : List OwnedSegment) : Type 0 where
 
 -- HNHBK, with the length of the whole message in 12 digits, and the number of the message
 pub record IsFirst (size number : ℕ) (s : OwnedSegment) : Type 0 where
-  pub kind : IsTrue (is_segment (codes "HNHBK") 3 s)
+  pub kind : IsTrue (is_named s (codes "HNHBK") 3)
   pub place : s.head.number ≡ 1
   pub size_is : number_in 12 12 (value_at s 2 1) ≡ Some size
   pub number_is : number_of (value_at s 5 1) ≡ Some number
 
 -- HNHBS, with the number of the message
 pub record IsLast (number : ℕ) (s : OwnedSegment) : Type 0 where
-  pub kind : IsTrue (is_segment (codes "HNHBS") 1 s)
+  pub kind : IsTrue (is_named s (codes "HNHBS") 1)
   pub number_is : number_of (value_at s 2 1) ≡ Some number
 
 -- HNVSK, numbered 998
 pub record IsKey (s : OwnedSegment) : Type 0 where
-  pub kind : IsTrue (is_segment (codes "HNVSK") 3 s)
+  pub kind : IsTrue (is_named s (codes "HNVSK") 3)
   pub place : s.head.number ≡ 998
 
 -- HNVSD, numbered 999, with the inner segments as the data of its item
 pub record IsEnvelope (inner : List OwnedSegment) (s : OwnedSegment) : Type 0 where
-  pub kind : IsTrue (is_segment (codes "HNVSD") 1 s)
+  pub kind : IsTrue (is_named s (codes "HNVSD") 1)
   pub place : s.head.number ≡ 999
   pub bytes : List ℕ
   pub item : item_at s 2 1 ≡ Bin bytes

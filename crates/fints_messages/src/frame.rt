@@ -1,10 +1,10 @@
 //! Single segments of the frame.
 ghost use Rattle.std.specs.Prelude.{◌≡◌, ◌↔◌, ◌+◌, ◌^◌, ◌<◌, ◌≤◌, IsTrue};
-ghost use Rattle.fints_messages.specs.Segments.{segment_of};
+ghost use Rattle.fints_syntax.specs.Owned.{segment_of};
 ghost use Rattle.fints_messages.specs.Messages.{IsLast, IsKey};
 ghost use Rattle.fints_messages.specs.Front.{IsEndOf};
 
-use crate::part::is_segment;
+use crate::part::is_named;
 use crate::values::number_at;
 use fints_syntax::SegmentView;
 
@@ -12,7 +12,7 @@ use fints_syntax::SegmentView;
 pub fn is_last(view: &SegmentView<'_>, number: u64) -> bool
     ensures { IsTrue result ↔ IsLast number (segment_of view.now) }
 {
-    if !is_segment(view, b"HNHBS", 1) {
+    if !is_named(view, b"HNHBS", 1) {
         return false;
     }
     match number_at(view, 2, 1, 1, 9) {
@@ -25,7 +25,7 @@ pub fn is_last(view: &SegmentView<'_>, number: u64) -> bool
 pub fn is_key(view: &SegmentView<'_>) -> bool
     ensures { IsTrue result ↔ IsKey (segment_of view.now) }
 {
-    is_segment(view, b"HNVSK", 3) && view.number() == 998
+    is_named(view, b"HNVSK", 3) && view.number() == 998
 }
 
 /// Whether HNHBS stands behind so many HNSHK, segments of the body and HNSHA.

@@ -1,6 +1,6 @@
 //! The segments between the first and the last of a message.
 ghost use Rattle.std.specs.Prelude.{◌≡◌, ◌↔◌, ◌+◌, ◌^◌, ◌<◌, ◌≤◌, IsTrue, IfOk, IfSome, IfNone, length, drop};
-ghost use Rattle.fints_messages.specs.Segments.{segment_of};
+ghost use Rattle.fints_syntax.specs.Owned.{segment_of};
 ghost use Rattle.fints_messages.specs.Front.{IsNext, HasNoNext, CanStand, IsFront, NoneStands};
 
 use crate::front::Inner;

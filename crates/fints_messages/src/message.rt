@@ -1,18 +1,19 @@
 //! Messages, as they are read.
 ghost use Rattle.std.specs.Prelude.{◌≡◌, ◌<◌, ◌≤◌, ◌^◌, ℕ, List, length, map, Option, Some, IfOk, IfErr, IfSome, IfNone};
-ghost use Rattle.fints_messages.specs.Segments.{segment_of, segments_of, number_of};
+ghost use Rattle.fints_syntax.specs.Number.{number_of};
+ghost use Rattle.fints_syntax.specs.Owned.{segment_of, segments_of};
 ghost use Rattle.fints_syntax.specs.Values.{value_at};
 ghost use Rattle.fints_messages.specs.Messages.{IsMessage, IsFirst};
 ghost use Rattle.fints_messages.specs.Front.{IsNumber};
 ghost use Rattle.fints_messages.specs.Read.{IsRefusal};
 
 use crate::inner::next_segment;
-use crate::part::is_segment;
+use crate::part::is_named;
 use crate::plain::read_tail;
 use crate::tail::Tail;
 use crate::values::number_at;
 use fints_syntax::laws::one_segment_text;
-use fints_syntax::{Memory, OwnedSegment, SegmentView};
+use fints_syntax::{Memory, OwnedSegment, SegmentView, owned_segments};
 use std::alloc::{AllocError, Global};
 use std::marker::Model;
 use thiserror::Error;
@@ -103,17 +104,6 @@ impl From<AllocError> for JudgeFault {
     }
 }
 
-// The segments by their values.
-fn owned_segments(alloc: Global, views: &[SegmentView<'_>]) -> Result<Vec<OwnedSegment>, AllocError>
-    ensures { IfOk result (λ v. v.items ≡ segments_of views.now) }
-{
-    let mut owned = Vec::new(alloc);
-    for view in views {
-        owned.push(view.to_owned(alloc)?)?;
-    }
-    Ok(owned)
-}
-
 // What HNHBK says of a message.
 struct Frame {
     size: usize,
@@ -151,7 +141,7 @@ fn read_first(view: &SegmentView<'_>, size: usize) -> Option<u64>
     ensures some { IfSome result (λ n. IsFirst size n (segment_of view.now)) }
     ensures none { IfNone result ((n : ℕ) → IsFirst size n (segment_of view.now) → ⊥) }
 {
-    if !is_segment(view, b"HNHBK", 3) {
+    if !is_named(view, b"HNHBK", 3) {
         return None;
     }
     if view.number() != 1 {

@@ -1,12 +1,12 @@
 //! What a segment is within a message.
 ghost use Rattle.std.specs.Prelude.{◌≡◌, ◌<◌, ◌≤◌};
 ghost use Rattle.std.specs.Str.{bytes_eq};
-ghost use Rattle.fints_messages.specs.Segments.{segment_of};
-ghost use Rattle.fints_syntax.specs.Values.{value_at};
+ghost use Rattle.fints_syntax.specs.Owned.{segment_of};
+ghost use Rattle.fints_syntax.specs.Values.{is_named, value_at};
 ghost use Rattle.fints_syntax.specs.Number.{number_in};
-ghost use Rattle.fints_messages.specs.Parts.{part_of, is_segment, is_frame_kind};
+ghost use Rattle.fints_messages.specs.Parts.{part_of};
 
-use fints_syntax::{Item, Kind, SegmentView};
+use fints_syntax::{Item, Kind, SegmentView, is_frame_kind};
 
 /// A segment between the first and the last of a message.
 #[derive(Clone, Copy, Debug, PartialEq, Eq)]
@@ -29,33 +29,22 @@ pub fn is_kind(kind: Kind, text: &[u8]) -> bool
 }
 
 /// Whether the segment has this kind and version.
-pub fn is_segment(view: &SegmentView<'_>, kind: &[u8], version: u16) -> bool
-    ensures { result ≡ is_segment kind.now version (segment_of view.now) }
+pub fn is_named(view: &SegmentView<'_>, kind: &[u8], version: u16) -> bool
+    ensures { result ≡ is_named (segment_of view.now) kind.now version }
 {
     let head = view.head();
     is_kind(head.id, kind) && head.version == version
-}
-
-fn is_frame_kind(kind: Kind) -> bool
-    ensures { result ≡ is_frame_kind kind }
-{
-    is_kind(kind, b"HNHBK")
-        || is_kind(kind, b"HNVSK")
-        || is_kind(kind, b"HNVSD")
-        || is_kind(kind, b"HNSHK")
-        || is_kind(kind, b"HNSHA")
-        || is_kind(kind, b"HNHBS")
 }
 
 /// What the segment is.
 pub fn part_of(view: &SegmentView<'_>) -> Part
     ensures { result ≡ part_of (segment_of view.now) }
 {
-    if is_segment(view, b"HNSHK", 4) {
+    if is_named(view, b"HNSHK", 4) {
         Part::Opener
-    } else if is_segment(view, b"HNSHA", 2) {
+    } else if is_named(view, b"HNSHA", 2) {
         Part::Ender
-    } else if is_frame_kind(view.id()) {
+    } else if is_frame_kind(view.id().as_bytes()) {
         Part::Other
     } else {
         Part::Body

@@ -1,6 +1,6 @@
 //! The plain form of a message.
 ghost use Rattle.std.specs.Prelude.{◌≡◌, ◌↔◌, ◌+◌, ◌^◌, ◌<◌, ◌≤◌, IsTrue, IfOk, length, drop};
-ghost use Rattle.fints_messages.specs.Segments.{segment_of};
+ghost use Rattle.fints_syntax.specs.Owned.{segment_of};
 ghost use Rattle.fints_messages.specs.Messages.{IsTail, IsKey};
 ghost use Rattle.fints_messages.specs.Front.{IsNumber, TailIs, IsWithin};
 

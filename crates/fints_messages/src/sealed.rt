@@ -1,13 +1,13 @@
 //! The sealed form of a message.
 ghost use Rattle.std.specs.Prelude.{◌≡◌, ◌+◌, ◌^◌, ◌<◌, ◌≤◌, IfOk, IfSome, length, drop};
-ghost use Rattle.fints_messages.specs.Segments.{segment_of};
+ghost use Rattle.fints_syntax.specs.Owned.{segment_of};
 ghost use Rattle.fints_messages.specs.Messages.{IsTail};
 ghost use Rattle.fints_messages.specs.Front.{IsNumber, TailIs, IsWithin, IsSealedRest, HasKey, EnvelopeIs};
 
 use crate::frame::is_end;
 use crate::front::Inner;
 use crate::inner::{next_segment, read_inner};
-use crate::part::is_segment;
+use crate::part::is_named;
 use crate::tail::Tail;
 use crate::values::data_at;
 use fints_syntax::SegmentView;
@@ -20,7 +20,7 @@ fn open_envelope<'a>(alloc: Global, view: &SegmentView<'a>) -> Result<Option<Inn
     ensures few { IfOk result (λ o. IfSome o (λ i. i.openers + (length i.body.items + length i.ends.items) < 2 ^ 16)) }
 {
     one_segment_text();
-    if !is_segment(view, b"HNVSD", 1) {
+    if !is_named(view, b"HNVSD", 1) {
         return Ok(None);
     }
     if view.number() != 999 {

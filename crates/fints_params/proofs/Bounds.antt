@@ -6,7 +6,7 @@ use Rattle.fints_syntax.specs.Spelling.{Spelled}
 use Rattle.fints_syntax.specs.Segment.{segment_bytes}
 use Rattle.fints_syntax.specs.Capture.{Piece, piece_bytes, IsPiece, placed_from, IsPlacedCapture, MAX_CAPTURE}
 use Rattle.fints_syntax.specs.Places.{start_of}
-use Rattle.fints_syntax.specs.Owned.{IsOwned}
+use Rattle.fints_syntax.specs.Owned.{segment_of}
 use Rattle.fints_syntax.specs.declared.capture.Placed as syntax
 use Rattle.fints_syntax.specs.declared.item.OwnedSegment.{OwnedSegment}
 use Rattle.fints_params.specs.declared.placed.PlacedSegment.{PlacedSegment}
@@ -48,17 +48,24 @@ segments_of-map (x ∷ xs) = ap (λ (ys : List OwnedSegment). x ∷ ys) (segment
 skips : List Part → ℕ
 skips parts = skipped_in (segments_of parts)
 
-zip_within : (ps : List Piece) (segments : List OwnedSegment) → AllByRecursion IsPiece ps → AllZip IsOwned (map (λ p. p.elements) ps) segments → skipped_in segments ≤ length (flat_map piece_bytes ps)
-zip_within [] [] each h = omega arith
-zip_within [] (s ∷ ss) each h = absurd h
-zip_within (p ∷ ps) [] each h = absurd h
-zip_within (p ∷ ps) (s ∷ ss) each h =
-    omega (arith, skipped_more (s ∷ []) ss, skipped_within p.elements s each.0.segment h.0, zip_within ps ss each.1 h.1, length-append (piece_bytes p) (flat_map piece_bytes ps), length-append p.gap (segment_bytes p.elements))
+trees_within : (at : ℕ) (ps : List Piece) → AllByRecursion IsPiece ps → skipped_in (map segment_of (map (λ p. p.segment) (placed_from at ps))) ≤ length (flat_map piece_bytes ps)
+trees_within at [] each = omega arith
+trees_within at (p ∷ ps) each =
+    let rest = map segment_of (map (λ p. p.segment) (placed_from (at + length (piece_bytes p)) ps)) in
+    omega (
+      arith,
+      skipped_more (segment_of p.elements ∷ []) rest,
+      skipped_within p.elements (segment_of p.elements) each.0.segment refl,
+      trees_within (at + length (piece_bytes p)) ps each.1,
+      length-append (piece_bytes p) (flat_map piece_bytes ps),
+      length-append p.gap (segment_bytes p.elements),
+    )
 
 reads_within : (bytes : List ℕ) (segments : List OwnedSegment) → ReadsAs bytes segments → skipped_in segments ≤ length bytes
-reads_within bytes segments (trees, (tail, breaks, r), each) =
-    let zip = subst (λ (ts : List (List (List Spelled))). AllZip IsOwned ts segments) (sym r.segments_are) each in
-    omega (arith, zip_within r.pieces segments r.each zip, ap length r.text, length-append (flat_map piece_bytes r.pieces) tail)
+reads_within bytes segments (trees, (placed, (tail, breaks, r), same), is) =
+    let trees_are : map (λ p. p.segment) (placed_from 0 r.pieces) ≡ trees = ap (λ (vs : List syntax.Placed). map (λ p. p.segment) vs) r.placed_are ∙ same in
+    let segments_are : segments ≡ map segment_of (map (λ p. p.segment) (placed_from 0 r.pieces)) = is ∙ ap (map segment_of) (sym trees_are) in
+    omega (arith, trees_within 0 r.pieces r.each, ap skipped_in segments_are, ap length r.text, length-append (flat_map piece_bytes r.pieces) tail)
 
 same_skips : (parts : List Part) (xs : List OwnedSegment) → segments_of parts ≡ xs → skipped_in (segments_of parts) ≡ skipped_in xs
 same_skips parts xs e = ap skipped_in e
@@ -67,11 +74,11 @@ data_skips : (place : ℕ) (bytes : List ℕ) (parts : List Part) → DataStandF
 data_skips place bytes parts (inl (segments, reads, e)) = omega (arith, reads_within bytes segments reads, same_skips parts segments (ap segments_of e ∙ segments_of-map segments))
 data_skips place bytes parts (inr (fault, h, e)) = omega (arith, same_skips parts [] (ap segments_of e))
 
-sealed_skips : (es : List (List Spelled)) (p : PlacedSegment) (o : Option (List ℕ)) (parts : List Part) → data_of p.segment ≡ o → IsOwned es p.segment → SealedStandsFor p o parts → skipped_in (segments_of parts) ≤ length (segment_bytes es)
+sealed_skips : (es : List (List Spelled)) (p : PlacedSegment) (o : Option (List ℕ)) (parts : List Part) → data_of p.segment ≡ o → p.segment ≡ segment_of es → SealedStandsFor p o parts → skipped_in (segments_of parts) ≤ length (segment_bytes es)
 sealed_skips es p None parts e own h = omega (arith, same_skips parts [] (ap segments_of h))
 sealed_skips es p (Some bytes) parts e own h = omega (arith, data_skips p.place bytes parts h, data_within es p.segment bytes own e)
 
-one_skips : (q : Piece) (p : PlacedSegment) (parts : List Part) → IsPiece q → IsOwned q.elements p.segment → StandsFor p parts → skipped_in (segments_of parts) ≤ length (segment_bytes q.elements)
+one_skips : (q : Piece) (p : PlacedSegment) (parts : List Part) → IsPiece q → p.segment ≡ segment_of q.elements → StandsFor p parts → skipped_in (segments_of parts) ≤ length (segment_bytes q.elements)
 one_skips q p parts piece own (inl (e, h)) = omega (arith, same_skips parts (p.segment ∷ []) (ap segments_of h), skipped_within q.elements p.segment piece.segment own)
 one_skips q p parts piece own (inr (e, h)) = sealed_skips q.elements p (data_of p.segment) parts refl own h
 
@@ -109,10 +116,10 @@ place_le : (view : syntax.Placed) (r : Option ℕ) → start_of view.segment 2 1
 place_le view None e h = rw e (omega arith)
 place_le view (Some o) e h = rw e (place_fits view o h e)
 
-len_le : (es : List (List Spelled)) (s : OwnedSegment) (r : Option (List ℕ)) → data_of s ≡ r → IsOwned es s → data_len s ≤ length (segment_bytes es)
+len_le : (es : List (List Spelled)) (s : OwnedSegment) (r : Option (List ℕ)) → data_of s ≡ r → s ≡ segment_of es → data_len s ≤ length (segment_bytes es)
 len_le es s None e o = rw e (omega arith)
 len_le es s (Some bytes) e o = rw e (data_within es s bytes o e)
 
 -- an offset in the data of a segment, counted in the capture, fits
-pub placed_fits : (view : syntax.Placed) (s : OwnedSegment) (place : ℕ) → IsWithin view → IsOwned view.segment s → place ≡ place_in view → place + data_len s < 2 ^ 64
+pub placed_fits : (view : syntax.Placed) (s : OwnedSegment) (place : ℕ) → IsWithin view → s ≡ segment_of view.segment → place ≡ place_in view → place + data_len s < 2 ^ 64
 placed_fits view s place h o e = omega (arith, place_le view (start_of view.segment 2 1) refl h, len_le view.segment s (data_of s) refl o)

@@ -2,10 +2,9 @@
 use Rattle.std.proofs.Common.{◌≡◌, ◌⊎◌, ℕ, ◌+◌, ◌^◌, ◌<◌, ◌≤◌, List, [], ◌∷◌, ◌++◌, length, map, Option, Some, None, true, false, refl, ap, ◌∙◌, sym, subst, arith, inl, inr, append_assoc}
 use Rattle.std.proofs.Math.Bridge.{le_prop}
 use Rattle.std.specs.List.{AllByRecursion, AllZip}
-use Rattle.fints_syntax.specs.Spelling.{Spelled}
 use Rattle.fints_syntax.specs.Capture.{MAX_CAPTURE}
-use Rattle.fints_syntax.specs.Owned.{IsOwned}
-use Rattle.fints_syntax.specs.Laws.{OneOwnedSegment, OneCapture, NoCaptureAtFault, OnePlacedCapture, PlacedIsCapture, OneCaptureFault}
+use Rattle.fints_syntax.specs.Owned.{segments_of}
+use Rattle.fints_params.specs.Laws.{SyntaxLaws}
 use Rattle.fints_syntax.specs.declared.capture.Placed as syntax
 use Rattle.fints_syntax.specs.declared.fault.SyntaxFault.{SyntaxFault}
 use Rattle.fints_syntax.specs.declared.item.OwnedSegment.{OwnedSegment}
@@ -22,31 +21,13 @@ use Rattle.fints_params.specs.Steps.{IsWithin}
 use Rattle.fints_params.proofs.Sizes.{data_within}
 use Rattle.fints_params.proofs.Bounds.{all_within}
 
--- what segments and captures are, as the syntax has proved it
-pub record SyntaxLaws : Type 0 where
-  pub owned : OneOwnedSegment
-  pub capture : OneCapture
-  pub placed : OnePlacedCapture
-  pub segments : PlacedIsCapture
-  pub fault : OneCaptureFault
-  pub not_both : NoCaptureAtFault
-
 same_some : {A : Type 0} (x y : A) → Some x ≡ Some y → x ≡ y
 same_some x y e = cc
 
 -- ---- segments by their values
 
-owned_one : SyntaxLaws → (trees : List (List (List Spelled))) (xs ys : List OwnedSegment) → AllZip IsOwned trees xs → AllZip IsOwned trees ys → xs ≡ ys
-owned_one law [] [] [] h g = refl
-owned_one law [] [] (y ∷ ys) h g = absurd g
-owned_one law [] (x ∷ xs) ys h g = absurd h
-owned_one law (t ∷ ts) [] ys h g = absurd h
-owned_one law (t ∷ ts) (x ∷ xs) [] h g = absurd g
-owned_one law (t ∷ ts) (x ∷ xs) (y ∷ ys) h g = let one = law.owned t x y h.0 g.0 in let rest = owned_one law ts xs ys h.1 g.1 in λ i. one i ∷ rest i
-
 reads_one : SyntaxLaws → (bytes : List ℕ) (xs ys : List OwnedSegment) → ReadsAs bytes xs → ReadsAs bytes ys → xs ≡ ys
-reads_one law bytes xs ys (trees, c, h) (others, d, g) =
-    owned_one law others xs ys (subst (λ (ts : List (List (List Spelled))). AllZip IsOwned ts xs) (law.capture bytes trees others c d) h) g
+reads_one law bytes xs ys (trees, c, h) (others, d, g) = h ∙ ap segments_of (law.capture bytes trees others c d) ∙ sym g
 
 less_one : (a b : ℕ) (h k : a < b) → h ≡ k
 less_one a b h k = le_prop h k
@@ -62,7 +43,7 @@ same_placed s t m n h k segment place =
 
 value_one : SyntaxLaws → (view : syntax.Placed) (p q : PlacedSegment) → IsPlacedValue view p → IsPlacedValue view q → p ≡ q
 value_one law view p q h g =
-    same_placed p.segment q.segment p.place q.place p.in_range q.in_range (law.owned view.segment p.segment q.segment h.0 g.0) (h.1 ∙ sym g.1)
+    same_placed p.segment q.segment p.place q.place p.in_range q.in_range (h.0 ∙ sym g.0) (h.1 ∙ sym g.1)
 
 placed_one : SyntaxLaws → (views : List syntax.Placed) (ps qs : List PlacedSegment) → AllZip IsPlacedValue views ps → AllZip IsPlacedValue views qs → ps ≡ qs
 placed_one law [] [] [] h g = refl
@@ -228,7 +209,7 @@ syntax_one : SyntaxLaws → (capture : List ℕ) (f g : ParamFault) → IsSyntax
 syntax_one law capture f g (a, h, e) (b, k, d) = e ∙ ap Syntax (law.fault capture a b h.0 k.0 h.1 k.1) ∙ sym d
 
 unreadable : SyntaxLaws → (capture : List ℕ) (f : ParamFault) (placed : List PlacedSegment) → IsSyntaxFault capture f → IsValuesOf capture placed → ⊥
-unreadable law capture f placed (a, h, e) v = law.not_both capture a (map (λ p. p.segment) v.views) h.0 h.1 v.short (law.segments capture v.views v.read)
+unreadable law capture f placed (a, h, e) v = law.not_both capture a (map (λ p. p.segment) v.views) h.0 h.1 v.short (v.views, v.read, refl)
 
 -- ---- the rows
 

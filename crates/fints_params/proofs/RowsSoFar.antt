@@ -11,7 +11,8 @@ use Rattle.fints_params.specs.declared.rows.BankRow.{BankRow}
 use Rattle.fints_params.specs.declared.gathered.Gathered.{Gathered}
 use Rattle.fints_params.specs.declared.fault.ParamFault.{ParamFault}
 use Rattle.fints_params.specs.declared.fault.ParamFault.TheVariants.{Memory, Syntax, BadElement, TwoBankParameters, NoBankParameters, NoPinParameters}
-use Rattle.fints_params.specs.Reading.{is_empty, tells}
+use Rattle.std.specs.Option.{is_some}
+use Rattle.fints_params.specs.Reading.{is_empty}
 use Rattle.fints_params.specs.Bank.{is_bank, bank_row}
 use Rattle.fints_params.specs.Pins.{is_pins, pin_rows}
 use Rattle.fints_params.specs.Orders.{order_in, is_odd_order}
@@ -65,7 +66,7 @@ rows_more before s old new r a =
       skipped = capped new.skipped (skipped_in before) (skipped_in (s ∷ [])) (a.skipped ∙ ap (λ (x : ℕ). capped_sum x (skipped_in (s ∷ []))) r.skipped) ∙ ap (λ (x : ℕ). min x MOST) (sym (skipped_more before (s ∷ [])));
     }
 
-same_bank : {A : Type 0} (o : Option BankRow) (xs : List A) (f : A → BankRow) → cons_option o [] ≡ map f xs → tells o ≡ not (is_empty xs)
+same_bank : {A : Type 0} (o : Option BankRow) (xs : List A) (f : A → BankRow) → cons_option o [] ≡ map f xs → is_some o ≡ not (is_empty xs)
 same_bank None [] f e = refl
 same_bank None (x ∷ xs) f e = absurd cc
 same_bank (Some b) [] f e = absurd cc
@@ -75,7 +76,7 @@ same_bank (Some b) (x ∷ xs) f e = refl
 fault_is : (before : List OwnedSegment) (g : Gathered) (s : OwnedSegment) → IsGathered before g → fault_with g.bank s ≡ fault_after before s
 fault_is before g s h = let e = same_bank g.bank (filter is_bank before) bank_row h.bank in rw e refl
 
-no_second : (o n : Option BankRow) (s : OwnedSegment) (b : Bool) → is_bank s ≡ b → cons_option n [] ≡ cons_option o [] ++ read_each is_bank bank_row (s ∷ []) → (is_bank s && tells o) ≡ false
+no_second : (o n : Option BankRow) (s : OwnedSegment) (b : Bool) → is_bank s ≡ b → cons_option n [] ≡ cons_option o [] ++ read_each is_bank bank_row (s ∷ []) → (is_bank s && is_some o) ≡ false
 no_second o n s false e h = rw e refl
 no_second None n s true e h = rw e refl
 no_second (Some r) None s true e h = absurd cc

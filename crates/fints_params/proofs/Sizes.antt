@@ -9,7 +9,7 @@ use Rattle.std.proofs.lemmas.List.Sums.{sum_by-cons, count_by-le-length}
 use Rattle.fints_syntax.specs.Spelling.{Spelled, text, binary, spelled_bytes, item_of}
 use Rattle.fints_syntax.specs.Segment.{token_bytes, tokens_bytes, element_tokens, segment_tokens, segment_bytes, values_of, IsSegment}
 use Rattle.fints_syntax.specs.Places.{item_size, items_size, elements_size, data_offset, start_of}
-use Rattle.fints_syntax.specs.Owned.{IsOwned}
+use Rattle.fints_syntax.specs.Owned.{segment_of}
 use Rattle.fints_syntax.specs.declared.item.OwnedItem.{OwnedItem}
 use Rattle.fints_syntax.specs.declared.item.OwnedSegment.{OwnedSegment}
 use Rattle.fints_params.specs.Sealed.{binary_bytes, data_of}
@@ -54,14 +54,17 @@ data_first : (s : OwnedSegment) (elements : List (List OwnedItem)) → s.element
 data_first s [] e = rw e refl
 data_first s (x ∷ xs) e = rw e refl
 
+elements_are : (es : List (List Spelled)) (s : OwnedSegment) → s ≡ segment_of es → s.elements ≡ drop 1 (values_of es)
+elements_are es s o = ap (λ (x : OwnedSegment). x.elements) o
+
 -- the data of a segment stand in its text
-pub data_within : (es : List (List Spelled)) (s : OwnedSegment) (bytes : List ℕ) → IsOwned es s → data_of s ≡ Some bytes → length bytes ≤ length (segment_bytes es)
-data_within [] s bytes o e = absurd (let k = sym e ∙ data_first s [] o.elements_are in cc)
-data_within (h ∷ []) s bytes o e = absurd (let k = sym e ∙ data_first s [] o.elements_are in cc)
-data_within (h ∷ [] ∷ rest) s bytes o e = absurd (let k = sym e ∙ data_first s ([] ∷ values_of rest) o.elements_are in cc)
-data_within (h ∷ (text us ∷ ss) ∷ rest) s bytes o e = absurd (let k = sym e ∙ data_first s (values_of ((text us ∷ ss) ∷ rest)) o.elements_are in cc)
+pub data_within : (es : List (List Spelled)) (s : OwnedSegment) (bytes : List ℕ) → s ≡ segment_of es → data_of s ≡ Some bytes → length bytes ≤ length (segment_bytes es)
+data_within [] s bytes o e = absurd (let k = sym e ∙ data_first s [] (elements_are [] s o) in cc)
+data_within (h ∷ []) s bytes o e = absurd (let k = sym e ∙ data_first s [] (elements_are (h ∷ []) s o) in cc)
+data_within (h ∷ [] ∷ rest) s bytes o e = absurd (let k = sym e ∙ data_first s ([] ∷ values_of rest) (elements_are (h ∷ [] ∷ rest) s o) in cc)
+data_within (h ∷ (text us ∷ ss) ∷ rest) s bytes o e = absurd (let k = sym e ∙ data_first s (values_of ((text us ∷ ss) ∷ rest)) (elements_are (h ∷ (text us ∷ ss) ∷ rest) s o) in cc)
 data_within (h ∷ (binary digits data' ∷ ss) ∷ rest) s bytes o e =
-    let same : bytes ≡ data' = some_same bytes data' (sym e ∙ data_first s (values_of ((binary digits data' ∷ ss) ∷ rest)) o.elements_are) in
+    let same : bytes ≡ data' = some_same bytes data' (sym e ∙ data_first s (values_of ((binary digits data' ∷ ss) ∷ rest)) (elements_are (h ∷ (binary digits data' ∷ ss) ∷ rest) s o)) in
     omega (arith, ap length same, segment_size (h ∷ (binary digits data' ∷ ss) ∷ rest), length-append digits (64 ∷ data'), sum_by-cons items_size h ((binary digits data' ∷ ss) ∷ rest), sum_by-cons items_size (binary digits data' ∷ ss) rest, sum_by-cons item_size (binary digits data') ss)
 
 elements_within : (es : List (List Spelled)) → AllByRecursion (λ e. 0 < length e) es → length es ≤ elements_size es
@@ -73,18 +76,18 @@ account_within : (s : OwnedSegment) (b : Bool) → is_account s ≡ b → length
 account_within s true e = rw e (omega (arith, length-append (drop 9 s.elements) [], length-drop 9 s.elements))
 account_within s false e = rw e (omega arith)
 
-elements_of : (es : List (List Spelled)) (s : OwnedSegment) → IsOwned es s → length es ≡ 1 + length s.elements
-elements_of [] s o = let h = o.head in absurd cc
-elements_of (e ∷ es) s o = omega (arith, ap length o.elements_are, length-map es (λ x. map item_of x))
+elements_of : (es : List (List Spelled)) (s : OwnedSegment) → 0 < length es → s ≡ segment_of es → length es ≡ 1 + length s.elements
+elements_of [] s some o = absurd (omega (arith, some))
+elements_of (e ∷ es) s some o = omega (arith, ap length (elements_are (e ∷ es) s o), length-map es (λ x. map item_of x))
 
 -- no more is skipped than the text has bytes
-pub skipped_within : (es : List (List Spelled)) (s : OwnedSegment) → IsSegment es → IsOwned es s → skipped_in (s ∷ []) ≤ length (segment_bytes es)
+pub skipped_within : (es : List (List Spelled)) (s : OwnedSegment) → IsSegment es → s ≡ segment_of es → skipped_in (s ∷ []) ≤ length (segment_bytes es)
 skipped_within es s seg o =
     omega (
       arith,
       segment_size es,
       elements_within es seg.framed.nonempty,
-      elements_of es s o,
+      elements_of es s seg.framed.some o,
       account_within s (is_account s) refl,
       count_by-le-length is_odd_order (s ∷ []),
       count_by-le-length is_odd_element (flat_map entry_elements (filter is_account (s ∷ []))),

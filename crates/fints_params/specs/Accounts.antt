@@ -1,7 +1,7 @@
 -- HIUPA 4: element 4 usage, 0 or 1. HIUPD 6: element 2 account (number:subaccount:country:bank code), 3 IBAN, from 11 on entries (kind:signatures:..).
 use Rattle.std.specs.Prelude.{ℕ, ◌==◌, ◌||◌, ◌&&◌, Bool, false, not, List, [], ◌∷◌, length, get_or, map, drop, codes, if◌then◌else◌, Option, Some, None}
 use Rattle.std.specs.List.{filter_map}
-use Rattle.std.specs.Option.{option_map, option_and_then, option_map_or}
+use Rattle.std.specs.Option.{is_some, option_map, option_and_then, option_map_or}
 use Rattle.fints_syntax.specs.declared.item.OwnedItem.{OwnedItem}
 use Rattle.fints_syntax.specs.declared.item.OwnedItem.TheVariants.{Text}
 use Rattle.fints_syntax.specs.declared.item.OwnedSegment.{OwnedSegment}
@@ -10,7 +10,8 @@ use Rattle.fints_syntax.specs.Kind.{kind_from}
 use Rattle.fints_params.specs.declared.rows.Entry.{Entry}
 use Rattle.fints_params.specs.declared.rows.AccountRow.{AccountRow}
 use Rattle.fints_syntax.specs.Values.{is_named, value_at}
-use Rattle.fints_params.specs.Reading.{number_in, number_or_zero, is_empty, tells}
+use Rattle.fints_syntax.specs.Number.{number_of}
+use Rattle.fints_params.specs.Reading.{number_or_zero, is_empty}
 
 abbrev pub is_usage : OwnedSegment → Bool
 is_usage s = is_named s (codes "HIUPA") 4
@@ -20,7 +21,7 @@ abbrev pub is_usage_number : ℕ → Bool
 is_usage_number n = n == 0 || n == 1
 
 abbrev pub usage_fault : OwnedSegment → Option ℕ
-usage_fault s = if option_map_or is_usage_number (number_in (value_at s 4 1)) false then None else Some 4
+usage_fault s = if option_map_or is_usage_number (number_of (value_at s 4 1)) false then None else Some 4
 
 abbrev pub usage_of : OwnedSegment → ℕ
 usage_of s = number_or_zero (value_at s 4 1)
@@ -40,14 +41,14 @@ entry_kind bytes = if (length bytes == 5 || length bytes == 6) then kind_from by
 abbrev pub entry_of : List OwnedItem → Option Entry
 entry_of items =
     let values = map item_value items in
-    option_and_then (λ k. option_map (λ n. record { kind = k; signatures = n }) (number_in (get_or values 1 []))) (entry_kind (get_or values 0 []))
+    option_and_then (λ k. option_map (λ n. record { kind = k; signatures = n }) (number_of (get_or values 1 []))) (entry_kind (get_or values 0 []))
 
 -- the elements from 11 on
 abbrev pub entry_elements : OwnedSegment → List (List OwnedItem)
 entry_elements s = drop 9 s.elements
 
 abbrev pub is_odd_element : List OwnedItem → Bool
-is_odd_element items = not (is_empty_element items) && not (tells (entry_of items))
+is_odd_element items = not (is_empty_element items) && not (is_some (entry_of items))
 
 abbrev pub account_row : OwnedSegment → AccountRow
 account_row s = record {

@@ -5,16 +5,12 @@ use Rattle.fints_syntax.specs.declared.fault.SyntaxKind.{SyntaxKind}
 use Rattle.fints_syntax.specs.declared.fault.SyntaxKind.TheVariants as kinds
 use Rattle.fints_syntax.specs.declared.item.OwnedSegment.{OwnedSegment}
 use Rattle.fints_params.specs.declared.fault.ParamFault.{ParamFault}
-use Rattle.fints_params.specs.declared.fault.ParamFault.TheVariants.{Memory, Syntax, BadElement, TwoBankParameters, NoBankParameters, NoPinParameters}
+use Rattle.fints_params.specs.declared.fault.ParamFault.TheVariants.{Memory, Syntax, BadElement}
 
 -- want of memory is one fault, wherever it is met
 abbrev pub fault_from : SyntaxKind → ℕ → ParamFault
 fault_from kinds.Memory o = Memory
-fault_from kinds.BadBinary o = Syntax (record { kind = kinds.BadBinary; offset = o })
-fault_from kinds.TooLong o = Syntax (record { kind = kinds.TooLong; offset = o })
-fault_from kinds.Incomplete o = Syntax (record { kind = kinds.Incomplete; offset = o })
-fault_from kinds.BadHead o = Syntax (record { kind = kinds.BadHead; offset = o })
-fault_from kinds.CaptureTooLong o = Syntax (record { kind = kinds.CaptureTooLong; offset = o })
+fault_from kind o = Syntax (record { kind = kind; offset = o })
 
 abbrev pub fault_of : SyntaxFault → ParamFault
 fault_of f = fault_from f.kind f.offset
@@ -23,10 +19,7 @@ fault_of f = fault_from f.kind f.offset
 abbrev pub IsBad : OwnedSegment → Option ℕ → ParamFault → Type 0
 IsBad s bad Memory = Unit {0}
 IsBad s bad (BadElement segment element) = (bad ≡ Some element) × (segment ≡ s.head.number)
-IsBad s bad (Syntax f) = ⊥
-IsBad s bad TwoBankParameters = ⊥
-IsBad s bad NoBankParameters = ⊥
-IsBad s bad NoPinParameters = ⊥
+IsBad s bad _ = ⊥
 
 abbrev pub IsMemoryOr : (ParamFault → Type 0) → ParamFault → Type 0
 IsMemoryOr P f = (f ≡ Memory) ⊎ P f

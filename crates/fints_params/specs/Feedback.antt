@@ -1,20 +1,19 @@
 -- HIRMG 2 and HIRMS 2: in each element from 2 on, item 1 is a code of four digits; where it is empty, the element is skipped.
-use Rattle.std.specs.Prelude.{ℕ, ◌+◌, ◌==◌, ◌&&◌, ◌||◌, Bool, not, if◌then◌else◌, List, [], map, length, get_or, codes, Option, Some, None, position}
+use Rattle.std.specs.Prelude.{ℕ, ◌+◌, ◌&&◌, ◌||◌, Bool, not, if◌then◌else◌, List, [], map, get_or, codes, Option, None, position}
 use Rattle.std.specs.List.{filter, filter_map, flat_map}
-use Rattle.std.specs.Option.{option_map}
-use Rattle.std.specs.Str.{all_ascii_digits}
-use Rattle.std.specs.Str.Parse.{digits_value}
+use Rattle.std.specs.Option.{is_some, option_map}
+use Rattle.fints_syntax.specs.Number.{number_in}
 use Rattle.fints_syntax.specs.declared.item.OwnedItem.{OwnedItem}
 use Rattle.fints_syntax.specs.declared.item.OwnedSegment.{OwnedSegment}
 use Rattle.fints_syntax.specs.Segment.{item_value}
 use Rattle.fints_params.specs.declared.fault.ParamFault.{ParamFault}
 use Rattle.fints_params.specs.declared.fault.ParamFault.TheVariants.{BadElement}
 use Rattle.fints_syntax.specs.Values.{is_named}
-use Rattle.fints_params.specs.Reading.{is_empty, tells}
+use Rattle.fints_params.specs.Reading.{is_empty}
 
 -- the number that exactly four digits spell
 abbrev pub code_in : List ℕ → Option ℕ
-code_in bytes = if (all_ascii_digits bytes && length bytes == 4) then Some (digits_value 10 bytes) else None
+code_in bytes = number_in 4 4 bytes
 
 abbrev pub is_feedback : OwnedSegment → Bool
 is_feedback s = is_named s (codes "HIRMG") 2 || is_named s (codes "HIRMS") 2
@@ -32,7 +31,7 @@ codes_in segments = flat_map codes_of (filter is_feedback segments)
 
 -- neither empty nor a code
 abbrev pub is_bad_code : List ℕ → Bool
-is_bad_code bytes = not (is_empty bytes) && not (tells (code_in bytes))
+is_bad_code bytes = not (is_empty bytes) && not (is_some (code_in bytes))
 
 -- the least element whose item 1 is neither
 abbrev pub codes_fault : OwnedSegment → Option ℕ

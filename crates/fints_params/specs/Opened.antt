@@ -4,7 +4,7 @@ use Rattle.std.specs.List.{AllZip}
 use Rattle.std.specs.Option.{option_map, unwrap_or}
 use Rattle.fints_syntax.specs.Spelling.{Spelled}
 use Rattle.fints_syntax.specs.Capture.{IsCapture, IsPlacedCapture, IsCaptureFault, MAX_CAPTURE}
-use Rattle.fints_syntax.specs.Owned.{IsOwned}
+use Rattle.fints_syntax.specs.Owned.{segment_of, segments_of}
 use Rattle.fints_syntax.specs.Places.{start_of}
 use Rattle.fints_syntax.specs.declared.capture.Placed as syntax
 use Rattle.fints_syntax.specs.declared.fault.SyntaxFault.{SyntaxFault}
@@ -17,7 +17,7 @@ use Rattle.fints_params.specs.Sealed.{is_sealed, data_of}
 
 -- the bytes are these segments, by their values
 abbrev pub ReadsAs : List ℕ → List OwnedSegment → Type 0
-ReadsAs bytes segments = (trees : List (List (List Spelled))) × IsCapture bytes trees × AllZip IsOwned trees segments
+ReadsAs bytes segments = (trees : List (List (List Spelled))) × IsCapture bytes trees × (segments ≡ segments_of trees)
 
 -- why the bytes are no segments
 abbrev pub IsUnreadable : List ℕ → SyntaxFault → Type 0
@@ -55,7 +55,7 @@ abbrev pub place_in : syntax.Placed → ℕ
 place_in p = unwrap_or (option_map (λ o. p.start + o) (start_of p.segment 2 1)) 0
 
 abbrev pub IsPlacedValue : syntax.Placed → PlacedSegment → Type 0
-IsPlacedValue view p = IsOwned view.segment p.segment × (p.place ≡ place_in view)
+IsPlacedValue view p = (p.segment ≡ segment_of view.segment) × (p.place ≡ place_in view)
 
 -- the segments of a capture by their values, with their places
 pub record IsValuesOf (capture : List ℕ) (placed : List PlacedSegment) : Type 0 where

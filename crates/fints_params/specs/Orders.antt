@@ -1,12 +1,12 @@
 -- HIabcS and DIabcS, but for HIPINS, are for order HKabc or DKabc of the segment's version: element 2 greatest number of orders, 3 least number of signatures. One without these two numbers is skipped and counted.
 use Rattle.std.specs.Prelude.{ℕ, ◌==◌, ◌||◌, ◌&&◌, Bool, not, List, [], ◌∷◌, length, get_or, codes, if◌then◌else◌, Option, None}
-use Rattle.std.specs.Option.{option_and_then, option_map}
+use Rattle.std.specs.Option.{is_some, option_and_then, option_map}
 use Rattle.std.specs.Str.{bytes_eq}
 use Rattle.fints_syntax.specs.declared.item.OwnedSegment.{OwnedSegment}
 use Rattle.fints_syntax.specs.Kind.{kind_from}
 use Rattle.fints_params.specs.declared.rows.OrderParam.{OrderParam}
 use Rattle.fints_syntax.specs.Values.{value_at}
-use Rattle.fints_params.specs.Reading.{number_in, tells}
+use Rattle.fints_syntax.specs.Number.{number_of}
 
 -- the byte at a place of the identifier is this letter; places count from 0
 abbrev pub has_letter : List ℕ → ℕ → List ℕ → Bool
@@ -26,7 +26,7 @@ order_kind id =
 -- what the segment says of the kind, if it has both numbers
 abbrev pub order_of : OwnedSegment → List ℕ → Option OrderParam
 order_of s kind =
-    option_and_then (λ n. option_map (λ k. record { kind = kind; version = s.head.version; orders = n; signatures = k }) (number_in (value_at s 3 1))) (number_in (value_at s 2 1))
+    option_and_then (λ n. option_map (λ k. record { kind = kind; version = s.head.version; orders = n; signatures = k }) (number_of (value_at s 3 1))) (number_of (value_at s 2 1))
 
 -- of a parameter segment
 abbrev pub order_in : OwnedSegment → Option OrderParam
@@ -34,4 +34,4 @@ order_in s = option_and_then (λ k. order_of s k) (order_kind s.head.id)
 
 -- a parameter segment without the numbers
 abbrev pub is_odd_order : OwnedSegment → Bool
-is_odd_order s = tells (order_kind s.head.id) && not (tells (order_in s))
+is_odd_order s = is_some (order_kind s.head.id) && not (is_some (order_in s))

@@ -5,8 +5,9 @@ use Rattle.fints_syntax.specs.declared.item.OwnedSegment.{OwnedSegment}
 use Rattle.fints_params.specs.declared.rows.BankRow.{BankRow}
 use Rattle.fints_params.specs.declared.gathered.Gathered.{Gathered}
 use Rattle.fints_params.specs.declared.fault.ParamFault.{ParamFault}
-use Rattle.fints_params.specs.declared.fault.ParamFault.TheVariants.{Memory, Syntax, BadElement, TwoBankParameters, NoBankParameters, NoPinParameters}
-use Rattle.fints_params.specs.Reading.{tells, is_empty}
+use Rattle.fints_params.specs.declared.fault.ParamFault.TheVariants.{Memory, TwoBankParameters}
+use Rattle.std.specs.Option.{is_some}
+use Rattle.fints_params.specs.Reading.{is_empty}
 use Rattle.fints_params.specs.Bank.{is_bank, bank_row}
 use Rattle.fints_params.specs.Pins.{is_pins, pin_rows}
 use Rattle.fints_params.specs.Orders.{order_in}
@@ -22,15 +23,11 @@ IsBankFault s None f = IsBad s (bad_bank s) f
 
 -- the fault of a segment after others that gave this bank
 abbrev pub fault_with : Option BankRow → OwnedSegment → Option ParamFault
-fault_with bank s = if (is_bank s && tells bank) then Some TwoBankParameters else own_fault s
+fault_with bank s = if (is_bank s && is_some bank) then Some TwoBankParameters else own_fault s
 
 abbrev pub IsTakeFault : OwnedSegment → Option BankRow → ParamFault → Type 0
 IsTakeFault s bank Memory = Unit {0}
-IsTakeFault s bank (Syntax f) = fault_with bank s ≡ Some (Syntax f)
-IsTakeFault s bank (BadElement n e) = fault_with bank s ≡ Some (BadElement n e)
-IsTakeFault s bank TwoBankParameters = fault_with bank s ≡ Some TwoBankParameters
-IsTakeFault s bank NoBankParameters = fault_with bank s ≡ Some NoBankParameters
-IsTakeFault s bank NoPinParameters = fault_with bank s ≡ Some NoPinParameters
+IsTakeFault s bank f = fault_with bank s ≡ Some f
 
 -- a count stops at the greatest usize
 abbrev pub MOST : ℕ

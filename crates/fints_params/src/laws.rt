@@ -1,7 +1,16 @@
 //! Laws of captures: each function's contract is one.
-ghost use Rattle.fints_params.specs.Laws.{OneParams, OneParamFault, NoParamsAtFault, OneCodes, OneCodeFault, NoCodesAtFault};
+ghost use Rattle.fints_params.specs.Laws.{SyntaxLaws, OneParams, OneParamFault, NoParamsAtFault, OneCodes, OneCodeFault, NoCodesAtFault};
 
-use fints_syntax::laws::{one_capture, one_fault, one_owned_segment, one_placed_capture};
+use fints_syntax::laws::{one_capture, one_fault, one_placed_capture};
+
+// What the laws below need of the syntax.
+fn syntax_laws()
+    ensures { SyntaxLaws }
+{
+    one_capture();
+    one_fault();
+    one_placed_capture();
+}
 
 /// A capture has one set of rows at most and one first refusal at most, and never both.
 pub fn one_params()
@@ -9,10 +18,7 @@ pub fn one_params()
     ensures refusal { OneParamFault }
     ensures not_both { NoParamsAtFault }
 {
-    one_capture();
-    one_fault();
-    one_owned_segment();
-    one_placed_capture();
+    syntax_laws();
 }
 
 /// A message has one list of feedback codes at most and one first refusal at most, and never both.
@@ -21,8 +27,5 @@ pub fn one_codes()
     ensures refusal { OneCodeFault }
     ensures not_both { NoCodesAtFault }
 {
-    one_capture();
-    one_fault();
-    one_owned_segment();
-    one_placed_capture();
+    syntax_laws();
 }

@@ -1,7 +1,5 @@
 //! Segments one after the other, an HNVSD version 1 replaced once by the segments of its data.
 ghost use Rattle.std.specs.Prelude.{◌≡◌, [], ◌∷◌, List, map, option_copied, IfOk, IfErr};
-ghost use Rattle.std.specs.List.{AllZip};
-ghost use Rattle.fints_syntax.specs.Owned.{IsOwned};
 ghost use Rattle.fints_syntax.specs.declared.item.OwnedSegment.{OwnedSegment};
 ghost use Rattle.fints_params.specs.Sealed.{is_sealed, data_of};
 ghost use Rattle.fints_params.specs.Faults.{IsMemoryOr};
@@ -11,7 +9,7 @@ ghost use Rattle.fints_params.specs.Steps.{Continues, StopsIn, ContinuesOver, St
 
 use crate::fault::{ParamFault, bad_element};
 use crate::placed::PlacedSegment;
-use fints_syntax::{Memory, OwnedItem, OwnedSegment, SegmentView, SyntaxFault, parse_all};
+use fints_syntax::{OwnedItem, OwnedSegment, SyntaxFault, owned_segments, parse_all};
 use std::alloc::Global;
 
 /// What reads segments one after the other, until one is refused.
@@ -27,16 +25,6 @@ pub trait Reader {
         ensures stopped { IfErr result (λ f. IsMemoryOr (StopsIn rule good self.old (part segment.now ∷ [])) f) };
 
     ghost none_refused: { (seen : List OwnedSegment) (reader : Self) → good seen reader → NoneRefused rule seen };
-}
-
-fn owned_of(alloc: Global, views: &[SegmentView<'_>]) -> Result<Vec<OwnedSegment>, Memory>
-    ensures { IfOk result (λ v. AllZip IsOwned views.now v.items) }
-{
-    let mut owned = Vec::new(alloc);
-    for view in views {
-        owned.push(view.to_owned(alloc)?)?;
-    }
-    Ok(owned)
 }
 
 fn is_sealed(segment: &OwnedSegment) -> bool
@@ -64,7 +52,7 @@ fn open(alloc: Global, placed: &PlacedSegment) -> Result<Vec<OwnedSegment>, Para
         return Err(bad_element(&placed.segment, 2));
     };
     match parse_all(alloc, bytes) {
-        Ok(views) => Ok(owned_of(alloc, views.as_slice())?),
+        Ok(views) => Ok(owned_segments(alloc, views.as_slice())?),
         Err(fault) => Err(ParamFault::from(SyntaxFault {
             kind: fault.kind,
             offset: placed.place + fault.offset,

@@ -1,7 +1,7 @@
 //! Parameter segments: what a bank allows of a kind of orders.
 ghost use Rattle.std.specs.Prelude.{◌≡◌, Some, None};
 ghost use Rattle.fints_params.specs.Orders.{order_kind, order_of, order_in, is_odd_order};
-ghost use Rattle.fints_params.specs.Reading.{tells};
+ghost use Rattle.std.specs.Option.{is_some};
 
 use crate::rows::OrderParam;
 use fints_syntax::{Kind, OwnedSegment, parse_number};
@@ -42,7 +42,7 @@ pub fn read_order(segment: &OwnedSegment, kind: Kind) -> Option<OrderParam>
 }
 
 fn has_order(segment: &OwnedSegment) -> bool
-    ensures { result ≡ tells (order_in segment.now) }
+    ensures { result ≡ is_some (order_in segment.now) }
 {
     match kind_of(segment.head.id) {
         None => false,

@@ -1,6 +1,5 @@
 -- The order table: which orders name an account, and how.
-use Rattle.std.specs.Prelude.{◌≡◌, codes, ℕ, ◌+◌, ◌<◌, ◌≤◌, ◌⊎◌, take, Bool, true, false, ◌&&◌, ◌||◌, not, ◌==◌, if◌then◌else◌, List, [], ◌∷◌, ◌++◌, length, map, find, Option, Some, None, option_map, option_and_then, Any, AllPairs}
-use Rattle.std.specs.List.{list_any}
+use Rattle.std.specs.Prelude.{◌≡◌, codes, ℕ, ◌+◌, ◌<◌, ◌≤◌, ◌⊎◌, take, Bool, true, false, ◌&&◌, ◌||◌, ◌==◌, if◌then◌else◌, List, [], ◌∷◌, ◌++◌, length, map, find, Option, Some, None, option_map, option_and_then, Any, AllPairs}
 use Rattle.std.specs.Str.{bytes_eq}
 use Rattle.toml.specs.Data.{Data, string, array, table, Members, get_member}
 use Rattle.fints_syntax.specs.Kind.{kind_from}
@@ -9,6 +8,7 @@ use Rattle.fints_rules.specs.declared.orders.AccountForm.TheVariants.{Nameless, 
 use Rattle.fints_rules.specs.declared.orders.OrderRow.{OrderRow}
 use Rattle.fints_rules.specs.declared.orders.TableFault.{TableFault}
 use Rattle.fints_rules.specs.declared.orders.TableFault.TheVariants as faults
+use Rattle.fints_rules.specs.Kinds.{is_plain_order}
 use Rattle.fints_documents.specs.Document.{document, item_list, only_keys, number_between}
 
 infixl 10 ◌>>=◌
@@ -17,14 +17,9 @@ o >>= f = option_and_then f o
 
 -- ---- a row
 
--- the administrative segments and HKTAN are no orders of the table
-abbrev pub reserved : List (List ℕ)
-reserved = codes "HKIDN" ∷ codes "HKVVB" ∷ codes "HKSYN" ∷ codes "HKEND" ∷ codes "HKTAN" ∷ []
-
--- five characters, the first two HK or DK
+-- five characters, the first two HK or DK; the administrative segments and HKTAN are no orders of the table
 abbrev pub is_order_kind : List ℕ → Bool
-is_order_kind text =
-    ((length text == 5) && (bytes_eq (take 2 text) (codes "HK") || bytes_eq (take 2 text) (codes "DK"))) && not (list_any (bytes_eq text) reserved)
+is_order_kind text = ((length text == 5) && (bytes_eq (take 2 text) (codes "HK") || bytes_eq (take 2 text) (codes "DK"))) && is_plain_order text
 
 unfoldable pub order_kind : Data → Option (List ℕ)
 order_kind (string text) = if is_order_kind text then kind_from text else None

@@ -1,8 +1,7 @@
 -- The rules, each over facts: those of a whole message, and those of a segment of its body. Facts are what a rule hangs on, and all that it hangs on.
-use Rattle.std.specs.Prelude.{codes, ◌≡◌, ◌≢◌, ◌⊎◌, ℕ, ◌*◌, ◌<◌, true, List, [], get_or, Option, Some, None, Any, Contains, IsTrue}
+use Rattle.std.specs.Prelude.{codes, ◌≡◌, ◌≢◌, ◌⊎◌, ℕ, ◌*◌, ◌<◌, true, List, [], get_or, Some, None, Any, Contains, IsTrue}
 use Rattle.fints_params.specs.Parameters.{Rows}
 use Rattle.fints_params.specs.declared.rows.BankRow.{BankRow}
-use Rattle.fints_params.specs.declared.rows.OrderParam.{OrderParam}
 use Rattle.fints_rules.specs.declared.facts.MessageFacts.{MessageFacts}
 use Rattle.fints_rules.specs.declared.orders.OrderRow.{OrderRow}
 use Rattle.fints_rules.specs.declared.orders.AccountForm.{AccountForm}
@@ -12,7 +11,7 @@ use Rattle.fints_rules.specs.declared.rule.Rule.TheVariants as rule
 use Rattle.fints_rules.specs.Accounts.{Account, account_of}
 use Rattle.fints_rules.specs.Kinds.{own_version, is_order, is_tan_order, is_plain_order}
 use Rattle.fints_rules.specs.Orders.{form_of}
-use Rattle.fints_rules.specs.Permits.{Granted, IsListed, IsListedWithTan, AllNeedMore, IsLocked}
+use Rattle.fints_rules.specs.Permits.{Granted, params_of, IsListed, IsListedWithTan, AllNeedMore, IsLocked}
 use Rattle.fints_rules.specs.SegmentFacts.{SegmentFactsValue}
 
 -- ---- the rules of a whole message
@@ -52,10 +51,6 @@ IsPlainOrder s = is_plain_order s.kind ≡ true
 abbrev pub IsTanOrder : SegmentFactsValue → Type 0
 IsTanOrder s = is_tan_order s.kind ≡ true
 
--- the row is of the segment's kind and version
-abbrev pub IsRowFor : SegmentFactsValue → OrderParam → Type 0
-IsRowFor s row = (row.kind ≡ s.kind) × (row.version ≡ s.version)
-
 -- the order table says how the order names its account, and this is the account
 pub record NamesAccount (table : List OrderRow) (s : SegmentFactsValue) (account : Account) : Type 0 where
   pub form : AccountForm
@@ -65,11 +60,11 @@ pub record NamesAccount (table : List OrderRow) (s : SegmentFactsValue) (account
 
 -- P5: an administrative segment has another version, or no row has the order's kind and version
 abbrev pub BreaksVersion : Rows → SegmentFactsValue → Type 0
-BreaksVersion rows s = ((version : ℕ) × (own_version s.kind ≡ Some version) × (s.version ≢ version)) ⊎ (IsOrder s × (Any (IsRowFor s) rows.orders → ⊥))
+BreaksVersion rows s = ((version : ℕ) × (own_version s.kind ≡ Some version) × (s.version ≢ version)) ⊎ (IsOrder s × (params_of s.kind s.version rows.orders ≡ []))
 
 -- P6: some row of the order's kind and version has a limit, and the message holds more orders of the kind
 abbrev pub BreaksOrders : Rows → SegmentFactsValue → Type 0
-BreaksOrders rows s = IsOrder s × Any (λ row. IsRowFor s row × (row.orders ≢ 0) × (row.orders < s.count)) rows.orders
+BreaksOrders rows s = IsOrder s × Any (λ row. (row.orders ≢ 0) × (row.orders < s.count)) (params_of s.kind s.version rows.orders)
 
 -- P7
 abbrev pub BreaksListed : Rows → SegmentFactsValue → Type 0
@@ -77,7 +72,7 @@ BreaksListed rows s = IsPlainOrder s × (IsListed rows.pins s.kind → ⊥)
 
 -- some row of the order's kind and version needs more signatures
 abbrev pub OrderNeedsMore : Rows → SegmentFactsValue → ℕ → Type 0
-OrderNeedsMore rows s signatures = Any (λ row. IsRowFor s row × (signatures < row.signatures)) rows.orders
+OrderNeedsMore rows s signatures = Any (λ row. signatures < row.signatures) (params_of s.kind s.version rows.orders)
 
 -- every entry of the order's account needs more signatures
 abbrev pub AccountNeedsMore : Rows → List OrderRow → SegmentFactsValue → ℕ → Type 0

@@ -5,9 +5,10 @@ ghost use Rattle.std.specs.Str.{bytes_eq};
 ghost use Rattle.toml.specs.Data.{array};
 ghost use Rattle.toml.specs.View.{view, table_view, items_view};
 ghost use Rattle.fints_rules.specs.declared.orders.TableFault.TheVariants.{Memory};
-ghost use Rattle.fints_rules.specs.Orders.{row_of, order_kind, is_order_kind, reserved, account_form, IsSameOrder, AreRows, IsTableAt, DenotesTable, IsTableFault, form_of};
+ghost use Rattle.fints_rules.specs.Orders.{row_of, order_kind, is_order_kind, account_form, IsSameOrder, AreRows, IsTableAt, DenotesTable, IsTableFault, form_of};
 ghost use Rattle.fints_rules.specs.OrderFaults.{IsRowFault, IsFaultAt, IsTableIn, IsFaultIn};
 
+use crate::kinds::is_plain_order;
 use fints_documents::document;
 use fints_documents::document::Unread;
 use fints_syntax::{Kind, Memory};
@@ -212,23 +213,19 @@ fn order_kind(value: &Value) -> Option<Kind>
     ensures { result ≡ order_kind (view value.now) }
 {
     let text = value.as_str()?;
-    if is_order_kind(text) {
-        Kind::parse(text.as_bytes())
+    let kind = Kind::parse(text.as_bytes())?;
+    if is_order_kind(text, kind) {
+        Some(kind)
     } else {
         None
     }
 }
 
-fn is_order_kind(text: &str) -> bool
+fn is_order_kind(text: &str, kind: Kind) -> bool
+    requires { kind ≡ text.now }
     ensures { result ≡ is_order_kind text.now }
 {
-    text.len() == 5 && (text.starts_with("HK") || text.starts_with("DK")) && !is_reserved(text)
-}
-
-fn is_reserved(text: &str) -> bool
-    ensures { result ≡ list_any (bytes_eq text.now) reserved }
-{
-    matches!(text, "HKIDN" | "HKVVB" | "HKSYN" | "HKEND" | "HKTAN")
+    text.len() == 5 && (text.starts_with("HK") || text.starts_with("DK")) && is_plain_order(kind)
 }
 
 #[tactic(auto, unfolding(crate::specs::Orders::account_form))]

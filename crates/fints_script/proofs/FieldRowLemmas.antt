@@ -5,8 +5,7 @@ use Rattle.std.specs.List.{AllZip}
 use Rattle.toml.specs.declared.value.Value.{Value}
 use Rattle.toml.specs.View.{view}
 use Rattle.fints_field_rows.specs.declared.fields.NamedField.{NamedField}
-use Rattle.fints_field_rows.specs.FieldFaults.{field_fault}
-use Rattle.fints_field_rows.specs.FieldTables.{IsFieldOf}
+use Rattle.fints_field_rows.specs.Fields.{IsFieldOf, field_fault}
 use Rattle.fints_script.specs.Scripts.{DenoteFields, look_at_field}
 
 all_zip_push : {A B : Type 0} (R : A → B → Type 0) (xs : List A) (ys : List B) (x : A) (y : B) → AllZip R xs ys → R x y → AllZip R (xs ++ x ∷ []) (ys ++ y ∷ [])

@@ -11,7 +11,7 @@ use Rattle.fints_fields.specs.declared.counted.Text.{Text}
 use Rattle.fints_fields.specs.declared.field.Field.{Field}
 use Rattle.fints_fields.specs.declared.field.Field.TheVariants as classes
 use Rattle.fints_field_rows.specs.Faults.{IsFirstFault}
-use Rattle.fints_field_rows.specs.FieldTables.{IsFieldOf}
+use Rattle.fints_field_rows.specs.Fields.{IsFieldOf}
 use Rattle.fints_field_rows.specs.Laws.{NoFirstWhereClean, OneField, OneFirstFault}
 use Rattle.fints_field_rows.specs.declared.fault.FaultKind.{FaultKind}
 use Rattle.fints_field_rows.specs.declared.fault.Place.{Place}

@@ -1,8 +1,8 @@
 -- The names of a read script's fields are pairwise different, and so are those of its steps.
-use Rattle.std.proofs.Common.{◌≡◌, ◌≢◌, ℕ, zero, suc, ◌<◌, Bool, true, false, ◌&&◌, not, cond, codes, List, [], ◌∷◌, length, get_or, map, take, AllPairs, Option, Some, None, refl, ap, subst, ◌∙◌, sym, arith}
+use Rattle.std.proofs.Common.{◌≡◌, ◌≢◌, ℕ, zero, suc, ◌<◌, Bool, true, false, ◌&&◌, not, cond, codes, List, [], ◌∷◌, length, get_or, map, take, AllPairs, Option, Some, None, Result, Ok, Err, refl, ap, subst, ◌∙◌, sym, arith}
 use Rattle.std.specs.Prelude.{option_and_then, is_some, slice_get}
 use Rattle.std.specs.List.{list_any, AllZip}
-use Rattle.std.specs.Str.{bytes_eq}
+use Rattle.std.specs.Result.{result_err}
 use Rattle.std.proofs.lemmas.Bool.{false≢true, or_parts, not-false, and_parts}
 use Rattle.std.proofs.lemmas.List.{get_or-map, length-map}
 use Rattle.std.proofs.lemmas.List.Kept.{AllPairs-cons}
@@ -14,8 +14,8 @@ use Rattle.fints_field_rows.specs.declared.fault.FaultKind.TheVariants as kinds
 use Rattle.fints_field_rows.specs.declared.fields.NamedField.{NamedField}
 use Rattle.fints_field_rows.specs.FaultOrder.{first_kind, none_of}
 use Rattle.fints_field_rows.specs.Faults.{AreClean}
-use Rattle.fints_field_rows.specs.FieldFaults.{class_of, class_has, field_has, field_fault, is_taken_field}
-use Rattle.fints_field_rows.specs.FieldTables.{IsFieldOf}
+use Rattle.fints_field_rows.specs.Fields.{IsFieldOf, class_value, field_fault, field_in}
+use Rattle.fints_field_rows.specs.FieldParts.{is_field}
 use Rattle.fints_field_rows.specs.RowNames.{is_name, is_no_name, name_of}
 use Rattle.fints_templates.specs.Signers.{is_taken}
 use Rattle.fints_script.specs.Numbered.{numbered_at}
@@ -77,22 +77,19 @@ zip_at R (z ∷ zs) [] k x d h e = absurd h
 zip_at R (z ∷ zs) (y ∷ ys) zero x d h e = subst (λ w. R w y) (same_Some z x e) h.0
 zip_at R (z ∷ zs) (y ∷ ys) (suc k) x d h e = zip_at R zs ys k x d h.1 e
 
+has_value : {X E : Type 0} (r : Result X E) → result_err r ≡ None → (x : X) × (r ≡ Ok x)
+has_value (Ok x) h = (x, refl)
+has_value (Err k) h = cc
+
 -- a field's row tells its name, which is not the built-in one's nor that of an earlier row
 named_field : (earlier : List Data) (row : Data) (field : NamedField) → field_fault earlier row ≡ None → IsFieldOf row field.name field.class
     → (name_in row ≡ Some field.name) × (field.name ≢ codes "dialog") × (list_any (is_named field.name) earlier ≡ false)
-unfolding field_has
-named_field earlier (table ms) field h is =
-    let double : field_has kinds.Duplicate earlier ms ≡ false = (none_of (λ kind. field_has kind earlier ms) h).double in
-    let taken = or_parts (is_taken_field earlier (text_at (codes "name") ms)) (class_has kinds.Duplicate (class_of ms) ms) double in
-    let free = subst (λ o. is_taken_field earlier o ≡ false) is.0 taken.0 in
-    let parts = or_parts (bytes_eq field.name (codes "dialog")) (list_any (is_named field.name) earlier) free in
-    (is.0, λ e. false≢true (sym parts.0 ∙ (bytes_eq-Decides field.name (codes "dialog")).1 e), parts.1)
-named_field earlier (string text) field h is = absurd is
-named_field earlier (integer z) field h is = absurd is
-named_field earlier (float f) field h is = absurd is
-named_field earlier (boolean b) field h is = absurd is
-named_field earlier (datetime t) field h is = absurd is
-named_field earlier (array ds) field h is = absurd is
+named_field earlier row field h is =
+    let read = has_value (field_in earlier row) h in
+    let one = is_field earlier row read.0.0 read.0.1 read.1 in
+    let two = is_field is.0 row field.name (class_value field.class) is.1 in
+    let same = same_Some read.0.0 field.name (sym one.named ∙ two.named) in
+    (two.named, two.no_dialog, subst (λ name. list_any (is_named name) earlier ≡ false) same one.new)
 
 pub fields_apart : (rows : List Data) (dialog : NamedField) (others : List NamedField) → IsDialogField dialog → AllZip (λ row (f : NamedField). IsFieldOf row f.name f.class) rows others
     → AreClean (look_at_field rows) rows (length rows) → AllPairs (λ (f g : NamedField). f.name ≢ g.name) (dialog ∷ others)

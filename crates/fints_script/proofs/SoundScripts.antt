@@ -16,7 +16,7 @@ use Rattle.fints_field_rows.specs.Faults.{AreClean}
 use Rattle.fints_templates.specs.Figures.{figures_of}
 use Rattle.fints_documents.specs.Entries.{has_key}
 use Rattle.fints_documents.specs.Tables.{is_set, is_no_array, is_no_list, is_no_flag, is_no_integer, rows_of, is_outside}
-use Rattle.fints_field_rows.specs.FieldTables.{IsFieldOf}
+use Rattle.fints_field_rows.specs.Fields.{IsFieldOf}
 use Rattle.fints_templates.specs.Signers.{signer_of}
 use Rattle.fints_script.specs.Steps.{StepValue, Surroundings, branch_has, target_has, keys_have, parts_have, step_has, step_value, step_fault, step_of, step_weight, has_large_segment, MAX_WEIGHT}
 use Rattle.fints_templates.specs.Segments.{template_of}

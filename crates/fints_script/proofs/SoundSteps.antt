@@ -10,7 +10,7 @@ use Rattle.std.proofs.lemmas.Slice.Eq.{bytes_eq-Decides}
 use Rattle.std.proofs.lemmas.List.Elements.{All-cons, All-nil}
 use Rattle.std.proofs.lemmas.List.Sums.{AllPass-from_list_all}
 use Rattle.toml.specs.Data.{Data, string, integer, float, boolean, datetime, array, table, Members, get_member, as_str}
-use Rattle.fints_syntax.specs.Kind.{IsKindText, IsKindByte, kind_from}
+use Rattle.fints_syntax.specs.Kind.{IsKindText, IsKindByte, kind_from, frame_kinds, is_frame_kind}
 use Rattle.fints_documents.specs.Document.{item_list, number_between}
 use Rattle.fints_field_rows.specs.declared.fault.FaultKind.{FaultKind}
 use Rattle.fints_field_rows.specs.declared.fault.FaultKind.TheVariants as kinds
@@ -23,7 +23,7 @@ use Rattle.fints_documents.specs.Tables.{is_outside, number_or, is_no_integer, i
 use Rattle.fints_templates.specs.Weights.{items_in, MAX_TEMPLATE_ITEMS}
 use Rattle.fints_templates.specs.Figures.{figures_of}
 use Rattle.fints_script.specs.Steps.{place_of_signer, signature_has, signature_value}
-use Rattle.fints_templates.specs.Segments.{frame_kinds, is_body_kind, is_no_kind, segment_keys_have, segment_has, kind_of, template_value, template_of}
+use Rattle.fints_templates.specs.Segments.{is_body_kind, is_no_kind, segment_keys_have, segment_has, kind_of, template_value, template_of}
 use Rattle.fints_script.specs.Sound.{IsSoundTemplate}
 use Rattle.fints_script.proofs.SoundElements.{body_elements, place_within}
 use Rattle.fints_script.proofs.SoundParts.{not_past}
@@ -81,7 +81,7 @@ pub record IsBodyKind (kind : List ℕ) : Type 0 where
 
 body_kind : (text : List ℕ) → not (is_body_kind text) ≡ false → IsBodyKind (kind_of (Some text))
 body_kind text h =
-    let parts = and_parts (is_some (kind_from text)) (not (list_any (bytes_eq text) frame_kinds)) (not-false _ h) in
+    let parts = and_parts (is_some (kind_from text)) (not (is_frame_kind text)) (not-false _ h) in
     let is = kind_some text parts.0 in
     subst IsBodyKind (sym (ap (λ o. unwrap_or o (codes "HKEND")) is.0)) (record { text = is.1; no_frame = no_frame_of text frame_kinds (not_true _ parts.1) })
   where

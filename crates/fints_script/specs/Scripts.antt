@@ -7,8 +7,7 @@ use Rattle.fints_documents.specs.Entries.{has_key}
 use Rattle.fints_documents.specs.Tables.{is_no_array, is_no_list, rows_of}
 use Rattle.fints_field_rows.specs.FaultOrder.{first_kind}
 use Rattle.fints_field_rows.specs.Faults.{AreClean, IsFirstFault}
-use Rattle.fints_field_rows.specs.FieldFaults.{field_fault}
-use Rattle.fints_field_rows.specs.FieldTables.{IsFieldOf}
+use Rattle.fints_field_rows.specs.Fields.{IsFieldOf, field_fault}
 use Rattle.fints_templates.specs.Figures.{figures_of}
 use Rattle.fints_templates.specs.Signers.{signer_fault, signer_of, seal_fault, seal_value}
 use Rattle.fints_script.specs.Steps.{Surroundings, StepValue, step_fault, step_of}

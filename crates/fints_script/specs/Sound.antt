@@ -1,13 +1,12 @@
 -- What holds of every script that was read.
 use Rattle.std.specs.Prelude.{◌≡◌, ◌≢◌, ℕ, ◌+◌, ◌<◌, ◌≤◌, ◌⊎◌, false, IsTrue, List, length, map, slice_get, Some, All, AllPairs, [], IfSome, IsSome}
-use Rattle.fints_syntax.specs.Kind.{IsKindText}
+use Rattle.fints_syntax.specs.Kind.{IsKindText, frame_kinds}
 use Rattle.fints_templates.specs.Figures.{figures_of}
 use Rattle.fints_field_rows.specs.NamedFields.{is_account_at}
 use Rattle.fints_script.specs.Numbered.{numbered}
 use Rattle.fints_script.specs.Plans.{is_account_field}
 use Rattle.fints_script.specs.Scripts.{ScriptValue, IsDialogField, MAX_FIELDS, MAX_SIGNERS, MAX_STEPS}
 use Rattle.fints_script.specs.Steps.{StepValue, Surroundings, step_weight, MAX_WEIGHT}
-use Rattle.fints_templates.specs.Segments.{frame_kinds}
 use Rattle.fints_templates.specs.Weights.{items_in, MAX_TEMPLATE_ITEMS}
 use Rattle.fints_cases.specs.declared.answers.Branch.{Branch}
 use Rattle.fints_cases.specs.declared.answers.Target.{Target}

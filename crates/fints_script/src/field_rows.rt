@@ -8,7 +8,7 @@ ghost use Rattle.fints_field_rows.specs.declared.fault.Place.TheVariants as plac
 
 use crate::rows::placed;
 use fints_field_rows::names::dialog;
-use fints_field_rows::{Fields, NamedField, Place, ScriptFault, field_fault, field_of};
+use fints_field_rows::{Fields, NamedField, Place, ScriptFault, field_in};
 use fints_fields::{Field, Text};
 use std::alloc::Global;
 use toml::Value;
@@ -33,11 +33,10 @@ pub fn read_fields(alloc: Global, rows: &[Value]) -> Result<Fields, ScriptFault>
     let mut fields = Vec::new(alloc);
     fields.push(dialog_field())?;
     for i in 0..rows.len() {
-        if let Some(kind) = field_fault(&rows[..i], &rows[i]) {
-            return Err(placed(kind, Place::Field(i as u16 + 1)));
+        match field_in(alloc, &rows[..i], &rows[i]) {
+            Ok(field) => fields.push(field)?,
+            Err(kind) => return Err(placed(kind, Place::Field(i as u16 + 1))),
         }
-        let (name, class) = field_of(alloc, &rows[i])?;
-        fields.push(NamedField { name, class })?;
     }
     Ok(Fields::new(alloc, fields)?)
 }

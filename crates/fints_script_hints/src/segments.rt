@@ -7,7 +7,7 @@ use fints_hint_words::elements::elements_slip;
 use fints_hint_words::keys::{Wanted, missing_key, no_table, unknown_key, wrong};
 use fints_hint_words::places::{Told, row_named, told_of};
 use fints_hint_words::quoting::Quoted;
-use fints_syntax::Kind;
+use fints_syntax::{Kind, is_frame_kind};
 use std::alloc::Global;
 use toml::{Table, Value};
 
@@ -33,16 +33,9 @@ fn wrong_key(table: &Table) -> Option<Wanted> {
     None
 }
 
-fn is_frame_kind(text: &str) -> bool {
-    matches!(
-        text,
-        "HNHBK" | "HNHBS" | "HNVSK" | "HNVSD" | "HNSHK" | "HNSHA"
-    )
-}
-
 fn kind_slip(alloc: Global, text: &str) -> Told {
     let shown = Quoted(text);
-    if is_frame_kind(text) {
+    if is_frame_kind(text.as_bytes()) {
         return Ok(Some(format!(in alloc;
             ": the kind {shown} is one of the frame, which the keys signers and sealed give a message"
         )?));

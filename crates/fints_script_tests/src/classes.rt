@@ -97,11 +97,11 @@ fn bytes(alloc: Global, text: &[u8]) -> Result<Bytes, Fail> {
 }
 
 fn one_of(alloc: Global, rows: &[&[u8]]) -> Result<Option<OneOf>, Fail> {
-    let mut texts = Texts::new(alloc);
+    let mut texts = Vec::new(alloc);
     for row in rows {
         texts.push(bytes(alloc, row)?)?;
     }
-    Ok(OneOf::new(texts))
+    Ok(OneOf::new(Texts::new(texts)))
 }
 
 #[test]
@@ -130,11 +130,11 @@ fn account_value(alloc: Global, row: &[&[u8]]) -> Result<AccountValue, Fail> {
 }
 
 fn account(alloc: Global, rows: &[&[&[u8]]]) -> Result<Option<Account>, Fail> {
-    let mut accounts = Accounts::new(alloc);
+    let mut accounts = Vec::new(alloc);
     for row in rows {
         accounts.push(account_value(alloc, row)?)?;
     }
-    Ok(Account::new(accounts))
+    Ok(Account::new(Accounts::new(accounts)))
 }
 
 const IBAN: &[&[u8]] = &[b"DE:111"];

@@ -131,21 +131,6 @@ same_piece p q ps qs x y h g e =
     let moved : segment_bytes p.elements ++ a ≡ segment_bytes p.elements ++ b = texts ∙ ap (λ (es : List (List Spelled)). segment_bytes es ++ b) (sym same) in
     (same, append_cancel_left (segment_bytes p.elements) a b moved)
 
-same_pieces : (ps qs : List Piece) (x y : List ℕ) → AllByRecursion IsPiece ps → AllByRecursion IsPiece qs → AllByRecursion IsBreak x → AllByRecursion IsBreak y
-    → flat_map piece_bytes ps ++ x ≡ flat_map piece_bytes qs ++ y → map (λ p. p.elements) ps ≡ map (λ p. p.elements) qs
-same_pieces [] [] x y h g b d e = refl
-same_pieces [] (q ∷ qs) x y h g b d e = absurd (no_piece q qs x y g.0 b (sym e))
-same_pieces (p ∷ ps) [] x y h g b d e = absurd (no_piece p ps y x h.0 d e)
-same_pieces (p ∷ ps) (q ∷ qs) x y h g b d e =
-    let s = same_piece p q ps qs x y h.0 g.0 e in
-    let more = same_pieces ps qs x y h.1 g.1 b d s.1 in
-    cc
-
--- a capture is one list of segments
-pub one_capture : (input : List ℕ) (s t : List (List (List Spelled))) → IsCapture input s → IsCapture input t → s ≡ t
-one_capture input s t (x, b, r) (y, d, q) =
-    sym r.segments_are ∙ same_pieces r.pieces q.pieces x y r.each q.each b d (sym r.text ∙ q.text) ∙ q.segments_are
-
 -- ---- bytes with a fault are no capture
 
 pub kind_only : (kind : SyntaxKind) (o : ℕ) (input : List ℕ) → KindAt kind o input → BeginsWithSegment (window_of input) → ⊥
@@ -171,7 +156,7 @@ goes_on (p ∷ ps) (q ∷ qs) x gap more first h g b d clean none e =
     goes_on ps qs x gap more first h.1 g.1 b d clean none (same_piece p q ps qs x (gap ++ first ∷ more) h.0 g.0 e).1
 
 pub no_capture_at : (input : List ℕ) (kind : SyntaxKind) (o : ℕ) (s : List (List (List Spelled))) → FaultsAt input kind o → IsCapture input s → ⊥
-no_capture_at input kind o s f (x, b, r) =
+no_capture_at input kind o s f (placed, (x, b, r), same) =
     goes_on r.pieces f.reads.pieces x f.gap f.more f.first r.each f.reads.each b f.breaks f.no_break (kind_only kind f.at (f.first ∷ f.more) f.fault) (sym r.text ∙ f.reads.text)
 
 no_capture : (input : List ℕ) (kind : SyntaxKind) (o : ℕ) (s : List (List (List Spelled))) → CaptureFaultAt kind o input → kind ≢ Memory → length input ≤ MAX_CAPTURE → IsCapture input s → ⊥

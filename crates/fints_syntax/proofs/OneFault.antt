@@ -1,5 +1,5 @@
 -- Bytes have one fault at most, and a capture's segments one list of places.
-use Rattle.std.proofs.Common.{◌≡◌, ◌≢◌, ◌⊎◌, ℕ, ◌+◌, ◌<◌, ◌≤◌, List, [], ◌∷◌, ◌++◌, length, drop, take, refl, ap, ◌∙◌, sym, subst, arith, inl, inr, append_assoc}
+use Rattle.std.proofs.Common.{◌≡◌, ◌≢◌, ◌⊎◌, ℕ, ◌+◌, ◌<◌, ◌≤◌, List, [], ◌∷◌, ◌++◌, length, map, drop, take, refl, ap, ◌∙◌, sym, subst, arith, inl, inr, append_assoc}
 use Rattle.std.specs.List.{AllByRecursion, flat_map}
 use Rattle.std.proofs.lemmas.Bool.{cases_lt}
 use Rattle.std.proofs.lemmas.List.{append-nil, length-append, length-drop, take_all}
@@ -147,6 +147,10 @@ same_places at (p ∷ ps) (q ∷ qs) x y h g c d e =
 pub one_placed : (input : List ℕ) (p q : List Placed) → IsPlacedCapture input p → IsPlacedCapture input q → p ≡ q
 one_placed input p q (x, b, r) (y, d, s) =
     sym r.placed_are ∙ (same_places 0 r.pieces s.pieces x y r.each s.each (tail_ends x b) (tail_ends y d) (sym r.text ∙ s.text)).0 ∙ s.placed_are
+
+-- a capture is one list of segments
+pub one_capture : (input : List ℕ) (s t : List (List (List Spelled))) → IsCapture input s → IsCapture input t → s ≡ t
+one_capture input s t (p, h, e) (q, g, d) = sym e ∙ ap (λ (x : List Placed). map (λ p. p.segment) x) (one_placed input p q h g) ∙ d
 
 -- ---- of a capture
 

@@ -1,8 +1,8 @@
 -- The laws of segment texts. Each is the contract of a public function, which a proof in a crate above calls for it.
-use Rattle.std.specs.Prelude.{◌≡◌, ◌≢◌, ◌≤◌, ◌↔◌, ◌++◌, ℕ, List, length, map, take, Some}
+use Rattle.std.specs.Prelude.{◌≡◌, ◌≢◌, ◌≤◌, ◌↔◌, ◌++◌, ℕ, List, length, take, Some}
 use Rattle.fints_syntax.specs.Spelling.{Spelled}
 use Rattle.fints_syntax.specs.Segment.{segment_bytes, values_of, head_of, IsFramed, IsSegment}
-use Rattle.fints_syntax.specs.Owned.{IsOwned}
+use Rattle.fints_syntax.specs.Owned.{segment_of}
 use Rattle.fints_syntax.specs.Faults.{BeginsWithSegment, IsFault, window_of}
 use Rattle.fints_syntax.specs.Capture.{IsCapture, IsPlacedCapture, IsCaptureFault, MAX_CAPTURE}
 use Rattle.fints_syntax.specs.Written.{segment_values, written_tree, written_segment, IsWritable}
@@ -42,13 +42,9 @@ NothingElseIsRead =
 pub record BeginsWithText (bytes : List ℕ) (s : OwnedSegment) (len : ℕ) : Type 0 where
   pub elements : List (List Spelled)
   pub segment : IsSegment elements
-  pub values : IsOwned elements s
+  pub values : s ≡ segment_of elements
   pub text : take len bytes ≡ segment_bytes elements
   pub within : len ≤ length bytes
-
--- elements have one list of values
-abbrev pub OneOwnedSegment : Type 0
-OneOwnedSegment = (es : List (List Spelled)) (s t : OwnedSegment) → IsOwned es s → IsOwned es t → s ≡ t
 
 -- bytes begin with a text of one segment at most, and that text has one length
 abbrev pub OneReading : Type 0
@@ -77,10 +73,6 @@ NoCaptureAtFault = (input : List ℕ) (f : SyntaxFault) (s : List (List (List Sp
 -- the segments of a capture stand at one list of places
 abbrev pub OnePlacedCapture : Type 0
 OnePlacedCapture = (input : List ℕ) (p q : List Placed) → IsPlacedCapture input p → IsPlacedCapture input q → p ≡ q
-
--- placed segments, without their places, are the segments of the capture
-abbrev pub PlacedIsCapture : Type 0
-PlacedIsCapture = (input : List ℕ) (placed : List Placed) → IsPlacedCapture input placed → IsCapture input (map (λ p. p.segment) placed)
 
 -- a capture has one fault at most, but for want of memory: one kind, and one offset
 abbrev pub OneCaptureFault : Type 0

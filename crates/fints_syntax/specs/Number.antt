@@ -7,5 +7,6 @@ use Rattle.std.specs.Str.Parse.{digits_value}
 abbrev pub number_in : ℕ → ℕ → List ℕ → Option ℕ
 number_in least most bytes = if (all_ascii_digits bytes && nat_le least (length bytes) && nat_le (length bytes) most) then Some (digits_value 10 bytes) else None
 
-abbrev pub number_from : ℕ → List ℕ → Option ℕ
-number_from most bytes = number_in 1 most bytes
+-- a number has 1 to 9 digits
+abbrev pub number_of : List ℕ → Option ℕ
+number_of bytes = number_in 1 9 bytes

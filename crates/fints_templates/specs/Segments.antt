@@ -1,9 +1,7 @@
 -- Which faults stand in a segment's table, and the template that it is.
 use Rattle.std.specs.Prelude.{codes, ℕ, Bool, true, false, ◌&&◌, ◌||◌, not, List, [], ◌∷◌, Option, Some, None, is_some, unwrap_or}
-use Rattle.std.specs.List.{list_any}
-use Rattle.std.specs.Str.{bytes_eq}
 use Rattle.toml.specs.Data.{Data, string, table, Members, get_member}
-use Rattle.fints_syntax.specs.Kind.{kind_from}
+use Rattle.fints_syntax.specs.Kind.{kind_from, is_frame_kind}
 use Rattle.fints_documents.specs.Document.{only_keys}
 use Rattle.fints_documents.specs.Entries.{has_key, text_at}
 use Rattle.fints_documents.specs.Tables.{is_outside, number_or, is_no_integer}
@@ -13,13 +11,9 @@ use Rattle.fints_field_rows.specs.declared.fields.NamedField.{NamedField}
 use Rattle.fints_templates.specs.Elements.{elements_have, elements_value, is_wrong_kind}
 use Rattle.fints_templates.specs.declared.template.Template.{Template}
 
--- the identifiers of the frame, which no step names
-abbrev pub frame_kinds : List (List ℕ)
-frame_kinds = codes "HNHBK" ∷ codes "HNHBS" ∷ codes "HNVSK" ∷ codes "HNVSD" ∷ codes "HNSHK" ∷ codes "HNSHA" ∷ []
-
--- an identifier, and none of the frame
+-- an identifier, and none of the frame, which no step names
 abbrev pub is_body_kind : List ℕ → Bool
-is_body_kind text = is_some (kind_from text) && not (list_any (bytes_eq text) frame_kinds)
+is_body_kind text = is_some (kind_from text) && not (is_frame_kind text)
 
 abbrev pub is_no_kind : Option Data → Bool
 is_no_kind None = false

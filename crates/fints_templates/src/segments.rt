@@ -1,9 +1,8 @@
 //! Segments of steps.
 ghost use Rattle.std.specs.Prelude.{◌≡◌, codes, map, option_map, IfOk, Some, true};
 ghost use Rattle.std.specs.List.{list_any};
-ghost use Rattle.std.specs.Str.{bytes_eq};
 ghost use Rattle.toml.specs.View.{view, table_view};
-ghost use Rattle.fints_templates.specs.Segments.{frame_kinds, is_body_kind, is_no_kind, segment_keys_have, segment_has, kind_of, template_value, template_of};
+ghost use Rattle.fints_templates.specs.Segments.{is_body_kind, is_no_kind, segment_keys_have, segment_has, kind_of, template_value, template_of};
 
 use crate::element_faults::{elements_have, is_wrong_kind};
 use crate::element_values::elements_value;
@@ -12,23 +11,14 @@ use fints_documents::document;
 use fints_documents::entries::{has_key, text_at};
 use fints_documents::tables::{is_no_integer, is_outside, number_or};
 use fints_field_rows::{FaultKind, Fields};
-use fints_syntax::{Kind, Memory};
+use fints_syntax::{Kind, Memory, is_frame_kind};
 use std::alloc::Global;
 use toml::{Table, Value};
-
-fn is_frame_kind(text: &str) -> bool
-    ensures { result ≡ list_any (bytes_eq text.now) frame_kinds }
-{
-    matches!(
-        text,
-        "HNHBK" | "HNHBS" | "HNVSK" | "HNVSD" | "HNSHK" | "HNSHA"
-    )
-}
 
 fn is_body_kind(text: &str) -> bool
     ensures { result ≡ is_body_kind text.now }
 {
-    Kind::parse(text.as_bytes()).is_some() && !is_frame_kind(text)
+    Kind::parse(text.as_bytes()).is_some() && !is_frame_kind(text.as_bytes())
 }
 
 fn is_no_kind(value: Option<&Value>) -> bool

@@ -10,7 +10,7 @@ use Rattle.fints_rules.specs.Orders.{DenotesTable, IsTableFault}
 use Rattle.fints_rules.specs.declared.orders.TableFault.{TableFault}
 use Rattle.fints_rules.specs.declared.orders.TableFault.TheVariants as table_faults
 use Rattle.fints_rules.specs.Breaks.{IsJudged}
-use Rattle.fints_messages.specs.Read.{IsRefusal}
+use Rattle.fints_messages.specs.Messages.{IsNoMessage}
 use Rattle.fints_messages.specs.declared.message.JudgeFault.{JudgeFault}
 use Rattle.fints_messages.specs.declared.message.JudgeFault.TheVariants as message_faults
 use Rattle.fints_rules.specs.RuleNames.{rule_name}
@@ -62,7 +62,7 @@ IsTableRefusal orders f = IsTableFault orders f
 -- why bytes are no message, which is never want of memory
 abbrev pub IsStop : List ℕ → JudgeFault → Type 0
 IsStop message message_faults.Memory = ⊥
-IsStop message (message_faults.NotAMessage offset) = IsRefusal message (message_faults.NotAMessage offset)
+IsStop message (message_faults.NotAMessage offset) = IsNoMessage message offset
 
 -- want of memory, or the refusal of the message
 abbrev pub IsMessageRefusal : List ℕ → Fault → Type 0

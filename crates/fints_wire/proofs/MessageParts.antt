@@ -17,7 +17,7 @@ use Rattle.fints_messages.specs.declared.part.Part.TheVariants.{Opener, Body, En
 use Rattle.fints_script.specs.Scripts.{ScriptValue}
 use Rattle.fints_script.specs.Sound.{IsSoundStep}
 use Rattle.fints_script.specs.Steps.{StepValue}
-use Rattle.fints_templates.specs.Segments.{frame_kinds}
+use Rattle.fints_syntax.specs.Kind.{frame_kinds}
 use Rattle.fints_templates.specs.declared.template.Signer.{Signer}
 use Rattle.fints_templates.specs.declared.template.Template.{Template}
 use Rattle.fints_wire.specs.Filling.{FillingValue, filled_segment, filled_segments, make_segment}
@@ -72,12 +72,12 @@ body_part : (s : OwnedSegment) → All (IsOther s.head.id) frame_kinds → part_
 body_part s h =
     let kind : List ℕ = s.head.id in
     let a = other_kind (codes "HNHBK") kind (h 0 [] (omega arith)) in
-    let b = other_kind (codes "HNHBS") kind (h 1 [] (omega arith)) in
-    let c = other_kind (codes "HNVSK") kind (h 2 [] (omega arith)) in
-    let d = other_kind (codes "HNVSD") kind (h 3 [] (omega arith)) in
-    let e = other_kind (codes "HNSHK") kind (h 4 [] (omega arith)) in
-    let f = other_kind (codes "HNSHA") kind (h 5 [] (omega arith)) in
-    rw (e, f, a, b, c, d) refl
+    let b = other_kind (codes "HNVSK") kind (h 1 [] (omega arith)) in
+    let c = other_kind (codes "HNVSD") kind (h 2 [] (omega arith)) in
+    let d = other_kind (codes "HNSHK") kind (h 3 [] (omega arith)) in
+    let e = other_kind (codes "HNSHA") kind (h 4 [] (omega arith)) in
+    let f = other_kind (codes "HNHBS") kind (h 5 [] (omega arith)) in
+    rw (d, e, a, b, c, f) refl
 
 -- ---- between the first segment and the last
 

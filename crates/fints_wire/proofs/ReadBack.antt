@@ -12,7 +12,9 @@ use Rattle.fints_syntax.specs.Number.{number_in}
 use Rattle.fints_syntax.specs.Segment.{values_of, head_of, IsSegment}
 use Rattle.fints_syntax.specs.Written.{written_segment, written_tree, IsWritable}
 use Rattle.fints_syntax.specs.declared.item.OwnedSegment.{OwnedSegment}
-use Rattle.fints_messages.specs.Segments.{no_head, number_of, segment_of, segments_of, text_of, IsText}
+use Rattle.fints_syntax.specs.Number.{number_of}
+use Rattle.fints_syntax.specs.Owned.{no_head, segment_of, segments_of}
+use Rattle.fints_messages.specs.Segments.{text_of, IsText}
 use Rattle.fints_wire.specs.Messages.{segments_text, twelve_digits}
 use Rattle.fints_wire.proofs.Counting.{twelve_digits-len}
 

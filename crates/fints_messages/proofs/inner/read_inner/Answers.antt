@@ -1,5 +1,5 @@
 use Rattle.std.proofs.Common.{◌≡◌, ◌++◌, ◌∷◌, [], length, drop, refl, sym, subst, arith, length-append, true, false}
-use Rattle.fints_messages.specs.Segments.{segment_of}
+use Rattle.fints_syntax.specs.Owned.{segment_of}
 use Rattle.fints_messages.specs.Front.{IsNext, CanStand}
 use Rattle.fints_messages.proofs.Fronts.{front_opener, front_body, front_ender, front_within, none_stands, after_opener, after_body, after_ender}
 use Rattle.fints_messages.proofs.inner.read_inner.Goals as goal

@@ -1,5 +1,5 @@
 use Rattle.std.proofs.Common.{◌≡◌, length, drop, refl, subst, arith, false, true}
-use Rattle.fints_messages.specs.Segments.{segment_of}
+use Rattle.fints_syntax.specs.Owned.{segment_of}
 use Rattle.fints_messages.specs.Front.{IsNext, HasNoNext, IsEndOf}
 use Rattle.fints_messages.proofs.Tails.{stop_none, stop_here, stop_after, whole}
 use Rattle.fints_messages.proofs.plain.read_tail.Goals as goal

@@ -1,5 +1,5 @@
 use Rattle.std.proofs.Common.{◌≡◌, length, drop, refl, subst, arith, false, true}
-use Rattle.fints_messages.specs.Segments.{segment_of, segments_of}
+use Rattle.fints_syntax.specs.Owned.{segment_of, segments_of}
 use Rattle.fints_messages.specs.Front.{IsNext, HasNoNext, IsEndOf, IsOpened, EnvelopeIs}
 use Rattle.fints_messages.proofs.Seals.{stop_first, stop_closed, stop_envelope, stop_other, stop_last, whole_rest}
 use Rattle.fints_messages.proofs.sealed.read_rest.Goals as goal

@@ -2,31 +2,10 @@ use Rattle.fints_params.proofs.OneMeaning.{one_codes, one_code_fault, no_codes_a
 use Rattle.fints_params.proofs.laws.one_codes.Goals as goal
 
 pub returns-clause-codes : goal.returns-clause-codes
-returns-clause-codes c = one_codes (record {
-  owned = c.one_owned_segment.ensures.values;
-  capture = c.one_capture.ensures;
-  placed = c.one_placed_capture.ensures.places;
-  segments = c.one_placed_capture.ensures.segments;
-  fault = c.one_fault.ensures.capture;
-  not_both = c.one_fault.ensures.no_capture;
-})
+returns-clause-codes c = one_codes c.syntax_laws.ensures
 
 pub returns-clause-refusal : goal.returns-clause-refusal
-returns-clause-refusal c = one_code_fault (record {
-  owned = c.one_owned_segment.ensures.values;
-  capture = c.one_capture.ensures;
-  placed = c.one_placed_capture.ensures.places;
-  segments = c.one_placed_capture.ensures.segments;
-  fault = c.one_fault.ensures.capture;
-  not_both = c.one_fault.ensures.no_capture;
-})
+returns-clause-refusal c = one_code_fault c.syntax_laws.ensures
 
 pub returns-clause-not_both : goal.returns-clause-not_both
-returns-clause-not_both c = no_codes_at_fault (record {
-  owned = c.one_owned_segment.ensures.values;
-  capture = c.one_capture.ensures;
-  placed = c.one_placed_capture.ensures.places;
-  segments = c.one_placed_capture.ensures.segments;
-  fault = c.one_fault.ensures.capture;
-  not_both = c.one_fault.ensures.no_capture;
-})
+returns-clause-not_both c = no_codes_at_fault c.syntax_laws.ensures

@@ -1,11 +1,11 @@
 use Rattle.std.proofs.Common.{◌≡◌, ◌≢◌, ◌<◌, ℕ, true, false, subst}
 use Rattle.std.specs.Prelude.{IsTrue, ◌↔◌}
-use Rattle.fints_rules.proofs.RowLemmas.{no_row_allows, limit_allows}
+use Rattle.fints_rules.proofs.RowLemmas.{none_among, limit_allows}
 use Rattle.fints_rules.proofs.segments.row_allows_fewer.Goals as goal
 
 pub returns-in-None : goal.returns-in-None
 returns-in-None c =
-    (λ h. let no_match : false ≡ true = h in cc, λ any. absurd (no_row_allows c.args.segment.now c.args.permissions.now.rows.orders c.args.segment.now.count (rw (c.kind.ensures, c.version.ensures) at c.in-None.ensures) any))
+    (λ h. let no_match : false ≡ true = h in cc, λ any. absurd (none_among _ c.args.segment.now c.args.permissions.now.rows.orders (rw (c.kind.ensures, c.version.ensures) at c.in-None.ensures) any))
 
 pub returns-in-Some : goal.returns-in-Some
 returns-in-Some c =

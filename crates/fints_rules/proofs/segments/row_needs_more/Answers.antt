@@ -1,10 +1,10 @@
 use Rattle.std.proofs.Common.{◌≡◌, true, false}
 use Rattle.std.proofs.lemmas.Bool.Decides.{Decides-ltb}
-use Rattle.fints_rules.proofs.RowLemmas.{no_row_needs, limit_needs}
+use Rattle.fints_rules.proofs.RowLemmas.{none_among, limit_needs}
 use Rattle.fints_rules.proofs.segments.row_needs_more.Goals as goal
 
 pub returns-in-None : goal.returns-in-None
-returns-in-None c = (λ h. let no_match : false ≡ true = h in cc, λ any. absurd (no_row_needs c.args.segment.now c.args.permissions.now.rows.orders c.args.signatures (rw (c.kind.ensures, c.version.ensures) at c.in-None.ensures) any))
+returns-in-None c = (λ h. let no_match : false ≡ true = h in cc, λ any. absurd (none_among _ c.args.segment.now c.args.permissions.now.rows.orders (rw (c.kind.ensures, c.version.ensures) at c.in-None.ensures) any))
 
 pub returns-in-Some : goal.returns-in-Some
 returns-in-Some c =

@@ -1,0 +1,175 @@
+-- What an entry of `field` is: the name and class of a field, or the first kind of fault in it.
+use Rattle.std.specs.Prelude.{◌≡◌, codes, ℕ, nat_le, nat_lt, Bool, true, false, ◌&&◌, ◌||◌, if◌then◌else◌, List, [], ◌∷◌, length, Option, Ok, Err, ok_or}
+use Rattle.std.specs.Cmp.Lexicographic.{pointwise}
+use Rattle.std.specs.List.{list_all, list_any}
+use Rattle.std.specs.Result.{result_err}
+use Rattle.std.specs.Str.{bytes_eq}
+use Rattle.toml.specs.Data.{Data, string, integer, array, table, Members}
+use Rattle.fints_documents.specs.Document.{item_list, number_between, only_keys}
+use Rattle.fints_documents.specs.Entries.{is_named}
+use Rattle.fints_field_rows.specs.Parts.{Part, ◌>>=◌, both, each, required}
+use Rattle.fints_field_rows.specs.RowNames.{is_name}
+use Rattle.fints_field_rows.specs.Texts.{is_latin1, latin1}
+use Rattle.fints_fields.specs.declared.field.Field.{Field}
+use Rattle.fints_fields.specs.declared.field.Field.TheVariants as fields
+use Rattle.fints_field_rows.specs.declared.fault.FaultKind.{FaultKind}
+use Rattle.fints_field_rows.specs.declared.fault.FaultKind.TheVariants as kinds
+use Rattle.fints_field_rows.specs.declared.field_class.ClassName.{ClassName}
+use Rattle.fints_field_rows.specs.declared.field_class.ClassName.TheVariants as names
+
+-- what is seen of a field: its class, with the bounds or the listed values
+pub data ClassValue : Type 0 where
+  digits : ℕ → ℕ → ClassValue
+  plain : ℕ → ℕ → ClassValue
+  text : ℕ → ℕ → ClassValue
+  bin : ℕ → ℕ → ClassValue
+  oneof : List (List ℕ) → ClassValue
+  account : List (List (List ℕ)) → ClassValue
+
+abbrev pub class_value : Field → ClassValue
+class_value (fields.Digits c) = digits c.min c.max
+class_value (fields.Plain c) = plain c.min c.max
+class_value (fields.Text c) = text c.min c.max
+class_value (fields.Bin c) = bin c.min c.max
+class_value (fields.OneOf c) = oneof c.values
+class_value (fields.Account c) = account c.values
+
+-- ---- bounds
+
+-- 0 to 10,000
+abbrev pub length_in : Data → Part ℕ
+length_in (integer z) = ok_or (number_between 0 10000 (integer z)) kinds.Limit
+length_in _ = Err kinds.WrongKind
+
+abbrev pub length_at : List ℕ → Members → Part ℕ
+length_at key ms = required key ms >>= length_in
+
+abbrev pub lengths_in : Members → Part (ℕ × ℕ)
+lengths_in ms = both (length_at (codes "min") ms) (length_at (codes "max") ms)
+
+-- a class of these bounds, from a least one on
+abbrev pub sized : ℕ → (ℕ → ℕ → ClassValue) → ℕ × ℕ → Part ClassValue
+sized least class (min, max) = if nat_le least min && nat_le min max then Ok (class min max) else Err kinds.Limit
+
+-- ---- listed values
+
+-- the entries of an array
+abbrev pub entries_of : Data → Part (List Data)
+entries_of (array ds) = Ok (item_list ds)
+entries_of _ = Err kinds.WrongKind
+
+-- the bytes of a text, one for each character
+abbrev pub text_in : Data → Part (List ℕ)
+text_in (string s) = if is_latin1 s then Ok (latin1 s) else Err kinds.NotLatin1
+text_in _ = Err kinds.WrongKind
+
+-- an account has 1 to 6 texts
+abbrev pub is_item_count : ℕ → Bool
+is_item_count n = nat_lt 0 n && nat_le n 6
+
+abbrev pub account_of : List Data → Part (List (List ℕ))
+account_of ds = if is_item_count (length ds) then each text_in ds else Err kinds.WrongKind
+
+abbrev pub account_in : Data → Part (List (List ℕ))
+account_in d = entries_of d >>= account_of
+
+abbrev pub listed_in : Members → Part (List Data)
+listed_in ms = required (codes "values") ms >>= entries_of
+
+-- some value is the same as a later one
+abbrev pub some_are_same : {X : Type 0} → (X → X → Bool) → List X → Bool
+some_are_same same [] = false
+some_are_same same (x ∷ xs) = list_any (same x) xs || some_are_same same xs
+
+-- 1 to 100 values
+abbrev pub is_value_count : ℕ → Bool
+is_value_count n = nat_lt 0 n && nat_le n 100
+
+abbrev pub is_short : List ℕ → Bool
+is_short s = nat_le (length s) 10000
+
+-- a class of these values: no two are the same, there are neither none nor too many, and each fits
+abbrev pub listing : {X : Type 0} → (X → X → Bool) → (X → Bool) → (List X → ClassValue) → List X → Part ClassValue
+listing same fits class values =
+    if some_are_same same values then Err kinds.Duplicate
+    else if is_value_count (length values) && list_all fits values then Ok (class values)
+    else Err kinds.Limit
+
+abbrev pub texts_class : List (List ℕ) → Part ClassValue
+texts_class texts = listing bytes_eq is_short oneof texts
+
+abbrev pub accounts_class : List (List (List ℕ)) → Part ClassValue
+accounts_class accounts = listing (pointwise bytes_eq) (list_all is_short) account accounts
+
+-- ---- the class
+
+abbrev pub class_named : List ℕ → Part ClassName
+class_named name =
+    if bytes_eq name (codes "digits") then Ok names.Digits
+    else if bytes_eq name (codes "plain") then Ok names.Plain
+    else if bytes_eq name (codes "text") then Ok names.Text
+    else if bytes_eq name (codes "bin") then Ok names.Bin
+    else if bytes_eq name (codes "oneof") then Ok names.OneOf
+    else if bytes_eq name (codes "account") then Ok names.Account
+    else Err kinds.WrongKind
+
+abbrev pub class_name_in : Data → Part ClassName
+class_name_in (string name) = class_named name
+class_name_in _ = Err kinds.WrongKind
+
+unfoldable pub class_of : Members → Part ClassName
+class_of ms = required (codes "class") ms >>= class_name_in
+
+-- the class of this name that a table's keys give
+unfoldable pub class_with : Members → ClassName → Part ClassValue
+class_with ms names.Digits = lengths_in ms >>= sized 0 digits
+class_with ms names.Plain = lengths_in ms >>= sized 0 plain
+class_with ms names.Text = lengths_in ms >>= sized 0 text
+class_with ms names.Bin = lengths_in ms >>= sized 1 bin
+class_with ms names.OneOf = listed_in ms >>= each text_in >>= texts_class
+class_with ms names.Account = listed_in ms >>= each account_in >>= accounts_class
+
+abbrev pub class_in : Members → Part ClassValue
+class_in ms = class_of ms >>= class_with ms
+
+-- ---- the whole entry
+
+-- the classes with `min` and `max`; the others have `values`
+abbrev pub is_sized : ClassName → Bool
+is_sized names.OneOf = false
+is_sized names.Account = false
+is_sized _ = true
+
+-- the keys that a field may have; where it has no class, those of any
+abbrev pub field_keys : Part ClassName → List (List ℕ)
+field_keys (Err kind) = codes "name" ∷ codes "class" ∷ codes "min" ∷ codes "max" ∷ codes "values" ∷ []
+field_keys (Ok class) = if is_sized class then codes "name" ∷ codes "class" ∷ codes "min" ∷ codes "max" ∷ [] else codes "name" ∷ codes "class" ∷ codes "values" ∷ []
+
+-- a name that no earlier entry has, nor the built-in field
+unfoldable pub new_name : List Data → List ℕ → Part (List ℕ)
+new_name earlier name =
+    if is_name name then if bytes_eq name (codes "dialog") || list_any (is_named name) earlier then Err kinds.Duplicate else Ok name
+    else Err kinds.WrongKind
+
+abbrev pub name_of_field : List Data → Data → Part (List ℕ)
+name_of_field earlier (string name) = new_name earlier name
+name_of_field earlier _ = Err kinds.WrongKind
+
+abbrev pub name_at : List Data → Members → Part (List ℕ)
+name_at earlier ms = required (codes "name") ms >>= name_of_field earlier
+
+unfoldable pub table_field : List Data → Members → Part (List ℕ × ClassValue)
+table_field earlier ms = if only_keys (field_keys (class_of ms)) ms then both (name_at earlier ms) (class_in ms) else Err kinds.UnknownKey
+
+-- the name and the class of an entry behind earlier ones
+abbrev pub field_in : List Data → Data → Part (List ℕ × ClassValue)
+field_in earlier (table ms) = table_field earlier ms
+field_in earlier _ = Err kinds.WrongKind
+
+-- the fault of an entry, if it has one
+abbrev pub field_fault : List Data → Data → Option FaultKind
+field_fault earlier entry = result_err (field_in earlier entry)
+
+-- the entry, behind some earlier ones, is the field of this name
+abbrev pub IsFieldOf : Data → List ℕ → Field → Type 0
+IsFieldOf entry name field = (earlier : List Data) × (field_in earlier entry ≡ Ok (name, class_value field))

@@ -1,0 +1,103 @@
+//! Fields read from the entries of `field`.
+ghost use Rattle.std.specs.Prelude.{◌≡◌, map};
+ghost use Rattle.toml.specs.View.{table_view, view};
+ghost use Rattle.fints_field_rows.specs.Fields.{class_in, class_value, class_with, field_in, name_at, name_of_field, new_name, table_field};
+ghost use Rattle.fints_field_rows.specs.Parts.{Gives};
+
+use crate::fault::FaultKind;
+use crate::field_class::{ClassName, class_of, only_field_keys};
+use crate::field_values::{
+    accounts_class, accounts_in, lengths_in, listed_in, texts_class, texts_in,
+};
+use crate::fields::NamedField;
+use crate::names::parsed;
+use crate::parts::{both, required};
+use fints_documents::entries::some_is_named;
+use fints_fields::{Bin, Digits, Field, Name, Plain, Text};
+use std::alloc::Global;
+use toml::{Table, Value};
+
+#[tactic(auto, unfolding(crate::specs::Fields::new_name))]
+fn new_name(earlier: &[Value], text: &str) -> Result<Name, FaultKind>
+    ensures { result ≡ new_name (map view earlier.now) text.now }
+{
+    match parsed(text) {
+        None => Err(FaultKind::WrongKind),
+        Some(_) if text == "dialog" || some_is_named(text, earlier) => Err(FaultKind::Duplicate),
+        Some(name) => Ok(name),
+    }
+}
+
+fn name_of_field(earlier: &[Value], value: &Value) -> Result<Name, FaultKind>
+    ensures { result ≡ name_of_field (map view earlier.now) (view value.now) }
+{
+    match value {
+        Value::String(text) => new_name(earlier, text.as_str()),
+        _ => Err(FaultKind::WrongKind),
+    }
+}
+
+fn name_at(earlier: &[Value], table: &Table) -> Result<Name, FaultKind>
+    ensures { result ≡ name_at (map view earlier.now) (table_view table.now) }
+{
+    name_of_field(earlier, required(table, "name")?)
+}
+
+/// The class of this name that a table's keys give.
+#[tactic(auto, unfolding(crate::specs::Fields::class_with))]
+fn class_with(alloc: Global, table: &Table, class: ClassName) -> Result<Field, FaultKind>
+    ensures { Gives class_value result (class_with (table_view table.now) class) }
+{
+    match class {
+        ClassName::Digits => {
+            let (min, max) = lengths_in(table)?;
+            let class = Digits::new(min, max).ok_or(FaultKind::Limit)?;
+            Ok(Field::Digits(class))
+        }
+        ClassName::Plain => {
+            let (min, max) = lengths_in(table)?;
+            let class = Plain::new(min, max).ok_or(FaultKind::Limit)?;
+            Ok(Field::Plain(class))
+        }
+        ClassName::Text => {
+            let (min, max) = lengths_in(table)?;
+            let class = Text::new(min, max).ok_or(FaultKind::Limit)?;
+            Ok(Field::Text(class))
+        }
+        ClassName::Bin => {
+            let (min, max) = lengths_in(table)?;
+            let class = Bin::new(min, max).ok_or(FaultKind::Limit)?;
+            Ok(Field::Bin(class))
+        }
+        ClassName::OneOf => texts_class(texts_in(alloc, listed_in(table)?)?),
+        ClassName::Account => accounts_class(accounts_in(alloc, listed_in(table)?)?),
+    }
+}
+
+fn class_in(alloc: Global, table: &Table) -> Result<Field, FaultKind>
+    ensures { Gives class_value result (class_in (table_view table.now)) }
+{
+    class_with(alloc, table, class_of(table)?)
+}
+
+#[tactic(auto, unfolding(crate::specs::Fields::table_field))]
+fn table_field(alloc: Global, earlier: &[Value], table: &Table) -> Result<NamedField, FaultKind>
+    ensures { Gives (λ f. (f.name, class_value f.class)) result (table_field (map view earlier.now) (table_view table.now)) }
+{
+    if !only_field_keys(class_of(table), table) {
+        return Err(FaultKind::UnknownKey);
+    }
+    let (name, class) = both(name_at(earlier, table), class_in(alloc, table))?;
+    Ok(NamedField { name, class })
+}
+
+/// The name and the class of an entry of `field` behind earlier ones, or its first fault in the
+/// order of the kinds.
+pub fn field_in(alloc: Global, earlier: &[Value], entry: &Value) -> Result<NamedField, FaultKind>
+    ensures { Gives (λ f. (f.name, class_value f.class)) result (field_in (map view earlier.now) (view entry.now)) }
+{
+    match entry {
+        Value::Table(table) => table_field(alloc, earlier, table),
+        _ => Err(FaultKind::WrongKind),
+    }
+}

@@ -1,6 +1,0 @@
-use Rattle.std.proofs.Common.{◌≡◌, take}
-use Rattle.fints_messages.specs.Segments.{segments_of}
-use Rattle.fints_messages.proofs.message.owned_segments.Given as goal
-
-abbrev pub invariant-loop-view : goal.invariant-loop-view
-invariant-loop-view l = l.owned.items ≡ segments_of (take l.view-index l.views)

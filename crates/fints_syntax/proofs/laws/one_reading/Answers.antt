@@ -1,0 +1,5 @@
+use Rattle.fints_syntax.proofs.Readings.{one_reading}
+use Rattle.fints_syntax.proofs.laws.one_reading.Goals as goal
+
+pub returns : goal.returns
+returns c = one_reading
