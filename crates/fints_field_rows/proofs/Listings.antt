@@ -8,11 +8,10 @@ use Rattle.std.proofs.lemmas.Bool.Decides.{Decides-by_and, nat_tests}
 use Rattle.std.proofs.lemmas.List.Kept.{AllPairs-cons}
 use Rattle.std.proofs.lemmas.Slice.Eq.{bytes_eq-Decides, slice_eq-Decides}
 use Rattle.fints_fields.specs.Listed.{IsAccountList, IsShort}
-use Rattle.fints_field_rows.specs.Fields.{ClassValue, account, account_in, account_of, accounts_class, entries_of, is_item_count, is_short, text_in, is_value_count, listing, oneof, some_are_same, texts_class}
+use Rattle.fints_field_rows.specs.Fields.{ClassValue, account, account_in, account_of, accounts_class, is_item_count, is_short, text_in, is_value_count, listing, oneof, some_are_same, texts_class}
 use Rattle.toml.specs.Data.{Data}
-use Rattle.fints_field_rows.specs.FieldParts.{bind_ok, choice_ok}
-use Rattle.fints_field_rows.specs.Parts.{each}
-use Rattle.fints_field_rows.proofs.PartLemmas.{each_all, each_length}
+use Rattle.fints_field_rows.specs.Parts.{each, entries_of}
+use Rattle.fints_field_rows.specs.PartLaws.{bind_ok, choice_ok, each_all, each_length}
 use Rattle.fints_field_rows.specs.declared.fault.FaultKind.TheVariants as kinds
 
 module _ {X : Type 0} (same : X → X → Bool) (decides : (x y : X) → Decides (same x y) (x ≡ y)) where

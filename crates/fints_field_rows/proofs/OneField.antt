@@ -1,7 +1,7 @@
--- A row denotes one field.
-use Rattle.std.proofs.Common.{◌≡◌, List, ℕ, ap, sym, ◌∙◌}
-use Rattle.toml.specs.Data.{Data, table}
-use Rattle.fints_field_rows.specs.Fields.{IsFieldOf, class_value, class_in}
+-- What is seen of a field is all of it.
+use Rattle.std.proofs.Common.{◌≡◌, List, ℕ, ap, ◌∙◌}
+use Rattle.fints_field_rows.specs.Fields.{class_value, field_value}
+use Rattle.fints_field_rows.specs.declared.fields.NamedField.{NamedField}
 use Rattle.fints_fields.specs.declared.counted.Bin.{Bin}
 use Rattle.fints_fields.specs.declared.counted.Digits.{Digits}
 use Rattle.fints_fields.specs.declared.counted.Plain.{Plain}
@@ -10,7 +10,6 @@ use Rattle.fints_fields.specs.declared.listing.Account.{Account}
 use Rattle.fints_fields.specs.declared.listing.OneOf.{OneOf}
 use Rattle.fints_fields.specs.declared.field.Field.{Field}
 use Rattle.fints_fields.specs.declared.field.Field.TheVariants as fields
-use Rattle.fints_field_rows.specs.FieldParts.{is_field}
 
 -- the classes are given by their bounds or by their listed values
 pub record GivenClasses : Type 0 where
@@ -31,11 +30,9 @@ module _ (given : GivenClasses) where
   one_class (fields.Account c) (fields.Account d) e = ap fields.Account (given.account c d (cc))
   one_class _ _ e = absurd (cc)
 
-  pub one_field : (row : Data) (name other : List ℕ) (field second : Field) → IsFieldOf row name field → IsFieldOf row other second → (name ≡ other) × (field ≡ second)
-  one_field row name other field second h i =
-      let one = is_field h.0 row name (class_value field) h.1 in
-      let two = is_field i.0 row other (class_value second) i.1 in
-      let table_is : table one.members ≡ table two.members = sym one.is ∙ two.is in
-      let same : one.members ≡ two.members = cc in
-      let classes = sym one.class_is ∙ ap class_in same ∙ two.class_is in
-      (let a = one.named in let b = two.named in cc, one_class field second (cc))
+  pub one_field : (f g : NamedField) → field_value f ≡ field_value g → f ≡ g
+  one_field f g e =
+      let name : f.name ≡ g.name = ap (λ p. p.0) e in
+      let class : f.class ≡ g.class = one_class f.class g.class (ap (λ p. p.1) e) in
+      let renamed : f ≡ record { name = g.name; class = f.class } = ap (λ (n : List ℕ). record { name = n; class = f.class }) name in
+      renamed ∙ ap (λ (c : Field). record { name = g.name; class = c }) class

@@ -1,19 +1,18 @@
 -- What an entry of `field` is: the name and class of a field, or the first kind of fault in it.
-use Rattle.std.specs.Prelude.{◌≡◌, codes, ℕ, nat_le, nat_lt, Bool, true, false, ◌&&◌, ◌||◌, if◌then◌else◌, List, [], ◌∷◌, length, Option, Ok, Err, ok_or}
+use Rattle.std.specs.Prelude.{codes, ℕ, nat_le, nat_lt, Bool, true, false, ◌&&◌, ◌||◌, if◌then◌else◌, List, [], ◌∷◌, length, Ok, Err}
 use Rattle.std.specs.Cmp.Lexicographic.{pointwise}
 use Rattle.std.specs.List.{list_all, list_any}
-use Rattle.std.specs.Result.{result_err}
 use Rattle.std.specs.Str.{bytes_eq}
-use Rattle.toml.specs.Data.{Data, string, integer, array, table, Members}
-use Rattle.fints_documents.specs.Document.{item_list, number_between, only_keys}
+use Rattle.toml.specs.Data.{Data, string, table, Members}
+use Rattle.fints_documents.specs.Document.{only_keys}
 use Rattle.fints_documents.specs.Entries.{is_named}
-use Rattle.fints_field_rows.specs.Parts.{Part, ◌>>=◌, both, each, required}
-use Rattle.fints_field_rows.specs.RowNames.{is_name}
+use Rattle.fints_field_rows.specs.Parts.{Part, ◌>>=◌, both, each, entries_of, integer_in, required}
+use Rattle.fints_field_rows.specs.RowNames.{row_name}
 use Rattle.fints_field_rows.specs.Texts.{is_latin1, latin1}
 use Rattle.fints_fields.specs.declared.field.Field.{Field}
 use Rattle.fints_fields.specs.declared.field.Field.TheVariants as fields
-use Rattle.fints_field_rows.specs.declared.fault.FaultKind.{FaultKind}
 use Rattle.fints_field_rows.specs.declared.fault.FaultKind.TheVariants as kinds
+use Rattle.fints_field_rows.specs.declared.fields.NamedField.{NamedField}
 use Rattle.fints_field_rows.specs.declared.field_class.ClassName.{ClassName}
 use Rattle.fints_field_rows.specs.declared.field_class.ClassName.TheVariants as names
 
@@ -34,15 +33,15 @@ class_value (fields.Bin c) = bin c.min c.max
 class_value (fields.OneOf c) = oneof c.values
 class_value (fields.Account c) = account c.values
 
+-- what is seen of a field with its name
+abbrev pub field_value : NamedField → List ℕ × ClassValue
+field_value field = (field.name, class_value field.class)
+
 -- ---- bounds
 
 -- 0 to 10,000
-abbrev pub length_in : Data → Part ℕ
-length_in (integer z) = ok_or (number_between 0 10000 (integer z)) kinds.Limit
-length_in _ = Err kinds.WrongKind
-
 abbrev pub length_at : List ℕ → Members → Part ℕ
-length_at key ms = required key ms >>= length_in
+length_at key ms = required key ms >>= integer_in 0 10000
 
 abbrev pub lengths_in : Members → Part (ℕ × ℕ)
 lengths_in ms = both (length_at (codes "min") ms) (length_at (codes "max") ms)
@@ -52,11 +51,6 @@ abbrev pub sized : ℕ → (ℕ → ℕ → ClassValue) → ℕ × ℕ → Part 
 sized least class (min, max) = if nat_le least min && nat_le min max then Ok (class min max) else Err kinds.Limit
 
 -- ---- listed values
-
--- the entries of an array
-abbrev pub entries_of : Data → Part (List Data)
-entries_of (array ds) = Ok (item_list ds)
-entries_of _ = Err kinds.WrongKind
 
 -- the bytes of a text, one for each character
 abbrev pub text_in : Data → Part (List ℕ)
@@ -145,31 +139,14 @@ abbrev pub field_keys : Part ClassName → List (List ℕ)
 field_keys (Err kind) = codes "name" ∷ codes "class" ∷ codes "min" ∷ codes "max" ∷ codes "values" ∷ []
 field_keys (Ok class) = if is_sized class then codes "name" ∷ codes "class" ∷ codes "min" ∷ codes "max" ∷ [] else codes "name" ∷ codes "class" ∷ codes "values" ∷ []
 
--- a name that no earlier entry has, nor the built-in field
-unfoldable pub new_name : List Data → List ℕ → Part (List ℕ)
-new_name earlier name =
-    if is_name name then if bytes_eq name (codes "dialog") || list_any (is_named name) earlier then Err kinds.Duplicate else Ok name
-    else Err kinds.WrongKind
-
-abbrev pub name_of_field : List Data → Data → Part (List ℕ)
-name_of_field earlier (string name) = new_name earlier name
-name_of_field earlier _ = Err kinds.WrongKind
-
-abbrev pub name_at : List Data → Members → Part (List ℕ)
-name_at earlier ms = required (codes "name") ms >>= name_of_field earlier
+-- the name of the built-in field, or that of an earlier row
+abbrev pub is_taken_field : List Data → List ℕ → Bool
+is_taken_field earlier name = bytes_eq name (codes "dialog") || list_any (is_named name) earlier
 
 unfoldable pub table_field : List Data → Members → Part (List ℕ × ClassValue)
-table_field earlier ms = if only_keys (field_keys (class_of ms)) ms then both (name_at earlier ms) (class_in ms) else Err kinds.UnknownKey
+table_field earlier ms = if only_keys (field_keys (class_of ms)) ms then both (row_name (is_taken_field earlier) ms) (class_in ms) else Err kinds.UnknownKey
 
 -- the name and the class of an entry behind earlier ones
 abbrev pub field_in : List Data → Data → Part (List ℕ × ClassValue)
 field_in earlier (table ms) = table_field earlier ms
 field_in earlier _ = Err kinds.WrongKind
-
--- the fault of an entry, if it has one
-abbrev pub field_fault : List Data → Data → Option FaultKind
-field_fault earlier entry = result_err (field_in earlier entry)
-
--- the entry, behind some earlier ones, is the field of this name
-abbrev pub IsFieldOf : Data → List ℕ → Field → Type 0
-IsFieldOf entry name field = (earlier : List Data) × (field_in earlier entry ≡ Ok (name, class_value field))

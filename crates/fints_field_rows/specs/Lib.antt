@@ -1,10 +1,11 @@
 pub mod RowNames
 pub mod Texts
-pub mod Faults
+pub mod Rows
 pub mod NamedFields
 pub mod FaultOrder
 pub mod Parts
 pub mod Fields
+pub mod PartLaws
 pub mod FieldParts
 pub mod Places
 pub mod Laws

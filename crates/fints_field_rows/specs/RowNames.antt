@@ -1,8 +1,9 @@
 -- Names in the rows of a script.
-use Rattle.std.specs.Prelude.{codes, ℕ, nat_le, nat_lt, Bool, true, false, ◌&&◌, ◌||◌, not, ◌==◌, if◌then◌else◌, List, length, Option, Some, None}
+use Rattle.std.specs.Prelude.{codes, ℕ, nat_le, nat_lt, Bool, ◌&&◌, ◌||◌, ◌==◌, if◌then◌else◌, List, length, Option, Some, None, Ok, Err}
 use Rattle.std.specs.List.{list_all}
 use Rattle.toml.specs.Data.{Data, string, Members}
-use Rattle.fints_documents.specs.Entries.{text_at}
+use Rattle.fints_field_rows.specs.Parts.{Part, ◌>>=◌, required}
+use Rattle.fints_field_rows.specs.declared.fault.FaultKind.TheVariants as kinds
 
 -- a small letter, a digit, `_` (95) or `-` (45)
 abbrev pub is_name_byte : ℕ → Bool
@@ -16,16 +17,18 @@ is_name text = (nat_lt 0 (length text) && nat_le (length text) 40) && list_all i
 abbrev pub parsed : List ℕ → Option (List ℕ)
 parsed text = if is_name text then Some text else None
 
--- there is a value, and it is no name
-abbrev pub is_no_name : Option Data → Bool
-is_no_name None = false
-is_no_name (Some (string text)) = not (is_name text)
-is_no_name (Some _) = true
+-- a text that is a name, and not one that is taken
+abbrev pub new_name : Bool → List ℕ → Part (List ℕ)
+new_name taken text = if is_name text then if taken then Err kinds.Duplicate else Ok text else Err kinds.WrongKind
 
--- the name; one that is absent or bad counts as `dialog`
-abbrev pub name_of : Option (List ℕ) → List ℕ
-name_of None = codes "dialog"
-name_of (Some text) = if is_name text then text else codes "dialog"
+-- the text at `name`
+abbrev pub text_of_name : Data → Part (List ℕ)
+text_of_name (string text) = Ok text
+text_of_name _ = Err kinds.WrongKind
 
-abbrev pub name_value : Members → List ℕ
-name_value ms = name_of (text_at (codes "name") ms)
+abbrev pub name_text : Members → Part (List ℕ)
+name_text ms = required (codes "name") ms >>= text_of_name
+
+-- the name of a row, where none may stand that is taken
+abbrev pub row_name : (List ℕ → Bool) → Members → Part (List ℕ)
+row_name taken ms = name_text ms >>= λ text. new_name (taken text) text

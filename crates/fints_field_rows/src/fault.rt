@@ -41,6 +41,22 @@ pub enum FaultKind {
     Limit,
 }
 
+impl From<Memory> for FaultKind {
+    ghost from_gives = { λ _ kind. kind ≡ kinds.Memory };
+
+    fn from(_e: Memory) -> FaultKind {
+        FaultKind::Memory
+    }
+}
+
+impl<T: Drop> From<AllocFailed<T>> for FaultKind {
+    ghost from_gives = { λ _ kind. kind ≡ kinds.Memory };
+
+    fn from(_e: AllocFailed<T>) -> FaultKind {
+        FaultKind::from(Memory)
+    }
+}
+
 /// Where a fault stands; rows count from 1.
 #[derive(Clone, Copy, Debug, PartialEq, Eq)]
 pub enum Place {

@@ -1,8 +1,9 @@
 //! Fields read from the entries of `field`.
 ghost use Rattle.std.specs.Prelude.{◌≡◌, map};
 ghost use Rattle.toml.specs.View.{table_view, view};
-ghost use Rattle.fints_field_rows.specs.Fields.{class_in, class_value, class_with, field_in, name_at, name_of_field, new_name, table_field};
+ghost use Rattle.fints_field_rows.specs.Fields.{class_in, class_value, class_with, field_in, field_value, is_taken_field, table_field};
 ghost use Rattle.fints_field_rows.specs.Parts.{Gives};
+ghost use Rattle.fints_field_rows.specs.RowNames.{row_name};
 
 use crate::fault::FaultKind;
 use crate::field_class::{ClassName, class_of, only_field_keys};
@@ -10,37 +11,24 @@ use crate::field_values::{
     accounts_class, accounts_in, lengths_in, listed_in, texts_class, texts_in,
 };
 use crate::fields::NamedField;
-use crate::names::parsed;
-use crate::parts::{both, required};
+use crate::names::{name_text, new_name};
+use crate::parts::both;
 use fints_documents::entries::some_is_named;
 use fints_fields::{Bin, Digits, Field, Name, Plain, Text};
 use std::alloc::Global;
 use toml::{Table, Value};
 
-#[tactic(auto, unfolding(crate::specs::Fields::new_name))]
-fn new_name(earlier: &[Value], text: &str) -> Result<Name, FaultKind>
-    ensures { result ≡ new_name (map view earlier.now) text.now }
+fn is_taken_field(earlier: &[Value], name: &str) -> bool
+    ensures { result ≡ is_taken_field (map view earlier.now) name.now }
 {
-    match parsed(text) {
-        None => Err(FaultKind::WrongKind),
-        Some(_) if text == "dialog" || some_is_named(text, earlier) => Err(FaultKind::Duplicate),
-        Some(name) => Ok(name),
-    }
+    name == "dialog" || some_is_named(name, earlier)
 }
 
-fn name_of_field(earlier: &[Value], value: &Value) -> Result<Name, FaultKind>
-    ensures { result ≡ name_of_field (map view earlier.now) (view value.now) }
+fn field_name(earlier: &[Value], table: &Table) -> Result<Name, FaultKind>
+    ensures { result ≡ row_name (is_taken_field (map view earlier.now)) (table_view table.now) }
 {
-    match value {
-        Value::String(text) => new_name(earlier, text.as_str()),
-        _ => Err(FaultKind::WrongKind),
-    }
-}
-
-fn name_at(earlier: &[Value], table: &Table) -> Result<Name, FaultKind>
-    ensures { result ≡ name_at (map view earlier.now) (table_view table.now) }
-{
-    name_of_field(earlier, required(table, "name")?)
+    let text = name_text(table)?;
+    new_name(text, is_taken_field(earlier, text))
 }
 
 /// The class of this name that a table's keys give.
@@ -82,19 +70,19 @@ fn class_in(alloc: Global, table: &Table) -> Result<Field, FaultKind>
 
 #[tactic(auto, unfolding(crate::specs::Fields::table_field))]
 fn table_field(alloc: Global, earlier: &[Value], table: &Table) -> Result<NamedField, FaultKind>
-    ensures { Gives (λ f. (f.name, class_value f.class)) result (table_field (map view earlier.now) (table_view table.now)) }
+    ensures { Gives field_value result (table_field (map view earlier.now) (table_view table.now)) }
 {
     if !only_field_keys(class_of(table), table) {
         return Err(FaultKind::UnknownKey);
     }
-    let (name, class) = both(name_at(earlier, table), class_in(alloc, table))?;
+    let (name, class) = both(field_name(earlier, table), class_in(alloc, table))?;
     Ok(NamedField { name, class })
 }
 
 /// The name and the class of an entry of `field` behind earlier ones, or its first fault in the
 /// order of the kinds.
 pub fn field_in(alloc: Global, earlier: &[Value], entry: &Value) -> Result<NamedField, FaultKind>
-    ensures { Gives (λ f. (f.name, class_value f.class)) result (field_in (map view earlier.now) (view entry.now)) }
+    ensures { Gives field_value result (field_in (map view earlier.now) (view entry.now)) }
 {
     match entry {
         Value::Table(table) => table_field(alloc, earlier, table),

@@ -1,13 +1,12 @@
 //! The bounds and the listed values of a field.
 ghost use Rattle.std.specs.Prelude.{◌≡◌, ◌≤◌, All, length, map};
 ghost use Rattle.toml.specs.View.{table_view, view};
-ghost use Rattle.fints_field_rows.specs.Fields.{account_in, account_of, accounts_class, class_value, entries_of, length_at, length_in, lengths_in, listed_in, text_in, texts_class};
+ghost use Rattle.fints_field_rows.specs.Fields.{account_in, account_of, accounts_class, class_value, length_at, lengths_in, listed_in, text_in, texts_class};
 ghost use Rattle.fints_field_rows.specs.Parts.{Gives, each, seen};
 
 use crate::fault::FaultKind;
-use crate::parts::{both, more, required};
+use crate::parts::{both, entries_of, integer_in, more, required};
 use crate::text::{is_latin1, latin1};
-use fints_documents::document::number_between;
 use fints_fields::{Account, AccountValue, Accounts, Field, OneOf, Texts, are_distinct};
 use fints_syntax::Bytes;
 use std::alloc::Global;
@@ -21,19 +20,10 @@ const MAX_ITEMS: usize = 6;
 
 // ---- bounds
 
-fn length_in(value: &Value) -> Result<u16, FaultKind>
-    ensures { result ≡ length_in (view value.now) }
-{
-    match value {
-        Value::Integer(_) => number_between(0, MAX_LEN, value).ok_or(FaultKind::Limit),
-        _ => Err(FaultKind::WrongKind),
-    }
-}
-
 fn length_at(table: &Table, key: &str) -> Result<u16, FaultKind>
     ensures { result ≡ length_at key.now (table_view table.now) }
 {
-    length_in(required(table, key)?)
+    integer_in(0, MAX_LEN, required(table, key)?)
 }
 
 /// The values of `min` and `max`.
@@ -44,15 +34,6 @@ pub fn lengths_in(table: &Table) -> Result<(u16, u16), FaultKind>
 }
 
 // ---- listed values
-
-fn entries_of(value: &Value) -> Result<&[Value], FaultKind>
-    ensures { seen (λ v. map view v.now) result ≡ entries_of (view value.now) }
-{
-    match value {
-        Value::Array(entries) => Ok(entries.as_slice()),
-        _ => Err(FaultKind::WrongKind),
-    }
-}
 
 fn text_in(alloc: Global, value: &Value) -> Result<Bytes, FaultKind>
     ensures { Gives (λ text. text) result (text_in (view value.now)) }

@@ -6,15 +6,15 @@ mod field_class;
 mod field_entry;
 mod field_values;
 mod fields;
-mod kinds;
 pub mod laws;
 mod named_rows;
 pub mod names;
-mod parts;
+pub mod parts;
+mod rows;
 pub mod text;
 
 pub use fault::{FaultKind, Place, ScriptFault};
 pub use field_entry::field_in;
 pub use fields::{Fields, NamedField, is_account};
-pub use kinds::KINDS;
 pub use named_rows::NamedRows;
+pub use rows::placed;

@@ -1,5 +1,5 @@
 //! The rows of the steps by their names.
-ghost use Rattle.std.specs.Prelude.{◌≡◌, ◌+◌, ℕ, List, length, map, option_map, position, take, IfOk, OnOk};
+ghost use Rattle.std.specs.Prelude.{◌≡◌, ℕ, List, length, map, option_map, position, take, IfOk, OnOk};
 ghost use Rattle.std.specs.List.{list_any};
 ghost use Rattle.std.specs.Str.{bytes_eq};
 ghost use Rattle.indexmap.specs.IndexMap.{get_by};
@@ -113,16 +113,6 @@ impl<'a> NamedRows<'a> {
     {
         match self.place_of(name) {
             Some(place) => place < end,
-            None => false,
-        }
-    }
-
-    /// Whether the row at this place, counted from 0, or an earlier one has this name.
-    pub fn has_up_to(&self, name: &str, row: usize) -> bool
-        ensures { result ≡ list_any (is_named name.now) (take (row + 1) (map view self.now)) }
-    {
-        match self.place_of(name) {
-            Some(place) => place <= row,
             None => false,
         }
     }

@@ -1,9 +1,11 @@
 //! Names in the rows of a script.
-ghost use Rattle.std.specs.Prelude.{◌≡◌, codes, option_map};
-ghost use Rattle.toml.specs.View.{view, table_view};
-ghost use Rattle.fints_field_rows.specs.RowNames.{is_no_name, name_of, name_value, parsed};
+ghost use Rattle.std.specs.Prelude.{◌≡◌, codes};
+ghost use Rattle.toml.specs.View.{table_view, view};
+ghost use Rattle.fints_field_rows.specs.Parts.{seen};
+ghost use Rattle.fints_field_rows.specs.RowNames.{name_text, new_name, parsed, text_of_name};
 
-use fints_documents::entries::text_at;
+use crate::fault::FaultKind;
+use crate::parts::required;
 use fints_fields::Name;
 use toml::{Table, Value};
 
@@ -14,17 +16,6 @@ pub fn parsed(text: &str) -> Option<Name>
     Name::parse(text.as_bytes())
 }
 
-/// Whether there is a value that is no name.
-pub fn is_no_name(value: Option<&Value>) -> bool
-    ensures { result ≡ is_no_name (option_map (λ v. view v.now) value.entry) }
-{
-    match value {
-        None => false,
-        Some(Value::String(text)) => parsed(text.as_str()).is_none(),
-        Some(_) => true,
-    }
-}
-
 /// The name `dialog`.
 pub fn dialog() -> Name
     ensures { result ≡ codes "dialog" }
@@ -32,18 +23,29 @@ pub fn dialog() -> Name
     Name::parse(b"dialog").unwrap()
 }
 
-fn name_of(text: Option<&str>) -> Name
-    ensures { result ≡ name_of (option_map (λ t. t.now) text.entry) }
+fn text_of_name(value: &Value) -> Result<&str, FaultKind>
+    ensures { seen (λ text. text.now) result ≡ text_of_name (view value.now) }
 {
-    match text {
-        Some(text) => parsed(text).unwrap_or(dialog()),
-        None => dialog(),
+    match value {
+        Value::String(text) => Ok(text.as_str()),
+        _ => Err(FaultKind::WrongKind),
     }
 }
 
-/// The name of a table; one that is absent or bad counts as `dialog`.
-pub fn name_value(table: &Table) -> Name
-    ensures { result ≡ name_value (table_view table.now) }
+/// The text at `name`.
+pub fn name_text(table: &Table) -> Result<&str, FaultKind>
+    ensures { seen (λ text. text.now) result ≡ name_text (table_view table.now) }
 {
-    name_of(text_at(table, "name"))
+    text_of_name(required(table, "name")?)
+}
+
+/// The name that the text is, unless it is taken.
+pub fn new_name(text: &str, is_taken: bool) -> Result<Name, FaultKind>
+    ensures { result ≡ new_name is_taken text.now }
+{
+    match parsed(text) {
+        None => Err(FaultKind::WrongKind),
+        Some(_) if is_taken => Err(FaultKind::Duplicate),
+        Some(name) => Ok(name),
+    }
 }

@@ -4,6 +4,7 @@ use crate::places::Told;
 use crate::quoting::{Character, Quoted, Shown};
 use fints_documents::document::member;
 use fints_documents::entries::has_key;
+use fints_field_rows::names::parsed;
 use std::alloc::Global;
 use toml::{Table, Value};
 
@@ -98,7 +99,16 @@ fn bad_name(alloc: Global, name: &str) -> Told {
     }
 }
 
-/// Why what stands at `name` is no name, where `names::is_no_name` says so.
+/// Whether a value stands at `name` that is no name.
+pub fn has_bad_name(table: &Table) -> bool {
+    match member(table, "name") {
+        None => false,
+        Some(Value::String(text)) => parsed(text.as_str()).is_none(),
+        Some(_) => true,
+    }
+}
+
+/// Why what stands at `name` is no name, where `has_bad_name` says so.
 pub fn name_slip(alloc: Global, table: &Table) -> Told {
     match member(table, "name") {
         Some(Value::String(name)) => bad_name(alloc, name.as_str()),

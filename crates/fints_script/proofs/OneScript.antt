@@ -1,40 +1,45 @@
 -- A text denotes one script, or has one first fault.
-use Rattle.std.proofs.Common.{◌≡◌, ℕ, ◌+◌, ◌<◌, ◌≤◌, ◌⊎◌, leb, List, [], ◌∷◌, length, map, Option, Some, None, ap, subst, sym, ◌∙◌, refl, inl, inr, arith}
-use Rattle.std.specs.Prelude.{codes}
-use Rattle.std.specs.List.{AllZip}
+use Rattle.std.proofs.Common.{◌≡◌, ℕ, ◌<◌, ◌≤◌, ◌⊎◌, leb, List, [], ◌∷◌, length, map, Some, None, Result, Ok, Err, ap, subst, sym, ◌∙◌, refl, inl, inr, arith}
 use Rattle.std.proofs.lemmas.Bool.{cases_Bool}
 use Rattle.std.proofs.lemmas.Bool.Decides.{nat_tests}
 use Rattle.std.proofs.lemmas.Option.{none-some, same_Some}
-use Rattle.toml.specs.Data.{Data, Members, get_member}
+use Rattle.toml.specs.Data.{Data, Members}
 use Rattle.fints_documents.specs.Document.{document}
 use Rattle.fints_fields.specs.declared.counted.Text.{Text}
 use Rattle.fints_fields.specs.declared.field.Field.{Field}
 use Rattle.fints_fields.specs.declared.field.Field.TheVariants as classes
-use Rattle.fints_field_rows.specs.Faults.{IsFirstFault}
-use Rattle.fints_field_rows.specs.Fields.{IsFieldOf}
-use Rattle.fints_field_rows.specs.Laws.{NoFirstWhereClean, OneField, OneFirstFault}
-use Rattle.fints_field_rows.specs.declared.fault.FaultKind.{FaultKind}
-use Rattle.fints_field_rows.specs.declared.fault.Place.{Place}
+use Rattle.fints_field_rows.specs.Fields.{field_value}
+use Rattle.fints_field_rows.specs.Laws.{OneField}
+use Rattle.fints_field_rows.specs.Rows.{part_at}
+use Rattle.fints_field_rows.specs.declared.fault.FaultKind.TheVariants as kinds
 use Rattle.fints_field_rows.specs.declared.fault.Place.TheVariants as places
 use Rattle.fints_field_rows.specs.declared.fault.ScriptFault.{ScriptFault}
 use Rattle.fints_field_rows.specs.declared.fields.NamedField.{NamedField}
-use Rattle.fints_templates.specs.declared.template.Signer.{Signer}
-use Rattle.fints_templates.specs.declared.template.TemplateItem.{TemplateItem}
-use Rattle.fints_templates.specs.Signers.{signer_of, seal_fault, seal_value}
-use Rattle.fints_script.specs.Steps.{step_fault, step_of}
-use Rattle.fints_script.specs.Scripts.{DenoteFields, Denotes, FieldFault, HasFields, HasSeal, HasSigners, IsDialogClass, IsDialogField, IsFaultOf, IsFirstOf, IsNoToml, IsScriptOf, IsTooLong, MAX_TEXT, ScriptValue, SealFault, SignerFault, StepFault, TopFault, field_rows, look_at_field, look_at_signer, signer_rows, step_rows, surroundings, top_fault}
+use Rattle.fints_script.specs.Scripts.{DenoteFields, Denotes, IsDialogClass, IsDialogField, IsFaultOf, IsFirstOf, IsScriptOf, MAX_TEXT, ScriptValue, Top, at_top, fields_from, script_with, top_in}
+use Rattle.fints_script.proofs.ReadParts.{ok_err, same_err, same_ok}
 
-same_fault : (f g : ScriptFault) → f.kind ≡ g.kind → f.place ≡ g.place → f ≡ g
-same_fault f g kind place = λ i. record { kind = kind i; place = place i }
+-- what a text comes to: a script or a fault
+abbrev Outcome : Type 0
+Outcome = Result ScriptValue ScriptFault
 
--- a fault of one of two sorts is one, where the sorts exclude one another
-one_of_two : (A B : ScriptFault → Type 0) → ((f g : ScriptFault) → A f → A g → f ≡ g) → ((f g : ScriptFault) → B f → B g → f ≡ g) → ((f g : ScriptFault) → A f → B g → ⊥) → (f g : ScriptFault) → A f ⊎ B f → A g ⊎ B g → f ≡ g
-one_of_two A B one_a one_b apart f g (inl x) (inl y) = one_a f g x y
-one_of_two A B one_a one_b apart f g (inl x) (inr y) = absurd (apart f g x y)
-one_of_two A B one_a one_b apart f g (inr x) (inl y) = absurd (apart g f y x)
-one_of_two A B one_a one_b apart f g (inr x) (inr y) = one_b f g x y
+-- an outcome of one of two sorts is one, where the sorts exclude one another
+one_of_two : (A B : Outcome → Type 0) → ((r q : Outcome) → A r → A q → r ≡ q) → ((r q : Outcome) → B r → B q → r ≡ q) → ((r q : Outcome) → A r → B q → ⊥) → (r q : Outcome) → A r ⊎ B r → A q ⊎ B q → r ≡ q
+one_of_two A B one_a one_b apart r q (inl x) (inl y) = one_a r q x y
+one_of_two A B one_a one_b apart r q (inl x) (inr y) = absurd (apart r q x y)
+one_of_two A B one_a one_b apart r q (inr x) (inl y) = absurd (apart q r y x)
+one_of_two A B one_a one_b apart r q (inr x) (inr y) = one_b r q x y
 
-module _ (one_text : (c d : Text) → c.min ≡ d.min → c.max ≡ d.max → c ≡ d) (one_field : OneField) (one_first : OneFirstFault) (none_first : NoFirstWhereClean) where
+-- an outcome that is a fault
+abbrev Stops : {X : Type 0} → Result X ScriptFault → Outcome → Type 0
+Stops found r = (f : ScriptFault) × (found ≡ Err f) × (r ≡ Err f)
+
+one_stop : {X : Type 0} (found : Result X ScriptFault) (r q : Outcome) → Stops found r → Stops found q → r ≡ q
+one_stop found r q (f, is, r_is) (g, also, q_is) = r_is ∙ ap Err (same_err f g (sym is ∙ also)) ∙ sym q_is
+
+no_stop : {X : Type 0} (found : Result X ScriptFault) (x : X) (r : Outcome) → found ≡ Ok x → Stops found r → ⊥
+no_stop found x r is (f, stops, r_is) = ok_err x f (sym is ∙ stops)
+
+module _ (one_text : (c d : Text) → c.min ≡ d.min → c.max ≡ d.max → c ≡ d) (one_field : OneField) where
   -- ---- the fields of rows
 
   one_dialog_class : (f g : Field) → IsDialogClass f → IsDialogClass g → f ≡ g
@@ -42,152 +47,79 @@ module _ (one_text : (c d : Text) → c.min ≡ d.min → c.max ≡ d.max → c 
   one_dialog_class (classes.Text c) _ h i = absurd i
   one_dialog_class _ _ h i = absurd h
 
-  same_field : (f g : NamedField) → f.name ≡ g.name → f.class ≡ g.class → f ≡ g
-  same_field f g name class = λ i. record { name = name i; class = class i }
-
   one_dialog : (f g : NamedField) → IsDialogField f → IsDialogField g → f ≡ g
-  one_dialog f g h i = same_field f g (h.0 ∙ sym i.0) (one_dialog_class f.class g.class h.1 i.1)
+  one_dialog f g h i =
+      let name : f.name ≡ g.name = h.0 ∙ sym i.0 in
+      let class : f.class ≡ g.class = one_dialog_class f.class g.class h.1 i.1 in
+      λ j. record { name = name j; class = class j }
 
-  others_once : (rows : List Data) (fs gs : List NamedField) → AllZip (λ row (f : NamedField). IsFieldOf row f.name f.class) rows fs → AllZip (λ row (f : NamedField). IsFieldOf row f.name f.class) rows gs → fs ≡ gs
-  others_once [] [] [] h i = refl
-  others_once [] [] (g ∷ gs) h i = absurd i
-  others_once [] (f ∷ fs) gs h i = absurd h
-  others_once (row ∷ rows) [] gs h i = absurd h
-  others_once (row ∷ rows) (f ∷ fs) [] h i = absurd i
-  others_once (row ∷ rows) (f ∷ fs) (g ∷ gs) h i =
-      let one = one_field row f.name g.name f.class g.class h.0 i.0 in
-      let first : f ≡ g = same_field f g one.0 one.1 in
-      let rest : fs ≡ gs = others_once rows fs gs h.1 i.1 in
+  others_once : (fs gs : List NamedField) → map field_value fs ≡ map field_value gs → fs ≡ gs
+  others_once [] [] e = refl
+  others_once [] (g ∷ gs) e = absurd cc
+  others_once (f ∷ fs) [] e = absurd cc
+  others_once (f ∷ fs) (g ∷ gs) e =
+      let first : f ≡ g = one_field f g cc in
+      let rest : fs ≡ gs = others_once fs gs cc in
       λ j. first j ∷ rest j
 
   one_fields : (rows : List Data) (fs gs : List NamedField) → DenoteFields rows fs → DenoteFields rows gs → fs ≡ gs
   one_fields rows fs gs h i =
       let first : h.dialog ≡ i.dialog = one_dialog h.dialog i.dialog h.built_in i.built_in in
-      let rest : h.others ≡ i.others = others_once rows h.others i.others h.each i.each in
+      let rest : h.others ≡ i.others = others_once h.others i.others (same_ok (map field_value h.others) (map field_value i.others) (sym h.each ∙ i.each)) in
       h.all ∙ (λ j. first j ∷ rest j) ∙ sym i.all
 
-  module _ (ms : Members) where
-    -- ---- the parts of a table's script
+  -- ---- the rows
 
-    has_one_fields : (fs gs : List NamedField) → HasFields ms fs → HasFields ms gs → fs ≡ gs
-    has_one_fields fs gs h i = one_fields (field_rows ms) fs gs h.are i.are
+  -- what stands behind fields without a fault
+  abbrev Later : Top → Outcome → Type 0
+  Later top r = (fields : List NamedField) × DenoteFields top.fields fields × (script_with top fields ≡ r)
 
-    has_one_signers : (fs gs : List NamedField) (ss ts : List Signer) → HasSigners ms fs ss → HasSigners ms gs ts → (fs ≡ gs) × (ss ≡ ts)
-    has_one_signers fs gs ss ts h i =
-        let same = has_one_fields fs gs h.before i.before in
-        (same, h.are ∙ ap (λ (x : List NamedField). map (signer_of x) (signer_rows ms)) same ∙ sym i.are)
+  one_later : (top : Top) (r q : Outcome) → Later top r → Later top q → r ≡ q
+  one_later top r q (fs, has, r_is) (gs, also, q_is) = sym r_is ∙ ap (script_with top) (one_fields top.fields fs gs has also) ∙ q_is
 
-    has_one_seal : (fs gs : List NamedField) (ss ts : List Signer) (o p : Option (List (List TemplateItem))) → HasSeal ms fs ss o → HasSeal ms gs ts p → (fs ≡ gs) × (ss ≡ ts) × (o ≡ p)
-    has_one_seal fs gs ss ts o p h i =
-        let same = has_one_signers fs gs ss ts h.before i.before in
-        (same.0, same.1, h.is ∙ ap (λ (x : List NamedField). seal_value x (get_member (codes "seal") ms)) same.0 ∙ sym i.is)
+  abbrev RowsGive : Top → Outcome → Type 0
+  RowsGive top r = Stops (fields_from top.fields) r ⊎ Later top r
 
-    one_script_of : (s t : ScriptValue) → IsScriptOf ms s → IsScriptOf ms t → s ≡ t
-    one_script_of s t h i =
-        let same = has_one_seal s.fields t.fields s.signers t.signers s.seal t.seal h.before i.before in
-        let around : surroundings ms s.fields s.signers s.seal ≡ surroundings ms t.fields t.signers t.seal = λ j. surroundings ms (same.0 j) (same.1 j) (same.2 j) in
-        let steps : s.steps ≡ t.steps = h.are ∙ ap (λ x. map (step_of x) (step_rows ms)) around ∙ sym i.are in
-        λ j. record { fields = same.0 j; signers = same.1 j; seal = same.2 j; steps = steps j }
+  one_of_rows : (top : Top) (r q : Outcome) → RowsGive top r → RowsGive top q → r ≡ q
+  one_of_rows top = one_of_two (Stops (fields_from top.fields)) (Later top) (one_stop (fields_from top.fields)) (one_later top)
+      (λ r q stops later. no_stop (fields_from top.fields) (map field_value later.1.others) r later.1.each stops)
 
-    -- ---- where a part has no fault
+  -- ---- the table
 
-    no_top_fault : (f : ScriptFault) → top_fault ms ≡ None → TopFault ms f → ⊥
-    no_top_fault f none h = none-some f.kind (sym none ∙ h.1)
+  abbrev Behind : Members → Outcome → Type 0
+  Behind ms r = (top : Top) × (top_in ms ≡ Ok top) × RowsGive top r
 
-    no_field_fault : (fs : List NamedField) (f : ScriptFault) → HasFields ms fs → FieldFault ms f → ⊥
-    no_field_fault fs f has h = none_first (look_at_field (field_rows ms)) (field_rows ms) h.row f.kind has.clean h.first
+  one_behind : (ms : Members) (r q : Outcome) → Behind ms r → Behind ms q → r ≡ q
+  one_behind ms r q (top, is, r_is) (other, also, q_is) = one_of_rows other r q (subst (λ (t : Top). RowsGive t r) (same_ok top other (sym is ∙ also)) r_is) q_is
 
-    no_signer_fault : (fs : List NamedField) (ss : List Signer) (f : ScriptFault) → HasSigners ms fs ss → SignerFault ms f → ⊥
-    no_signer_fault fs ss f has h =
-        let same = has_one_fields h.fields fs h.before has.before in
-        none_first (look_at_signer fs (signer_rows ms)) (signer_rows ms) h.row f.kind has.clean (subst (λ (x : List NamedField). IsFirstFault (look_at_signer x (signer_rows ms)) (signer_rows ms) h.row f.kind) same h.first)
+  abbrev TableGives : Members → Outcome → Type 0
+  TableGives ms r = Stops (part_at places.Top (top_in ms)) r ⊎ Behind ms r
 
-    no_seal_fault : (fs : List NamedField) (ss : List Signer) (o : Option (List (List TemplateItem))) (f : ScriptFault) → HasSeal ms fs ss o → SealFault ms f → ⊥
-    no_seal_fault fs ss o f has h =
-        let same = (has_one_signers h.fields fs h.signers ss h.before has.before).0 in
-        none-some f.kind (sym has.clean ∙ ap (λ (x : List NamedField). seal_fault x (get_member (codes "seal") ms)) (sym same) ∙ h.is)
+  one_of_table : (ms : Members) (r q : Outcome) → TableGives ms r → TableGives ms q → r ≡ q
+  one_of_table ms = one_of_two (Stops (part_at places.Top (top_in ms))) (Behind ms) (one_stop (part_at places.Top (top_in ms))) (one_behind ms)
+      (λ r q stops behind. no_stop (part_at places.Top (top_in ms)) behind.0 r (ap (part_at places.Top) behind.1) stops)
 
-    no_step_fault : (s : ScriptValue) (f : ScriptFault) → IsScriptOf ms s → StepFault ms f → ⊥
-    no_step_fault s f is h =
-        let same = has_one_seal h.fields s.fields h.signers s.signers h.seal s.seal h.before is.before in
-        let around : surroundings ms h.fields h.signers h.seal ≡ surroundings ms s.fields s.signers s.seal = λ j. surroundings ms (same.0 j) (same.1 j) (same.2 j) in
-        none_first (step_fault (surroundings ms s.fields s.signers s.seal)) (step_rows ms) h.row f.kind is.clean (subst (λ x. IsFirstFault (step_fault x) (step_rows ms) h.row f.kind) around h.first)
+  script_given : (ms : Members) (s : ScriptValue) → IsScriptOf ms s → TableGives ms (Ok s)
+  script_given ms s h = inr (h.top, h.is_top, inr (s.fields, h.fields, h.is))
 
-    no_fault : (s : ScriptValue) (f : ScriptFault) → IsScriptOf ms s → IsFaultOf ms f → ⊥
-    no_fault s f is h = elim h [
-      | inl top ↦ no_top_fault f is.before.before.before.top top
-      | inr (inl field) ↦ no_field_fault s.fields f is.before.before.before field
-      | inr (inr (inl signer)) ↦ no_signer_fault s.fields s.signers f is.before.before signer
-      | inr (inr (inr (inl seal))) ↦ no_seal_fault s.fields s.signers s.seal f is.before seal
-      | inr (inr (inr (inr step))) ↦ no_step_fault s f is step
-    ]
-
-    -- ---- one fault of a part
-
-    one_row_fault : (place : ℕ → Place) (look : ℕ → Data → Option FaultKind) (rows : List Data) (f g : ScriptFault) (i j : ℕ) → f.place ≡ place (i + 1) → g.place ≡ place (j + 1) → IsFirstFault look rows i f.kind → IsFirstFault look rows j g.kind → f ≡ g
-    one_row_fault place look rows f g i j at_i at_j first second =
-        let one = one_first look rows i j f.kind g.kind first second in
-        same_fault f g one.1 (at_i ∙ ap (λ n. place (n + 1)) one.0 ∙ sym at_j)
-
-    one_top_fault : (f g : ScriptFault) → TopFault ms f → TopFault ms g → f ≡ g
-    one_top_fault f g h i = same_fault f g (same_Some f.kind g.kind (sym h.1 ∙ i.1)) (h.0 ∙ sym i.0)
-
-    one_field_fault : (f g : ScriptFault) → FieldFault ms f → FieldFault ms g → f ≡ g
-    one_field_fault f g h i = one_row_fault (λ n. places.Field n) (look_at_field (field_rows ms)) (field_rows ms) f g h.row i.row h.place i.place h.first i.first
-
-    one_signer_fault : (f g : ScriptFault) → SignerFault ms f → SignerFault ms g → f ≡ g
-    one_signer_fault f g h i =
-        let same = has_one_fields h.fields i.fields h.before i.before in
-        one_row_fault (λ n. places.Signer n) (look_at_signer i.fields (signer_rows ms)) (signer_rows ms) f g h.row i.row h.place i.place
-        (subst (λ (x : List NamedField). IsFirstFault (look_at_signer x (signer_rows ms)) (signer_rows ms) h.row f.kind) same h.first) i.first
-
-    one_seal_fault : (f g : ScriptFault) → SealFault ms f → SealFault ms g → f ≡ g
-    one_seal_fault f g h i =
-        let same = (has_one_signers h.fields i.fields h.signers i.signers h.before i.before).0 in
-        same_fault f g (same_Some f.kind g.kind (sym h.is ∙ ap (λ (x : List NamedField). seal_fault x (get_member (codes "seal") ms)) same ∙ i.is)) (h.place ∙ sym i.place)
-
-    one_step_fault : (f g : ScriptFault) → StepFault ms f → StepFault ms g → f ≡ g
-    one_step_fault f g h i =
-        let same = has_one_seal h.fields i.fields h.signers i.signers h.seal i.seal h.before i.before in
-        let around : surroundings ms h.fields h.signers h.seal ≡ surroundings ms i.fields i.signers i.seal = λ j. surroundings ms (same.0 j) (same.1 j) (same.2 j) in
-        one_row_fault (λ n. places.Step n) (step_fault (surroundings ms i.fields i.signers i.seal)) (step_rows ms) f g h.row i.row h.place i.place
-        (subst (λ x. IsFirstFault (step_fault x) (step_rows ms) h.row f.kind) around h.first) i.first
-
-    -- ---- one fault of a table
-
-    from_seal : (f g : ScriptFault) → SealFault ms f ⊎ StepFault ms f → SealFault ms g ⊎ StepFault ms g → f ≡ g
-    from_seal = one_of_two (SealFault ms) (StepFault ms) one_seal_fault one_step_fault (λ f g h i. no_seal_fault i.fields i.signers i.seal f i.before h)
-
-    signer_and_later : (f g : ScriptFault) → SignerFault ms f → SealFault ms g ⊎ StepFault ms g → ⊥
-    signer_and_later f g h (inl seal) = no_signer_fault seal.fields seal.signers f seal.before h
-    signer_and_later f g h (inr step) = no_signer_fault step.fields step.signers f step.before.before h
-
-    from_signers : (f g : ScriptFault) → SignerFault ms f ⊎ SealFault ms f ⊎ StepFault ms f → SignerFault ms g ⊎ SealFault ms g ⊎ StepFault ms g → f ≡ g
-    from_signers = one_of_two (SignerFault ms) (λ f. SealFault ms f ⊎ StepFault ms f) one_signer_fault from_seal signer_and_later
-
-    field_and_later : (f g : ScriptFault) → FieldFault ms f → SignerFault ms g ⊎ SealFault ms g ⊎ StepFault ms g → ⊥
-    field_and_later f g h (inl signer) = no_field_fault signer.fields f signer.before h
-    field_and_later f g h (inr (inl seal)) = no_field_fault seal.fields f seal.before.before h
-    field_and_later f g h (inr (inr step)) = no_field_fault step.fields f step.before.before.before h
-
-    from_fields : (f g : ScriptFault) → FieldFault ms f ⊎ SignerFault ms f ⊎ SealFault ms f ⊎ StepFault ms f → FieldFault ms g ⊎ SignerFault ms g ⊎ SealFault ms g ⊎ StepFault ms g → f ≡ g
-    from_fields = one_of_two (FieldFault ms) (λ f. SignerFault ms f ⊎ SealFault ms f ⊎ StepFault ms f) one_field_fault from_signers field_and_later
-
-    top_and_later : (f g : ScriptFault) → TopFault ms f → FieldFault ms g ⊎ SignerFault ms g ⊎ SealFault ms g ⊎ StepFault ms g → ⊥
-    top_and_later f g h (inl field) = no_top_fault f field.top h
-    top_and_later f g h (inr (inl signer)) = no_top_fault f signer.before.top h
-    top_and_later f g h (inr (inr (inl seal))) = no_top_fault f seal.before.before.top h
-    top_and_later f g h (inr (inr (inr step))) = no_top_fault f step.before.before.before.top h
-
-    one_fault_of : (f g : ScriptFault) → IsFaultOf ms f → IsFaultOf ms g → f ≡ g
-    one_fault_of = one_of_two (TopFault ms) (λ f. FieldFault ms f ⊎ SignerFault ms f ⊎ SealFault ms f ⊎ StepFault ms f) one_top_fault from_fields top_and_later
+  fault_given : (ms : Members) (f : ScriptFault) → IsFaultOf ms f → TableGives ms (Err f)
+  fault_given ms f (inl e) = inl (f, e, refl)
+  fault_given ms f (inr (top, is, inl e)) = inr (top, is, inl (f, e, refl))
+  fault_given ms f (inr (top, is, inr (fields, has, e))) = inr (top, is, inr (fields, has, e))
 
   -- ---- the text
 
-  pub one_script : (text : List ℕ) (s t : ScriptValue) → Denotes text s → Denotes text t → s ≡ t
-  one_script text s t h i =
-      let same : h.members ≡ i.members = same_Some h.members i.members (sym h.toml ∙ i.toml) in
-      one_script_of i.members s t (subst (λ (ms : Members). IsScriptOf ms s) same h.is) i.is
+  abbrev TooLong : List ℕ → Outcome → Type 0
+  TooLong text r = (MAX_TEXT < length text) × (r ≡ Err (at_top kinds.Limit))
+
+  abbrev NoToml : List ℕ → Outcome → Type 0
+  NoToml text r = (length text ≤ MAX_TEXT) × (document text ≡ None) × (r ≡ Err (at_top kinds.NotToml))
+
+  abbrev IsTable : List ℕ → Outcome → Type 0
+  IsTable text r = (ms : Members) × (document text ≡ Some ms) × TableGives ms r
+
+  abbrev TextGives : List ℕ → Outcome → Type 0
+  TextGives text r = TooLong text r ⊎ NoToml text r ⊎ IsTable text r
 
   -- a text that is too long is no document
   too_long : (text : List ℕ) → MAX_TEXT < length text → document text ≡ None
@@ -197,28 +129,34 @@ module _ (one_text : (c d : Text) → c.min ≡ d.min → c.max ≡ d.max → c 
     | inr gt ↦ rw gt refl
   ]
 
+  one_table : (text : List ℕ) (r q : Outcome) → IsTable text r → IsTable text q → r ≡ q
+  one_table text r q (ms, is, r_is) (other, also, q_is) = one_of_table other r q (subst (λ (m : Members). TableGives m r) (same_Some ms other (sym is ∙ also)) r_is) q_is
+
+  from_toml : (text : List ℕ) (r q : Outcome) → NoToml text r ⊎ IsTable text r → NoToml text q ⊎ IsTable text q → r ≡ q
+  from_toml text = one_of_two (NoToml text) (IsTable text) (λ r q h i. h.2 ∙ sym i.2) (one_table text) (λ r q h i. none-some i.0 (sym h.1 ∙ i.1))
+
+  long_and_later : (text : List ℕ) (r q : Outcome) → TooLong text r → NoToml text q ⊎ IsTable text q → ⊥
+  long_and_later text r q h (inl other) = let long = h.0 in let short = other.0 in omega arith
+  long_and_later text r q h (inr of) = none-some of.0 (sym (too_long text h.0) ∙ of.1)
+
+  one_outcome : (text : List ℕ) (r q : Outcome) → TextGives text r → TextGives text q → r ≡ q
+  one_outcome text = one_of_two (TooLong text) (λ r. NoToml text r ⊎ IsTable text r) (λ r q h i. h.1 ∙ sym i.1) (from_toml text) (long_and_later text)
+
+  script_of : (text : List ℕ) (s : ScriptValue) → Denotes text s → TextGives text (Ok s)
+  script_of text s h = inr (inr (h.members, h.toml, script_given h.members s h.is))
+
+  fault_of : (text : List ℕ) (f : ScriptFault) → IsFirstOf text f → TextGives text (Err f)
+  fault_of text f (inl long) = inl (long.0, ap Err long.1)
+  fault_of text f (inr (inl other)) = inr (inl (other.0, other.1, ap Err other.2))
+  fault_of text f (inr (inr (ms, is, e))) = inr (inr (ms, is, fault_given ms f e))
+
+  -- ---- the laws
+
+  pub one_script : (text : List ℕ) (s t : ScriptValue) → Denotes text s → Denotes text t → s ≡ t
+  one_script text s t h i = same_ok s t (one_outcome text (Ok s) (Ok t) (script_of text s h) (script_of text t i))
+
   pub no_script : (text : List ℕ) (f : ScriptFault) (s : ScriptValue) → IsFirstOf text f → Denotes text s → ⊥
-  no_script text f s (inl long) h = none-some h.members (sym (too_long text long.0) ∙ h.toml)
-  no_script text f s (inr (inl other)) h = none-some h.members (sym other.1 ∙ h.toml)
-  no_script text f s (inr (inr of)) h =
-      let same : of.0 ≡ h.members = same_Some of.0 h.members (sym of.1 ∙ h.toml) in
-      no_fault h.members s f h.is (subst (λ (ms : Members). IsFaultOf ms f) same of.2)
-
-  -- the fault of the table that the text is
-  abbrev IsTableFault : List ℕ → ScriptFault → Type 0
-  IsTableFault text f = (ms : Members) × (document text ≡ Some ms) × IsFaultOf ms f
-
-  one_table_fault : (text : List ℕ) (f g : ScriptFault) → IsTableFault text f → IsTableFault text g → f ≡ g
-  one_table_fault text f g h i =
-      let same : h.0 ≡ i.0 = same_Some h.0 i.0 (sym h.1 ∙ i.1) in
-      one_fault_of i.0 f g (subst (λ (ms : Members). IsFaultOf ms f) same h.2) i.2
-
-  long_and_later : (text : List ℕ) (f g : ScriptFault) → IsTooLong text f → IsNoToml text g ⊎ IsTableFault text g → ⊥
-  long_and_later text f g h (inl other) = let long = h.0 in let short = other.0 in omega arith
-  long_and_later text f g h (inr of) = none-some of.0 (sym (too_long text h.0) ∙ of.1)
-
-  from_toml : (text : List ℕ) (f g : ScriptFault) → IsNoToml text f ⊎ IsTableFault text f → IsNoToml text g ⊎ IsTableFault text g → f ≡ g
-  from_toml text = one_of_two (IsNoToml text) (IsTableFault text) (λ f g h i. h.2 ∙ sym i.2) (one_table_fault text) (λ f g h i. none-some i.0 (sym h.1 ∙ i.1))
+  no_script text f s h i = ok_err s f (one_outcome text (Ok s) (Err f) (script_of text s i) (fault_of text f h))
 
   pub one_fault : (text : List ℕ) (f g : ScriptFault) → IsFirstOf text f → IsFirstOf text g → f ≡ g
-  one_fault text = one_of_two (IsTooLong text) (λ f. IsNoToml text f ⊎ IsTableFault text f) (λ f g h i. h.1 ∙ sym i.1) (from_toml text) (long_and_later text)
+  one_fault text f g h i = same_err f g (one_outcome text (Err f) (Err g) (fault_of text f h) (fault_of text g i))

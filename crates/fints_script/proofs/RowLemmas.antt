@@ -1,60 +1,59 @@
--- Rows that are looked at one by one.
-use Rattle.std.proofs.Common.{◌≡◌, ℕ, ◌+◌, ◌<◌, List, [], ◌∷◌, ◌++◌, length, get_or, take, map, Option, Some, None, refl, ap, subst, sym, ◌∙◌, inl, inr, arith}
-use Rattle.std.proofs.lemmas.Bool.{cases_lt}
-use Rattle.std.proofs.lemmas.List.{take_more, map_push}
-use Rattle.std.proofs.lemmas.Option.{slice_get-map, slice_get-get_or}
+-- Rows that are read one by one.
+use Rattle.std.proofs.Common.{◌≡◌, ◌⊎◌, ℕ, ◌+◌, ◌<◌, ◌≤◌, List, [], ◌∷◌, ◌++◌, length, get_or, take, map, Some, Result, Ok, Err, refl, ap, subst, sym, ◌∙◌, inl, inr, arith}
 use Rattle.std.specs.List.{slice_get}
 use Rattle.std.specs.Prelude.{option_map}
+use Rattle.std.proofs.lemmas.List.{take_all, length-map}
+use Rattle.std.proofs.lemmas.Option.{slice_get-map, slice_get-get_or}
 use Rattle.toml.specs.declared.value.Value.{Value}
 use Rattle.toml.specs.Data.{Data}
 use Rattle.toml.specs.View.{view}
-use Rattle.fints_field_rows.specs.Faults.{AreClean, IsFirstFault, Tells}
-use Rattle.fints_script.specs.RowFaults.{placed, RefusesRow}
+use Rattle.fints_field_rows.specs.PartLaws.{placed_finds, rows_more, rows_stop}
+use Rattle.fints_field_rows.specs.Parts.{Gives, Part}
+use Rattle.fints_field_rows.specs.Rows.{Finds, fault_at, no_memory, part_at, placed, rows_from}
 use Rattle.fints_field_rows.specs.declared.fault.FaultKind.{FaultKind}
-use Rattle.fints_field_rows.specs.declared.fault.FaultKind.TheVariants as kinds
 use Rattle.fints_field_rows.specs.declared.fault.Place.{Place}
+use Rattle.fints_field_rows.specs.declared.fault.ScriptFault.{ScriptFault}
 
 -- the row at i
-pub row_at : (vs : List Value) (i : ℕ) (d : Value) → i < length vs → slice_get (map view vs) i ≡ Some (view (get_or vs i d))
-row_at vs i d h = slice_get-map view vs i ∙ ap (option_map view) (slice_get-get_or vs i d h)
+row_at : (vs : List Value) (i : ℕ) (v : Value) → i < length vs → v ≡ get_or vs i v → slice_get (map view vs) i ≡ Some (view v)
+row_at vs i v h is = slice_get-map view vs i ∙ ap (option_map view) (slice_get-get_or vs i v h) ∙ ap (λ w. Some (view w)) (sym is)
 
-some_is : {X : Type 0} (x y : X) → Some x ≡ Some y → x ≡ y
-some_is x y h = cc
+pub part_ok : {X : Type 0} (at : Place) (p : Part X) (x : X) → part_at at p ≡ Ok x → p ≡ Ok x
+part_ok at (Ok y) x e = cc
+part_ok at (Err k) x e = absurd cc
 
-module _ (look : ℕ → Data → Option FaultKind) where
-  here_clean : (rows : List Data) (i : ℕ) (at : Data) → slice_get rows i ≡ Some at → look i at ≡ None → (k : ℕ) (row : Data) → k ≡ i → slice_get rows k ≡ Some row → look k row ≡ None
-  here_clean rows i at is none k row same stands =
-      let row_is : at ≡ row = some_is at row (sym is ∙ ap (slice_get rows) (sym same) ∙ stands) in
-      ap (λ n. look n row) same ∙ ap (look i) (sym row_is) ∙ none
+part_err : {X : Type 0} (at : Place) (p : Part X) (f : ScriptFault) → part_at at p ≡ Err f → (kind : FaultKind) × (p ≡ Err kind) × (f ≡ fault_at at kind)
+part_err at (Ok y) f e = absurd cc
+part_err at (Err k) f e = (k, refl, cc)
 
-  pub clean_more : (vs : List Value) (i : ℕ) (d : Value) → i < length vs → AreClean look (map view vs) i → look i (view (get_or vs i d)) ≡ None → AreClean look (map view vs) (i + 1)
-  clean_more vs i d h clean none k row lt stands = elim (cases_lt k i) [
-    | inl less ↦ clean k row less stands
-    | inr ge ↦ here_clean (map view vs) i (view (get_or vs i d)) (row_at vs i d h) none k row (omega (arith, lt, ge)) stands
-  ]
+-- all rows were read
+pub read_all : {X : Type 0} (place : ℕ → Place) (part : ℕ → Data → Part X) (vs : List Value) (n : ℕ) (r : Result (List X) ScriptFault) → length vs ≤ n → rows_from place part 0 (take n (map view vs)) ≡ r → rows_from place part 0 (map view vs) ≡ r
+read_all place part vs n r is e =
+    let count : length (map view vs) ≡ length vs = length-map vs view in
+    ap (rows_from place part 0) (sym (take_all n (map view vs) (omega (arith, is, count)))) ∙ e
 
-  known : (place : ℕ → Place) (rows : List Data) (i : ℕ) (kind : FaultKind) → IsFirstFault look rows i kind → RefusesRow place look rows (placed kind (place (i + 1)))
-  known place rows i kinds.Memory first = inl refl
-  known place rows i kinds.NotToml first = inr (record { row = i; placed_at = refl; first = first })
-  known place rows i kinds.UnknownKey first = inr (record { row = i; placed_at = refl; first = first })
-  known place rows i kinds.Missing first = inr (record { row = i; placed_at = refl; first = first })
-  known place rows i kinds.WrongKind first = inr (record { row = i; placed_at = refl; first = first })
-  known place rows i kinds.NotLatin1 first = inr (record { row = i; placed_at = refl; first = first })
-  known place rows i kinds.BadHex first = inr (record { row = i; placed_at = refl; first = first })
-  known place rows i kinds.Duplicate first = inr (record { row = i; placed_at = refl; first = first })
-  known place rows i kinds.NoSuchName first = inr (record { row = i; placed_at = refl; first = first })
-  known place rows i kinds.BackwardJump first = inr (record { row = i; placed_at = refl; first = first })
-  known place rows i kinds.BadPattern first = inr (record { row = i; placed_at = refl; first = first })
-  known place rows i kinds.Limit first = inr (record { row = i; placed_at = refl; first = first })
+module _ {X Y : Type 0} (see : X → Y) (place : ℕ → Place) (part : ℕ → Data → Part Y) (vs : List Value) (i : ℕ) (v : Value) (r : Result X FaultKind) (ys : List Y)
+    (within : i < length vs) (is : v ≡ get_or vs i v) (so_far : rows_from place part 0 (take i (map view vs)) ≡ Ok ys) (gives : Gives see r (part i (view v))) where
+  -- one more row has a value
+  pub read_more : (x : X) → placed (place (i + 1)) r ≡ Ok x → rows_from place part 0 (take (i + 1) (map view vs)) ≡ Ok (ys ++ see x ∷ [])
+  read_more x e =
+      let found : Finds see (Ok x) (part_at (place (i + 1)) (part i (view v))) = subst (λ q. Finds see q (part_at (place (i + 1)) (part i (view v)))) e (placed_finds see (place (i + 1)) r (part i (view v)) gives) in
+      rows_more place part (map view vs) i ys (see x) (view v) (row_at vs i v within is) so_far (part_ok (place (i + 1)) (part i (view v)) (see x) found)
 
-  pub refused : (place : ℕ → Place) (vs : List Value) (i : ℕ) (d : Value) (kind : FaultKind) → i < length vs → AreClean look (map view vs) i → Tells (look i (view (get_or vs i d))) kind
-      → RefusesRow place look (map view vs) (placed kind (place (i + 1)))
-  refused place vs i d kind h clean (inl memory) = subst (λ k. RefusesRow place look (map view vs) (placed k (place (i + 1)))) (sym memory) (inl refl)
-  refused place vs i d kind h clean (inr is) = known place (map view vs) i kind (record { row = view (get_or vs i d); stands = row_at vs i d h; is = is; earlier = clean })
+  told : (f : ScriptFault) → Finds see (Err f) (part_at (place (i + 1)) (part i (view v))) → (f ≡ no_memory) ⊎ (rows_from place part 0 (map view vs) ≡ Err f)
+  told f (inl memory) = inl memory
+  told f (inr e) =
+      let fault = part_err (place (i + 1)) (part i (view v)) f e in
+      inr (rows_stop place part (map view vs) i ys fault.0 (view v) (row_at vs i v within is) so_far fault.1 ∙ ap Err (sym fault.2))
 
--- one more row's value
-pub map_more : {X : Type 0} (of : Data → X) (vs : List Value) (i : ℕ) (d : Value) (x : X) (xs : List X) → i < length vs → xs ≡ map of (map view (take i vs)) → x ≡ of (view (get_or vs i d))
-    → xs ++ x ∷ [] ≡ map of (map view (take (i + 1) vs))
-map_more of vs i d x xs h so_far is =
-    ap (λ ys. ys ++ x ∷ []) so_far ∙ ap (λ y. map of (map view (take i vs)) ++ y ∷ []) is ∙ sym (map_push of (map view (take i vs)) (view (get_or vs i d)))
-    ∙ ap (map of) (sym (ap (map view) (take_more vs i d h) ∙ map_push view (take i vs) (get_or vs i d)))
+  -- the row has the first fault, or memory ran out
+  pub read_stop : (f : ScriptFault) → placed (place (i + 1)) r ≡ Err f → (f ≡ no_memory) ⊎ (rows_from place part 0 (map view vs) ≡ Err f)
+  read_stop f e = told f (subst (λ q. Finds see q (part_at (place (i + 1)) (part i (view v)))) e (placed_finds see (place (i + 1)) r (part i (view v)) gives))
+
+itself : {X : Type 0} (part : Part X) → Gives (λ x. x) part part
+itself (Ok x) = refl
+itself (Err k) = inr refl
+
+-- a call that gives the part itself
+pub exact_gives : {X : Type 0} (r part : Part X) → r ≡ part → Gives (λ x. x) r part
+exact_gives r part e = subst (Gives (λ x. x) r) e (itself r)

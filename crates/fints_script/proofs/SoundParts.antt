@@ -1,41 +1,34 @@
--- What signers, the seal and the steps of a read script keep.
-use Rattle.std.proofs.Common.{◌≡◌, ℕ, ◌+◌, ◌<◌, ◌≤◌, Bool, true, false, codes, List, [], ◌∷◌, length, get_or, map, nat_lt, All, Option, Some, None, refl, ap, subst, ◌∙◌, sym, arith}
+-- What signers and the seal of a read script keep.
+use Rattle.std.proofs.Common.{◌≡◌, ℕ, ◌+◌, ◌<◌, ◌≤◌, false, codes, List, [], ◌∷◌, length, get_or, map, nat_lt, All, Option, Some, None, Ok, refl, ap, subst, ◌∙◌, sym, arith}
 use Rattle.std.specs.Prelude.{slice_get, IfSome}
-use Rattle.std.proofs.lemmas.Bool.{false≢true, or_parts}
-use Rattle.std.proofs.lemmas.Bool.Decides.{nat_tests}
+use Rattle.std.proofs.lemmas.Bool.{false≢true}
 use Rattle.std.proofs.lemmas.List.{get_or-map}
 use Rattle.std.proofs.lemmas.List.Elements.{All-head, All-tail}
 use Rattle.std.proofs.lemmas.Option.{slice_get-get_or}
-use Rattle.toml.specs.Data.{Data, string, integer, float, boolean, datetime, array, table, Members, get_member}
-use Rattle.fints_field_rows.specs.declared.fault.FaultKind.TheVariants as kinds
+use Rattle.toml.specs.Data.{Data, table, Members}
+use Rattle.fints_documents.specs.Document.{only_keys}
+use Rattle.fints_fields.specs.Fields.{field_most_items}
 use Rattle.fints_fields.specs.declared.field.Field.{Field}
 use Rattle.fints_fields.specs.declared.field.Field.TheVariants as classes
+use Rattle.fints_field_rows.specs.NamedFields.{is_account, is_account_at}
+use Rattle.fints_field_rows.specs.PartLaws.{bind_ok, both_ok}
+use Rattle.fints_field_rows.specs.Parts.{both, required, seen}
+use Rattle.fints_field_rows.specs.RowNames.{row_name}
+use Rattle.fints_field_rows.specs.Rows.{part_at}
+use Rattle.fints_field_rows.specs.declared.fault.FaultKind.TheVariants as kinds
+use Rattle.fints_field_rows.specs.declared.fault.Place.TheVariants as places
 use Rattle.fints_field_rows.specs.declared.fields.NamedField.{NamedField}
+use Rattle.fints_templates.specs.Elements.{elements_in}
+use Rattle.fints_templates.specs.Figures.{figures_of}
+use Rattle.fints_templates.specs.Signers.{few_items, frame_at, frame_in, frames_in, is_taken_signer, signer_in, signer_keys, signer_of, table_signer}
+use Rattle.fints_templates.specs.Weights.{total, item_count, element_count, items_in, no_figures, MAX_TEMPLATE_ITEMS}
+use Rattle.fints_templates.specs.declared.template.Signer.{Signer}
 use Rattle.fints_templates.specs.declared.template.TemplateItem.{TemplateItem}
 use Rattle.fints_templates.specs.declared.template.TemplateItem.TheVariants as items
-use Rattle.fints_field_rows.specs.FaultOrder.{first_kind, none_of}
-use Rattle.fints_field_rows.specs.Faults.{or_later}
-use Rattle.fints_fields.specs.Fields.{field_most_items}
-use Rattle.fints_templates.specs.Figures.{figures_of}
-use Rattle.fints_field_rows.specs.NamedFields.{is_account, is_account_at}
-use Rattle.fints_templates.specs.Elements.{elements_have, elements_value}
-use Rattle.fints_templates.specs.Weights.{total, item_count, element_count, items_in, no_figures, MAX_TEMPLATE_ITEMS}
-use Rattle.fints_templates.specs.Signers.{signer_has, signer_value, signer_fault, signer_of, ends_have, has_many_items, limit_of, table_fault, seal_fault, seal_value}
+use Rattle.fints_script.specs.Scripts.{seal_from}
 use Rattle.fints_script.specs.Sound.{IsInRange, IsSingle, IsFrameElement, IsSoundFrame, IsSoundSigner}
-use Rattle.fints_script.proofs.SoundElements.{frame_elements}
-
--- ---- kinds of faults
-
-pub both_none : {F : Type 0} (a b : Option F) → or_later a b ≡ None → (a ≡ None) × (b ≡ None)
-both_none None b h = (refl, h)
-both_none (Some f) b h = cc
-
-pub no_limit : (past : Bool) → limit_of past ≡ None → past ≡ false
-no_limit true h = cc
-no_limit false h = refl
-
-pub not_past : (m n : ℕ) → nat_lt m n ≡ false → n ≤ m
-not_past m n h = grind (arith, nat_tests)
+use Rattle.fints_script.proofs.ReadParts.{failed, not_past, passed, placed_ok, same_ok, seen_ok}
+use Rattle.fints_script.proofs.SoundElements.{IsBehindFirst, frame_elements}
 
 -- ---- items of lists without account fields
 
@@ -74,37 +67,36 @@ list_counts fields (e ∷ es) each =
     let here = All-head (IsFrameElement fields) e es each in
     ap (λ n. n + items_in (map figures_of fields) es) (element_counts fields e here.within here.single) ∙ ap (λ n. length e + n) (list_counts fields es (All-tail (IsFrameElement fields) e es each))
 
-module _ (first : NamedField) (others : List NamedField) (named : first.name ≡ codes "dialog") where
-  sound_frame : (o : Option Data) → elements_have kinds.WrongKind (first ∷ others) false o ≡ false → elements_have kinds.NoSuchName (first ∷ others) false o ≡ false → has_many_items (elements_value (first ∷ others) o) ≡ false
-      → IsSoundFrame (first ∷ others) (elements_value (first ∷ others) o)
-  sound_frame o wrong no_name few =
-      let each = frame_elements first others named o wrong no_name in
-      record { each = each; few = subst (λ n. n ≤ MAX_TEMPLATE_ITEMS) (sym (list_counts (first ∷ others) (elements_value (first ∷ others) o) each)) (not_past MAX_TEMPLATE_ITEMS _ few) }
+-- ---- frames, signers and the seal
 
-  sound_table : (earlier : List Data) (ms : Members) → table_fault (first ∷ others) earlier ms ≡ None → IsSoundSigner (first ∷ others) (signer_value (first ∷ others) ms)
-  unfolding signer_has
-  sound_table earlier ms h =
-      let parts = both_none (first_kind (λ kind. signer_has kind (first ∷ others) earlier ms)) _ h in
-      let wrong = or_parts _ (ends_have kinds.WrongKind (first ∷ others) ms) (none_of (λ kind. signer_has kind (first ∷ others) earlier ms) parts.0).wrong in
-      let ends_wrong = or_parts (elements_have kinds.WrongKind (first ∷ others) false (get_member (codes "head") ms)) _ wrong.1 in
-      let ends_unnamed = or_parts (elements_have kinds.NoSuchName (first ∷ others) false (get_member (codes "head") ms)) _ (none_of (λ kind. signer_has kind (first ∷ others) earlier ms) parts.0).nameless in
-      let many = or_parts (has_many_items (elements_value (first ∷ others) (get_member (codes "head") ms))) _ (no_limit _ parts.1) in
-      record {
-        head = sound_frame (get_member (codes "head") ms) ends_wrong.0 ends_unnamed.0 many.0;
-        end = sound_frame (get_member (codes "end") ms) ends_wrong.1 ends_unnamed.1 many.1;
-      }
+module _ (fields : List NamedField) (behind : IsBehindFirst fields) where
+  sound_frame : (d : Data) (elements : List (List TemplateItem)) → frame_in fields d ≡ Ok elements → IsSoundFrame fields elements
+  sound_frame d elements e =
+      let read = bind_ok (elements_in fields false d) few_items elements e in
+      let few = failed (nat_lt MAX_TEMPLATE_ITEMS (total length read.0)) (Ok read.0) kinds.Limit elements read.2 in
+      let each = frame_elements fields behind d read.0 read.1 in
+      subst (IsSoundFrame fields) (same_ok read.0 elements few.1)
+      (record { each = each; few = subst (λ n. n ≤ MAX_TEMPLATE_ITEMS) (sym (list_counts fields read.0 each)) (not_past MAX_TEMPLATE_ITEMS (total length read.0) few.0) })
 
-  pub sound_signer : (earlier : List Data) (row : Data) → signer_fault (first ∷ others) earlier row ≡ None → IsSoundSigner (first ∷ others) (signer_of (first ∷ others) row)
-  sound_signer earlier (table ms) h = sound_table earlier ms h
-  sound_signer earlier (string text) h = cc
-  sound_signer earlier (integer z) h = cc
-  sound_signer earlier (float f) h = cc
-  sound_signer earlier (boolean b) h = cc
-  sound_signer earlier (datetime t) h = cc
-  sound_signer earlier (array ds) h = cc
+  frame_at_key : (key : List ℕ) (ms : Members) (elements : List (List TemplateItem)) → frame_at key fields ms ≡ Ok elements → IsSoundFrame fields elements
+  frame_at_key key ms elements e = let value = bind_ok (required key ms) (frame_in fields) elements e in sound_frame value.0 elements value.2
 
-  pub sound_seal : (o : Option Data) → seal_fault (first ∷ others) o ≡ None → IfSome (seal_value (first ∷ others) o) (IsSoundFrame (first ∷ others))
-  sound_seal None h = tt
-  sound_seal (Some d) h =
-      let parts = both_none (first_kind (λ kind. elements_have kind (first ∷ others) false (Some d))) _ h in
-      sound_frame (Some d) (none_of (λ kind. elements_have kind (first ∷ others) false (Some d)) parts.0).wrong (none_of (λ kind. elements_have kind (first ∷ others) false (Some d)) parts.0).nameless (no_limit _ parts.1)
+  sound_table : (earlier : List Data) (ms : Members) (signer : Signer) → table_signer fields earlier ms ≡ Ok signer → IsSoundSigner fields signer
+  unfolding table_signer
+  sound_table earlier ms signer e =
+      let parts = both (row_name (is_taken_signer earlier) ms) (frames_in fields ms) in
+      let table = passed (only_keys signer_keys ms) (seen signer_of parts) kinds.UnknownKey signer e in
+      let read = seen_ok signer_of parts signer table.1 in
+      let named = both_ok (row_name (is_taken_signer earlier) ms) (frames_in fields ms) read.0 read.1 in
+      let ends = both_ok (frame_at (codes "head") fields ms) (frame_at (codes "end") fields ms) read.0.1 named.1 in
+      subst (IsSoundSigner fields) read.2 (record { head = frame_at_key (codes "head") ms read.0.1.0 ends.0; end = frame_at_key (codes "end") ms read.0.1.1 ends.1 })
+
+  pub sound_signer : (earlier : List Data) (row : Data) (signer : Signer) → signer_in fields earlier row ≡ Ok signer → IsSoundSigner fields signer
+  sound_signer earlier (table ms) signer e = sound_table earlier ms signer e
+  sound_signer earlier _ signer e = absurd cc
+
+  pub sound_seal : (o : Option Data) (seal : Option (List (List TemplateItem))) → seal_from fields o ≡ Ok seal → IfSome seal (IsSoundFrame fields)
+  sound_seal None seal e = subst (λ (s : Option (List (List TemplateItem))). IfSome s (IsSoundFrame fields)) (same_ok None seal e) tt
+  sound_seal (Some d) seal e =
+      let read = bind_ok (part_at places.Seal (frame_in fields d)) (λ elements. Ok (Some elements)) seal e in
+      subst (λ (s : Option (List (List TemplateItem))). IfSome s (IsSoundFrame fields)) (same_ok (Some read.0) seal read.2) (sound_frame d read.0 (placed_ok places.Seal (frame_in fields d) read.0 read.1))

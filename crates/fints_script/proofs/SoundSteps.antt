@@ -1,71 +1,55 @@
 -- What the steps of a read script keep.
-use Rattle.std.proofs.Common.{◌≡◌, ℕ, ◌<◌, ◌≤◌, Bool, true, false, ◌&&◌, ◌||◌, ◌==◌, not, cond, codes, List, [], ◌∷◌, length, map, nat_lt, nat_le, All, Option, Some, None, refl, ap, subst, ◌∙◌, sym, inl, inr, arith}
-use Rattle.std.specs.Prelude.{pos, negsuc, option_and_then, is_some, unwrap_or}
+use Rattle.std.proofs.Common.{◌≡◌, ℕ, ◌+◌, ◌<◌, ◌≤◌, Bool, true, false, ◌&&◌, ◌||◌, not, cond, codes, List, [], ◌∷◌, length, map, take, nat_lt, All, Some, None, Ok, refl, ap, subst, ◌∙◌, sym, inl, inr, arith}
+use Rattle.std.specs.Prelude.{nat_le, ok_or, is_some}
 use Rattle.std.specs.List.{list_any, list_all}
 use Rattle.std.specs.Str.{bytes_eq}
 use Rattle.std.specs.Char.{is_ascii_digit, is_ascii_uppercase}
 use Rattle.std.proofs.lemmas.Bool.{cases_Bool, false≢true, or_parts, not-false, and_parts}
 use Rattle.std.proofs.lemmas.Bool.Decides.{nat_tests}
+use Rattle.std.proofs.lemmas.Option.{none-some, same_Some}
 use Rattle.std.proofs.lemmas.Slice.Eq.{bytes_eq-Decides}
 use Rattle.std.proofs.lemmas.List.Elements.{All-cons, All-nil}
 use Rattle.std.proofs.lemmas.List.Sums.{AllPass-from_list_all}
-use Rattle.toml.specs.Data.{Data, string, integer, float, boolean, datetime, array, table, Members, get_member, as_str}
+use Rattle.toml.specs.Data.{Data, string, table, Members, get_member}
 use Rattle.fints_syntax.specs.Kind.{IsKindText, IsKindByte, kind_from, frame_kinds, is_frame_kind}
-use Rattle.fints_documents.specs.Document.{item_list, number_between}
-use Rattle.fints_field_rows.specs.declared.fault.FaultKind.{FaultKind}
+use Rattle.fints_documents.specs.Document.{only_keys}
+use Rattle.fints_documents.specs.Entries.{is_named, name_in}
+use Rattle.fints_cases.specs.declared.answers.Branch.{Branch}
+use Rattle.fints_cases.specs.declared.answers.Target.TheVariants as targets
+use Rattle.fints_field_rows.specs.FieldParts.{row_named}
+use Rattle.fints_field_rows.specs.PartLaws.{bind_ok, both_ok, each_all, each_length, or_ok}
+use Rattle.fints_field_rows.specs.Parts.{◌>>=◌, at_most, both, each, entries_of, flag_in, integer_in, not_empty, required, seen}
+use Rattle.fints_field_rows.specs.RowNames.{row_name}
 use Rattle.fints_field_rows.specs.declared.fault.FaultKind.TheVariants as kinds
 use Rattle.fints_field_rows.specs.declared.fields.NamedField.{NamedField}
-use Rattle.fints_templates.specs.declared.template.Template.{Template}
-use Rattle.fints_templates.specs.declared.template.Signer.{Signer}
-use Rattle.fints_documents.specs.Entries.{has_key}
-use Rattle.fints_templates.specs.Elements.{elements_have}
-use Rattle.fints_documents.specs.Tables.{is_outside, number_or, is_no_integer, is_no_list, rows_of}
-use Rattle.fints_templates.specs.Weights.{items_in, MAX_TEMPLATE_ITEMS}
+use Rattle.fints_templates.specs.Elements.{elements_in}
 use Rattle.fints_templates.specs.Figures.{figures_of}
-use Rattle.fints_script.specs.Steps.{place_of_signer, signature_has, signature_value}
-use Rattle.fints_templates.specs.Segments.{is_body_kind, is_no_kind, segment_keys_have, segment_has, kind_of, template_value, template_of}
-use Rattle.fints_script.specs.Sound.{IsSoundTemplate}
-use Rattle.fints_script.proofs.SoundElements.{body_elements, place_within}
-use Rattle.fints_script.proofs.SoundParts.{not_past}
+use Rattle.fints_templates.specs.Segments.{body_in, body_kind, kind_at, kind_in, segment_in, segment_keys, table_segment, template_of, version_at}
+use Rattle.fints_templates.specs.Weights.{items_in, MAX_TEMPLATE_ITEMS}
+use Rattle.fints_templates.specs.declared.template.Signer.{Signer}
+use Rattle.fints_templates.specs.declared.template.Template.{Template}
+use Rattle.fints_script.specs.Scripts.{ScriptValue, surroundings}
+use Rattle.fints_script.specs.Sound.{IsBodyElement, IsOnward, IsSoundStep, IsSoundTemplate, LeadsOnward}
+use Rattle.fints_script.specs.Steps.{Course, Sent, StepValue, Surroundings, branch_in, branches_at, branches_in, course_in, default_at, has_large_segment, is_taken_step, is_too_large, is_word, parts_in, place_of_signer, repeat_at, sealed_at, sealed_in, segments_at, segments_in, sent_in, signature_in, signatures_at, signatures_in, sized_step, step_in, step_keys, step_of, step_weight, table_step, target_in, with_seal, MAX_WEIGHT}
+use Rattle.fints_script.proofs.ReadParts.{at_most_ok, failed, integer_ok, list_ok, not_empty_ok, not_past, optional_ok, passed, same_ok, seen_ok}
+use Rattle.fints_script.proofs.SoundElements.{IsBehindFirst, body_elements, place_within}
+use Rattle.fints_script.proofs.SoundTargets.{branch_onward, target_onward}
 
--- ---- versions and kinds
-
-number_in : (low high d n : ℕ) → not (is_some (number_between low high (integer (pos n)))) ≡ false → (low ≤ number_or low high d (Some (integer (pos n)))) × (number_or low high d (Some (integer (pos n))) ≤ high)
-number_in low high d n h = elim (cases_Bool (nat_le low n && nat_le n high)) [
-  | inl e ↦
-      let parts = and_parts (nat_le low n) (nat_le n high) e in
-      let least : nat_le low n ≡ true = parts.0 in
-      let most : nat_le n high ≡ true = parts.1 in
-      let is : number_or low high d (Some (integer (pos n))) ≡ n = ap (λ b. unwrap_or (cond b (Some n) None) d) e in
-      (subst (λ m. low ≤ m) (sym is) (grind (arith, nat_tests)), subst (λ m. m ≤ high) (sym is) (grind (arith, nat_tests)))
-  | inr e ↦ absurd (false≢true (sym h ∙ ap (λ b. not (is_some (cond b (Some n) None))) e))
-]
-
--- an integer within its range, or what stands for an absent one
-pub number_within : (low high d : ℕ) → low ≤ d → d ≤ high → (o : Option Data) → is_no_integer o ≡ false → is_outside low high o ≡ false → (low ≤ number_or low high d o) × (number_or low high d o ≤ high)
-number_within low high d least most None integral within = (least, most)
-number_within low high d least most (Some (integer (pos n))) integral within = number_in low high d n within
-number_within low high d least most (Some (integer (negsuc n))) integral within = absurd (false≢true (sym within))
-number_within low high d least most (Some (string text)) integral within = absurd (false≢true (sym integral))
-number_within low high d least most (Some (float f)) integral within = absurd (false≢true (sym integral))
-number_within low high d least most (Some (boolean b)) integral within = absurd (false≢true (sym integral))
-number_within low high d least most (Some (datetime t)) integral within = absurd (false≢true (sym integral))
-number_within low high d least most (Some (array ds)) integral within = absurd (false≢true (sym integral))
-number_within low high d least most (Some (table ms)) integral within = absurd (false≢true (sym integral))
+-- ---- kinds
 
 kind_byte : (b : ℕ) → (is_ascii_uppercase b || is_ascii_digit b) ≡ true → IsKindByte b
 kind_byte b h = grind (arith, nat_tests)
 
 -- an identifier is its own text
-kind_some : (text : List ℕ) → is_some (kind_from text) ≡ true → (kind_from text ≡ Some text) × IsKindText text
-kind_some text h = elim (cases_Bool (list_all (λ b. is_ascii_uppercase b || is_ascii_digit b) text && nat_le 1 (length text) && nat_le (length text) 6)) [
+kind_text : (text kind : List ℕ) → kind_from text ≡ Some kind → (text ≡ kind) × IsKindText text
+kind_text text kind h = elim (cases_Bool (list_all (λ b. is_ascii_uppercase b || is_ascii_digit b) text && nat_le 1 (length text) && nat_le (length text) 6)) [
   | inl e ↦
       let outer = and_parts (list_all (λ b. is_ascii_uppercase b || is_ascii_digit b) text && nat_le 1 (length text)) (nat_le (length text) 6) e in
       let inner = and_parts (list_all (λ b. is_ascii_uppercase b || is_ascii_digit b) text) (nat_le 1 (length text)) outer.0 in
       let low : nat_le 1 (length text) ≡ true = inner.1 in
       let high : nat_le (length text) 6 ≡ true = outer.1 in
-      (ap (λ b. cond b (Some text) None) e, (grind (arith, nat_tests), grind (arith, nat_tests), λ k d lt. kind_byte _ (AllPass-from_list_all (λ b. is_ascii_uppercase b || is_ascii_digit b) text inner.0 k d lt)))
-  | inr e ↦ absurd (false≢true (sym (ap (λ b. is_some (cond b (Some text) None)) e) ∙ h))
+      (same_Some text kind (ap (λ b. cond b (Some text) None) (sym e) ∙ h), (grind (arith, nat_tests), grind (arith, nat_tests), λ k d lt. kind_byte _ (AllPass-from_list_all (λ b. is_ascii_uppercase b || is_ascii_digit b) text inner.0 k d lt)))
+  | inr e ↦ absurd (none-some kind (ap (λ b. cond b (Some text) None) (sym e) ∙ h))
 ]
 
 no_frame_of : (text : List ℕ) (frames : List (List ℕ)) → list_any (bytes_eq text) frames ≡ false → All (λ frame. frame ≡ text → ⊥) frames
@@ -74,116 +58,187 @@ no_frame_of text (f ∷ fs) h =
     let parts = or_parts (bytes_eq text f) (list_any (bytes_eq text) fs) h in
     All-cons (λ frame. frame ≡ text → ⊥) f fs (λ e. false≢true (sym parts.0 ∙ (bytes_eq-Decides text f).1 (sym e))) (no_frame_of text fs parts.1)
 
--- a kind that is there, an identifier outside the frame
-pub record IsBodyKind (kind : List ℕ) : Type 0 where
+-- an identifier outside the frame
+record IsBodyKind (kind : List ℕ) : Type 0 where
   pub text : IsKindText kind
   pub no_frame : All (λ frame. frame ≡ kind → ⊥) frame_kinds
 
-body_kind : (text : List ℕ) → not (is_body_kind text) ≡ false → IsBodyKind (kind_of (Some text))
-body_kind text h =
-    let parts = and_parts (is_some (kind_from text)) (not (is_frame_kind text)) (not-false _ h) in
-    let is = kind_some text parts.0 in
-    subst IsBodyKind (sym (ap (λ o. unwrap_or o (codes "HKEND")) is.0)) (record { text = is.1; no_frame = no_frame_of text frame_kinds (not_true _ parts.1) })
-  where
-    not_true : (b : Bool) → not b ≡ true → b ≡ false
-    not_true true e = cc
-    not_true false e = refl
+body_kind_ok : (text kind : List ℕ) → body_kind text ≡ Ok kind → IsBodyKind kind
+body_kind_ok text kind e =
+    let body = failed (is_frame_kind text) (ok_or (kind_from text) kinds.WrongKind) kinds.WrongKind kind e in
+    let is = kind_text text kind (or_ok (kind_from text) kinds.WrongKind kind body.1) in
+    subst IsBodyKind is.0 (record { text = is.1; no_frame = no_frame_of text frame_kinds body.0 })
 
-kind_at : (o : Option Data) → is_some o ≡ true → is_no_kind o ≡ false → IsBodyKind (kind_of (option_and_then as_str o))
-kind_at None there h = absurd (false≢true there)
-kind_at (Some (string text)) there h = body_kind text h
-kind_at (Some (integer z)) there h = absurd (false≢true (sym h))
-kind_at (Some (float f)) there h = absurd (false≢true (sym h))
-kind_at (Some (boolean b)) there h = absurd (false≢true (sym h))
-kind_at (Some (datetime t)) there h = absurd (false≢true (sym h))
-kind_at (Some (array ds)) there h = absurd (false≢true (sym h))
-kind_at (Some (table ms)) there h = absurd (false≢true (sym h))
+kind_ok : (d : Data) (kind : List ℕ) → kind_in d ≡ Ok kind → IsBodyKind kind
+kind_ok (string text) kind e = body_kind_ok text kind e
+kind_ok _ kind e = absurd cc
 
-module _ (first : NamedField) (others : List NamedField) (named : first.name ≡ codes "dialog") where
-  -- a fault of none of these kinds
-  pub record IsClean (has : FaultKind → Bool) : Type 0 where
-    pub missing : has kinds.Missing ≡ false
-    pub wrong : has kinds.WrongKind ≡ false
-    pub unnamed : has kinds.NoSuchName ≡ false
-    pub past : has kinds.Limit ≡ false
+-- ---- segments
 
-  sound_members : (ms : Members) → IsClean (λ kind. segment_keys_have kind (first ∷ others) ms) → items_in (map figures_of (first ∷ others)) (template_value (first ∷ others) ms).elements ≤ MAX_TEMPLATE_ITEMS
-      → IsSoundTemplate (first ∷ others) (template_value (first ∷ others) ms)
-  unfolding segment_keys_have
-  sound_members ms clean few =
-      let keys = and_parts (has_key (codes "kind") ms) (has_key (codes "version") ms) (not-false _ clean.missing) in
-      let outer = or_parts (is_no_kind (get_member (codes "kind") ms) || is_no_integer (get_member (codes "version") ms)) (elements_have kinds.WrongKind (first ∷ others) true (get_member (codes "elements") ms)) clean.wrong in
-      let inner = or_parts (is_no_kind (get_member (codes "kind") ms)) (is_no_integer (get_member (codes "version") ms)) outer.0 in
-      let kind = kind_at (get_member (codes "kind") ms) keys.0 inner.0 in
-      let version = number_within 1 999 1 (omega arith) (omega arith) (get_member (codes "version") ms) inner.1 clean.past in
-      record {
+-- tests that fail one and all
+none_past : {X : Type 0} (most : ℕ) (count : X → ℕ) (xs : List X) → list_any (λ x. nat_lt most (count x)) xs ≡ false → All (λ x. count x ≤ most) xs
+none_past most count [] h = All-nil (λ x. count x ≤ most)
+none_past most count (x ∷ xs) h =
+    let parts = or_parts (nat_lt most (count x)) (list_any (λ y. nat_lt most (count y)) xs) h in
+    All-cons (λ y. count y ≤ most) x xs (not_past most (count x) parts.0) (none_past most count xs parts.1)
+
+module _ (fields : List NamedField) (behind : IsBehindFirst fields) where
+  abbrev IsFew : Template → Type 0
+  IsFew t = items_in (map figures_of fields) t.elements ≤ MAX_TEMPLATE_ITEMS
+
+  sound_members : (ms : Members) (t : Template) → table_segment fields ms ≡ Ok t → IsFew t → IsSoundTemplate fields t
+  unfolding table_segment
+  sound_members ms t e =
+      let head = both (kind_at ms) (version_at ms) in
+      let parts = both head (body_in fields ms) in
+      let whole = passed (only_keys segment_keys ms) (seen template_of parts) kinds.UnknownKey t e in
+      let read = seen_ok template_of parts t whole.1 in
+      let body = both_ok head (body_in fields ms) read.0 read.1 in
+      let order = both_ok (kind_at ms) (version_at ms) read.0.0 body.0 in
+      let kind_value = bind_ok (required (codes "kind") ms) kind_in read.0.0.0 order.0 in
+      let version_value = bind_ok (required (codes "version") ms) (integer_in 1 999) read.0.0.1 order.1 in
+      let kind = kind_ok kind_value.0 read.0.0.0 kind_value.2 in
+      let version = integer_ok 1 999 version_value.0 read.0.0.1 version_value.2 in
+      subst (λ (s : Template). IsFew s → IsSoundTemplate fields s) read.2 (λ few. record {
         kind = kind.text;
         no_frame = kind.no_frame;
         least = version.0;
         most = version.1;
-        each = body_elements first others named (get_member (codes "elements") ms) outer.1 clean.unnamed;
+        each = optional_ok [] (elements_in fields true) (All (IsBodyElement fields)) (All-nil (IsBodyElement fields)) (body_elements fields behind) (get_member (codes "elements") ms) read.0.1 body.1;
         few = few;
-      }
+      })
 
-  pub sound_template : (row : Data) → IsClean (λ kind. segment_has kind (first ∷ others) row) → items_in (map figures_of (first ∷ others)) (template_of (first ∷ others) row).elements ≤ MAX_TEMPLATE_ITEMS → IsSoundTemplate (first ∷ others) (template_of (first ∷ others) row)
-  sound_template (table ms) clean few = sound_members ms clean few
-  sound_template (string text) clean few = absurd (false≢true (sym clean.wrong))
-  sound_template (integer z) clean few = absurd (false≢true (sym clean.wrong))
-  sound_template (float f) clean few = absurd (false≢true (sym clean.wrong))
-  sound_template (boolean b) clean few = absurd (false≢true (sym clean.wrong))
-  sound_template (datetime t) clean few = absurd (false≢true (sym clean.wrong))
-  sound_template (array ds) clean few = absurd (false≢true (sym clean.wrong))
+  sound_template : (d : Data) (t : Template) → segment_in fields d ≡ Ok t → IsFew t → IsSoundTemplate fields t
+  sound_template (table ms) t e few = sound_members ms t e few
+  sound_template _ t e few = absurd cc
 
-  pub sound_templates : (rows : List Data) → list_any (segment_has kinds.Missing (first ∷ others)) rows ≡ false → list_any (segment_has kinds.WrongKind (first ∷ others)) rows ≡ false
-      → list_any (segment_has kinds.NoSuchName (first ∷ others)) rows ≡ false → list_any (segment_has kinds.Limit (first ∷ others)) rows ≡ false
-      → list_any (λ (t : Template). nat_lt MAX_TEMPLATE_ITEMS (items_in (map figures_of (first ∷ others)) t.elements)) (map (template_of (first ∷ others)) rows) ≡ false
-      → All (IsSoundTemplate (first ∷ others)) (map (template_of (first ∷ others)) rows)
-  sound_templates [] m w n l few = All-nil (IsSoundTemplate (first ∷ others))
-  sound_templates (row ∷ rows) m w n l few =
-      let a = or_parts (segment_has kinds.Missing (first ∷ others) row) (list_any (segment_has kinds.Missing (first ∷ others)) rows) m in
-      let b = or_parts (segment_has kinds.WrongKind (first ∷ others) row) (list_any (segment_has kinds.WrongKind (first ∷ others)) rows) w in
-      let d = or_parts (segment_has kinds.NoSuchName (first ∷ others) row) (list_any (segment_has kinds.NoSuchName (first ∷ others)) rows) n in
-      let e = or_parts (segment_has kinds.Limit (first ∷ others) row) (list_any (segment_has kinds.Limit (first ∷ others)) rows) l in
-      let f = or_parts (nat_lt MAX_TEMPLATE_ITEMS (items_in (map figures_of (first ∷ others)) (template_of (first ∷ others) row).elements)) _ few in
-      All-cons (IsSoundTemplate (first ∷ others)) (template_of (first ∷ others) row) (map (template_of (first ∷ others)) rows)
-      (sound_template row (record { missing = a.0; wrong = b.0; unnamed = d.0; past = e.0 }) (not_past MAX_TEMPLATE_ITEMS _ f.0))
-      (sound_templates rows a.1 b.1 d.1 e.1 f.1)
+  -- 1 to 100 segments, where none has too many items
+  pub sound_templates : (d : Data) (ts : List Template) → segments_in fields d ≡ Ok ts → has_large_segment (map figures_of fields) ts ≡ false → (1 ≤ length ts) × (length ts ≤ 100) × All (IsSoundTemplate fields) ts
+  sound_templates d ts e small =
+      let outer = bind_ok (entries_of d >>= not_empty >>= each (segment_in fields)) (at_most 100) ts e in
+      let read = bind_ok (entries_of d >>= not_empty) (each (segment_in fields)) outer.0 outer.1 in
+      let entries = bind_ok (entries_of d) not_empty read.0 read.1 in
+      let some = not_empty_ok entries.0 read.0 entries.2 in
+      let few = at_most_ok 100 outer.0 ts outer.2 in
+      let count : length read.0 ≡ length ts = sym (each_length (segment_in fields) read.0 outer.0 read.2) ∙ ap length few.0 in
+      let each_is = each_all (segment_in fields) (λ (t : Template). IsFew t → IsSoundTemplate fields t) sound_template read.0 outer.0 read.2 in
+      let one = some.1 in
+      let each_small = none_past MAX_TEMPLATE_ITEMS (λ (t : Template). items_in (map figures_of fields) t.elements) ts small in
+      (omega (arith, one, count), few.1, λ k d lt. subst (All (λ (t : Template). IsFew t → IsSoundTemplate fields t)) few.0 each_is k d lt (each_small k d lt))
 
--- ---- signatures
+-- ---- signatures and the seal
 
-signer_found : (signers : List Signer) (o : Option ℕ) → o ≡ o → not (is_some o) ≡ false → ((n : ℕ) → o ≡ Some n → n < length signers) → unwrap_or o 0 < length signers
-signer_found signers None same h within = absurd (false≢true (sym h))
-signer_found signers (Some n) same h within = within n refl
+signature_within : (signers : List Signer) (d : Data) (place : ℕ) → signature_in signers d ≡ Ok place → place < length signers
+signature_within signers (string name) place e = place_within (λ (s : Signer). bytes_eq s.name name) signers place (or_ok (place_of_signer signers name) kinds.NoSuchName place e)
+signature_within signers _ place e = absurd cc
 
-signature_within : (signers : List Signer) (row : Data) → signature_has kinds.WrongKind signers row ≡ false → signature_has kinds.NoSuchName signers row ≡ false → signature_value signers row < length signers
-signature_within signers (string name) wrong unnamed = signer_found signers (place_of_signer signers name) refl unnamed (λ n is. place_within (λ (s : Signer). bytes_eq s.name name) signers n is)
-signature_within signers (integer z) wrong unnamed = absurd (false≢true (sym wrong))
-signature_within signers (float f) wrong unnamed = absurd (false≢true (sym wrong))
-signature_within signers (boolean b) wrong unnamed = absurd (false≢true (sym wrong))
-signature_within signers (datetime t) wrong unnamed = absurd (false≢true (sym wrong))
-signature_within signers (array ds) wrong unnamed = absurd (false≢true (sym wrong))
-signature_within signers (table ms) wrong unnamed = absurd (false≢true (sym wrong))
+-- a seal that is asked for is there
+seal_there : (there sealed : Bool) → (sealed && not there) ≡ false → sealed ≡ true → there ≡ true
+seal_there there true h e = not-false there h
+seal_there there false h e = absurd (false≢true e)
 
-pub signatures_within : (signers : List Signer) (rows : List Data) → list_any (signature_has kinds.WrongKind signers) rows ≡ false → list_any (signature_has kinds.NoSuchName signers) rows ≡ false
-    → All (λ (place : ℕ). place < length signers) (map (signature_value signers) rows)
-signatures_within signers [] w n = All-nil (λ (place : ℕ). place < length signers)
-signatures_within signers (row ∷ rows) w n =
-    let a = or_parts (signature_has kinds.WrongKind signers row) (list_any (signature_has kinds.WrongKind signers) rows) w in
-    let b = or_parts (signature_has kinds.NoSuchName signers row) (list_any (signature_has kinds.NoSuchName signers) rows) n in
-    All-cons (λ (place : ℕ). place < length signers) (signature_value signers row) (map (signature_value signers) rows) (signature_within signers row a.0 b.0) (signatures_within signers rows a.1 b.1)
+sealed_kept : (there : Bool) (d : Data) (sealed : Bool) → sealed_in there d ≡ Ok sealed → sealed ≡ true → there ≡ true
+sealed_kept there d sealed e =
+    let read = bind_ok (flag_in d) (with_seal there) sealed e in
+    let kept = failed (read.0 && not there) (Ok read.0) kinds.Missing sealed read.2 in
+    subst (λ b. b ≡ true → there ≡ true) (same_ok read.0 sealed kept.1) (seal_there there read.0 kept.0)
 
--- ---- segments
+-- ---- steps
 
-pub some_rows : (o : Option Data) → is_some o ≡ true → is_no_list o ≡ false → 1 ≤ length (rows_of o)
-some_rows None there h = absurd (false≢true there)
-some_rows (Some (array ds)) there h = not_empty (item_list ds) h
-  where
-    not_empty : (rows : List Data) → (length rows == 0) ≡ false → 1 ≤ length rows
-    not_empty [] e = absurd (false≢true (sym e))
-    not_empty (r ∷ rs) e = omega arith
-some_rows (Some (string text)) there h = absurd (false≢true (sym h))
-some_rows (Some (integer z)) there h = absurd (false≢true (sym h))
-some_rows (Some (float f)) there h = absurd (false≢true (sym h))
-some_rows (Some (boolean b)) there h = absurd (false≢true (sym h))
-some_rows (Some (datetime t)) there h = absurd (false≢true (sym h))
-some_rows (Some (table ms)) there h = absurd (false≢true (sym h))
+-- what the table of a step has, part by part
+record IsStep (around : Surroundings) (i : ℕ) (ms : Members) (step : StepValue) : Type 0 where
+  pub name : row_name (is_taken_step around.rows i) ms ≡ Ok step.name
+  pub templates : segments_at around.fields ms ≡ Ok step.templates
+  pub sealed : sealed_at (is_some around.seal) ms ≡ Ok step.sealed
+  pub signers : signatures_at around.signers ms ≡ Ok step.signers
+  pub repeat : repeat_at ms ≡ Ok step.repeat
+  pub branches : branches_at around.rows i ms ≡ Ok step.branches
+  pub otherwise : default_at around.rows i ms ≡ Ok step.otherwise
+  pub size : is_too_large around step ≡ false
+
+module _ (around : Surroundings) (i : ℕ) (ms : Members) where
+  of_parts : (name : List ℕ) (sent : Sent) (course : Course) → row_name (is_taken_step around.rows i) ms ≡ Ok name → sent_in around ms ≡ Ok sent → course_in around.rows i ms ≡ Ok course
+      → is_too_large around (step_of (name, (sent, course))) ≡ false → IsStep around i ms (step_of (name, (sent, course)))
+  of_parts name sent course is_name is_sent is_course size =
+      let sends = both_ok (segments_at around.fields ms) (both (sealed_at (is_some around.seal) ms) (signatures_at around.signers ms)) sent is_sent in
+      let signed = both_ok (sealed_at (is_some around.seal) ms) (signatures_at around.signers ms) sent.1 sends.1 in
+      let runs = both_ok (repeat_at ms) (both (branches_at around.rows i ms) (default_at around.rows i ms)) course is_course in
+      let leads = both_ok (branches_at around.rows i ms) (default_at around.rows i ms) course.1 runs.1 in
+      record { name = is_name; templates = sends.0; sealed = signed.0; signers = signed.1; repeat = runs.0; branches = leads.0; otherwise = leads.1; size = size }
+
+  step_is : (step : StepValue) → table_step around i ms ≡ Ok step → IsStep around i ms step
+  unfolding table_step
+  step_is step e =
+      let parts = both (row_name (is_taken_step around.rows i) ms) (parts_in around i ms) in
+      let whole = passed (only_keys step_keys ms) (seen step_of parts >>= sized_step around) kinds.UnknownKey step e in
+      let read = bind_ok (seen step_of parts) (sized_step around) step whole.1 in
+      let size = failed (is_too_large around read.0) (Ok read.0) kinds.Limit step read.2 in
+      let all = seen_ok step_of parts read.0 read.1 in
+      let named = both_ok (row_name (is_taken_step around.rows i) ms) (parts_in around i ms) all.0 all.1 in
+      let rest = both_ok (sent_in around ms) (course_in around.rows i ms) all.0.1 named.1 in
+      subst (IsStep around i ms) (all.2 ∙ same_ok read.0 step size.1)
+      (of_parts all.0.0 all.0.1.0 all.0.1.1 named.0 rest.0 rest.1 (subst (λ s. is_too_large around s ≡ false) (sym all.2) size.0))
+
+-- the row of a step is a table that has its parts
+step_row : (around : Surroundings) (i : ℕ) (row : Data) (step : StepValue) → step_in around i row ≡ Ok step → (ms : Members) × (row ≡ table ms) × IsStep around i ms step
+step_row around i (table ms) step e = (ms, refl, step_is around i ms step e)
+step_row around i _ step e = absurd cc
+
+-- the row of a step tells its name, which no earlier row has
+pub step_named : (around : Surroundings) (i : ℕ) (row : Data) (step : StepValue) → step_in around i row ≡ Ok step → (name_in row ≡ Some step.name) × (list_any (is_named step.name) (take i around.rows) ≡ false)
+step_named around i row step e =
+    let read = step_row around i row step e in
+    let named = row_named (is_taken_step around.rows i) read.0 step.name read.2.name in
+    (ap name_in read.1 ∙ named.0, (or_parts (is_word step.name) (list_any (is_named step.name) (take i around.rows)) named.1).1)
+
+-- ---- what its parts keep
+
+branches_kept : (rows : List Data) (i : ℕ) (ms : Members) (branches : List Branch) → branches_at rows i ms ≡ Ok branches → All (λ (branch : Branch). IsOnward (length rows) (i + 1) branch.to) branches × (length branches ≤ 20)
+branches_kept rows i ms branches e =
+    let onward : Branch → Type 0 = λ branch. IsOnward (length rows) (i + 1) branch.to in
+    optional_ok [] (branches_in rows i) (λ bs. All onward bs × (length bs ≤ 20)) (All-nil onward, omega arith) (list_ok 20 (branch_in rows i) onward (branch_onward rows i)) (get_member (codes "branches") ms) branches e
+
+signatures_kept : (signers : List Signer) (ms : Members) (places : List ℕ) → signatures_at signers ms ≡ Ok places → All (λ place. place < length signers) places × (length places ≤ 9)
+signatures_kept signers ms places e =
+    let within : ℕ → Type 0 = λ place. place < length signers in
+    optional_ok [] (signatures_in signers) (λ ns. All within ns × (length ns ≤ 9)) (All-nil within, omega arith) (list_ok 9 (signature_in signers) within (signature_within signers)) (get_member (codes "signers") ms) places e
+
+repeat_kept : (ms : Members) (n : ℕ) → repeat_at ms ≡ Ok n → (1 ≤ n) × (n ≤ 99)
+repeat_kept ms n e = optional_ok 1 (integer_in 1 99) (λ m. (1 ≤ m) × (m ≤ 99)) (omega arith, omega arith) (integer_ok 1 99) (get_member (codes "repeat") ms) n e
+
+seal_kept : (there : Bool) (ms : Members) (sealed : Bool) → sealed_at there ms ≡ Ok sealed → sealed ≡ true → there ≡ true
+seal_kept there ms sealed e = optional_ok false (sealed_in there) (λ b. b ≡ true → there ≡ true) (λ set. absurd (false≢true set)) (sealed_kept there) (get_member (codes "sealed") ms) sealed e
+
+-- ---- the whole step
+
+-- a step that was read leads to later ones
+pub step_onward : (around : Surroundings) (i : ℕ) (row : Data) (step : StepValue) → step_in around i row ≡ Ok step → LeadsOnward (length around.rows) (i + 1) step
+step_onward around i row step e =
+    let read = step_row around i row step e in
+    record {
+      branches = (branches_kept around.rows i read.0 step.branches read.2.branches).0;
+      otherwise = optional_ok targets.Stop (target_in around.rows i) (IsOnward (length around.rows) (i + 1)) tt (target_onward around.rows i) (get_member (codes "default") read.0) step.otherwise read.2.otherwise;
+    }
+
+pub sound_step : (s : ScriptValue) → IsBehindFirst s.fields → (rows : List Data) (i : ℕ) (row : Data) (step : StepValue) → step_in (surroundings rows s.fields s.signers s.seal) i row ≡ Ok step → IsSoundStep s step
+sound_step s behind rows i row step e =
+    let around = surroundings rows s.fields s.signers s.seal in
+    let read = step_row around i row step e in
+    let is = read.2 in
+    let size = or_parts (has_large_segment around.figures step.templates) (nat_lt MAX_WEIGHT (step_weight around step)) is.size in
+    let segments = bind_ok (required (codes "segments") read.0) (segments_in s.fields) step.templates is.templates in
+    let templates = sound_templates s.fields behind segments.0 step.templates segments.2 size.0 in
+    let signers = signatures_kept s.signers read.0 step.signers is.signers in
+    let repeat = repeat_kept read.0 step.repeat is.repeat in
+    record {
+      signers = signers.0;
+      few_signers = signers.1;
+      some_templates = templates.0;
+      few_templates = templates.1;
+      few_branches = (branches_kept rows i read.0 step.branches is.branches).1;
+      once = repeat.0;
+      often = repeat.1;
+      templates = templates.2;
+      seal = seal_kept (is_some s.seal) read.0 step.sealed is.sealed;
+      light = not_past MAX_WEIGHT (step_weight around step) size.1;
+    }

@@ -1,5 +1,10 @@
--- The laws of a script's text: what it denotes is determined. Each is the contract of a public function.
-use Rattle.std.specs.Prelude.{◌≡◌, ℕ, List}
+-- The laws of a script's text: what it denotes is determined; and of closed plans. Each is the contract of a public function.
+use Rattle.std.specs.Prelude.{◌≡◌, ℕ, List, Some, slice_get}
+use Rattle.fints_rules.specs.declared.orders.OrderRow.{OrderRow}
+use Rattle.fints_script.specs.Numbered.{numbered}
+use Rattle.fints_script.specs.Plans.{IsClosed, IsClosedTemplate}
+use Rattle.fints_script.specs.Steps.{StepValue}
+use Rattle.fints_templates.specs.declared.template.Template.{Template}
 use Rattle.fints_field_rows.specs.declared.fault.ScriptFault.{ScriptFault}
 use Rattle.fints_script.specs.Scripts.{Denotes, IsFirstOf, ScriptValue}
 
@@ -14,3 +19,7 @@ NoScriptAtFault = (text : List ℕ) (f : ScriptFault) (s : ScriptValue) → IsFi
 -- a text has one first fault at most: one kind at one place
 abbrev pub OneTextFault : Type 0
 OneTextFault = (text : List ℕ) (f g : ScriptFault) → IsFirstOf text f → IsFirstOf text g → f ≡ g
+
+-- no segment of a closed plan leaves its account or its TAN process open
+abbrev pub ClosedSegments : Type 0
+ClosedSegments = (s : ScriptValue) (orders : List OrderRow) → IsClosed s orders → (n i : ℕ) (step : StepValue) (t : Template) → numbered s.steps n ≡ Some step → slice_get step.templates i ≡ Some t → IsClosedTemplate s.fields orders t

@@ -1,7 +1,6 @@
 pub mod Steps
-pub mod Around
 pub mod Scripts
-pub mod RowFaults
+pub mod Around
 pub mod Plans
 pub mod Numbered
 pub mod Sound

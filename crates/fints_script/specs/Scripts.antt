@@ -1,16 +1,13 @@
 -- Which script a text denotes, and which fault stands in it first.
-use Rattle.std.specs.Prelude.{◌≡◌, ◌⊎◌, ◌<◌, ◌≤◌, ◌+◌, codes, ℕ, nat_lt, Bool, false, ◌||◌, not, List, [], ◌∷◌, length, map, take, Option, Some, None}
-use Rattle.std.specs.List.{AllZip}
+use Rattle.std.specs.Prelude.{◌≡◌, ◌⊎◌, ◌<◌, ◌≤◌, codes, ℕ, if◌then◌else◌, List, [], ◌∷◌, length, map, take, Option, Some, None, Result, Ok, Err}
 use Rattle.toml.specs.Data.{Data, Members, get_member}
 use Rattle.fints_documents.specs.Document.{document, only_keys}
-use Rattle.fints_documents.specs.Entries.{has_key}
-use Rattle.fints_documents.specs.Tables.{is_no_array, is_no_list, rows_of}
-use Rattle.fints_field_rows.specs.FaultOrder.{first_kind}
-use Rattle.fints_field_rows.specs.Faults.{AreClean, IsFirstFault}
-use Rattle.fints_field_rows.specs.Fields.{IsFieldOf, field_fault}
+use Rattle.fints_field_rows.specs.Fields.{ClassValue, field_in, field_value}
+use Rattle.fints_field_rows.specs.Parts.{Part, ◌>>=◌, at_most, both, entries_of, not_empty, optional, required, seen}
+use Rattle.fints_field_rows.specs.Rows.{fault_at, no_memory, part_at, rows_from}
 use Rattle.fints_templates.specs.Figures.{figures_of}
-use Rattle.fints_templates.specs.Signers.{signer_fault, signer_of, seal_fault, seal_value}
-use Rattle.fints_script.specs.Steps.{Surroundings, StepValue, step_fault, step_of}
+use Rattle.fints_templates.specs.Signers.{frame_in, signer_in}
+use Rattle.fints_script.specs.Steps.{Surroundings, StepValue, step_in}
 use Rattle.fints_field_rows.specs.declared.fault.FaultKind.{FaultKind}
 use Rattle.fints_field_rows.specs.declared.fault.FaultKind.TheVariants as kinds
 use Rattle.fints_field_rows.specs.declared.fault.Place.TheVariants as places
@@ -49,41 +46,34 @@ MAX_STEPS = 200
 abbrev pub top_keys : List (List ℕ)
 top_keys = codes "seal" ∷ codes "field" ∷ codes "signer" ∷ codes "step" ∷ []
 
-abbrev pub field_rows : Members → List Data
-field_rows ms = rows_of (get_member (codes "field") ms)
+-- the rows of a script, and its seal's value if it has one
+pub record Top : Type 0 where
+  pub fields : List Data
+  pub signers : List Data
+  pub seal : Option Data
+  pub steps : List Data
 
-abbrev pub signer_rows : Members → List Data
-signer_rows ms = rows_of (get_member (codes "signer") ms)
+-- the rows at a key, none where it is absent
+abbrev pub rows_at : List ℕ → ℕ → Members → Part (List Data)
+rows_at key most ms = optional [] entries_of (get_member key ms) >>= at_most most
 
-abbrev pub step_rows : Members → List Data
-step_rows ms = rows_of (get_member (codes "step") ms)
+-- the rows of `step`, at least one
+abbrev pub step_rows : Members → Part (List Data)
+step_rows ms = required (codes "step") ms >>= entries_of >>= not_empty >>= at_most MAX_STEPS
 
--- rows that are no array, or no step
-abbrev pub rows_are_wrong : Members → Bool
-rows_are_wrong ms = is_no_array (get_member (codes "field") ms) || (is_no_array (get_member (codes "signer") ms) || is_no_list (get_member (codes "step") ms))
+abbrev pub top_of : Option Data → (List Data × List Data) × List Data → Top
+top_of seal ((fields, signers), steps) = record { fields = fields; signers = signers; seal = seal; steps = steps }
 
--- more rows than a script may have
-abbrev pub row_counts_are_past : Members → Bool
-row_counts_are_past ms = nat_lt MAX_FIELDS (length (field_rows ms)) || (nat_lt MAX_SIGNERS (length (signer_rows ms)) || nat_lt MAX_STEPS (length (step_rows ms)))
+unfoldable pub top_in : Members → Part Top
+top_in ms =
+    if only_keys top_keys ms then seen (top_of (get_member (codes "seal") ms)) (both (both (rows_at (codes "field") MAX_FIELDS ms) (rows_at (codes "signer") MAX_SIGNERS ms)) (step_rows ms))
+    else Err kinds.UnknownKey
 
--- a fault of this kind stands in the top keys
-unfoldable pub top_has : FaultKind → Members → Bool
-top_has kinds.UnknownKey ms = not (only_keys top_keys ms)
-top_has kinds.Missing ms = not (has_key (codes "step") ms)
-top_has kinds.WrongKind ms = rows_are_wrong ms
-top_has kinds.Limit ms = row_counts_are_past ms
-top_has _ ms = false
+-- ---- the rows, each read behind those before it
 
-abbrev pub top_fault : Members → Option FaultKind
-top_fault ms = first_kind (λ kind. top_has kind ms)
-
--- ---- the rows, each looked at behind those before it
-
-abbrev pub look_at_field : List Data → ℕ → Data → Option FaultKind
-look_at_field rows i row = field_fault (take i rows) row
-
-abbrev pub look_at_signer : List NamedField → List Data → ℕ → Data → Option FaultKind
-look_at_signer fields rows i row = signer_fault fields (take i rows) row
+-- what is seen of the fields of these rows
+abbrev pub fields_from : List Data → Result (List (List ℕ × ClassValue)) ScriptFault
+fields_from rows = rows_from (λ n. places.Field n) (λ i row. field_in (take i rows) row) 0 rows
 
 -- the class of the dialogue id: a text of 1 to 30 bytes
 abbrev pub IsDialogClass : Field → Type 0
@@ -99,82 +89,52 @@ pub record DenoteFields (rows : List Data) (fields : List NamedField) : Type 0 w
   pub others : List NamedField
   pub all : fields ≡ dialog ∷ others
   pub built_in : IsDialogField dialog
-  pub each : AllZip (λ row (f : NamedField). IsFieldOf row f.name f.class) rows others
+  pub each : fields_from rows ≡ Ok (map field_value others)
+
+abbrev pub signers_from : List NamedField → List Data → Result (List Signer) ScriptFault
+signers_from fields rows = rows_from (λ n. places.Signer n) (λ i row. signer_in fields (take i rows) row) 0 rows
+
+abbrev pub seal_from : List NamedField → Option Data → Result (Option (List (List TemplateItem))) ScriptFault
+seal_from fields None = Ok None
+seal_from fields (Some d) = part_at places.Seal (frame_in fields d) >>= λ seal. Ok (Some seal)
+
+abbrev pub steps_from : Surroundings → Result (List StepValue) ScriptFault
+steps_from around = rows_from (λ n. places.Step n) (step_in around) 0 around.rows
 
 -- what the steps in these rows rest on
-abbrev pub surroundings_on : List Data → List NamedField → List Signer → Option (List (List TemplateItem)) → Surroundings
-surroundings_on rows fields signers seal = record { fields = fields; figures = map figures_of fields; signers = signers; seal = seal; rows = rows }
+abbrev pub surroundings : List Data → List NamedField → List Signer → Option (List (List TemplateItem)) → Surroundings
+surroundings rows fields signers seal = record { fields = fields; figures = map figures_of fields; signers = signers; seal = seal; rows = rows }
 
-abbrev pub surroundings : Members → List NamedField → List Signer → Option (List (List TemplateItem)) → Surroundings
-surroundings ms fields signers seal = surroundings_on (step_rows ms) fields signers seal
+-- ---- the script that a table denotes, and its first fault, where it denotes none
 
--- ---- the script that a table denotes, part by part
+-- the script with these fields
+abbrev pub script_with : Top → List NamedField → Result ScriptValue ScriptFault
+script_with top fields =
+    signers_from fields top.signers >>= λ signers.
+    seal_from fields top.seal >>= λ seal.
+    steps_from (surroundings top.steps fields signers seal) >>= λ steps.
+    Ok (record { fields = fields; signers = signers; seal = seal; steps = steps })
 
--- the top has no fault, and the rows of `field` are these fields
-pub record HasFields (ms : Members) (fields : List NamedField) : Type 0 where
-  pub top : top_fault ms ≡ None
-  pub clean : AreClean (look_at_field (field_rows ms)) (field_rows ms) (length (field_rows ms))
-  pub are : DenoteFields (field_rows ms) fields
-
--- and the rows of `signer` are these signers
-pub record HasSigners (ms : Members) (fields : List NamedField) (signers : List Signer) : Type 0 where
-  pub before : HasFields ms fields
-  pub clean : AreClean (look_at_signer fields (signer_rows ms)) (signer_rows ms) (length (signer_rows ms))
-  pub are : signers ≡ map (signer_of fields) (signer_rows ms)
-
--- and the seal is this
-pub record HasSeal (ms : Members) (fields : List NamedField) (signers : List Signer) (seal : Option (List (List TemplateItem))) : Type 0 where
-  pub before : HasSigners ms fields signers
-  pub clean : seal_fault fields (get_member (codes "seal") ms) ≡ None
-  pub is : seal ≡ seal_value fields (get_member (codes "seal") ms)
-
--- and the rows of `step` are the steps
 pub record IsScriptOf (ms : Members) (s : ScriptValue) : Type 0 where
-  pub before : HasSeal ms s.fields s.signers s.seal
-  pub clean : AreClean (step_fault (surroundings ms s.fields s.signers s.seal)) (step_rows ms) (length (step_rows ms))
-  pub are : s.steps ≡ map (step_of (surroundings ms s.fields s.signers s.seal)) (step_rows ms)
+  pub top : Top
+  pub is_top : top_in ms ≡ Ok top
+  pub fields : DenoteFields top.fields s.fields
+  pub is : script_with top s.fields ≡ Ok s
 
--- some table without faults denotes the script: so it keeps every rule and limit of the format
+-- some table denotes the script: so it keeps every rule and limit of the format
 abbrev pub IsRead : ScriptValue → Type 0
 IsRead s = (ms : Members) × IsScriptOf ms s
 
--- ---- its first fault, where it denotes none
+-- the fault in the signers, the seal or the steps, behind fields without one
+abbrev pub IsLaterFault : Top → ScriptFault → Type 0
+IsLaterFault top f = (fields : List NamedField) × DenoteFields top.fields fields × (script_with top fields ≡ Err f)
 
-abbrev pub TopFault : Members → ScriptFault → Type 0
-TopFault ms f = (f.place ≡ places.Top) × (top_fault ms ≡ Some f.kind)
-
--- rows of places count from 1
-pub record FieldFault (ms : Members) (f : ScriptFault) : Type 0 where
-  pub top : top_fault ms ≡ None
-  pub row : ℕ
-  pub place : f.place ≡ places.Field (row + 1)
-  pub first : IsFirstFault (look_at_field (field_rows ms)) (field_rows ms) row f.kind
-
-pub record SignerFault (ms : Members) (f : ScriptFault) : Type 0 where
-  pub fields : List NamedField
-  pub before : HasFields ms fields
-  pub row : ℕ
-  pub place : f.place ≡ places.Signer (row + 1)
-  pub first : IsFirstFault (look_at_signer fields (signer_rows ms)) (signer_rows ms) row f.kind
-
-pub record SealFault (ms : Members) (f : ScriptFault) : Type 0 where
-  pub fields : List NamedField
-  pub signers : List Signer
-  pub before : HasSigners ms fields signers
-  pub place : f.place ≡ places.Seal
-  pub is : seal_fault fields (get_member (codes "seal") ms) ≡ Some f.kind
-
-pub record StepFault (ms : Members) (f : ScriptFault) : Type 0 where
-  pub fields : List NamedField
-  pub signers : List Signer
-  pub seal : Option (List (List TemplateItem))
-  pub before : HasSeal ms fields signers seal
-  pub row : ℕ
-  pub place : f.place ≡ places.Step (row + 1)
-  pub first : IsFirstFault (step_fault (surroundings ms fields signers seal)) (step_rows ms) row f.kind
+-- the fault in the fields or behind them
+abbrev pub IsRowFault : Members → ScriptFault → Type 0
+IsRowFault ms f = (top : Top) × (top_in ms ≡ Ok top) × ((fields_from top.fields ≡ Err f) ⊎ IsLaterFault top f)
 
 abbrev pub IsFaultOf : Members → ScriptFault → Type 0
-IsFaultOf ms f = TopFault ms f ⊎ FieldFault ms f ⊎ SignerFault ms f ⊎ SealFault ms f ⊎ StepFault ms f
+IsFaultOf ms f = (part_at places.Top (top_in ms) ≡ Err f) ⊎ IsRowFault ms f
 
 -- ---- the text
 
@@ -185,7 +145,7 @@ pub record Denotes (text : List ℕ) (s : ScriptValue) : Type 0 where
   pub is : IsScriptOf members s
 
 abbrev pub at_top : FaultKind → ScriptFault
-at_top kind = record { kind = kind; place = places.Top }
+at_top kind = fault_at places.Top kind
 
 abbrev pub IsTooLong : List ℕ → ScriptFault → Type 0
 IsTooLong text f = (MAX_TEXT < length text) × (f ≡ at_top kinds.Limit)
@@ -199,8 +159,8 @@ IsFirstOf text f = IsTooLong text f ⊎ IsNoToml text f ⊎ ((ms : Members) × (
 
 -- what was answered for a table, unless memory ran out
 abbrev pub RefusesTable : Members → ScriptFault → Type 0
-RefusesTable ms f = (f ≡ at_top kinds.Memory) ⊎ IsFaultOf ms f
+RefusesTable ms f = (f ≡ no_memory) ⊎ IsFaultOf ms f
 
 -- what was answered, unless memory ran out
 abbrev pub Refuses : List ℕ → ScriptFault → Type 0
-Refuses text f = (f ≡ at_top kinds.Memory) ⊎ IsFirstOf text f
+Refuses text f = (f ≡ no_memory) ⊎ IsFirstOf text f

@@ -1,21 +1,15 @@
--- Which faults stand in a step's table, and the step that it is.
-use Rattle.std.specs.Prelude.{codes, ℕ, ◌+◌, nat_lt, Bool, true, false, ◌&&◌, ◌||◌, not, if◌then◌else◌, List, [], ◌∷◌, length, map, take, position, slice_get, Option, Some, None, is_some, unwrap_or}
+-- What a step's row is: a step, or the first kind of fault in it.
+use Rattle.std.specs.Prelude.{codes, ℕ, ◌+◌, nat_le, nat_lt, Bool, true, false, ◌&&◌, ◌||◌, not, if◌then◌else◌, List, [], ◌∷◌, position, slice_get, take, Option, Some, None, is_some, Ok, Err, ok_or}
 use Rattle.std.specs.List.{list_any}
 use Rattle.std.specs.Str.{bytes_eq}
-use Rattle.toml.specs.Data.{Data, string, table, Members, get_member, as_str}
+use Rattle.toml.specs.Data.{Data, string, table, Members, get_member}
 use Rattle.fints_documents.specs.Document.{only_keys}
-use Rattle.fints_documents.specs.Entries.{has_key, is_named, text_at}
-use Rattle.fints_field_rows.specs.RowNames.{is_no_name}
-use Rattle.fints_documents.specs.Tables.{is_outside, number_or, is_no_integer, is_no_text, is_no_flag, is_no_array, is_no_list, is_set, rows_of}
-use Rattle.fints_field_rows.specs.RowNames.{name_value, name_of}
-use Rattle.fints_templates.specs.Elements.{is_wrong_kind}
-use Rattle.fints_field_rows.specs.FaultOrder.{first_kind}
-use Rattle.fints_field_rows.specs.Faults.{or_later}
+use Rattle.fints_documents.specs.Entries.{is_named}
 use Rattle.fints_cases.specs.Patterns.{pattern_in}
+use Rattle.fints_field_rows.specs.Parts.{Part, ◌>>=◌, at_most, both, each, entries_of, flag_in, integer_in, not_empty, optional, required, seen}
+use Rattle.fints_field_rows.specs.RowNames.{row_name}
+use Rattle.fints_templates.specs.Segments.{segment_in}
 use Rattle.fints_templates.specs.Weights.{total, segment_weight, signer_weight, items_in, MAX_TEMPLATE_ITEMS}
-use Rattle.fints_templates.specs.Signers.{is_taken, limit_of}
-use Rattle.fints_templates.specs.Segments.{segment_has, template_of}
-use Rattle.fints_field_rows.specs.declared.fault.FaultKind.{FaultKind}
 use Rattle.fints_field_rows.specs.declared.fault.FaultKind.TheVariants as kinds
 use Rattle.fints_field_rows.specs.declared.fields.NamedField.{NamedField}
 use Rattle.fints_cases.specs.declared.answers.Branch.{Branch}
@@ -49,133 +43,110 @@ pub record Surroundings : Type 0 where
 abbrev pub is_word : List ℕ → Bool
 is_word text = bytes_eq text (codes "again") || bytes_eq text (codes "stop")
 
--- a fault of this kind stands in a target's text, at the step in row i, counted from 0; the first row of a name counts
-abbrev pub target_name_has : FaultKind → List Data → ℕ → List ℕ → Bool
-target_name_has kinds.NoSuchName rows i text = not (is_word text) && not (list_any (is_named text) rows)
-target_name_has kinds.BackwardJump rows i text = not (is_word text) && list_any (is_named text) (take (i + 1) rows)
-target_name_has _ rows i text = false
+-- a step behind that of row i, by the row that has its name first; rows count from 0, and steps from 1
+abbrev pub later_step : ℕ → Option ℕ → Part Target
+later_step i None = Err kinds.NoSuchName
+later_step i (Some row) = if nat_le row i then Err kinds.BackwardJump else Ok (targets.Step (row + 1))
 
-abbrev pub target_has : FaultKind → List Data → ℕ → Option Data → Bool
-target_has kind rows i None = false
-target_has kind rows i (Some (string text)) = target_name_has kind rows i text
-target_has kind rows i (Some _) = is_wrong_kind kind
+-- where a text leads from the step in row i
+abbrev pub target_named : List Data → ℕ → List ℕ → Part Target
+target_named rows i text =
+    if bytes_eq text (codes "again") then Ok targets.Again
+    else if bytes_eq text (codes "stop") then Ok targets.Stop
+    else later_step i (position (is_named text) rows)
 
--- the first step of the name; steps count from 1
-abbrev pub target_named : List Data → List ℕ → Target
-target_named rows text =
-    if bytes_eq text (codes "again") then targets.Again
-    else if bytes_eq text (codes "stop") then targets.Stop
-    else targets.Step (unwrap_or (position (is_named text) rows) 0 + 1)
+abbrev pub target_in : List Data → ℕ → Data → Part Target
+target_in rows i (string text) = target_named rows i text
+target_in rows i _ = Err kinds.WrongKind
 
--- no target is `stop`
-abbrev pub target_value : List Data → Option (List ℕ) → Target
-target_value rows None = targets.Stop
-target_value rows (Some text) = target_named rows text
+abbrev pub on_in : Data → Part (List ℕ)
+on_in (string text) = ok_or (pattern_in text) kinds.BadPattern
+on_in _ = Err kinds.WrongKind
 
 abbrev pub branch_keys : List (List ℕ)
 branch_keys = codes "on" ∷ codes "to" ∷ []
 
-abbrev pub is_no_pattern : Option (List ℕ) → Bool
-is_no_pattern None = false
-is_no_pattern (Some text) = not (is_some (pattern_in text))
+abbrev pub branch_of : List ℕ × Target → Branch
+branch_of (on, to) = record { on = on; to = to }
 
--- a fault of this kind stands in a branch's table
-unfoldable pub branch_keys_have : FaultKind → List Data → ℕ → Members → Bool
-branch_keys_have kinds.UnknownKey rows i ms = not (only_keys branch_keys ms)
-branch_keys_have kinds.Missing rows i ms = not (has_key (codes "on") ms && has_key (codes "to") ms)
-branch_keys_have kinds.WrongKind rows i ms = is_no_text (get_member (codes "on") ms) || target_has kinds.WrongKind rows i (get_member (codes "to") ms)
-branch_keys_have kinds.BadPattern rows i ms = is_no_pattern (text_at (codes "on") ms)
-branch_keys_have kind rows i ms = target_has kind rows i (get_member (codes "to") ms)
+abbrev pub on_at : Members → Part (List ℕ)
+on_at ms = required (codes "on") ms >>= on_in
 
-abbrev pub branch_has : FaultKind → List Data → ℕ → Data → Bool
-branch_has kind rows i (table ms) = branch_keys_have kind rows i ms
-branch_has kind rows i _ = is_wrong_kind kind
+abbrev pub target_at : List Data → ℕ → Members → Part Target
+target_at rows i ms = required (codes "to") ms >>= target_in rows i
 
--- a pattern that is absent or bad counts as `****`
-abbrev pub pattern_of : Option (List ℕ) → List ℕ
-pattern_of None = codes "****"
-pattern_of (Some text) = unwrap_or (pattern_in text) (codes "****")
+unfoldable pub table_branch : List Data → ℕ → Members → Part Branch
+table_branch rows i ms = if only_keys branch_keys ms then seen branch_of (both (on_at ms) (target_at rows i ms)) else Err kinds.UnknownKey
 
-abbrev pub branch_value : List Data → Members → Branch
-branch_value rows ms = record { on = pattern_of (text_at (codes "on") ms); to = target_value rows (text_at (codes "to") ms) }
+-- a branch of the step in row i
+abbrev pub branch_in : List Data → ℕ → Data → Part Branch
+branch_in rows i (table ms) = table_branch rows i ms
+branch_in rows i _ = Err kinds.WrongKind
 
-abbrev pub branch_of : List Data → Data → Branch
-branch_of rows (table ms) = branch_value rows ms
-branch_of rows _ = record { on = pattern_of None; to = targets.Stop }
+-- at most 20 branches
+abbrev pub branches_in : List Data → ℕ → Data → Part (List Branch)
+branches_in rows i d = entries_of d >>= each (branch_in rows i) >>= at_most 20
 
--- ---- a step
-
-abbrev pub step_keys : List (List ℕ)
-step_keys = codes "name" ∷ codes "segments" ∷ codes "sealed" ∷ codes "signers" ∷ codes "repeat" ∷ codes "branches" ∷ codes "default" ∷ []
+-- ---- what a step sends
 
 -- the place, from 0 on, of the first signer of the name
 abbrev pub place_of_signer : List Signer → List ℕ → Option ℕ
 place_of_signer signers name = position (λ (s : Signer). bytes_eq s.name name) signers
 
--- an entry of `signers` is a name
-abbrev pub signature_has : FaultKind → List Signer → Data → Bool
-signature_has kinds.NoSuchName signers (string name) = not (is_some (place_of_signer signers name))
-signature_has kinds.WrongKind signers d = not (is_some (as_str d))
-signature_has _ signers d = false
+-- an entry of `signers` is the name of one
+abbrev pub signature_in : List Signer → Data → Part ℕ
+signature_in signers (string name) = ok_or (place_of_signer signers name) kinds.NoSuchName
+signature_in signers _ = Err kinds.WrongKind
 
--- a fault of this kind stands in the segments, the signers, the branches or the default
-abbrev pub parts_have : FaultKind → Surroundings → ℕ → Members → Bool
-parts_have kind around i ms =
-    (list_any (segment_has kind around.fields) (rows_of (get_member (codes "segments") ms)) || list_any (signature_has kind around.signers) (rows_of (get_member (codes "signers") ms)))
-    || (list_any (branch_has kind around.rows i) (rows_of (get_member (codes "branches") ms)) || target_has kind around.rows i (get_member (codes "default") ms))
+-- 1 to 100 segments
+abbrev pub segments_in : List NamedField → Data → Part (List Template)
+segments_in fields d = entries_of d >>= not_empty >>= each (segment_in fields) >>= at_most 100
 
--- values of a step's own keys are of another type
-abbrev pub values_are_wrong : Members → Bool
-values_are_wrong ms =
-    ((is_no_name (get_member (codes "name") ms) || is_no_list (get_member (codes "segments") ms)) || (is_no_flag (get_member (codes "sealed") ms) || is_no_integer (get_member (codes "repeat") ms)))
-    || (is_no_array (get_member (codes "signers") ms) || is_no_array (get_member (codes "branches") ms))
+-- at most 9 signers
+abbrev pub signatures_in : List Signer → Data → Part (List ℕ)
+signatures_in signers d = entries_of d >>= each (signature_in signers) >>= at_most 9
 
--- too many segments, signers or branches, or a bad number of messages
-abbrev pub step_counts_are_past : Members → Bool
-step_counts_are_past ms =
-    (is_outside 1 99 (get_member (codes "repeat") ms) || nat_lt 100 (length (rows_of (get_member (codes "segments") ms))))
-    || (nat_lt 9 (length (rows_of (get_member (codes "signers") ms))) || nat_lt 20 (length (rows_of (get_member (codes "branches") ms))))
+-- a step is sealed only where the script has a seal
+abbrev pub with_seal : Bool → Bool → Part Bool
+with_seal has_seal sealed = if sealed && not has_seal then Err kinds.Missing else Ok sealed
 
--- a name that no step may have
-abbrev pub is_reserved : Option (List ℕ) → Bool
-is_reserved None = false
-is_reserved (Some text) = is_word text
+abbrev pub sealed_in : Bool → Data → Part Bool
+sealed_in has_seal d = flag_in d >>= with_seal has_seal
 
--- a required key is absent, or a sealed step has no seal
-abbrev pub lacks_step_keys : Bool → Members → Bool
-lacks_step_keys has_seal ms = not (has_key (codes "name") ms && has_key (codes "segments") ms) || (is_set (get_member (codes "sealed") ms) && not has_seal)
+abbrev pub segments_at : List NamedField → Members → Part (List Template)
+segments_at fields ms = required (codes "segments") ms >>= segments_in fields
 
--- the name may not stand here: it is a word, or that of an earlier row
-abbrev pub is_second : List Data → ℕ → Members → Bool
-is_second rows i ms = is_reserved (text_at (codes "name") ms) || is_taken (take i rows) (text_at (codes "name") ms)
+abbrev pub sealed_at : Bool → Members → Part Bool
+sealed_at has_seal ms = optional false (sealed_in has_seal) (get_member (codes "sealed") ms)
 
--- a fault of this kind stands in the own keys of the step in row i
-unfoldable pub keys_have : FaultKind → Surroundings → ℕ → Members → Bool
-keys_have kinds.UnknownKey around i ms = not (only_keys step_keys ms)
-keys_have kinds.Missing around i ms = lacks_step_keys (is_some around.seal) ms
-keys_have kinds.WrongKind around i ms = values_are_wrong ms
-keys_have kinds.Duplicate around i ms = is_second around.rows i ms
-keys_have kinds.Limit around i ms = step_counts_are_past ms
-keys_have _ around i ms = false
+abbrev pub signatures_at : List Signer → Members → Part (List ℕ)
+signatures_at signers ms = optional [] (signatures_in signers) (get_member (codes "signers") ms)
 
-unfoldable pub step_has : FaultKind → Surroundings → ℕ → Members → Bool
-step_has kind around i ms = keys_have kind around i ms || parts_have kind around i ms
+-- its segments, whether it is sealed, and its signers
+abbrev pub Sent : Type 0
+Sent = List Template × (Bool × List ℕ)
 
--- the signer of an entry of `signers`
-abbrev pub signature_value : List Signer → Data → ℕ
-signature_value signers (string name) = unwrap_or (place_of_signer signers name) 0
-signature_value signers _ = 0
+abbrev pub sent_in : Surroundings → Members → Part Sent
+sent_in around ms = both (segments_at around.fields ms) (both (sealed_at (is_some around.seal) ms) (signatures_at around.signers ms))
 
-unfoldable pub step_value : Surroundings → Members → StepValue
-step_value around ms = record {
-  name = name_value ms;
-  templates = map (template_of around.fields) (rows_of (get_member (codes "segments") ms));
-  sealed = is_set (get_member (codes "sealed") ms);
-  signers = map (signature_value around.signers) (rows_of (get_member (codes "signers") ms));
-  repeat = number_or 1 99 1 (get_member (codes "repeat") ms);
-  branches = map (branch_of around.rows) (rows_of (get_member (codes "branches") ms));
-  otherwise = target_value around.rows (text_at (codes "default") ms);
-}
+-- ---- how often it is sent, and where its answers lead
+
+abbrev pub repeat_at : Members → Part ℕ
+repeat_at ms = optional 1 (integer_in 1 99) (get_member (codes "repeat") ms)
+
+abbrev pub branches_at : List Data → ℕ → Members → Part (List Branch)
+branches_at rows i ms = optional [] (branches_in rows i) (get_member (codes "branches") ms)
+
+-- without a default, an answer that no branch matches ends the run
+abbrev pub default_at : List Data → ℕ → Members → Part Target
+default_at rows i ms = optional targets.Stop (target_in rows i) (get_member (codes "default") ms)
+
+-- its messages in a row at most, its branches and its default
+abbrev pub Course : Type 0
+Course = ℕ × (List Branch × Target)
+
+abbrev pub course_in : List Data → ℕ → Members → Part Course
+course_in rows i ms = both (repeat_at ms) (both (branches_at rows i ms) (default_at rows i ms))
 
 -- ---- its limits
 
@@ -208,17 +179,32 @@ has_large_segment figures templates = list_any (λ (t : Template). nat_lt MAX_TE
 abbrev pub is_too_large : Surroundings → StepValue → Bool
 is_too_large around step = has_large_segment around.figures step.templates || nat_lt MAX_WEIGHT (step_weight around step)
 
--- the first fault of the table in row i; its size is looked at where it has no other
-abbrev pub step_keys_fault : Surroundings → ℕ → Members → Option FaultKind
-step_keys_fault around i ms = or_later (first_kind (λ kind. step_has kind around i ms)) (limit_of (is_too_large around (step_value around ms)))
+-- ---- the whole step
 
-abbrev pub step_fault : Surroundings → ℕ → Data → Option FaultKind
-step_fault around i (table ms) = step_keys_fault around i ms
-step_fault around i _ = Some kinds.WrongKind
+abbrev pub step_keys : List (List ℕ)
+step_keys = codes "name" ∷ codes "segments" ∷ codes "sealed" ∷ codes "signers" ∷ codes "repeat" ∷ codes "branches" ∷ codes "default" ∷ []
 
-abbrev pub no_step : StepValue
-no_step = record { name = name_of None; templates = []; sealed = false; signers = []; repeat = 1; branches = []; otherwise = targets.Stop }
+-- a word, or the name of an earlier row
+abbrev pub is_taken_step : List Data → ℕ → List ℕ → Bool
+is_taken_step rows i name = is_word name || list_any (is_named name) (take i rows)
 
-abbrev pub step_of : Surroundings → Data → StepValue
-step_of around (table ms) = step_value around ms
-step_of around _ = no_step
+abbrev pub parts_in : Surroundings → ℕ → Members → Part (Sent × Course)
+parts_in around i ms = both (sent_in around ms) (course_in around.rows i ms)
+
+abbrev pub step_of : List ℕ × (Sent × Course) → StepValue
+step_of (name, ((templates, (sealed, signers)), (repeat, (branches, otherwise)))) =
+    record { name = name; templates = templates; sealed = sealed; signers = signers; repeat = repeat; branches = branches; otherwise = otherwise }
+
+-- a step of a size that it may have
+abbrev pub sized_step : Surroundings → StepValue → Part StepValue
+sized_step around step = if is_too_large around step then Err kinds.Limit else Ok step
+
+unfoldable pub table_step : Surroundings → ℕ → Members → Part StepValue
+table_step around i ms =
+    if only_keys step_keys ms then seen step_of (both (row_name (is_taken_step around.rows i) ms) (parts_in around i ms)) >>= sized_step around
+    else Err kinds.UnknownKey
+
+-- the step in row i
+abbrev pub step_in : Surroundings → ℕ → Data → Part StepValue
+step_in around i (table ms) = table_step around i ms
+step_in around i _ = Err kinds.WrongKind

@@ -1,20 +1,18 @@
 //! Branches of steps, and where they lead.
-ghost use Rattle.std.specs.Prelude.{◌≡◌, ◌<◌, codes, length, map, option_map, take, IfOk, ◌+◌};
-ghost use Rattle.std.specs.List.{list_any};
+ghost use Rattle.std.specs.Prelude.{◌≡◌, ◌<◌, length, map};
 ghost use Rattle.toml.specs.View.{view, table_view};
-ghost use Rattle.fints_documents.specs.Entries.{is_named};
-ghost use Rattle.fints_cases.specs.Patterns.{pattern_in};
-ghost use Rattle.fints_script.specs.Steps.{is_word, target_name_has, target_has, target_named, target_value, is_no_pattern, branch_keys_have, branch_has, pattern_of, branch_value, branch_of};
+ghost use Rattle.fints_field_rows.specs.Parts.{Gives, each};
+ghost use Rattle.fints_script.specs.Steps.{branch_in, branches_in, is_word, on_at, on_in, table_branch, target_at, target_in, target_named};
 
 use fints_cases::{Branch, Pattern, Target};
 use fints_documents::document;
-use fints_documents::entries::{has_key, text_at};
-use fints_documents::tables::is_no_text;
+use fints_field_rows::parts::{at_most, both, entries_of, more, required};
 use fints_field_rows::{FaultKind, NamedRows};
-use fints_syntax::Memory;
-use fints_templates::is_wrong_kind;
 use std::alloc::Global;
 use toml::{Table, Value};
+
+/// The most branches of a step.
+const MAX_BRANCHES: usize = 20;
 
 /// Whether the text is `again` or `stop`, which no step may be called.
 pub fn is_word(text: &str) -> bool
@@ -23,155 +21,104 @@ pub fn is_word(text: &str) -> bool
     text == "again" || text == "stop"
 }
 
-fn name_has(kind: FaultKind, rows: &NamedRows<'_>, row: usize, text: &str) -> bool
-    requires { row < length rows.now }
-    ensures { result ≡ target_name_has kind (map view rows.now) row text.now }
-{
-    match kind {
-        FaultKind::NoSuchName => !is_word(text) && !rows.has(text),
-        FaultKind::BackwardJump => !is_word(text) && rows.has_up_to(text, row),
-        _ => false,
-    }
-}
-
-/// Whether a fault of this kind stands in a target of the step in this row, counted from 0.
-pub fn target_has(kind: FaultKind, rows: &NamedRows<'_>, row: usize, target: Option<&Value>) -> bool
-    requires { row < length rows.now }
-    ensures { result ≡ target_has kind (map view rows.now) row (option_map (λ v. view v.now) target.entry) }
-{
-    match target {
-        None => false,
-        Some(Value::String(text)) => name_has(kind, rows, row, text.as_str()),
-        Some(_) => is_wrong_kind(kind),
-    }
-}
-
-fn pattern_in(text: &str) -> Option<Pattern>
-    ensures { result ≡ pattern_in text.now }
-{
-    Pattern::parse(text.as_bytes())
-}
-
-fn is_no_pattern(text: Option<&str>) -> bool
-    ensures { result ≡ is_no_pattern (option_map (λ t. t.now) text.entry) }
+fn target_named(rows: &NamedRows<'_>, row: usize, text: &str) -> Result<Target, FaultKind>
+    requires { length rows.now < 65535 }
+    ensures { result ≡ target_named (map view rows.now) row text.now }
 {
     match text {
-        None => false,
-        Some(text) => pattern_in(text).is_none(),
+        "again" => Ok(Target::Again),
+        "stop" => Ok(Target::Stop),
+        _ => match rows.place_of(text) {
+            None => Err(FaultKind::NoSuchName),
+            Some(place) if place <= row => Err(FaultKind::BackwardJump),
+            Some(place) => Ok(Target::Step(place as u16 + 1)),
+        },
     }
 }
 
-#[tactic(auto, unfolding(crate::specs::Steps::branch_keys_have))]
-fn keys_have(kind: FaultKind, rows: &NamedRows<'_>, row: usize, table: &Table) -> bool
-    requires { row < length rows.now }
-    ensures { result ≡ branch_keys_have kind (map view rows.now) row (table_view table.now) }
+/// Where a target leads from the step in this row, counted from 0.
+pub fn target_in(rows: &NamedRows<'_>, row: usize, value: &Value) -> Result<Target, FaultKind>
+    requires { length rows.now < 65535 }
+    ensures { result ≡ target_in (map view rows.now) row (view value.now) }
 {
-    match kind {
-        FaultKind::UnknownKey => !document::only_keys(table, &["on", "to"]),
-        FaultKind::Missing => !(has_key(table, "on") && has_key(table, "to")),
-        FaultKind::WrongKind => {
-            is_no_text(document::member(table, "on"))
-                || target_has(kind, rows, row, document::member(table, "to"))
-        }
-        FaultKind::BadPattern => is_no_pattern(text_at(table, "on")),
-        _ => target_has(kind, rows, row, document::member(table, "to")),
+    match value {
+        Value::String(text) => target_named(rows, row, text.as_str()),
+        _ => Err(FaultKind::WrongKind),
     }
 }
 
-fn branch_has(kind: FaultKind, rows: &NamedRows<'_>, row: usize, branch: &Value) -> bool
-    requires { row < length rows.now }
-    ensures { result ≡ branch_has kind (map view rows.now) row (view branch.now) }
+fn on_in(value: &Value) -> Result<Pattern, FaultKind>
+    ensures { result ≡ on_in (view value.now) }
+{
+    match value {
+        Value::String(text) => Pattern::parse(text.as_bytes()).ok_or(FaultKind::BadPattern),
+        _ => Err(FaultKind::WrongKind),
+    }
+}
+
+fn on_at(table: &Table) -> Result<Pattern, FaultKind>
+    ensures { result ≡ on_at (table_view table.now) }
+{
+    on_in(required(table, "on")?)
+}
+
+fn target_at(rows: &NamedRows<'_>, row: usize, table: &Table) -> Result<Target, FaultKind>
+    requires { length rows.now < 65535 }
+    ensures { result ≡ target_at (map view rows.now) row (table_view table.now) }
+{
+    target_in(rows, row, required(table, "to")?)
+}
+
+#[tactic(auto, unfolding(crate::specs::Steps::table_branch))]
+fn table_branch(rows: &NamedRows<'_>, row: usize, table: &Table) -> Result<Branch, FaultKind>
+    requires { length rows.now < 65535 }
+    ensures { result ≡ table_branch (map view rows.now) row (table_view table.now) }
+{
+    if !document::only_keys(table, &["on", "to"]) {
+        return Err(FaultKind::UnknownKey);
+    }
+    let (on, to) = both(on_at(table), target_at(rows, row, table))?;
+    Ok(Branch { on, to })
+}
+
+fn branch_in(rows: &NamedRows<'_>, row: usize, branch: &Value) -> Result<Branch, FaultKind>
+    requires { length rows.now < 65535 }
+    ensures { result ≡ branch_in (map view rows.now) row (view branch.now) }
 {
     match branch {
-        Value::Table(table) => keys_have(kind, rows, row, table),
-        _ => is_wrong_kind(kind),
+        Value::Table(table) => table_branch(rows, row, table),
+        _ => Err(FaultKind::WrongKind),
     }
 }
 
-/// Whether a fault of this kind stands in some branch of the step in this row, counted from 0.
-pub fn some_branch_has(
-    kind: FaultKind,
+fn each_branch(
+    alloc: Global,
     rows: &NamedRows<'_>,
     row: usize,
     branches: &[Value],
-) -> bool
-    requires { row < length rows.now }
-    ensures { result ≡ list_any (branch_has kind (map view rows.now) row) (map view branches.now) }
+) -> Result<Vec<Branch>, FaultKind>
+    requires { length rows.now < 65535 }
+    ensures { Gives (λ v. v.items) result (each (branch_in (map view rows.now) row) (map view branches.now)) }
 {
+    let mut read = Ok(Vec::new(alloc));
     for branch in branches {
-        if branch_has(kind, rows, row, branch) {
-            return true;
-        }
+        read = more(read, branch_in(rows, row, branch));
     }
-    false
+    read
 }
 
-fn target_named(rows: &NamedRows<'_>, text: &str) -> Target
-    requires { length rows.now < 65535 }
-    ensures { result ≡ target_named (map view rows.now) text.now }
-{
-    match text {
-        "again" => Target::Again,
-        "stop" => Target::Stop,
-        _ => Target::Step(rows.place_of(text).unwrap_or(0) as u16 + 1),
-    }
-}
-
-/// Where a target leads; an absent one is `stop`.
-pub fn target_value(rows: &NamedRows<'_>, text: Option<&str>) -> Target
-    requires { length rows.now < 65535 }
-    ensures { result ≡ target_value (map view rows.now) (option_map (λ t. t.now) text.entry) }
-{
-    match text {
-        Some(text) => target_named(rows, text),
-        None => Target::Stop,
-    }
-}
-
-// The pattern that every code matches.
-fn any_code() -> Pattern
-    ensures { result ≡ codes "****" }
-{
-    Pattern::parse(b"****").unwrap()
-}
-
-fn pattern_of(text: Option<&str>) -> Pattern
-    ensures { result ≡ pattern_of (option_map (λ t. t.now) text.entry) }
-{
-    match text {
-        Some(text) => pattern_in(text).unwrap_or(any_code()),
-        None => any_code(),
-    }
-}
-
-fn branch_of(rows: &NamedRows<'_>, branch: &Value) -> Branch
-    requires { length rows.now < 65535 }
-    ensures { result ≡ branch_of (map view rows.now) (view branch.now) }
-{
-    match branch {
-        Value::Table(table) => Branch {
-            on: pattern_of(text_at(table, "on")),
-            to: target_value(rows, text_at(table, "to")),
-        },
-        _ => Branch {
-            on: any_code(),
-            to: Target::Stop,
-        },
-    }
-}
-
-/// The branches of a step.
-pub fn branches_of(
+/// The branches of the step in this row, counted from 0.
+pub fn branches_in(
     alloc: Global,
     rows: &NamedRows<'_>,
-    branches: &[Value],
-) -> Result<Vec<Branch>, Memory>
+    row: usize,
+    value: &Value,
+) -> Result<Vec<Branch>, FaultKind>
     requires { length rows.now < 65535 }
-    ensures { IfOk result (λ v. v.items ≡ map (branch_of (map view rows.now)) (map view branches.now)) }
+    ensures { Gives (λ v. v.items) result (branches_in (map view rows.now) row (view value.now)) }
 {
-    let mut out = Vec::new(alloc);
-    for branch in branches {
-        out.push(branch_of(rows, branch))?;
-    }
-    Ok(out)
+    at_most(
+        MAX_BRANCHES,
+        each_branch(alloc, rows, row, entries_of(value)?)?,
+    )
 }

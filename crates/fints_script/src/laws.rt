@@ -1,17 +1,10 @@
 //! Laws of scripts' texts, plans, answers and cases: each function's contract is one.
-ghost use Rattle.std.specs.Prelude.{◌≡◌, ℕ, List, Some, slice_get};
-ghost use Rattle.fints_rules.specs.declared.orders.OrderRow.{OrderRow};
-ghost use Rattle.fints_script.specs.Laws.{NoScriptAtFault, OneScript, OneTextFault};
-ghost use Rattle.fints_script.specs.Numbered.{numbered};
-ghost use Rattle.fints_script.specs.Plans.{IsClosed, IsClosedTemplate};
-ghost use Rattle.fints_script.specs.Scripts.{ScriptValue};
-ghost use Rattle.fints_script.specs.Steps.{StepValue};
-ghost use Rattle.fints_templates.specs.declared.template.Template.{Template};
+ghost use Rattle.fints_script.specs.Laws.{ClosedSegments, NoScriptAtFault, OneScript, OneTextFault};
 
 pub use fints_cases::laws::{
     one_bad_line, one_branch_fires, one_case, one_code_fires, open_branches_lead, openers_lead,
 };
-use fints_field_rows::laws::{one_field, one_first_fault};
+use fints_field_rows::laws::one_field;
 use fints_fields::class_laws::one_class;
 
 /// A text denotes one script at most, and none where a fault stands in it; and one fault at most is
@@ -23,10 +16,9 @@ pub fn one_script()
 {
     one_class();
     one_field();
-    one_first_fault();
 }
 
 /// No segment of a closed plan leaves its account or its TAN process open.
 pub fn closed_segments()
-    ensures { (s : ScriptValue) (orders : List OrderRow) → IsClosed s orders → (n i : ℕ) (step : StepValue) (t : Template) → numbered s.steps n ≡ Some step → slice_get step.templates i ≡ Some t → IsClosedTemplate s.fields orders t }
+    ensures { ClosedSegments }
 {}

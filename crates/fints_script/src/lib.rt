@@ -9,8 +9,9 @@ mod opens;
 mod plan;
 mod rows;
 mod script;
-mod step_faults;
+mod step_reading;
 mod steps;
+mod top;
 
 pub use fints_cases::{Answer, Branch, Case, CaseFault, NamedValue, Pattern, Target, Values};
 pub use fints_field_rows::{FaultKind, NamedField, Place, ScriptFault};

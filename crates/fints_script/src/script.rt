@@ -1,36 +1,24 @@
 //! Scripts, read from their texts.
-ghost use Rattle.std.specs.Prelude.{◌≡◌, ◌≤◌, codes, length, map, option_map, IfOk, IfErr, None, Some};
-ghost use Rattle.toml.specs.Data.{get_member};
+ghost use Rattle.std.specs.Prelude.{◌≡◌, ◌≤◌, length, map, option_map, IfOk, IfErr};
 ghost use Rattle.toml.specs.View.{view, table_view};
-ghost use Rattle.fints_field_rows.specs.FaultOrder.{first_kind};
+ghost use Rattle.fints_field_rows.specs.Rows.{Finds};
+ghost use Rattle.fints_script.specs.Around.{seen_body, seen_top};
+ghost use Rattle.fints_script.specs.Scripts.{MAX_SIGNERS, Denotes, IsRead, IsScriptOf, Refuses, RefusesTable, at_top, script_with, seal_from, steps_from, surroundings};
 ghost use Rattle.fints_script.specs.Sound.{IsSound};
-ghost use Rattle.fints_field_rows.specs.Faults.{Tells, AreClean};
-ghost use Rattle.fints_script.specs.RowFaults.{RefusesRow, RefusesSeal};
-ghost use Rattle.fints_script.specs.Steps.{step_fault, step_of};
-ghost use Rattle.fints_field_rows.specs.declared.fault.Place.TheVariants as places;
-ghost use Rattle.fints_script.specs.Scripts.{ScriptValue, top_has, top_fault, rows_are_wrong, row_counts_are_past, IsScriptOf, HasFields, RefusesTable, IsRead, Denotes, Refuses, at_top, signer_rows, step_rows, look_at_signer, surroundings, surroundings_on};
-ghost use Rattle.fints_templates.specs.Signers.{signer_of, seal_fault, seal_value};
 
 use crate::around::Around;
 use crate::field_rows::read_fields;
-use crate::rows::{placed, read_signers, read_steps};
+use crate::rows::{read_signers, read_steps};
 use crate::steps::Step;
+use crate::top::{Top, top_in};
 use fints_documents::document::{self, MAX_TEXT, Unread};
-use fints_documents::entries::has_key;
-use fints_documents::tables::{is_no_array, is_no_list, rows_of};
-use fints_field_rows::{FaultKind, Fields, KINDS, NamedField, NamedRows, Place, ScriptFault};
-use fints_templates::signers::read_seal;
+use fints_field_rows::{FaultKind, Fields, NamedField, NamedRows, Place, ScriptFault, placed};
+use fints_templates::signers::frame_in;
 use fints_templates::weights::all_figures;
 use fints_templates::{Signer, TemplateElements};
 use std::alloc::Global;
 use std::marker::Model;
 use toml::{Table, Value};
-
-/// The most fields of a script, besides `dialog`.
-const MAX_FIELDS: usize = 100;
-
-/// The most signers of a script.
-const MAX_SIGNERS: usize = 20;
 
 /// The most steps of a script.
 pub const MAX_STEPS: usize = 200;
@@ -113,64 +101,24 @@ fn at_top(kind: FaultKind) -> ScriptFault
     }
 }
 
-fn row_counts_are_past(table: &Table) -> bool
-    ensures { result ≡ row_counts_are_past (table_view table.now) }
-{
-    rows_of(document::member(table, "field")).len() > MAX_FIELDS
-        || rows_of(document::member(table, "signer")).len() > MAX_SIGNERS
-        || rows_of(document::member(table, "step")).len() > MAX_STEPS
-}
-
-fn values_are_wrong(table: &Table) -> bool
-    ensures { result ≡ rows_are_wrong (table_view table.now) }
-{
-    is_no_array(document::member(table, "field"))
-        || is_no_array(document::member(table, "signer"))
-        || is_no_list(document::member(table, "step"))
-}
-
-#[tactic(auto, unfolding(crate::specs::Scripts::top_has))]
-fn top_has(kind: FaultKind, table: &Table) -> bool
-    ensures { result ≡ top_has kind (table_view table.now) }
-{
-    match kind {
-        FaultKind::UnknownKey => {
-            !document::only_keys(table, &["seal", "field", "signer", "step"])
-        }
-        FaultKind::Missing => !has_key(table, "step"),
-        FaultKind::WrongKind => values_are_wrong(table),
-        FaultKind::Limit => row_counts_are_past(table),
-        _ => false,
-    }
-}
-
-fn top_fault(table: &Table) -> Option<FaultKind>
-    ensures { result ≡ top_fault (table_view table.now) }
-{
-    for kind in KINDS {
-        if top_has(kind, table) {
-            return Some(kind);
-        }
-    }
-    None
-}
-
-// The seal, if there is one, or its first fault.
-fn seal_of(
+// The seal, if there is one.
+fn read_seal(
     alloc: Global,
     fields: &Fields,
     value: Option<&Value>,
-) -> Result<Option<TemplateElements>, FaultKind>
-    ensures seal { IfOk result (λ s. (seal_fault fields.now (option_map (λ v. view v.now) value.entry) ≡ None) × (s ≡ seal_value fields.now (option_map (λ v. view v.now) value.entry))) }
-    ensures fault { IfErr result (Tells (seal_fault fields.now (option_map (λ v. view v.now) value.entry))) }
+) -> Result<Option<TemplateElements>, ScriptFault>
+    ensures { Finds (λ s. s) result (seal_from fields.now (option_map (λ v. view v.now) value.entry)) }
 {
     match value {
         None => Ok(None),
-        Some(value) => Ok(Some(read_seal(alloc, fields, value)?)),
+        Some(value) => {
+            let seal = placed(Place::Seal, frame_in(alloc, fields, value))?;
+            Ok(Some(seal))
+        }
     }
 }
 
-// The steps of these rows, given the fields, the signers and the seal.
+// The steps of named rows, given the fields, the signers and the seal.
 fn steps_in(
     alloc: Global,
     rows: &NamedRows<'_>,
@@ -179,9 +127,7 @@ fn steps_in(
     seal: Option<&TemplateElements>,
 ) -> Result<Vec<Step>, ScriptFault>
     requires { length rows.now ≤ MAX_STEPS }
-    ensures clean { IfOk result (λ v. AreClean (step_fault (surroundings_on (map view rows.now) fields.now signers.now (option_map (λ s. s.now) seal.entry))) (map view rows.now) (length rows.now)) }
-    ensures steps { IfOk result (λ v. v.items ≡ map (step_of (surroundings_on (map view rows.now) fields.now signers.now (option_map (λ s. s.now) seal.entry))) (map view rows.now)) }
-    ensures fault { IfErr result (RefusesRow (λ n. places.Step n) (step_fault (surroundings_on (map view rows.now) fields.now signers.now (option_map (λ s. s.now) seal.entry))) (map view rows.now)) }
+    ensures { Finds (λ v. v.items) result (steps_from (surroundings (map view rows.now) fields.now signers.now (option_map (λ s. s.now) seal.entry))) }
 {
     let figures = all_figures(alloc, fields.as_slice())?;
     let around = Around {
@@ -194,76 +140,43 @@ fn steps_in(
     read_steps(alloc, &around)
 }
 
-// The steps of a table, given its fields, its signers and its seal.
+// The steps of these rows, given the fields, the signers and the seal.
 fn steps_of(
     alloc: Global,
-    table: &Table,
+    rows: &[Value],
     fields: &Fields,
     signers: &[Signer],
     seal: Option<&TemplateElements>,
 ) -> Result<Vec<Step>, ScriptFault>
-    requires { length (step_rows (table_view table.now)) ≤ MAX_STEPS }
-    ensures clean { IfOk result (λ v. AreClean (step_fault (surroundings (table_view table.now) fields.now signers.now (option_map (λ s. s.now) seal.entry))) (step_rows (table_view table.now)) (length (step_rows (table_view table.now)))) }
-    ensures steps { IfOk result (λ v. v.items ≡ map (step_of (surroundings (table_view table.now) fields.now signers.now (option_map (λ s. s.now) seal.entry))) (step_rows (table_view table.now))) }
-    ensures fault { IfErr result (RefusesRow (λ n. places.Step n) (step_fault (surroundings (table_view table.now) fields.now signers.now (option_map (λ s. s.now) seal.entry))) (step_rows (table_view table.now))) }
+    requires { length rows.now ≤ MAX_STEPS }
+    ensures { Finds (λ v. v.items) result (steps_from (surroundings (map view rows.now) fields.now signers.now (option_map (λ s. s.now) seal.entry))) }
 {
-    let rows = NamedRows::new(alloc, rows_of(document::member(table, "step")))?;
+    let rows = NamedRows::new(alloc, rows)?;
     steps_in(alloc, &rows, fields, signers, seal)
 }
 
-// The signers of a table, given its fields.
-fn signers_of(alloc: Global, table: &Table, fields: &Fields) -> Result<Vec<Signer>, ScriptFault>
-    requires { length (signer_rows (table_view table.now)) ≤ 20 }
-    ensures clean { IfOk result (λ v. AreClean (look_at_signer fields.now (signer_rows (table_view table.now))) (signer_rows (table_view table.now)) (length (signer_rows (table_view table.now)))) }
-    ensures signers { IfOk result (λ v. v.items ≡ map (signer_of fields.now) (signer_rows (table_view table.now))) }
-    ensures fault { IfErr result (RefusesRow (λ n. places.Signer n) (look_at_signer fields.now (signer_rows (table_view table.now))) (signer_rows (table_view table.now))) }
-{
-    read_signers(alloc, fields, rows_of(document::member(table, "signer")))
+/// What a script has besides its fields.
+#[derive(Drop)]
+pub struct Body {
+    pub signers: Vec<Signer>,
+    pub seal: Option<TemplateElements>,
+    pub steps: Vec<Step>,
 }
 
-// The seal of a table, given its fields.
-fn table_seal(
-    alloc: Global,
-    table: &Table,
-    fields: &Fields,
-) -> Result<Option<TemplateElements>, ScriptFault>
-    ensures clean { IfOk result (λ s. seal_fault fields.now (get_member (codes "seal") (table_view table.now)) ≡ None) }
-    ensures seal { IfOk result (λ s. s ≡ seal_value fields.now (get_member (codes "seal") (table_view table.now))) }
-    ensures fault { IfErr result (RefusesSeal (seal_fault fields.now (get_member (codes "seal") (table_view table.now)))) }
+// What a script of these fields has besides.
+fn body_in(alloc: Global, top: &Top<'_>, fields: &Fields) -> Result<Body, ScriptFault>
+    requires signers { length top.now.signers.now ≤ MAX_SIGNERS }
+    requires steps { length top.now.steps.now ≤ MAX_STEPS }
+    ensures { Finds (seen_body fields.now) result (script_with (seen_top top.now) fields.now) }
 {
-    match seal_of(alloc, fields, document::member(table, "seal")) {
-        Ok(seal) => Ok(seal),
-        Err(kind) => Err(placed(kind, Place::Seal)),
-    }
-}
-
-// The script of a table whose fields are these, or its first fault.
-fn script_with(alloc: Global, table: &Table, fields: Fields) -> Result<Script, ScriptFault>
-    requires { HasFields (table_view table.now) fields }
-    ensures script { IfOk result (IsScriptOf (table_view table.now)) }
-    ensures fault { IfErr result (RefusesTable (table_view table.now)) }
-{
-    let signers = signers_of(alloc, table, &fields)?;
-    let seal = table_seal(alloc, table, &fields)?;
-    match steps_of(alloc, table, &fields, signers.as_slice(), seal.as_ref()) {
-        Ok(steps) => Ok(Script {
-            fields,
-            signers,
-            seal,
-            steps,
-        }),
-        Err(fault) => Err(fault),
-    }
-}
-
-// The fields of a table whose top has no fault.
-fn fields_of(alloc: Global, table: &Table) -> Result<Fields, ScriptFault>
-    requires { top_fault (table_view table.now) ≡ None }
-    ensures fields { IfOk result (HasFields (table_view table.now)) }
-    ensures fault { IfErr result (RefusesTable (table_view table.now)) }
-{
-    let fields = read_fields(alloc, rows_of(document::member(table, "field")))?;
-    Ok(fields)
+    let signers = read_signers(alloc, fields, top.signers)?;
+    let seal = read_seal(alloc, fields, top.seal)?;
+    let steps = steps_of(alloc, top.steps, fields, &signers, seal.as_ref())?;
+    Ok(Body {
+        signers,
+        seal,
+        steps,
+    })
 }
 
 // The script of a table, or its first fault.
@@ -271,9 +184,13 @@ fn read_table(alloc: Global, table: &Table) -> Result<Script, ScriptFault>
     ensures script { IfOk result (IsScriptOf (table_view table.now)) }
     ensures fault { IfErr result (RefusesTable (table_view table.now)) }
 {
-    if let Some(kind) = top_fault(table) {
-        return Err(at_top(kind));
-    }
-    let fields = fields_of(alloc, table)?;
-    script_with(alloc, table, fields)
+    let top = placed(Place::Top, top_in(table))?;
+    let fields = read_fields(alloc, top.fields)?;
+    let body = body_in(alloc, &top, &fields)?;
+    Ok(Script {
+        fields,
+        signers: body.signers,
+        seal: body.seal,
+        steps: body.steps,
+    })
 }

@@ -1,31 +1,24 @@
-//! Steps: their size, and how they are built.
-ghost use Rattle.std.specs.Prelude.{◌≡◌, ◌<◌, ◌≤◌, ◌+◌, ◌↔◌, length, map, option_map, IfOk, IfErr, IfSome, IsSome, None};
-ghost use Rattle.std.specs.List.{list_any};
-ghost use Rattle.toml.specs.View.{view, table_view};
+//! Steps and their size.
+ghost use Rattle.std.specs.Prelude.{◌≡◌, ◌≤◌, ◌+◌, ◌↔◌, length, option_map, IfSome, IsSome};
 ghost use Rattle.fints_cases.specs.Answers.{leads, target_of, IsOpen, IsLeastOpener};
-ghost use Rattle.fints_field_rows.specs.Faults.{Tells};
-ghost use Rattle.fints_templates.specs.Weights.{Spends, total, segment_weight, items_in};
-ghost use Rattle.fints_script.specs.Steps.{signature_value, step_value, seal_weight, signature_weight, step_weight, has_large_segment, is_too_large, step_keys_fault, step_fault, step_of};
-ghost use Rattle.fints_script.specs.Around.{surroundings_of};
+ghost use Rattle.fints_templates.specs.Weights.{Spends, total, segment_weight};
+ghost use Rattle.fints_script.specs.Steps.{seal_weight, signature_weight, sized_step, step_of, step_weight, has_large_segment, is_too_large};
+ghost use Rattle.fints_script.specs.Around.{seen_parts, surroundings_of};
 
 use crate::around::Around;
-use crate::branches::{branches_of, target_value};
-use crate::step_faults::{first_kind, place_of_signer};
 use fints_cases::{Branch, Target, choose, opener, target_of};
-use fints_documents::document;
-use fints_documents::entries::text_at;
-use fints_documents::tables::{is_set, number_or, rows_of};
 use fints_field_rows::FaultKind;
-use fints_field_rows::names::name_value;
 use fints_fields::Name;
 use fints_params::Code;
-use fints_syntax::Memory;
-use fints_templates::segments::templates_of;
 use fints_templates::weights::{Figures, has_too_many_items, spend_segment, spend_signer};
 use fints_templates::{Signer, Template, TemplateElements};
-use std::alloc::Global;
 use std::marker::Model;
-use toml::{Table, Value};
+
+/// What a step sends: its segments, and whether it is sealed and by whom it is signed.
+pub type Sent = (Vec<Template>, (bool, Vec<usize>));
+
+/// How often a step is sent in a row at most, and where its answers lead.
+pub type Course = (u16, (Vec<Branch>, Target));
 
 /// A step of a script: its segments, who signs them, and where answers lead; a contract sees its
 /// parts.
@@ -128,47 +121,6 @@ impl Step {
     }
 }
 
-fn signature_value(signers: &[Signer], entry: &Value) -> usize
-    ensures { result ≡ signature_value signers.now (view entry.now) }
-{
-    match entry {
-        Value::String(name) => place_of_signer(signers, name.as_str()).unwrap_or(0),
-        _ => 0,
-    }
-}
-
-fn signatures_of(alloc: Global, signers: &[Signer], entries: &[Value]) -> Result<Vec<usize>, Memory>
-    ensures { IfOk result (λ v. v.items ≡ map (signature_value signers.now) (map view entries.now)) }
-{
-    let mut places = Vec::new(alloc);
-    for entry in entries {
-        places.push(signature_value(signers, entry))?;
-    }
-    Ok(places)
-}
-
-#[tactic(auto, unfolding(crate::specs::Steps::step_value))]
-fn step_value(alloc: Global, around: &Around<'_>, table: &Table) -> Result<Step, Memory>
-    requires { length around.now.rows.now < 65535 }
-    ensures { IfOk result (λ s. s ≡ step_value (surroundings_of around.now) (table_view table.now)) }
-{
-    let segments = rows_of(document::member(table, "segments"));
-    let templates = templates_of(alloc, around.fields, segments)?;
-    let entries = rows_of(document::member(table, "signers"));
-    let signers = signatures_of(alloc, around.signers, entries)?;
-    let rows = rows_of(document::member(table, "branches"));
-    let branches = branches_of(alloc, around.rows, rows)?;
-    Ok(Step {
-        name: name_value(table),
-        templates,
-        sealed: is_set(document::member(table, "sealed")),
-        signers,
-        repeat: number_or(1, 99, 1, document::member(table, "repeat")),
-        branches,
-        otherwise: target_value(around.rows, text_at(table, "default")),
-    })
-}
-
 fn spend_templates(allowance: u64, figures: &[Figures], templates: &[Template]) -> Option<u64>
     ensures { Spends allowance (total (λ t. segment_weight figures.now t.elements) templates.now) result }
 {
@@ -235,42 +187,28 @@ fn is_too_large(around: &Around<'_>, step: &Step) -> bool
         || spend_step(1_000_000, around, step).is_none()
 }
 
-// The step of a table in this row, counted from 0, or its first fault.
-fn read_table(
-    alloc: Global,
-    around: &Around<'_>,
-    row: usize,
-    table: &Table,
-) -> Result<Step, FaultKind>
-    requires row { row < length around.now.rows.now }
-    requires rows { length around.now.rows.now < 65535 }
-    ensures step { IfOk result (λ s. (step_keys_fault (surroundings_of around.now) row (table_view table.now) ≡ None) × (s ≡ step_value (surroundings_of around.now) (table_view table.now))) }
-    ensures fault { IfErr result (Tells (step_keys_fault (surroundings_of around.now) row (table_view table.now))) }
+/// The step of this name and these parts.
+pub fn whole_step(name: Name, parts: (Sent, Course)) -> Step
+    ensures { result ≡ step_of (name, seen_parts parts) }
 {
-    if let Some(kind) = first_kind(around, row, table) {
-        return Err(kind);
+    let ((templates, (sealed, signers)), (repeat, (branches, otherwise))) = parts;
+    Step {
+        name,
+        templates,
+        sealed,
+        signers,
+        repeat,
+        branches,
+        otherwise,
     }
-    let step = step_value(alloc, around, table)?;
+}
+
+/// The step, unless it is too large for the script that it stands in.
+pub fn sized_step(around: &Around<'_>, step: Step) -> Result<Step, FaultKind>
+    ensures { result ≡ sized_step (surroundings_of around.now) step }
+{
     if is_too_large(around, &step) {
         return Err(FaultKind::Limit);
     }
     Ok(step)
-}
-
-/// The step in this row, counted from 0, or its first fault.
-pub fn read_step(
-    alloc: Global,
-    around: &Around<'_>,
-    row: usize,
-    entry: &Value,
-) -> Result<Step, FaultKind>
-    requires row { row < length around.now.rows.now }
-    requires rows { length around.now.rows.now < 65535 }
-    ensures step { IfOk result (λ s. (step_fault (surroundings_of around.now) row (view entry.now) ≡ None) × (s ≡ step_of (surroundings_of around.now) (view entry.now))) }
-    ensures fault { IfErr result (Tells (step_fault (surroundings_of around.now) row (view entry.now))) }
-{
-    match entry {
-        Value::Table(table) => read_table(alloc, around, row, table),
-        _ => Err(FaultKind::WrongKind),
-    }
 }

@@ -2,10 +2,11 @@
 use fints_documents::document::member;
 use fints_documents::entries::text_at;
 use fints_documents::tables::{is_no_array, is_no_integer, is_no_text};
-use fints_field_rows::names::is_no_name;
 use fints_field_rows::{FaultKind, NamedRows};
 use fints_hint_words::guessing::guess_of;
-use fints_hint_words::keys::{Wanted, missing_key, name_slip, no_table, unknown_key, wrong};
+use fints_hint_words::keys::{
+    Wanted, has_bad_name, missing_key, name_slip, no_table, unknown_key, wrong,
+};
 use fints_hint_words::listed::values_slip;
 use fints_hint_words::places::{Told, row_at, row_named, told_of};
 use fints_hint_words::quoting::Quoted;
@@ -116,7 +117,7 @@ fn values_of(alloc: Global, kind: FaultKind, table: &Table) -> Told {
 }
 
 fn wrong_value(alloc: Global, table: &Table) -> Told {
-    if is_no_name(member(table, "name")) {
+    if has_bad_name(table) {
         return name_slip(alloc, table);
     }
     let wanted = wrong_key(table);

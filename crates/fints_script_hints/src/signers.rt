@@ -2,10 +2,11 @@
 use fints_documents::document::member;
 use fints_documents::entries::{is_named, text_at};
 use fints_documents::tables::is_no_array;
-use fints_field_rows::names::is_no_name;
 use fints_field_rows::{FaultKind, NamedRows};
 use fints_hint_words::elements::elements_slip;
-use fints_hint_words::keys::{Wanted, missing_key, name_slip, no_table, unknown_key, wrong};
+use fints_hint_words::keys::{
+    Wanted, has_bad_name, missing_key, name_slip, no_table, unknown_key, wrong,
+};
 use fints_hint_words::places::{Told, row_at, row_named, told_at, told_of};
 use fints_hint_words::quoting::{Quoted, Shown};
 use std::alloc::Global;
@@ -81,7 +82,7 @@ fn wrong_key(table: &Table) -> Option<Wanted> {
 }
 
 fn wrong_value(alloc: Global, fields: &NamedRows<'_>, table: &Table) -> Told {
-    if is_no_name(member(table, "name")) {
+    if has_bad_name(table) {
         return name_slip(alloc, table);
     }
     let wanted = wrong_key(table);

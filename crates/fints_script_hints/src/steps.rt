@@ -7,10 +7,11 @@ use fints_documents::entries::{has_key, some_is_named, text_at};
 use fints_documents::tables::{
     is_no_array, is_no_flag, is_no_integer, is_no_list, is_outside, is_set, rows_of,
 };
-use fints_field_rows::names::is_no_name;
 use fints_field_rows::{FaultKind, NamedRows};
 use fints_hint_words::guessing::{Known, guess_of};
-use fints_hint_words::keys::{Wanted, missing_key, name_slip, no_table, unknown_key, wrong};
+use fints_hint_words::keys::{
+    Wanted, has_bad_name, missing_key, name_slip, no_table, unknown_key, wrong,
+};
 use fints_hint_words::places::{Told, names_of, row_at, row_named, told_at, told_of};
 use fints_hint_words::quoting::{Quoted, Shown};
 use std::alloc::Global;
@@ -77,7 +78,7 @@ fn wrong_key(table: &Table) -> Option<Wanted> {
 }
 
 fn wrong_value(alloc: Global, table: &Table) -> Told {
-    if is_no_name(member(table, "name")) {
+    if has_bad_name(table) {
         return name_slip(alloc, table);
     }
     wrong(alloc, table, wrong_key(table))

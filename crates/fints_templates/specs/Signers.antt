@@ -1,75 +1,49 @@
--- Which faults stand in a signer's table and in the seal, and what they are.
-use Rattle.std.specs.Prelude.{codes, ℕ, nat_lt, Bool, false, ◌&&◌, ◌||◌, not, if◌then◌else◌, List, [], ◌∷◌, length, Option, Some, None}
+-- What a signer's row and the seal are, or the first kind of fault in them.
+use Rattle.std.specs.Prelude.{codes, ℕ, nat_lt, Bool, false, if◌then◌else◌, List, [], ◌∷◌, length, Ok, Err}
 use Rattle.std.specs.List.{list_any}
-use Rattle.toml.specs.Data.{Data, table, Members, get_member}
+use Rattle.toml.specs.Data.{Data, table, Members}
 use Rattle.fints_documents.specs.Document.{only_keys}
-use Rattle.fints_documents.specs.Entries.{has_key, is_named, text_at}
-use Rattle.fints_field_rows.specs.RowNames.{is_no_name}
-use Rattle.fints_field_rows.specs.RowNames.{name_value, name_of}
-use Rattle.fints_templates.specs.Elements.{elements_have, elements_value}
-use Rattle.fints_field_rows.specs.FaultOrder.{first_kind}
-use Rattle.fints_field_rows.specs.Faults.{or_later}
+use Rattle.fints_documents.specs.Entries.{is_named}
+use Rattle.fints_field_rows.specs.Parts.{Part, ◌>>=◌, both, required, seen}
+use Rattle.fints_field_rows.specs.RowNames.{row_name}
+use Rattle.fints_templates.specs.Elements.{elements_in}
 use Rattle.fints_templates.specs.Weights.{total, MAX_TEMPLATE_ITEMS}
-use Rattle.fints_field_rows.specs.declared.fault.FaultKind.{FaultKind}
 use Rattle.fints_field_rows.specs.declared.fault.FaultKind.TheVariants as kinds
 use Rattle.fints_field_rows.specs.declared.fields.NamedField.{NamedField}
 use Rattle.fints_templates.specs.declared.template.TemplateItem.{TemplateItem}
 use Rattle.fints_templates.specs.declared.template.Signer.{Signer}
 
+-- elements of not too many items; each counts once, since no account field stands there
+abbrev pub few_items : List (List TemplateItem) → Part (List (List TemplateItem))
+few_items elements = if nat_lt MAX_TEMPLATE_ITEMS (total length elements) then Err kinds.Limit else Ok elements
+
+-- the elements of a signer's segment or of the seal, where no account field may stand
+abbrev pub frame_in : List NamedField → Data → Part (List (List TemplateItem))
+frame_in fields d = elements_in fields false d >>= few_items
+
+abbrev pub frame_at : List ℕ → List NamedField → Members → Part (List (List TemplateItem))
+frame_at key fields ms = required key ms >>= frame_in fields
+
+-- its head and its end
+abbrev pub frames_in : List NamedField → Members → Part (List (List TemplateItem) × List (List TemplateItem))
+frames_in fields ms = both (frame_at (codes "head") fields ms) (frame_at (codes "end") fields ms)
+
 abbrev pub signer_keys : List (List ℕ)
 signer_keys = codes "name" ∷ codes "head" ∷ codes "end" ∷ []
 
 -- a name of an earlier row
-abbrev pub is_taken : List Data → Option (List ℕ) → Bool
-is_taken earlier None = false
-is_taken earlier (Some name) = list_any (is_named name) earlier
+abbrev pub is_taken_signer : List Data → List ℕ → Bool
+is_taken_signer earlier name = list_any (is_named name) earlier
 
--- a fault of this kind stands in the elements of the head or of the end, where no account field may stand
-abbrev pub ends_have : FaultKind → List NamedField → Members → Bool
-ends_have kind fields ms = elements_have kind fields false (get_member (codes "head") ms) || elements_have kind fields false (get_member (codes "end") ms)
+abbrev pub signer_of : List ℕ × (List (List TemplateItem) × List (List TemplateItem)) → Signer
+signer_of (name, (head, end)) = record { name = name; head = head; end = end }
 
-abbrev pub lacks_signer_keys : Members → Bool
-lacks_signer_keys ms = not (has_key (codes "name") ms && (has_key (codes "head") ms && has_key (codes "end") ms))
+unfoldable pub table_signer : List NamedField → List Data → Members → Part Signer
+table_signer fields earlier ms =
+    if only_keys signer_keys ms then seen signer_of (both (row_name (is_taken_signer earlier) ms) (frames_in fields ms))
+    else Err kinds.UnknownKey
 
--- a fault of this kind stands in a signer's table, behind earlier rows
-unfoldable pub signer_has : FaultKind → List NamedField → List Data → Members → Bool
-signer_has kinds.UnknownKey fields earlier ms = not (only_keys signer_keys ms)
-signer_has kinds.Missing fields earlier ms = lacks_signer_keys ms
-signer_has kinds.WrongKind fields earlier ms = is_no_name (get_member (codes "name") ms) || ends_have kinds.WrongKind fields ms
-signer_has kinds.Duplicate fields earlier ms = is_taken earlier (text_at (codes "name") ms)
-signer_has kind fields earlier ms = ends_have kind fields ms
-
-abbrev pub signer_value : List NamedField → Members → Signer
-signer_value fields ms = record {
-  name = name_value ms;
-  head = elements_value fields (get_member (codes "head") ms);
-  end = elements_value fields (get_member (codes "end") ms);
-}
-
--- more items than a list of elements may have; no account field stands here, so that each item counts once
-abbrev pub has_many_items : List (List TemplateItem) → Bool
-has_many_items elements = nat_lt MAX_TEMPLATE_ITEMS (total length elements)
-
-abbrev pub limit_of : Bool → Option FaultKind
-limit_of past = if past then Some kinds.Limit else None
-
-abbrev pub table_fault : List NamedField → List Data → Members → Option FaultKind
-table_fault fields earlier ms = or_later (first_kind (λ kind. signer_has kind fields earlier ms)) (limit_of (has_many_items (signer_value fields ms).head || has_many_items (signer_value fields ms).end))
-
--- the first fault of a row of `signer` behind earlier ones
-abbrev pub signer_fault : List NamedField → List Data → Data → Option FaultKind
-signer_fault fields earlier (table ms) = table_fault fields earlier ms
-signer_fault fields earlier _ = Some kinds.WrongKind
-
-abbrev pub signer_of : List NamedField → Data → Signer
-signer_of fields (table ms) = signer_value fields ms
-signer_of fields _ = record { name = name_of None; head = []; end = [] }
-
--- the first fault of the seal, which may be absent
-abbrev pub seal_fault : List NamedField → Option Data → Option FaultKind
-seal_fault fields None = None
-seal_fault fields (Some d) = or_later (first_kind (λ kind. elements_have kind fields false (Some d))) (limit_of (has_many_items (elements_value fields (Some d))))
-
-abbrev pub seal_value : List NamedField → Option Data → Option (List (List TemplateItem))
-seal_value fields None = None
-seal_value fields (Some d) = Some (elements_value fields (Some d))
+-- a row of `signer` behind earlier ones
+abbrev pub signer_in : List NamedField → List Data → Data → Part Signer
+signer_in fields earlier (table ms) = table_signer fields earlier ms
+signer_in fields earlier _ = Err kinds.WrongKind

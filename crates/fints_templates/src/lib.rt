@@ -1,13 +1,11 @@
 //! The segments that a script sends: elements, templates, signers and the seal, and what they weigh.
 #![tactic(auto)]
 
-mod element_faults;
-mod element_values;
+mod elements;
 mod item_text;
 pub mod segments;
 pub mod signers;
 mod template;
 pub mod weights;
 
-pub use element_faults::is_wrong_kind;
 pub use template::{Signer, Template, TemplateElements, TemplateItem};

@@ -1,146 +1,102 @@
 //! Signers and the seal.
-ghost use Rattle.std.specs.Prelude.{◌≡◌, map, option_map, IfOk, IfErr, Some, None, false};
+ghost use Rattle.std.specs.Prelude.{◌≡◌, map};
 ghost use Rattle.toml.specs.View.{view, table_view};
-ghost use Rattle.fints_templates.specs.Elements.{elements_have};
-ghost use Rattle.fints_field_rows.specs.FaultOrder.{first_kind};
-ghost use Rattle.fints_field_rows.specs.Faults.{Tells};
-ghost use Rattle.fints_templates.specs.Signers.{is_taken, ends_have, lacks_signer_keys, signer_has, signer_value, table_fault, signer_fault, signer_of, seal_fault, seal_value};
+ghost use Rattle.fints_field_rows.specs.Parts.{Gives};
+ghost use Rattle.fints_field_rows.specs.RowNames.{row_name};
+ghost use Rattle.fints_templates.specs.Signers.{few_items, frame_at, frame_in, frames_in, is_taken_signer, signer_in, table_signer};
 
-use crate::element_faults::elements_have;
-use crate::element_values::elements_value;
+use crate::elements::elements_in;
 use crate::template::{Signer, TemplateElements};
 use crate::weights::has_many_items;
 use fints_documents::document;
-use fints_documents::entries::{has_key, some_is_named, text_at};
-use fints_field_rows::names::{is_no_name, name_value};
-use fints_field_rows::{FaultKind, Fields, KINDS};
-use fints_syntax::Memory;
+use fints_documents::entries::some_is_named;
+use fints_field_rows::names::{name_text, new_name};
+use fints_field_rows::parts::{both, required};
+use fints_field_rows::{FaultKind, Fields};
+use fints_fields::Name;
 use std::alloc::Global;
 use toml::{Table, Value};
 
-// Whether an earlier row has the name.
-fn is_taken(earlier: &[Value], name: Option<&str>) -> bool
-    ensures { result ≡ is_taken (map view earlier.now) (option_map (λ n. n.now) name.entry) }
+fn few_items(elements: TemplateElements) -> Result<TemplateElements, FaultKind>
+    ensures { result ≡ few_items elements }
 {
-    match name {
-        None => false,
-        Some(name) => some_is_named(name, earlier),
+    if has_many_items(&elements) {
+        return Err(FaultKind::Limit);
     }
+    Ok(elements)
 }
 
-fn ends_have(kind: FaultKind, fields: &Fields, table: &Table) -> bool
-    ensures { result ≡ ends_have kind fields.now (table_view table.now) }
+/// The elements of a signer's segment or of the seal, or the first fault in them in the order of the
+/// kinds.
+pub fn frame_in(
+    alloc: Global,
+    fields: &Fields,
+    value: &Value,
+) -> Result<TemplateElements, FaultKind>
+    ensures { Gives (λ e. e) result (frame_in fields.now (view value.now)) }
 {
-    elements_have(kind, fields, false, document::member(table, "head"))
-        || elements_have(kind, fields, false, document::member(table, "end"))
+    few_items(elements_in(alloc, fields, false, value)?)
 }
 
-fn lacks_signer_keys(table: &Table) -> bool
-    ensures { result ≡ lacks_signer_keys (table_view table.now) }
+fn frame_at(
+    alloc: Global,
+    key: &str,
+    fields: &Fields,
+    table: &Table,
+) -> Result<TemplateElements, FaultKind>
+    ensures { Gives (λ e. e) result (frame_at key.now fields.now (table_view table.now)) }
 {
-    !(has_key(table, "name") && has_key(table, "head") && has_key(table, "end"))
+    frame_in(alloc, fields, required(table, key)?)
 }
 
-#[tactic(auto, unfolding(crate::specs::Signers::signer_has))]
-fn signer_has(kind: FaultKind, fields: &Fields, earlier: &[Value], table: &Table) -> bool
-    ensures { result ≡ signer_has kind fields.now (map view earlier.now) (table_view table.now) }
+fn frames_in(
+    alloc: Global,
+    fields: &Fields,
+    table: &Table,
+) -> Result<(TemplateElements, TemplateElements), FaultKind>
+    ensures { Gives (λ p. p) result (frames_in fields.now (table_view table.now)) }
 {
-    match kind {
-        FaultKind::UnknownKey => !document::only_keys(table, &["name", "head", "end"]),
-        FaultKind::Missing => lacks_signer_keys(table),
-        FaultKind::WrongKind => {
-            is_no_name(document::member(table, "name")) || ends_have(kind, fields, table)
-        }
-        FaultKind::Duplicate => is_taken(earlier, text_at(table, "name")),
-        _ => ends_have(kind, fields, table),
-    }
+    both(
+        frame_at(alloc, "head", fields, table),
+        frame_at(alloc, "end", fields, table),
+    )
 }
 
-fn first_kind(fields: &Fields, earlier: &[Value], table: &Table) -> Option<FaultKind>
-    ensures { result ≡ first_kind (λ kind. signer_has kind fields.now (map view earlier.now) (table_view table.now)) }
+fn signer_name(earlier: &[Value], table: &Table) -> Result<Name, FaultKind>
+    ensures { result ≡ row_name (is_taken_signer (map view earlier.now)) (table_view table.now) }
 {
-    for kind in KINDS {
-        if signer_has(kind, fields, earlier, table) {
-            return Some(kind);
-        }
-    }
-    None
+    let text = name_text(table)?;
+    new_name(text, some_is_named(text, earlier))
 }
 
-fn signer_value(alloc: Global, fields: &Fields, table: &Table) -> Result<Signer, Memory>
-    ensures { IfOk result (λ s. s ≡ signer_value fields.now (table_view table.now)) }
-{
-    let head = elements_value(alloc, fields, document::member(table, "head"))?;
-    let end = elements_value(alloc, fields, document::member(table, "end"))?;
-    Ok(Signer {
-        name: name_value(table),
-        head,
-        end,
-    })
-}
-
-// The signer of a table behind earlier rows, or its first fault.
-fn read_table(
+#[tactic(auto, unfolding(crate::specs::Signers::table_signer))]
+fn table_signer(
     alloc: Global,
     fields: &Fields,
     earlier: &[Value],
     table: &Table,
 ) -> Result<Signer, FaultKind>
-    ensures signer { IfOk result (λ s. (table_fault fields.now (map view earlier.now) (table_view table.now) ≡ None) × (s ≡ signer_value fields.now (table_view table.now))) }
-    ensures fault { IfErr result (Tells (table_fault fields.now (map view earlier.now) (table_view table.now))) }
+    ensures { Gives (λ s. s) result (table_signer fields.now (map view earlier.now) (table_view table.now)) }
 {
-    if let Some(kind) = first_kind(fields, earlier, table) {
-        return Err(kind);
+    if !document::only_keys(table, &["name", "head", "end"]) {
+        return Err(FaultKind::UnknownKey);
     }
-    let signer = signer_value(alloc, fields, table)?;
-    if has_many_items(&signer.head) || has_many_items(&signer.end) {
-        return Err(FaultKind::Limit);
-    }
-    Ok(signer)
+    let frames = frames_in(alloc, fields, table);
+    let (name, (head, end)) = both(signer_name(earlier, table), frames)?;
+    Ok(Signer { name, head, end })
 }
 
-/// The signer of a row behind earlier ones, or its first fault.
-pub fn read_signer(
+/// The signer of a row behind earlier ones, or its first fault in the order of the kinds.
+pub fn signer_in(
     alloc: Global,
     fields: &Fields,
     earlier: &[Value],
     row: &Value,
 ) -> Result<Signer, FaultKind>
-    ensures signer { IfOk result (λ s. (signer_fault fields.now (map view earlier.now) (view row.now) ≡ None) × (s ≡ signer_of fields.now (view row.now))) }
-    ensures fault { IfErr result (Tells (signer_fault fields.now (map view earlier.now) (view row.now))) }
+    ensures { Gives (λ s. s) result (signer_in fields.now (map view earlier.now) (view row.now)) }
 {
     match row {
-        Value::Table(table) => read_table(alloc, fields, earlier, table),
+        Value::Table(table) => table_signer(alloc, fields, earlier, table),
         _ => Err(FaultKind::WrongKind),
     }
-}
-
-fn first_kind_of_seal(fields: &Fields, value: &Value) -> Option<FaultKind>
-    ensures { result ≡ first_kind (λ kind. elements_have kind fields.now false (Some (view value.now))) }
-{
-    for kind in KINDS {
-        if elements_have(kind, fields, false, Some(value)) {
-            return Some(kind);
-        }
-    }
-    None
-}
-
-/// The seal, or its first fault.
-pub fn read_seal(
-    alloc: Global,
-    fields: &Fields,
-    value: &Value,
-) -> Result<TemplateElements, FaultKind>
-    ensures seal { IfOk result (λ s. (seal_fault fields.now (Some (view value.now)) ≡ None) × (Some s ≡ seal_value fields.now (Some (view value.now)))) }
-    ensures fault { IfErr result (Tells (seal_fault fields.now (Some (view value.now)))) }
-{
-    if let Some(kind) = first_kind_of_seal(fields, value) {
-        return Err(kind);
-    }
-    let seal = elements_value(alloc, fields, Some(value))?;
-    if has_many_items(&seal) {
-        return Err(FaultKind::Limit);
-    }
-    Ok(seal)
 }

@@ -1,5 +1,5 @@
 use Rattle.fints_field_rows.specs.Fields.{text_in}
-use Rattle.fints_field_rows.proofs.PartLemmas.{each_step}
+use Rattle.fints_field_rows.specs.PartLaws.{each_step}
 use Rattle.fints_field_rows.proofs.field_values.texts_in.Goals as goal
 
 pub loop-value-preserved : goal.loop-value-preserved

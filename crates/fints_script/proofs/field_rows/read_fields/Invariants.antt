@@ -1,11 +1,17 @@
-use Rattle.std.proofs.Common.{map, take}
+use Rattle.std.proofs.Common.{◌≡◌, ◌∷◌, List, map, take, Ok}
 use Rattle.toml.specs.View.{view}
-use Rattle.fints_field_rows.specs.Faults.{AreClean}
-use Rattle.fints_script.specs.Scripts.{look_at_field, DenoteFields}
+use Rattle.fints_field_rows.specs.Fields.{field_in, field_value}
+use Rattle.fints_field_rows.specs.Rows.{rows_from}
+use Rattle.fints_field_rows.specs.declared.fault.Place.TheVariants as places
+use Rattle.fints_field_rows.specs.declared.fields.NamedField.{NamedField}
+use Rattle.fints_script.specs.Scripts.{IsDialogField}
 use Rattle.fints_script.proofs.field_rows.read_fields.Given as goal
 
 abbrev pub invariant-loop-i : goal.invariant-loop-i
 invariant-loop-i l = record {
-  clean : AreClean (look_at_field (map view l.rows)) (map view l.rows) l.i;
-  fields : DenoteFields (map view (take l.i l.rows)) l.fields.items;
+  dialog : NamedField;
+  others : List NamedField;
+  all : l.fields.items ≡ dialog ∷ others;
+  built_in : IsDialogField dialog;
+  each : rows_from (λ n. places.Field n) (λ i row. field_in (take i (map view l.rows)) row) 0 (take l.i (map view l.rows)) ≡ Ok (map field_value others);
 }

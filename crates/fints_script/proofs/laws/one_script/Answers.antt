@@ -2,10 +2,10 @@ use Rattle.fints_script.proofs.OneScript.{no_script, one_fault, one_script}
 use Rattle.fints_script.proofs.laws.one_script.Goals as goal
 
 pub returns-clause-one : goal.returns-clause-one
-returns-clause-one c = one_script c.one_class.ensures.text c.one_field.ensures c.one_first_fault.ensures.one c.one_first_fault.ensures.none_where_clean
+returns-clause-one c = one_script c.one_class.ensures.text c.one_field.ensures
 
 pub returns-clause-none_at_fault : goal.returns-clause-none_at_fault
-returns-clause-none_at_fault c = no_script c.one_class.ensures.text c.one_field.ensures c.one_first_fault.ensures.one c.one_first_fault.ensures.none_where_clean
+returns-clause-none_at_fault c = no_script c.one_class.ensures.text c.one_field.ensures
 
 pub returns-clause-one_fault : goal.returns-clause-one_fault
-returns-clause-one_fault c = one_fault c.one_class.ensures.text c.one_field.ensures c.one_first_fault.ensures.one c.one_first_fault.ensures.none_where_clean
+returns-clause-one_fault c = one_fault c.one_class.ensures.text c.one_field.ensures

@@ -1,12 +1,9 @@
-use Rattle.std.proofs.Common.{◌≡◌, map, take}
+use Rattle.std.proofs.Common.{◌≡◌, map, take, Ok}
 use Rattle.toml.specs.View.{view}
-use Rattle.fints_field_rows.specs.Faults.{AreClean}
-use Rattle.fints_script.specs.Scripts.{look_at_signer}
-use Rattle.fints_templates.specs.Signers.{signer_of}
+use Rattle.fints_field_rows.specs.Rows.{rows_from}
+use Rattle.fints_field_rows.specs.declared.fault.Place.TheVariants as places
+use Rattle.fints_templates.specs.Signers.{signer_in}
 use Rattle.fints_script.proofs.rows.read_signers.Given as goal
 
 abbrev pub invariant-loop-i : goal.invariant-loop-i
-invariant-loop-i l = record {
-  clean : AreClean (look_at_signer l.fields (map view l.rows)) (map view l.rows) l.i;
-  signers : l.signers.items ≡ map (signer_of l.fields) (map view (take l.i l.rows));
-}
+invariant-loop-i l = rows_from (λ n. places.Signer n) (λ i row. signer_in l.fields (take i (map view l.rows)) row) 0 (take l.i (map view l.rows)) ≡ Ok l.signers.items

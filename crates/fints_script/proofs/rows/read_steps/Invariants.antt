@@ -1,12 +1,10 @@
-use Rattle.std.proofs.Common.{◌≡◌, map, take}
+use Rattle.std.proofs.Common.{◌≡◌, map, take, Ok}
 use Rattle.toml.specs.View.{view}
-use Rattle.fints_field_rows.specs.Faults.{AreClean}
-use Rattle.fints_script.specs.Steps.{step_fault, step_of}
+use Rattle.fints_field_rows.specs.Rows.{rows_from}
+use Rattle.fints_field_rows.specs.declared.fault.Place.TheVariants as places
 use Rattle.fints_script.specs.Around.{surroundings_of}
+use Rattle.fints_script.specs.Steps.{step_in}
 use Rattle.fints_script.proofs.rows.read_steps.Given as goal
 
 abbrev pub invariant-loop-i : goal.invariant-loop-i
-invariant-loop-i l = record {
-  clean : AreClean (step_fault (surroundings_of l.around)) (map view l.rows) l.i;
-  steps : l.steps.items ≡ map (step_of (surroundings_of l.around)) (map view (take l.i l.rows));
-}
+invariant-loop-i l = rows_from (λ n. places.Step n) (step_in (surroundings_of l.around)) 0 (take l.i (map view l.rows)) ≡ Ok l.steps.items

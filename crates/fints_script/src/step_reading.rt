@@ -1,0 +1,267 @@
+//! Steps, read from the rows of `step`.
+ghost use Rattle.std.specs.Prelude.{◌≡◌, ◌<◌, length, map};
+ghost use Rattle.std.specs.Str.{bytes_eq};
+ghost use Rattle.toml.specs.View.{view, table_view};
+ghost use Rattle.fints_documents.specs.Document.{only_keys};
+ghost use Rattle.fints_field_rows.specs.Parts.{Gives, each};
+ghost use Rattle.fints_field_rows.specs.RowNames.{row_name};
+ghost use Rattle.fints_templates.specs.Segments.{segment_in};
+ghost use Rattle.fints_script.specs.Steps.{branches_at, course_in, default_at, is_taken_step, parts_in, place_of_signer, repeat_at, sealed_at, sealed_in, segments_at, segments_in, sent_in, signature_in, signatures_at, signatures_in, step_in, step_keys, table_step, with_seal};
+ghost use Rattle.fints_script.specs.Around.{seen_course, seen_parts, seen_sent, surroundings_of};
+
+use crate::around::Around;
+use crate::branches::{branches_in, is_word, target_in};
+use crate::steps::{Course, Sent, Step, sized_step, whole_step};
+use fints_cases::{Branch, Target};
+use fints_documents::document::{member, only_keys};
+use fints_field_rows::names::{name_text, new_name};
+use fints_field_rows::parts::{
+    at_most, both, entries_of, flag_in, integer_in, more, not_empty, required,
+};
+use fints_field_rows::{FaultKind, Fields, NamedRows};
+use fints_fields::Name;
+use fints_templates::segments::segment_in;
+use fints_templates::{Signer, Template};
+use std::alloc::Global;
+use toml::{Table, Value};
+
+/// The most segments of a step.
+const MAX_SEGMENTS: usize = 100;
+
+/// The most signers of a step.
+const MAX_SIGNATURES: usize = 9;
+
+// ---- what a step sends
+
+fn each_segment(alloc: Global, fields: &Fields, rows: &[Value]) -> Result<Vec<Template>, FaultKind>
+    ensures { Gives (λ v. v.items) result (each (segment_in fields.now) (map view rows.now)) }
+{
+    let mut segments = Ok(Vec::new(alloc));
+    for row in rows {
+        segments = more(segments, segment_in(alloc, fields, row));
+    }
+    segments
+}
+
+fn segments_in(alloc: Global, fields: &Fields, value: &Value) -> Result<Vec<Template>, FaultKind>
+    ensures { Gives (λ v. v.items) result (segments_in fields.now (view value.now)) }
+{
+    let rows = not_empty(entries_of(value)?)?;
+    at_most(MAX_SEGMENTS, each_segment(alloc, fields, rows)?)
+}
+
+fn segments_at(alloc: Global, fields: &Fields, table: &Table) -> Result<Vec<Template>, FaultKind>
+    ensures { Gives (λ v. v.items) result (segments_at fields.now (table_view table.now)) }
+{
+    segments_in(alloc, fields, required(table, "segments")?)
+}
+
+fn with_seal(has_seal: bool, sealed: bool) -> Result<bool, FaultKind>
+    ensures { result ≡ with_seal has_seal sealed }
+{
+    if sealed && !has_seal {
+        return Err(FaultKind::Missing);
+    }
+    Ok(sealed)
+}
+
+fn sealed_in(has_seal: bool, value: &Value) -> Result<bool, FaultKind>
+    ensures { result ≡ sealed_in has_seal (view value.now) }
+{
+    with_seal(has_seal, flag_in(value)?)
+}
+
+fn sealed_at(has_seal: bool, table: &Table) -> Result<bool, FaultKind>
+    ensures { result ≡ sealed_at has_seal (table_view table.now) }
+{
+    match member(table, "sealed") {
+        None => Ok(false),
+        Some(value) => sealed_in(has_seal, value),
+    }
+}
+
+fn is_signer(signer: &Signer, name: &str) -> bool
+    ensures { result ≡ bytes_eq signer.now.name name.now }
+{
+    signer.name.as_bytes() == name.as_bytes()
+}
+
+// The place of the first signer of this name, counted from 0.
+fn place_of_signer(signers: &[Signer], name: &str) -> Option<usize>
+    ensures { result ≡ place_of_signer signers.now name.now }
+{
+    signers.iter().position(|signer| is_signer(signer, name))
+}
+
+fn signature_in(signers: &[Signer], entry: &Value) -> Result<usize, FaultKind>
+    ensures { result ≡ signature_in signers.now (view entry.now) }
+{
+    match entry {
+        Value::String(name) => {
+            place_of_signer(signers, name.as_str()).ok_or(FaultKind::NoSuchName)
+        }
+        _ => Err(FaultKind::WrongKind),
+    }
+}
+
+fn each_signature(
+    alloc: Global,
+    signers: &[Signer],
+    entries: &[Value],
+) -> Result<Vec<usize>, FaultKind>
+    ensures { Gives (λ v. v.items) result (each (signature_in signers.now) (map view entries.now)) }
+{
+    let mut places = Ok(Vec::new(alloc));
+    for entry in entries {
+        places = more(places, signature_in(signers, entry));
+    }
+    places
+}
+
+fn signatures_in(alloc: Global, signers: &[Signer], value: &Value) -> Result<Vec<usize>, FaultKind>
+    ensures { Gives (λ v. v.items) result (signatures_in signers.now (view value.now)) }
+{
+    at_most(
+        MAX_SIGNATURES,
+        each_signature(alloc, signers, entries_of(value)?)?,
+    )
+}
+
+fn signatures_at(alloc: Global, signers: &[Signer], table: &Table) -> Result<Vec<usize>, FaultKind>
+    ensures { Gives (λ v. v.items) result (signatures_at signers.now (table_view table.now)) }
+{
+    match member(table, "signers") {
+        None => Ok(Vec::new(alloc)),
+        Some(value) => signatures_in(alloc, signers, value),
+    }
+}
+
+fn sent_in(alloc: Global, around: &Around<'_>, table: &Table) -> Result<Sent, FaultKind>
+    ensures { Gives seen_sent result (sent_in (surroundings_of around.now) (table_view table.now)) }
+{
+    let segments = segments_at(alloc, around.fields, table);
+    let sealed = sealed_at(around.seal.is_some(), table);
+    let signers = signatures_at(alloc, around.signers, table);
+    both(segments, both(sealed, signers))
+}
+
+// ---- how often it is sent, and where its answers lead
+
+fn repeat_at(table: &Table) -> Result<u16, FaultKind>
+    ensures { result ≡ repeat_at (table_view table.now) }
+{
+    match member(table, "repeat") {
+        None => Ok(1),
+        Some(value) => integer_in(1, 99, value),
+    }
+}
+
+fn branches_at(
+    alloc: Global,
+    rows: &NamedRows<'_>,
+    row: usize,
+    table: &Table,
+) -> Result<Vec<Branch>, FaultKind>
+    requires { length rows.now < 65535 }
+    ensures { Gives (λ v. v.items) result (branches_at (map view rows.now) row (table_view table.now)) }
+{
+    match member(table, "branches") {
+        None => Ok(Vec::new(alloc)),
+        Some(value) => branches_in(alloc, rows, row, value),
+    }
+}
+
+fn default_at(rows: &NamedRows<'_>, row: usize, table: &Table) -> Result<Target, FaultKind>
+    requires { length rows.now < 65535 }
+    ensures { result ≡ default_at (map view rows.now) row (table_view table.now) }
+{
+    match member(table, "default") {
+        None => Ok(Target::Stop),
+        Some(value) => target_in(rows, row, value),
+    }
+}
+
+fn course_in(
+    alloc: Global,
+    rows: &NamedRows<'_>,
+    row: usize,
+    table: &Table,
+) -> Result<Course, FaultKind>
+    requires { length rows.now < 65535 }
+    ensures { Gives seen_course result (course_in (map view rows.now) row (table_view table.now)) }
+{
+    let branches = branches_at(alloc, rows, row, table);
+    both(
+        repeat_at(table),
+        both(branches, default_at(rows, row, table)),
+    )
+}
+
+// ---- the whole step
+
+fn step_name(rows: &NamedRows<'_>, row: usize, table: &Table) -> Result<Name, FaultKind>
+    ensures { result ≡ row_name (is_taken_step (map view rows.now) row) (table_view table.now) }
+{
+    let text = name_text(table)?;
+    new_name(text, is_word(text) || rows.has_before(text, row))
+}
+
+fn only_step_keys(table: &Table) -> bool
+    ensures { result ≡ only_keys step_keys (table_view table.now) }
+{
+    only_keys(
+        table,
+        &[
+            "name", "segments", "sealed", "signers", "repeat", "branches", "default",
+        ],
+    )
+}
+
+fn parts_in(
+    alloc: Global,
+    around: &Around<'_>,
+    row: usize,
+    table: &Table,
+) -> Result<(Sent, Course), FaultKind>
+    requires { length around.now.rows.now < 65535 }
+    ensures { Gives seen_parts result (parts_in (surroundings_of around.now) row (table_view table.now)) }
+{
+    both(
+        sent_in(alloc, around, table),
+        course_in(alloc, around.rows, row, table),
+    )
+}
+
+#[tactic(auto, unfolding(crate::specs::Steps::table_step))]
+fn table_step(
+    alloc: Global,
+    around: &Around<'_>,
+    row: usize,
+    table: &Table,
+) -> Result<Step, FaultKind>
+    requires { length around.now.rows.now < 65535 }
+    ensures { Gives (λ s. s) result (table_step (surroundings_of around.now) row (table_view table.now)) }
+{
+    if !only_step_keys(table) {
+        return Err(FaultKind::UnknownKey);
+    }
+    let name = step_name(around.rows, row, table);
+    let (name, parts) = both(name, parts_in(alloc, around, row, table))?;
+    sized_step(around, whole_step(name, parts))
+}
+
+/// The step in this row, counted from 0, or its first fault in the order of the kinds.
+pub fn step_in(
+    alloc: Global,
+    around: &Around<'_>,
+    row: usize,
+    entry: &Value,
+) -> Result<Step, FaultKind>
+    requires { length around.now.rows.now < 65535 }
+    ensures { Gives (λ s. s) result (step_in (surroundings_of around.now) row (view entry.now)) }
+{
+    match entry {
+        Value::Table(table) => table_step(alloc, around, row, table),
+        _ => Err(FaultKind::WrongKind),
+    }
+}

@@ -1,0 +1,73 @@
+//! The top of a script's table: its rows, and its seal's value.
+ghost use Rattle.std.specs.Prelude.{◌≡◌, map};
+ghost use Rattle.toml.specs.View.{view, table_view};
+ghost use Rattle.fints_field_rows.specs.Parts.{at_most, seen};
+ghost use Rattle.fints_script.specs.Around.{seen_top};
+ghost use Rattle.fints_script.specs.Scripts.{rows_at, step_rows, top_in};
+
+use crate::script::MAX_STEPS;
+use fints_documents::document::{member, only_keys};
+use fints_field_rows::FaultKind;
+use fints_field_rows::parts::{both, entries_of, not_empty, required};
+use toml::{Table, Value};
+
+/// The most fields of a script, besides `dialog`.
+const MAX_FIELDS: usize = 100;
+
+/// The most signers of a script.
+const MAX_SIGNERS: usize = 20;
+
+/// The rows of a script, and its seal's value if it has one.
+#[derive(Clone, Copy)]
+pub struct Top<'a> {
+    pub fields: &'a [Value],
+    pub signers: &'a [Value],
+    pub seal: Option<&'a Value>,
+    pub steps: &'a [Value],
+}
+
+fn few_rows(most: usize, rows: &[Value]) -> Result<&[Value], FaultKind>
+    ensures { seen (λ v. map view v.now) result ≡ at_most most (map view rows.now) }
+{
+    if rows.len() > most {
+        return Err(FaultKind::Limit);
+    }
+    Ok(rows)
+}
+
+fn rows_at<'a>(key: &str, most: usize, table: &'a Table) -> Result<&'a [Value], FaultKind>
+    ensures { seen (λ v. map view v.now) result ≡ rows_at key.now most (table_view table.now) }
+{
+    let rows: &'a [Value] = match member(table, key) {
+        None => &[],
+        Some(value) => entries_of(value)?,
+    };
+    few_rows(most, rows)
+}
+
+fn step_rows(table: &Table) -> Result<&[Value], FaultKind>
+    ensures { seen (λ v. map view v.now) result ≡ step_rows (table_view table.now) }
+{
+    few_rows(MAX_STEPS, not_empty(entries_of(required(table, "step")?)?)?)
+}
+
+/// The top of a script's table, or its first fault in the order of the kinds.
+#[tactic(auto, unfolding(crate::specs::Scripts::top_in))]
+pub fn top_in(table: &Table) -> Result<Top<'_>, FaultKind>
+    ensures { seen seen_top result ≡ top_in (table_view table.now) }
+{
+    if !only_keys(table, &["seal", "field", "signer", "step"]) {
+        return Err(FaultKind::UnknownKey);
+    }
+    let rows = both(
+        rows_at("field", MAX_FIELDS, table),
+        rows_at("signer", MAX_SIGNERS, table),
+    );
+    let ((fields, signers), steps) = both(rows, step_rows(table))?;
+    Ok(Top {
+        fields,
+        signers,
+        seal: member(table, "seal"),
+        steps,
+    })
+}
