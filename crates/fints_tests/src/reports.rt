@@ -89,13 +89,11 @@ segments = [{kind = "HKSAL", version = 5, elements = ["$dialog"]}]
         ),
     ];
     for (params, orders, script, wanted) in rows {
-        match check_text(rt.alloc(), params, orders, script) {
-            Ok(_) => assert!(rt; false, "{wanted}"),
-            Err(fault) => {
-                let told = format!(in rt.alloc(); "{fault}")?;
-                assert_eq!(rt; told.as_str(), wanted);
-            }
-        }
+        let Err(fault) = check_text(rt.alloc(), params, orders, script) else {
+            return Err(Fail::from("an input that is refused"));
+        };
+        let told = format!(in rt.alloc(); "{fault}")?;
+        assert_eq!(rt; told.as_str(), wanted);
     }
     Ok(())
 }
