@@ -92,13 +92,8 @@ fn push_onward(
     ensures { OnOk result (LeadsOn plan.now.script.steps n to answers.old.items answers.new.items) }
 {
     routes_grow();
-    match code_to(plan.step(n), Target::Step(to)) {
-        None => unreachable!(),
-        Some(code) => {
-            push_code(alloc, answers, code)?;
-            Ok(())
-        }
-    }
+    let code = code_to(plan.step(n), Target::Step(to)).unwrap();
+    push_code(alloc, answers, code)
 }
 
 // The source that is kept for step n.

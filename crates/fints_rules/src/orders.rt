@@ -214,18 +214,18 @@ fn order_kind(value: &Value) -> Option<Kind>
 {
     let text = value.as_str()?;
     let kind = Kind::parse(text.as_bytes())?;
-    if is_order_kind(text, kind) {
+    if is_order_kind(kind) {
         Some(kind)
     } else {
         None
     }
 }
 
-fn is_order_kind(text: &str, kind: Kind) -> bool
-    requires { kind ≡ text.now }
-    ensures { result ≡ is_order_kind text.now }
+fn is_order_kind(kind: Kind) -> bool
+    ensures { result ≡ is_order_kind kind }
 {
-    text.len() == 5 && (text.starts_with("HK") || text.starts_with("DK")) && is_plain_order(kind)
+    let text = kind.as_bytes();
+    text.len() == 5 && (text.starts_with(b"HK") || text.starts_with(b"DK")) && is_plain_order(kind)
 }
 
 #[tactic(auto, unfolding(crate::specs::Orders::account_form))]
