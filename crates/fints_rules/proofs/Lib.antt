@@ -1,5 +1,7 @@
 pub mod OrderLemmas
 pub mod LimitLemmas
+pub mod NeedLemmas
+pub mod SeenLemmas
 pub mod PermitLemmas
 pub mod RuleLemmas
 pub mod RowLemmas

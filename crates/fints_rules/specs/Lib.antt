@@ -6,6 +6,7 @@ pub mod OrderFaults
 pub mod Laws
 pub mod Permits
 pub mod LimitMaps
+pub mod Needs
 pub mod RuleNames
 pub mod Kinds
 pub mod SegmentFacts

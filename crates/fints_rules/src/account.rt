@@ -1,11 +1,12 @@
 //! The account that an order names.
-ghost use Rattle.std.specs.Prelude.{◌≡◌, ◌<◌, ◌↔◌, IsTrue, map, slice_index_or, []};
+ghost use Rattle.std.specs.Prelude.{◌≡◌, ◌<◌, map, slice_index_or, []};
 ghost use Rattle.fints_rules.specs.Accounts.{account_of, national_of};
 ghost use Rattle.fints_rules.specs.AccountFields.{named_account};
-ghost use Rattle.fints_rules.specs.AccountRows.{Matches};
+ghost use Rattle.fints_rules.specs.Needs.{KeyIs};
 
+use crate::needs::NeedKey;
 use crate::orders::AccountForm;
-use fints_params::{AccountRow, National};
+use fints_syntax::Kind;
 use std::marker::Model;
 
 // An account by what names it.
@@ -84,36 +85,34 @@ impl<'a> AccountKey<'a> {
         AccountKey { named }
     }
 
-    /// Whether a row of HIUPD is the account's: by its IBAN where the order has one, else by all
-    /// four national items.
-    pub fn matches(&self, row: &AccountRow) -> bool
-        ensures { IsTrue result ↔ Matches self.now row.now }
+    /// What the account's entries of a kind are looked for by; none where it names nobody.
+    pub(crate) fn need_key<'k>(&'k self, kind: &'k Kind) -> Option<NeedKey<'k>>
+        ensures { KeyIs self.now kind.now result }
     {
+        let kind = kind.as_bytes();
         match self.named {
-            Named::Nobody => false,
+            Named::Nobody => None,
             Named::National {
                 number,
                 subaccount,
                 country,
                 bank,
-            } => is_national(&row.national, number, subaccount, country, bank),
-            Named::Iban(iban) => row.iban.as_slice() == iban,
+            } => Some(NeedKey {
+                by_iban: false,
+                account: number,
+                subaccount,
+                country,
+                bank,
+                kind,
+            }),
+            Named::Iban(iban) => Some(NeedKey {
+                by_iban: true,
+                account: iban,
+                subaccount: &[],
+                country: &[],
+                bank: &[],
+                kind,
+            }),
         }
     }
-}
-
-// Whether the four items are these.
-fn is_national(
-    row: &National,
-    number: &[u8],
-    subaccount: &[u8],
-    country: &[u8],
-    bank: &[u8],
-) -> bool
-    ensures { IsTrue result ↔ ((row.now.number ≡ number.now) × (row.now.subaccount ≡ subaccount.now) × (row.now.country ≡ country.now) × (row.now.bank ≡ bank.now)) }
-{
-    row.number.as_slice() == number
-        && row.subaccount.as_slice() == subaccount
-        && row.country.as_slice() == country
-        && row.bank.as_slice() == bank
 }

@@ -7,6 +7,7 @@ mod judging;
 pub mod kinds;
 pub mod laws;
 mod limits;
+mod needs;
 mod orders;
 mod permissions;
 mod rule;

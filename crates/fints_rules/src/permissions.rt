@@ -1,14 +1,14 @@
 //! What a bank permits, as look-ups in the rows of a capture and an order table.
-ghost use Rattle.std.specs.Prelude.{◌≡◌, ◌≤◌, ◌↔◌, IsTrue, Any, IfOk};
-ghost use Rattle.fints_params.specs.declared.rows.AccountRow.{AccountRow};
+ghost use Rattle.std.specs.Prelude.{◌≡◌, IfOk};
 ghost use Rattle.fints_rules.specs.Orders.{form_of};
-ghost use Rattle.fints_rules.specs.AccountRows.{Matches};
+ghost use Rattle.fints_rules.specs.Needs.{IsLeastNeed};
 ghost use Rattle.fints_rules.specs.Permits.{LimitsAre, params_of, DemandIs, PermitIs};
 
 use crate::account::AccountKey;
 use crate::limits::{Demand, Limits, OrderKey, limit_map, pin_map};
+use crate::needs::Needs;
 use crate::orders::{AccountForm, OrderTable};
-use fints_params::{AccountRow, BankRow, Entry, Params, Usage};
+use fints_params::{BankRow, Params, Usage};
 use fints_syntax::{Kind, Memory};
 use std::alloc::Global;
 use std::collections::BTreeMap;
@@ -32,6 +32,7 @@ pub struct Permissions<'a> {
     orders: &'a OrderTable,
     limits: BTreeMap<OrderKey, Limits>,
     pins: BTreeMap<Kind, bool>,
+    needs: Needs<'a>,
 }
 
 impl<'a> Model for Permissions<'a> {
@@ -42,11 +43,13 @@ impl<'a> Model for Permissions<'a> {
     ghost use Rattle.std.specs.BTreeMap.{get};
     ghost use Rattle.std.specs.Cmp.Lexicographic.{slice_cmp};
     ghost use Rattle.std.specs.Ordering.{nat_cmp};
+    ghost use Rattle.std.specs.List.Sorted.{IsPermutation};
     ghost use Rattle.fints_rules.specs.LimitMaps.{key_cmp, HoldsLimits, HoldsPins};
+    ghost use Rattle.fints_rules.specs.Needs.{seen_in};
 
     ghost view = { λ p. record { rows = p.params.now; orders = p.orders.now } };
 
-    ghost invariant = { λ p. HoldsLimits p.params.now.orders (get key_cmp p.limits) × HoldsPins p.params.now.pins (get (slice_cmp nat_cmp) p.pins) };
+    ghost invariant = { λ p. HoldsLimits p.params.now.orders (get key_cmp p.limits) × HoldsPins p.params.now.pins (get (slice_cmp nat_cmp) p.pins) × IsPermutation (seen_in p.params.now.accounts) p.needs };
 }
 
 impl<'a> Permissions<'a> {
@@ -61,11 +64,13 @@ impl<'a> Permissions<'a> {
     {
         let limits = limit_map(alloc, params.orders())?;
         let pins = pin_map(alloc, params.pins())?;
+        let needs = Needs::of(alloc, params.accounts())?;
         Ok(Permissions {
             params,
             orders,
             limits,
             pins,
+            needs,
         })
     }
 
@@ -102,67 +107,27 @@ impl<'a> Permissions<'a> {
         }
     }
 
-    // Whether an entry of the kind, in a row of the account, needs no more signatures.
-    fn has_fitting_entry(&self, account: &AccountKey<'_>, kind: Kind, signatures: usize) -> bool
-        ensures { IsTrue result ↔ Any (λ row. Matches account.now row × Any (λ e. (e.kind ≡ kind) × (e.signatures ≤ signatures)) row.entries) self.now.rows.accounts }
+    // The least number of signatures that an entry of the kind needs in the rows of an account.
+    fn least_need(&self, kind: Kind, account: &AccountKey<'_>) -> Option<u32>
+        ensures { IsLeastNeed self.now.rows account.now kind result }
     {
-        self.params.accounts().iter().any(|row| account.matches(row)
-            && has_fitting_entry(row, kind, signatures))
-    }
-
-    // Whether an entry of the kind stands in a row of the account.
-    fn has_entry(&self, account: &AccountKey<'_>, kind: Kind) -> bool
-        ensures { IsTrue result ↔ Any (λ row. Matches account.now row × Any (λ e. e.kind ≡ kind) row.entries) self.now.rows.accounts }
-    {
-        self.params
-            .accounts()
-            .iter()
-            .any(|row| account.matches(row) && has_entry(row, kind))
+        match account.need_key(&kind) {
+            Some(key) => self.needs.least(&key),
+            None => None,
+        }
     }
 
     /// Whether an account permits an order of this kind with so many signatures.
     pub fn permit(&self, kind: Kind, account: &AccountKey<'_>, signatures: usize) -> Permit
         ensures { PermitIs self.now.rows account.now kind signatures result }
     {
-        if self.has_fitting_entry(account, kind, signatures) {
-            return Permit::Allowed;
-        }
-        if self.has_entry(account, kind) {
-            return Permit::MoreSignatures;
-        }
-        match self.params.usage() {
-            Usage::Locked => Permit::Refused,
-            Usage::Unsaid => Permit::Allowed,
+        match self.least_need(kind, account) {
+            Some(need) if need as usize <= signatures => Permit::Allowed,
+            Some(_) => Permit::MoreSignatures,
+            None => match self.params.usage() {
+                Usage::Locked => Permit::Refused,
+                Usage::Unsaid => Permit::Allowed,
+            },
         }
     }
-}
-
-fn has_entry(row: &AccountRow, kind: Kind) -> bool
-    ensures { IsTrue result ↔ Any (λ e. e.kind ≡ kind) row.now.entries }
-{
-    row.entries
-        .as_slice()
-        .iter()
-        .any(|entry| is_entry(entry, kind))
-}
-
-fn is_entry(entry: &Entry, kind: Kind) -> bool
-    ensures { IsTrue result ↔ (entry.now.kind ≡ kind) }
-{
-    entry.kind == kind
-}
-
-fn has_fitting_entry(row: &AccountRow, kind: Kind, signatures: usize) -> bool
-    ensures { IsTrue result ↔ Any (λ e. (e.kind ≡ kind) × (e.signatures ≤ signatures)) row.now.entries }
-{
-    row.entries
-        .as_slice()
-        .iter()
-        .any(|entry| fits(entry, kind, signatures))
-}
-
-fn fits(entry: &Entry, kind: Kind, signatures: usize) -> bool
-    ensures { IsTrue result ↔ ((entry.now.kind ≡ kind) × (entry.now.signatures ≤ signatures)) }
-{
-    is_entry(entry, kind) && entry.signatures as usize <= signatures
 }
