@@ -3,3 +3,4 @@ pub mod CertifyLemmas
 pub mod Refusals
 pub mod ReportLemmas
 pub mod StepLemmas
+pub mod RunLemmas

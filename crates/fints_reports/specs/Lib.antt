@@ -5,6 +5,7 @@ pub mod Headline
 pub mod Plans
 pub mod ReportText
 pub mod RunText
+pub mod RunVisits
 pub mod StepNames
 pub mod Told
 pub mod Verified

@@ -3,13 +3,15 @@ ghost use Rattle.std.specs.Prelude.{◌≡◌, ◌++◌, OnOk, IfOk, IfErr};
 ghost use Rattle.std.specs.List.{All};
 ghost use Rattle.fints_script.specs.Plans.{Admits};
 ghost use Rattle.fints_reports.specs.StepNames.{IsMessageOf};
-ghost use Rattle.fints_reports.specs.RunText.{line_of, message_text, run_text, IsMessageIn, IsUnsentRefusal, TellsRun, TellsCase, IsRunOf, IsAdmittedRefusal, IsCaseRefusal, IsRunRefusal};
+ghost use Rattle.fints_wire.specs.Runs.{IsWithin};
+ghost use Rattle.fints_reports.specs.RunVisits.{TellsVisits, TellsVisit, FindsVisit, IsUnvisitedRefusal};
+ghost use Rattle.fints_reports.specs.RunText.{line_of, message_text, TellsRun, TellsCase, IsRunOf, IsAdmittedRefusal, IsCaseRefusal, IsRunRefusal};
 
 use crate::inputs::read_inputs;
-use fints_script::{Case, Name, Plan};
+use fints_script::{Case, Name, Plan, Values};
 use fints_syntax::Memory;
 use fints_texts::Fault;
-use fints_wire::{Sent, run};
+use fints_wire::{Sent, Visit, message, visits};
 use itoa::Buffer;
 use std::alloc::Global;
 
@@ -43,39 +45,54 @@ fn write_message(text: &mut Vec<u8>, plan: &Plan, sent: &Sent) -> Result<(), Mem
     Ok(())
 }
 
-fn write_messages(text: &mut Vec<u8>, plan: &Plan, sent: &[Sent]) -> Result<(), Memory>
-    requires { All (IsMessageOf plan.now.script.steps) sent.now }
-    ensures { OnOk result (text.new.items
-        ≡ text.old.items ++ run_text plan.now.script.steps sent.now) }
-{
-    for one in sent {
-        write_message(text, plan, one)?;
-    }
-    Ok(())
-}
-
-// The messages, each behind its line.
-fn all_messages(alloc: Global, plan: &Plan, sent: &[Sent]) -> Result<Vec<u8>, Memory>
-    requires { All (IsMessageOf plan.now.script.steps) sent.now }
-    ensures { IfOk result (λ text. text.items ≡ run_text plan.now.script.steps sent.now) }
+// The messages of visits, each behind its line, written as they are made.
+fn all_messages(
+    alloc: Global,
+    plan: &Plan,
+    values: &Values,
+    visits: &[Visit],
+) -> Result<Vec<u8>, Memory>
+    requires within { All (IsWithin plan.now.script.steps) visits.now }
+    requires admits { Admits plan.now.script.fields values.now }
+    ensures { IfOk result (λ text. TellsVisits plan.now.script values.now visits.now text.items) }
 {
     let mut text = Vec::new(alloc);
-    write_messages(&mut text, plan, sent)?;
+    for visit in visits {
+        let sent = message(alloc, plan, values, *visit)?;
+        write_message(&mut text, plan, &sent)?;
+    }
     Ok(text)
 }
 
-// The bytes of the message of this number.
-fn one_message(alloc: Global, sent: &[Sent], number: u32) -> Result<Vec<u8>, Fault>
-    ensures told { IfOk result (λ text. IsMessageIn sent.now number text.items) }
-    ensures refused { IfErr result (λ f. IsUnsentRefusal sent.now number f) }
+// The visit with this number.
+fn visit_of(visits: &[Visit], number: u32) -> Option<Visit>
+    ensures { FindsVisit visits.now number result }
 {
-    for message in sent {
-        if message.number == number {
-            let bytes = message.bytes.as_slice().to_vec(alloc)?;
-            return Ok(bytes);
-        }
-    }
-    Err(Fault::NoMessage { number })
+    visits
+        .iter()
+        .copied()
+        .find(|visit| visit.number == number)
+}
+
+// The bytes of the message of this number.
+fn one_message(
+    alloc: Global,
+    plan: &Plan,
+    values: &Values,
+    visits: &[Visit],
+    number: u32,
+) -> Result<Vec<u8>, Fault>
+    requires within { All (IsWithin plan.now.script.steps) visits.now }
+    requires admits { Admits plan.now.script.fields values.now }
+    ensures told { IfOk result (λ text. TellsVisit plan.now.script values.now visits.now number text.items) }
+    ensures refused { IfErr result (λ f. IsUnvisitedRefusal visits.now number f) }
+{
+    let Some(visit) = visit_of(visits, number) else {
+        return Err(Fault::NoMessage { number });
+    };
+    let sent = message(alloc, plan, values, visit)?;
+    let bytes = sent.bytes.as_slice().to_vec(alloc)?;
+    Ok(bytes)
 }
 
 // The text of the run of a case with admitted values.
@@ -89,11 +106,12 @@ fn run_admitted(
     ensures told { IfOk result (λ text. TellsRun plan.now.script case.now.values case.now.answers.items only text.items) }
     ensures refused { IfErr result (λ f. IsAdmittedRefusal plan.now.script case.now.values case.now.answers.items only f) }
 {
-    let sent = run(alloc, plan, &case.values, case.answers.as_slice())?;
-    let text = match only {
-        None => all_messages(alloc, plan, sent.as_slice())?,
-        Some(number) => one_message(alloc, sent.as_slice(), number)?,
+    let visits = visits(alloc, plan, case.answers.as_slice())?;
+    let Some(number) = only else {
+        let text = all_messages(alloc, plan, &case.values, visits.as_slice())?;
+        return Ok(text);
     };
+    let text = one_message(alloc, plan, &case.values, visits.as_slice(), number)?;
     Ok(text)
 }
 

@@ -1,7 +1,8 @@
 -- A run, message by message.
-use Rattle.std.proofs.Common.{ℕ, ◌+◌, ◌*◌, ◌<◌, ◌≤◌, ◌≡◌, Some, List, [], ◌∷◌, ◌++◌, length, drop, get_or, refl, ap, sym, subst, ◌∙◌, arith}
+use Rattle.std.proofs.Common.{ℕ, ◌+◌, ◌*◌, ◌<◌, ◌≤◌, ◌≡◌, Some, List, [], ◌∷◌, ◌++◌, length, drop, take, get_or, All, refl, ap, sym, subst, ◌∙◌, arith}
 use Rattle.std.proofs.lemmas.Option.{same_Some}
-use Rattle.std.proofs.lemmas.List.{drop_more, drop_all, append_assoc, append-nil}
+use Rattle.std.proofs.lemmas.List.{drop_more, drop_all, take_more, append_assoc, append-nil}
+use Rattle.std.proofs.lemmas.List.Elements.{All-nil, All-push}
 use Rattle.fints_script.specs.Scripts.{ScriptValue}
 use Rattle.fints_script.specs.Sound.{IsSound, IsSoundStep, IsOnward}
 use Rattle.fints_script.specs.Numbered.{numbered, numbered_at, numbered_within, numbered_holds}
@@ -9,7 +10,7 @@ use Rattle.fints_script.specs.Steps.{StepValue}
 use Rattle.fints_cases.specs.declared.values.NamedValue.{NamedValue}
 use Rattle.fints_cases.specs.declared.answers.Target.{Target}
 use Rattle.fints_cases.specs.declared.answers.Target.TheVariants.{Step, Again, Stop}
-use Rattle.fints_wire.specs.Runs.{start, answered, After, Follows, Finishes, Enters, Ends, IsWithin, IsSent, AreSent, Run}
+use Rattle.fints_wire.specs.Runs.{start, answered, After, AreVisits, Follows, Finishes, Enters, Ends, IsWithin, IsSent, AreSent, Run}
 use Rattle.fints_wire.specs.declared.dialogue.Visit.{Visit}
 use Rattle.fints_wire.specs.declared.dialogue.Sent.{Sent}
 use Rattle.fints_wire.proofs.Onward.{answered_onward}
@@ -56,13 +57,14 @@ small_range script v sound s =
 pub small_number : (script : ScriptValue) (v : Visit) → IsSound script → IsSmall script.steps v → v.number ≤ 19800
 small_number script v sound s = let range = small_range script v sound s in let last = range.last in let to = range.to in let few = sound.few_steps in omega (arith, last, to, few)
 
--- ---- a run as it goes
+-- ---- what is sent, as it goes
 
 -- after some of the answers: what was sent, and that what is sent from here on is the rest of the run
-pub record Running (script : ScriptValue) (values : List NamedValue) (answers : List (List ℕ)) (i : ℕ) (here : Visit) (sent : List Sent) : Type 0 where
+pub record Running (script : ScriptValue) (answers : List (List ℕ)) (i : ℕ) (here : Visit) (visits : List Visit) : Type 0 where
   pub small : IsSmall script.steps here
   pub later : List Visit
-  pub messages : AreSent script values (start ∷ later) sent
+  pub first : visits ≡ start ∷ later
+  pub within : All (IsWithin script.steps) visits
   pub goes : (ws : List Visit) → After script.steps here (drop i answers) ws → After script.steps start answers (later ++ ws)
 
 pub small_start : (script : ScriptValue) → IsSound script → IsSmall script.steps start
@@ -71,14 +73,43 @@ small_start script sound =
     let step = numbered_at script.steps 1 (omega arith) some in
     record { step = step.0; at = step.1; first = omega arith; low = (step_of script 1 step.0 sound step.1).once; number = omega arith }
 
-pub running_first : (script : ScriptValue) (values : List NamedValue) (answers : List (List ℕ)) (sent : List Sent) (m : Sent) → IsSound script → IsSent script values start m → sent ≡ m ∷ [] → Running script values answers 0 start sent
-running_first script values answers sent m sound is e =
+pub running_first : (script : ScriptValue) (answers : List (List ℕ)) (visits : List Visit) → IsSound script → visits ≡ start ∷ [] → Running script answers 0 start visits
+running_first script answers visits sound e =
+    let small = small_start script sound in
     record {
-      small = small_start script sound;
+      small = small;
       later = [];
-      messages = subst (AreSent script values (start ∷ [])) (sym e) (is, tt);
+      first = e;
+      within = subst (All (IsWithin script.steps)) (sym e) (All-push (IsWithin script.steps) [] start (All-nil (IsWithin script.steps)) (small_range script start sound small));
       goes = λ ws after. after;
     }
+
+pub running_more : (script : ScriptValue) (answers : List (List ℕ)) (i : ℕ) (here w : Visit) (codes : List ℕ) (visits new : List Visit) → IsSound script → i < length answers → codes ≡ get_or answers i codes → Follows script.steps here codes w
+    → new ≡ visits ++ w ∷ [] → Running script answers i here visits → Running script answers (i + 1) w new
+running_more script answers i here w codes visits new sound less is f e r =
+    let rest : drop i answers ≡ codes ∷ drop (i + 1) answers = drop_more answers i codes less ∙ ap (λ (a : List ℕ). a ∷ drop (i + 1) answers) (sym is) in
+    let small = follow_small script here w codes sound r.small f in
+    record {
+      small = small;
+      later = r.later ++ w ∷ [];
+      first = e ∙ ap (λ (vs : List Visit). vs ++ w ∷ []) r.first;
+      within = subst (All (IsWithin script.steps)) (sym e) (All-push (IsWithin script.steps) visits w r.within (small_range script w sound small));
+      goes = λ ws after. subst (After script.steps start answers) (sym (append_assoc r.later (w ∷ []) ws)) (r.goes (w ∷ ws) (subst (λ (left : List (List ℕ)). After script.steps here left (w ∷ ws)) (sym rest) (f, after)));
+    }
+
+-- all answers are used
+pub running_all : (script : ScriptValue) (answers : List (List ℕ)) (i : ℕ) (here : Visit) (visits : List Visit) → length answers ≤ i → Running script answers i here visits → AreVisits script.steps answers visits
+running_all script answers i here visits all r =
+    record { later = r.later; first = r.first; after = subst (After script.steps start answers) (append-nil r.later) (r.goes [] (subst (λ (left : List (List ℕ)). After script.steps here left []) (sym (drop_all i answers all)) tt)) }
+
+-- an answer ends the run
+pub running_over : (script : ScriptValue) (answers : List (List ℕ)) (i : ℕ) (here : Visit) (codes : List ℕ) (visits : List Visit) → i < length answers → codes ≡ get_or answers i codes → Finishes script.steps here codes → Running script answers i here visits
+    → AreVisits script.steps answers visits
+running_over script answers i here codes visits less is f r =
+    let rest : drop i answers ≡ codes ∷ drop (i + 1) answers = drop_more answers i codes less ∙ ap (λ (a : List ℕ). a ∷ drop (i + 1) answers) (sym is) in
+    record { later = r.later; first = r.first; after = subst (After script.steps start answers) (append-nil r.later) (r.goes [] (subst (λ (left : List (List ℕ)). After script.steps here left []) (sym rest) f)) }
+
+-- ---- its messages
 
 messages-push : (script : ScriptValue) (values : List NamedValue) (vs : List Visit) (ms : List Sent) (v : Visit) (m : Sent) → AreSent script values vs ms → IsSent script values v m → AreSent script values (vs ++ v ∷ []) (ms ++ m ∷ [])
 messages-push script values [] [] v m are is = (is, tt)
@@ -86,28 +117,14 @@ messages-push script values [] (x ∷ xs) v m are is = absurd are
 messages-push script values (u ∷ us) [] v m are is = absurd are
 messages-push script values (u ∷ us) (x ∷ xs) v m are is = (are.0, messages-push script values us xs v m are.1 is)
 
-pub running_more : (script : ScriptValue) (values : List NamedValue) (answers : List (List ℕ)) (i : ℕ) (here w : Visit) (codes : List ℕ) (sent new : List Sent) (m : Sent) → IsSound script → i < length answers → codes ≡ get_or answers i codes → Follows script.steps here codes w
-    → IsSent script values w m → new ≡ sent ++ m ∷ [] → Running script values answers i here sent → Running script values answers (i + 1) w new
-running_more script values answers i here w codes sent new m sound less is f message e r =
-    let rest : drop i answers ≡ codes ∷ drop (i + 1) answers = drop_more answers i codes less ∙ ap (λ (a : List ℕ). a ∷ drop (i + 1) answers) (sym is) in
-    record {
-      small = follow_small script here w codes sound r.small f;
-      later = r.later ++ w ∷ [];
-      messages = subst (AreSent script values (start ∷ (r.later ++ w ∷ []))) (sym e) (messages-push script values (start ∷ r.later) sent w m r.messages message);
-      goes = λ ws after. subst (After script.steps start answers) (sym (append_assoc r.later (w ∷ []) ws)) (r.goes (w ∷ ws) (subst (λ (left : List (List ℕ)). After script.steps here left (w ∷ ws)) (sym rest) (f, after)));
-    }
+pub messages_more : (script : ScriptValue) (values : List NamedValue) (visits : List Visit) (i : ℕ) (d : Visit) (sent new : List Sent) (m : Sent) → i < length visits → IsSent script values (get_or visits i d) m → new ≡ sent ++ m ∷ [] → AreSent script values (take i visits) sent
+    → AreSent script values (take (i + 1) visits) new
+messages_more script values visits i d sent new m less message e are =
+    subst (λ (vs : List Visit). AreSent script values vs new) (sym (take_more visits i d less))
+    (subst (AreSent script values (take i visits ++ get_or visits i d ∷ [])) (sym e) (messages-push script values (take i visits) sent (get_or visits i d) m are message))
 
--- all answers are used
-pub running_all : (script : ScriptValue) (values : List NamedValue) (answers : List (List ℕ)) (i : ℕ) (here : Visit) (sent : List Sent) → length answers ≤ i → Running script values answers i here sent → Run script values answers sent
-running_all script values answers i here sent all r =
-    record { later = r.later; after = subst (After script.steps start answers) (append-nil r.later) (r.goes [] (subst (λ (left : List (List ℕ)). After script.steps here left []) (sym (drop_all i answers all)) tt)); messages = r.messages }
-
--- an answer ends the run
-pub running_over : (script : ScriptValue) (values : List NamedValue) (answers : List (List ℕ)) (i : ℕ) (here : Visit) (codes : List ℕ) (sent : List Sent) → i < length answers → codes ≡ get_or answers i codes → Finishes script.steps here codes → Running script values answers i here sent
-    → Run script values answers sent
-running_over script values answers i here codes sent less is f r =
-    let rest : drop i answers ≡ codes ∷ drop (i + 1) answers = drop_more answers i codes less ∙ ap (λ (a : List ℕ). a ∷ drop (i + 1) answers) (sym is) in
-    record { later = r.later; after = subst (After script.steps start answers) (append-nil r.later) (r.goes [] (subst (λ (left : List (List ℕ)). After script.steps here left []) (sym rest) f)); messages = r.messages }
+pub run_of : (script : ScriptValue) (values : List NamedValue) (answers : List (List ℕ)) (visits : List Visit) (sent : List Sent) → AreVisits script.steps answers visits → AreSent script values visits sent → Run script values answers sent
+run_of script values answers visits sent vs are = record { later = vs.later; after = vs.after; messages = subst (λ (ws : List Visit). AreSent script values ws sent) vs.first are }
 
 -- ---- a run is determined by its answers
 

@@ -53,6 +53,12 @@ After steps v [] (w ∷ ws) = ⊥
 After steps v (codes ∷ answers) [] = Finishes steps v codes
 After steps v (codes ∷ answers) (w ∷ ws) = Follows steps v codes w × After steps w answers ws
 
+-- these are all that is sent under these answers, the first of them included
+pub record AreVisits (steps : List StepValue) (answers : List (List ℕ)) (visits : List Visit) : Type 0 where
+  pub later : List Visit
+  pub first : visits ≡ start ∷ later
+  pub after : After steps start answers later
+
 -- the last of what is sent: v and then these
 abbrev pub last_of : Visit → List Visit → Visit
 last_of v [] = v

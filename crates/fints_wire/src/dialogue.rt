@@ -2,9 +2,9 @@
 ghost use Rattle.std.specs.Prelude.{◌≡◌, ◌<◌, ◌≤◌, length, MatchOption, IfOk};
 ghost use Rattle.fints_cases.specs.Answers.{IsAnswer};
 ghost use Rattle.fints_script.specs.Plans.{Admits};
-ghost use Rattle.std.specs.List.{AllByRecursion};
+ghost use Rattle.std.specs.List.{All, AllByRecursion};
 ghost use Rattle.fints_wire.specs.Views.{IsReadAs};
-ghost use Rattle.fints_wire.specs.Runs.{Finishes, Follows, IsSent, Run};
+ghost use Rattle.fints_wire.specs.Runs.{AreSent, AreVisits, Finishes, Follows, IsSent, IsWithin, Run};
 
 use crate::building::build;
 use crate::run_laws::sent_are_read;
@@ -59,25 +59,71 @@ fn follow(plan: &Plan, here: Visit, answer: &Answer) -> Option<Visit>
     }
 }
 
-fn message_of(alloc: Global, plan: &Plan, values: &Values, here: Visit) -> Result<Sent, Memory>
-    requires from { 1 ≤ here.step }
-    requires to { here.step ≤ length plan.now.script.steps }
-    requires first { 1 ≤ here.number }
-    requires last { here.number ≤ 99999 }
+/// The message of a visit, for values that the plan admits.
+pub fn message(
+    alloc: Global,
+    plan: &Plan,
+    values: &Values,
+    visit: Visit,
+) -> Result<Sent, Memory>
+    requires within { IsWithin plan.now.script.steps visit }
     requires admits { Admits plan.now.script.fields values.now }
-    ensures { IfOk result (IsSent plan.now.script values.now here) }
+    ensures { IfOk result (IsSent plan.now.script values.now visit) }
 {
-    let bytes = build(alloc, plan, usize::from(here.step), here.number, values)?;
+    let _count = plan.step_count();
+    let bytes = build(alloc, plan, usize::from(visit.step), visit.number, values)?;
     Ok(Sent {
-        step: here.step,
-        number: here.number,
+        step: visit.step,
+        number: visit.number,
         bytes: Bytes::new(bytes),
     })
 }
 
-/// The messages that a client sends under these answers, for values that the plan admits. The first
-/// is of step 1; each answer leads to the next, or ends the run, and what comes after the end adds
-/// nothing.
+/// What a client sends under these answers, without the bytes. The first message is of step 1; each
+/// answer leads to the next, or ends the run, and what comes after the end adds nothing.
+pub fn visits(alloc: Global, plan: &Plan, answers: &[Answer]) -> Result<Vec<Visit>, Memory>
+    ensures visits { IfOk result (λ visits. AreVisits plan.now.script.steps answers.now visits.items) }
+    ensures within { IfOk result (λ visits. All (IsWithin plan.now.script.steps) visits.items) }
+{
+    let _count = plan.step_count();
+    let mut visits = Vec::new(alloc);
+    let mut here = Visit {
+        step: 1,
+        number: 1,
+        times: 1,
+    };
+    visits.push(here)?;
+    for answer in answers {
+        match follow(plan, here, answer) {
+            None => return Ok(visits),
+            Some(visit) => {
+                here = visit;
+                visits.push(visit)?;
+            }
+        }
+    }
+    Ok(visits)
+}
+
+// The messages of visits.
+fn messages(
+    alloc: Global,
+    plan: &Plan,
+    values: &Values,
+    visits: &[Visit],
+) -> Result<Vec<Sent>, Memory>
+    requires within { All (IsWithin plan.now.script.steps) visits.now }
+    requires admits { Admits plan.now.script.fields values.now }
+    ensures { IfOk result (λ sent. AreSent plan.now.script values.now visits.now sent.items) }
+{
+    let mut sent = Vec::new(alloc);
+    for visit in visits {
+        sent.push(message(alloc, plan, values, *visit)?)?;
+    }
+    Ok(sent)
+}
+
+/// The messages that a client sends under these answers, for values that the plan admits.
 pub fn run(
     alloc: Global,
     plan: &Plan,
@@ -90,21 +136,7 @@ pub fn run(
 {
     sent_are_read();
     let _count = plan.step_count();
-    let mut sent = Vec::new(alloc);
-    let mut here = Visit {
-        step: 1,
-        number: 1,
-        times: 1,
-    };
-    sent.push(message_of(alloc, plan, values, here)?)?;
-    for answer in answers {
-        match follow(plan, here, answer) {
-            None => return Ok(sent),
-            Some(visit) => {
-                here = visit;
-                sent.push(message_of(alloc, plan, values, here)?)?;
-            }
-        }
-    }
+    let visits = visits(alloc, plan, answers)?;
+    let sent = messages(alloc, plan, values, visits.as_slice())?;
     Ok(sent)
 }

@@ -13,6 +13,6 @@ mod values;
 mod worst;
 
 pub use building::build;
-pub use dialogue::{Sent, Visit, run};
+pub use dialogue::{Sent, Visit, message, run, visits};
 pub use values::{least_values, worst_values};
 pub use worst::worst_size;

@@ -1,9 +1,0 @@
-use Rattle.std.proofs.Common.{◌≡◌, ◌-◌, Some, ap, subst, sym, slice_get, ◌∙◌}
-use Rattle.fints_script.specs.Numbered.{numbered_at, numbered_from}
-use Rattle.fints_wire.proofs.dialogue.message_of.Goals as goal
-
-pub returns : goal.returns
-returns c =
-    let here = numbered_at c.args.plan.now.script.steps c.args.here.step c.requires.from c.requires.to in
-    let bytes = c.in_ok-bytes.ensures.bytes here.0 (subst (λ n. slice_get c.args.plan.now.script.steps (n - 1) ≡ Some here.0) (sym c.from.ensures) (numbered_from c.args.plan.now.script.steps c.args.here.step here.0 here.1)) in
-    record { at = here.0; of = here.1; is = ap (λ b. record { step = c.args.here.step; number = c.args.here.number; bytes = b }) (c.new.ensures ∙ bytes) }
