@@ -36,9 +36,7 @@ fn tell_plan(
 ) -> Result<Reply, Memory>
     ensures { IfOk result (λ reply. IsToldBy wanted (record { rows = params.now; orders = plan.now.orders }) plan.now.script reply.status reply.text.items) }
 {
-    let params = &*params;
-    let orders = plan.orders();
-    let permissions = Permissions::build(alloc, params, orders)?;
+    let permissions = Permissions::build(alloc, params, plan.orders())?;
     let report = check(alloc, &permissions, plan)?;
     match wanted {
         Wanted::Report => reply(alloc, plan, &report),

@@ -1,9 +1,10 @@
 -- The entries of accounts in the order in which they are looked for. Only private contracts cite this file.
-use Rattle.std.specs.Prelude.{ℕ, ◌≡◌, ◌≤◌, Bool, true, false, List, [], ◌∷◌, Option, Some, None, Contains}
+use Rattle.std.specs.Prelude.{ℕ, ◌≡◌, ◌≤◌, Bool, true, false, List, [], ◌∷◌, Option, Some, None, Contains, slice_get}
 use Rattle.std.specs.Cmp.Lexicographic.{slice_cmp}
 use Rattle.std.specs.List.{flat_map}
+use Rattle.std.specs.List.Sorted.{IsPartitionPoint}
 use Rattle.std.specs.declared.cmp.Ordering.{Ordering}
-use Rattle.std.specs.Ordering.{nat_cmp, bool_cmp, ordering_then}
+use Rattle.std.specs.Ordering.{is_lt, nat_cmp, bool_cmp, ordering_then}
 use Rattle.fints_params.specs.Parameters.{Rows}
 use Rattle.fints_params.specs.declared.rows.AccountRow.{AccountRow}
 use Rattle.fints_params.specs.declared.rows.Entry.{Entry}
@@ -11,7 +12,7 @@ use Rattle.fints_rules.specs.Accounts.{Account, nobody, by_items, by_iban}
 use Rattle.fints_rules.specs.Permits.{IsEntryOf}
 use Rattle.fints_rules.specs.declared.needs.Naming.{Naming}
 use Rattle.fints_rules.specs.declared.needs.Naming.TheVariants.{Iban, Items}
-use Rattle.fints_rules.specs.declared.needs.Need.{Need}
+use Rattle.fints_rules.specs.declared.needs.Place.{Place}
 use Rattle.fints_rules.specs.declared.needs.NeedKey.{NeedKey}
 
 -- ---- keys
@@ -62,8 +63,21 @@ account_by Items row = by_items row.national.number row.national.subaccount row.
 abbrev pub seen_as : Naming → AccountRow → Entry → Seen
 seen_as naming row entry = record { account = account_by naming row; kind = entry.kind; signatures = entry.signatures }
 
-abbrev pub seen : Need → Seen
-seen need = seen_as need.naming need.row.now need.entry.now
+-- what stands for no entry
+abbrev pub nothing : Seen
+nothing = record { account = by_items [] [] [] []; kind = []; signatures = 0 }
+
+abbrev pub seen_of : Naming → AccountRow → Option Entry → Seen
+seen_of naming row None = nothing
+seen_of naming row (Some entry) = seen_as naming row entry
+
+abbrev pub seen_on : Naming → Option AccountRow → ℕ → Seen
+seen_on naming None entry = nothing
+seen_on naming (Some row) entry = seen_of naming row (slice_get row.entries entry)
+
+-- the entry at a place
+abbrev pub seen_at : List AccountRow → Place → Seen
+seen_at rows place = seen_on place.naming (slice_get rows place.row) place.entry
 
 abbrev pub seen_key : Seen → Key
 seen_key s = key_of s.account s.kind
@@ -81,6 +95,10 @@ seen_in_row row = flat_map (seen_twice row) row.entries
 
 abbrev pub seen_in : List AccountRow → List Seen
 seen_in rows = flat_map seen_in_row rows
+
+-- the entries before place i are before the key, and the others aren't
+abbrev pub BeginsAt : {X : Type 0} → (X → Seen) → Key → List X → ℕ → Type 0
+BeginsAt seen key xs i = IsPartitionPoint (λ x. is_lt (key_cmp (seen_key (seen x)) key) ≡ true) (λ x. is_lt (key_cmp (seen_key (seen x)) key) ≡ false) xs i
 
 -- ---- the least
 

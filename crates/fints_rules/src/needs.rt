@@ -1,10 +1,10 @@
 //! The entries of accounts, in an order in which the least number of signatures that an account
 //! needs for a kind of orders is found without a walk over all rows.
-ghost use Rattle.std.specs.Prelude.{◌≡◌, ◌++◌, map, IfOk, OnOk, true, false};
-ghost use Rattle.std.specs.List.{flat_map};
-ghost use Rattle.std.specs.List.Sorted.{IsPermutation, IsPartitionPoint, IsSortedByKey};
+ghost use Rattle.std.specs.Prelude.{◌≡◌, ◌<◌, ◌++◌, length, get_or, map, IfOk, OnOk};
+ghost use Rattle.std.specs.List.Sorted.{IsPermutation, IsSortedByKey};
 ghost use Rattle.std.specs.Ordering.{is_lt, is_eq};
-ghost use Rattle.fints_rules.specs.Needs.{key_in, key_cmp, seen, seen_key, seen_cmp, seen_twice, seen_in_row, seen_in, IsLeastOf};
+ghost use Rattle.fints_params.specs.declared.rows.AccountRow.{AccountRow as AccountRowValue};
+ghost use Rattle.fints_rules.specs.Needs.{key_in, key_cmp, seen_as, seen_at, seen_key, seen_cmp, seen_in_row, seen_in, BeginsAt, IsLeastOf};
 
 use fints_params::{AccountRow, Entry};
 use fints_syntax::Memory;
@@ -19,12 +19,12 @@ enum Naming {
     Items,
 }
 
-// An entry of an account, as it is found by orders that name the account so.
+// Where an entry stands among the rows, and the name of its account by which it is found here.
 #[derive(Clone, Copy)]
-struct Need<'a> {
+struct Place {
     naming: Naming,
-    row: &'a AccountRow,
-    entry: &'a Entry,
+    row: usize,
+    entry: usize,
 }
 
 /// What an entry is looked for by: its account, by its IBAN alone or by its four national items,
@@ -39,71 +39,100 @@ pub struct NeedKey<'a> {
     pub kind: &'a [u8],
 }
 
-impl<'a> Need<'a> {
-    fn key(&self) -> NeedKey<'a>
-        ensures { key_in result ≡ seen_key (seen self.now) }
-    {
-        let row = self.row;
-        let kind = self.entry.kind.as_bytes();
-        match self.naming {
-            Naming::Iban => NeedKey {
-                by_iban: true,
-                account: row.iban.as_slice(),
-                subaccount: &[],
-                country: &[],
-                bank: &[],
-                kind,
-            },
-            Naming::Items => NeedKey {
-                by_iban: false,
-                account: row.national.number.as_slice(),
-                subaccount: row.national.subaccount.as_slice(),
-                country: row.national.country.as_slice(),
-                bank: row.national.bank.as_slice(),
-                kind,
-            },
-        }
+fn key_of<'a>(naming: Naming, row: &'a AccountRow, entry: &'a Entry) -> NeedKey<'a>
+    ensures { key_in result ≡ seen_key (seen_as naming row.now entry.now) }
+{
+    let kind = entry.kind.as_bytes();
+    match naming {
+        Naming::Iban => NeedKey {
+            by_iban: true,
+            account: row.iban.as_slice(),
+            subaccount: &[],
+            country: &[],
+            bank: &[],
+            kind,
+        },
+        Naming::Items => NeedKey {
+            by_iban: false,
+            account: row.national.number.as_slice(),
+            subaccount: row.national.subaccount.as_slice(),
+            country: row.national.country.as_slice(),
+            bank: row.national.bank.as_slice(),
+            kind,
+        },
     }
 }
 
-// By their keys, then by the signatures.
-fn compare(a: &Need<'_>, b: &Need<'_>) -> Ordering
-    ensures { result ≡ seen_cmp (seen a.now) (seen b.now) }
+// The key of the entry at a place; that of an empty account where none stands there.
+fn key_at<'a>(rows: &'a [AccountRow], place: &Place) -> NeedKey<'a>
+    ensures { key_in result ≡ seen_key (seen_at rows.now place.now) }
 {
-    let signatures = a.entry.signatures.cmp(&b.entry.signatures);
-    a.key().cmp(&b.key()).then(signatures)
+    if let Some(row) = rows.get(place.row) {
+        if let Some(entry) = row.entries.as_slice().get(place.entry) {
+            return key_of(place.naming, row, entry);
+        }
+    }
+    NeedKey {
+        by_iban: false,
+        account: &[],
+        subaccount: &[],
+        country: &[],
+        bank: &[],
+        kind: &[],
+    }
+}
+
+// How many signatures the entry at a place needs; none where none stands there.
+fn signatures_at(rows: &[AccountRow], place: &Place) -> u32
+    ensures { result ≡ (seen_at rows.now place.now).signatures }
+{
+    if let Some(row) = rows.get(place.row) {
+        if let Some(entry) = row.entries.as_slice().get(place.entry) {
+            return entry.signatures;
+        }
+    }
+    0
+}
+
+// By their keys, then by the signatures.
+fn compare(rows: &[AccountRow], a: &Place, b: &Place) -> Ordering
+    ensures { result ≡ seen_cmp (seen_at rows.now a.now) (seen_at rows.now b.now) }
+{
+    let signatures = signatures_at(rows, a).cmp(&signatures_at(rows, b));
+    key_at(rows, a).cmp(&key_at(rows, b)).then(signatures)
 }
 
 // How an entry stands to a key.
-fn compare_key(need: &Need<'_>, key: &NeedKey<'_>) -> Ordering
-    ensures { result ≡ key_cmp (seen_key (seen need.now)) (key_in key.now) }
+fn compare_key(rows: &[AccountRow], place: &Place, key: &NeedKey<'_>) -> Ordering
+    ensures { result ≡ key_cmp (seen_key (seen_at rows.now place.now)) (key_in key.now) }
 {
-    need.key().cmp(key)
+    key_at(rows, place).cmp(key)
 }
 
-fn is_before(need: &Need<'_>, key: &NeedKey<'_>) -> bool
-    ensures { result ≡ is_lt (key_cmp (seen_key (seen need.now)) (key_in key.now)) }
+fn is_before(rows: &[AccountRow], place: &Place, key: &NeedKey<'_>) -> bool
+    ensures { result ≡ is_lt (key_cmp (seen_key (seen_at rows.now place.now)) (key_in key.now)) }
 {
-    compare_key(need, key).is_lt()
+    compare_key(rows, place, key).is_lt()
 }
 
-fn has_key(need: &Need<'_>, key: &NeedKey<'_>) -> bool
-    ensures { result ≡ is_eq (key_cmp (seen_key (seen need.now)) (key_in key.now)) }
+fn has_key(rows: &[AccountRow], place: &Place, key: &NeedKey<'_>) -> bool
+    ensures { result ≡ is_eq (key_cmp (seen_key (seen_at rows.now place.now)) (key_in key.now)) }
 {
-    compare_key(need, key).is_eq()
+    compare_key(rows, place, key).is_eq()
 }
 
-// Adds the entries of a row under both names of its account.
-fn add_row<'a>(needs: &mut Vec<Need<'a>>, row: &'a AccountRow) -> Result<(), Memory>
-    ensures { OnOk result (map seen needs.new.items ≡ map seen needs.old.items ++ seen_in_row row.now) }
+// Adds the places of the entries of a row, each under both names of its account.
+fn add_row(places: &mut Vec<Place>, rows: &[AccountRow], row: usize) -> Result<(), Memory>
+    requires { row < length rows.now }
+    ensures { (none : AccountRowValue) → OnOk result (map (seen_at rows.now) places.new.items ≡ map (seen_at rows.now) places.old.items ++ seen_in_row (get_or rows.now row none)) }
 {
-    for entry in row.entries.as_slice() {
-        needs.push(Need {
+    for entry in 0..rows[row].entries.as_slice().len() {
+        places.push(Place {
             naming: Naming::Items,
             row,
             entry,
         })?;
-        needs.push(Need {
+        places.push(Place {
             naming: Naming::Iban,
             row,
             entry,
@@ -112,59 +141,60 @@ fn add_row<'a>(needs: &mut Vec<Need<'a>>, row: &'a AccountRow) -> Result<(), Mem
     Ok(())
 }
 
-// The entries of all rows, each under both names of its account.
-fn needs_in<'a>(alloc: Global, rows: &'a [AccountRow]) -> Result<Vec<Need<'a>>, Memory>
-    ensures { IfOk result (λ needs. map seen needs.items ≡ seen_in rows.now) }
+// The places of the entries of all rows, each under both names of its account.
+fn places_in(alloc: Global, rows: &[AccountRow]) -> Result<Vec<Place>, Memory>
+    ensures { IfOk result (λ places. map (seen_at rows.now) places.items ≡ seen_in rows.now) }
 {
-    let mut needs = Vec::new(alloc);
-    for row in rows {
-        add_row(&mut needs, row)?;
+    let mut places = Vec::new(alloc);
+    for row in 0..rows.len() {
+        add_row(&mut places, rows, row)?;
     }
-    Ok(needs)
+    Ok(places)
 }
 
-fn sort(needs: &mut Vec<Need<'_>>)
-    ensures permutation { IsPermutation needs.old.items needs.new.items }
-    ensures sorted { IsSortedByKey seen seen_cmp needs.new.items }
+fn sort(places: &mut Vec<Place>, rows: &[AccountRow])
+    ensures permutation { IsPermutation places.old.items places.new.items }
+    ensures sorted { IsSortedByKey (seen_at rows.now) seen_cmp places.new.items }
 {
-    needs.sort_unstable_by(|a, b| compare(a, b));
+    places.sort_unstable_by(|a, b| compare(rows, a, b));
+}
+
+// The first place whose entry isn't before the key.
+fn first_place(rows: &[AccountRow], places: &[Place], key: &NeedKey<'_>) -> usize
+    requires { IsSortedByKey (seen_at rows.now) seen_cmp places.now }
+    ensures { BeginsAt (seen_at rows.now) (key_in key.now) places.now result }
+{
+    places.partition_point(|place| is_before(rows, place, key))
+}
+
+fn least_in(rows: &[AccountRow], places: &[Place], key: &NeedKey<'_>) -> Option<u32>
+    requires { IsSortedByKey (seen_at rows.now) seen_cmp places.now }
+    ensures { IsLeastOf (key_in key.now) (map (seen_at rows.now) places.now) result }
+{
+    match places.get(first_place(rows, places, key)) {
+        Some(place) if has_key(rows, place, key) => Some(signatures_at(rows, place)),
+        _ => None,
+    }
 }
 
 /// The entries of all rows under both names of their accounts, in order; a contract sees the
 /// entries.
 #[derive(Drop)]
 pub struct Needs<'a> {
-    items: Vec<Need<'a>>,
+    rows: &'a [AccountRow],
+    places: Vec<Place>,
 }
 
 impl<'a> Model for Needs<'a> {
     ghost use Rattle.std.specs.Prelude.{List, map};
     ghost use Rattle.std.specs.List.Sorted.{IsSortedByKey};
-    ghost use Rattle.fints_rules.specs.Needs.{Seen, seen, seen_cmp};
+    ghost use Rattle.fints_rules.specs.Needs.{Seen, seen_at, seen_cmp};
 
     ghost Value = { List Seen };
 
-    ghost view = { λ n. map seen n.items.items };
+    ghost view = { λ n. map (seen_at n.rows.now) n.places.items };
 
-    ghost invariant = { λ n. IsSortedByKey seen seen_cmp n.items.items };
-}
-
-// The place of the first entry that isn't before the key.
-fn first_place(needs: &[Need<'_>], key: &NeedKey<'_>) -> usize
-    requires { IsSortedByKey seen seen_cmp needs.now }
-    ensures { IsPartitionPoint (λ n. is_lt (key_cmp (seen_key (seen n)) (key_in key.now)) ≡ true) (λ n. is_lt (key_cmp (seen_key (seen n)) (key_in key.now)) ≡ false) needs.now result }
-{
-    needs.partition_point(|need| is_before(need, key))
-}
-
-fn least_in(needs: &[Need<'_>], key: &NeedKey<'_>) -> Option<u32>
-    requires { IsSortedByKey seen seen_cmp needs.now }
-    ensures { IsLeastOf (key_in key.now) (map seen needs.now) result }
-{
-    match needs.get(first_place(needs, key)) {
-        Some(need) if has_key(need, key) => Some(need.entry.signatures),
-        _ => None,
-    }
+    ghost invariant = { λ n. IsSortedByKey (seen_at n.rows.now) seen_cmp n.places.items };
 }
 
 impl<'a> Needs<'a> {
@@ -172,15 +202,15 @@ impl<'a> Needs<'a> {
     pub fn of(alloc: Global, rows: &'a [AccountRow]) -> Result<Needs<'a>, Memory>
         ensures { IfOk result (λ needs. IsPermutation (seen_in rows.now) needs) }
     {
-        let mut items = needs_in(alloc, rows)?;
-        sort(&mut items);
-        Ok(Needs { items })
+        let mut places = places_in(alloc, rows)?;
+        sort(&mut places, rows);
+        Ok(Needs { rows, places })
     }
 
     /// The least number of signatures that an entry of the key needs, if one is there.
     pub fn least(&self, key: &NeedKey<'_>) -> Option<u32>
         ensures { IsLeastOf (key_in key.now) self.now result }
     {
-        least_in(self.items.as_slice(), key)
+        least_in(self.rows, self.places.as_slice(), key)
     }
 }

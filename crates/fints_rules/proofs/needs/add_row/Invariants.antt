@@ -1,7 +1,8 @@
-use Rattle.std.proofs.Common.{◌≡◌, ◌++◌, map, take}
+use Rattle.std.proofs.Common.{◌≡◌, ◌++◌, map, take, get_or}
 use Rattle.std.specs.List.{flat_map}
-use Rattle.fints_rules.specs.Needs.{seen, seen_twice}
+use Rattle.fints_params.specs.declared.rows.AccountRow.{AccountRow}
+use Rattle.fints_rules.specs.Needs.{seen_at, seen_twice}
 use Rattle.fints_rules.proofs.needs.add_row.Given as goal
 
 abbrev pub invariant-loop-entry : goal.invariant-loop-entry
-invariant-loop-entry l = map seen l.needs.items ≡ map seen l.initial.needs.items ++ flat_map (seen_twice l.row) (take l.entry-index l.entry-items)
+invariant-loop-entry l = (none : AccountRow) → map (seen_at l.rows) l.places.items ≡ map (seen_at l.rows) l.initial.places.items ++ flat_map (seen_twice (get_or l.rows l.row none)) (take l.entry (get_or l.rows l.row none).entries)
