@@ -5,6 +5,7 @@ pub mod Lengths
 pub mod Classes
 pub mod ClassLaws
 pub mod Listed
+pub mod TextLaws
 pub mod AccountFields
 pub mod ListedLaws
 pub mod Fields
