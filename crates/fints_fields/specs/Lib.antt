@@ -1,5 +1,7 @@
 pub mod Names
 pub mod NameFields
+pub mod NameSets
+pub mod NameSetLaws
 pub mod Joined
 pub mod Lengths
 pub mod Classes
