@@ -106,7 +106,7 @@ impl Pattern {
     }
 
     /// Whether it has `*` at a place.
-    pub fn is_free(&self, place: usize) -> bool
+    pub(crate) fn is_free(&self, place: usize) -> bool
         requires { place < 4 }
         ensures { result ≡ (get_or self.now place 0 == 42) }
     {
@@ -114,7 +114,7 @@ impl Pattern {
     }
 
     /// Whether it fits the digits before a place, and has this digit there.
-    pub fn tells(&self, digits: [u8; 4], place: usize, digit: u8) -> bool
+    pub(crate) fn tells(&self, digits: [u8; 4], place: usize, digit: u8) -> bool
         requires { place < 4 }
         ensures { result ≡ tells self.now digits place digit }
     {
@@ -122,7 +122,7 @@ impl Pattern {
     }
 
     /// The size of the blocks of codes of each of which it matches all or none.
-    pub fn block(&self) -> u16
+    pub(crate) fn block(&self) -> u16
         ensures some { 1 ≤ result }
         ensures most { result ≤ 10000 }
         ensures alike { MatchesByBlocks self.now result }
@@ -143,7 +143,7 @@ impl Pattern {
     }
 
     /// The size of the block about the code of which it matches none, if it doesn't match the code.
-    pub fn missed(&self, code: Code) -> Option<u16>
+    pub(crate) fn missed(&self, code: Code) -> Option<u16>
         ensures { MatchOption result
             (IsTrue (matches self.now code))
             (λ size. (1 ≤ size) × (size ≤ 10000) × MissesBlock self.now code size) }
