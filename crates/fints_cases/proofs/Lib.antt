@@ -4,3 +4,4 @@ pub mod CaseReads
 pub mod CaseLines
 pub mod CaseTexts
 pub mod Firing
+pub mod Blocks

@@ -1,5 +1,5 @@
 -- What the reader of cases knows on its way through a text. Private contracts alone cite these words.
-use Rattle.std.specs.Prelude.{ℕ, ◌≡◌, ◌≢◌, ◌<◌, ◌≤◌, List, [], ◌∷◌, ◌++◌, codes, length, slice_get}
+use Rattle.std.specs.Prelude.{ℕ, ◌≡◌, ◌≢◌, ◌<◌, ◌≤◌, List, [], ◌∷◌, ◌++◌, codes, length, map, slice_get}
 use Rattle.std.specs.Option.{ForSome}
 use Rattle.std.specs.List.{All, AllPairs}
 use Rattle.fints_lines.specs.Lines.{MAX_TEXT, IsNextLine}
@@ -29,6 +29,9 @@ IsCaseLine (Reply answer) = IsAnswer answer
 abbrev pub IsNext : List NamedValue → List (List ℕ) → CaseLine → Type 0
 IsNext values answers (Field pair) = (length answers ≡ 0) × All (λ (p : NamedValue). p.name ≢ pair.name) values × (length values ≡ 0 → pair.name ≡ codes "dialog")
 IsNext values answers (Reply answer) = 0 < length values
+
+abbrev pub value_names : List NamedValue → List (List ℕ)
+value_names values = map (λ (pair : NamedValue). pair.name) values
 
 abbrev pub values_with : List NamedValue → CaseLine → List NamedValue
 values_with values (Field pair) = values ++ pair ∷ []

@@ -1,12 +1,13 @@
 //! Cases from their texts.
-ghost use Rattle.std.specs.Prelude.{◌≡◌, ◌≢◌, ◌≤◌, ◌↔◌, ℕ, List, codes, ◌∷◌, ◌++◌, ◌<◌, length, IsTrue, IfOk, IfErr, OnOk, MatchOption};
+ghost use Rattle.std.specs.Prelude.{◌≡◌, ◌≢◌, ◌≤◌, ◌↔◌, ℕ, List, codes, ◌∷◌, ◌++◌, ◌<◌, length, IsTrue, IfOk, IfErr, IfSome, OnOk, MatchOption};
 ghost use Rattle.std.specs.List.{All, Any};
+ghost use Rattle.fints_fields.specs.NameSets.{HoldsNames};
 ghost use Rattle.hex.specs.Hex.{encode_lower};
 ghost use Rattle.fints_lines.specs.Lines.{IsReadAs};
 ghost use Rattle.fints_cases.specs.Patterns.{code_text};
 ghost use Rattle.fints_cases.specs.Answers.{IsAnswer};
 ghost use Rattle.fints_cases.specs.Cases.{value_text, field_text, codes_text, answer_text, IsNamedValue, IsCaseOf, IsRefusal};
-ghost use Rattle.fints_cases.specs.CaseReading.{IsCapital, IsValue, IsCaseLine, line_text, IsNext, values_with, answers_with, IsLineTaken, HasNoLine};
+ghost use Rattle.fints_cases.specs.CaseReading.{IsCapital, IsValue, IsCaseLine, line_text, IsNext, values_with, answers_with, value_names, IsLineTaken, HasNoLine};
 
 use crate::case::{Answer, Case};
 use crate::case_fault::CaseFault;
@@ -17,6 +18,7 @@ use fints_params::Code;
 use fints_syntax::{Bytes, Memory};
 use hex::FromHexError;
 use std::alloc::Global;
+use std::collections::BTreeSet;
 
 /// What a line after the first tells.
 #[derive(Debug, Drop)]
@@ -143,34 +145,49 @@ fn is_dialog(name: Name) -> bool
     name.as_bytes() == b"dialog".as_slice()
 }
 
+/// The case so far, and the names in it, in which one is looked up without a walk over its values.
+#[derive(Drop)]
+pub struct Taken {
+    case: Case,
+    names: BTreeSet<Name>,
+}
+
 /// Whether no value has the name.
-fn is_new(values: &Values, name: Name) -> bool
-    ensures { IsTrue result ↔ All (λ pair. pair.name ≢ name) values.now }
+fn is_new(taken: &Taken, name: Name) -> bool
+    requires { HoldsNames (value_names taken.now.case.values) taken.now.names }
+    ensures { IsTrue result ↔ All (λ pair. pair.name ≢ name) taken.now.case.values }
 {
-    values.pairs().iter().all(|pair| pair.name != name)
+    !taken.names.contains(&name)
 }
 
 /// Whether the line may stand after what the case holds.
-fn is_next(case: &Case, line: &CaseLine) -> bool
-    ensures { IsTrue result ↔ IsNext case.now.values case.now.answers.items line.now }
+fn is_next(taken: &Taken, line: &CaseLine) -> bool
+    requires { HoldsNames (value_names taken.now.case.values) taken.now.names }
+    ensures { IsTrue result ↔ IsNext taken.now.case.values taken.now.case.answers.items line.now }
 {
+    let case = &taken.case;
     match line {
         CaseLine::Field(pair) => {
             case.answers.is_empty()
-                && is_new(&case.values, pair.name)
+                && is_new(taken, pair.name)
                 && (!case.values.pairs().is_empty() || is_dialog(pair.name))
         }
         CaseLine::Reply(_) => !case.values.pairs().is_empty(),
     }
 }
 
-fn add(case: &mut Case, line: CaseLine) -> Result<(), Memory>
-    ensures values { OnOk result (case.new.values ≡ values_with case.old.values line) }
-    ensures answers { OnOk result (case.new.answers.items ≡ answers_with case.old.answers.items line) }
+fn add(taken: &mut Taken, line: CaseLine) -> Result<(), Memory>
+    requires { HoldsNames (value_names taken.old.case.values) taken.old.names }
+    ensures values { OnOk result (taken.new.case.values ≡ values_with taken.old.case.values line) }
+    ensures answers { OnOk result (taken.new.case.answers.items ≡ answers_with taken.old.case.answers.items line) }
+    ensures names { OnOk result (HoldsNames (value_names taken.new.case.values) taken.new.names) }
 {
     match line {
-        CaseLine::Field(pair) => case.values.add(pair)?,
-        CaseLine::Reply(answer) => case.answers.push(answer)?,
+        CaseLine::Field(pair) => {
+            taken.names.insert(pair.name)?;
+            taken.case.values.add(pair)?;
+        }
+        CaseLine::Reply(answer) => taken.case.answers.push(answer)?,
     }
     Ok(())
 }
@@ -179,14 +196,16 @@ fn add(case: &mut Case, line: CaseLine) -> Result<(), Memory>
 /// good line of a text of so many bytes.
 fn take_line<'a>(
     alloc: Global,
-    case: &mut Case,
+    taken: &mut Taken,
     whole: usize,
     rest: &'a [u8],
 ) -> Result<Option<&'a [u8]>, Memory>
-    requires { length rest.now ≤ whole }
-    ensures { IfOk result (λ taken. MatchOption taken
-        (HasNoLine whole rest.now case.old.values case.old.answers.items)
-        (λ more. IsLineTaken whole rest.now more.now case.old.values case.old.answers.items case.new.values case.new.answers.items)) }
+    requires rest { length rest.now ≤ whole }
+    requires names { HoldsNames (value_names taken.old.case.values) taken.old.names }
+    ensures line { IfOk result (λ found. MatchOption found
+        (HasNoLine whole rest.now taken.old.case.values taken.old.case.answers.items)
+        (λ more. IsLineTaken whole rest.now more.now taken.old.case.values taken.old.case.answers.items taken.new.case.values taken.new.case.answers.items)) }
+    ensures names { IfOk result (λ found. IfSome found (λ _. HoldsNames (value_names taken.new.case.values) taken.new.names)) }
 {
     let Some((text, more)) = next_line(whole, rest) else {
         return Ok(None);
@@ -194,15 +213,15 @@ fn take_line<'a>(
     let Some(line) = parse_line(alloc, text)? else {
         return Ok(None);
     };
-    if !is_next(case, &line) {
+    if !is_next(taken, &line) {
         return Ok(None);
     }
-    add(case, line)?;
+    add(taken, line)?;
     Ok(Some(more))
 }
 
 impl Case {
-    /// The case that the text stands for.
+    /// The case that the text stands for. Each name is looked up in an ordered set.
     pub fn read(alloc: Global, text: &[u8]) -> Result<Case, CaseFault>
         ensures case { IfOk result (λ case. IsCaseOf text.now case.values case.answers.items) }
         ensures refusal { IfErr result (IsRefusal text.now) }
@@ -210,21 +229,24 @@ impl Case {
         let Some(mut rest) = after(text, b"fints-case 1\n") else {
             return Err(CaseFault::Bad { line: 1 });
         };
-        let mut case = Case {
-            values: Values::new(alloc),
-            answers: Vec::new(alloc),
+        let mut taken = Taken {
+            case: Case {
+                values: Values::new(alloc),
+                answers: Vec::new(alloc),
+            },
+            names: BTreeSet::new(alloc),
         };
         let mut line = 2;
         while !rest.is_empty() {
-            match take_line(alloc, &mut case, text.len(), rest)? {
+            match take_line(alloc, &mut taken, text.len(), rest)? {
                 Some(more) => rest = more,
                 None => return Err(CaseFault::Bad { line }),
             }
             line += 1;
         }
-        if case.values.pairs().is_empty() {
+        if taken.case.values.pairs().is_empty() {
             return Err(CaseFault::Bad { line });
         }
-        Ok(case)
+        Ok(taken.case)
     }
 }

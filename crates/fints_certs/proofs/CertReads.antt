@@ -1,55 +1,16 @@
 -- A text is a certificate, or it has a first bad line.
-use Rattle.std.proofs.Common.{ℕ, ◌+◌, ◌-◌, ◌<◌, ◌≤◌, ◌≡◌, ◌≢◌, Bool, true, false, not, ◌||◌, None, List, [], ◌∷◌, ◌++◌, map, codes, length, refl, ap, sym, subst, ◌∙◌, arith, inl, inr}
-use Rattle.std.specs.Prelude.{◌↔◌, IsTrue}
-use Rattle.std.specs.List.{All, list_any}
-use Rattle.std.specs.Str.{bytes_eq}
-use Rattle.std.proofs.lemmas.Bool.{cases_Bool, false≢true}
+use Rattle.std.proofs.Common.{ℕ, ◌+◌, ◌-◌, ◌<◌, ◌≤◌, ◌≡◌, ◌≢◌, None, List, [], ◌∷◌, ◌++◌, map, codes, length, refl, ap, sym, subst, ◌∙◌, arith, inl}
+use Rattle.std.specs.List.{All}
 use Rattle.std.proofs.lemmas.List.{append-nil, length-append, map-append}
-use Rattle.std.proofs.lemmas.List.Elements.{All-cons, All-nil, All-head, All-tail, All-push}
+use Rattle.std.proofs.lemmas.List.Elements.{All-cons, All-nil, All-push}
 use Rattle.std.proofs.lemmas.List.Quantifiers.{all_pairs_push}
-use Rattle.std.proofs.lemmas.Slice.Eq.{bytes_eq-Decides}
 use Rattle.fints_fields.specs.Names.{IsNameByte}
 use Rattle.fints_lines.specs.Lines.{MAX_TEXT, text_of_lines, BeginsText}
 use Rattle.fints_lines.specs.LineLaws.{text_taken, length_taken, lines_long, same_lines, refused_at}
-use Rattle.fints_certs.specs.Certificates.{line_names}
 use Rattle.fints_certs.specs.CertTexts.{step_text, cert_lines, cert_text, IsStepLine, IsCertificate, IsCertificateOf, OneCertificate, AreCertLines, IsFirstBadLine}
 use Rattle.fints_certs.specs.CertReading.{IsNew, IsBegun, IsLineTaken, HasNoLine}
 use Rattle.fints_certs.specs.declared.certificate.Line.{Line}
 use Rattle.fints_certs.proofs.CertLines.{onward, line_without, cert_without, lines_once}
-
--- ---- names that are looked up
-
--- a name that is among those of the lines is not new, and else it is
-pub new_by_names : (lines : List Line) (line : Line) → (list_any (bytes_eq line.name) (line_names lines) ≡ false) ↔ IsNew lines line
-new_by_names [] line = (λ e. All-nil (λ (p : Line). p.name ≢ line.name), λ h. refl)
-new_by_names (x ∷ lines) line =
-    let rest = new_by_names lines line in
-    elim (cases_Bool (bytes_eq line.name x.name)) [
-      | inl same ↦
-          let is : line.name ≡ x.name = (bytes_eq-Decides line.name x.name).0 same in (
-            λ e. absurd (false≢true (sym e ∙ ap (λ (b : Bool). b || list_any (bytes_eq line.name) (line_names lines)) same)),
-            λ h. absurd (All-head (λ (p : Line). p.name ≢ line.name) x lines h (sym is)),
-          )
-      | inr other ↦
-          let apart : x.name ≢ line.name = λ e. false≢true (sym other ∙ (bytes_eq-Decides line.name x.name).1 (sym e)) in
-          let step : list_any (bytes_eq line.name) (line_names (x ∷ lines)) ≡ list_any (bytes_eq line.name) (line_names lines) = ap (λ (b : Bool). b || list_any (bytes_eq line.name) (line_names lines)) other in (
-            λ e. All-cons (λ (p : Line). p.name ≢ line.name) x lines apart (rest.0 (sym step ∙ e)),
-            λ h. step ∙ rest.1 (All-tail (λ (p : Line). p.name ≢ line.name) x lines h),
-          )
-    ]
-
--- what an insertion says
-pub added_new : (lines : List Line) (line : Line) (names : List (List ℕ)) (added : Bool) → names ≡ line_names lines → added ≡ not (list_any (bytes_eq line.name) names) → IsTrue added ↔ IsNew lines line
-added_new lines line names added are is =
-    let same : added ≡ not (list_any (bytes_eq line.name) (line_names lines)) = is ∙ ap (λ (ns : List (List ℕ)). not (list_any (bytes_eq line.name) ns)) are in
-    let by = new_by_names lines line in (
-      λ t. by.0 (no_of (list_any (bytes_eq line.name) (line_names lines)) (sym same ∙ t)),
-      λ h. same ∙ ap not (by.1 h),
-    )
-  where
-    no_of : (b : Bool) → not b ≡ true → b ≡ false
-    no_of true e = sym e
-    no_of false e = refl
 
 -- ---- a line more
 

@@ -1,5 +1,5 @@
 -- The greatest figures of a script's steps are a certificate that can be read back.
-use Rattle.std.proofs.Common.{ℕ, suc, zero, ◌+◌, ◌*◌, ◌-◌, ◌<◌, ◌≤◌, ◌≡◌, ◌≢◌, Option, Some, None, List, [], ◌∷◌, ◌++◌, codes, map, drop, length, get_or, refl, ap, sym, subst, ◌∙◌, arith}
+use Rattle.std.proofs.Common.{ℕ, suc, zero, ◌*◌, ◌<◌, ◌≤◌, ◌≡◌, ◌≢◌, Option, Some, None, List, [], ◌∷◌, ◌++◌, codes, map, drop, length, get_or, refl, ap, sym, ◌∙◌, arith}
 use Rattle.std.specs.Prelude.{◌↔◌}
 use Rattle.std.specs.Fmt.{decimal}
 use Rattle.std.specs.List.{All, AllPairs, slice_get}
@@ -17,7 +17,7 @@ use Rattle.fints_wire.specs.Messages.{message_bytes}
 use Rattle.fints_wire.specs.Runs.{Arrives, IsSent, IsWithin, SendsLast}
 use Rattle.fints_wire.specs.declared.dialogue.Sent.{Sent}
 use Rattle.fints_wire.specs.declared.dialogue.Visit.{Visit}
-use Rattle.fints_check.specs.Figures.{AreFigures, FiguresAre, AreGreatestFigures}
+use Rattle.fints_check.specs.Figures.{AreFigures, FiguresAre}
 use Rattle.fints_check.specs.declared.finding.Reached.{Reached}
 use Rattle.fints_certs.specs.Certificates.{line_figures, line_names, step_names}
 use Rattle.fints_certs.specs.CertTexts.{cert_text, figures_text, step_text, AreShown, IsCertificate, IsStepLine}

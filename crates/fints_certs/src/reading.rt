@@ -2,6 +2,7 @@
 ghost use Rattle.std.specs.Prelude.{◌≡◌, ◌≢◌, ◌≤◌, ◌<◌, ◌↔◌, [], ◌∷◌, ◌++◌, length, get_or, IsTrue, IfOk, IfErr, IfSome, MatchOption};
 ghost use Rattle.std.specs.Fmt.{decimal};
 ghost use Rattle.fints_check.specs.declared.finding.Reached.{Reached as ReachedValue};
+ghost use Rattle.fints_fields.specs.NameSets.{HoldsNames};
 ghost use Rattle.fints_lines.specs.Lines.{IsReadAs};
 ghost use Rattle.fints_certs.specs.Certificates.{line_names};
 ghost use Rattle.fints_certs.specs.CertTexts.{figures_text, step_text, IsFigure, AreShown, IsStepLine, IsCertificateOf, IsRefusal};
@@ -13,8 +14,8 @@ use fints_check::Reached;
 use fints_fields::Name;
 use fints_lines::{after, next_line, split_once};
 use fints_syntax::Memory;
-use indexmap::IndexSet;
 use std::alloc::Global;
+use std::collections::BTreeSet;
 
 // The number of these 1 to 9 digits, the first no zero.
 fn parse_digits(digits: &str) -> Option<u32>
@@ -104,15 +105,15 @@ fn parse_line(text: &[u8]) -> Option<Line>
 #[derive(Drop)]
 pub struct Taken {
     lines: Vec<Line>,
-    names: IndexSet<Name>,
+    names: BTreeSet<Name>,
 }
 
 // Adds the line, if no earlier one has its name.
 fn add(taken: &mut Taken, line: Line) -> Result<bool, Memory>
-    requires names { taken.old.names.keys ≡ line_names taken.old.lines.items }
+    requires names { HoldsNames (line_names taken.old.lines.items) taken.old.names }
     ensures added { IfOk result (λ added. IsTrue added ↔ IsNew taken.old.lines.items line) }
     ensures lines { IfOk result (λ added. IsTrue added → taken.new.lines.items ≡ taken.old.lines.items ++ line ∷ []) }
-    ensures names { IfOk result (λ added. IsTrue added → taken.new.names.keys ≡ line_names taken.new.lines.items) }
+    ensures names { IfOk result (λ added. IsTrue added → HoldsNames (line_names taken.new.lines.items) taken.new.names) }
 {
     let fresh = taken.names.insert(line.name)?;
     if !fresh {
@@ -130,11 +131,11 @@ fn take_line<'a>(
     rest: &'a [u8],
 ) -> Result<Option<&'a [u8]>, Memory>
     requires rest { length rest.now ≤ whole }
-    requires names { taken.old.names.keys ≡ line_names taken.old.lines.items }
+    requires names { HoldsNames (line_names taken.old.lines.items) taken.old.names }
     ensures line { IfOk result (λ found. MatchOption found
         (HasNoLine whole rest.now taken.old.lines.items)
         (λ more. IsLineTaken whole rest.now more.now taken.old.lines.items taken.new.lines.items)) }
-    ensures names { IfOk result (λ found. IfSome found (λ _. taken.new.names.keys ≡ line_names taken.new.lines.items)) }
+    ensures names { IfOk result (λ found. IfSome found (λ _. HoldsNames (line_names taken.new.lines.items) taken.new.names)) }
 {
     let Some((text, more)) = next_line(whole, rest) else {
         return Ok(None);
@@ -150,7 +151,7 @@ fn take_line<'a>(
 }
 
 impl Certificate {
-    /// The certificate that the text stands for, in time that grows with its length.
+    /// The certificate that the text stands for. Each name is looked up in an ordered set.
     pub fn read(alloc: Global, text: &[u8]) -> Result<Certificate, CertFault>
         ensures certificate { IfOk result (λ certificate. IsCertificateOf text.now certificate) }
         ensures refusal { IfErr result (IsRefusal text.now) }
@@ -160,7 +161,7 @@ impl Certificate {
         };
         let mut taken = Taken {
             lines: Vec::new(alloc),
-            names: IndexSet::new(alloc),
+            names: BTreeSet::new(alloc),
         };
         let mut line = 2;
         while !rest.is_empty() {

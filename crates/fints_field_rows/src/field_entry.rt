@@ -57,8 +57,8 @@ fn class_with(alloc: Global, table: &Table, class: ClassName) -> Result<Field, F
             let class = Bin::new(min, max).ok_or(FaultKind::Limit)?;
             Ok(Field::Bin(class))
         }
-        ClassName::OneOf => texts_class(texts_in(alloc, listed_in(table)?)?),
-        ClassName::Account => accounts_class(accounts_in(alloc, listed_in(table)?)?),
+        ClassName::OneOf => texts_class(alloc, texts_in(alloc, listed_in(table)?)?),
+        ClassName::Account => accounts_class(alloc, accounts_in(alloc, listed_in(table)?)?),
     }
 }
 

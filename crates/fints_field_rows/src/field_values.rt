@@ -94,11 +94,12 @@ pub fn listed_in(table: &Table) -> Result<&[Value], FaultKind>
     entries_of(required(table, "values")?)
 }
 
-/// A field of one of these texts.
-pub fn texts_class(texts: Vec<Bytes>) -> Result<Field, FaultKind>
-    ensures { seen class_value result ≡ texts_class texts.items }
+/// A field of one of these texts, however many there are.
+pub fn texts_class(alloc: Global, texts: Vec<Bytes>) -> Result<Field, FaultKind>
+    ensures { Gives class_value result (texts_class texts.items) }
 {
-    if !are_distinct(&texts) {
+    let distinct = are_distinct(alloc, &texts)?;
+    if !distinct {
         return Err(FaultKind::Duplicate);
     }
     match OneOf::new(Texts::new(texts)) {
@@ -107,12 +108,13 @@ pub fn texts_class(texts: Vec<Bytes>) -> Result<Field, FaultKind>
     }
 }
 
-/// A field of one of these accounts.
-pub fn accounts_class(accounts: Vec<AccountValue>) -> Result<Field, FaultKind>
+/// A field of one of these accounts, however many there are.
+pub fn accounts_class(alloc: Global, accounts: Vec<AccountValue>) -> Result<Field, FaultKind>
     requires { All (λ account. (1 ≤ length account) × (length account ≤ 6)) accounts.items }
-    ensures { seen class_value result ≡ accounts_class accounts.items }
+    ensures { Gives class_value result (accounts_class accounts.items) }
 {
-    if !are_distinct(&accounts) {
+    let distinct = are_distinct(alloc, &accounts)?;
+    if !distinct {
         return Err(FaultKind::Duplicate);
     }
     match Account::new(Accounts::new(accounts)) {

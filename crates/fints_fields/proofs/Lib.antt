@@ -1,6 +1,7 @@
 pub mod Paddings
 pub mod Picks
 pub mod ListedSteps
+pub mod KeyedSteps
 pub mod Greatest
 pub mod FirstOf
 pub mod Telling

@@ -1,10 +1,13 @@
 pub mod Names
 pub mod NameFields
+pub mod NameSets
+pub mod NameSetLaws
 pub mod Joined
 pub mod Lengths
 pub mod Classes
 pub mod ClassLaws
 pub mod Listed
+pub mod TextLaws
 pub mod AccountFields
 pub mod ListedLaws
 pub mod Fields

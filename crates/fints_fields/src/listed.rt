@@ -7,6 +7,7 @@ ghost use Rattle.fints_fields.specs.Listed.{IsListed, account_text, first_longes
 
 use fints_syntax::{Bytes, Memory, OwnedItem, write_item, written_len};
 use std::alloc::Global;
+use std::collections::BTreeSet;
 use std::marker::Model;
 
 /// A listed value: its text, and the size by which it is compared.
@@ -15,8 +16,16 @@ pub trait Listed {
 
     ghost size: { Self → ℕ };
 
+    ghost count: { Self → ℕ };
+
+    ghost told: { (a b : Self) → text a ≡ text b → count a ≡ count b → a ≡ b };
+
     fn text(&self) -> &[u8]
         ensures { result.now ≡ text self.now };
+
+    /// How many items it has. With the text they tell the value.
+    fn count(&self) -> usize
+        ensures { result ≡ count self.now };
 
     fn size(&self) -> u64
         ensures { result ≡ size self.now };
@@ -44,8 +53,8 @@ fn is_among<T: Listed>(values: &[T], value: &T) -> bool
     values.iter().any(|v| v.is_same(value))
 }
 
-/// Whether no two values are equal.
-pub fn are_distinct<T: Listed>(values: &[T]) -> bool
+/// Whether no two of these are equal, where they are few: each is compared with all before it.
+pub fn are_few_distinct<T: Listed>(values: &[T]) -> bool
     ensures { IsTrue result ↔ AllPairs (λ u v. u ≢ v) values.now }
 {
     for i in 0..values.len() {
@@ -54,6 +63,21 @@ pub fn are_distinct<T: Listed>(values: &[T]) -> bool
         }
     }
     true
+}
+
+/// Whether no two values are equal, however many there are: each is looked up among those before it
+/// by its text.
+pub fn are_distinct<T: Listed>(alloc: Global, values: &[T]) -> Result<bool, Memory>
+    ensures { IfOk result (λ distinct. IsTrue distinct ↔ AllPairs (λ u v. u ≢ v) values.now) }
+{
+    let mut seen = BTreeSet::new(alloc);
+    for value in values {
+        let fresh = seen.insert((value.text(), value.count()))?;
+        if !fresh {
+            return Ok(false);
+        }
+    }
+    Ok(true)
 }
 
 /// The first of greatest size.
@@ -91,8 +115,16 @@ impl Listed for Bytes {
 
     ghost size = { text_len };
 
+    ghost count = { λ b. 1 };
+
+    ghost told = { λ a b same count. same };
+
     fn text(&self) -> &[u8] {
         self.as_slice()
+    }
+
+    fn count(&self) -> usize {
+        1
     }
 
     fn size(&self) -> u64 {
@@ -191,14 +223,24 @@ fn same_items(a: &[Bytes], b: &[Bytes]) -> bool
 }
 
 impl Listed for AccountValue {
+    ghost use Rattle.std.specs.Prelude.{length};
+    ghost use Rattle.fints_fields.specs.TextLaws.{text_and_count_tell};
     ghost use Rattle.fints_fields.specs.Listed.{account_len, account_text};
 
     ghost text = { account_text };
 
     ghost size = { account_len };
 
+    ghost count = { length };
+
+    ghost told = { text_and_count_tell };
+
     fn text(&self) -> &[u8] {
         self.text()
+    }
+
+    fn count(&self) -> usize {
+        self.items().len()
     }
 
     fn size(&self) -> u64 {

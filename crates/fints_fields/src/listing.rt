@@ -8,7 +8,7 @@ ghost use Rattle.fints_fields.specs.Listed.{IsAccountList, IsListed, IsShort, ac
 ghost use Rattle.fints_fields.specs.ListedLaws.{account_as_items, account_some, longest_listed, longest_most, shortest_least, shortest_listed};
 
 use crate::class::FieldClass;
-use crate::listed::{AccountValue, Listed, are_distinct, is_listed, longest_of, shortest_of};
+use crate::listed::{AccountValue, Listed, are_few_distinct, is_listed, longest_of, shortest_of};
 use crate::lists::{Accounts, Texts};
 use fints_syntax::{Bytes, Memory, written_len};
 use std::alloc::Global;
@@ -106,7 +106,7 @@ impl OneOf {
         ensures values { IfSome result (λ c. c.values ≡ values) }
     {
         let texts = values.as_slice();
-        if !(is_count(texts.len()) && are_short(texts) && are_distinct(texts)) {
+        if !(is_count(texts.len()) && are_short(texts) && are_few_distinct(texts)) {
             return None;
         }
         Some(of_texts(values))
@@ -197,7 +197,7 @@ impl Account {
         ensures values { IfSome result (λ c. c.values ≡ values) }
     {
         let accounts = values.as_slice();
-        if !(is_count(accounts.len()) && are_accounts(accounts) && are_distinct(accounts)) {
+        if !(is_count(accounts.len()) && are_accounts(accounts) && are_few_distinct(accounts)) {
             return None;
         }
         Some(of_accounts(values))

@@ -1,6 +1,9 @@
-use Rattle.std.proofs.Common.{ℕ, ◌<◌}
-use Rattle.fints_cases.specs.Answers.{IsOpener}
+use Rattle.std.proofs.Common.{◌-◌}
+use Rattle.fints_cases.specs.CodeBlocks.{NoneBelow}
 use Rattle.fints_cases.proofs.answers.opener.Given as goal
 
-abbrev pub invariant-loop-number : goal.invariant-loop-number
-invariant-loop-number l = (code : ℕ) → code < l.number → IsOpener l.branches l.branch code → ⊥
+abbrev pub invariant-loop-code : goal.invariant-loop-code
+invariant-loop-code l = NoneBelow l.branches l.branch l.number
+
+abbrev pub decreases-loop-code : goal.decreases-loop-code
+decreases-loop-code l = 10000 - l.number

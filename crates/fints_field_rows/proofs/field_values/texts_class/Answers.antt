@@ -1,4 +1,4 @@
-use Rattle.std.proofs.Common.{◌≢◌, ℕ, List, AllPairs, Ok, ap, sym, subst, ◌∙◌}
+use Rattle.std.proofs.Common.{◌≢◌, ℕ, List, AllPairs, Ok, ap, inr, sym, subst, ◌∙◌}
 use Rattle.std.proofs.lemmas.Bool.{false≢true}
 use Rattle.fints_field_rows.specs.Fields.{oneof}
 use Rattle.fints_field_rows.proofs.Listings.{AreTexts, texts_made, texts_past, texts_twice}
@@ -7,17 +7,17 @@ use Rattle.fints_field_rows.proofs.field_values.texts_class.Goals as goal
 abbrev AreApart : List (List ℕ) → Type 0
 AreApart texts = AllPairs (λ s t. s ≢ t) texts
 
-pub returns-then-not-are_distinct : goal.returns-then-not-are_distinct
-returns-then-not-are_distinct c =
-    sym (texts_twice c.args.texts.items (λ apart. false≢true (sym c.if-not-are_distinct.true ∙ c.are_distinct.ensures.1 (subst AreApart (sym c.deref.ensures.value) apart))))
+pub returns-then-not-distinct : goal.returns-then-not-distinct
+returns-then-not-distinct c =
+    inr (texts_twice c.args.texts.items (λ apart. false≢true (sym c.if-not-distinct.true ∙ c.in_ok-distinct.ensures.1 (subst AreApart (sym c.deref.ensures.value) apart))))
 
 pub returns-in-None : goal.returns-in-None
 returns-in-None c =
-    sym (texts_past c.args.texts.items (subst AreApart c.deref.ensures.value (c.are_distinct.ensures.0 c.if-not-are_distinct.false))
+    inr (texts_past c.args.texts.items (subst AreApart c.deref.ensures.value (c.in_ok-distinct.ensures.0 c.if-not-distinct.false))
     (λ good. false≢true (c.in-None.ensures.some.1 (subst AreTexts (sym c.new.ensures) good))))
 
 pub returns-in-Some : goal.returns-in-Some
 returns-in-Some c =
     let class = c.in-Some.class in
     let values = c.in-Some.ensures.values ∙ c.new.ensures in
-    ap (λ l. Ok (oneof l)) values ∙ sym (texts_made c.args.texts.items (subst AreTexts values (class.some, class.few, class.short, class.distinct)))
+    texts_made c.args.texts.items (subst AreTexts values (class.some, class.few, class.short, class.distinct)) ∙ ap (λ l. Ok (oneof l)) (sym values)

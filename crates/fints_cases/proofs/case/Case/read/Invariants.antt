@@ -1,9 +1,14 @@
 use Rattle.std.proofs.Common.{length}
+use Rattle.fints_cases.specs.CaseReading.{value_names}
+use Rattle.fints_fields.specs.NameSets.{HoldsNames}
 use Rattle.fints_cases.proofs.CaseReads.{Read}
 use Rattle.fints_cases.proofs.case.Case.read.Given as goal
 
 abbrev pub invariant-loop-rest : goal.invariant-loop-rest
-invariant-loop-rest l = Read l.text l.rest l.case.values l.case.answers.items l.line
+invariant-loop-rest l = record {
+  read : Read l.text l.rest l.taken.case.values l.taken.case.answers.items l.line;
+  names : HoldsNames (value_names l.taken.case.values) l.taken.names;
+}
 
 abbrev pub decreases-loop-rest : goal.decreases-loop-rest
 decreases-loop-rest l = length l.rest

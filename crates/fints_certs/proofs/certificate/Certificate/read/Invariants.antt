@@ -1,4 +1,5 @@
-use Rattle.std.proofs.Common.{◌≡◌, length}
+use Rattle.std.proofs.Common.{length}
+use Rattle.fints_fields.specs.NameSets.{HoldsNames}
 use Rattle.fints_certs.specs.Certificates.{line_names}
 use Rattle.fints_certs.proofs.CertReads.{Read}
 use Rattle.fints_certs.proofs.certificate.Certificate.read.Given as goal
@@ -6,7 +7,7 @@ use Rattle.fints_certs.proofs.certificate.Certificate.read.Given as goal
 abbrev pub invariant-loop-rest : goal.invariant-loop-rest
 invariant-loop-rest l = record {
   read : Read l.text l.rest l.taken.lines.items l.line;
-  names : l.taken.names.keys ≡ line_names l.taken.lines.items;
+  names : HoldsNames (line_names l.taken.lines.items) l.taken.names;
 }
 
 abbrev pub decreases-loop-rest : goal.decreases-loop-rest
