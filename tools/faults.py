@@ -10,11 +10,11 @@
 5. families: scripts whose sizes, numbers and findings are known by a formula, and the scripts of
    rows with other names.
 
-Where a command asks for more than 600 growths, the first 300, the last 50 and 250 between them are
+Where a command asks for more than 3,000 growths, the first 300, the last 50 and 250 between them are
 refused. Each run or comparison counts. It prints what failed, with the command, and last how many
 passed and failed; the inputs that it made are kept where one did.
 
-Usage: tools/faults.py [--program PATH] [--threads N] [PART..]
+Usage: tools/faults.py [--program PATH] [--threads N] [--only WORD] [PART..]
 """
 import argparse
 import json
@@ -80,8 +80,8 @@ def row(name):
 class Lab:
     """The program, the libraries that are preloaded, the lanes, and the count of what passed."""
 
-    def __init__(self, program, room, threads):
-        self.program, self.room = program, room
+    def __init__(self, program, room, threads, only):
+        self.program, self.room, self.only = program, room, only
         self.lanes = ThreadPoolExecutor(threads)
         self.own = threading.local()
         self.running, self.lock = {}, threading.Lock()
@@ -202,12 +202,12 @@ def in_all_commands(lab):
             *(row(f"dialogue/{it}") for it in "explain explain-second-signature certify verify".split()),
         ],
     }
-    return {f"{group} {run.words[0]}": run for group, runs in groups.items() for run in runs}
+    return {f"{group}: {run.words[0]}, {os.path.basename(run.folder)}": run for group, runs in groups.items() for run in runs}
 
 
 def refused_places(count):
     """Which growths are refused of so many."""
-    if count <= 600:
+    if count <= 3000:
         return list(range(1, count + 1))
     between = [300 + (count - 350) * i // 251 for i in range(1, 251)]
     return sorted({*range(1, 301), *between, *range(count - 49, count + 1)})
@@ -215,7 +215,7 @@ def refused_places(count):
 
 def growths(lab, label, run):
     """How many growths a run asks for, with memory enough."""
-    file = f"{lab.room}/{label.replace(' ', '-')}.growths"
+    file = tempfile.mktemp(dir=lab.room)
     lab.hold(f"{label}, with memory enough", run.want, run.words, run.folder)
     lab.hold(f"{label}, counted", run.want, run.words, run.folder, "refuse", REFUSE_COUNT=file)
     count = int(content(file)) if os.path.exists(file) else 0
@@ -223,32 +223,32 @@ def growths(lab, label, run):
     return count
 
 
-def without_hint(ran):
-    """The refusal of an input by itself."""
-    return ran._replace(err=ran.err.splitlines(keepends=True)[0])
+def hinted(ran):
+    """What may come of a refusal with a hint: memory may lack for the line, for the hint, or both."""
+    hint = ran.err.split(b"\n", 1)[1]
+    return [first._replace(err=first.err.split(b"\n")[0] + b"\n" + rest) for first in (WANT, ran) for rest in (b"", hint)]
 
 
 def memory(lab):
     runs = in_all_commands(lab)
+    refusals = "capture-cut orders-key-misspelt script-branch-step-misspelt case-tan-with-a-letter cert-step-twice"
+    runs |= {f"hints: {it}": row(f"hints/{it}") for it in refusals.split()}
+    runs = {label: run for label, run in runs.items() if lab.only in label}
     counts = dict(zip(runs, lab.lanes.map(lambda it: growths(lab, *it), runs.items())))
-    hinted = {
-        f"hints {it}": row(f"hints/{it}")
-        for it in "capture-cut orders-key-misspelt script-branch-step-misspelt case-tan-with-a-letter cert-step-twice".split()
-    }
-    counts |= zip(hinted, lab.lanes.map(lambda it: growths(lab, *it), hinted.items()))
 
     def jobs():
-        for label, run in (runs | hinted).items():
-            wanted = [WANT, run.want, *([without_hint(run.want)] if label in hinted else [])]
+        for label, run in runs.items():
+            wanted = hinted(run.want) if label.startswith("hints:") else [WANT, run.want]
             for n in refused_places(counts[label]):
                 for rest in (0, 1):
+                    answers = WANT if n == 1 else wanted
                     what = f"{label}: growth {n} of {counts[label]} refused{' and all behind it' if rest else ''}"
                     how = {"REFUSE_AT": n, "REFUSE_ALL": rest}
-                    yield later(lab.hold, what, wanted, run.words, run.folder, "refuse", **how)
+                    yield later(lab.hold, what, answers, run.words, run.folder, "refuse", **how)
 
     lab.each(jobs())
-    asked = ", ".join(f"{label} {count}" for label, count in counts.items())
-    print(f"faults: growths asked for: {asked}", file=sys.stderr)
+    few, most = min(counts.values(), default=0), max(counts.values(), default=0)
+    print(f"faults: {len(counts)} commands ask for {few} to {most} growths each", file=sys.stderr)
 
 
 # 2. The output.
@@ -477,6 +477,7 @@ def main():
     words = argparse.ArgumentParser(description="Runs the built program where a machine fails it.")
     words.add_argument("--program", default=os.environ.get("FINTS", f"{TOP}/crates/fints/out/fints"))
     words.add_argument("--threads", type=int, default=os.cpu_count())
+    words.add_argument("--only", default="", metavar="WORD", help="of the part memory only the runs with this in their label")
     words.add_argument("part", nargs="*", help=f"of {', '.join(PARTS)}; none: all")
     asked = words.parse_args()
     program = os.path.abspath(asked.program)
@@ -486,7 +487,7 @@ def main():
         if it not in PARTS:
             sys.exit(f"faults: there is no part {it}")
     room = tempfile.mkdtemp(prefix="faults-")
-    lab = Lab(program, room, asked.threads)
+    lab = Lab(program, room, asked.threads, asked.only)
     for name in asked.part or PARTS:
         before, since = lab.passed + lab.failed, time.monotonic()
         PARTS[name](lab)
