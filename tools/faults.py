@@ -132,7 +132,7 @@ class Lab:
         if told:
             settings = {**({"LD_PRELOAD": self.preloaded[library]} if library else {}), **(variables or {})}
             words = [f"{k}={shlex.quote(str(v))}" for k, v in settings.items()] + [shlex.join(command)]
-            print(f"faults: {what}\n  cd {shlex.quote(folder)} && {' '.join(words)}", file=sys.stderr)
+            sys.stderr.write(f"faults: {what}\n  cd {shlex.quote(folder)} && {' '.join(words)}\n")
 
     def hold(self, label, wanted, words, folder, library=None, **variables):
         """Runs the program, and holds what comes of it against what is wanted: one answer or several."""
