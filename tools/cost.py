@@ -165,7 +165,7 @@ def measured(room):
         ("show, segments of + alone", "bytes", half, show(full("+"))),
         ("show, segments of elements of one byte", "bytes", half, show(full("+a"))),
         ("show, segments of items of one byte", "bytes", half, show(full(":a"))),
-        ("show, segments of a megabyte in one item", "bytes", half, show(full("+" + "a" * (MOST_TEXT - 20), 1))),
+        ("show, segments of a megabyte in one item", "bytes", half, show(full("a" * (MOST_TEXT - 100), 1))),
         ("show, HIPINS of different kinds", "bytes", half, show(kinds)),
         ("judge, HIPINS of different kinds, 1 order", "bytes", half, judge(kinds, small)),
         ("judge, HIPINS of different kinds, 996 orders", "bytes", half, judge(kinds, many)),
@@ -220,6 +220,15 @@ def headers(depth):
     return "".join(f"[[{'.'.join('a' * i)}]]\n" for i in range(1, depth + 1))
 
 
+def bushy(depth):
+    """Such keys in inline tables below arrays of tables, with 15 keys more in each of the first 27
+    tables of each: a table of more than 15 keys has a node more on the way down."""
+    others = "BCDEFGHIJKLMNOP"
+    more = "".join(f", {'a.' * i}{it}=1" for i in range(27) for it in others)
+    above = "".join(f"[[{'.'.join('a' * i)}]]\n" + "".join(f"{it}=1\n" for it in others) for i in range(1, 81))
+    return above + f"{KEY} = " + f"{{{KEY}=" * depth + "1" + f"{more}}}" * depth
+
+
 DEEP = {
     "arrays in arrays": lambda n: "x = " + "[" * n + "]" * n,
     "inline tables in inline tables": lambda n: "x = " + "{a=" * n + "1" + "}" * n,
@@ -227,7 +236,7 @@ DEEP = {
     "a header of parts": lambda n: "[" + ".".join("a" * n) + "]\nb = 1",
     "headers of arrays of tables": headers,
     "inline tables of keys of 80 parts": lambda n: f"[{KEY}]\n{KEY} = " + f"{{{KEY}=" * n + "1" + "}" * n,
-    "the same below 80 arrays of tables": lambda n: headers(80) + f"{KEY} = " + f"{{{KEY}=" * n + "1" + "}" * n,
+    "the same, with as many tables of 16 keys as fit in": bushy,
 }
 STACKS = (8192, 2048, 1024, 512)
 
@@ -240,7 +249,7 @@ def depths(make):
     while high - low > 1:
         middle = (low + high) // 2
         low, high = (middle, high) if len(make(middle)) <= MOST_TEXT else (low, middle)
-    return 80, 81, low
+    return sorted({80, 81, low})
 
 
 def stack_need(room, words):

@@ -316,6 +316,12 @@ def reads_fail(lab, run, option, path):
     for how in ("byte", "half"):
         lab.hold(f"{label}: reads give a part ({how})", run.want, run.words, run.folder, "cut", CUT_READ=path, CUT_HOW=how)
         lab.hold(f"{label}: the first read gives a part ({how})", run.want, run.words, run.folder, "cut", CUT_READ=path, CUT_HOW=how, CUT_AT=1)
+    # The system's library takes it for a read that filled its room, so what is behind may be refused.
+    variables = {"CUT_READ": path, "CUT_HOW": "more", "CUT_AT": 1}
+    ran = lab.run(run.words, run.folder, "cut", **variables)
+    good = ran == run.want or ran.status in (3, 5) and not ran.out
+    what = f"{label}: the first read claims more than it has room for: {shown(ran)}"
+    lab.note(good, what, run.folder, [lab.program, *run.words], "cut", variables)
 
 
 def at_limit(option, path, size):
