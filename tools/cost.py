@@ -30,7 +30,7 @@ class Room:
     def __init__(self, program, folder):
         self.program, self.folder, self.made = program, folder, 0
         self.used = f"{folder}/used"
-        subprocess.run(["cc", "-O2", "-o", self.used, f"{TOP}/tools/used.c"], check=True)
+        subprocess.run([os.environ.get("CC", "cc"), "-O2", "-o", self.used, f"{TOP}/tools/used.c"], check=True)
 
     def file(self, text):
         self.made += 1

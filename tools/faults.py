@@ -89,7 +89,7 @@ class Lab:
         self.preloaded = {}
         for name in ("refuse", "cut"):
             self.preloaded[name] = f"{room}/{name}.so"
-            words = ["cc", "-O2", "-shared", "-fPIC", "-o", self.preloaded[name], f"{TOP}/tools/{name}.c"]
+            words = [os.environ.get("CC", "cc"), "-O2", "-shared", "-fPIC", "-o", self.preloaded[name], f"{TOP}/tools/{name}.c"]
             subprocess.run(words, check=True)
         threading.Thread(target=self.watch, daemon=True).start()
 
