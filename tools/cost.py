@@ -1,0 +1,306 @@
+#!/usr/bin/env python3
+"""Prints what the built program takes for large inputs: processor time and memory at its peak, at n
+and at 2n, the least of three runs (of one, where it takes over two seconds). No part of the gate.
+
+A run is given 150 seconds of processor time and 4 GiB of addresses. The last two tables tell how a
+run ends that can't have the memory it asks for, and which stack deep texts of TOML need.
+
+Usage: tools/cost.py [--program PATH] [WORD..]     only the lines with one of these words
+"""
+import argparse
+import os
+import subprocess
+import sys
+import tempfile
+
+TOP = os.path.dirname(os.path.dirname(os.path.abspath(__file__)))
+INPUTS = f"{TOP}/rows/inputs"
+MOST_CAPTURE, MOST_TEXT = 4_194_304, 1_048_576
+SECONDS, MEMORY = 150, 4 << 20  # of a run: processor time, KiB of addresses
+C1 = f"{INPUTS}/c1.fints"
+ORDERS = f"{INPUTS}/orders.toml"
+HEAD = open(C1, "rb").read().decode()
+SIGNER = open(f"{INPUTS}/bal.toml", "rb").read().decode().split("[[step]]")[0]
+ENDS = 'segments = [{kind = "HKEND", version = 1, elements = ["$dialog"]}]'
+
+
+class Room:
+    """Where inputs are made, and what runs the program in it."""
+
+    def __init__(self, program, folder):
+        self.program, self.folder, self.made = program, folder, 0
+        self.used = f"{folder}/used"
+        subprocess.run([os.environ.get("CC", "cc"), "-O2", "-o", self.used, f"{TOP}/tools/used.c"], check=True)
+
+    def file(self, text):
+        self.made += 1
+        path = f"{self.folder}/{self.made}"
+        with open(path, "wb") as it:
+            it.write(text.encode("latin-1"))
+        return path
+
+    def run(self, words, seconds=SECONDS, memory=MEMORY, stack=0):
+        """Status, milliseconds, KiB, and the first line on standard error."""
+        command = [self.used, str(seconds), str(memory), str(stack), self.program, *words]
+        ran = subprocess.run(command, capture_output=True, check=True)
+        lines = ran.stderr.decode(errors="replace").splitlines()
+        return *map(int, ran.stdout.split()), lines[0] if lines else ""
+
+
+# Captures. Each gives about so many bytes.
+
+
+def capture(segment, size):
+    return HEAD + segment * ((size - len(HEAD)) // len(segment))
+
+
+def ordinary(size):
+    return capture("HIKAZS:6:5+20+1+360:J:N:a:further:item:or:two'\n", size)
+
+
+def full(part, most=19_990):
+    """Segments of this part, as many as a segment may hold."""
+    return lambda size: capture("HIXYZ:1:1+" + part * most + "'", size)
+
+
+def name(number, count=4, of=36):
+    """So many characters, of the first so many of these, that no lower number has."""
+    characters = "0123456789ABCDEFGHIJKLMNOPQRSTUVWXYZabcdefghijklmnopqrstuvwxyz"
+    return "".join(characters[number // of**i % of] for i in range(count))
+
+
+def kinds(size):
+    """HIPINS with kinds that all differ."""
+    head, each = "HIPINS:9:1+1+1+0+5:38:6::", 9_980
+    segments = (size - len(HEAD)) // (len(head) + each * len(":HK0000:N") + 2)
+    pairs = lambda at: "".join(f":HK{name(n)}:N" for n in range(at, at + each))
+    return HEAD + "".join(f"{head}{pairs(i * each)}'\n" for i in range(segments))
+
+
+def accounts(size):
+    row = "HIUPD:1:6+%06d::280:1+DE%06d++++++++HKSAL:1'\n"
+    return HEAD + "".join(row % (i, i) for i in range((size - len(HEAD)) // len(row % (0, 0))))
+
+
+# Messages.
+
+
+def message(segments):
+    count = len(segments)
+    body = "".join(f"{kind}:{i + 2}:{rest}'" for i, (kind, rest) in enumerate(segments))
+    end = f"HNHBS:{count + 2}:1+1'"
+    head = "HNHBK:1:3+%012d+300+0+1'"
+    return head % (len(head % 0) + len(body) + len(end)) + body + end
+
+
+def orders(count):
+    return message([("HKSAL", "5+9999999+N")] * count)
+
+
+def other_kinds(count):
+    """Orders of as many kinds, and the table in which they stand."""
+    each = [f"HK{name(i, 3)}" for i in range(count)]
+    row = '[[order]]\nkind = "%s"\nversion = 5\naccount = "national"\n'
+    return message([(it, "5+9999999+N") for it in each]), "".join(row % it for it in each)
+
+
+# Scripts and cases.
+
+
+def listed(kind, value):
+    def text(count):
+        values = ",".join(value % name(i, 3, 62) for i in range(count))
+        return f'[[field]]\nname = "f"\nclass = "{kind}"\nvalues = [{values}]\n[[step]]\nname = "end"\n{ENDS}\n'
+
+    return text
+
+
+def lines(count):
+    return "fints-case 1\nfield dialog 41\n" + "".join(f"field {name(i).lower()} -\n" for i in range(count))
+
+
+def hostile(count):
+    """Steps with 20 branches, each of which a late code opens."""
+    on = [f"{j}***" for j in range(9)] + [f"9{j}**" for j in range(9)] + [f"99{j}*" for j in range(2)]
+    steps = []
+    for i in range(1, count + 1):
+        to = [f"s{i + j}" if i + j <= count else "again" for j in range(1, 21)]
+        ways = ", ".join(f'{{on = "{a}", to = "{b}"}}' for a, b in zip(on, to))
+        steps.append(f'[[step]]\nname = "s{i}"\nrepeat = 9\nbranches = [{ways}]\n{ENDS}\n')
+    return "".join(steps)
+
+
+def heavy(count):
+    """Steps whose messages have 980 kB, each sent 99 times in a row."""
+    pads = ", ".join(['"$pad"'] * 98)
+    steps = [
+        f'[[step]]\nname = "s{i}"\nrepeat = 99\nbranches = [{{on = "0010", to = "again"}}]\n'
+        f'segments = [{{kind = "HKEND", version = 1, elements = [{pads}]}}]\n'
+        + (f'default = "s{i + 1}"\n' if i < count else "")
+        for i in range(1, count + 1)
+    ]
+    return '[[field]]\nname = "pad"\nclass = "plain"\nmin = 0\nmax = 10000\n' + "".join(steps)
+
+
+def heavy_case(count):
+    answers = ("answer 0010\n" * 98 + "answer 9010\n") * count
+    return "fints-case 1\nfield dialog 41\nfield pad " + "41" * 10_000 + "\n" + answers
+
+
+def measured(room):
+    """What is measured: its label, n, what n counts, and the words of the run at a number."""
+    m, k = 1_000_000, 1_000
+    small, many = room.file(orders(1)), room.file(orders(996))
+    unlike, table = map(room.file, other_kinds(996))
+    show = lambda make: lambda n: ["show", "--params", room.file(make(n))]
+    judge = lambda make, file, of=ORDERS: lambda n: ["judge", "--params", room.file(make(n)), "--orders", of, "--message", file]
+    run = lambda script, case: ["run", "--orders", ORDERS, "--script", script, "--case", case]
+    case, end = f"{INPUTS}/no-answer.case", f"{INPUTS}/end.toml"
+    check = lambda n: ["check", "--params", C1, "--orders", ORDERS, "--script", room.file(hostile(n))]
+    half = MOST_CAPTURE // 2
+    return [
+        ("show, an ordinary capture", "bytes", m, show(ordinary)),
+        ("judge, an ordinary capture and a message of 1 order", "bytes", m, judge(ordinary, small)),
+        ("judge, an ordinary capture and a message of 996 orders", "bytes", m, judge(ordinary, many)),
+        ("show, segments of + alone", "bytes", half, show(full("+"))),
+        ("show, segments of elements of one byte", "bytes", half, show(full("+a"))),
+        ("show, segments of items of one byte", "bytes", half, show(full(":a"))),
+        ("show, segments of a megabyte in one item", "bytes", half, show(full("a" * (MOST_TEXT - 100), 1))),
+        ("show, HIPINS of different kinds", "bytes", half, show(kinds)),
+        ("judge, HIPINS of different kinds, 1 order", "bytes", half, judge(kinds, small)),
+        ("judge, HIPINS of different kinds, 996 orders", "bytes", half, judge(kinds, many)),
+        ("judge, HIPINS of different kinds, 996 orders of 996 kinds", "bytes", half, judge(kinds, unlike, table)),
+        ("judge, rows of HIUPD, 1 order", "bytes", half, judge(accounts, small)),
+        ("judge, rows of HIUPD, 996 orders", "bytes", half, judge(accounts, many)),
+        ("judge, rows of HIUPD, 996 orders of 996 kinds", "bytes", half, judge(accounts, unlike, table)),
+        ("judge, a message of orders", "orders", 498, lambda n: judge(lambda _: HEAD, room.file(orders(n)))(0)),
+        ("run, a oneof of many values", "values", 80 * k, lambda n: run(room.file(listed("oneof", '"%s"')(n)), case)),
+        ("run, an account of many values", "values", 62_500, lambda n: run(room.file(listed("account", '["%s"]')(n)), case)),
+        ("run, a case of many fields", "lines", 40 * k, lambda n: run(end, room.file(lines(n)))),
+        ("check, steps with 20 hostile branches each", "steps", 100, check),
+        ("explain, steps with 20 hostile branches each", "steps", 100, lambda n: ["explain", *check(n)[1:]]),
+        ("run, messages of 980 kB", "messages", 198, lambda n: run(room.file(heavy(n // 99)), room.file(heavy_case(n // 99)))),
+    ]
+
+
+def least(room, words):
+    """The least of three runs: status, milliseconds, KiB, the line on standard error."""
+    first = room.run(words)
+    return first if first[1] > 2000 else min((first, room.run(words), room.run(words)), key=lambda it: it[1])
+
+
+def time_table(room, wanted):
+    print(f"{'What':58} {'n':>15} {'status':>6} {'s':>8} {'MiB':>7}")
+    for label, unit, n, words in measured(room):
+        if not wanted(label):
+            continue
+        for count in (n, 2 * n):
+            status, milliseconds, peak, said = least(room, words(count))
+            took = f"over {SECONDS}" if status == 137 else f"{milliseconds / 1000:.2f}"
+            print(f"{label:58} {f'{count:,} {unit}':>15} {status:6} {took:>8} {peak / 1024:7.1f}  {said if status > 1 else ''}".rstrip(), flush=True)
+
+
+def memory_table(room, wanted):
+    label = "run, 19,800 messages of 980 kB each"
+    if not wanted(label):
+        return
+    words = ["run", "--orders", ORDERS, "--script", room.file(heavy(200)), "--case", room.file(heavy_case(200))]
+    print(f"\n{'Within so much memory':58} {'':>15} {'status':>6} {'s':>8} {'MiB':>7}")
+    for most in (256, 1024, 2048):
+        status, milliseconds, peak, said = room.run(words, memory=most << 10)
+        print(f"{label:58} {f'{most:,} MiB':>15} {status:6} {milliseconds / 1000:8.2f} {peak / 1024:7.1f}  {said}", flush=True)
+
+
+# Deep texts of TOML.
+KEY = ".".join("a" * 80)
+
+
+def headers(depth):
+    """Arrays of tables, each in the one before."""
+    return "".join(f"[[{'.'.join('a' * i)}]]\n" for i in range(1, depth + 1))
+
+
+def bushy(depth):
+    """Such keys in inline tables below arrays of tables, with 15 keys more in each of the first 27
+    tables of each: a table of more than 15 keys has a node more on the way down."""
+    others = "BCDEFGHIJKLMNOP"
+    more = "".join(f", {'a.' * i}{it}=1" for i in range(27) for it in others)
+    above = "".join(f"[[{'.'.join('a' * i)}]]\n" + "".join(f"{it}=1\n" for it in others) for i in range(1, 81))
+    return above + f"{KEY} = " + f"{{{KEY}=" * depth + "1" + f"{more}}}" * depth
+
+
+DEEP = {
+    "arrays in arrays": lambda n: "x = " + "[" * n + "]" * n,
+    "inline tables in inline tables": lambda n: "x = " + "{a=" * n + "1" + "}" * n,
+    "a key of parts": lambda n: ".".join("a" * n) + " = 1",
+    "a header of parts": lambda n: "[" + ".".join("a" * n) + "]\nb = 1",
+    "headers of arrays of tables": headers,
+    "inline tables of keys of 80 parts": lambda n: f"[{KEY}]\n{KEY} = " + f"{{{KEY}=" * n + "1" + "}" * n,
+    "the same, with as many tables of 16 keys as fit in": bushy,
+}
+STACKS = (8192, 2048, 1024, 512)
+
+
+def depths(make):
+    """Where the reader stops, and the deepest text that isn't too long."""
+    low, high = 81, 162
+    while len(make(high)) <= MOST_TEXT:
+        low, high = high, 2 * high
+    while high - low > 1:
+        middle = (low + high) // 2
+        low, high = (middle, high) if len(make(middle)) <= MOST_TEXT else (low, middle)
+    return sorted({80, 81, low})
+
+
+def stack_need(room, words):
+    """The least stack, in steps of 16 KiB, at which the run isn't ended by a signal."""
+    low, high = 16, 32_768
+    while high - low > 16:
+        middle = (low + high) // 32 * 16
+        low, high = (middle, high) if room.run(words, stack=middle)[0] >= 128 else (low, middle)
+    return high
+
+
+def ended(run):
+    status, _, _, said = run
+    return f"signal {status - 128}" if status >= 128 else said.split()[2] if status > 1 else "read"
+
+
+def stack_table(room, wanted):
+    if not wanted("deep"):
+        return
+    print(f"\n{'TOML, as a script and as an order table, at stacks of':56} {'depth':>10} {'KiB':>6}  " + " ".join(f"{it:>10}" for it in STACKS))
+    good = f"{INPUTS}/end.toml"
+    for label, make in DEEP.items():
+        for depth in depths(make):
+            file = room.file(make(depth))
+            both = [["check", "--params", C1, "--orders", of, "--script", it] for of, it in ((ORDERS, file), (file, good))]
+            ends = [" or ".join(dict.fromkeys(ended(room.run(words, stack=it)) for words in both)) for it in STACKS]
+            need = max(stack_need(room, words) for words in both)
+            print(f"{label:56} {depth:10,} {need:6,}  " + " ".join(f"{it:>10}" for it in ends), flush=True)
+    for label, words in (("the built-in report", []), ("a report on the whole dialogue", dialogue())):
+        print(f"{label:56} {'':10} {stack_need(room, words):6,}", flush=True)
+
+
+def dialogue():
+    folder = f"{TOP}/examples/dialogue"
+    return ["explain", "--params", f"{folder}/bank.fints", "--orders", f"{folder}/orders.toml", "--script", f"{folder}/second-signature.toml"]
+
+
+def main():
+    words = argparse.ArgumentParser(description="Prints what the built program takes for large inputs.")
+    words.add_argument("--program", default=os.environ.get("FINTS", f"{TOP}/crates/fints/out/fints"))
+    words.add_argument("word", nargs="*", help="only the lines with one of these words; `deep` is the table of stacks")
+    asked = words.parse_args()
+    if not os.access(asked.program, os.X_OK):
+        sys.exit(f"cost: {asked.program} isn't built")
+    wanted = lambda label: not asked.word or any(it in label for it in asked.word)
+    with tempfile.TemporaryDirectory(prefix="cost-") as folder:
+        room = Room(os.path.abspath(asked.program), folder)
+        time_table(room, wanted)
+        memory_table(room, wanted)
+        stack_table(room, wanted)
+
+
+if __name__ == "__main__":
+    main()
