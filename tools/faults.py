@@ -17,6 +17,7 @@ passed and failed; the inputs that it made are kept where one did.
 Usage: tools/faults.py [--program PATH] [--threads N] [--only WORD] [PART..]
 """
 import argparse
+import errno
 import json
 import os
 import re
@@ -224,9 +225,8 @@ def growths(lab, label, run):
 
 
 def hinted(ran):
-    """What may come of a refusal with a hint: memory may lack for the line, for the hint, or both."""
-    hint = ran.err.split(b"\n", 1)[1]
-    return [first._replace(err=first.err.split(b"\n")[0] + b"\n" + rest) for first in (WANT, ran) for rest in (b"", hint)]
+    """What may come of a refusal with a hint: memory may lack for the line, or for the hint alone."""
+    return [WANT, ran._replace(err=ran.err.split(b"\n")[0] + b"\n"), ran]
 
 
 def memory(lab):
@@ -265,6 +265,8 @@ def output(lab):
             yield later(lab.hold, f"the output takes {k} bytes", cut, run.words, run.folder, "cut", CUT_WRITE=1, CUT_AFTER=k)
         for how in ("byte", "half"):
             yield later(lab.hold, f"the output takes a part ({how})", run.want, run.words, run.folder, "cut", CUT_WRITE=1, CUT_HOW=how)
+        signal = {"CUT_AT": 1, "CUT_HOW": "fail", "CUT_ERRNO": errno.EINTR}
+        yield later(lab.hold, "a signal interrupts the output", run.want, run.words, run.folder, "cut", CUT_WRITE=1, **signal)
         yield later(by_shell, ">&-", run, Ran(5, b"", b"error: write\n"))
         yield later(by_shell, ">/dev/full", run, Ran(5, b"", b"error: write\n"))
         yield later(by_shell, "| true", run, Ran(0, b"", b"error: write\n5\n"), '(sleep 0.2; "$0" "$@"; echo $? >&2)')
@@ -313,6 +315,8 @@ def reads_fail(lab, run, option, path):
     for n in range(1, count + 1):
         what = f"{label}: read {n} of {count} fails"
         lab.hold(what, unread(option), run.words, run.folder, "cut", CUT_READ=path, CUT_AT=n, CUT_HOW="fail")
+        what = f"{label}: a signal interrupts read {n} of {count}"
+        lab.hold(what, run.want, run.words, run.folder, "cut", CUT_READ=path, CUT_AT=n, CUT_HOW="fail", CUT_ERRNO=errno.EINTR)
     for how in ("byte", "half"):
         lab.hold(f"{label}: reads give a part ({how})", run.want, run.words, run.folder, "cut", CUT_READ=path, CUT_HOW=how)
         lab.hold(f"{label}: the first read gives a part ({how})", run.want, run.words, run.folder, "cut", CUT_READ=path, CUT_HOW=how, CUT_AT=1)

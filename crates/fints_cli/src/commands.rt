@@ -355,12 +355,15 @@ fn tell_hint<E: Out>(alloc: Global, hint: &str, err: &mut E) {
     }
 }
 
-// Says on the errors why there is no answer, and what to look at where there is a hint.
+// Says on the errors why there is no answer, and what to look at where there is a hint; none stands
+// behind want of memory.
 fn tell_refusal<E: Out>(alloc: Global, refusal: &Refusal, err: &mut E) -> u8
     ensures { (result ≡ failure_status refusal.now.failure) ⊎ (result ≡ 4) }
 {
     let status = tell_failure(alloc, &refusal.failure, err);
-    if let Some(hint) = &refusal.hint {
+    if let Some(hint) = &refusal.hint
+        && status != 4
+    {
         tell_hint(alloc, hint.as_str(), err);
     }
     status

@@ -68,10 +68,7 @@ fn all_messages(
 fn visit_of(visits: &[Visit], number: u32) -> Option<Visit>
     ensures { FindsVisit visits.now number result }
 {
-    visits
-        .iter()
-        .copied()
-        .find(|visit| visit.number == number)
+    visits.iter().copied().find(|visit| visit.number == number)
 }
 
 // The bytes of the message of this number.

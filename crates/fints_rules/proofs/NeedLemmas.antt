@@ -99,7 +99,6 @@ keys_equal a b h =
 -- ---- where the entries of a key begin
 
 module _ {X : Type 0} (seen : X → Seen) (q : Key) where
-
   -- what isn't above something below q is below q
   stays_before : (a b : Key) (o : Ordering) → key_cmp a q ≡ o → is_lt (key_cmp b a) ≡ false → is_lt (key_cmp b q) ≡ true → is_lt o ≡ true
   stays_before a b Less e up h = refl

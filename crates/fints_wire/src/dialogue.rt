@@ -60,12 +60,7 @@ fn follow(plan: &Plan, here: Visit, answer: &Answer) -> Option<Visit>
 }
 
 /// The message of a visit, for values that the plan admits.
-pub fn message(
-    alloc: Global,
-    plan: &Plan,
-    values: &Values,
-    visit: Visit,
-) -> Result<Sent, Memory>
+pub fn message(alloc: Global, plan: &Plan, values: &Values, visit: Visit) -> Result<Sent, Memory>
     requires within { IsWithin plan.now.script.steps visit }
     requires admits { Admits plan.now.script.fields values.now }
     ensures { IfOk result (IsSent plan.now.script values.now visit) }
