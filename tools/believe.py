@@ -3,6 +3,7 @@
 
 tools/believe.py           a table: lines of definitions in specs/, and those that public contracts reach
 tools/believe.py --apart   the spec files of which public contracts reach nothing, and those that they reach in part
+tools/believe.py NAME..    the same table for what these definitions alone reach, as Headline
 
 A definition's lines are its signature, its equations and the comment above it. The contracts of laws
 and the files of laws are left out: what a law says is proved, so nobody need believe it.
@@ -101,8 +102,8 @@ def public_clauses(text, names, is_public):
             yield item
             continue
         own = head.startswith("impl") and " for " in head
-        for function in re.split(r"^ *(?=(?:pub )?fn )", item, flags=re.M):
-            if own or function.startswith("pub fn") or not re.match(r"(pub )?fn ", function):
+        for function in re.split(r"^ *(?=(?:pub(?:\(crate\))? )?fn )", item, flags=re.M):
+            if own or function.startswith("pub fn") or not re.match(r"(pub(\(crate\))? )?fn ", function):
                 yield "\n".join(it for it in re.split(r"^ *\{$", function, maxsplit=1, flags=re.M)[0].split("\n"))
 
 
@@ -119,8 +120,8 @@ def roots(definitions):
             yield from found(clause, scope, (crate, ""), definitions)
 
 
-def reached_from(definitions, scopes):
-    left, reached = list(set(roots(definitions))), set()
+def reached_from(roots, definitions, scopes):
+    left, reached = list(set(roots)), set()
     while left:
         key = left.pop()
         if key not in reached:
@@ -129,9 +130,19 @@ def reached_from(definitions, scopes):
     return reached
 
 
+def of_names(names, definitions):
+    """The definitions of these names."""
+    found = [key for key in definitions if key[2] in names]
+    missing = set(names) - {key[2] for key in found}
+    if missing:
+        sys.exit(f"believe: no definition {', '.join(sorted(missing))}")
+    return found
+
+
 def main():
     definitions, scopes = read_specs()
-    reached = reached_from(definitions, scopes)
+    names = [it for it in sys.argv[1:] if it != "--apart"]
+    reached = reached_from(of_names(names, definitions) if names else roots(definitions), definitions, scopes)
     if "--apart" in sys.argv:
         by_file = collections.defaultdict(list)
         for key, it in definitions.items():
@@ -145,7 +156,8 @@ def main():
     for key, it in definitions.items():
         lines[it.crate] += it.lines
         believed[it.crate] += it.lines * (key in reached)
-    print("| Crate | Lines of definitions | Reached by public contracts |\n|---|---|---|")
+    by = f"these: {', '.join(names)}" if names else "public contracts"
+    print(f"| Crate | Lines of definitions | Reached by {by} |\n|---|---|---|")
     for crate in sorted(lines):
         print(f"| `{crate}` | {lines[crate]} | {believed[crate]} |")
     print(f"| all | {sum(lines.values())} | {sum(believed.values())} |")
