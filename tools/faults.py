@@ -9,15 +9,19 @@
 4. prefixes: the first bytes of a capture.
 5. families: scripts whose sizes, numbers and findings are known by a formula, and the scripts of
    rows with other names.
+6. calls: growths are refused in the tests of single calls, as the gate leaves them built
+   (crates/NAME/out/NAME_tests). Each ends well, or for want of memory: an answer that a test holds
+   against a value from outside is that value or tells that memory ran out, and never another.
 
 Where a command asks for more than 3,000 growths, the first 300, the last 50 and 250 between them are
-refused. Each run or comparison counts. It prints what failed, with the command, and last how many
+refused; of a test the first 40, the last 10 and 20 between them. Each run or comparison counts. It prints what failed, with the command, and last how many
 passed and failed; the inputs that it made are kept where one did.
 
-Usage: tools/faults.py [--program PATH] [--threads N] [--only WORD] [PART..]
+Usage: tools/faults.py [--program PATH] [--tests FOLDER] [--threads N] [--only WORD] [PART..]
 """
 import argparse
 import errno
+import glob
 import json
 import os
 import re
@@ -81,8 +85,8 @@ def row(name):
 class Lab:
     """The program, the libraries that are preloaded, the lanes, and the count of what passed."""
 
-    def __init__(self, program, room, threads, only):
-        self.program, self.room, self.only = program, room, only
+    def __init__(self, program, tests, room, threads, only):
+        self.program, self.tests, self.room, self.only = program, tests, room, only
         self.lanes = ThreadPoolExecutor(threads)
         self.own = threading.local()
         self.running, self.lock = {}, threading.Lock()
@@ -206,12 +210,12 @@ def in_all_commands(lab):
     return {f"{group}: {run.words[0]}, {os.path.basename(run.folder)}": run for group, runs in groups.items() for run in runs}
 
 
-def refused_places(count):
+def refused_places(count, all_up_to=3000, first=300, between=250, last=50):
     """Which growths are refused of so many."""
-    if count <= 3000:
+    if count <= all_up_to:
         return list(range(1, count + 1))
-    between = [300 + (count - 350) * i // 251 for i in range(1, 251)]
-    return sorted({*range(1, 301), *between, *range(count - 49, count + 1)})
+    some = [first + (count - first - last) * i // (between + 1) for i in range(1, between + 1)]
+    return sorted({*range(1, first + 1), *some, *range(count - last + 1, count + 1)})
 
 
 def growths(lab, label, run):
@@ -480,12 +484,51 @@ def families(lab):
     lab.each(jobs + [later(other_names, lab, it) for it in told])
 
 
-PARTS = {"memory": memory, "output": output, "files": files, "prefixes": prefixes, "families": families}
+# 6. The tests of single calls.
+
+# How a test tells that memory ran out: by the error that it gives, or by an answer that it shows
+# beside the one that it wants; and one asserts that an answer is there.
+WANTS_MEMORY = re.compile(rb"^error: .*(Memory|AllocError|AllocFailed)|^  left: .*Memory|\.is_ok_and\(", re.M)
+
+
+def ends_well(ran):
+    return ran.status == 0 and ran.out.endswith(b"test result: ok\n") and not ran.err
+
+
+def one_test(lab, program, test):
+    """Growths are refused in a test, alone and with all behind them."""
+    folder, command = os.path.dirname(os.path.dirname(program)), [program, test]
+    label = f"{os.path.basename(folder)}, {test}"
+    file = tempfile.mktemp(dir=lab.room)
+    ran = lab.call(command, folder, "refuse", {"REFUSE_COUNT": file})
+    lab.note(ends_well(ran), f"{label}, counted: {shown(ran)}", folder, command)
+    count = int(content(file)) if os.path.exists(file) else 0
+    for n in refused_places(count, 70, 40, 20, 10):
+        for rest in (0, 1):
+            how = {"REFUSE_AT": n, "REFUSE_ALL": rest}
+            ran = lab.call(command, folder, "refuse", how)
+            good = ends_well(ran) or ran.status != 0 and WANTS_MEMORY.search(ran.err)
+            what = f"{label}: growth {n} of {count} refused{' and all behind it' if rest else ''}: {shown(ran)}"
+            lab.note(good, what, folder, command, "refuse", how)
+
+
+def calls(lab):
+    programs = sorted(glob.glob(f"{lab.tests}/*/out/*_tests_tests"))
+    lab.note(programs, "no tests are built", lab.tests, ["ls"])
+    jobs = []
+    for program in programs:
+        listed = lab.call([program, "--list"], os.path.dirname(program)).out.decode().splitlines()
+        jobs += [later(one_test, lab, program, it[:-6]) for it in listed if it.endswith(": test")]
+    lab.each(jobs)
+
+
+PARTS = {"memory": memory, "output": output, "files": files, "prefixes": prefixes, "families": families, "calls": calls}
 
 
 def main():
     words = argparse.ArgumentParser(description="Runs the built program where a machine fails it.")
     words.add_argument("--program", default=os.environ.get("FINTS", f"{TOP}/crates/fints/out/fints"))
+    words.add_argument("--tests", default=f"{TOP}/crates", help="the folder of the crates whose tests are built")
     words.add_argument("--threads", type=int, default=os.cpu_count())
     words.add_argument("--only", default="", metavar="WORD", help="of the part memory only the runs with this in their label")
     words.add_argument("part", nargs="*", help=f"of {', '.join(PARTS)}; none: all")
@@ -497,7 +540,7 @@ def main():
         if it not in PARTS:
             sys.exit(f"faults: there is no part {it}")
     room = tempfile.mkdtemp(prefix="faults-")
-    lab = Lab(program, room, asked.threads, asked.only)
+    lab = Lab(program, os.path.abspath(asked.tests), room, asked.threads, asked.only)
     for name in asked.part or PARTS:
         before, since = lab.passed + lab.failed, time.monotonic()
         PARTS[name](lab)
