@@ -269,8 +269,6 @@ def output(lab):
             yield later(lab.hold, f"the output takes {k} bytes", cut, run.words, run.folder, "cut", CUT_WRITE=1, CUT_AFTER=k)
         for how in ("byte", "half"):
             yield later(lab.hold, f"the output takes a part ({how})", run.want, run.words, run.folder, "cut", CUT_WRITE=1, CUT_HOW=how)
-        signal = {"CUT_AT": 1, "CUT_HOW": "fail", "CUT_ERRNO": errno.EINTR}
-        yield later(lab.hold, "a signal interrupts the output", run.want, run.words, run.folder, "cut", CUT_WRITE=1, **signal)
         yield later(by_shell, ">&-", run, Ran(5, b"", b"error: write\n"))
         yield later(by_shell, ">/dev/full", run, Ran(5, b"", b"error: write\n"))
         yield later(by_shell, "| true", run, Ran(0, b"", b"error: write\n5\n"), '(sleep 0.2; "$0" "$@"; echo $? >&2)')
