@@ -4,7 +4,7 @@ use fints_params::Code;
 use fints_rules::OrderTable;
 use fints_samples::{FORK, SEALED_END, T};
 use fints_script::{Answer, Plan, Script, Values};
-use fints_wire::{Sent, Visit, build, run, visits};
+use fints_wire::{Sent, build, run};
 use std::alloc::Global;
 use std::test::*;
 
@@ -108,49 +108,5 @@ fn sent(rt: HostRuntime) -> Result<(), Fail> {
         done.bytes.as_slice(),
         b"HNHBK:1:3+000000000055+300+D+2'HKEND:2:1+D'HNHBS:3:1+2'".as_slice()
     );
-    Ok(())
-}
-
-const FORK_MESSAGES: &[u8] =
-    b"HNHBK:1:3+000000000055+300+0+1'HKEND:2:1+0'HNHBS:3:1+1'HNHBK:1:3+000000000055+300+D+2'HKEND:2:1+D'HNHBS:3:1+2'";
-
-// What is sent under these answers, and the bytes of the messages one behind the other.
-fn visited(
-    alloc: Global,
-    plan: &Plan,
-    values: &Values,
-    answers: &[Answer],
-) -> Result<(Vec<Visit>, Vec<u8>), Fail> {
-    if !plan.admits(values) {
-        return Err(Fail::from("not admitted"));
-    }
-    let visits = visits(alloc, plan, answers)?;
-    let mut bytes = Vec::new(alloc);
-    for visit in visits.as_slice() {
-        let sent = fints_wire::message(alloc, plan, values, *visit)?;
-        bytes.extend_from_slice(sent.bytes.as_slice())?;
-    }
-    Ok((visits, bytes))
-}
-
-fn visited_in_fork(alloc: Global, code: Code) -> Result<(Vec<Visit>, Vec<u8>), Fail> {
-    let orders = OrderTable::read(alloc, T)?;
-    let script = Script::read(alloc, FORK)?;
-    let plan = script.plan(&orders)?;
-    let values = values(alloc, &[(b"dialog", b"D")])?;
-    let answers = vec![in alloc; Answer::single(alloc, code)?]?;
-    visited(alloc, &plan, &values, answers.as_slice())
-}
-
-#[test]
-fn visits_of_fork(rt: HostRuntime) -> Result<(), Fail> {
-    let code = Code::from_number(20).ok_or("code")?;
-    let (visits, bytes) = visited_in_fork(rt.alloc(), code)?;
-    assert_eq!(rt; bytes.as_slice(), FORK_MESSAGES);
-    let [one, done] = visits.as_slice() else {
-        return Err(Fail::from("two visits"));
-    };
-    assert_eq!(rt; (one.step, one.number, one.times), (1, 1, 1));
-    assert_eq!(rt; (done.step, done.number, done.times), (3, 2, 1));
     Ok(())
 }
