@@ -9,7 +9,7 @@
 4. prefixes: the first bytes of a capture.
 5. families: scripts whose sizes, numbers and findings are known by a formula, and the scripts of
    rows with other names.
-6. calls: growths are refused in the tests of single calls, as the gate leaves them built
+6. calls (only where it is named): growths are refused in the tests of single calls, as the gate leaves them built
    (crates/NAME/out/NAME_tests). Each ends well, or for want of memory: an answer that a test holds
    against a value from outside is that value or tells that memory ran out, and never another.
 
@@ -539,7 +539,7 @@ def main():
             sys.exit(f"faults: there is no part {it}")
     room = tempfile.mkdtemp(prefix="faults-")
     lab = Lab(program, os.path.abspath(asked.tests), room, asked.threads, asked.only)
-    for name in asked.part or PARTS:
+    for name in asked.part or [it for it in PARTS if it != "calls"]:
         before, since = lab.passed + lab.failed, time.monotonic()
         PARTS[name](lab)
         ran = lab.passed + lab.failed - before
