@@ -1,5 +1,6 @@
 -- What a reader that goes from segment to segment has read so far, and where it stops. Private contracts alone cite these words.
-use Rattle.std.specs.Prelude.{◌+◌, ◌<◌, ◌≤◌, ◌^◌, ◌∷◌, [], ◌++◌, List, length, map}
+use Rattle.std.specs.Prelude.{◌⊎◌, ◌+◌, ◌<◌, ◌≤◌, ◌^◌, ℕ, ◌∷◌, [], ◌++◌, List, length, map}
+use Rattle.std.specs.List.{AllZip}
 use Rattle.fints_syntax.specs.Segment.{segment_bytes}
 use Rattle.fints_syntax.specs.Capture.{MAX_CAPTURE}
 use Rattle.fints_syntax.specs.declared.capture.Placed as syntax
@@ -8,8 +9,8 @@ use Rattle.fints_params.specs.declared.fault.ParamFault.{ParamFault}
 use Rattle.fints_params.specs.declared.placed.PlacedSegment.{PlacedSegment}
 use Rattle.fints_params.specs.Parameters.{skipped_in}
 use Rattle.fints_params.specs.Sealed.{data_of}
-use Rattle.fints_params.specs.Opened.{Part, part, closed, StandsFor, SealedStandsFor, StandFor}
-use Rattle.fints_params.specs.Captures.{Rule, IsRefusedAfter}
+use Rattle.fints_params.specs.Opened.{Part, part, closed, StandsFor, SealedStandsFor, StandFor, IsPlacedValue, IsValuesOf}
+use Rattle.fints_params.specs.Captures.{Rule, IsRefusedAfter, IsRefusedIn, IsSyntaxFault}
 
 -- a state that is right for what was seen is right after these segments too
 abbrev pub Continues : {S : Type 0} → (List OwnedSegment → S → Type 0) → S → S → List OwnedSegment → Type 0
@@ -44,3 +45,19 @@ IsWithin view = view.start + length (segment_bytes view.segment) ≤ MAX_CAPTURE
 -- fewer things than a number can count are skipped
 abbrev pub CanCountSkipped : List PlacedSegment → Type 0
 CanCountSkipped placed = (segments : List OwnedSegment) → StandFor placed (map part segments) → skipped_in segments < 2 ^ 32
+
+-- the state is right for all that the segments of the views stand for
+abbrev pub ReadsViews : {S : Type 0} → (List OwnedSegment → S → Type 0) → List syntax.Placed → S → Type 0
+ReadsViews Good views new = (placed : List PlacedSegment) × AllZip IsPlacedValue views placed × ReadsAll Good placed new
+
+-- the first refusal among what they stand for
+abbrev pub IsRefusedInViews : Rule → List syntax.Placed → ParamFault → Type 0
+IsRefusedInViews rule views f = (placed : List PlacedSegment) × AllZip IsPlacedValue views placed × IsRefusedIn rule placed f
+
+-- the same for the segments of a capture
+abbrev pub ReadsCapture : {S : Type 0} → (List OwnedSegment → S → Type 0) → List ℕ → S → Type 0
+ReadsCapture Good capture new = (placed : List PlacedSegment) × IsValuesOf capture placed × ReadsAll Good placed new
+
+-- its syntax fault, or the first refusal
+abbrev pub IsRefusedOf : Rule → List ℕ → ParamFault → Type 0
+IsRefusedOf rule capture f = IsSyntaxFault capture f ⊎ ((placed : List PlacedSegment) × IsValuesOf capture placed × IsRefusedIn rule placed f)

@@ -6,9 +6,9 @@ ghost use Rattle.fints_params.specs.Accounts.{is_empty_element, entry_kind, entr
 ghost use Rattle.fints_params.specs.Faults.{IsBad};
 
 use crate::fault::{ParamFault, bad_element};
-use crate::reading::{copy, value_in};
+use crate::reading::copy;
 use crate::rows::{AccountRow, Entries, Entry, National};
-use fints_syntax::{Kind, OwnedItem, OwnedSegment, parse_number};
+use fints_syntax::{ElementRef, Elements, ItemRef, Kind, OwnedSegment, parse_number};
 use std::alloc::{AllocError, Global};
 
 /// What HIUPA says: 0 or 1.
@@ -37,64 +37,70 @@ fn entry_kind_of(text: &[u8]) -> Option<Kind>
     Kind::parse(text)
 }
 
-fn read_entry(items: &[OwnedItem]) -> Option<Entry>
+fn read_entry(items: &ElementRef<'_>) -> Option<Entry>
     ensures { result ≡ entry_of items.now }
 {
-    let kind = entry_kind_of(value_in(items, 1))?;
-    let signatures = parse_number(value_in(items, 2))?;
+    let kind = entry_kind_of(items.value(1))?;
+    let signatures = parse_number(items.value(2))?;
     Some(Entry { kind, signatures })
 }
 
-fn is_blank(items: &[OwnedItem]) -> bool
+fn is_blank(items: &ElementRef<'_>) -> bool
     ensures { result ≡ is_empty_element items.now }
 {
-    match items {
-        [OwnedItem::Text(bytes)] => bytes.as_slice().is_empty(),
+    match items.get(1) {
+        Some(ItemRef::Text(text)) => items.len() == 1 && text.is_empty(),
         _ => false,
     }
 }
 
-// The elements from 11 on.
-fn last_elements(segment: &OwnedSegment) -> &[Vec<OwnedItem>]
-    ensures { map (λ v. v.items) result.now ≡ entry_elements segment.now }
+fn is_odd(items: &ElementRef<'_>) -> bool
+    ensures { result ≡ is_odd_element items.now }
 {
-    let all = segment.elements.as_slice();
-    if all.len() <= 9 {
-        return &[];
+    !is_blank(items) && read_entry(items).is_none()
+}
+
+// The entries among the elements from 11 on.
+fn entries_of(alloc: Global, elements: &Elements) -> Result<Vec<Entry>, AllocError>
+    ensures { IfOk result (λ v. v.items ≡ filter_map entry_of (drop 9 elements.now)) }
+{
+    let mut entries = Vec::new(alloc);
+    let mut at = 9;
+    while at < elements.len() {
+        if let Some(entry) = read_entry(&elements.items(at)) {
+            entries.push(entry)?;
+        }
+        at += 1;
     }
-    let (_, rest) = all.split_at(9);
-    rest
+    Ok(entries)
 }
 
-fn entries_of(alloc: Global, elements: &[Vec<OwnedItem>]) -> Result<Vec<Entry>, AllocError>
-    ensures { IfOk result (λ v. v.items ≡ filter_map (λ e. entry_of e.items) elements.now) }
+// How many of the elements from 11 on are neither empty nor an entry.
+fn odd_elements(elements: &Elements) -> usize
+    ensures { result ≡ count_by is_odd_element (drop 9 elements.now) }
 {
-    elements
-        .iter()
-        .filter_map(|items| read_entry(items))
-        .collect(alloc)
-}
-
-fn odd_elements(elements: &[Vec<OwnedItem>]) -> usize
-    ensures { result ≡ count_by (λ e. is_odd_element e.items) elements.now }
-{
-    elements
-        .iter()
-        .filter(|items| !is_blank(items) && read_entry(items).is_none())
-        .count()
+    let mut count = 0;
+    let mut at = 9;
+    while at < elements.len() {
+        if is_odd(&elements.items(at)) {
+            count += 1;
+        }
+        at += 1;
+    }
+    count
 }
 
 /// How many elements of HIUPD are skipped and counted.
 pub fn odd_entries(segment: &OwnedSegment) -> usize
     ensures { result ≡ count_by is_odd_element (entry_elements segment.now) }
 {
-    odd_elements(last_elements(segment))
+    odd_elements(&segment.elements)
 }
 
 fn read_entries(alloc: Global, segment: &OwnedSegment) -> Result<Entries, AllocError>
     ensures { IfOk result (λ v. v ≡ filter_map entry_of (entry_elements segment.now)) }
 {
-    let entries = entries_of(alloc, last_elements(segment))?;
+    let entries = entries_of(alloc, &segment.elements)?;
     Ok(Entries::new(entries))
 }
 

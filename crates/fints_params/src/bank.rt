@@ -7,16 +7,16 @@ ghost use Rattle.fints_syntax.specs.Segment.{item_value};
 use crate::fault::{ParamFault, bad_element};
 use crate::reading::copy;
 use crate::rows::{BankRow, Numbers};
-use fints_syntax::{OwnedItem, OwnedSegment, parse_number};
+use fints_syntax::{ElementRef, OwnedSegment, parse_number};
 use std::alloc::{AllocError, Global};
 
 // The protocol versions, if each that isn't empty is a number.
-fn read_protocols(alloc: Global, items: &[OwnedItem]) -> Result<Option<Numbers>, AllocError>
+fn read_protocols(alloc: Global, items: &ElementRef<'_>) -> Result<Option<Numbers>, AllocError>
     ensures { IfOk result (λ r. r ≡ protocols_of (map item_value items.now)) }
 {
     let mut numbers = Vec::new(alloc);
-    for item in items {
-        let text = item.value();
+    for i in 0..items.len() {
+        let text = items.value(i + 1);
         if !text.is_empty() {
             match parse_number(text) {
                 None => return Ok(None),
@@ -46,7 +46,7 @@ pub fn read_bank(alloc: Global, segment: &OwnedSegment) -> Result<BankRow, Param
     let Some(kinds) = parse_number(segment.value(5, 1)) else {
         return Err(bad_element(segment, 5));
     };
-    let Some(protocols) = read_protocols(alloc, segment.items(7))? else {
+    let Some(protocols) = read_protocols(alloc, &segment.items(7))? else {
         return Err(bad_element(segment, 7));
     };
     let Some(kilobytes) = read_size(segment.value(8, 1)) else {

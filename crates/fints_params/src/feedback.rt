@@ -8,8 +8,7 @@ ghost use Rattle.fints_params.specs.Taken.{CodesSoFar};
 use crate::capture::read_capture;
 use crate::code::Code;
 use crate::fault::{ParamFault, bad_element};
-use crate::opening::{Reader, read_into};
-use crate::reading::value_in;
+use crate::opening::Reader;
 use fints_syntax::OwnedSegment;
 use std::alloc::Global;
 
@@ -31,8 +30,8 @@ fn read_codes(segment: &OwnedSegment, codes: &mut Vec<Code>) -> Result<(), Param
     ensures codes { IfOk result (λ _. codes.new.items ≡ codes.old.items ++ codes_of segment.now) }
     ensures fault { IfErr result (λ f. IsBad segment.now (codes_fault segment.now) f) }
 {
-    for (i, items) in segment.elements.as_slice().iter().enumerate() {
-        let text = value_in(items.as_slice(), 1);
+    for i in 0..segment.elements.len() {
+        let text = segment.elements.items(i).value(1);
         if !text.is_empty() {
             match Code::parse(text) {
                 None => return Err(bad_element(segment, i + 2)),
@@ -75,10 +74,9 @@ pub fn feedback_codes(alloc: Global, message: &[u8]) -> Result<Vec<Code>, ParamF
     ensures codes { IfOk result (λ v. IsCodesOf message.now v.items) }
     ensures refused { IfErr result (λ f. IsMemoryOr (IsCodeFault message.now) f) }
 {
-    let placed = read_capture(alloc, message)?;
     let mut found = Found {
         codes: Vec::new(alloc),
     };
-    read_into(alloc, placed.as_slice(), &mut found)?;
+    read_capture(alloc, message, &mut found)?;
     Ok(found.codes)
 }

@@ -3,13 +3,15 @@ ghost use Rattle.std.specs.Prelude.{◌≡◌, [], ◌∷◌, List, map, option_
 ghost use Rattle.fints_syntax.specs.declared.item.OwnedSegment.{OwnedSegment};
 ghost use Rattle.fints_params.specs.Sealed.{is_sealed, data_of};
 ghost use Rattle.fints_params.specs.Faults.{IsMemoryOr};
-ghost use Rattle.fints_params.specs.Opened.{part};
-ghost use Rattle.fints_params.specs.Captures.{Rule, NoneRefused, IsRefusedIn};
-ghost use Rattle.fints_params.specs.Steps.{Continues, StopsIn, ContinuesOver, StopsAt, ReadsAll, OpensTo, IsClosedBy};
+ghost use Rattle.std.specs.List.{AllByRecursion};
+ghost use Rattle.fints_syntax.specs.Owned.{segments_of};
+ghost use Rattle.fints_params.specs.Opened.{part, place_in};
+ghost use Rattle.fints_params.specs.Captures.{Rule, NoneRefused};
+ghost use Rattle.fints_params.specs.Steps.{Continues, StopsIn, ContinuesOver, StopsAt, OpensTo, IsClosedBy, IsWithin, ReadsViews, IsRefusedInViews};
 
 use crate::fault::{ParamFault, bad_element};
 use crate::placed::PlacedSegment;
-use fints_syntax::{OwnedItem, OwnedSegment, SyntaxFault, owned_segments, parse_all};
+use fints_syntax::{Elements, ItemRef, OwnedSegment, Placed, SegmentView, SyntaxFault, parse_all};
 use std::alloc::Global;
 
 /// What reads segments one after the other, until one is refused.
@@ -37,22 +39,25 @@ fn is_sealed(segment: &OwnedSegment) -> bool
 fn data(segment: &OwnedSegment) -> Option<&[u8]>
     ensures { option_copied result ≡ data_of segment.now }
 {
-    match segment.items(2).first() {
-        Some(OwnedItem::Bin(bytes)) => Some(bytes.as_slice()),
+    match segment.items(2).get(1) {
+        Some(ItemRef::Bin(bytes)) => Some(bytes),
         _ => None,
     }
 }
 
 // The segments of the data of an HNVSD.
-fn open(alloc: Global, placed: &PlacedSegment) -> Result<Vec<OwnedSegment>, ParamFault>
-    ensures ok { IfOk result (λ v. OpensTo placed.now v.items) }
+fn open<'a>(
+    alloc: Global,
+    placed: &'a PlacedSegment,
+) -> Result<Vec<SegmentView<'a>>, ParamFault>
+    ensures ok { IfOk result (λ v. OpensTo placed.now (segments_of v.items)) }
     ensures closed { IfErr result (λ f. IsMemoryOr (IsClosedBy placed.now) f) }
 {
     let Some(bytes) = data(&placed.segment) else {
         return Err(bad_element(&placed.segment, 2));
     };
     match parse_all(alloc, bytes) {
-        Ok(views) => Ok(owned_segments(alloc, views.as_slice())?),
+        Ok(views) => Ok(views),
         Err(fault) => Err(ParamFault::from(SyntaxFault {
             kind: fault.kind,
             offset: placed.place + fault.offset,
@@ -60,17 +65,20 @@ fn open(alloc: Global, placed: &PlacedSegment) -> Result<Vec<OwnedSegment>, Para
     }
 }
 
-// All segments.
+// All segments, each read into the memory of the one before.
 fn add_all<R: Reader>(
     alloc: Global,
-    segments: &[OwnedSegment],
+    views: &[SegmentView<'_>],
     reader: &mut R,
 ) -> Result<(), ParamFault>
-    ensures ok { IfOk result (λ _. Continues R.good reader.old reader.new segments.now) }
-    ensures stopped { IfErr result (λ f. IsMemoryOr (StopsIn R.rule R.good reader.old (map part segments.now)) f) }
+    ensures ok { IfOk result (λ _. Continues R.good reader.old reader.new (segments_of views.now)) }
+    ensures stopped { IfErr result (λ f. IsMemoryOr (StopsIn R.rule R.good reader.old (map part (segments_of views.now))) f) }
 {
-    for segment in segments {
-        reader.add(alloc, segment)?;
+    let mut elements = Elements::new(alloc);
+    for view in views {
+        let segment = view.to_owned_in(elements)?;
+        reader.add(alloc, &segment)?;
+        elements = segment.into_elements();
     }
     Ok(())
 }
@@ -87,22 +95,40 @@ fn add_placed<R: Reader>(
     if !is_sealed(&placed.segment) {
         return reader.add(alloc, &placed.segment);
     }
-    let segments = open(alloc, placed)?;
-    add_all(alloc, segments.as_slice(), reader)
+    let views = open(alloc, placed)?;
+    add_all(alloc, views.as_slice(), reader)
 }
 
-/// Reads the segments of a capture into a reader that has seen none.
+// The offset in the capture of item 1 of element 2, 0 where there is none.
+fn place_of(view: &Placed<'_>) -> usize
+    requires { IsWithin view.now }
+    ensures { result ≡ place_in view.now }
+{
+    match view.segment.item_start(2, 1) {
+        Some(offset) => view.start + offset,
+        None => 0,
+    }
+}
+
+/// Reads the segments of a capture into a reader that has seen none, each into the memory of the
+/// one before.
 pub fn read_into<R: Reader>(
     alloc: Global,
-    placed: &[PlacedSegment],
+    views: &[Placed<'_>],
     reader: &mut R,
 ) -> Result<(), ParamFault>
-    requires { R.good [] reader.old }
-    ensures ok { IfOk result (λ _. ReadsAll R.good placed.now reader.new) }
-    ensures stopped { IfErr result (λ f. IsMemoryOr (IsRefusedIn R.rule placed.now) f) }
+    requires within { AllByRecursion IsWithin views.now }
+    requires first { R.good [] reader.old }
+    ensures ok { IfOk result (λ _. ReadsViews R.good views.now reader.new) }
+    ensures stopped { IfErr result (λ f. IsMemoryOr (IsRefusedInViews R.rule views.now) f) }
 {
-    for one in placed {
-        add_placed(alloc, one, reader)?;
+    let mut elements = Elements::new(alloc);
+    for view in views {
+        let segment = view.segment.to_owned_in(elements)?;
+        let place = place_of(view);
+        let placed = PlacedSegment { segment, place };
+        add_placed(alloc, &placed, reader)?;
+        elements = placed.into_elements();
     }
     Ok(())
 }

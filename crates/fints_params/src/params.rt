@@ -4,16 +4,13 @@ ghost use Rattle.std.specs.List.{list_all};
 ghost use Rattle.fints_syntax.specs.declared.item.OwnedSegment.{OwnedSegment};
 ghost use Rattle.fints_params.specs.Faults.{IsMemoryOr};
 ghost use Rattle.fints_params.specs.Parameters.{IsRowsOf, end_fault, usage_from};
-ghost use Rattle.fints_params.specs.Captures.{IsParamsIn, IsParamFaultIn, IsParamsOf, IsParamFault};
-ghost use Rattle.fints_params.specs.Steps.{CanCountSkipped};
+ghost use Rattle.fints_params.specs.Captures.{IsParamsOf, IsParamFault};
 ghost use Rattle.fints_params.specs.Taken.{IsGathered};
 
 use crate::capture::read_capture;
 use crate::fault::ParamFault;
 use crate::gathered::Gathered;
 use crate::gathering::no_rows;
-use crate::opening::read_into;
-use crate::placed::PlacedSegment;
 use crate::rows::{AccountRow, BankRow, OrderParam, PinRow, Usage};
 use std::alloc::Global;
 use std::marker::Model;
@@ -46,8 +43,9 @@ impl Params {
         ensures rows { IfOk result (λ p. IsParamsOf capture.now p) }
         ensures refused { IfErr result (λ f. IsMemoryOr (IsParamFault capture.now) f) }
     {
-        let placed = read_capture(alloc, capture)?;
-        read_rows(alloc, placed.as_slice())
+        let mut rows = no_rows(alloc);
+        read_capture(alloc, capture, &mut rows)?;
+        finish(rows)
     }
 
     /// The bank's row, of the one HIBPA version 3.
@@ -147,15 +145,4 @@ fn finish(rows: Gathered) -> Result<Params, ParamFault>
             })
         }
     }
-}
-
-// The rows of placed segments, or the first refusal.
-fn read_rows(alloc: Global, placed: &[PlacedSegment]) -> Result<Params, ParamFault>
-    requires { CanCountSkipped placed.now }
-    ensures rows { IfOk result (λ p. IsParamsIn placed.now p) }
-    ensures refused { IfErr result (λ f. IsMemoryOr (IsParamFaultIn placed.now) f) }
-{
-    let mut rows = no_rows(alloc);
-    read_into(alloc, placed, &mut rows)?;
-    finish(rows)
 }

@@ -6,7 +6,6 @@ ghost use Rattle.fints_params.specs.Pins.{Pair, pairs, pin_pairs, is_good_pair, 
 ghost use Rattle.fints_params.specs.Faults.{IsBad};
 
 use crate::fault::{ParamFault, bad_element};
-use crate::reading::value_in;
 use crate::rows::PinRow;
 use fints_syntax::{Kind, OwnedSegment};
 use std::alloc::AllocError;
@@ -46,8 +45,8 @@ pub fn read_pins(segment: &OwnedSegment, rows: &mut Vec<PinRow>) -> Result<(), P
     let items = segment.items(5);
     let mut at = 5;
     while at < items.len() {
-        let kind = value_in(items, at + 1);
-        let flag = value_in(items, at + 2);
+        let kind = items.value(at + 1);
+        let flag = items.value(at + 2);
         if !is_good(kind, flag) {
             return Err(bad_element(segment, 5));
         }

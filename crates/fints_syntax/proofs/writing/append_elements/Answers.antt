@@ -1,24 +1,23 @@
-use Rattle.std.proofs.Common.{◌≡◌, ◌+◌, ◌++◌, get_or, drop, map, arith, ap, ◌∙◌, rules}
+use Rattle.std.proofs.Common.{◌≡◌, ◌+◌, ◌++◌, [], get_or, drop, arith, ap, ◌∙◌, rules}
 use Rattle.fints_syntax.specs.Written.{element_text, elements_text, KeepsFront}
 use Rattle.fints_syntax.proofs.Fronts.{kept_more, kept_after}
 use Rattle.fints_syntax.proofs.WrittenLaws.{elements_text-plus, elements_text-end, moves}
 use Rattle.fints_syntax.proofs.writing.append_elements.Goals as goal
-use Rattle.fints_syntax.proofs.writing.append_elements.Goals.{then-elements-i-gt1, else-elements-i-gt1}
+use Rattle.fints_syntax.proofs.writing.append_elements.Goals.{then-len-i-gt1, else-len-i-gt1}
 
 pub loop-i-preserved : goal.loop-i-preserved
 loop-i-preserved c =
-    let vs = c.args.elements.now in
+    let es = c.args.elements.now in
     let i = c.loop-i.i in
-    let x = c.index-elements-i.result in
-    let end = c.if-elements-i-gt1.end in
-    let e : elements_text (map (λ v. v.items) (drop i vs)) ≡ element_text end (get_or vs i x).items ++ elements_text (map (λ v. v.items) (drop (i + 1) vs)) =
-    elim c.if-elements-i-gt1.branch [
-      | then-elements-i-gt1 w ↦ rw w.end-is (elements_text-plus (λ v. v.items) vs i x (omega arith))
-      | else-elements-i-gt1 w ↦ rw w.end-is (elements_text-end (λ v. v.items) vs i x (omega arith) (omega arith))
+    let end = c.if-len-i-gt1.end in
+    let e : elements_text (drop i es) ≡ element_text end (get_or es i []) ++ elements_text (drop (i + 1) es) =
+    elim c.if-len-i-gt1.branch [
+      | then-len-i-gt1 w ↦ rw w.end-is (elements_text-plus es i [] (omega arith))
+      | else-len-i-gt1 w ↦ rw w.end-is (elements_text-end es i [] (omega arith) (omega arith))
     ] in
-    let new : c.append_element.new.out.items ≡ c.loop-i.out.items ++ element_text end (get_or vs i x).items =
-    c.in_ok-append_element.ensures.written ∙ ap (λ s. c.loop-i.out.items ++ element_text end s) (c.as_slice.ensures.value ∙ ap (λ v. v.items) c.index-elements-i.is) in
-    let text = moves c.loop-i.out.items c.append_element.new.out.items (elements_text (map (λ v. v.items) (drop i vs))) (element_text end (get_or vs i x).items) (elements_text (map (λ v. v.items) (drop (i + 1) vs))) (c.args.out.now.items ++ elements_text (map (λ v. v.items) vs)) e c.loop-i.invariant.text new in
+    let new : c.append_element.new.out.items ≡ c.loop-i.out.items ++ element_text end (get_or es i []) =
+    c.in_ok-append_element.ensures.written ∙ ap (λ s. c.loop-i.out.items ++ element_text end s) c.items.ensures in
+    let text = moves c.loop-i.out.items c.append_element.new.out.items (elements_text (drop i es)) (element_text end (get_or es i [])) (elements_text (drop (i + 1) es)) (c.args.out.now.items ++ elements_text es) e c.loop-i.invariant.text new in
     let element = kept_more c.loop-i.out.items c.append_element.new.out.items _ new in
     record {
       text = text;

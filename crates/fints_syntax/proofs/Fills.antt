@@ -1,0 +1,116 @@
+-- The values of a segment, as far as a cursor has read them.
+use Rattle.std.proofs.Common.{◌≡◌, ◌≢◌, ℕ, ◌+◌, ◌<◌, ◌≤◌, true, false, eqb, List, [], ◌∷◌, ◌++◌, length, drop, refl, ap, ◌∙◌, sym, subst, arith, ◌⊎◌, inl, inr, append_assoc, map}
+use Rattle.std.specs.List.{AllByRecursion}
+use Rattle.std.proofs.lemmas.Bool.{ne_eqb, eq-eqb}
+use Rattle.std.proofs.lemmas.List.{append-nil, length-map}
+use Rattle.fints_syntax.specs.Spelling.{Spelled, item_of, IsSpelled}
+use Rattle.fints_syntax.specs.Segment.{Token, element_tokens, segment_tokens, values_of, IsFramed}
+use Rattle.fints_syntax.specs.Reader.{segment_in, elements_in}
+use Rattle.fints_syntax.specs.ItemIs.{IsItem}
+use Rattle.fints_syntax.specs.Owned.{owned_item_of}
+use Rattle.fints_syntax.specs.Window.{IsFrameText}
+use Rattle.fints_syntax.specs.Cursor.{IsTaken, after_element}
+use Rattle.fints_syntax.specs.declared.cursor.Found.{Found}
+use Rattle.fints_syntax.specs.declared.item.OwnedItem.{OwnedItem}
+use Rattle.fints_syntax.proofs.Tokens.{IsClosed, closed-segment, elements_in-tokens}
+use Rattle.fints_syntax.proofs.TakenItems.{owned_is, alone, with_items, none_read, first_read, element_read, colon_in, other_in, closed_colon, closed_other, none_of}
+
+-- ---- past an element
+
+after_one : (end : ℕ) (e : List Spelled) (ts : List Token) → 0 < length e → eqb end 58 ≡ false → after_element (element_tokens end e ++ ts) ≡ ts
+after_one end [] ts some h = absurd (omega arith)
+after_one end (s ∷ []) ts some h = rw h refl
+after_one end (s ∷ t ∷ ss) ts some h = after_one end (t ∷ ss) ts (omega arith) h
+
+pub after_first : (es : List (List Spelled)) → AllByRecursion (λ e. 0 < length e) es → after_element (segment_tokens es) ≡ segment_tokens (drop 1 es)
+after_first [] h = refl
+after_first (e ∷ []) h = ap after_element (sym (append-nil (element_tokens 39 e))) ∙ after_one 39 e [] h.0 refl
+after_first (e ∷ f ∷ es) h = after_one 43 e (segment_tokens (f ∷ es)) h.0 refl
+
+pub after_colon : (old new : List Token) (f : Found) → IsTaken old f new → f.after ≡ 58 → after_element old ≡ after_element new
+after_colon old new f t q =
+    let b : eqb t.token.after 58 ≡ true = eq-eqb t.token.after 58 (sym t.after ∙ q) in
+    ap after_element t.split ∙ rw b refl
+
+pub after_other : (old new : List Token) (f : Found) → IsTaken old f new → f.after ≢ 58 → after_element old ≡ new
+after_other old new f t q =
+    let b : eqb t.token.after 58 ≡ false = ne_eqb t.token.after 58 (λ e. q (t.after ∙ e)) in
+    ap after_element t.split ∙ rw b refl
+
+pub shorter : (old new : List Token) (f : Found) → IsTaken old f new → length new < length old
+shorter old new f t = omega (arith, ap length t.split)
+
+-- ---- the values so far
+
+pub record Filled (all : List (List OwnedItem)) (tokens : List Token) (elements : List (List OwnedItem)) (items : List OwnedItem) : Type 0 where
+  pub closed : IsClosed tokens ⊎ ((tokens ≡ []) × (items ≡ []))
+  pub values : elements ++ with_items (values_of (elements_in tokens)) items ≡ all
+
+closed_rest : (es : List (List Spelled)) → AllByRecursion (λ e. 0 < length e) es → AllByRecursion (λ e. AllByRecursion IsSpelled e) es → IsClosed (segment_tokens es) ⊎ ((segment_tokens es ≡ []) × (none_of ≡ []))
+closed_rest [] h s = inr (refl, refl)
+closed_rest (e ∷ es) h s = inl (closed-segment (e ∷ es) (omega arith) h s)
+
+all_rest : {A : Type 0} (P : A → Type 0) (xs : List A) → AllByRecursion P xs → AllByRecursion P (drop 1 xs)
+all_rest P [] h = tt
+all_rest P (x ∷ xs) h = h.1
+
+values_rest : (es : List (List Spelled)) → values_of (drop 1 es) ≡ drop 1 (values_of es)
+values_rest [] = refl
+values_rest (e ∷ es) = refl
+
+values_some : (es : List (List Spelled)) → AllByRecursion (λ e. 0 < length e) es → AllByRecursion (λ x. 0 < length x) (values_of es)
+values_some [] h = tt
+values_some (e ∷ es) h = let size : length (map item_of e) ≡ length e = length-map e item_of in (omega (arith, size, h.0), values_some es h.1)
+
+-- each element after the head has an item
+pub rest_nonempty : (source : List ℕ) → IsFrameText source → AllByRecursion (λ x. 0 < length x) (drop 1 (values_of (segment_in source)))
+rest_nonempty source f =
+    let some = all_rest (λ (e : List Spelled). 0 < length e) (segment_in source) f.framed.nonempty in
+    subst (λ xs. AllByRecursion (λ x. 0 < length x) xs) (values_rest (segment_in source)) (values_some (drop 1 (segment_in source)) some)
+
+pub filled_start : (source : List ℕ) (tokens : List Token) → IsFrameText source → tokens ≡ after_element (segment_tokens (segment_in source)) → Filled (drop 1 (values_of (segment_in source))) tokens [] []
+filled_start source tokens f is =
+    let es = drop 1 (segment_in source) in
+    let nonempty = all_rest (λ (e : List Spelled). 0 < length e) (segment_in source) f.framed.nonempty in
+    let e : segment_tokens es ≡ tokens = sym (is ∙ after_first (segment_in source) f.framed.nonempty) in
+    subst (λ ts. Filled (drop 1 (values_of (segment_in source))) ts [] []) e (record {
+      closed = closed_rest es nonempty (all_rest (λ (x : List Spelled). AllByRecursion IsSpelled x) (segment_in source) f.framed.spelled);
+      values = none_read (values_of (elements_in (segment_tokens es))) ∙ ap (λ (x : List (List Spelled)). values_of x) (elements_in-tokens es nonempty) ∙ values_rest (segment_in source);
+    })
+
+pub filled_colon : (all : List (List OwnedItem)) (old new : List Token) (elements : List (List OwnedItem)) (items : List OwnedItem) (f : Found) → Filled all old elements items → IsTaken old f new → f.after ≡ 58
+    → Filled all new elements (items ++ owned_item_of f.item ∷ [])
+filled_colon all old new elements items f h t q =
+    let c : IsClosed (t.token ∷ new) ⊎ (((t.token ∷ new) ≡ []) × (items ≡ [])) = rw t.split at h.closed in
+    let a : t.token.after ≡ 58 = sym t.after ∙ q in
+    let o = owned_is f.item t.token.item t.item in
+    let move : with_items (values_of (elements_in old)) items ≡ with_items (values_of (elements_in new)) (items ++ owned_item_of f.item ∷ []) =
+    ap (λ (x : List Token). with_items (values_of (elements_in x)) items) t.split ∙ ap (λ (x : List (List Spelled)). with_items (values_of x) items) (colon_in t.token new a)
+    ∙ first_read items t.token.item (elements_in new) ∙ ap (λ (x : OwnedItem). with_items (values_of (elements_in new)) (items ++ x ∷ [])) (sym o) in
+    record { closed = inl (closed_colon t.token new c a); values = ap (λ (x : List (List OwnedItem)). elements ++ x) (sym move) ∙ h.values }
+
+pub filled_other : (all : List (List OwnedItem)) (old new : List Token) (elements : List (List OwnedItem)) (items : List OwnedItem) (f : Found) → Filled all old elements items → IsTaken old f new → f.after ≢ 58
+    → Filled all new (elements ++ (items ++ owned_item_of f.item ∷ []) ∷ []) []
+filled_other all old new elements items f h t q =
+    let c : IsClosed (t.token ∷ new) ⊎ (((t.token ∷ new) ≡ []) × (items ≡ [])) = rw t.split at h.closed in
+    let a : t.token.after ≢ 58 = λ e. q (t.after ∙ e) in
+    let o = owned_is f.item t.token.item t.item in
+    let rest = values_of (elements_in new) in
+    let move : with_items (values_of (elements_in old)) items ≡ (items ++ owned_item_of f.item ∷ []) ∷ with_items rest [] =
+    ap (λ (x : List Token). with_items (values_of (elements_in x)) items) t.split ∙ ap (λ (x : List (List Spelled)). with_items (values_of x) items) (other_in t.token new a)
+    ∙ element_read items (item_of t.token.item) rest ∙ ap (λ (x : OwnedItem). (items ++ x ∷ []) ∷ rest) (sym o) ∙ ap (λ (x : List (List OwnedItem)). (items ++ owned_item_of f.item ∷ []) ∷ x) (sym (none_read rest)) in
+    record {
+      closed = closed_other t.token new c;
+      values = append_assoc elements ((items ++ owned_item_of f.item ∷ []) ∷ []) (with_items rest []) ∙ ap (λ (x : List (List OwnedItem)). elements ++ x) (sym move) ∙ h.values;
+    }
+
+filled_nil : (all : List (List OwnedItem)) (elements : List (List OwnedItem)) (items : List OwnedItem) → Filled all [] elements items → (elements ≡ all) × (items ≡ [])
+unfolding with_items alone elements_in
+filled_nil all elements items h =
+    elim h.closed [
+      | inl c ↦ absurd c
+      | inr e ↦ (sym (append-nil elements) ∙ ap (λ (x : List OwnedItem). elements ++ alone x) (sym e.1) ∙ h.values, e.1)
+    ]
+
+pub filled_end : (all : List (List OwnedItem)) (tokens : List Token) (elements : List (List OwnedItem)) (items : List OwnedItem) → Filled all tokens elements items → tokens ≡ [] → (elements ≡ all) × (items ≡ [])
+filled_end all tokens elements items h e = filled_nil all elements items (subst (λ ts. Filled all ts elements items) e h)

@@ -1,0 +1,12 @@
+use Rattle.std.proofs.Common.{◌≡◌, ◌∙◌, ap, sym, subst, arith, rules}
+use Rattle.fints_syntax.specs.Flat.{HasNoEscape}
+use Rattle.fints_syntax.specs.ItemIs.{value_of_item}
+use Rattle.fints_syntax.proofs.Flats.{no_escape_value}
+use Rattle.fints_syntax.proofs.head.plain_value.Goals as goal
+
+pub returns-else-has_escape : goal.returns-else-has_escape
+returns-else-has_escape c =
+    let none : HasNoEscape c.as_bytes-text.result.now = grind arith in
+    let same = no_escape_value _ (subst HasNoEscape c.as_bytes-text.ensures none) in
+    let bytes = c.as_bytes-text.ensures ∙ same in
+    rw c.in-Text.is bytes

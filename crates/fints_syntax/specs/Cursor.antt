@@ -1,0 +1,34 @@
+-- What a cursor over a segment's text has left: items, each with the byte after it.
+use Rattle.std.specs.Prelude.{◌≡◌, ◌==◌, if◌then◌else◌, ℕ, List, [], ◌∷◌, length, map}
+use Rattle.fints_syntax.specs.Spelling.{Spelled, IsSpelled}
+use Rattle.fints_syntax.specs.Segment.{Token, tokens_bytes, segment_tokens}
+use Rattle.fints_syntax.specs.Reader.{tokens_in}
+use Rattle.fints_syntax.specs.Faults.{IsOpen}
+use Rattle.fints_syntax.specs.ItemIs.{IsItem}
+use Rattle.fints_syntax.specs.declared.cursor.Found.{Found}
+use Rattle.fints_syntax.specs.declared.cursor.Cursor.TheInside.{Inside}
+
+-- nothing, or items that separators follow, and `'` the last
+abbrev pub IsRun : List Token → Type 0
+IsRun [] = Unit {0}
+IsRun (t ∷ []) = IsSpelled t.item × (t.after ≡ 39)
+IsRun (t ∷ u ∷ ts) = IsOpen t × IsRun (u ∷ ts)
+
+abbrev pub tokens_of : Inside → List Token
+tokens_of c = tokens_in (length c.rest.now) c.rest.now
+
+pub record IsCursor (c : Inside) : Type 0 where
+  pub text : c.rest.now ≡ tokens_bytes (tokens_in (length c.rest.now) c.rest.now)
+  pub run : IsRun (tokens_in (length c.rest.now) c.rest.now)
+
+-- the first item that was left is found, and the others are left
+pub record IsTaken (old : List Token) (f : Found) (new : List Token) : Type 0 where
+  pub token : Token
+  pub split : old ≡ token ∷ new
+  pub item : IsItem f.item token.item
+  pub after : f.after ≡ token.after
+
+-- what is left after the items of the element at the front
+abbrev pub after_element : List Token → List Token
+after_element [] = []
+after_element (t ∷ ts) = if t.after == 58 then after_element ts else ts

@@ -1,0 +1,71 @@
+//! The items of a segment one after the other.
+ghost use Rattle.std.specs.Prelude.{◌≡◌, [], IfNone, IfSome};
+ghost use Rattle.fints_syntax.specs.Segment.{segment_tokens};
+ghost use Rattle.fints_syntax.specs.Reader.{segment_in};
+ghost use Rattle.fints_syntax.specs.Window.{IsFrameText};
+ghost use Rattle.fints_syntax.specs.Cursor.{IsTaken};
+
+use crate::scan::{Scan, scan_item};
+use crate::text::{Item, item_from};
+use std::marker::Model;
+
+/// An item, and the byte after it: `:`, `+` or `'`.
+#[derive(Debug, Drop)]
+pub struct Found<'a> {
+    pub item: Item<'a>,
+    pub after: u8,
+}
+
+/// The items of a segment that are left; a contract sees them, each with the byte after it.
+#[derive(Debug, Drop)]
+pub struct Cursor<'a> {
+    rest: &'a [u8],
+}
+
+impl<'a> Model for Cursor<'a> {
+    ghost use Rattle.std.specs.Prelude.{List};
+    ghost use Rattle.fints_syntax.specs.Segment.{Token};
+
+    ghost Value = { List Token };
+
+    ghost use Rattle.fints_syntax.specs.Cursor.{tokens_of, IsCursor};
+
+    ghost view = { tokens_of };
+
+    ghost invariant = { IsCursor };
+}
+
+/// A cursor before the first item.
+#[inline(always)]
+pub fn cursor_over(source: &[u8]) -> Cursor<'_>
+    requires { IsFrameText source.now }
+    ensures { result ≡ segment_tokens (segment_in source.now) }
+{
+    Cursor { rest: source }
+}
+
+impl<'a> Cursor<'a> {
+    /// The next item.
+    #[inline(always)]
+    pub fn step(&mut self) -> Option<Found<'a>>
+        ensures end { IfNone result ((self.old ≡ []) × (self.new ≡ [])) }
+        ensures taken { IfSome result (λ f. IsTaken self.old f self.new) }
+    {
+        if self.rest.is_empty() {
+            return None;
+        }
+        match scan_item(self.rest) {
+            Scan::Whole { len, after } => {
+                let (bytes, _) = self.rest.split_at(len);
+                let (_, rest) = self.rest.split_at(len + 1);
+                self.rest = rest;
+                Some(Found {
+                    item: item_from(bytes),
+                    after,
+                })
+            }
+            Scan::Cut => None,
+            Scan::Bad => None,
+        }
+    }
+}

@@ -1,0 +1,222 @@
+//! Elements in three flat lists: bytes, items and elements.
+ghost use Rattle.std.specs.Prelude.{◌≡◌, ◌<◌, ◌++◌, ◌∷◌, [], length, OnOk, OnErr, get_or, cond, drop};
+ghost use Rattle.fints_syntax.specs.Owned.{owned_item_of};
+ghost use Rattle.fints_syntax.specs.Segment.{item_value, values_of};
+ghost use Rattle.fints_syntax.specs.Spelling.{text_value};
+ghost use Rattle.fints_syntax.specs.Flat.{HasNoEscape};
+ghost use Rattle.fints_syntax.specs.Written.{KeepsFront};
+ghost use Rattle.std.specs.Bool.{OnFalse};
+ghost use Rattle.fints_syntax.specs.Reader.{segment_in};
+ghost use Rattle.fints_syntax.specs.Window.{IsFrameText};
+ghost use Rattle.fints_syntax.specs.Cursor.{after_element};
+ghost use Rattle.fints_syntax.specs.declared.item.OwnedItem.TheVariants.{Text, Bin};
+
+use crate::cursor::{Cursor, cursor_over};
+use crate::fault::Memory;
+use crate::item::OwnedItem;
+use crate::element::{ElementRef, Span};
+use crate::text::{Item, RawText};
+use std::alloc::{AllocError, Global};
+use std::marker::Model;
+
+/// Where the items of an element stand among the items.
+#[derive(Clone, Copy, Debug)]
+pub struct Group {
+    pub first: usize,
+    pub count: usize,
+}
+
+/// Elements, and the items of one that is not whole yet; a contract sees the lists.
+#[derive(Debug, Drop)]
+pub struct Filling {
+    bytes: Vec<u8>,
+    spans: Vec<Span>,
+    groups: Vec<Group>,
+    open: usize,
+}
+
+impl Model for Filling {
+    ghost use Rattle.fints_syntax.specs.Flat.{Filled};
+
+    ghost Value = { Filled };
+
+    ghost use Rattle.fints_syntax.specs.Flat.{filled_of, IsFlat};
+
+    ghost view = { filled_of };
+
+    ghost invariant = { IsFlat };
+}
+
+/// What has the value of an item.
+pub trait Valued {
+    ghost use Rattle.fints_syntax.specs.declared.item.OwnedItem.{OwnedItem};
+
+    /// The item by its value.
+    ghost owned: { Self → OwnedItem };
+
+    /// Puts the bytes of the value behind what `out` held; where memory runs out, a part of them.
+    fn append_value(&self, out: &mut Vec<u8>) -> Result<(), AllocError>
+        ensures added { OnOk result (out.new.items ≡ out.old.items ++ item_value (owned self.now)) }
+        ensures kept { OnErr result (KeepsFront out.old.items out.new.items) };
+
+    fn is_binary(&self) -> bool
+        ensures { owned self.now ≡ cond result (Bin (item_value (owned self.now))) (Text (item_value (owned self.now))) };
+}
+
+impl Filling {
+    /// No element.
+    pub fn new(alloc: Global) -> Filling
+        ensures { result ≡ record { elements = []; items = [] } }
+    {
+        Filling {
+            bytes: Vec::new(alloc),
+            spans: Vec::new(alloc),
+            groups: Vec::new(alloc),
+            open: 0,
+        }
+    }
+
+    /// No element any more; the memory is kept for the next ones.
+    pub fn clear(&mut self)
+        ensures { self.new ≡ record { elements = []; items = [] } }
+    {
+        self.bytes.clear();
+        self.spans.clear();
+        self.groups.clear();
+        self.open = 0;
+    }
+
+    /// Adds an item to the element that is not whole yet.
+    pub fn add<V: Valued>(&mut self, item: &V) -> Result<(), Memory>
+        ensures added { OnOk result (self.new ≡ record { elements = self.old.elements; items = self.old.items ++ V.owned item.now ∷ [] }) }
+        ensures unchanged { OnErr result (self.new ≡ self.old) }
+    {
+        let start = self.bytes.len();
+        item.append_value(&mut self.bytes)?;
+        let len = self.bytes.len() - start;
+        let binary = item.is_binary();
+        self.spans.push(Span { start, len, binary })?;
+        Ok(())
+    }
+
+    /// The element is whole.
+    pub fn close(&mut self) -> Result<(), Memory>
+        requires { 0 < length self.old.items }
+        ensures closed { OnOk result (self.new ≡ record { elements = self.old.elements ++ self.old.items ∷ []; items = [] }) }
+        ensures unchanged { OnErr result (self.new ≡ self.old) }
+    {
+        let first = self.open;
+        let count = self.spans.len() - first;
+        self.groups.push(Group { first, count })?;
+        self.open = self.spans.len();
+        Ok(())
+    }
+
+    /// Leaves out the items of the element that is not whole.
+    pub fn leave_open(&mut self)
+        ensures { self.new ≡ record { elements = self.old.elements; items = [] } }
+    {
+        self.spans.truncate(self.open);
+    }
+
+    /// How many whole elements there are.
+    pub fn len(&self) -> usize
+        ensures { result ≡ length self.now.elements }
+    {
+        self.groups.len()
+    }
+
+    /// The items of an element, from 0 on; none where it is absent.
+    pub fn items(&self, element: usize) -> ElementRef<'_>
+        ensures { result ≡ get_or self.now.elements element [] }
+    {
+        match self.groups.get(element) {
+            None => ElementRef::new(&[], &[]),
+            Some(group) => {
+                let (_, rest) = self.spans.split_at(group.first);
+                let (spans, _) = rest.split_at(group.count);
+                ElementRef::new(self.bytes.as_slice(), spans)
+            }
+        }
+    }
+}
+
+#[inline(always)]
+pub fn has_escape(bytes: &[u8]) -> bool
+    ensures { OnFalse result (HasNoEscape bytes.now) }
+{
+    for b in bytes {
+        if *b == b'?' {
+            return true;
+        }
+    }
+    false
+}
+
+fn append_raw(out: &mut Vec<u8>, raw: &RawText<'_>) -> Result<(), AllocError>
+    ensures added { OnOk result (out.new.items ≡ out.old.items ++ text_value raw.now) }
+    ensures kept { OnErr result (KeepsFront out.old.items out.new.items) }
+{
+    if !has_escape(raw.as_bytes()) {
+        return out.extend_from_slice(raw.as_bytes());
+    }
+    for b in raw.bytes() {
+        out.push(b)?;
+    }
+    Ok(())
+}
+
+impl Valued for Item<'_> {
+    ghost owned = { owned_item_of };
+
+    fn append_value(&self, out: &mut Vec<u8>) -> Result<(), AllocError> {
+        match self {
+            Item::Text(raw) => append_raw(out, raw),
+            Item::Bin(data) => out.extend_from_slice(data),
+        }
+    }
+
+    fn is_binary(&self) -> bool {
+        matches!(self, Item::Bin(_))
+    }
+}
+
+impl Valued for OwnedItem {
+    ghost owned = { λ item. item };
+
+    fn append_value(&self, out: &mut Vec<u8>) -> Result<(), AllocError> {
+        out.extend_from_slice(self.value())
+    }
+
+    fn is_binary(&self) -> bool {
+        matches!(self, OwnedItem::Bin(_))
+    }
+}
+
+// Past the items of the element at the front.
+fn skip_element(cursor: &mut Cursor<'_>)
+    ensures { cursor.new ≡ after_element cursor.old }
+{
+    while let Some(found) = cursor.step() {
+        if found.after != b':' {
+            return;
+        }
+    }
+}
+
+/// The values of the elements after the head, in one pass, in place of what was held.
+pub fn fill(filling: &mut Filling, source: &[u8]) -> Result<(), Memory>
+    requires { IsFrameText source.now }
+    ensures { OnOk result (filling.new ≡ record { elements = drop 1 (values_of (segment_in source.now)); items = [] }) }
+{
+    filling.clear();
+    let mut cursor = cursor_over(source);
+    skip_element(&mut cursor);
+    while let Some(found) = cursor.step() {
+        filling.add(&found.item)?;
+        if found.after != b':' {
+            filling.close()?;
+        }
+    }
+    Ok(())
+}
