@@ -82,12 +82,6 @@ left_end vs i codes old l e =
     let at : position_or_len is_bad_code vs ≡ length vs = prefix_len_is (λ x. not (is_bad_code x)) vs (length vs) [] (omega arith) (λ k less. not_false (is_bad_code (get_or vs k [])) (l.good k (omega arith))) (λ less. absurd (omega arith)) in
     (rw (at, le-ltb (length vs) (length vs) (omega arith)) refl, l.codes_are ∙ ap (λ (x : List (List ℕ)). old ++ filter_map code_in x) (take_all i vs (omega arith)))
 
--- the value of item 1 of the element at i
-pub value_is : {A : Type 0} (g : A → List OwnedItem) (xs : List A) (i : ℕ) (x : A) → i < length xs → x ≡ get_or xs i x → get_or (map first_value (map g xs)) i [] ≡ first_value (g x)
-value_is g [] i x lt e = absurd (omega arith)
-value_is g (y ∷ ys) zero x lt e = ap (λ z. first_value (g z)) (sym e)
-value_is g (y ∷ ys) (suc i) x lt e = value_is g ys i x (omega arith) e
-
 -- ---- after the segments that were seen
 
 pub codes_more : (s : OwnedSegment) (old new : List ℕ) → bad_code s ≡ None → new ≡ old ++ codes_in (s ∷ []) → Continues CodesSoFar old new (s ∷ [])

@@ -1,6 +1,5 @@
 pub mod Protocols
 pub mod Pairs
-pub mod Mapped
 pub mod Lists
 pub mod Offsets
 pub mod Refusing
@@ -8,4 +7,5 @@ pub mod RowsSoFar
 pub mod FoundCodes
 pub mod Sizes
 pub mod Bounds
+pub mod Viewed
 pub mod OneMeaning

@@ -68,38 +68,12 @@ continue_end Good a b segments i le h = subst (λ (xs : List OwnedSegment). Cont
 
 -- ---- over placed segments
 
-stand_more : (ps : List PlacedSegment) (parts : List Part) (p : PlacedSegment) (mine : List Part) → StandFor ps parts → StandsFor p mine → StandFor (ps ++ p ∷ []) (parts ++ mine)
+pub stand_more : (ps : List PlacedSegment) (parts : List Part) (p : PlacedSegment) (mine : List Part) → StandFor ps parts → StandsFor p mine → StandFor (ps ++ p ∷ []) (parts ++ mine)
 stand_more [] parts p mine h s = (mine, [], s, refl, ap (λ (x : List Part). x ++ mine) h ∙ sym (append-nil mine))
 stand_more (q ∷ qs) parts p mine (own, more, sq, rest, e) s = (own, more ++ mine, sq, stand_more qs more p mine rest s, ap (λ (x : List Part). x ++ mine) e ∙ append_assoc own more mine)
 
 pub read_none : {S : Type 0} (Good : List OwnedSegment → S → Type 0) (a : S) → Good [] a → ReadsAll Good [] a
 read_none Good a g = ([], refl, g)
-
-pub read_next : {S : Type 0} (Good : List OwnedSegment → S → Type 0) (a b : S) (placed : List PlacedSegment) (i : ℕ) (p : PlacedSegment) → i < length placed → p ≡ get_or placed i p
-    → ReadsAll Good (take i placed) a → ContinuesOver Good a b p → ReadsAll Good (take (i + 1) placed) b
-read_next Good a b placed i p lt e (seen, stand, g) (mine, own, k) =
-    let stands : StandFor (take i placed ++ p ∷ []) (map part (seen ++ mine)) = subst (λ (ps : List Part). StandFor (take i placed ++ p ∷ []) ps) (sym (map-append part seen mine)) (stand_more (take i placed) (map part seen) p (map part mine) stand own) in
-    (seen ++ mine, subst (λ (xs : List PlacedSegment). StandFor xs (map part (seen ++ mine))) (sym (next_is placed i p lt e)) stands, k seen g)
-
-pub read_end : {S : Type 0} (Good : List OwnedSegment → S → Type 0) (a : S) (placed : List PlacedSegment) (i : ℕ) → length placed ≤ i → ReadsAll Good (take i placed) a → ReadsAll Good placed a
-read_end Good a placed i le h = subst (λ (xs : List PlacedSegment). ReadsAll Good xs a) (take_all i placed le) h
-
-refused_in : {S : Type 0} (rule : Rule) (Good : List OwnedSegment → S → Type 0) (a : S) (placed : List PlacedSegment) (i : ℕ) (p : PlacedSegment) (f : ParamFault) → i < length placed → p ≡ get_or placed i p
-    → ReadsAll Good (take i placed) a → StopsAt rule Good a p f → IsRefusedIn rule placed f
-refused_in rule Good a placed i p f lt e (seen, stand, g) (parts, own, k) =
-    let first = refused_later rule [] seen parts [] f (k seen g) in
-    record {
-      front = take i placed ++ p ∷ [];
-      back = drop (i + 1) placed;
-      split = split_at placed i p lt e ∙ sym (append_assoc (take i placed) (p ∷ []) (drop (i + 1) placed));
-      parts = map part seen ++ parts;
-      stand = stand_more (take i placed) (map part seen) p parts stand own;
-      first = subst (λ (ps : List Part). IsRefusedAfter rule [] (map part seen ++ ps) f) (append-nil parts) first;
-    }
-
-pub stop_read : {S : Type 0} (rule : Rule) (Good : List OwnedSegment → S → Type 0) (a : S) (placed : List PlacedSegment) (i : ℕ) (p : PlacedSegment) (f : ParamFault) → i < length placed → p ≡ get_or placed i p
-    → ReadsAll Good (take i placed) a → IsMemoryOr (StopsAt rule Good a p) f → IsMemoryOr (IsRefusedIn rule placed) f
-stop_read rule Good a placed i p f lt e h m = memory_or (StopsAt rule Good a p) (IsRefusedIn rule placed) f (λ g k. refused_in rule Good a placed i p g lt e h k) m
 
 -- data that can't be opened
 pub closed_stops : {S : Type 0} (rule : Rule) (Good : List OwnedSegment → S → Type 0) (a : S) (f : ParamFault) → ((seen : List OwnedSegment) → Good seen a → NoneRefused rule seen) → StopsIn rule Good a (closed f ∷ []) f

@@ -1,5 +1,5 @@
 //! Elements in three flat lists: bytes, items and elements.
-ghost use Rattle.std.specs.Prelude.{◌≡◌, ◌<◌, ◌++◌, ◌∷◌, [], length, OnOk, OnErr, get_or, cond, drop};
+ghost use Rattle.std.specs.Prelude.{◌≡◌, ◌<◌, ◌^◌, ◌++◌, ◌∷◌, [], length, OnOk, OnErr, get_or, cond, drop};
 ghost use Rattle.fints_syntax.specs.Owned.{owned_item_of};
 ghost use Rattle.fints_syntax.specs.Segment.{item_value, values_of};
 ghost use Rattle.fints_syntax.specs.Spelling.{text_value};
@@ -121,7 +121,8 @@ impl Filling {
 
     /// How many whole elements there are.
     pub fn len(&self) -> usize
-        ensures { result ≡ length self.now.elements }
+        ensures count { result ≡ length self.now.elements }
+        ensures bound { result < 2 ^ 63 }
     {
         self.groups.len()
     }

@@ -4,4 +4,4 @@ use Rattle.fints_params.proofs.FoundCodes.{Left}
 use Rattle.fints_params.proofs.feedback.read_codes.Given as goal
 
 abbrev pub invariant-loop-i : goal.invariant-loop-i
-invariant-loop-i l = Left (map first_value (map (λ v. v.items) l.items-items)) l.i l.codes.items l.fn.codes.items
+invariant-loop-i l = Left (map first_value l.segment.elements) l.i l.codes.items l.fn.codes.items

@@ -19,10 +19,10 @@ returns-then-not-is_sealed-clause-stopped g c =
     let e : is_sealed p.segment ≡ false = sym c.is_sealed.ensures ∙ c.if-not-is_sealed.true in
     IfErr-weaker c.add.result (λ f. IsMemoryOr (StopsIn g.R.Reader.rule g.R.Reader.good c.args.reader.now (part p.segment ∷ [])) f) (λ f. IsMemoryOr (StopsAt g.R.Reader.rule g.R.Reader.good c.args.reader.now p) f) (λ f m. single_stop g.R.Reader.rule g.R.Reader.good c.args.reader.now p f e m) c.add.ensures.stopped
 
-pub returns-in_err-segments-clause-stopped : goal.returns-in_err-segments-clause-stopped
-returns-in_err-segments-clause-stopped g c =
+pub returns-in_err-views-clause-stopped : goal.returns-in_err-views-clause-stopped
+returns-in_err-views-clause-stopped g c =
     let p = c.args.placed.now in
     let e : is_sealed p.segment ≡ true = sym c.is_sealed.ensures ∙ c.if-not-is_sealed.false in
-    let f = closed_stop g.R.Reader.rule g.R.Reader.good c.args.reader.now p c.in_err-segments.field-0.0 (λ seen h. g.met.R.Reader.none_refused seen c.args.reader.now h) e c.in_err-segments.ensures.closed in
+    let f = closed_stop g.R.Reader.rule g.R.Reader.good c.args.reader.now p c.in_err-views.field-0.0 (λ seen h. g.met.R.Reader.none_refused seen c.args.reader.now h) e c.in_err-views.ensures.closed in
     let q = err_from_is_err_and c.from_residual.result c.from_residual.ensures.1 in
     rw (q.1, q.2) f

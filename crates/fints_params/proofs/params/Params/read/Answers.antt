@@ -1,5 +1,22 @@
+use Rattle.std.proofs.Common.{◌≡◌, ◌<◌, ◌^◌, arith}
+use Rattle.std.proofs.lemmas.Result.{err_from_is_err_and}
+use Rattle.fints_params.specs.Captures.{IsParamFault}
+use Rattle.fints_params.specs.Parameters.{fault_after, skipped_in}
+use Rattle.fints_params.specs.Steps.{IsRefusedOf}
 use Rattle.fints_params.proofs.Bounds.{can_count}
+use Rattle.fints_params.proofs.Refusing.{memory_or}
+use Rattle.fints_params.proofs.Viewed.{param_fault}
 use Rattle.fints_params.proofs.params.Params.read.Goals as goal
 
-pub read_rows-requires : goal.read_rows-requires
-read_rows-requires c = rw c.as_slice.ensures.value (can_count c.args.capture.now c.in_ok-placed.placed.items c.in_ok-placed.ensures.ok)
+pub returns-in_err-read_capture-clause-refused : goal.returns-in_err-read_capture-clause-refused
+returns-in_err-read_capture-clause-refused c =
+    let capture = c.args.capture.now in
+    let f = memory_or (IsRefusedOf fault_after capture) (IsParamFault capture) c.in_err-read_capture.field-0.0 (param_fault capture) c.in_err-read_capture.ensures.refused in
+    let p = err_from_is_err_and c.from_residual.result c.from_residual.ensures.1 in
+    rw (p.1, p.2) f
+
+pub finish-requires : goal.finish-requires
+finish-requires c =
+    let e = c.in_ok-read_capture.ensures.ok in
+    let few : skipped_in e.2.0 < 2 ^ 32 = can_count c.args.capture.now e.0 e.1 e.2.0 e.2.1 in
+    omega (arith, few, e.2.2.rows.skipped)
