@@ -117,7 +117,7 @@ fn with_segments(
     frame: Frame,
     body: &[SegmentView<'_>],
     ends: &[SegmentView<'_>],
-) -> Result<Message, AllocError>
+) -> Result<Message, Memory>
     ensures { IfOk result (λ m. m ≡ record { size = frame.size; protocol = frame.protocol; number = frame.number; body = segments_of body.now; ends = segments_of ends.now }) }
 {
     let Frame {

@@ -10,7 +10,7 @@ use Rattle.fints_syntax.specs.Capture.{CaptureFaultAt}
 use Rattle.fints_params.specs.Sealed.{is_sealed, data_of}
 use Rattle.fints_params.specs.Faults.{IsMemoryOr, fault_from}
 use Rattle.fints_params.specs.Opened.{Part, part, closed, StandsFor, StandFor}
-use Rattle.fints_params.specs.Captures.{Rule, NoneRefused, part_fault, IsRefusedAfter, IsRefusedIn}
+use Rattle.fints_params.specs.Captures.{Rule, NoneRefused, part_fault, IsRefusedAfter}
 use Rattle.fints_params.specs.Steps.{Continues, StopsIn, ContinuesOver, StopsAt, ReadsAll, OpensTo, IsClosedBy}
 use Rattle.fints_params.proofs.Lists.{split_at, next_is, push_split}
 

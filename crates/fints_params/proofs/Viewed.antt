@@ -10,10 +10,10 @@ use Rattle.fints_params.specs.declared.fault.ParamFault.{ParamFault}
 use Rattle.fints_params.specs.declared.placed.PlacedSegment.{PlacedSegment}
 use Rattle.fints_params.specs.Faults.{IsMemoryOr}
 use Rattle.fints_params.specs.Opened.{Part, part, StandFor, IsPlacedValue, place_in}
-use Rattle.fints_params.specs.Captures.{Rule, IsRefusedIn, IsRefusedAfter, IsParamFault}
+use Rattle.fints_params.specs.Captures.{Rule, IsRefusedAfter, IsParamFault}
 use Rattle.fints_params.specs.Parameters.{fault_after}
 use Rattle.fints_params.specs.Steps.{ContinuesOver, StopsAt, ReadsAll, IsWithin, ReadsViews, IsRefusedInViews, IsRefusedOf}
-use Rattle.fints_params.proofs.Lists.{split_at, next_is, zip_more}
+use Rattle.fints_params.proofs.Lists.{split_at, zip_more}
 use Rattle.fints_params.proofs.Refusing.{memory_or, read_none, stand_more, refused_later}
 use Rattle.fints_params.proofs.Bounds.{placed_fits}
 
@@ -56,8 +56,7 @@ refused_views : {S : Type 0} (rule : Rule) (Good : List OwnedSegment → S → T
 refused_views rule Good a views i view p f within lt e (placed, zip, (seen, stand, g)) is (parts, own, k) =
     let later = values_of_views (drop (i + 1) views) (within_later views (i + 1) within) in
     let both = zip_append IsPlacedValue (take i views) (view ∷ drop (i + 1) views) placed (p ∷ later.0) zip (is, later.1) in
-    let first = refused_later rule [] seen parts [] f (k seen g) in
-    (
+    let first = refused_later rule [] seen parts [] f (k seen g) in (
       placed ++ p ∷ later.0,
       subst (λ (vs : List syntax.Placed). AllZip IsPlacedValue vs (placed ++ p ∷ later.0)) (sym (split_at views i view lt e)) both,
       record {

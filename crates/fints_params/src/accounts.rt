@@ -11,6 +11,9 @@ use crate::rows::{AccountRow, Entries, Entry, National};
 use fints_syntax::{ElementRef, Elements, ItemRef, Kind, OwnedSegment, parse_number};
 use std::alloc::{AllocError, Global};
 
+// Entries stand in the elements from 11 on, and elements after the head are counted from 0 here.
+const FIRST_ENTRY: usize = 9;
+
 /// What HIUPA says: 0 or 1.
 pub fn read_usage(segment: &OwnedSegment) -> Result<u32, ParamFault>
     ensures fine { IfOk result (λ n. usage_fault segment.now ≡ None) }
@@ -65,7 +68,7 @@ fn entries_of(alloc: Global, elements: &Elements) -> Result<Vec<Entry>, AllocErr
     ensures { IfOk result (λ v. v.items ≡ filter_map entry_of (drop 9 elements.now)) }
 {
     let mut entries = Vec::new(alloc);
-    let mut at = 9;
+    let mut at = FIRST_ENTRY;
     while at < elements.len() {
         if let Some(entry) = read_entry(&elements.items(at)) {
             entries.push(entry)?;
@@ -80,7 +83,7 @@ fn odd_elements(elements: &Elements) -> usize
     ensures { result ≡ count_by is_odd_element (drop 9 elements.now) }
 {
     let mut count = 0;
-    let mut at = 9;
+    let mut at = FIRST_ENTRY;
     while at < elements.len() {
         if is_odd(&elements.items(at)) {
             count += 1;

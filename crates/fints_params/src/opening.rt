@@ -46,10 +46,7 @@ fn data(segment: &OwnedSegment) -> Option<&[u8]>
 }
 
 // The segments of the data of an HNVSD.
-fn open<'a>(
-    alloc: Global,
-    placed: &'a PlacedSegment,
-) -> Result<Vec<SegmentView<'a>>, ParamFault>
+fn open<'a>(alloc: Global, placed: &'a PlacedSegment) -> Result<Vec<SegmentView<'a>>, ParamFault>
     ensures ok { IfOk result (λ v. OpensTo placed.now (segments_of v.items)) }
     ensures closed { IfErr result (λ f. IsMemoryOr (IsClosedBy placed.now) f) }
 {

@@ -2,7 +2,7 @@
 use fints_hint_words::places::Told;
 use fints_hint_words::quoting::Sample;
 use fints_params::Code;
-use fints_syntax::{Item, Memory, OwnedItem, OwnedSegment, Placed, parse_number, parse_placed};
+use fints_syntax::{ElementRef, Item, Memory, OwnedSegment, Placed, parse_number, parse_placed};
 use std::alloc::Global;
 
 /// A segment of a capture, with its offset; whether it stands in the data of an HNVSD.
@@ -88,14 +88,15 @@ fn item_text(alloc: Global, element: usize, place: usize, value: &[u8], what: &s
     Ok(Some(format!(in alloc; "element {element}, item {item} is {shown}, and must be {what}")?))
 }
 
-fn protocols_slip(alloc: Global, items: &[OwnedItem]) -> Told {
-    for (i, item) in items.iter().enumerate() {
-        if !is_number_or_empty(item.value()) {
+fn protocols_slip(alloc: Global, items: &ElementRef<'_>) -> Told {
+    for i in 0..items.len() {
+        let value = items.value(i + 1);
+        if !is_number_or_empty(value) {
             return item_text(
                 alloc,
                 7,
                 i,
-                item.value(),
+                value,
                 "a number of 1 to 9 digits, a protocol version",
             );
         }
@@ -112,7 +113,7 @@ fn bank_slip(alloc: Global, segment: &OwnedSegment) -> Told {
             "a number of 1 to 9 digits, the most kinds of orders in a message",
         );
     }
-    let found = protocols_slip(alloc, segment.items(7))?;
+    let found = protocols_slip(alloc, &segment.items(7))?;
     if found.is_some() {
         return Ok(found);
     }
@@ -143,13 +144,6 @@ fn is_good_pair(kind: &[u8], flag: &[u8]) -> bool {
     kind.is_empty() && flag.is_empty() || flag == b"J".as_slice() || flag == b"N".as_slice()
 }
 
-fn value_at(items: &[OwnedItem], place: usize) -> &[u8] {
-    match items.get(place) {
-        Some(item) => item.value(),
-        None => &[],
-    }
-}
-
 fn pair_text(alloc: Global, place: usize, kind: &[u8], flag: &[u8]) -> Told {
     let item = place.saturating_add(2);
     let kind = Sample(kind);
@@ -159,14 +153,14 @@ fn pair_text(alloc: Global, place: usize, kind: &[u8], flag: &[u8]) -> Told {
     )?))
 }
 
-fn pins_slip(alloc: Global, items: &[OwnedItem]) -> Told {
+fn pins_slip(alloc: Global, items: &ElementRef<'_>) -> Told {
     let mut place: usize = 5;
     for _ in 0..items.len() {
         if place >= items.len() {
             return Ok(None);
         }
-        let kind = value_at(items, place);
-        let flag = value_at(items, place.saturating_add(1));
+        let kind = items.value(place + 1);
+        let flag = items.value((place + 1).saturating_add(1));
         if !is_good_pair(kind, flag) {
             return pair_text(alloc, place, kind, flag);
         }
@@ -185,7 +179,7 @@ fn params_slip(alloc: Global, spot: &Spot) -> Told {
         return usage_slip(alloc, segment);
     }
     if segment.is_named(b"HIPINS", 1) {
-        return pins_slip(alloc, segment.items(5));
+        return pins_slip(alloc, &segment.items(5));
     }
     if segment.is_named(b"HNVSD", 1) && !spot.inner {
         return element_text(
@@ -204,8 +198,8 @@ fn feedback_slip(alloc: Global, spot: &Spot) -> Told {
     if !segment.is_named(b"HIRMG", 2) && !segment.is_named(b"HIRMS", 2) {
         return Ok(None);
     }
-    for (i, items) in segment.elements.as_slice().iter().enumerate() {
-        let text = value_at(items.as_slice(), 0);
+    for i in 0..segment.elements.len() {
+        let text = segment.elements.items(i).value(1);
         if !text.is_empty() && Code::parse(text).is_none() {
             return item_text(alloc, i.saturating_add(2), 0, text, "a code of four digits");
         }

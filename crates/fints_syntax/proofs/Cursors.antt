@@ -1,7 +1,7 @@
 -- A cursor over the items of a segment.
-use Rattle.std.proofs.Common.{◌≡◌, ℕ, zero, suc, ◌+◌, ◌<◌, ◌≤◌, List, [], ◌∷◌, ◌++◌, length, take, drop, refl, ap, ◌∙◌, sym, subst, arith, append_assoc}
-use Rattle.std.proofs.lemmas.List.{append-nil, length-append}
-use Rattle.fints_syntax.specs.Segment.{Token, token_bytes, tokens_bytes, segment_tokens}
+use Rattle.std.proofs.Common.{◌≡◌, ℕ, zero, suc, ◌+◌, ◌<◌, List, [], ◌∷◌, length, take, drop, refl, ap, ◌∙◌, sym, subst, arith, append_assoc}
+use Rattle.std.proofs.lemmas.List.{append-nil}
+use Rattle.fints_syntax.specs.Segment.{Token, tokens_bytes, segment_tokens}
 use Rattle.fints_syntax.specs.Reader.{tokens_in, segment_in}
 use Rattle.fints_syntax.specs.Faults.{BeginsWithItem}
 use Rattle.fints_syntax.specs.Window.{IsFrameText}
@@ -11,8 +11,8 @@ use Rattle.fints_syntax.specs.Cursor.{IsRun}
 use Rattle.fints_syntax.specs.Spelling.{spelled_bytes}
 use Rattle.fints_syntax.specs.Reader.{item_in}
 use Rattle.fints_syntax.proofs.Tokens.{IsClosed, closed-segment, tokens_in-closed, tokens-short}
-use Rattle.fints_syntax.proofs.Windows.{IsToken, token_closed}
-use Rattle.fints_syntax.proofs.Located.{first_is, is_there}
+use Rattle.fints_syntax.proofs.Windows.{token_closed}
+use Rattle.fints_syntax.proofs.Located.{first_is}
 use Rattle.fints_syntax.proofs.ItemLaws.{spelled_text}
 use Rattle.std.proofs.lemmas.List.{take_at}
 

@@ -1,12 +1,10 @@
 -- The values of a segment, as far as a cursor has read them.
-use Rattle.std.proofs.Common.{◌≡◌, ◌≢◌, ℕ, ◌+◌, ◌<◌, ◌≤◌, true, false, eqb, List, [], ◌∷◌, ◌++◌, length, drop, refl, ap, ◌∙◌, sym, subst, arith, ◌⊎◌, inl, inr, append_assoc, map}
+use Rattle.std.proofs.Common.{◌≡◌, ◌≢◌, ℕ, ◌<◌, false, eqb, List, [], ◌∷◌, ◌++◌, length, drop, refl, ap, ◌∙◌, sym, subst, arith, ◌⊎◌, inl, inr, append_assoc, map}
 use Rattle.std.specs.List.{AllByRecursion}
-use Rattle.std.proofs.lemmas.Bool.{ne_eqb, eq-eqb}
 use Rattle.std.proofs.lemmas.List.{append-nil, length-map}
 use Rattle.fints_syntax.specs.Spelling.{Spelled, item_of, IsSpelled}
-use Rattle.fints_syntax.specs.Segment.{Token, element_tokens, segment_tokens, values_of, IsFramed}
+use Rattle.fints_syntax.specs.Segment.{Token, element_tokens, segment_tokens, values_of}
 use Rattle.fints_syntax.specs.Reader.{segment_in, elements_in}
-use Rattle.fints_syntax.specs.ItemIs.{IsItem}
 use Rattle.fints_syntax.specs.Owned.{owned_item_of}
 use Rattle.fints_syntax.specs.Window.{IsFrameText}
 use Rattle.fints_syntax.specs.Cursor.{IsTaken, after_element}
@@ -26,19 +24,6 @@ pub after_first : (es : List (List Spelled)) → AllByRecursion (λ e. 0 < lengt
 after_first [] h = refl
 after_first (e ∷ []) h = ap after_element (sym (append-nil (element_tokens 39 e))) ∙ after_one 39 e [] h.0 refl
 after_first (e ∷ f ∷ es) h = after_one 43 e (segment_tokens (f ∷ es)) h.0 refl
-
-pub after_colon : (old new : List Token) (f : Found) → IsTaken old f new → f.after ≡ 58 → after_element old ≡ after_element new
-after_colon old new f t q =
-    let b : eqb t.token.after 58 ≡ true = eq-eqb t.token.after 58 (sym t.after ∙ q) in
-    ap after_element t.split ∙ rw b refl
-
-pub after_other : (old new : List Token) (f : Found) → IsTaken old f new → f.after ≢ 58 → after_element old ≡ new
-after_other old new f t q =
-    let b : eqb t.token.after 58 ≡ false = ne_eqb t.token.after 58 (λ e. q (t.after ∙ e)) in
-    ap after_element t.split ∙ rw b refl
-
-pub shorter : (old new : List Token) (f : Found) → IsTaken old f new → length new < length old
-shorter old new f t = omega (arith, ap length t.split)
 
 -- ---- the values so far
 

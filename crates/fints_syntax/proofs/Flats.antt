@@ -1,16 +1,12 @@
 -- Lists that runs of other lists stand for.
-use Rattle.std.proofs.Common.{◌≡◌, ◌≢◌, ℕ, zero, suc, ◌+◌, ◌-◌, ◌<◌, ◌≤◌, List, [], ◌∷◌, Some, None, ◌++◌, length, take, drop, map, get_or, cond, refl, ap, ◌∙◌, sym, subst, arith, Bool, true, false}
+use Rattle.std.proofs.Common.{◌≡◌, ℕ, zero, suc, ◌+◌, ◌≤◌, List, [], ◌∷◌, Some, None, ◌++◌, length, take, drop, map, get_or, cond, refl, ap, ◌∙◌, sym, arith}
 use Rattle.std.specs.List.{AllByRecursion}
-use Rattle.std.proofs.lemmas.List.{append-nil, length-append, map-append, length-map, drop_all, drop_at, take_all, take-append-drop, get_or-map}
-use Rattle.std.specs.Prelude.{slice_get, Result, Ok, Err, OnErr, OnOk}
-use Rattle.std.proofs.lemmas.Option.{slice_get_within, get_or_from_slice_get}
-use Rattle.fints_syntax.specs.Flat.{Filled}
+use Rattle.std.proofs.lemmas.List.{length-append, map-append, length-map, drop_at, take_all, take-append-drop}
+use Rattle.std.specs.Prelude.{slice_get, Result, Ok, Err, OnErr}
 use Rattle.fints_syntax.specs.Spelling.{TextUnit, escaped, plain, text_bytes, text_value}
-use Rattle.fints_syntax.specs.Reader.{units_in}
-use Rattle.fints_syntax.specs.Items.{IsUnits}
 use Rattle.fints_syntax.specs.Written.{KeepsFront}
 use Rattle.fints_syntax.specs.Segment.{item_value}
-use Rattle.fints_syntax.specs.Flat.{HasNoEscape, run_of, spanned, all_items, element_at, elements_at, IsSpanIn, IsGroupIn}
+use Rattle.fints_syntax.specs.Flat.{HasNoEscape, run_of, spanned, all_items, elements_at, IsSpanIn, IsGroupIn}
 use Rattle.fints_syntax.specs.declared.item.OwnedItem.{OwnedItem}
 use Rattle.fints_syntax.specs.declared.item.OwnedItem.TheVariants.{Text, Bin}
 use Rattle.fints_syntax.specs.declared.element.Span.{Span}
@@ -115,41 +111,10 @@ map_drop f zero xs = refl
 map_drop f (suc n) [] = refl
 map_drop f (suc n) (x ∷ xs) = map_drop f n xs
 
-map_take : {A B : Type 0} (f : A → B) (n : ℕ) (xs : List A) → take n (map f xs) ≡ map f (take n xs)
-map_take f zero xs = refl
-map_take f (suc n) [] = refl
-map_take {A} {B} f (suc n) (x ∷ xs) = ap (λ (ys : List B). f x ∷ ys) (map_take f n xs)
-
-map_run : {A B : Type 0} (f : A → B) (xs : List A) (start len : ℕ) → run_of (map f xs) start len ≡ map f (run_of xs start len)
-map_run f xs start len = ap (take len) (map_drop f start xs) ∙ map_take f len (drop start xs)
-
-all_drop : {A : Type 0} (P : A → Type 0) (n : ℕ) (xs : List A) → AllByRecursion P xs → AllByRecursion P (drop n xs)
-all_drop P zero xs h = h
-all_drop P (suc n) [] h = tt
-all_drop P (suc n) (x ∷ xs) h = all_drop P n xs h.1
-
 all_take : {A : Type 0} (P : A → Type 0) (n : ℕ) (xs : List A) → AllByRecursion P xs → AllByRecursion P (take n xs)
 all_take P zero xs h = tt
 all_take P (suc n) [] h = tt
 all_take P (suc n) (x ∷ xs) h = (h.0, all_take P n xs h.1)
-
-pub all_run : {A : Type 0} (P : A → Type 0) (xs : List A) (start len : ℕ) → AllByRecursion P xs → AllByRecursion P (run_of xs start len)
-all_run P xs start len h = all_take P len (drop start xs) (all_drop P start xs h)
-
-pub group_at : (n : ℕ) (gs : List Group) (e : ℕ) (g : Group) → AllByRecursion (IsGroupIn n) gs → slice_get gs e ≡ Some g → IsGroupIn n g
-group_at n [] e g h is = absurd cc
-group_at n (x ∷ gs) zero g h is = let same : x ≡ g = cc in subst (IsGroupIn n) same h.0
-group_at n (x ∷ gs) (suc e) g h is = group_at n gs e g h.1 is
-
-pub element_is : (bs : List ℕ) (ss : List Span) (gs : List Group) (e : ℕ) (g : Group) → slice_get gs e ≡ Some g → get_or (elements_at (all_items bs ss) gs) e [] ≡ all_items bs (run_of ss g.first g.count)
-element_is bs ss gs e g is =
-    get_or-map (element_at (all_items bs ss)) gs e g [] (slice_get_within gs e g is)
-    ∙ ap (element_at (all_items bs ss)) (get_or_from_slice_get gs e g g is) ∙ map_run (spanned bs) ss g.first g.count
-
-pub element_none : (items : List OwnedItem) (gs : List Group) (e : ℕ) → slice_get gs e ≡ None → get_or (elements_at items gs) e [] ≡ []
-element_none items [] e is = refl
-element_none items (g ∷ gs) zero is = absurd cc
-element_none items (g ∷ gs) (suc e) is = element_none items gs e is
 
 -- ---- the value of an item
 
@@ -198,7 +163,3 @@ open_left bs ss gs at spans groups within =
 pub on_err : {T E P : Type 0} (r : Result T E) → P → OnErr r P
 on_err (Ok x) p = tt
 on_err (Err e) p = p
-
-pub on_ok : {T E P : Type 0} (r : Result T E) → P → OnOk r P
-on_ok (Ok x) p = p
-on_ok (Err e) p = tt

@@ -10,14 +10,14 @@ use crate::text::{Item, item_from};
 use std::marker::Model;
 
 /// An item, and the byte after it: `:`, `+` or `'`.
-#[derive(Debug, Drop)]
+#[derive(Drop)]
 pub struct Found<'a> {
     pub item: Item<'a>,
     pub after: u8,
 }
 
 /// The items of a segment that are left; a contract sees them, each with the byte after it.
-#[derive(Debug, Drop)]
+#[derive(Drop)]
 pub struct Cursor<'a> {
     rest: &'a [u8],
 }

@@ -12,9 +12,9 @@ ghost use Rattle.fints_syntax.specs.Cursor.{after_element};
 ghost use Rattle.fints_syntax.specs.declared.item.OwnedItem.TheVariants.{Text, Bin};
 
 use crate::cursor::{Cursor, cursor_over};
+use crate::element::{ElementRef, Span};
 use crate::fault::Memory;
 use crate::item::OwnedItem;
-use crate::element::{ElementRef, Span};
 use crate::text::{Item, RawText};
 use std::alloc::{AllocError, Global};
 use std::marker::Model;

@@ -4,11 +4,11 @@
 mod bytes;
 mod capture;
 mod cursor;
+mod element;
 mod fault;
 mod flat;
 mod head;
 mod item;
-mod element;
 mod kind;
 pub mod laws;
 mod locate;
@@ -20,9 +20,9 @@ mod writing;
 
 pub use bytes::Bytes;
 pub use capture::{Placed, parse_all, parse_placed};
+pub use element::{ElementRef, ItemRef};
 pub use fault::{Memory, SyntaxFault, SyntaxKind};
 pub use item::{Elements, Head, OwnedItem, OwnedSegment};
-pub use element::{ElementRef, ItemRef};
 pub use kind::{Kind, is_frame_kind};
 pub use scan::parse_number;
 pub use text::{Item, RawText, Unescaped};

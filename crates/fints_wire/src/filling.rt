@@ -177,7 +177,8 @@ pub fn filled_elements(
 {
     let mut elements = Elements::new(alloc);
     for items in template {
-        elements.push(filled_element(alloc, filling, items.as_slice())?)?;
+        let element = filled_element(alloc, filling, items.as_slice())?;
+        elements.push(element.as_slice())?;
     }
     Ok(elements)
 }

@@ -6,10 +6,11 @@ ghost use Rattle.fints_syntax.specs.Kind.{kind_from};
 ghost use Rattle.fints_wire.specs.Filling.{make_segment};
 ghost use Rattle.fints_wire.specs.Messages.{twelve_digits, first_segment, last_segment};
 
-use crate::copies::{copy_bytes, copy_items};
+use crate::copies::copy_bytes;
 use fints_syntax::{Bytes, Elements, Head, Kind, Memory, OwnedItem, OwnedSegment, decimal_len};
 use itoa::Buffer;
 use std::alloc::Global;
+use std::slice::from_ref;
 
 /// A segment without a reference.
 pub fn segment(kind: Kind, number: u16, version: u16, elements: Elements) -> OwnedSegment
@@ -47,20 +48,16 @@ fn twelve_digits(alloc: Global, n: u64) -> Result<Vec<u8>, Memory>
 }
 
 // Adds an element of one item.
-fn push_item(alloc: Global, elements: &mut Elements, item: OwnedItem) -> Result<(), Memory>
-    ensures { OnOk result (elements.new ≡ elements.old ++ (item ∷ []) ∷ []) }
+fn push_item(elements: &mut Elements, item: &OwnedItem) -> Result<(), Memory>
+    ensures { OnOk result (elements.new ≡ elements.old ++ (item.now ∷ []) ∷ []) }
 {
-    let mut items = Vec::new(alloc);
-    items.push(item)?;
-    elements.push(items)?;
-    Ok(())
+    elements.push(from_ref(item))
 }
 
 fn push_text(alloc: Global, elements: &mut Elements, text: &[u8]) -> Result<(), Memory>
     ensures { OnOk result (elements.new ≡ elements.old ++ (Text text.now ∷ []) ∷ []) }
 {
-    push_item(alloc, elements, OwnedItem::Text(copy_bytes(alloc, text)?))?;
-    Ok(())
+    push_item(elements, &OwnedItem::Text(copy_bytes(alloc, text)?))
 }
 
 fn push_number(alloc: Global, elements: &mut Elements, number: u32) -> Result<(), Memory>
@@ -68,8 +65,7 @@ fn push_number(alloc: Global, elements: &mut Elements, number: u32) -> Result<()
 {
     let mut digits = Vec::new(alloc);
     push_decimal(&mut digits, u64::from(number))?;
-    push_item(alloc, elements, OwnedItem::Text(Bytes::new(digits)))?;
-    Ok(())
+    push_item(elements, &OwnedItem::Text(Bytes::new(digits)))
 }
 
 /// HNHBK: the size of the message, the protocol version, the dialogue id and the number.
@@ -84,9 +80,9 @@ pub fn first_segment(
 {
     let mut elements = Elements::new(alloc);
     let digits = twelve_digits(alloc, size)?;
-    push_item(alloc, &mut elements, OwnedItem::Text(Bytes::new(digits)))?;
+    push_item(&mut elements, &OwnedItem::Text(Bytes::new(digits)))?;
     push_text(alloc, &mut elements, b"300")?;
-    elements.push(copy_items(alloc, dialog)?)?;
+    elements.push(dialog)?;
     push_number(alloc, &mut elements, number)?;
     Ok(segment(Kind::parse(b"HNHBK").unwrap(), 1, 3, elements))
 }
@@ -105,7 +101,7 @@ pub fn data_segment(alloc: Global, inner: Vec<u8>) -> Result<OwnedSegment, Memor
     ensures { IfOk result (λ s. s ≡ make_segment (codes "HNVSD") 999 1 ((Bin inner.items ∷ []) ∷ [])) }
 {
     let mut elements = Elements::new(alloc);
-    push_item(alloc, &mut elements, OwnedItem::Bin(Bytes::new(inner)))?;
+    push_item(&mut elements, &OwnedItem::Bin(Bytes::new(inner)))?;
     Ok(segment(Kind::parse(b"HNVSD").unwrap(), 999, 1, elements))
 }
 

@@ -1,8 +1,6 @@
-use Rattle.std.proofs.Common.{◌≡◌, ◌≤◌, length, map, arith}
-use Rattle.std.proofs.lemmas.List.{length-map}
 use Rattle.std.proofs.lemmas.Result.{err_from_is_err_and}
-use Rattle.fints_syntax.specs.Owned.{segment_of, segments_of}
-use Rattle.fints_params.proofs.Refusing.{stop_next, continue_next, continue_end}
+use Rattle.fints_syntax.specs.Owned.{segments_of}
+use Rattle.fints_params.proofs.Refusing.{stop_next, continue_next}
 use Rattle.fints_params.proofs.Viewed.{segment_at}
 use Rattle.fints_params.proofs.opening.add_all.Goals as goal
 

@@ -1,5 +1,4 @@
-use Rattle.std.proofs.Common.{◌≡◌, ◌++◌, ◌∙◌, ap, List, ℕ, sym, subst, rules, arith, true, false}
-use Rattle.std.specs.Prelude.{OnOk}
+use Rattle.std.proofs.Common.{◌≡◌, ◌∙◌, subst, rules, arith}
 use Rattle.fints_syntax.specs.Spelling.{text_bytes, text_value}
 use Rattle.fints_syntax.specs.Flat.{HasNoEscape}
 use Rattle.fints_syntax.proofs.Flats.{no_escape_value}

@@ -1,5 +1,4 @@
-use Rattle.std.proofs.Common.{◌≡◌, ◌++◌, take}
-use Rattle.fints_syntax.specs.Spelling.{text_value}
+use Rattle.std.proofs.Common.{◌≡◌, ◌++◌}
 use Rattle.fints_syntax.proofs.flat.append_raw.Given as goal
 
 abbrev pub invariant-loop-b : goal.invariant-loop-b

@@ -1,10 +1,10 @@
-use Rattle.std.proofs.Common.{◌≡◌, ◌++◌, ◌∷◌, [], ◌∙◌, ap, List, ℕ, sym, refl, subst, rules, arith, drop}
-use Rattle.fints_syntax.specs.Segment.{values_of, segment_tokens, Token}
+use Rattle.std.proofs.Common.{◌∙◌, ap, List, drop}
+use Rattle.fints_syntax.specs.Segment.{values_of}
 use Rattle.fints_syntax.specs.Reader.{segment_in}
 use Rattle.fints_syntax.specs.Cursor.{after_element}
 use Rattle.fints_syntax.specs.Flat as flat
 use Rattle.fints_syntax.specs.declared.item.OwnedItem.{OwnedItem}
-use Rattle.fints_syntax.proofs.Fills.{Filled, filled_start, filled_colon, filled_other, filled_end}
+use Rattle.fints_syntax.proofs.Fills.{filled_start, filled_colon, filled_other, filled_end}
 use Rattle.fints_syntax.proofs.flat.fill.Goals as goal
 
 pub loop-found-init : goal.loop-found-init

@@ -1,6 +1,5 @@
-use Rattle.std.proofs.Common.{◌≡◌, ◌∙◌, ap, sym, subst, arith, rules}
+use Rattle.std.proofs.Common.{◌∙◌, subst, arith}
 use Rattle.fints_syntax.specs.Flat.{HasNoEscape}
-use Rattle.fints_syntax.specs.ItemIs.{value_of_item}
 use Rattle.fints_syntax.proofs.Flats.{no_escape_value}
 use Rattle.fints_syntax.proofs.head.plain_value.Goals as goal
 

@@ -13,4 +13,4 @@ push-requires c =
     let some = c.requires i [] (omega arith) in
     let e : c.as_slice.result.now ≡ get_or (map (λ items. items.items) template) i [] =
     c.as_slice.ensures.value ∙ ap (λ v. v.items) c.items-item.is ∙ sym (get_or-map (λ items. items.items) template i x [] lt) in
-    rw (c.in_ok-filled_element.ensures, e) some
+    rw (c.as_slice-in-loop-items.ensures.value, c.in_ok-element.ensures, e) some

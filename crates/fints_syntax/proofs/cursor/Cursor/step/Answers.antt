@@ -1,7 +1,6 @@
-use Rattle.std.proofs.Common.{◌≡◌, ◌<◌, ◌+◌, ◌∷◌, ◌∙◌, ℕ, List, length, take, drop, sym, ap, subst, arith}
+use Rattle.std.proofs.Common.{◌≡◌, ◌<◌, ◌∷◌, ◌∙◌, List, length, sym, ap, subst, arith}
 use Rattle.fints_syntax.specs.Segment.{Token}
 use Rattle.fints_syntax.specs.Reader.{tokens_in, item_in}
-use Rattle.fints_syntax.specs.Scan.{IsWhole}
 use Rattle.fints_syntax.specs.Items.{IsSpelledText}
 use Rattle.fints_syntax.specs.ItemIs.{IsItem}
 use Rattle.fints_syntax.proofs.Cursors.{next_of, run_there, none_left, read_run}

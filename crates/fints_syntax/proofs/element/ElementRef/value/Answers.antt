@@ -1,4 +1,4 @@
-use Rattle.std.proofs.Common.{◌≡◌, ◌-◌, ◌∙◌, ap, sym}
+use Rattle.std.proofs.Common.{◌-◌, ◌∙◌, ap, sym}
 use Rattle.fints_syntax.specs.Segment.{item_value}
 use Rattle.fints_syntax.specs.Lent.{item_of_ref}
 use Rattle.fints_syntax.specs.declared.element.ItemRef.{ItemRef}

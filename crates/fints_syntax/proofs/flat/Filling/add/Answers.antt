@@ -1,11 +1,9 @@
-use Rattle.std.proofs.Common.{◌≡◌, refl, ◌-◌, ◌++◌, ◌∷◌, ◌+◌, ◌≤◌, [], ◌∙◌, ap, List, ℕ, sym, subst, rules, arith, length, drop, map, cond}
-use Rattle.std.specs.List.{AllByRecursion}
+use Rattle.std.proofs.Common.{◌≡◌, refl, ◌-◌, ◌++◌, ◌∷◌, ◌≤◌, [], ◌∙◌, ap, List, arith, length, drop}
 use Rattle.std.proofs.lemmas.List.{length-append}
 use Rattle.fints_syntax.specs.Segment.{item_value}
 use Rattle.fints_syntax.specs.declared.item.OwnedItem.{OwnedItem}
-use Rattle.fints_syntax.specs.declared.item.OwnedItem.TheVariants.{Text, Bin}
 use Rattle.fints_syntax.specs.declared.element.Span.{Span}
-use Rattle.fints_syntax.specs.Flat.{Filled, IsFlat, elements_at, all_items, IsSpanIn}
+use Rattle.fints_syntax.specs.Flat.{Filled}
 use Rattle.fints_syntax.proofs.Flats.{view_added, view_front, spans_added, within_added, spans_more, front_more, on_err}
 use Rattle.fints_syntax.proofs.flat.Filling.add.Goals as goal
 

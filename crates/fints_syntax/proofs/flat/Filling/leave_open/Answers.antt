@@ -1,7 +1,7 @@
-use Rattle.std.proofs.Common.{◌≡◌, refl, [], ◌∙◌, ap, List, take}
+use Rattle.std.proofs.Common.{◌≡◌, refl, ◌∙◌, ap, List, take}
 use Rattle.fints_syntax.specs.declared.item.OwnedItem.{OwnedItem}
 use Rattle.fints_syntax.specs.Flat.{Filled}
-use Rattle.fints_syntax.proofs.Flats.{IsLeft, open_left}
+use Rattle.fints_syntax.proofs.Flats.{open_left}
 use Rattle.fints_syntax.proofs.flat.Filling.leave_open.Goals as goal
 
 abbrev make : List (List OwnedItem) → List OwnedItem → Filled
