@@ -486,7 +486,7 @@ def families(lab):
 
 # How a test tells that memory ran out: by the error that it gives, or by an answer that it shows
 # beside the one that it wants; and one asserts that an answer is there.
-WANTS_MEMORY = re.compile(rb"^error: .*(Memory|AllocError|AllocFailed)|^  left: .*Memory|\.is_ok_and\(", re.M)
+WANTS_MEMORY = re.compile(rb"^error: .*(Memory|AllocError|AllocFailed)|^  left: .*[Mm]emory|\.is_ok_and\(", re.M)
 
 
 def ends_well(ran):
