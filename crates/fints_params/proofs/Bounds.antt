@@ -6,16 +6,18 @@ use Rattle.fints_syntax.specs.Spelling.{Spelled}
 use Rattle.fints_syntax.specs.Segment.{segment_bytes}
 use Rattle.fints_syntax.specs.Capture.{Piece, piece_bytes, IsPiece, placed_from, IsPlacedCapture, MAX_CAPTURE}
 use Rattle.fints_syntax.specs.Places.{start_of}
+use Rattle.fints_syntax.specs.PlaceLaws.{start_within}
 use Rattle.fints_syntax.specs.Owned.{segment_of}
 use Rattle.fints_syntax.specs.declared.capture.Placed as syntax
 use Rattle.fints_syntax.specs.declared.item.OwnedSegment.{OwnedSegment}
 use Rattle.fints_params.specs.declared.placed.PlacedSegment.{PlacedSegment}
 use Rattle.fints_params.specs.Sealed.{data_of, data_len}
 use Rattle.fints_params.specs.Parameters.{skipped_in}
-use Rattle.fints_params.specs.Opened.{Part, part, closed, ReadsAs, DataStandFor, SealedStandsFor, StandsFor, StandFor, IsPlacedValue, IsValuesOf, place_in}
+use Rattle.fints_syntax.specs.Streams.{place_in}
+use Rattle.fints_params.specs.Opened.{Part, part, closed, ReadsAs, DataStandFor, SealedStandsFor, StandsFor, StandFor, IsPlacedValue, IsValuesOf}
 use Rattle.fints_params.specs.Steps.{IsWithin, CanCountSkipped}
 use Rattle.fints_params.proofs.RowsSoFar.{skipped_more}
-use Rattle.fints_params.proofs.Sizes.{start_within, data_within, skipped_within}
+use Rattle.fints_params.proofs.Sizes.{data_within, skipped_within}
 
 within_from : (at : ℕ) (ps : List Piece) → at + length (flat_map piece_bytes ps) ≤ MAX_CAPTURE → AllByRecursion IsWithin (placed_from at ps)
 within_from at [] h = tt

@@ -8,4 +8,6 @@ pub mod FoundCodes
 pub mod Sizes
 pub mod Bounds
 pub mod Viewed
+pub mod GoingOn
 pub mod OneMeaning
+pub mod BothRead

@@ -1,6 +1,5 @@
 -- Lists as a loop goes over them.
-use Rattle.std.proofs.Common.{◌≡◌, ◌⊎◌, ℕ, zero, suc, ◌+◌, ◌<◌, List, [], ◌∷◌, ◌++◌, length, take, drop, get_or, refl, ap, ◌∙◌, sym, subst, arith, inl, inr}
-use Rattle.std.specs.List.{AllZip, AllByRecursion}
+use Rattle.std.proofs.Common.{◌≡◌, ◌⊎◌, ℕ, ◌+◌, ◌<◌, List, [], ◌∷◌, ◌++◌, length, take, drop, get_or, refl, ap, ◌∙◌, sym, inl, inr}
 use Rattle.std.proofs.lemmas.List.{take_more, drop_more, take-append-drop}
 
 -- the item at i
@@ -23,21 +22,3 @@ push_split (y ∷ ys) (b ∷ bs) after x at e =
       | inl w ↦ inl (ap (λ zs. b ∷ zs) w.0 ∙ ap (λ z. z ∷ ys) (sym h), w.1)
       | inr w ↦ inr (w.0, ap (λ z. z ∷ ys) h ∙ ap (λ zs. b ∷ zs) w.1)
     ]
-
-zip_push : {A B : Type 0} (R : A → B → Type 0) (xs : List A) (ys : List B) (x : A) (y : B) → AllZip R xs ys → R x y → AllZip R (xs ++ x ∷ []) (ys ++ y ∷ [])
-zip_push R [] [] x y h r = (r, tt)
-zip_push R [] (b ∷ bs) x y h r = absurd h
-zip_push R (a ∷ as') [] x y h r = absurd h
-zip_push R (a ∷ as') (b ∷ bs) x y h r = (h.0, zip_push R as' bs x y h.1 r)
-
-pub zip_more : {A B : Type 0} (R : A → B → Type 0) (xs : List A) (i : ℕ) (ys : List B) (x : A) (y : B) → AllZip R (take i xs) ys → R x y → i < length xs → x ≡ get_or xs i x → AllZip R (take (i + 1) xs) (ys ++ y ∷ [])
-zip_more {A} {B} R xs i ys x y h r lt e = subst (λ (zs : List A). AllZip R zs (ys ++ y ∷ [])) (sym (next_is xs i x lt e)) (zip_push R (take i xs) ys x y h r)
-
-each_get : {A : Type 0} (P : A → Type 0) (xs : List A) (i : ℕ) (d : A) → AllByRecursion P xs → i < length xs → P (get_or xs i d)
-each_get P [] i d h lt = absurd (omega arith)
-each_get P (x ∷ xs) zero d h lt = h.0
-each_get P (x ∷ xs) (suc i) d h lt = each_get P xs i d h.1 (omega arith)
-
--- the item at i is one of them
-pub each_at : {A : Type 0} (P : A → Type 0) (xs : List A) (i : ℕ) (x : A) → AllByRecursion P xs → i < length xs → x ≡ get_or xs i x → P x
-each_at P xs i x h lt e = subst P (sym e) (each_get P xs i x h lt)

@@ -4,13 +4,14 @@ use Rattle.std.proofs.lemmas.List.{length-take}
 use Rattle.fints_syntax.specs.Faults.{KindAt}
 use Rattle.fints_syntax.specs.Capture.{FaultsAt, CaptureFaultAt}
 use Rattle.fints_syntax.specs.declared.fault.SyntaxKind.{SyntaxKind}
-use Rattle.fints_syntax.specs.declared.fault.SyntaxKind.TheVariants.{Memory, BadBinary, TooLong, Incomplete, BadHead, CaptureTooLong}
+use Rattle.fints_syntax.specs.declared.fault.SyntaxKind.TheVariants.{Memory, BadBinary, TooLong, Incomplete, BadHead, CaptureTooLong, Failed}
 use Rattle.fints_syntax.specs.declared.item.OwnedSegment.{OwnedSegment}
 use Rattle.fints_params.specs.Sealed.{data_of, data_len}
 
 kind_within : (kind : SyntaxKind) (o : ℕ) (input : List ℕ) → KindAt kind o input → o ≤ length input
 kind_within Memory o input h = absurd h
 kind_within CaptureTooLong o input h = absurd h
+kind_within Failed o input h = absurd h
 kind_within BadBinary o input (n, few, opens, le, bad) = omega (arith, length-take 1048576 input)
 kind_within TooLong o input h = omega (arith, h.0)
 kind_within BadHead o input h = omega (arith, h.0)
@@ -23,6 +24,7 @@ faults_within kind o input h = omega (arith, h.offset_is, kind_within kind h.at 
 pub fault_within : (kind : SyntaxKind) (o : ℕ) (input : List ℕ) → CaptureFaultAt kind o input → o ≤ length input
 fault_within Memory o input h = omega (arith, h)
 fault_within CaptureTooLong o input h = omega (arith, h.0, h.1)
+fault_within Failed o input h = absurd h.fault
 fault_within BadBinary o input h = omega (arith, length-take 4194304 input, faults_within BadBinary o (take 4194304 input) h)
 fault_within TooLong o input h = omega (arith, length-take 4194304 input, faults_within TooLong o (take 4194304 input) h)
 fault_within BadHead o input h = omega (arith, length-take 4194304 input, faults_within BadHead o (take 4194304 input) h)

@@ -104,3 +104,4 @@ closed_by p bytes kinds.TooLong o e h = inr (rw e (inr (record { kind = kinds.To
 closed_by p bytes kinds.Incomplete o e h = inr (rw e (inr (record { kind = kinds.Incomplete; offset = o }, (h, λ q. cc), refl)))
 closed_by p bytes kinds.BadHead o e h = inr (rw e (inr (record { kind = kinds.BadHead; offset = o }, (h, λ q. cc), refl)))
 closed_by p bytes kinds.CaptureTooLong o e h = inr (rw e (inr (record { kind = kinds.CaptureTooLong; offset = o }, (h, λ q. cc), refl)))
+closed_by p bytes kinds.Failed o e h = inr (rw e (inr (record { kind = kinds.Failed; offset = o }, (h, λ q. cc), refl)))

@@ -1,14 +1,14 @@
 -- What a segment tells takes no less room in its text.
-use Rattle.std.proofs.Common.{◌≡◌, ℕ, ◌+◌, ◌<◌, ◌≤◌, Bool, true, false, List, [], ◌∷◌, ◌++◌, length, drop, map, refl, ap, ◌∙◌, sym, arith, Option, Some, None}
+use Rattle.std.proofs.Common.{◌≡◌, ℕ, ◌+◌, ◌<◌, ◌≤◌, Bool, true, false, List, [], ◌∷◌, length, drop, map, refl, ap, ◌∙◌, sym, arith, Option, Some, None}
 use Rattle.std.specs.Prelude.{slice_get}
 use Rattle.std.specs.List.{AllByRecursion, filter, flat_map}
 use Rattle.std.specs.Option.{option_and_then}
 use Rattle.std.proofs.lemmas.List.{length-append, length-drop, length-map}
-use Rattle.std.proofs.lemmas.List.Concat.{flat_map-append}
 use Rattle.std.proofs.lemmas.List.Sums.{sum_by-cons, count_by-le-length}
-use Rattle.fints_syntax.specs.Spelling.{Spelled, text, binary, spelled_bytes, item_of}
-use Rattle.fints_syntax.specs.Segment.{token_bytes, tokens_bytes, element_tokens, segment_tokens, segment_bytes, values_of, IsSegment}
-use Rattle.fints_syntax.specs.Places.{item_size, items_size, elements_size, data_offset, start_of}
+use Rattle.fints_syntax.specs.Spelling.{Spelled, text, binary, item_of}
+use Rattle.fints_syntax.specs.Segment.{segment_bytes, values_of, IsSegment}
+use Rattle.fints_syntax.specs.Places.{item_size, items_size, elements_size}
+use Rattle.fints_syntax.specs.PlaceLaws.{segment_size}
 use Rattle.fints_syntax.specs.Owned.{segment_of}
 use Rattle.fints_syntax.specs.declared.item.OwnedItem.{OwnedItem}
 use Rattle.fints_syntax.specs.declared.item.OwnedSegment.{OwnedSegment}
@@ -16,35 +16,6 @@ use Rattle.fints_params.specs.Sealed.{binary_bytes, data_of}
 use Rattle.fints_params.specs.Orders.{is_odd_order}
 use Rattle.fints_params.specs.Accounts.{is_account, entry_elements, is_odd_element}
 use Rattle.fints_params.specs.Parameters.{skipped_in}
-
-element_size : (end : ℕ) (items : List Spelled) → length (tokens_bytes (element_tokens end items)) ≡ items_size items
-element_size end [] = refl
-element_size end (s ∷ []) = omega (arith, length-append (spelled_bytes s ++ end ∷ []) [], length-append (spelled_bytes s) (end ∷ []))
-element_size end (s ∷ t ∷ ss) =
-    omega (arith, length-append (spelled_bytes s ++ 58 ∷ []) (tokens_bytes (element_tokens end (t ∷ ss))), length-append (spelled_bytes s) (58 ∷ []), element_size end (t ∷ ss), sum_by-cons item_size s (t ∷ ss))
-
-pub segment_size : (es : List (List Spelled)) → length (segment_bytes es) ≡ elements_size es
-segment_size [] = refl
-segment_size (e ∷ []) = omega (arith, element_size 39 e, sum_by-cons items_size e [])
-segment_size (e ∷ f ∷ es) =
-    let joined = ap length (flat_map-append token_bytes (element_tokens 43 e) (segment_tokens (f ∷ es))) in
-    omega (arith, joined, length-append (tokens_bytes (element_tokens 43 e)) (tokens_bytes (segment_tokens (f ∷ es))), element_size 43 e, segment_size (f ∷ es), sum_by-cons items_size e (f ∷ es))
-
-offset_within : (s : Spelled) → data_offset s ≤ length (spelled_bytes s)
-offset_within (text us) = omega arith
-offset_within (binary digits bytes) = omega (arith, length-append digits (64 ∷ bytes))
-
-some_same : {A : Type 0} (x y : A) → Some x ≡ Some y → x ≡ y
-some_same x y e = cc
-
--- an item starts in the text
-pub start_within : (es : List (List Spelled)) (o : ℕ) → start_of es 2 1 ≡ Some o → o ≤ length (segment_bytes es)
-start_within [] o e = absurd cc
-start_within (h ∷ []) o e = absurd cc
-start_within (h ∷ [] ∷ rest) o e = absurd cc
-start_within (h ∷ (s ∷ ss) ∷ rest) o e =
-    let at : elements_size (h ∷ []) + 0 + data_offset s ≡ o = some_same (elements_size (h ∷ []) + 0 + data_offset s) o e in
-    omega (arith, at, segment_size (h ∷ (s ∷ ss) ∷ rest), offset_within s, sum_by-cons items_size h ((s ∷ ss) ∷ rest), sum_by-cons items_size h [], sum_by-cons items_size (s ∷ ss) rest, sum_by-cons item_size s ss)
 
 abbrev data_in : List (List OwnedItem) → Option (List ℕ)
 data_in [] = None
@@ -56,6 +27,9 @@ data_first s (x ∷ xs) e = rw e refl
 
 elements_are : (es : List (List Spelled)) (s : OwnedSegment) → s ≡ segment_of es → s.elements ≡ drop 1 (values_of es)
 elements_are es s o = ap (λ (x : OwnedSegment). x.elements) o
+
+some_same : {A : Type 0} (x y : A) → Some x ≡ Some y → x ≡ y
+some_same x y e = cc
 
 -- the data of a segment stand in its text
 pub data_within : (es : List (List Spelled)) (s : OwnedSegment) (bytes : List ℕ) → s ≡ segment_of es → data_of s ≡ Some bytes → length bytes ≤ length (segment_bytes es)

@@ -78,3 +78,7 @@ IsCodesOf message numbers = (placed : List PlacedSegment) × IsValuesOf message 
 
 abbrev pub IsCodeFault : List ℕ → ParamFault → Type 0
 IsCodeFault message f = IsSyntaxFault message f ⊎ ((placed : List PlacedSegment) × IsValuesOf message placed × IsRefusedIn feedback_fault placed f)
+
+-- the first refusal of a capture of which both are asked for: by its parameters, or where it has parameters by its codes
+abbrev pub IsEitherFault : List ℕ → ParamFault → Type 0
+IsEitherFault capture f = IsParamFault capture f ⊎ ((rows : Rows) × IsParamsOf capture rows × IsCodeFault capture f)

@@ -1,8 +1,10 @@
 -- The laws of what captures tell: their bytes have one meaning at most. Each is the contract of a public function.
-use Rattle.std.specs.Prelude.{◌≡◌, ℕ, List}
+use Rattle.std.specs.Prelude.{◌≡◌, ℕ, List, None}
+use Rattle.std.specs.List.{flat_map}
 use Rattle.fints_syntax.specs.Laws.{OneCapture, NoCaptureAtFault, OnePlacedCapture, OneCaptureFault}
 use Rattle.fints_params.specs.declared.fault.ParamFault.{ParamFault}
 use Rattle.fints_params.specs.Parameters.{Rows}
+use Rattle.fints_params.specs.Pieces.{Received, unread, AreReceived, IsPieceFault}
 use Rattle.fints_params.specs.Captures.{IsParamsOf, IsParamFault, IsCodesOf, IsCodeFault}
 
 -- what captures are, as the syntax has proved it
@@ -35,3 +37,11 @@ OneCodeFault = (message : List ℕ) (f g : ParamFault) → IsCodeFault message f
 -- it never has codes and a refusal
 abbrev pub NoCodesAtFault : Type 0
 NoCodesAtFault = (message numbers : List ℕ) (f : ParamFault) → IsCodesOf message numbers → IsCodeFault message f → ⊥
+
+-- however a capture is cut: a new reader that has taken all pieces holds the capture, and so ends as that is read
+abbrev pub AnyCutting : Type 0
+AnyCutting = (pieces : List (List ℕ)) (new : Received) → AreReceived unread pieces new → new ≡ record { bytes = flat_map (λ p. p) pieces; failed = None }
+
+-- the fault of a capture so far is that of its bytes
+abbrev pub PieceFaultIsParamFault : Type 0
+PieceFaultIsParamFault = (stream : List ℕ) (f : ParamFault) → IsPieceFault stream f → IsParamFault stream f

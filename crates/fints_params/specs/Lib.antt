@@ -11,4 +11,6 @@ pub mod Opened
 pub mod Captures
 pub mod Taken
 pub mod Steps
+pub mod Pieces
+pub mod Inside
 pub mod Laws

@@ -1,11 +1,10 @@
 -- What the segments of a capture stand for: an HNVSD 1 is replaced, once, by the segments of its data.
 use Rattle.std.specs.Prelude.{◌≡◌, ◌≢◌, ◌⊎◌, ◌+◌, ◌≤◌, ℕ, true, false, List, [], ◌∷◌, ◌++◌, length, map, Option, Some, None}
 use Rattle.std.specs.List.{AllZip}
-use Rattle.std.specs.Option.{option_map, unwrap_or}
 use Rattle.fints_syntax.specs.Spelling.{Spelled}
 use Rattle.fints_syntax.specs.Capture.{IsCapture, IsPlacedCapture, IsCaptureFault, MAX_CAPTURE}
 use Rattle.fints_syntax.specs.Owned.{segment_of, segments_of}
-use Rattle.fints_syntax.specs.Places.{start_of}
+use Rattle.fints_syntax.specs.Streams.{place_in}
 use Rattle.fints_syntax.specs.declared.capture.Placed as syntax
 use Rattle.fints_syntax.specs.declared.fault.SyntaxFault.{SyntaxFault}
 use Rattle.fints_syntax.specs.declared.fault.SyntaxKind.TheVariants as kinds
@@ -49,10 +48,6 @@ StandsFor p parts =
 abbrev pub StandFor : List PlacedSegment → List Part → Type 0
 StandFor [] parts = parts ≡ []
 StandFor (p ∷ ps) parts = (mine more : List Part) × StandsFor p mine × StandFor ps more × (parts ≡ mine ++ more)
-
--- the offset in the capture of item 1 of element 2, or 0 where there is none
-abbrev pub place_in : syntax.Placed → ℕ
-place_in p = unwrap_or (option_map (λ o. p.start + o) (start_of p.segment 2 1)) 0
 
 abbrev pub IsPlacedValue : syntax.Placed → PlacedSegment → Type 0
 IsPlacedValue view p = (p.segment ≡ segment_of view.segment) × (p.place ≡ place_in view)

@@ -1,5 +1,5 @@
 -- What a segment adds to the rows so far. Private contracts alone cite these words.
-use Rattle.std.specs.Prelude.{◌≡◌, ℕ, ◌+◌, ◌-◌, ◌^◌, min, ◌||◌, ◌&&◌, true, not, if◌then◌else◌, List, [], ◌∷◌, ◌++◌, Option, Some, None}
+use Rattle.std.specs.Prelude.{◌≡◌, ℕ, ◌+◌, ◌-◌, ◌^◌, min, ◌||◌, ◌&&◌, true, not, if◌then◌else◌, List, [], ◌∷◌, ◌++◌, map, Option, Some, None}
 use Rattle.std.specs.List.{filter, filter_map, flat_map, cons_option}
 use Rattle.fints_syntax.specs.declared.item.OwnedSegment.{OwnedSegment}
 use Rattle.fints_params.specs.declared.rows.BankRow.{BankRow}
@@ -14,8 +14,9 @@ use Rattle.fints_params.specs.Orders.{order_in}
 use Rattle.fints_params.specs.Accounts.{is_usage, usage_of, is_account, account_row}
 use Rattle.fints_params.specs.Faults.{IsBad}
 use Rattle.fints_params.specs.Feedback.{codes_in, feedback_fault}
+use Rattle.fints_params.specs.Opened.{part}
 use Rattle.fints_params.specs.Parameters.{bad_bank, bad_element, own_fault, fault_after, read_each, skipped_in}
-use Rattle.fints_params.specs.Captures.{NoneRefused}
+use Rattle.fints_params.specs.Captures.{NoneRefused, IsRefusedAfter}
 
 abbrev pub IsBankFault : OwnedSegment → Option BankRow → ParamFault → Type 0
 IsBankFault s (Some row) f = (is_bank s ≡ true) × (f ≡ TwoBankParameters)
@@ -66,3 +67,8 @@ pub record SoFar (seen : List OwnedSegment) (g : Gathered) : Type 0 where
 pub record CodesSoFar (seen : List OwnedSegment) (numbers : List ℕ) : Type 0 where
   pub none : NoneRefused feedback_fault seen
   pub numbers_are : numbers ≡ codes_in seen
+
+-- the codes of these, or the first of them that is refused for its code
+abbrev pub CodesRead : List OwnedSegment → Option ParamFault → List ℕ → Type 0
+CodesRead seen None numbers = CodesSoFar seen numbers
+CodesRead seen (Some f) numbers = IsRefusedAfter feedback_fault [] (map part seen) f

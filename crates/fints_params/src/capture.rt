@@ -1,26 +1,35 @@
 //! A capture, read segment by segment.
 ghost use Rattle.std.specs.Prelude.{[], IfOk, IfErr};
 ghost use Rattle.fints_params.specs.Faults.{IsMemoryOr};
-ghost use Rattle.fints_params.specs.Steps.{ReadsCapture, IsRefusedOf};
+ghost use Rattle.fints_params.specs.Steps.{HasComeIn, ReadsCapture, IsRefusedOf};
 
 use crate::fault::ParamFault;
-use crate::opening::{Reader, read_into};
-use fints_syntax::parse_placed;
+use crate::opening::Reader;
+use crate::progress::Progress;
+use fints_syntax::laws::one_split;
 use std::alloc::Global;
 
-/// Reads a capture into a reader that has seen no segment. Its syntax fault comes before any
-/// refusal of a segment.
-pub fn read_capture<R: Reader>(
-    alloc: Global,
-    capture: &[u8],
-    reader: &mut R,
-) -> Result<(), ParamFault>
-    requires { R.good [] reader.old }
-    ensures ok { IfOk result (λ _. ReadsCapture R.good capture.now reader.new) }
+/// Reads a capture to its end, of whose front so much was read before. Its syntax fault comes before
+/// any refusal of a segment.
+pub fn read_to_end<R: Reader + Drop>(progress: Progress<R>, capture: &[u8]) -> Result<R, ParamFault>
+    requires { HasComeIn R.rule R.good capture.now progress.to progress.reading.refused progress.reading.reader }
+    ensures ok { IfOk result (λ reader. ReadsCapture R.good capture.now reader) }
     ensures refused { IfErr result (λ f. IsMemoryOr (IsRefusedOf R.rule capture.now) f) }
 {
-    match parse_placed(alloc, capture) {
-        Ok(views) => read_into(alloc, views.as_slice(), reader),
-        Err(fault) => Err(ParamFault::from(fault)),
-    }
+    one_split();
+    let progress = progress.go_on(capture)?;
+    progress.end(capture)
+}
+
+/// Reads a capture into a reader that has seen no segment.
+pub fn read_capture<R: Reader + Drop>(
+    alloc: Global,
+    capture: &[u8],
+    reader: R,
+) -> Result<R, ParamFault>
+    requires { R.good [] reader }
+    ensures ok { IfOk result (λ reader. ReadsCapture R.good capture.now reader) }
+    ensures refused { IfErr result (λ f. IsMemoryOr (IsRefusedOf R.rule capture.now) f) }
+{
+    read_to_end(Progress::new(alloc, reader), capture)
 }

@@ -1,6 +1,7 @@
 //! Why a capture gives no parameters.
-ghost use Rattle.std.specs.Prelude.{◌≡◌};
+ghost use Rattle.std.specs.Prelude.{◌≡◌, ◌↔◌, IsTrue};
 ghost use Rattle.fints_params.specs.declared.fault.ParamFault.TheVariants.{Memory, BadElement};
+ghost use Rattle.fints_params.specs.declared.fault.ParamFault.TheVariants as faults;
 ghost use Rattle.fints_params.specs.Faults.{fault_of};
 
 use fints_syntax::{Memory, OwnedSegment, SyntaxFault, SyntaxKind};
@@ -75,4 +76,11 @@ pub fn bad_element(segment: &OwnedSegment, element: usize) -> ParamFault
         segment: segment.head.number,
         element,
     }
+}
+
+/// The fault is want of memory.
+pub fn is_memory(fault: &ParamFault) -> bool
+    ensures { IsTrue result ↔ (fault.now ≡ faults.Memory) }
+{
+    matches!(fault, ParamFault::Memory)
 }

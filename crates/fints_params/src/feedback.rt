@@ -14,8 +14,17 @@ use std::alloc::Global;
 
 /// The codes so far.
 #[derive(Drop)]
-struct Found {
-    codes: Vec<Code>,
+pub struct Found {
+    pub codes: Vec<Code>,
+}
+
+/// The codes of no segment.
+pub fn none_found(alloc: Global) -> Found
+    ensures { CodesSoFar [] result.codes.items }
+{
+    Found {
+        codes: Vec::new(alloc),
+    }
 }
 
 fn is_feedback(segment: &OwnedSegment) -> bool
@@ -74,9 +83,6 @@ pub fn feedback_codes(alloc: Global, message: &[u8]) -> Result<Vec<Code>, ParamF
     ensures codes { IfOk result (λ v. IsCodesOf message.now v.items) }
     ensures refused { IfErr result (λ f. IsMemoryOr (IsCodeFault message.now) f) }
 {
-    let mut found = Found {
-        codes: Vec::new(alloc),
-    };
-    read_capture(alloc, message, &mut found)?;
+    let found = read_capture(alloc, message, none_found(alloc))?;
     Ok(found.codes)
 }

@@ -3,6 +3,7 @@
 
 mod accounts;
 mod bank;
+mod both;
 mod capture;
 mod code;
 mod fault;
@@ -15,12 +16,16 @@ mod orders;
 mod params;
 mod pins;
 mod placed;
+mod progress;
+mod reader;
 mod reading;
 mod rows;
 mod taking;
 
+pub use both::{ParamsAndCodes, params_and_codes};
 pub use code::Code;
 pub use fault::ParamFault;
 pub use feedback::feedback_codes;
 pub use params::Params;
+pub use reader::ParamReader;
 pub use rows::{AccountRow, BankRow, Entries, Entry, National, Numbers, OrderParam, PinRow, Usage};

@@ -3,15 +3,16 @@ ghost use Rattle.std.specs.Prelude.{◌≡◌, [], ◌∷◌, List, map, option_
 ghost use Rattle.fints_syntax.specs.declared.item.OwnedSegment.{OwnedSegment};
 ghost use Rattle.fints_params.specs.Sealed.{is_sealed, data_of};
 ghost use Rattle.fints_params.specs.Faults.{IsMemoryOr};
-ghost use Rattle.std.specs.List.{AllByRecursion};
 ghost use Rattle.fints_syntax.specs.Owned.{segments_of};
-ghost use Rattle.fints_params.specs.Opened.{part, place_in};
+ghost use Rattle.fints_params.specs.Opened.{part};
 ghost use Rattle.fints_params.specs.Captures.{Rule, NoneRefused};
-ghost use Rattle.fints_params.specs.Steps.{Continues, StopsIn, ContinuesOver, StopsAt, OpensTo, IsClosedBy, IsWithin, ReadsViews, IsRefusedInViews};
+ghost use Rattle.fints_params.specs.Steps.{Continues, StopsIn, ContinuesOver, StopsAt, OpensTo, IsClosedBy, IsWithin, ReadsNext, StopsNext};
 
 use crate::fault::{ParamFault, bad_element};
 use crate::placed::PlacedSegment;
-use fints_syntax::{Elements, ItemRef, OwnedSegment, Placed, SegmentView, SyntaxFault, parse_all};
+use fints_syntax::{
+    Elements, ItemRef, OwnedSegment, SegmentView, SyntaxFault, parse_all, place_of,
+};
 use std::alloc::Global;
 
 /// What reads segments one after the other, until one is refused.
@@ -96,36 +97,22 @@ fn add_placed<R: Reader>(
     add_all(alloc, views.as_slice(), reader)
 }
 
-// The offset in the capture of item 1 of element 2, 0 where there is none.
-fn place_of(view: &Placed<'_>) -> usize
-    requires { IsWithin view.now }
-    ensures { result ≡ place_in view.now }
-{
-    match view.segment.item_start(2, 1) {
-        Some(offset) => view.start + offset,
-        None => 0,
-    }
-}
-
-/// Reads the segments of a capture into a reader that has seen none, each into the memory of the
-/// one before.
-pub fn read_into<R: Reader>(
+/// Reads a segment that starts at this offset of a capture, in the memory of these elements, which
+/// it hands back.
+pub fn add_view<R: Reader>(
     alloc: Global,
-    views: &[Placed<'_>],
+    start: usize,
+    view: &SegmentView<'_>,
+    elements: Elements,
     reader: &mut R,
-) -> Result<(), ParamFault>
-    requires within { AllByRecursion IsWithin views.now }
-    requires first { R.good [] reader.old }
-    ensures ok { IfOk result (λ _. ReadsViews R.good views.now reader.new) }
-    ensures stopped { IfErr result (λ f. IsMemoryOr (IsRefusedInViews R.rule views.now) f) }
+) -> Result<Elements, ParamFault>
+    requires { IsWithin (record { start = start; segment = view.now }) }
+    ensures ok { IfOk result (λ _. ReadsNext R.good reader.old reader.new (record { start = start; segment = view.now })) }
+    ensures stopped { IfErr result (λ f. IsMemoryOr (StopsNext R.rule R.good reader.old (record { start = start; segment = view.now })) f) }
 {
-    let mut elements = Elements::new(alloc);
-    for view in views {
-        let segment = view.segment.to_owned_in(elements)?;
-        let place = place_of(view);
-        let placed = PlacedSegment { segment, place };
-        add_placed(alloc, &placed, reader)?;
-        elements = placed.into_elements();
-    }
-    Ok(())
+    let segment = view.to_owned_in(elements)?;
+    let place = place_of(start, view);
+    let placed = PlacedSegment { segment, place };
+    add_placed(alloc, &placed, reader)?;
+    Ok(placed.into_elements())
 }

@@ -3,14 +3,16 @@ ghost use Rattle.std.specs.Prelude.{◌≡◌, ◌<◌, ◌^◌, ◌==◌, List,
 ghost use Rattle.std.specs.List.{list_all};
 ghost use Rattle.fints_syntax.specs.declared.item.OwnedSegment.{OwnedSegment};
 ghost use Rattle.fints_params.specs.Faults.{IsMemoryOr};
-ghost use Rattle.fints_params.specs.Parameters.{IsRowsOf, end_fault, usage_from};
+ghost use Rattle.fints_params.specs.Parameters.{IsRowsOf, end_fault, fault_after, usage_from};
 ghost use Rattle.fints_params.specs.Captures.{IsParamsOf, IsParamFault};
-ghost use Rattle.fints_params.specs.Taken.{IsGathered};
+ghost use Rattle.fints_params.specs.Steps.{HasComeIn};
+ghost use Rattle.fints_params.specs.Taken.{IsGathered, SoFar};
 
-use crate::capture::read_capture;
+use crate::capture::read_to_end;
 use crate::fault::ParamFault;
 use crate::gathered::Gathered;
 use crate::gathering::no_rows;
+use crate::progress::Progress;
 use crate::rows::{AccountRow, BankRow, OrderParam, PinRow, Usage};
 use std::alloc::Global;
 use std::marker::Model;
@@ -43,9 +45,7 @@ impl Params {
         ensures rows { IfOk result (λ p. IsParamsOf capture.now p) }
         ensures refused { IfErr result (λ f. IsMemoryOr (IsParamFault capture.now) f) }
     {
-        let mut rows = no_rows(alloc);
-        read_capture(alloc, capture, &mut rows)?;
-        finish(rows)
+        params_in(Progress::new(alloc, no_rows(alloc)), capture)
     }
 
     /// The bank's row, of the one HIBPA version 3.
@@ -113,8 +113,8 @@ fn usage_of_all(usages: &[u32]) -> Usage
     }
 }
 
-// The rows of all segments, if no part is missing.
-fn finish(rows: Gathered) -> Result<Params, ParamFault>
+/// The parameters of these rows, if no part is missing.
+pub fn params_of(rows: Gathered) -> Result<Params, ParamFault>
     requires { rows.skipped < 2 ^ 32 }
     ensures complete { IfOk result (λ p. (segments : List OwnedSegment) → IsGathered segments rows → end_fault segments ≡ None) }
     ensures rows { IfOk result (λ p. (segments : List OwnedSegment) → IsGathered segments rows → IsRowsOf segments p) }
@@ -145,4 +145,14 @@ fn finish(rows: Gathered) -> Result<Params, ParamFault>
             })
         }
     }
+}
+
+/// The parameters of a capture, of whose front so much was read before.
+pub fn params_in(progress: Progress<Gathered>, capture: &[u8]) -> Result<Params, ParamFault>
+    requires { HasComeIn fault_after SoFar capture.now progress.to progress.reading.refused progress.reading.reader }
+    ensures rows { IfOk result (λ p. IsParamsOf capture.now p) }
+    ensures refused { IfErr result (λ f. IsMemoryOr (IsParamFault capture.now) f) }
+{
+    let rows = read_to_end(progress, capture)?;
+    params_of(rows)
 }

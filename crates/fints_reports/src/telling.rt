@@ -84,7 +84,22 @@ pub fn tell_script(
     Ok(reply)
 }
 
-/// The text of the report on a script by a capture.
+/// The text of the report on a script by good parameters, with the refusals of `tell`.
+pub fn report_text(
+    alloc: Global,
+    params: &Params,
+    orders: &[u8],
+    script: &[u8],
+) -> Result<Vec<u8>, Fault>
+    ensures told { IfOk result (λ text. (status : ℕ) × IsToldOn wanted_is.Report params.now orders.now script.now status text.items) }
+    ensures refused { IfErr result (λ f. IsPlanRefusal orders.now script.now f) }
+{
+    let reply = tell(alloc, params, orders, script, Wanted::Report)?;
+    Ok(reply.text)
+}
+
+/// The text of the report on a script by a capture. The refusal of the capture comes before the
+/// others.
 pub fn check_text(
     alloc: Global,
     params: &[u8],
@@ -94,6 +109,10 @@ pub fn check_text(
     ensures told { IfOk result (λ text. (status : ℕ) × IsToldOf wanted_is.Report params.now orders.now script.now status text.items) }
     ensures refused { IfErr result (λ f. IsRefused params.now orders.now script.now f) }
 {
-    let reply = tell_script(alloc, params, orders, script, Wanted::Report)?;
-    Ok(reply.text)
+    let params = match Params::read(alloc, params) {
+        Ok(params) => params,
+        Err(fault) => return Err(Fault::from(fault)),
+    };
+    let text = report_text(alloc, &params, orders, script)?;
+    Ok(text)
 }

@@ -9,13 +9,13 @@ use Rattle.std.proofs.lemmas.List.{take_all, append-nil, append_cancel_left}
 use Rattle.fints_syntax.specs.Spelling.{Spelled, text, binary, escaped, plain, spelled_bytes, text_value}
 use Rattle.fints_syntax.specs.Segment.{tokens_bytes, element_tokens, segment_tokens, segment_bytes, item_value, element_head, IsSegment}
 use Rattle.fints_syntax.specs.Spelling.{item_of}
-use Rattle.fints_syntax.specs.Kind.{kind_from}
+use Rattle.fints_kinds.specs.Kind.{kind_from}
 use Rattle.fints_syntax.specs.Head.{head_with}
 use Rattle.fints_syntax.specs.Faults.{KindAt, BeginsWithSegment, window_of}
 use Rattle.fints_syntax.specs.Capture.{MAX_CAPTURE, IsBreak, IsClean, Piece, piece_bytes, IsPiece, IsCapture, FaultsAt, IsCaptureFault, CaptureFaultAt}
 use Rattle.fints_syntax.specs.declared.fault.SyntaxFault.{SyntaxFault}
 use Rattle.fints_syntax.specs.declared.fault.SyntaxKind.{SyntaxKind}
-use Rattle.fints_syntax.specs.declared.fault.SyntaxKind.TheVariants.{Memory, BadBinary, TooLong, Incomplete, BadHead, CaptureTooLong}
+use Rattle.fints_syntax.specs.declared.fault.SyntaxKind.TheVariants.{Memory, BadBinary, TooLong, Incomplete, BadHead, CaptureTooLong, Failed}
 use Rattle.fints_syntax.proofs.Tokens.{one_segment}
 use Rattle.fints_syntax.proofs.Parsed.{bad_only, too_many_only, begins_window}
 
@@ -136,6 +136,7 @@ same_piece p q ps qs x y h g e =
 pub kind_only : (kind : SyntaxKind) (o : ℕ) (input : List ℕ) → KindAt kind o input → BeginsWithSegment (window_of input) → ⊥
 kind_only Memory o input h b = h
 kind_only CaptureTooLong o input h b = h
+kind_only Failed o input h b = h
 kind_only BadBinary o input h b = bad_only (window_of input) o h b
 kind_only TooLong o input h b = elim h.1 [ inl many ↦ too_many_only (window_of input) many b | inr (u, long) ↦ u.no_segment (b.0, b.1, b.2.framed, b.3) ]
 kind_only BadHead o input h b = h.2 b
@@ -162,6 +163,7 @@ no_capture_at input kind o s f (placed, (x, b, r), same) =
 no_capture : (input : List ℕ) (kind : SyntaxKind) (o : ℕ) (s : List (List (List Spelled))) → CaptureFaultAt kind o input → kind ≢ Memory → length input ≤ MAX_CAPTURE → IsCapture input s → ⊥
 no_capture input Memory o s h n le c = n refl
 no_capture input CaptureTooLong o s h n le c = omega (arith, h.1)
+no_capture input Failed o s h n le c = h.fault
 no_capture input Incomplete o s h n le c = no_capture_at input Incomplete o s h.1 c
 no_capture input BadBinary o s h n le c = no_capture_at input BadBinary o s (subst (λ (y : List ℕ). FaultsAt y BadBinary o) (take_all MAX_CAPTURE input le) h) c
 no_capture input TooLong o s h n le c = no_capture_at input TooLong o s (subst (λ (y : List ℕ). FaultsAt y TooLong o) (take_all MAX_CAPTURE input le) h) c

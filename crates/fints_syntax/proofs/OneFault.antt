@@ -10,7 +10,7 @@ use Rattle.fints_syntax.specs.Capture.{MAX_CAPTURE, IsBreak, Piece, piece_bytes,
 use Rattle.fints_syntax.specs.declared.capture.Placed.{Placed}
 use Rattle.fints_syntax.specs.declared.fault.SyntaxFault.{SyntaxFault}
 use Rattle.fints_syntax.specs.declared.fault.SyntaxKind.{SyntaxKind}
-use Rattle.fints_syntax.specs.declared.fault.SyntaxKind.TheVariants.{Memory, BadBinary, TooLong, Incomplete, BadHead, CaptureTooLong}
+use Rattle.fints_syntax.specs.declared.fault.SyntaxKind.TheVariants.{Memory, BadBinary, TooLong, Incomplete, BadHead, CaptureTooLong, Failed}
 use Rattle.fints_syntax.proofs.Tokens.{closed-segment}
 use Rattle.fints_syntax.proofs.Windows.{token_open, begins_token, leaves, no_frame, open_before_closed}
 use Rattle.fints_syntax.proofs.Parsed.{begins_window}
@@ -50,6 +50,7 @@ Same k l o p = (k ≡ l) × (o ≡ p)
 bad_alone : (l : SyntaxKind) (o p : ℕ) (input : List ℕ) → KindAt BadBinary o input → KindAt l p input → Same BadBinary l o p
 bad_alone Memory o p input h g = absurd g
 bad_alone CaptureTooLong o p input h g = absurd g
+bad_alone Failed o p input h g = absurd g
 bad_alone BadBinary o p input h g = (refl, bad_one (window_of input) o p h g)
 bad_alone TooLong o p input h g = absurd (elim g.1 [ inl many ↦ bad_few (window_of input) o h many | inr (u, long) ↦ u.no_bad o h ])
 bad_alone BadHead o p input h g = absurd (bad_not_framed (window_of input) o h g.1)
@@ -58,6 +59,7 @@ bad_alone Incomplete o p input h g = absurd (g.1.no_bad o h)
 long_alone : (l : SyntaxKind) (o p : ℕ) (input : List ℕ) → KindAt TooLong o input → KindAt l p input → Same TooLong l o p
 long_alone Memory o p input h g = absurd g
 long_alone CaptureTooLong o p input h g = absurd g
+long_alone Failed o p input h g = absurd g
 long_alone BadBinary o p input h g = absurd (elim h.1 [ inl many ↦ bad_few (window_of input) p g many | inr (u, long) ↦ u.no_bad p g ])
 long_alone TooLong o p input h g = (refl, h.0 ∙ sym g.0)
 long_alone BadHead o p input h g = absurd (elim h.1 [ inl many ↦ framed_few (window_of input) g.1 many | inr (u, long) ↦ u.no_segment g.1 ])
@@ -66,6 +68,7 @@ long_alone Incomplete o p input h g = absurd (elim h.1 [ inl many ↦ g.1.few_it
 head_alone : (l : SyntaxKind) (o p : ℕ) (input : List ℕ) → KindAt BadHead o input → KindAt l p input → Same BadHead l o p
 head_alone Memory o p input h g = absurd g
 head_alone CaptureTooLong o p input h g = absurd g
+head_alone Failed o p input h g = absurd g
 head_alone BadBinary o p input h g = absurd (bad_not_framed (window_of input) p g h.1)
 head_alone TooLong o p input h g = absurd (elim g.1 [ inl many ↦ framed_few (window_of input) h.1 many | inr (u, long) ↦ u.no_segment h.1 ])
 head_alone BadHead o p input h g = (refl, h.0 ∙ sym g.0)
@@ -74,6 +77,7 @@ head_alone Incomplete o p input h g = absurd (g.1.no_segment h.1)
 unfinished_alone : (l : SyntaxKind) (o p : ℕ) (input : List ℕ) → KindAt Incomplete o input → KindAt l p input → Same Incomplete l o p
 unfinished_alone Memory o p input h g = absurd g
 unfinished_alone CaptureTooLong o p input h g = absurd g
+unfinished_alone Failed o p input h g = absurd g
 unfinished_alone BadBinary o p input h g = absurd (h.1.no_bad p g)
 unfinished_alone TooLong o p input h g = absurd (elim g.1 [ inl many ↦ h.1.few_items many | inr (u, long) ↦ omega (arith, h.2) ])
 unfinished_alone BadHead o p input h g = absurd (h.1.no_segment g.1)
@@ -82,6 +86,7 @@ unfinished_alone Incomplete o p input h g = (refl, h.0 ∙ sym g.0)
 kinds_one : (k l : SyntaxKind) (o p : ℕ) (input : List ℕ) → KindAt k o input → KindAt l p input → Same k l o p
 kinds_one Memory l o p input h g = absurd h
 kinds_one CaptureTooLong l o p input h g = absurd h
+kinds_one Failed l o p input h g = absurd h
 kinds_one BadBinary l o p input h g = bad_alone l o p input h g
 kinds_one TooLong l o p input h g = long_alone l o p input h g
 kinds_one BadHead l o p input h g = head_alone l o p input h g
@@ -101,14 +106,14 @@ no_segment_at input f h b = kind_only f.kind f.offset input h b
 -- ---- where segments cease
 
 -- no segment follows, behind whatever line breaks
-abbrev Ends : List ℕ → Type 0
+abbrev pub Ends : List ℕ → Type 0
 Ends x = (gap : List ℕ) (es : List (List Spelled)) (more : List ℕ) → AllByRecursion IsBreak gap → IsSegment es → gap ++ (segment_bytes es ++ more) ≡ x → ⊥
 
-tail_ends : (tail : List ℕ) → AllByRecursion IsBreak tail → Ends tail
+pub tail_ends : (tail : List ℕ) → AllByRecursion IsBreak tail → Ends tail
 tail_ends tail b = λ gap es more breaks seg e.
     segment_some es more seg (sym (same_gap gap tail (segment_bytes es ++ more) [] breaks b (segment_clean es more seg) tt (e ∙ sym (append-nil tail))))
 
-fault_ends : (gap more : List ℕ) (first : ℕ) → AllByRecursion IsBreak gap → (IsBreak first → ⊥) → (BeginsWithSegment (window_of (first ∷ more)) → ⊥) → Ends (gap ++ first ∷ more)
+pub fault_ends : (gap more : List ℕ) (first : ℕ) → AllByRecursion IsBreak gap → (IsBreak first → ⊥) → (BeginsWithSegment (window_of (first ∷ more)) → ⊥) → Ends (gap ++ first ∷ more)
 fault_ends gap more first b clean none = λ other es rest breaks seg e.
     let q : segment_bytes es ++ rest ≡ first ∷ more = same_gap other gap (segment_bytes es ++ rest) (first ∷ more) breaks b (segment_clean es rest seg) clean e in
     none (subst (λ (y : List ℕ). BeginsWithSegment (window_of y)) q (es, _, seg, begins_window (segment_bytes es) rest seg.framed.bytes))
@@ -127,7 +132,7 @@ same_start p q x y same rest e =
       length-append q.gap (segment_bytes q.elements),
     )
 
-same_places : (at : ℕ) (ps qs : List Piece) (x y : List ℕ) → AllByRecursion IsPiece ps → AllByRecursion IsPiece qs → Ends x → Ends y → flat_map piece_bytes ps ++ x ≡ flat_map piece_bytes qs ++ y
+pub same_places : (at : ℕ) (ps qs : List Piece) (x y : List ℕ) → AllByRecursion IsPiece ps → AllByRecursion IsPiece qs → Ends x → Ends y → flat_map piece_bytes ps ++ x ≡ flat_map piece_bytes qs ++ y
     → (placed_from at ps ≡ placed_from at qs) × (x ≡ y)
 same_places at [] [] x y h g c d e = (refl, e)
 same_places at [] (q ∷ qs) x y h g c d e = absurd (c q.gap q.elements (flat_map piece_bytes qs ++ y) g.0.gap g.0.segment (sym (regroup q qs y) ∙ sym e))
@@ -157,7 +162,7 @@ one_capture input s t (p, h, e) (q, g, d) = sym e ∙ ap (λ (x : List Placed). 
 faults_end : (input : List ℕ) (k : SyntaxKind) (o : ℕ) → (f : FaultsAt input k o) → Ends (f.gap ++ f.first ∷ f.more)
 faults_end input k o f = fault_ends f.gap f.more f.first f.breaks f.no_break (kind_only k f.at (f.first ∷ f.more) f.fault)
 
-faults_one : (input : List ℕ) (k l : SyntaxKind) (o p : ℕ) → FaultsAt input k o → FaultsAt input l p → Same k l o p
+pub faults_one : (input : List ℕ) (k l : SyntaxKind) (o p : ℕ) → FaultsAt input k o → FaultsAt input l p → Same k l o p
 faults_one input k l o p f g =
     let ends = same_places 0 f.reads.pieces g.reads.pieces (f.gap ++ f.first ∷ f.more) (g.gap ++ g.first ∷ g.more) f.reads.each g.reads.each (faults_end input k o f) (faults_end input l p g) (sym f.reads.text ∙ g.reads.text) in
     let rest : f.first ∷ f.more ≡ g.first ∷ g.more = same_gap f.gap g.gap (f.first ∷ f.more) (g.first ∷ g.more) f.breaks g.breaks f.no_break g.no_break ends.1 in
@@ -168,6 +173,7 @@ faults_one input k l o p f g =
 short_fault : (k : SyntaxKind) (o : ℕ) (input : List ℕ) → length input ≤ MAX_CAPTURE → k ≢ Memory → CaptureFaultAt k o input → FaultsAt input k o
 short_fault Memory o input le n h = absurd (n refl)
 short_fault CaptureTooLong o input le n h = absurd (omega (arith, h.1))
+short_fault Failed o input le n h = absurd h.fault
 short_fault Incomplete o input le n h = h.1
 short_fault BadBinary o input le n h = subst (λ (y : List ℕ). FaultsAt y BadBinary o) (take_all MAX_CAPTURE input le) h
 short_fault TooLong o input le n h = subst (λ (y : List ℕ). FaultsAt y TooLong o) (take_all MAX_CAPTURE input le) h
@@ -183,6 +189,7 @@ LongFault k o w = ((k ≡ CaptureTooLong) × (o ≡ MAX_CAPTURE) × IsSound w) �
 long_fault : (k : SyntaxKind) (o : ℕ) (input : List ℕ) → MAX_CAPTURE < length input → k ≢ Memory → CaptureFaultAt k o input → LongFault k o (take MAX_CAPTURE input)
 long_fault Memory o input lt n h = absurd (n refl)
 long_fault CaptureTooLong o input lt n h = inl (refl, h.0, h.2)
+long_fault Failed o input lt n h = absurd h.fault
 long_fault Incomplete o input lt n h = absurd (omega (arith, h.0))
 long_fault BadBinary o input lt n h = inr (λ e. cc, h)
 long_fault TooLong o input lt n h = inr (λ e. cc, h)

@@ -1,14 +1,19 @@
 -- The laws of segment texts. Each is the contract of a public function, which a proof in a crate above calls for it.
-use Rattle.std.specs.Prelude.{◌≡◌, ◌≢◌, ◌≤◌, ◌↔◌, ◌++◌, ℕ, List, length, take, Some}
+use Rattle.std.specs.Prelude.{◌≡◌, ◌≢◌, ◌≤◌, ◌↔◌, ◌+◌, ◌++◌, ℕ, List, length, take, drop, Some}
+use Rattle.std.specs.List.{count_by}
 use Rattle.fints_syntax.specs.Spelling.{Spelled}
 use Rattle.fints_syntax.specs.Segment.{segment_bytes, values_of, head_of, IsFramed, IsSegment}
 use Rattle.fints_syntax.specs.Owned.{segment_of}
 use Rattle.fints_syntax.specs.Faults.{BeginsWithSegment, IsFault, window_of}
-use Rattle.fints_syntax.specs.Capture.{IsCapture, IsPlacedCapture, IsCaptureFault, MAX_CAPTURE}
+use Rattle.fints_syntax.specs.Streams.{is_quote, IsRest, IsSplit, moved_by, whole_len, IsReady, IsReadTo, PieceFaultAt}
+use Rattle.fints_syntax.specs.Capture.{IsCapture, IsPlacedCapture, IsCaptureFault, FaultsAt, MAX_CAPTURE}
 use Rattle.fints_syntax.specs.Written.{segment_values, written_tree, written_segment, IsWritable}
 use Rattle.fints_syntax.specs.declared.capture.Placed.{Placed}
+use Rattle.fints_syntax.specs.declared.stream.Begun.{Begun}
+use Rattle.fints_syntax.specs.declared.stream.ReadTo.{ReadTo}
+use Rattle.fints_syntax.specs.declared.fault.SyntaxKind.{SyntaxKind}
 use Rattle.fints_syntax.specs.declared.fault.SyntaxFault.{SyntaxFault}
-use Rattle.fints_syntax.specs.declared.fault.SyntaxKind.TheVariants.{Memory}
+use Rattle.fints_syntax.specs.declared.fault.SyntaxKind.TheVariants.{Memory, Incomplete}
 use Rattle.fints_syntax.specs.declared.item.OwnedSegment.{OwnedSegment}
 
 -- a byte list begins with at most one segment text, and that is the text of one segment
@@ -61,6 +66,40 @@ OneFault = (input : List ℕ) (f g : SyntaxFault) → IsFault input f → IsFaul
 -- bytes with such a fault begin with no segment
 abbrev pub NoSegmentAtFault : Type 0
 NoSegmentAtFault = (input : List ℕ) (f : SyntaxFault) → IsFault input f → BeginsWithSegment (window_of input) → ⊥
+
+-- how far bytes without a whole segment are looked at stays true where more bytes follow, of which at most `limit` are read
+abbrev pub BegunGoesOn : Type 0
+BegunGoesOn = (rest more : List ℕ) (limit : ℕ) (b : Begun) → IsReady rest b → length rest ≤ limit → IsReady (take limit (rest ++ more)) b
+
+-- bytes that are read so far are split there
+abbrev pub ReadIsSplit : Type 0
+ReadIsSplit = (bytes : List ℕ) (placed : List Placed) (r : ReadTo) → IsReadTo bytes placed r → IsSplit bytes placed (drop r.whole bytes)
+
+-- a stream that is cut in two: its segments are those of the first part, and then those of the first part's rest with the second part
+abbrev pub CutSegments : Type 0
+CutSegments = (first second : List ℕ) (placed more : List Placed) (rest left : List ℕ) → IsSplit first placed rest → IsSplit (rest ++ second) more left → IsSplit (first ++ second) (placed ++ moved_by (whole_len first rest) more) left
+
+-- and its fault is that of the first part's rest with the second part
+abbrev pub CutFault : Type 0
+CutFault =
+    (first second : List ℕ) (placed : List Placed) (rest : List ℕ) (limit o : ℕ) (kind : SyntaxKind) → IsSplit first placed rest → PieceFaultAt limit kind o (rest ++ second)
+    → PieceFaultAt (whole_len first rest + limit) kind (whole_len first rest + o) (first ++ second)
+
+-- what follows bytes without a whole segment ends no more segments than it has `'`
+abbrev pub FewSegments : Type 0
+FewSegments = (rest more : List ℕ) (placed : List Placed) (left : List ℕ) → IsRest rest → IsSplit (rest ++ more) placed left → length placed ≤ count_by is_quote more
+
+-- bytes have one list of whole segments, and one rest
+abbrev pub OneSplit : Type 0
+OneSplit = (bytes : List ℕ) (p q : List Placed) (x y : List ℕ) → IsSplit bytes p x → IsSplit bytes q y → (p ≡ q) × (x ≡ y)
+
+-- and no fault then, unless more bytes may mend it
+abbrev pub NoSplitAtFault : Type 0
+NoSplitAtFault = (bytes : List ℕ) (p : List Placed) (x : List ℕ) (kind : SyntaxKind) (o : ℕ) → IsSplit bytes p x → kind ≢ Incomplete → FaultsAt bytes kind o → ⊥
+
+-- the fault of a stream from its start on is that of a capture, and none of the others that a capture may have
+abbrev pub PieceFaultIsCaptureFault : Type 0
+PieceFaultIsCaptureFault = (bytes : List ℕ) (f : SyntaxFault) → PieceFaultAt MAX_CAPTURE f.kind f.offset bytes → IsCaptureFault bytes f × (f.kind ≢ Memory) × (f.kind ≢ Incomplete)
 
 -- a capture is one list of segments
 abbrev pub OneCapture : Type 0

@@ -64,7 +64,7 @@ impl<'a> Cursor<'a> {
                     after,
                 })
             }
-            Scan::Cut => None,
+            Scan::Cut { .. } => None,
             Scan::Bad => None,
         }
     }

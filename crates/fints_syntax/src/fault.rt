@@ -37,6 +37,8 @@ pub enum SyntaxKind {
     BadHead,
     /// A capture passes 4,194,304 bytes, which is the offset. `parse_segment` never answers it.
     CaptureTooLong,
+    /// What reads a stream has met a fault before, at the offset. A `Feeder` alone answers it.
+    Failed,
 }
 
 /// A fault, with its offset in the bytes that were read, counted from 0.

@@ -16,7 +16,7 @@ use Rattle.fints_params.specs.declared.rows.Usage.TheVariants.{Locked, Unsaid}
 use Rattle.fints_params.specs.Parameters.{Rows}
 use Rattle.fints_texts.specs.declared.fault.Fault.{Fault}
 use Rattle.fints_texts.specs.declared.fault.Fault.TheVariants.{Memory, Params}
-use Rattle.fints_params.specs.Captures.{IsParamsOf, IsParamFault, IsCodesOf, IsCodeFault}
+use Rattle.fints_params.specs.Captures.{IsParamsOf, IsCodesOf, IsEitherFault}
 
 -- an empty value is shown as `-`
 unfoldable pub shown : List ℕ → List ℕ
@@ -106,12 +106,8 @@ pub record IsShowOf (capture text : List ℕ) : Type 0 where
   pub feedback_is : IsCodesOf capture feedback
   pub text_is : text ≡ show_text rows feedback
 
--- the first refusal of the capture: by its parameters, or where it has parameters by its feedback
-abbrev pub IsShowFault : List ℕ → ParamFault → Type 0
-IsShowFault capture f = IsParamFault capture f ⊎ ((rows : Rows) × IsParamsOf capture rows × IsCodeFault capture f)
-
 -- want of memory, or a refusal of the capture
 abbrev pub IsMemoryOrShowFault : List ℕ → Fault → Type 0
 IsMemoryOrShowFault capture Memory = Unit {0}
-IsMemoryOrShowFault capture (Params f) = IsShowFault capture f
+IsMemoryOrShowFault capture (Params f) = IsEitherFault capture f
 IsMemoryOrShowFault capture _ = ⊥

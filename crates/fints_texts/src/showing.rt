@@ -5,7 +5,7 @@ ghost use Rattle.fints_texts.specs.Show.{shown, after_space, figure, bank_text, 
 
 use crate::fault::Fault;
 use fints_params::{
-    AccountRow, BankRow, Code, Entry, National, OrderParam, Params, PinRow, Usage, feedback_codes,
+    AccountRow, BankRow, Code, Entry, National, OrderParam, Params, PinRow, Usage, params_and_codes,
 };
 use fints_syntax::{Bytes, Kind, Memory, OwnedItem, write_item};
 use itoa::Buffer;
@@ -17,17 +17,13 @@ pub fn show(alloc: Global, capture: &[u8]) -> Result<Vec<u8>, Fault>
     ensures shown { IfOk result (λ text. IsShowOf capture.now text.items) }
     ensures refused { IfErr result (λ f. IsMemoryOrShowFault capture.now f) }
 {
-    let params = match Params::read(alloc, capture) {
-        Ok(params) => params,
-        Err(fault) => return Err(Fault::from(fault)),
-    };
-    let feedback = match feedback_codes(alloc, capture) {
-        Ok(feedback) => feedback,
+    let told = match params_and_codes(alloc, capture) {
+        Ok(told) => told,
         Err(fault) => return Err(Fault::from(fault)),
     };
     let mut text = Vec::new(alloc);
-    write_params(alloc, &mut text, &params)?;
-    write_codes(&mut text, feedback.as_slice())?;
+    write_params(alloc, &mut text, &told.params)?;
+    write_codes(&mut text, told.codes.as_slice())?;
     Ok(text)
 }
 

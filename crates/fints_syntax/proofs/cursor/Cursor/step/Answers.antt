@@ -45,7 +45,7 @@ pub returns-in-Cut-clause-end : goal.returns-in-Cut-clause-end
 returns-in-Cut-clause-end c =
     let bs = c.self.inside.rest.now in
     let some : 0 < length bs = grind arith in
-    absurd (c.in-Cut.ensures.no_item (run_there bs (tokens_in (length bs) bs) c.self.invariant.run c.self.invariant.text some))
+    absurd (c.in-Cut.ensures.0.no_item (run_there bs (tokens_in (length bs) bs) c.self.invariant.run c.self.invariant.text some))
 
 pub returns-in-Bad-clause-end : goal.returns-in-Bad-clause-end
 returns-in-Bad-clause-end c =

@@ -1,0 +1,7 @@
+//! Segments of a stream that comes in pieces.
+#![tactic(auto)]
+
+mod feeder;
+mod taken;
+
+pub use feeder::Feeder;

@@ -1,0 +1,95 @@
+//! The segments of a stream, as its pieces come.
+use fints_feeder::Feeder;
+use fints_syntax::{SyntaxFault, SyntaxKind};
+use std::test::*;
+
+fn fault(kind: SyntaxKind, offset: usize) -> Option<SyntaxFault> {
+    Some(SyntaxFault { kind, offset })
+}
+
+#[test]
+fn cut_segment(rt: HostRuntime) -> Result<(), Fail> {
+    let mut feeder = Feeder::new(rt.alloc());
+    let first = feeder.feed(b"HKEND:2:1+0'\r\nHKE")?;
+    assert_eq!(rt; first.len(), 1);
+    let second = feeder.feed(b"ND:3:1+0'")?;
+    let [segment] = second.as_slice() else {
+        return Err(Fail::from("one segment"));
+    };
+    assert_eq!(rt; segment.head.number, 3);
+    assert_eq!(rt; feeder.finish().err(), None);
+    Ok(())
+}
+
+#[test]
+fn fault_is_kept(rt: HostRuntime) -> Result<(), Fail> {
+    let mut feeder = Feeder::new(rt.alloc());
+    let first = feeder.feed(b"HKEND:2:1+@x'").err();
+    assert_eq!(rt; first, fault(SyntaxKind::BadBinary, 10));
+    assert_eq!(rt; feeder.feed(b"").err(), fault(SyntaxKind::Failed, 10));
+    assert_eq!(rt; feeder.take_places().len(), 0);
+    assert_eq!(rt; feeder.finish().err(), fault(SyntaxKind::Failed, 10));
+    Ok(())
+}
+
+#[test]
+fn places(rt: HostRuntime) -> Result<(), Fail> {
+    let mut feeder = Feeder::new(rt.alloc());
+    assert_eq!(rt; feeder.feed(b"HNVSD:999:1+@5@HI")?.len(), 0);
+    assert_eq!(rt; feeder.feed(b"BPA'")?.len(), 1);
+    assert_eq!(rt; feeder.take_places().as_slice(), [15].as_slice());
+    assert_eq!(rt; feeder.take_places().len(), 0);
+    Ok(())
+}
+
+#[test]
+fn places_in_the_stream(rt: HostRuntime) -> Result<(), Fail> {
+    let mut feeder = Feeder::new(rt.alloc());
+    assert_eq!(rt; feeder.feed(b"HKABC:1:1'")?.len(), 1);
+    assert_eq!(rt; feeder.take_places().as_slice(), [0].as_slice());
+    assert_eq!(rt; feeder.feed(b"HKEND:2:1+0'")?.len(), 1);
+    assert_eq!(rt; feeder.take_places().as_slice(), [20].as_slice());
+    Ok(())
+}
+
+#[test]
+fn unfinished(rt: HostRuntime) -> Result<(), Fail> {
+    let mut feeder = Feeder::new(rt.alloc());
+    assert_eq!(rt; feeder.feed(b"\nHNVSD:999:1+@5@HI")?.len(), 0);
+    assert_eq!(rt; feeder.finish().err(), fault(SyntaxKind::Incomplete, 1));
+    Ok(())
+}
+
+#[test]
+fn too_many_items(rt: HostRuntime) -> Result<(), Fail> {
+    let mut feeder = Feeder::new(rt.alloc());
+    assert_eq!(rt; feeder.feed(b"HIXYZ:1:1")?.len(), 0);
+    for _ in 0..19_997 {
+        assert_eq!(rt; feeder.feed(b"+")?.len(), 0);
+    }
+    assert_eq!(rt; feeder.feed(b"+").err(), fault(SyntaxKind::TooLong, 0));
+    Ok(())
+}
+
+#[test]
+fn too_long_stream(rt: HostRuntime) -> Result<(), Fail> {
+    let mut feeder = Feeder::new(rt.alloc());
+    for _ in 0..1024 {
+        assert_eq!(rt; feeder.feed(&[b'\n'; 4096])?.len(), 0);
+    }
+    let limit = 4_194_304;
+    assert_eq!(rt;
+        feeder.feed(b"\n").err(),
+        fault(SyntaxKind::CaptureTooLong, limit)
+    );
+    assert_eq!(rt; feeder.feed(b"\n").err(), fault(SyntaxKind::Failed, limit));
+    Ok(())
+}
+
+#[test]
+fn nothing_fed(rt: HostRuntime) -> Result<(), Fail> {
+    let mut feeder = Feeder::new(rt.alloc());
+    assert_eq!(rt; feeder.take_places().len(), 0);
+    assert_eq!(rt; feeder.finish().err(), None);
+    Ok(())
+}

@@ -1,0 +1,130 @@
+//! Parameters of a capture that comes in pieces.
+use fints_params::{ParamFault, ParamReader, Params, params_and_codes};
+use fints_samples::{C, C1};
+use fints_syntax::{SyntaxFault, SyntaxKind};
+use std::alloc::Global;
+use std::test::*;
+
+fn syntax(kind: SyntaxKind, offset: usize) -> Option<ParamFault> {
+    Some(ParamFault::Syntax(SyntaxFault { kind, offset }))
+}
+
+// The parameters of C.
+fn are_of_c(params: &Params) -> bool {
+    params.bank().code.as_slice() == b"10020030".as_slice()
+        && params.orders().len() == 5
+        && params.pins().len() == 3
+        && params.accounts().len() == 2
+        && params.skipped() == 0
+}
+
+// C, cut in two.
+fn cut_at(alloc: Global, at: usize) -> Result<Params, ParamFault> {
+    let (first, second) = C.split_at(at.min(C.len()));
+    let mut reader = ParamReader::new(alloc);
+    reader.feed(first)?;
+    reader.feed(second)?;
+    reader.finish()
+}
+
+#[test]
+fn byte_by_byte(rt: HostRuntime) -> Result<(), Fail> {
+    let mut reader = ParamReader::new(rt.alloc());
+    for byte in C {
+        reader.feed(&[*byte])?;
+    }
+    let params = reader.finish()?;
+    assert!(rt; are_of_c(&params));
+    Ok(())
+}
+
+#[test]
+fn each_cut(rt: HostRuntime) -> Result<(), Fail> {
+    for at in 0..C.len() {
+        let params = cut_at(rt.alloc(), at)?;
+        assert!(rt; are_of_c(&params));
+    }
+    Ok(())
+}
+
+#[test]
+fn unfinished_data(rt: HostRuntime) -> Result<(), Fail> {
+    let mut reader = ParamReader::new(rt.alloc());
+    reader.feed(b"HNVSD:999:1+@5@HI")?;
+    reader.feed(b"BPA'")?;
+    assert_eq!(rt; reader.finish().err(), syntax(SyntaxKind::Incomplete, 15));
+    Ok(())
+}
+
+#[test]
+fn fault_is_kept(rt: HostRuntime) -> Result<(), Fail> {
+    let mut reader = ParamReader::new(rt.alloc());
+    let first = reader.feed(b"HKEND:2:1+@x'").err();
+    assert_eq!(rt; first, syntax(SyntaxKind::BadBinary, 10));
+    assert_eq!(rt; reader.feed(C).err(), syntax(SyntaxKind::Failed, 10));
+    assert_eq!(rt; reader.finish().err(), syntax(SyntaxKind::Failed, 10));
+    Ok(())
+}
+
+#[test]
+fn unfinished(rt: HostRuntime) -> Result<(), Fail> {
+    let mut reader = ParamReader::new(rt.alloc());
+    reader.feed(b"HIXYZ:1:1+@999999999@abc'")?;
+    assert_eq!(rt; reader.finish().err(), syntax(SyntaxKind::Incomplete, 0));
+    Ok(())
+}
+
+#[test]
+fn rows_and_codes(rt: HostRuntime) -> Result<(), Fail> {
+    let told = params_and_codes(rt.alloc(), C)?;
+    assert!(rt; are_of_c(&told.params));
+    assert_eq!(rt; told.codes.len(), 0);
+    Ok(())
+}
+
+// 4,194,304 line breaks.
+fn longest(alloc: Global) -> Result<ParamReader, ParamFault> {
+    let mut reader = ParamReader::new(alloc);
+    for _ in 0..1024 {
+        reader.feed(&[b'\n'; 4096])?;
+    }
+    Ok(reader)
+}
+
+#[test]
+fn longest_capture(rt: HostRuntime) -> Result<(), Fail> {
+    let reader = longest(rt.alloc())?;
+    assert_eq!(rt; reader.finish().err(), Some(ParamFault::NoBankParameters));
+    Ok(())
+}
+
+#[test]
+fn too_long_capture(rt: HostRuntime) -> Result<(), Fail> {
+    let mut reader = longest(rt.alloc())?;
+    let refused = reader.feed(b"\n").err();
+    assert_eq!(rt; refused, syntax(SyntaxKind::CaptureTooLong, 4_194_304));
+    Ok(())
+}
+
+// C1 as the data of an HNVSD.
+fn sealed(alloc: Global) -> Result<Vec<u8>, ParamFault> {
+    let mut bytes = Vec::new(alloc);
+    bytes.extend_from_slice(b"HNVSD:999:1+@93@")?;
+    bytes.extend_from_slice(C1)?;
+    bytes.push(b'\'')?;
+    Ok(bytes)
+}
+
+#[test]
+fn each_cut_of_sealed(rt: HostRuntime) -> Result<(), Fail> {
+    let bytes = sealed(rt.alloc())?;
+    for at in 0..bytes.len() {
+        let mut reader = ParamReader::new(rt.alloc());
+        let (first, second) = bytes.as_slice().split_at(at);
+        reader.feed(first)?;
+        reader.feed(second)?;
+        let params = reader.finish()?;
+        assert_eq!(rt; params.bank().code.as_slice(), b"10020030".as_slice());
+    }
+    Ok(())
+}

@@ -1,0 +1,203 @@
+-- How far bytes are read, and what is read of them.
+use Rattle.std.proofs.Common.{◌≡◌, ◌≢◌, ℕ, ◌+◌, ◌-◌, ◌<◌, ◌≤◌, List, [], ◌∷◌, ◌++◌, length, take, drop, refl, ap, ◌∙◌, sym, subst, arith, inl, inr, append_assoc, Option, Some, None, true, false}
+use Rattle.std.specs.Option.{is_some}
+use Rattle.std.specs.List.{AllByRecursion, AllZip, flat_map}
+use Rattle.std.proofs.lemmas.List.{append-nil, drop-append-le, drop-drop, drop_all, take_all, length-append, length-drop, take-append-drop}
+use Rattle.fints_syntax.specs.Capture.{MAX_CAPTURE, IsBreak, ReadsPlaced, FaultsAt}
+use Rattle.fints_syntax.specs.Laws.{BegunGoesOn, ReadIsSplit, CutSegments, CutFault, PieceFaultIsCaptureFault}
+use Rattle.fints_syntax.specs.Streams.{IsBegun, IsReady, IsReadTo, IsStreamFault, PieceFaultAt, moved_by, whole_len}
+use Rattle.fints_syntax.specs.declared.capture.Placed as syntax
+use Rattle.fints_syntax.specs.declared.fault.SyntaxFault.{SyntaxFault}
+use Rattle.fints_syntax.specs.declared.fault.SyntaxKind.{SyntaxKind}
+use Rattle.fints_syntax.specs.declared.fault.SyntaxKind.TheVariants as kinds
+use Rattle.fints_syntax.specs.declared.item.OwnedSegment.{OwnedSegment}
+use Rattle.fints_syntax.specs.declared.stream.Begun.{Begun}
+use Rattle.fints_syntax.specs.declared.stream.ReadTo.{ReadTo}
+use Rattle.fints_params.specs.declared.fault.ParamFault.{ParamFault}
+use Rattle.fints_params.specs.declared.fault.ParamFault.TheVariants.{Memory, Syntax}
+use Rattle.fints_params.specs.declared.placed.PlacedSegment.{PlacedSegment}
+use Rattle.fints_params.specs.Captures.{Rule, IsSyntaxFault, IsParamFault}
+use Rattle.fints_params.specs.Faults.{IsMemoryOr, fault_from, fault_of}
+use Rattle.fints_params.specs.Opened.{IsValuesOf, IsPlacedValue}
+use Rattle.fints_params.specs.Pieces.{Received, unread, AreReceived, IsPieceFault, IsNotReceived, IsUnfinished}
+use Rattle.fints_params.specs.Steps.{IsWithin, ReadsNext, StopsNext, HasRead, HasCome, ReadsCapture, IsRefusedOf, IsRefusedInViews}
+use Rattle.fints_params.proofs.Viewed.{views_none, views_push, views_stopped, views_stay}
+
+-- how many bytes the whole segments take
+whole_is : (bytes : List ℕ) (placed : List syntax.Placed) (to : ReadTo) → IsReadTo bytes placed to → whole_len bytes (drop to.whole bytes) ≡ to.whole
+whole_is bytes placed to h = omega (arith, h.within, length-drop to.whole bytes)
+
+pub read_on : (cut : CutSegments) (split : ReadIsSplit) (front more : List ℕ) (placed next : List syntax.Placed) (to read : ReadTo) → IsReadTo front placed to → IsReadTo (drop to.whole (front ++ more)) next read
+    → IsReadTo (front ++ more) (placed ++ moved_by to.whole next) (record { whole = to.whole + read.whole; rest = read.rest })
+read_on cut split front more placed next to read h g =
+    let bytes = front ++ more in
+    let rest = drop to.whole front in
+    let e : drop to.whole bytes ≡ rest ++ more = drop-append-le to.whole front more h.within in
+    let k : IsReadTo (rest ++ more) next read = subst (λ (xs : List ℕ). IsReadTo xs next read) e g in
+    let both = cut front more placed next rest (drop read.whole (rest ++ more)) (split front placed to h) (split (rest ++ more) next read k) in
+    let left : drop read.whole (rest ++ more) ≡ drop (to.whole + read.whole) bytes = ap (drop read.whole) (sym e) ∙ drop-drop read.whole to.whole bytes in
+    let here = subst (λ (n : ℕ). ReadsPlaced bytes (placed ++ moved_by n next) (drop read.whole (rest ++ more))) (whole_is front placed to h) both.reads in
+    record {
+      within = omega (arith, h.within, k.within, length-append front more, length-append rest more, length-drop to.whole front);
+      reads = subst (λ (xs : List ℕ). ReadsPlaced bytes (placed ++ moved_by to.whole next) xs) left here;
+      ready = subst (λ (xs : List ℕ). IsReady xs read.rest) left k.ready;
+      unended = subst (λ (xs : List ℕ). IsBegun (drop read.rest.gap xs)) left k.unended;
+    }
+
+syntax_from : (kind : SyntaxKind) (o : ℕ) → kind ≢ kinds.Memory → fault_from kind o ≡ Syntax (record { kind = kind; offset = o })
+syntax_from kinds.Memory o n = absurd (n refl)
+syntax_from kinds.BadBinary o n = refl
+syntax_from kinds.TooLong o n = refl
+syntax_from kinds.Incomplete o n = refl
+syntax_from kinds.BadHead o n = refl
+syntax_from kinds.CaptureTooLong o n = refl
+syntax_from kinds.Failed o n = refl
+
+rest_is : (front more bytes rest : List ℕ) (to : ReadTo) (placed : List syntax.Placed) → bytes ≡ front ++ more → rest ≡ drop to.whole bytes → IsReadTo front placed to → rest ≡ drop to.whole front ++ more
+rest_is front more bytes rest to placed e back h = back ∙ ap (drop to.whole) e ∙ drop-append-le to.whole front more h.within
+
+-- what is looked at of the rest
+pub ready_at : (goes : BegunGoesOn) (front more bytes rest : List ℕ) (to : ReadTo) (placed : List syntax.Placed) → bytes ≡ front ++ more → rest ≡ drop to.whole bytes → length front ≤ MAX_CAPTURE → IsReadTo front placed to → IsReady (take (MAX_CAPTURE - to.whole) rest) to.rest
+ready_at goes front more bytes rest to placed e back short h =
+    let own = goes (drop to.whole front) more (MAX_CAPTURE - to.whole) to.rest h.ready (omega (arith, short, length-drop to.whole front)) in
+    subst (λ (xs : List ℕ). IsReady (take (MAX_CAPTURE - to.whole) xs) to.rest) (sym (rest_is front more bytes rest to placed e back h)) own
+
+-- no byte is read
+pub come_none : {S : Type 0} (rule : Rule) (Good : List OwnedSegment → S → Type 0) (state : S) (b : Begun) → ((rest : List ℕ) → IsReady rest b) → Good [] state → HasCome rule Good [] (record { whole = 0; rest = b }) None state
+come_none rule Good state b fresh g =
+    let e : drop {A = ℕ} b.gap [] ≡ [] = drop_all {X = ℕ} b.gap [] (omega arith) in
+    record {
+      short = omega arith;
+      placed = [];
+      read = record { within = omega arith; reads = record { pieces = []; each = tt; placed_are = refl; text = refl }; ready = fresh []; unended = subst IsBegun (sym e) tt };
+      segments = views_none Good state g;
+    }
+
+-- more of them are
+pub come_on : {S : Type 0} (rule : Rule) (Good : List OwnedSegment → S → Type 0) (cut : CutSegments) (split : ReadIsSplit) (front more bytes rest : List ℕ) (to read : ReadTo) (before after : Option ParamFault) (a b : S) (next : List syntax.Placed)
+    → bytes ≡ front ++ more → rest ≡ drop to.whole bytes → HasCome rule Good front to before a → IsReadTo rest next read → to.whole + length rest ≤ MAX_CAPTURE
+    → ((seen : List syntax.Placed) → HasRead rule Good seen before a → HasRead rule Good (seen ++ moved_by to.whole next) after b) → HasCome rule Good bytes (record { whole = to.whole + read.whole; rest = read.rest }) after b
+come_on rule Good cut split front more bytes rest to read before after a b next e back h k le goes =
+    let own : IsReadTo (drop to.whole (front ++ more)) next read = subst (λ (xs : List ℕ). IsReadTo xs next read) (back ∙ ap (drop to.whole) e) k in
+    let all = read_on cut split front more h.placed next to read h.read own in
+    record {
+      short = omega (arith, le, ap length back, length-drop to.whole bytes);
+      placed = h.placed ++ moved_by to.whole next;
+      read = subst (λ (xs : List ℕ). IsReadTo xs (h.placed ++ moved_by to.whole next) (record { whole = to.whole + read.whole; rest = read.rest })) (sym e) all;
+      segments = goes h.placed h.segments;
+    }
+
+pub stream_fault : (cut : CutFault) (split : ReadIsSplit) (law : PieceFaultIsCaptureFault) (front more : List ℕ) (placed : List syntax.Placed) (to : ReadTo) (f : SyntaxFault) → length front ≤ MAX_CAPTURE → IsReadTo front placed to
+    → IsStreamFault to.whole (drop to.whole (front ++ more)) f → IsMemoryOr (IsPieceFault (front ++ more)) (fault_of f)
+stream_fault cut split law front more placed to f short h (inl m) = inl (ap fault_of m)
+stream_fault cut split law front more placed to f short h (inr (o, is, p)) =
+    let bytes = front ++ more in
+    let rest = drop to.whole front in
+    let e : drop to.whole bytes ≡ rest ++ more = drop-append-le to.whole front more h.within in
+    let own : PieceFaultAt (MAX_CAPTURE - to.whole) f.kind o (rest ++ more) = subst (λ (xs : List ℕ). PieceFaultAt (MAX_CAPTURE - to.whole) f.kind o xs) e p in
+    let all = cut front more placed rest (MAX_CAPTURE - to.whole) o f.kind (split front placed to h) own in
+    let n = whole_is front placed to h in
+    let limit : whole_len front rest + (MAX_CAPTURE - to.whole) ≡ MAX_CAPTURE = omega (arith, n, h.within, short) in
+    let at : whole_len front rest + o ≡ f.offset = omega (arith, n, is) in
+    let here = subst (λ (k : ℕ). PieceFaultAt MAX_CAPTURE f.kind k bytes) at (subst (λ (k : ℕ). PieceFaultAt k f.kind (whole_len front rest + o) bytes) limit all) in
+    inr (f, here, syntax_from f.kind f.offset (law bytes f here).1)
+
+pub come_fault : {S : Type 0} (rule : Rule) (Good : List OwnedSegment → S → Type 0) (cut : CutFault) (split : ReadIsSplit) (law : PieceFaultIsCaptureFault) (front more bytes rest : List ℕ) (to : ReadTo) (before : Option ParamFault) (a : S) (f : SyntaxFault)
+    → bytes ≡ front ++ more → rest ≡ drop to.whole bytes → HasCome rule Good front to before a → IsStreamFault to.whole rest f → IsMemoryOr (IsPieceFault bytes) (fault_of f)
+come_fault rule Good cut split law front more bytes rest to before a f e back h k =
+    let own : IsStreamFault to.whole (drop to.whole (front ++ more)) f = subst (λ (xs : List ℕ). IsStreamFault to.whole xs f) (back ∙ ap (drop to.whole) e) k in
+    subst (λ (xs : List ℕ). IsMemoryOr (IsPieceFault xs) (fault_of f)) (sym e) (stream_fault cut split law front more h.placed to f h.short h.read own)
+
+-- the fault of a stream is that of a capture
+pub syntax_fault : (law : PieceFaultIsCaptureFault) (bytes : List ℕ) (f : ParamFault) → IsPieceFault bytes f → IsSyntaxFault bytes f
+syntax_fault law bytes f (fault, h, e) = let l = law bytes fault h in (fault, (l.0, l.1), e)
+
+-- ---- where the bytes are all
+
+values : {S : Type 0} (rule : Rule) (Good : List OwnedSegment → S → Type 0) (bytes : List ℕ) (to : ReadTo) (refused : Option ParamFault) (state : S) (placed : List PlacedSegment) (h : HasCome rule Good bytes to refused state)
+    → length bytes ≤ to.whole + to.rest.gap → AllZip IsPlacedValue h.placed placed → IsValuesOf bytes placed
+values rule Good bytes to refused state placed h le zip =
+    let rest = drop to.whole bytes in
+    let all : take to.rest.gap rest ≡ rest = take_all to.rest.gap rest (omega (arith, length-drop to.whole bytes, h.read.within, le)) in
+    record { short = h.short; views = h.placed; read = (rest, subst (AllByRecursion IsBreak) all h.read.ready.breaks, h.read.reads); each = zip }
+
+pub ended : {S : Type 0} (rule : Rule) (Good : List OwnedSegment → S → Type 0) (bytes : List ℕ) (to : ReadTo) (refused : Option ParamFault) (state : S) → refused ≡ None → HasCome rule Good bytes to refused state → length bytes ≤ to.whole + to.rest.gap → ReadsCapture Good bytes state
+ended rule Good bytes to (Some f) state e h le = absurd cc
+ended rule Good bytes to None state e h le = let (placed, zip, reads) = h.segments in (placed, values rule Good bytes to None state placed h le zip, reads)
+
+pub end_refused : {S : Type 0} (rule : Rule) (Good : List OwnedSegment → S → Type 0) (bytes : List ℕ) (to : ReadTo) (refused : Option ParamFault) (state : S) (f : ParamFault) → refused ≡ Some f → HasCome rule Good bytes to refused state → length bytes ≤ to.whole + to.rest.gap → IsRefusedOf rule bytes f
+end_refused rule Good bytes to None state f e h le = absurd cc
+end_refused rule Good bytes to (Some g) state f e h le =
+    let same : g ≡ f = cc in
+    let (placed, zip, r) = h.segments in
+    subst (IsRefusedOf rule bytes) same (inr (placed, values rule Good bytes to (Some g) state placed h le zip, r))
+
+cut_faults : (bytes : List ℕ) (placed : List syntax.Placed) (gap begun : List ℕ) (o : ℕ) → ReadsPlaced bytes placed (gap ++ begun) → AllByRecursion IsBreak gap → IsBegun begun → 0 < length begun → o + length begun ≡ length bytes → FaultsAt bytes kinds.Incomplete o
+cut_faults bytes placed gap [] o r breaks u some at = absurd (omega (arith, some))
+cut_faults bytes placed gap (b ∷ bs) o r breaks u some at = record { placed = placed; gap = gap; first = b; more = bs; breaks = breaks; no_break = u.0; reads = r; at = 0; fault = u.1; offset_is = omega (arith, at) }
+
+-- a segment has begun and doesn't end
+pub end_cut : {S : Type 0} (rule : Rule) (Good : List OwnedSegment → S → Type 0) (bytes : List ℕ) (to : ReadTo) (refused : Option ParamFault) (state : S) → HasCome rule Good bytes to refused state → to.whole + to.rest.gap < length bytes
+    → IsRefusedOf rule bytes (Syntax (record { kind = kinds.Incomplete; offset = to.whole + to.rest.gap }))
+end_cut rule Good bytes to refused state h lt =
+    let rest = drop to.whole bytes in
+    let gap = take to.rest.gap rest in
+    let begun = drop to.rest.gap rest in
+    let size = length-drop to.whole bytes in
+    let left = length-drop to.rest.gap rest in
+    let reads = subst (λ (xs : List ℕ). ReadsPlaced bytes h.placed xs) (sym (take-append-drop to.rest.gap rest)) h.read.reads in
+    let fault = cut_faults bytes h.placed gap begun (to.whole + to.rest.gap) reads h.read.ready.breaks h.read.unended (omega (arith, lt, size, left)) (omega (arith, lt, size, left)) in
+    inl (record { kind = kinds.Incomplete; offset = to.whole + to.rest.gap }, ((h.short, fault), (λ e. cc)), refl)
+
+-- ---- one more segment
+
+pub read_past : {S : Type 0} (rule : Rule) (Good : List OwnedSegment → S → Type 0) (refused : Option ParamFault) (state : S) (view : syntax.Placed) → is_some refused ≡ true → IsWithin view
+    → (seen : List syntax.Placed) → HasRead rule Good seen refused state → HasRead rule Good (seen ++ view ∷ []) refused state
+read_past rule Good None state view e within = absurd cc
+read_past rule Good (Some f) state view e within = λ seen h. views_stay rule seen view f within h
+
+pub read_next : {S : Type 0} (rule : Rule) (Good : List OwnedSegment → S → Type 0) (refused : Option ParamFault) (a b : S) (view : syntax.Placed) → is_some refused ≡ false → ReadsNext Good a b view
+    → (seen : List syntax.Placed) → HasRead rule Good seen refused a → HasRead rule Good (seen ++ view ∷ []) refused b
+read_next rule Good None a b view e k = λ seen h. views_push Good a b seen view h k
+read_next rule Good (Some f) a b view e k = absurd cc
+
+pub read_stop : {S : Type 0} (rule : Rule) (Good : List OwnedSegment → S → Type 0) (refused : Option ParamFault) (a : S) (view : syntax.Placed) (f : ParamFault) → is_some refused ≡ false → f ≢ Memory → IsMemoryOr (StopsNext rule Good a view) f
+    → (seen : List syntax.Placed) → HasRead rule Good seen refused a → IsRefusedInViews rule (seen ++ view ∷ []) f
+read_stop rule Good (Some g) a view f e n k = absurd cc
+read_stop rule Good None a view f e n (inl m) = absurd (n m)
+read_stop rule Good None a view f e n (inr k) = λ seen h. views_stopped rule Good a seen view f h k
+
+-- ---- a piece that is refused
+
+pub none_of : (o : Option ℕ) → ((x : ℕ) → o ≡ Some x → ⊥) → o ≡ None
+none_of None h = refl
+none_of (Some x) h = absurd (h x refl)
+
+pub not_received : (failed : Option ℕ) (old : Received) (piece bytes : List ℕ) (fault : SyntaxFault) (f : ParamFault) (new : Received) → failed ≡ None → f ≡ Syntax fault → bytes ≡ old.bytes ++ piece → IsMemoryOr (IsPieceFault bytes) f
+    → new.bytes ≡ [] → new.failed ≡ Some fault.offset → IsNotReceived failed old piece f new
+not_received (Some o) old piece bytes fault f new none is e h empty at = absurd cc
+not_received None old piece bytes fault f new none is e (inl m) empty at = absurd cc
+not_received None old piece bytes fault f new none is e (inr (g, h, own)) empty at =
+    let same : g ≡ fault = cc in
+    let here : PieceFaultAt MAX_CAPTURE g.kind g.offset (old.bytes ++ piece) = subst (λ (xs : List ℕ). PieceFaultAt MAX_CAPTURE g.kind g.offset xs) e h in
+    inr (fault, subst (λ (x : SyntaxFault). PieceFaultAt MAX_CAPTURE x.kind x.offset (old.bytes ++ piece)) same here, is, λ i. record { bytes = empty i; failed = at i })
+
+-- why there are no parameters at the end
+pub unfinished : (failed : Option ℕ) (r : Received) (bytes : List ℕ) (f : ParamFault) → failed ≡ None → bytes ≡ r.bytes → IsMemoryOr (IsParamFault bytes) f → IsUnfinished failed r f
+unfinished (Some o) r bytes f none e h = absurd cc
+unfinished None r bytes f none e h = subst (λ (xs : List ℕ). IsMemoryOr (IsParamFault xs) f) e h
+
+-- ---- all pieces
+
+received_all : (old : Received) (pieces : List (List ℕ)) (new : Received) → old.failed ≡ None → AreReceived old pieces new → new ≡ record { bytes = old.bytes ++ flat_map (λ p. p) pieces; failed = None }
+received_all old [] new sound e = e ∙ λ i. record { bytes = sym (append-nil old.bytes) i; failed = sound i }
+received_all old (p ∷ ps) new sound (next, h, more) =
+    let failed : next.failed ≡ None = ap (λ (r : Received). r.failed) h.kept in
+    let bytes : next.bytes ++ flat_map (λ p. p) ps ≡ old.bytes ++ (p ++ flat_map (λ p. p) ps) = ap (λ (r : Received). r.bytes ++ flat_map (λ p. p) ps) h.kept ∙ append_assoc old.bytes p (flat_map (λ p. p) ps) in
+    received_all next ps new failed more ∙ λ i. record { bytes = bytes i; failed = None }
+
+pub any_cutting : (pieces : List (List ℕ)) (new : Received) → AreReceived unread pieces new → new ≡ record { bytes = flat_map (λ p. p) pieces; failed = None }
+any_cutting pieces new h = received_all unread pieces new refl h
+
+pub param_fault_of : (law : PieceFaultIsCaptureFault) (stream : List ℕ) (f : ParamFault) → IsPieceFault stream f → IsParamFault stream f
+param_fault_of law stream f h = inl (syntax_fault law stream f h)

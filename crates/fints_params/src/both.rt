@@ -1,0 +1,85 @@
+//! Parameters and feedback of a capture, read at once.
+ghost use Rattle.std.specs.Prelude.{IfOk, IfErr};
+ghost use Rattle.fints_params.specs.Captures.{IsParamsOf, IsCodesOf, IsEitherFault};
+ghost use Rattle.fints_params.specs.Faults.{IsMemoryOr};
+
+use crate::capture::read_capture;
+use crate::code::Code;
+use crate::fault::{ParamFault, is_memory};
+use crate::feedback::{Found, none_found};
+use crate::gathered::Gathered;
+use crate::gathering::no_rows;
+use crate::opening::Reader;
+use crate::params::{Params, params_of};
+use fints_syntax::OwnedSegment;
+use std::alloc::Global;
+
+/// What a capture tells.
+#[derive(Drop)]
+pub struct ParamsAndCodes {
+    pub params: Params,
+    pub codes: Vec<Code>,
+}
+
+// The rows so far, and the codes, or the first segment that is refused for its code.
+#[derive(Drop)]
+struct Both {
+    rows: Gathered,
+    found: Found,
+    refused: Option<ParamFault>,
+}
+
+impl Reader for Both {
+    ghost use Rattle.fints_params.specs.Parameters.{fault_after};
+    ghost use Rattle.fints_params.specs.Taken.{SoFar, CodesRead};
+
+    ghost rule = { fault_after };
+
+    ghost good = { λ seen both. SoFar seen both.rows × CodesRead seen both.refused both.found.codes.items };
+
+    fn add(&mut self, alloc: Global, segment: &OwnedSegment) -> Result<(), ParamFault> {
+        self.rows.add(alloc, segment)?;
+        if self.refused.is_some() {
+            return Ok(());
+        }
+        match self.found.add(alloc, segment) {
+            Ok(()) => Ok(()),
+            Err(fault) => {
+                if is_memory(&fault) {
+                    return Err(fault);
+                }
+                self.refused = Some(fault);
+                Ok(())
+            }
+        }
+    }
+
+    ghost none_refused = { λ seen both h. h.0.none };
+}
+
+/// The parameters of a capture and the codes of its feedback, as `Params::read` and
+/// `feedback_codes` give them, in one pass. Of the refusals that of the parameters comes first.
+pub fn params_and_codes(alloc: Global, capture: &[u8]) -> Result<ParamsAndCodes, ParamFault>
+    ensures params { IfOk result (λ it. IsParamsOf capture.now it.params) }
+    ensures codes { IfOk result (λ it. IsCodesOf capture.now it.codes.items) }
+    ensures refused { IfErr result (λ f. IsMemoryOr (IsEitherFault capture.now) f) }
+{
+    let none = Both {
+        rows: no_rows(alloc),
+        found: none_found(alloc),
+        refused: None,
+    };
+    let Both {
+        rows,
+        found,
+        refused,
+    } = read_capture(alloc, capture, none)?;
+    let params = params_of(rows)?;
+    if let Some(fault) = refused {
+        return Err(fault);
+    }
+    Ok(ParamsAndCodes {
+        params,
+        codes: found.codes,
+    })
+}
