@@ -85,6 +85,10 @@ CutFault =
     (first second : List ℕ) (placed : List Placed) (rest : List ℕ) (limit o : ℕ) (kind : SyntaxKind) → IsSplit first placed rest → PieceFaultAt limit kind o (rest ++ second)
     → PieceFaultAt (whole_len first rest + limit) kind (whole_len first rest + o) (first ++ second)
 
+-- a fault of a stream stays what it is, and where it is, whatever bytes follow
+abbrev pub FaultLasts : Type 0
+FaultLasts = (bytes more : List ℕ) (limit o : ℕ) (kind : SyntaxKind) → PieceFaultAt limit kind o bytes → PieceFaultAt limit kind o (bytes ++ more)
+
 -- what follows bytes without a whole segment ends no more segments than it has `'`
 abbrev pub FewSegments : Type 0
 FewSegments = (rest more : List ℕ) (placed : List Placed) (left : List ℕ) → IsRest rest → IsSplit (rest ++ more) placed left → length placed ≤ count_by is_quote more

@@ -1,0 +1,5 @@
+use Rattle.fints_syntax.proofs.Lasting.{fault_lasts}
+use Rattle.fints_syntax.proofs.laws.fault_lasts.Goals as goal
+
+pub returns : goal.returns
+returns c = fault_lasts
