@@ -1,4 +1,5 @@
 pub mod Streams
 pub mod BuiltIn
 pub mod Loading
+pub mod Captures
 pub mod Commands

@@ -5,7 +5,7 @@ use Rattle.fints_cli.specs.declared.failing.Failure.TheVariants.{Input, Unread}
 use Rattle.fints_cli.specs.declared.reading.LoadFault.{LoadFault}
 use Rattle.fints_cli.specs.declared.reading.LoadFault.TheVariants.{Unreadable, TooLong, TooManyCalls, Memory}
 use Rattle.fints_texts.specs.declared.fault.Fault.TheVariants as texts
-use Rattle.fints_cli.specs.Streams.{ReadCounts, one_more}
+use Rattle.fints_cli.specs.Streams.{ReadCounts, one_more, IsFile}
 use Rattle.fints_words.specs.declared.words.Request.{Request}
 use Rattle.fints_words.specs.declared.words.Request.TheVariants.{BuiltIn, Show, Judge, Check, Explain, Certify, Verify}
 use Rattle.fints_words.specs.declared.words.Request.TheVariants as requests
@@ -61,6 +61,10 @@ HasFailed before after = after.failed ≡ one_more before.failed
 -- a file whose bytes are told is longer than its limit
 abbrev pub IsLonger : Option (List ℕ) → ℕ → Type 0
 IsLonger held limit = IfSome held (λ bytes. limit < length bytes)
+
+-- a sink took the bytes of a file, at most so many
+abbrev pub IsTakenFrom : {S : Type 0} → (List ℕ → S → Type 0) → Option (List ℕ) → ℕ → S → Type 0
+IsTakenFrom Holds held limit sink = (bytes : List ℕ) × IsFile held bytes × (length bytes ≤ limit) × Holds bytes sink
 
 -- as many reads were asked for as one file may take
 abbrev pub AreUsedUp : ReadCounts → ReadCounts → Type 0

@@ -1,6 +1,8 @@
 //! The commands, from words to a status.
-ghost use Rattle.std.specs.Prelude.{◌≡◌, ◌≤◌, ◌<◌, ◌+◌, ◌-◌, ◌*◌, ◌^◌, ◌⊎◌, ◌↔◌, min, [], ◌∷◌, codes, false, IfOk, IfErr};
+ghost use Rattle.std.specs.Prelude.{◌≡◌, ◌≤◌, ◌<◌, ◌+◌, ◌-◌, ◌*◌, ◌^◌, ◌⊎◌, ◌↔◌, min, ℕ, List, [], ◌∷◌, codes, false, IfOk, IfErr};
 ghost use Rattle.fints_cli.specs.Streams.{Gets, GetsNothing, GetsPrefix, IsFile, one_more};
+ghost use Rattle.fints_params.specs.Captures.{IsReadOf};
+ghost use Rattle.fints_cli.specs.Captures.{IsReadFrom};
 ghost use Rattle.fints_cli.specs.BuiltIn as texts;
 ghost use Rattle.fints_words.specs.declared.words.Request.TheVariants as request;
 ghost use Rattle.fints_texts.specs.Judge.{IsVerdictOf};
@@ -15,13 +17,15 @@ ghost use Rattle.fints_cli.specs.Commands.{failure_status, IsJudgeFailure, Shows
 ghost use Rattle.fints_words.specs.declared.words.Asked.TheVariants as asked;
 
 use crate::built_in;
+use crate::capture::{Capture, ReadCapture};
 use crate::emitting::emit;
 use crate::failing::{Failure, Refusal, refused, unread};
-use crate::reading::{MAX_CALLS, load};
+use crate::reading::{MAX_CALLS, load, load_into};
 use crate::streams::{Files, Out};
 use fints_hints::Inputs;
-use fints_reports::{Wanted, run_case, tell_script, verify_script};
-use fints_texts::{Reply, judge_message, show};
+use fints_params::{ParamFault, Params};
+use fints_reports::{Wanted, run_case, tell_read, tell_script, verify_read};
+use fints_texts::{Reply, judge_read, show};
 use fints_words::{Asked, Request, RunFiles, ScriptFiles, read_words};
 use std::alloc::Global;
 
@@ -55,17 +59,43 @@ fn load_option<F: Files>(
     }
 }
 
+// Loads the file of a capture, and reads it as it comes. Its bytes are kept where a hint may need
+// them.
+fn load_capture<F: Files>(
+    alloc: Global,
+    files: &mut F,
+    path: &str,
+    hints: bool,
+) -> Result<ReadCapture, Refusal>
+    ensures calls { (F.reads files.new).calls ≤ (F.reads files.old).calls + MAX_CALLS }
+    ensures keeps { F.holds files.new ≡ F.holds files.old }
+    ensures exact { IfOk result (λ capture. IsReadFrom (F.holds files.old path.now) capture.params) }
+    ensures unread { IfErr result (λ r. IsUnloaded (codes "params") r.failure) }
+    ensures counted { min ((F.reads files.old).calls) (2 ^ 64 - 1) ≤ (F.reads files.new).calls }
+    ensures fine { IfOk result (λ _. (F.reads files.new).failed ≡ (F.reads files.old).failed) }
+    ensures reason { IfErr result (λ r.
+        FollowsReading (wire_file (codes "params") path.now ∷ []) (F.holds files.old) (F.reads files.old) (F.reads files.new) r.failure) }
+{
+    match load_into(files, path, MAX_CAPTURE, Capture::new(alloc, hints)) {
+        Ok(capture) => Ok(capture.end()),
+        Err(fault) => Err(unread(alloc, "params", path, fault, MAX_CAPTURE, hints)),
+    }
+}
+
 fn tell_loaded(
     alloc: Global,
+    params: Result<Params, ParamFault>,
     inputs: &Inputs<'_>,
     wanted: Wanted,
     hints: bool,
 ) -> Result<Reply, Refusal>
     ensures status { IfOk result (λ reply. reply.status ≤ 1) }
-    ensures told { IfOk result (λ reply. IsToldOf wanted inputs.now.params.now inputs.now.orders.now inputs.now.script.now reply.status reply.text.items) }
-    ensures refused { IfErr result (λ r. IsScriptFailure inputs.now.params.now inputs.now.orders.now inputs.now.script.now r.failure) }
+    ensures told { IfOk result (λ reply. (capture : List ℕ) → IsReadOf capture params
+        → IsToldOf wanted capture inputs.now.orders.now inputs.now.script.now reply.status reply.text.items) }
+    ensures refused { IfErr result (λ r. (capture : List ℕ) → IsReadOf capture params
+        → IsScriptFailure capture inputs.now.orders.now inputs.now.script.now r.failure) }
 {
-    match tell_script(alloc, inputs.params, inputs.orders, inputs.script, wanted) {
+    match tell_read(alloc, params, inputs.orders, inputs.script, wanted) {
         Ok(reply) => Ok(reply),
         Err(fault) => Err(refused(alloc, fault, inputs, hints)),
     }
@@ -77,13 +107,16 @@ fn check_built_in(alloc: Global) -> Result<Reply, Refusal>
     ensures told { IfOk result (λ reply. IsToldOf wants.Report texts.capture texts.orders texts.script reply.status reply.text.items) }
     ensures refused { IfErr result (λ r. IsScriptFailure texts.capture texts.orders texts.script r.failure) }
 {
-    let inputs = Inputs {
-        params: built_in::CAPTURE,
-        orders: built_in::ORDERS,
-        script: built_in::SCRIPT,
-        ..Inputs::none()
-    };
-    tell_loaded(alloc, &inputs, Wanted::Report, false)
+    match tell_script(
+        alloc,
+        built_in::CAPTURE,
+        built_in::ORDERS,
+        built_in::SCRIPT,
+        Wanted::Report,
+    ) {
+        Ok(reply) => Ok(reply),
+        Err(fault) => Err(refused(alloc, fault, &Inputs::none(), false)),
+    }
 }
 
 #[tactic(auto, using(crate::proofs::FileLemmas::files_told, crate::proofs::FileLemmas::files_not_told))]
@@ -102,28 +135,34 @@ fn tell_files<F: Files>(
     ensures calls { (F.reads files.new).calls ≤ (F.reads files.old).calls + 3 * MAX_CALLS }
     ensures keeps { F.holds files.new ≡ F.holds files.old }
 {
-    let params = load_option(alloc, files, "params", named.params, MAX_CAPTURE, hints)?;
+    let capture = load_capture(alloc, files, named.params, hints)?;
     let orders = load_option(alloc, files, "orders", named.orders, MAX_TEXT, hints)?;
     let script = load_option(alloc, files, "script", named.script, MAX_TEXT, hints)?;
+    let ReadCapture { params, bytes } = capture;
     let inputs = Inputs {
-        params: params.as_slice(),
+        params: bytes.as_slice(),
         orders: orders.as_slice(),
         script: script.as_slice(),
         ..Inputs::none()
     };
-    tell_loaded(alloc, &inputs, wanted, hints)
+    tell_loaded(alloc, params, &inputs, wanted, hints)
 }
 
-fn verify_loaded(alloc: Global, inputs: &Inputs<'_>, hints: bool) -> Result<Reply, Refusal>
+fn verify_loaded(
+    alloc: Global,
+    params: Result<Params, ParamFault>,
+    inputs: &Inputs<'_>,
+    hints: bool,
+) -> Result<Reply, Refusal>
     ensures status { IfOk result (λ reply. reply.status ≤ 1) }
-    ensures told { IfOk result (λ reply.
-        IsVerifiedOf inputs.now.params.now inputs.now.orders.now inputs.now.script.now inputs.now.certificate.now reply.status reply.text.items) }
-    ensures refused { IfErr result (λ r.
-        IsVerifyFailure inputs.now.params.now inputs.now.orders.now inputs.now.script.now inputs.now.certificate.now r.failure) }
+    ensures told { IfOk result (λ reply. (capture : List ℕ) → IsReadOf capture params
+        → IsVerifiedOf capture inputs.now.orders.now inputs.now.script.now inputs.now.certificate.now reply.status reply.text.items) }
+    ensures refused { IfErr result (λ r. (capture : List ℕ) → IsReadOf capture params
+        → IsVerifyFailure capture inputs.now.orders.now inputs.now.script.now inputs.now.certificate.now r.failure) }
 {
-    match verify_script(
+    match verify_read(
         alloc,
-        inputs.params,
+        params,
         inputs.orders,
         inputs.script,
         inputs.certificate,
@@ -150,18 +189,19 @@ fn verify_files<F: Files>(
     ensures calls { (F.reads files.new).calls ≤ (F.reads files.old).calls + 4 * MAX_CALLS }
     ensures keeps { F.holds files.new ≡ F.holds files.old }
 {
-    let params = load_option(alloc, files, "params", named.params, MAX_CAPTURE, hints)?;
+    let capture = load_capture(alloc, files, named.params, hints)?;
     let orders = load_option(alloc, files, "orders", named.orders, MAX_TEXT, hints)?;
     let script = load_option(alloc, files, "script", named.script, MAX_TEXT, hints)?;
     let certificate = load_option(alloc, files, "cert", certificate, MAX_TEXT, hints)?;
+    let ReadCapture { params, bytes } = capture;
     let inputs = Inputs {
-        params: params.as_slice(),
+        params: bytes.as_slice(),
         orders: orders.as_slice(),
         script: script.as_slice(),
         certificate: certificate.as_slice(),
         ..Inputs::none()
     };
-    verify_loaded(alloc, &inputs, hints)
+    verify_loaded(alloc, params, &inputs, hints)
 }
 
 fn show_loaded(alloc: Global, inputs: &Inputs<'_>, hints: bool) -> Result<Reply, Refusal>
@@ -199,12 +239,19 @@ fn show_file<F: Files>(
     show_loaded(alloc, &inputs, hints)
 }
 
-fn judge_loaded(alloc: Global, inputs: &Inputs<'_>, hints: bool) -> Result<Reply, Refusal>
+fn judge_loaded(
+    alloc: Global,
+    params: Result<Params, ParamFault>,
+    inputs: &Inputs<'_>,
+    hints: bool,
+) -> Result<Reply, Refusal>
     ensures status { IfOk result (λ reply. reply.status ≤ 1) }
-    ensures judged { IfOk result (λ reply. IsVerdictOf inputs.now.params.now inputs.now.orders.now inputs.now.message.now reply.status reply.text.items) }
-    ensures refused { IfErr result (λ r. IsJudgeFailure inputs.now.params.now inputs.now.orders.now inputs.now.message.now r.failure) }
+    ensures judged { IfOk result (λ reply. (capture : List ℕ) → IsReadOf capture params
+        → IsVerdictOf capture inputs.now.orders.now inputs.now.message.now reply.status reply.text.items) }
+    ensures refused { IfErr result (λ r. (capture : List ℕ) → IsReadOf capture params
+        → IsJudgeFailure capture inputs.now.orders.now inputs.now.message.now r.failure) }
 {
-    match judge_message(alloc, inputs.params, inputs.orders, inputs.message) {
+    match judge_read(alloc, params, inputs.orders, inputs.message) {
         Ok(reply) => Ok(reply),
         Err(fault) => Err(refused(alloc, fault, inputs, hints)),
     }
@@ -229,16 +276,17 @@ fn judge_file<F: Files>(
     ensures calls { (F.reads files.new).calls ≤ (F.reads files.old).calls + 3 * MAX_CALLS }
     ensures keeps { F.holds files.new ≡ F.holds files.old }
 {
-    let params = load_option(alloc, files, "params", params, MAX_CAPTURE, hints)?;
+    let capture = load_capture(alloc, files, params, hints)?;
     let orders = load_option(alloc, files, "orders", orders, MAX_TEXT, hints)?;
     let message = load_option(alloc, files, "message", message, MAX_CAPTURE, hints)?;
+    let ReadCapture { params, bytes } = capture;
     let inputs = Inputs {
-        params: params.as_slice(),
+        params: bytes.as_slice(),
         orders: orders.as_slice(),
         message: message.as_slice(),
         ..Inputs::none()
     };
-    judge_loaded(alloc, &inputs, hints)
+    judge_loaded(alloc, params, &inputs, hints)
 }
 
 fn run_loaded(

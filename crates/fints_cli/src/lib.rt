@@ -2,6 +2,7 @@
 #![tactic(auto)]
 
 pub mod built_in;
+mod capture;
 mod commands;
 mod emitting;
 mod failing;

@@ -1,6 +1,7 @@
 //! The segments of a stream, as its pieces come.
 use fints_feeder::Feeder;
-use fints_syntax::{SyntaxFault, SyntaxKind};
+use fints_samples::C;
+use fints_syntax::{OwnedSegment, SyntaxFault, SyntaxKind};
 use std::test::*;
 
 fn fault(kind: SyntaxKind, offset: usize) -> Option<SyntaxFault> {
@@ -16,7 +17,9 @@ fn cut_segment(rt: HostRuntime) -> Result<(), Fail> {
     let [segment] = second.as_slice() else {
         return Err(Fail::from("one segment"));
     };
+    assert_eq!(rt; segment.head.id.as_bytes(), b"HKEND");
     assert_eq!(rt; segment.head.number, 3);
+    assert_eq!(rt; segment.head.version, 1);
     assert_eq!(rt; feeder.finish().err(), None);
     Ok(())
 }
@@ -39,6 +42,33 @@ fn places(rt: HostRuntime) -> Result<(), Fail> {
     assert_eq!(rt; feeder.feed(b"BPA'")?.len(), 1);
     assert_eq!(rt; feeder.take_places().as_slice(), [15].as_slice());
     assert_eq!(rt; feeder.take_places().len(), 0);
+    assert_eq!(rt; feeder.finish().err(), None);
+    Ok(())
+}
+
+// Feeds a piece, and feeds it again after want of memory.
+fn feed_again(feeder: &mut Feeder, piece: &[u8]) -> Result<Vec<OwnedSegment>, SyntaxFault> {
+    match feeder.feed(piece) {
+        Err(
+            SyntaxFault {
+                kind: SyntaxKind::Memory,
+                ..
+            },
+        ) => feeder.feed(piece),
+        fed => fed,
+    }
+}
+
+// Where a single growth is refused, the piece is fed again.
+#[test]
+fn fed_again(rt: HostRuntime) -> Result<(), Fail> {
+    let mut feeder = Feeder::new(rt.alloc());
+    let mut segments = 0;
+    for byte in C {
+        segments += feed_again(&mut feeder, &[*byte])?.len();
+    }
+    assert_eq!(rt; segments, 10);
+    assert_eq!(rt; feeder.finish().err(), None);
     Ok(())
 }
 
@@ -57,6 +87,9 @@ fn unfinished(rt: HostRuntime) -> Result<(), Fail> {
     let mut feeder = Feeder::new(rt.alloc());
     assert_eq!(rt; feeder.feed(b"\nHNVSD:999:1+@5@HI")?.len(), 0);
     assert_eq!(rt; feeder.finish().err(), fault(SyntaxKind::Incomplete, 1));
+    let mut first = Feeder::new(rt.alloc());
+    assert_eq!(rt; first.feed(b"HNVSD:999:1+@5@HI")?.len(), 0);
+    assert_eq!(rt; first.finish().err(), fault(SyntaxKind::Incomplete, 0));
     Ok(())
 }
 

@@ -1,5 +1,5 @@
 //! Parameters of a capture that comes in pieces.
-use fints_params::{ParamFault, ParamReader, Params, params_and_codes};
+use fints_params::{ParamFault, ParamReader, Params, Usage, params_and_codes};
 use fints_samples::{C, C1};
 use fints_syntax::{SyntaxFault, SyntaxKind};
 use std::alloc::Global;
@@ -9,13 +9,28 @@ fn syntax(kind: SyntaxKind, offset: usize) -> Option<ParamFault> {
     Some(ParamFault::Syntax(SyntaxFault { kind, offset }))
 }
 
+// The last order of C, and its last account.
+fn end_as_c(params: &Params) -> bool {
+    params
+        .orders()
+        .last()
+        .is_some_and(|it| it.kind.as_bytes() == b"HKTAN" && it.version == 6)
+        && params
+            .accounts()
+            .last()
+            .is_some_and(|it| it.iban.as_slice() == b"DE222".as_slice())
+}
+
 // The parameters of C.
 fn are_of_c(params: &Params) -> bool {
     params.bank().code.as_slice() == b"10020030".as_slice()
+        && params.bank().kilobytes == 300
         && params.orders().len() == 5
         && params.pins().len() == 3
+        && params.usage() == Usage::Locked
         && params.accounts().len() == 2
         && params.skipped() == 0
+        && end_as_c(params)
 }
 
 // C, cut in two.
@@ -32,6 +47,26 @@ fn byte_by_byte(rt: HostRuntime) -> Result<(), Fail> {
     let mut reader = ParamReader::new(rt.alloc());
     for byte in C {
         reader.feed(&[*byte])?;
+    }
+    let params = reader.finish()?;
+    assert!(rt; are_of_c(&params));
+    Ok(())
+}
+
+// Feeds a piece, and feeds it again after want of memory.
+fn feed_again(reader: &mut ParamReader, piece: &[u8]) -> Result<(), ParamFault> {
+    match reader.feed(piece) {
+        Err(ParamFault::Memory) => reader.feed(piece),
+        fed => fed,
+    }
+}
+
+// Where a single growth is refused, the piece is fed again.
+#[test]
+fn fed_again(rt: HostRuntime) -> Result<(), Fail> {
+    let mut reader = ParamReader::new(rt.alloc());
+    for byte in C {
+        feed_again(&mut reader, &[*byte])?;
     }
     let params = reader.finish()?;
     assert!(rt; are_of_c(&params));

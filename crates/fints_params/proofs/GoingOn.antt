@@ -4,7 +4,7 @@ use Rattle.std.specs.Option.{is_some}
 use Rattle.std.specs.List.{AllByRecursion, AllZip, flat_map}
 use Rattle.std.proofs.lemmas.List.{append-nil, drop-append-le, drop-drop, drop_all, take_all, length-append, length-drop, take-append-drop}
 use Rattle.fints_syntax.specs.Capture.{MAX_CAPTURE, IsBreak, ReadsPlaced, FaultsAt}
-use Rattle.fints_syntax.specs.Laws.{BegunGoesOn, ReadIsSplit, CutSegments, CutFault, PieceFaultIsCaptureFault}
+use Rattle.fints_syntax.specs.Laws.{BegunGoesOn, ReadIsSplit, CutSegments, CutFault, FaultLasts, PieceFaultIsCaptureFault}
 use Rattle.fints_syntax.specs.Streams.{IsBegun, IsReady, IsReadTo, IsStreamFault, PieceFaultAt, moved_by, whole_len}
 use Rattle.fints_syntax.specs.declared.capture.Placed as syntax
 use Rattle.fints_syntax.specs.declared.fault.SyntaxFault.{SyntaxFault}
@@ -199,5 +199,5 @@ received_all old (p ∷ ps) new sound (next, h, more) =
 pub any_cutting : (pieces : List (List ℕ)) (new : Received) → AreReceived unread pieces new → new ≡ record { bytes = flat_map (λ p. p) pieces; failed = None }
 any_cutting pieces new h = received_all unread pieces new refl h
 
-pub param_fault_of : (law : PieceFaultIsCaptureFault) (stream : List ℕ) (f : ParamFault) → IsPieceFault stream f → IsParamFault stream f
-param_fault_of law stream f h = inl (syntax_fault law stream f h)
+pub param_fault_of : (law : PieceFaultIsCaptureFault) (lasts : FaultLasts) (stream more : List ℕ) (f : ParamFault) → IsPieceFault stream f → IsParamFault (stream ++ more) f
+param_fault_of law lasts stream more f (fault, h, e) = inl (syntax_fault law (stream ++ more) f (fault, lasts stream more MAX_CAPTURE fault.offset fault.kind h, e))

@@ -1,10 +1,11 @@
 -- The first refusal in a capture, and what it gives where there is none. A rule says why a segment is refused after those before it.
-use Rattle.std.specs.Prelude.{◌≡◌, ◌⊎◌, ℕ, List, [], ◌∷◌, ◌++◌, map, Option, Some, None}
+use Rattle.std.specs.Prelude.{◌≡◌, ◌⊎◌, ℕ, List, [], ◌∷◌, ◌++◌, map, Option, Some, None, Result, Ok, Err}
 use Rattle.fints_syntax.specs.declared.fault.SyntaxFault.{SyntaxFault}
 use Rattle.fints_syntax.specs.declared.item.OwnedSegment.{OwnedSegment}
 use Rattle.fints_params.specs.declared.fault.ParamFault.{ParamFault}
 use Rattle.fints_params.specs.declared.fault.ParamFault.TheVariants.{Syntax}
 use Rattle.fints_params.specs.declared.placed.PlacedSegment.{PlacedSegment}
+use Rattle.fints_params.specs.Faults.{IsMemoryOr}
 use Rattle.fints_params.specs.Opened.{Part, part, closed, StandFor, IsUnreadable, IsValuesOf}
 use Rattle.fints_params.specs.Parameters.{Rows, IsRowsOf, fault_after, end_fault}
 use Rattle.fints_params.specs.Feedback.{codes_in, feedback_fault}
@@ -71,6 +72,11 @@ IsParamsOf capture rows = (placed : List PlacedSegment) × IsValuesOf capture pl
 
 abbrev pub IsParamFault : List ℕ → ParamFault → Type 0
 IsParamFault capture f = IsSyntaxFault capture f ⊎ ((placed : List PlacedSegment) × IsValuesOf capture placed × IsParamFaultIn placed f)
+
+-- what is answered where the parameters of a capture are read
+abbrev pub IsReadOf : List ℕ → Result Rows ParamFault → Type 0
+IsReadOf capture (Ok rows) = IsParamsOf capture rows
+IsReadOf capture (Err f) = IsMemoryOr (IsParamFault capture) f
 
 -- the codes of a message, and its first refusal
 abbrev pub IsCodesOf : List ℕ → List ℕ → Type 0

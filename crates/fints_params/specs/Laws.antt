@@ -1,5 +1,5 @@
 -- The laws of what captures tell: their bytes have one meaning at most. Each is the contract of a public function.
-use Rattle.std.specs.Prelude.{◌≡◌, ℕ, List, None}
+use Rattle.std.specs.Prelude.{◌≡◌, ◌++◌, ℕ, List, None}
 use Rattle.std.specs.List.{flat_map}
 use Rattle.fints_syntax.specs.Laws.{OneCapture, NoCaptureAtFault, OnePlacedCapture, OneCaptureFault}
 use Rattle.fints_params.specs.declared.fault.ParamFault.{ParamFault}
@@ -42,6 +42,6 @@ NoCodesAtFault = (message numbers : List ℕ) (f : ParamFault) → IsCodesOf mes
 abbrev pub AnyCutting : Type 0
 AnyCutting = (pieces : List (List ℕ)) (new : Received) → AreReceived unread pieces new → new ≡ record { bytes = flat_map (λ p. p) pieces; failed = None }
 
--- the fault of a capture so far is that of its bytes
+-- the fault of a capture so far is that of the capture, whatever bytes follow
 abbrev pub PieceFaultIsParamFault : Type 0
-PieceFaultIsParamFault = (stream : List ℕ) (f : ParamFault) → IsPieceFault stream f → IsParamFault stream f
+PieceFaultIsParamFault = (stream more : List ℕ) (f : ParamFault) → IsPieceFault stream f → IsParamFault (stream ++ more) f

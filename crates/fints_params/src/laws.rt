@@ -1,7 +1,7 @@
 //! Laws of captures: each function's contract is one.
 ghost use Rattle.fints_params.specs.Laws.{SyntaxLaws, OneParams, OneParamFault, NoParamsAtFault, OneCodes, OneCodeFault, NoCodesAtFault, AnyCutting, PieceFaultIsParamFault};
 
-use fints_syntax::laws::{one_capture, one_fault, one_placed_capture, one_split};
+use fints_syntax::laws::{fault_lasts, one_capture, one_fault, one_placed_capture, one_split};
 
 // What the laws below need of the syntax.
 fn syntax_laws()
@@ -31,10 +31,12 @@ pub fn one_codes()
 }
 
 /// However a capture is cut into pieces, a reader that took them all holds the capture, so that it
-/// ends as `Params::read` does. The fault that refuses a piece is that of the capture so far.
+/// ends as `Params::read` does. The fault that refuses a piece is that of the capture, whatever
+/// bytes follow.
 pub fn any_cutting()
     ensures whole { AnyCutting }
     ensures fault { PieceFaultIsParamFault }
 {
     one_split();
+    fault_lasts();
 }

@@ -1,5 +1,6 @@
 //! What is told of a script, from the texts of its inputs.
-ghost use Rattle.std.specs.Prelude.{◌≡◌, ℕ, IfOk, IfErr};
+ghost use Rattle.std.specs.Prelude.{◌≡◌, ℕ, List, IfOk, IfErr};
+ghost use Rattle.fints_params.specs.Captures.{IsReadOf};
 ghost use Rattle.fints_reports.specs.Plans.{IsPlanRefusal};
 ghost use Rattle.fints_reports.specs.Told.{IsRefused, IsToldBy, IsToldOf, IsToldOn};
 ghost use Rattle.fints_reports.specs.declared.telling.Wanted.TheVariants as wanted_is;
@@ -9,7 +10,7 @@ use crate::explaining::explain;
 use crate::inputs::read_inputs;
 use crate::writing::reply;
 use fints_check::check;
-use fints_params::Params;
+use fints_params::{ParamFault, Params};
 use fints_rules::Permissions;
 use fints_script::Plan;
 use fints_syntax::Memory;
@@ -64,8 +65,27 @@ pub fn tell(
     Ok(reply)
 }
 
-/// What is told of a script by a capture, with the same statuses. The refusal of the capture comes
-/// before the others.
+/// What is told of a script by what was read of a capture, with the same statuses. The refusal of the
+/// capture comes before the others.
+pub fn tell_read(
+    alloc: Global,
+    params: Result<Params, ParamFault>,
+    orders: &[u8],
+    script: &[u8],
+    wanted: Wanted,
+) -> Result<Reply, Fault>
+    ensures told { IfOk result (λ reply. (capture : List ℕ) → IsReadOf capture params → IsToldOf wanted capture orders.now script.now reply.status reply.text.items) }
+    ensures refused { IfErr result (λ f. (capture : List ℕ) → IsReadOf capture params → IsRefused capture orders.now script.now f) }
+{
+    let params = match params {
+        Ok(params) => params,
+        Err(fault) => return Err(Fault::from(fault)),
+    };
+    let reply = tell(alloc, &params, orders, script, wanted)?;
+    Ok(reply)
+}
+
+/// What is told of a script by a capture, with the same statuses and refusals.
 pub fn tell_script(
     alloc: Global,
     params: &[u8],
@@ -76,12 +96,7 @@ pub fn tell_script(
     ensures told { IfOk result (λ reply. IsToldOf wanted params.now orders.now script.now reply.status reply.text.items) }
     ensures refused { IfErr result (λ f. IsRefused params.now orders.now script.now f) }
 {
-    let params = match Params::read(alloc, params) {
-        Ok(params) => params,
-        Err(fault) => return Err(Fault::from(fault)),
-    };
-    let reply = tell(alloc, &params, orders, script, wanted)?;
-    Ok(reply)
+    tell_read(alloc, Params::read(alloc, params), orders, script, wanted)
 }
 
 /// The text of the report on a script by good parameters, with the refusals of `tell`.

@@ -1,11 +1,12 @@
 //! Whether a certificate is closed, from the texts of its inputs.
-ghost use Rattle.std.specs.Prelude.{◌≡◌, ◌↔◌, IsTrue, IfOk, IfErr};
+ghost use Rattle.std.specs.Prelude.{◌≡◌, ◌↔◌, ℕ, List, IsTrue, IfOk, IfErr};
 ghost use Rattle.fints_certs.specs.CertTexts.{IsCertificateOf};
+ghost use Rattle.fints_params.specs.Captures.{IsReadOf};
 ghost use Rattle.fints_reports.specs.Verified.{IsCertificateRefusal, IsUnverified, IsVerifiedBy, IsVerifiedOf, IsVerifiedOn, IsVerifyRefusal, TellsWhether};
 
 use crate::inputs::read_inputs;
 use fints_certs::{CertFault, Certificate, verify};
-use fints_params::Params;
+use fints_params::{ParamFault, Params};
 use fints_rules::Permissions;
 use fints_script::Plan;
 use fints_syntax::Memory;
@@ -77,8 +78,27 @@ pub fn verify_certificate(
     Ok(reply)
 }
 
-/// Whether a certificate is closed, by a capture, with the same answers. The refusal of the capture
-/// comes before the others.
+/// Whether a certificate is closed, by what was read of a capture, with the same answers. The refusal
+/// of the capture comes before the others.
+pub fn verify_read(
+    alloc: Global,
+    params: Result<Params, ParamFault>,
+    orders: &[u8],
+    script: &[u8],
+    certificate: &[u8],
+) -> Result<Reply, Fault>
+    ensures told { IfOk result (λ reply. (capture : List ℕ) → IsReadOf capture params → IsVerifiedOf capture orders.now script.now certificate.now reply.status reply.text.items) }
+    ensures refused { IfErr result (λ f. (capture : List ℕ) → IsReadOf capture params → IsUnverified capture orders.now script.now certificate.now f) }
+{
+    let params = match params {
+        Ok(params) => params,
+        Err(fault) => return Err(Fault::from(fault)),
+    };
+    let reply = verify_certificate(alloc, &params, orders, script, certificate)?;
+    Ok(reply)
+}
+
+/// Whether a certificate is closed, by a capture, with the same answers and refusals.
 pub fn verify_script(
     alloc: Global,
     params: &[u8],
@@ -89,10 +109,11 @@ pub fn verify_script(
     ensures told { IfOk result (λ reply. IsVerifiedOf params.now orders.now script.now certificate.now reply.status reply.text.items) }
     ensures refused { IfErr result (λ f. IsUnverified params.now orders.now script.now certificate.now f) }
 {
-    let params = match Params::read(alloc, params) {
-        Ok(params) => params,
-        Err(fault) => return Err(Fault::from(fault)),
-    };
-    let reply = verify_certificate(alloc, &params, orders, script, certificate)?;
-    Ok(reply)
+    verify_read(
+        alloc,
+        Params::read(alloc, params),
+        orders,
+        script,
+        certificate,
+    )
 }

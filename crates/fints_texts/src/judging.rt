@@ -1,11 +1,12 @@
 //! The text of `judge`: the rules that a message breaks.
-ghost use Rattle.std.specs.Prelude.{◌≡◌, ◌++◌, OnOk, IfOk, IfErr, string_bytes};
+ghost use Rattle.std.specs.Prelude.{◌≡◌, ◌++◌, ℕ, List, OnOk, IfOk, IfErr, string_bytes};
+ghost use Rattle.fints_params.specs.Captures.{IsReadOf};
 ghost use Rattle.std.specs.List.{flat_map};
 ghost use Rattle.fints_texts.specs.Judge.{broken_line, last_line, verdict_text, verdict_status, IsVerdictBy, IsVerdictOf, IsMessageRefusal, IsJudgeRefusal};
 
 use crate::fault::Fault;
 use crate::reply::Reply;
-use fints_params::Params;
+use fints_params::{ParamFault, Params};
 use fints_rules::{Broken, OrderTable, Permissions, judge};
 use std::alloc::{AllocError, Global};
 
@@ -73,8 +74,27 @@ fn judge_with(
     Ok(reply)
 }
 
-/// The rules that a message breaks, by a capture and an order table. Of the refusals that of the
-/// capture comes first, and then that of the order table.
+/// The rules that a message breaks, by what was read of a capture and an order table. Of the refusals
+/// that of the capture comes first, and then that of the order table.
+pub fn judge_read(
+    alloc: Global,
+    params: Result<Params, ParamFault>,
+    orders: &[u8],
+    message: &[u8],
+) -> Result<Reply, Fault>
+    ensures judged { IfOk result (λ reply. (capture : List ℕ) → IsReadOf capture params → IsVerdictOf capture orders.now message.now reply.status reply.text.items) }
+    ensures refused { IfErr result (λ f. (capture : List ℕ) → IsReadOf capture params → IsJudgeRefusal capture orders.now message.now f) }
+{
+    let params = match params {
+        Ok(params) => params,
+        Err(fault) => return Err(Fault::from(fault)),
+    };
+    let orders = OrderTable::read(alloc, orders)?;
+    let reply = judge_with(alloc, &params, &orders, message)?;
+    Ok(reply)
+}
+
+/// The rules that a message breaks, by a capture and an order table, with the same refusals.
 pub fn judge_message(
     alloc: Global,
     params: &[u8],
@@ -84,11 +104,5 @@ pub fn judge_message(
     ensures judged { IfOk result (λ reply. IsVerdictOf params.now orders.now message.now reply.status reply.text.items) }
     ensures refused { IfErr result (λ f. IsJudgeRefusal params.now orders.now message.now f) }
 {
-    let params = match Params::read(alloc, params) {
-        Ok(params) => params,
-        Err(fault) => return Err(Fault::from(fault)),
-    };
-    let orders = OrderTable::read(alloc, orders)?;
-    let reply = judge_with(alloc, &params, &orders, message)?;
-    Ok(reply)
+    judge_read(alloc, Params::read(alloc, params), orders, message)
 }

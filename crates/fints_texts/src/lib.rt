@@ -7,6 +7,6 @@ mod reply;
 mod showing;
 
 pub use fault::Fault;
-pub use judging::judge_message;
+pub use judging::{judge_message, judge_read};
 pub use reply::Reply;
 pub use showing::show;

@@ -5,4 +5,4 @@ pub returns-clause-whole : goal.returns-clause-whole
 returns-clause-whole c = any_cutting
 
 pub returns-clause-fault : goal.returns-clause-fault
-returns-clause-fault c = param_fault_of c.one_split.ensures.capture
+returns-clause-fault c = param_fault_of c.one_split.ensures.capture c.fault_lasts.ensures

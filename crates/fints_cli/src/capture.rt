@@ -1,0 +1,78 @@
+//! A capture that is read while its file comes.
+ghost use Rattle.std.specs.Prelude.{ℕ, List, []};
+ghost use Rattle.fints_params.specs.Captures.{IsReadOf};
+ghost use Rattle.fints_cli.specs.Captures.{HoldsCapture};
+
+use crate::reading::Sink;
+use fints_params::{ParamFault, ParamReader, Params};
+use fints_syntax::Memory;
+use std::alloc::Global;
+
+/// What the pieces of a capture gave so far. A syntax fault is kept, so that the file is read to its
+/// end; so are the bytes, where a hint may need them.
+#[derive(Drop)]
+pub struct Capture {
+    reader: ParamReader,
+    fault: Option<ParamFault>,
+    keeps: bool,
+    bytes: Vec<u8>,
+}
+
+/// What a whole capture gave, and its bytes, where they were kept.
+#[derive(Drop)]
+pub struct ReadCapture {
+    pub params: Result<Params, ParamFault>,
+    pub bytes: Vec<u8>,
+}
+
+impl Capture {
+    /// Nothing of a capture.
+    pub fn new(alloc: Global, keeps: bool) -> Capture
+        ensures { HoldsCapture [] result }
+    {
+        Capture {
+            reader: ParamReader::new(alloc),
+            fault: None,
+            keeps,
+            bytes: Vec::new(alloc),
+        }
+    }
+
+    /// The parameters of the capture, which ends here, or its first refusal.
+    pub fn end(self) -> ReadCapture
+        ensures { (bytes : List ℕ) → HoldsCapture bytes self → IsReadOf bytes result.params }
+    {
+        let Capture {
+            reader,
+            fault,
+            bytes,
+            ..
+        } = self;
+        let params = match fault {
+            Some(fault) => Err(fault),
+            None => reader.finish(),
+        };
+        ReadCapture { params, bytes }
+    }
+}
+
+impl Sink for Capture {
+    ghost holds = { HoldsCapture };
+
+    fn take(&mut self, piece: &[u8]) -> Result<(), Memory> {
+        if self.keeps {
+            self.bytes.extend_from_slice(piece)?;
+        }
+        if self.fault.is_some() {
+            return Ok(());
+        }
+        match self.reader.feed(piece) {
+            Ok(()) => Ok(()),
+            Err(ParamFault::Memory) => Err(Memory),
+            Err(fault) => {
+                self.fault = Some(fault);
+                Ok(())
+            }
+        }
+    }
+}

@@ -1,9 +1,0 @@
-use Rattle.std.proofs.Common.{sym, subst}
-use Rattle.fints_reports.specs.Verified.{IsUnverified}
-use Rattle.fints_reports.proofs.Refusals.{params_unverified}
-use Rattle.fints_reports.proofs.verifying.verify_script.Goals as goal
-
-pub returns-in-Err-clause-refused : goal.returns-in-Err-clause-refused
-returns-in-Err-clause-refused c =
-    subst (IsUnverified c.args.params.now c.args.orders.now c.args.script.now c.args.certificate.now) (sym c.from.ensures)
-    (params_unverified c.args.params.now c.args.orders.now c.args.script.now c.args.certificate.now c.in-Err.fault c.in-Err.ensures.refused)
