@@ -1,16 +1,10 @@
 -- The written text of a segment, a step of the writer at a time.
-use Rattle.std.proofs.Common.{◌≡◌, ◌≢◌, ℕ, ◌+◌, ◌^◌, ◌<◌, ◌≤◌, eqb, ◌||◌, List, [], ◌∷◌, ◌++◌, length, get_or, drop, map, refl, ap, ◌∙◌, sym, arith, inl, inr, append_assoc}
-use Rattle.std.specs.List.{AllByRecursion}
-use Rattle.std.specs.Fmt.{decimal}
-use Rattle.std.proofs.lemmas.Bool.{cases_Bool}
-use Rattle.std.proofs.lemmas.Bool.Decides.{nat_tests}
-use Rattle.std.proofs.lemmas.List.{append-nil, drop_more, drop_all, length-append}
+use Rattle.std.proofs.Common.{◌≡◌, ℕ, ◌+◌, ◌<◌, ◌≤◌, List, [], ◌∷◌, ◌++◌, length, get_or, drop, map, refl, ap, ◌∙◌, sym, arith, append_assoc}
+use Rattle.std.proofs.lemmas.List.{append-nil, drop_more, drop_all}
 use Rattle.std.proofs.lemmas.List.Concat.{flat_map-append}
-use Rattle.std.proofs.lemmas.Fmt.{decimal_is_IsNumeral, length-decimal-le, decimal_nonempty}
 use Rattle.fints_segments.specs.declared.item.OwnedItem.{OwnedItem}
-use Rattle.fints_segments.specs.declared.item.OwnedItem.TheVariants.{Text, Bin}
-use Rattle.fints_segments.specs.Spelling.{plain, IsUnit, IsTextStart, binary, spelled_bytes, text_value, item_of, IsSpelled, written_unit, written_item, written, is_separator, unit_value}
-use Rattle.fints_segments.specs.Segment.{Token, token_bytes, tokens_bytes, element_tokens, segment_tokens, segment_bytes, values_of}
+use Rattle.fints_segments.specs.Spelling.{written_item, written}
+use Rattle.fints_segments.specs.Segment.{token_bytes, element_tokens, segment_tokens}
 use Rattle.fints_segments.specs.Written.{element_text, elements_text, written_elements}
 
 pub element_text-colon : (end : ℕ) (items : List OwnedItem) (i : ℕ) (d : OwnedItem) → i + 1 < length items → element_text end (drop i items) ≡ (written (get_or items i d) ++ 58 ∷ []) ++ element_text end (drop (i + 1) items)

@@ -1,7 +1,7 @@
 -- The values of a segment, as far as a cursor has read them.
-use Rattle.std.proofs.Common.{◌≡◌, ◌≢◌, ℕ, ◌<◌, false, eqb, List, [], ◌∷◌, ◌++◌, length, drop, refl, ap, ◌∙◌, sym, subst, arith, ◌⊎◌, inl, inr, append_assoc, map}
+use Rattle.std.proofs.Common.{◌≡◌, ◌≢◌, ℕ, ◌<◌, false, eqb, List, [], ◌∷◌, ◌++◌, length, drop, refl, ap, ◌∙◌, sym, subst, arith, ◌⊎◌, inl, inr, append_assoc}
 use Rattle.std.specs.List.{AllByRecursion}
-use Rattle.std.proofs.lemmas.List.{append-nil, length-map}
+use Rattle.std.proofs.lemmas.List.{append-nil}
 use Rattle.fints_segments.specs.Spelling.{Spelled, item_of, IsSpelled}
 use Rattle.fints_segments.specs.Segment.{Token, element_tokens, segment_tokens, values_of}
 use Rattle.fints_syntax.specs.Reader.{segment_in, elements_in}
