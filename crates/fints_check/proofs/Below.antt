@@ -1,8 +1,8 @@
 -- What the laws of the crates below say, in one record.
 use Rattle.std.specs.Prelude.{◌≡◌, ◌≢◌, ◌+◌, ℕ, true, List, [], ◌∷◌, length, map, slice_get, Some}
-use Rattle.fints_syntax.specs.Segment.{item_value}
-use Rattle.fints_syntax.specs.Values.{values_at}
-use Rattle.fints_syntax.specs.declared.item.OwnedItem.{OwnedItem}
+use Rattle.fints_segments.specs.Segment.{item_value}
+use Rattle.fints_segments.specs.Values.{values_at}
+use Rattle.fints_segments.specs.declared.item.OwnedItem.{OwnedItem}
 use Rattle.fints_fields.specs.Fields.{IsListedAt, field_accounts, field_domain, field_items, field_shortest}
 use Rattle.fints_fields.specs.Listed.{account_text}
 use Rattle.fints_fields.specs.declared.field.Field.{Field as Class}

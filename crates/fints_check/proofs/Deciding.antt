@@ -5,8 +5,8 @@ use Rattle.std.specs.List.{list_any, slice_get}
 use Rattle.std.specs.Set.{distinct_count}
 use Rattle.std.specs.Str.{bytes_eq}
 use Rattle.std.proofs.lemmas.Option.{same_Some}
-use Rattle.fints_syntax.specs.declared.item.OwnedSegment.{OwnedSegment}
-use Rattle.fints_syntax.specs.Values.{values_at}
+use Rattle.fints_segments.specs.declared.item.OwnedSegment.{OwnedSegment}
+use Rattle.fints_segments.specs.Values.{values_at}
 use Rattle.fints_messages.specs.Messages.{MessageView}
 use Rattle.fints_cases.specs.declared.values.NamedValue.{NamedValue}
 use Rattle.fints_field_rows.specs.declared.fields.NamedField.{NamedField}

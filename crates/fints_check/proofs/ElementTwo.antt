@@ -5,8 +5,8 @@ use Rattle.std.specs.List.{list_all, slice_get}
 use Rattle.std.specs.Option.{option_map}
 use Rattle.std.proofs.lemmas.List.{length-map}
 use Rattle.std.proofs.lemmas.Option.{same_Some, slice_get_within, slice_get-map}
-use Rattle.fints_syntax.specs.Segment.{item_value}
-use Rattle.fints_syntax.specs.Values.{values_at}
+use Rattle.fints_segments.specs.Segment.{item_value}
+use Rattle.fints_segments.specs.Values.{values_at}
 use Rattle.fints_fields.specs.Fields.{field_accounts, field_items, field_shortest}
 use Rattle.fints_fields.specs.Listed.{account_items, account_text}
 use Rattle.fints_fields.specs.declared.field.Field.{Field as Class}

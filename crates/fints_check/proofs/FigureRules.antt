@@ -1,7 +1,7 @@
 -- The places at which a step's message can break a rule, and the two rules that hang on its number and its size.
 use Rattle.std.proofs.Common.{ℕ, zero, suc, ◌+◌, ◌<◌, ◌≤◌, ◌≡◌, List, [], ◌∷◌, length, refl, sym, subst, arith, inl, inr}
 use Rattle.std.specs.Prelude.{Any}
-use Rattle.fints_syntax.specs.declared.item.OwnedSegment.{OwnedSegment}
+use Rattle.fints_segments.specs.declared.item.OwnedSegment.{OwnedSegment}
 use Rattle.fints_messages.specs.Messages.{IsMessage}
 use Rattle.fints_rules.specs.Breaks.{Breaks, BreaksAt}
 use Rattle.fints_rules.specs.Permits.{Granted}

@@ -8,9 +8,9 @@ use Rattle.std.proofs.lemmas.List.{get_or_past}
 use Rattle.std.proofs.lemmas.List.Elements.{All-nil, All-head, All-tail}
 use Rattle.std.proofs.lemmas.List.Folds.{Any-from_list_any, list_any-from_Any}
 use Rattle.std.proofs.lemmas.Option.{slice_get-get_or}
-use Rattle.fints_syntax.specs.declared.item.OwnedItem.{OwnedItem}
-use Rattle.fints_syntax.specs.Segment.{item_value}
-use Rattle.fints_syntax.specs.Values.{value_at}
+use Rattle.fints_segments.specs.declared.item.OwnedItem.{OwnedItem}
+use Rattle.fints_segments.specs.Segment.{item_value}
+use Rattle.fints_segments.specs.Values.{value_at}
 use Rattle.fints_fields.specs.Fields.{field_accounts, field_domain}
 use Rattle.fints_fields.specs.declared.field.Field.{Field as Class}
 use Rattle.fints_fields.specs.declared.field.Field.TheVariants as classes

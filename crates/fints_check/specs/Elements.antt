@@ -1,7 +1,7 @@
 -- What may stand in element 2 of a template's segment, and what the rules ask of it. Private contracts alone cite these words.
 use Rattle.std.specs.Prelude.{ℕ, Bool, true, false, ◌&&◌, if◌then◌else◌, List, [], ◌∷◌, map, get_or, slice_get, Option, Some, None}
 use Rattle.std.specs.Str.{bytes_eq}
-use Rattle.fints_syntax.specs.Segment.{item_value}
+use Rattle.fints_segments.specs.Segment.{item_value}
 use Rattle.fints_fields.specs.Fields.{field_accounts}
 use Rattle.fints_field_rows.specs.declared.fields.NamedField.{NamedField}
 use Rattle.fints_rules.specs.Kinds.{is_tan_order}

@@ -1,6 +1,6 @@
 -- Which signers have a TAN under every choice. Private contracts alone cite these words.
 use Rattle.std.specs.Prelude.{◌≡◌, ℕ, List, [], get_or, slice_get, Option, Some, None, Any}
-use Rattle.fints_syntax.specs.Segment.{item_value}
+use Rattle.fints_segments.specs.Segment.{item_value}
 use Rattle.fints_fields.specs.Fields.{field_domain}
 use Rattle.fints_field_rows.specs.declared.fields.NamedField.{NamedField}
 use Rattle.fints_templates.specs.declared.template.Signer.{Signer}

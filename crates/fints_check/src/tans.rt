@@ -1,7 +1,7 @@
 //! TANs: which signers always have one, and which HKTAN stand in a step.
 ghost use Rattle.std.specs.Prelude.{◌≡◌, ◌↔◌, IsTrue, [], option_map, slice_get};
 ghost use Rattle.std.specs.List.{list_any};
-ghost use Rattle.fints_syntax.specs.Segment.{item_value};
+ghost use Rattle.fints_segments.specs.Segment.{item_value};
 ghost use Rattle.fints_check.specs.Elements.{has_process};
 ghost use Rattle.fints_check.specs.Tans.{AdmitsEmpty, AlwaysHasTan, HasTanAt, MayBeEmpty, SomeTan, tan_item};
 

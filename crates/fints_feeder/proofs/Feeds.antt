@@ -9,7 +9,7 @@ use Rattle.fints_syntax.specs.Streams.{IsBegun, IsReadTo, IsStreamFault, moved_b
 use Rattle.fints_syntax.specs.declared.capture.Placed.{Placed}
 use Rattle.fints_syntax.specs.declared.fault.SyntaxFault.{SyntaxFault}
 use Rattle.fints_syntax.specs.declared.fault.SyntaxKind.TheVariants.{Memory, Incomplete}
-use Rattle.fints_syntax.specs.declared.item.OwnedSegment.{OwnedSegment}
+use Rattle.fints_segments.specs.declared.item.OwnedSegment.{OwnedSegment}
 use Rattle.fints_syntax.specs.declared.stream.Begun.{Begun}
 use Rattle.fints_syntax.specs.declared.stream.ReadTo.{ReadTo}
 use Rattle.fints_feeder.specs.Feeding.{Fed, IsGiven, IsRefused, IsCut, IsUnended, stopped}

@@ -2,9 +2,9 @@
 use Rattle.std.proofs.Common.{◌≡◌, ℕ, zero, suc, ◌≤◌, List, [], ◌∷◌, length, replicate, Some, refl, ap, sym, ◌∙◌, arith, inl, inr}
 use Rattle.std.specs.List.{slice_get}
 use Rattle.std.proofs.lemmas.Option.{same_Some}
-use Rattle.fints_syntax.specs.Segment.{item_value}
-use Rattle.fints_syntax.specs.declared.item.OwnedItem.{OwnedItem}
-use Rattle.fints_syntax.specs.declared.item.OwnedItem.TheVariants as item
+use Rattle.fints_segments.specs.Segment.{item_value}
+use Rattle.fints_segments.specs.declared.item.OwnedItem.{OwnedItem}
+use Rattle.fints_segments.specs.declared.item.OwnedItem.TheVariants as item
 use Rattle.fints_fields.specs.ClassLaws.{text_len-low}
 use Rattle.fints_fields.specs.Fields.{IsListedAt, field_accounts, field_domain, field_items, field_shortest}
 use Rattle.fints_fields.specs.Lengths.{text_len}

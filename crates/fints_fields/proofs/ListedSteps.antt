@@ -3,8 +3,8 @@ use Rattle.std.proofs.Common.{◌≡◌, ◌≢◌, ℕ, ◌+◌, ◌<◌, List,
 use Rattle.std.specs.List.{AllPairs, Contains}
 use Rattle.std.proofs.lemmas.List.{take_more, get_or_default, drop_more, drop_all, append_assoc, append-nil}
 use Rattle.std.proofs.lemmas.List.Quantifiers.{all_pairs_push}
-use Rattle.fints_syntax.specs.Spelling.{written}
-use Rattle.fints_syntax.specs.declared.item.OwnedItem.TheVariants.{Text}
+use Rattle.fints_segments.specs.Spelling.{written}
+use Rattle.fints_segments.specs.declared.item.OwnedItem.TheVariants.{Text}
 use Rattle.fints_fields.specs.Listed.{account_text}
 
 -- an element that isn't among those before it

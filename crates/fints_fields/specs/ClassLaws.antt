@@ -9,7 +9,7 @@ use Rattle.std.proofs.lemmas.List.Elements.{All-replicate, All-head, All-tail}
 use Rattle.std.proofs.lemmas.Fmt.{decimal_is_IsNumeral, length-decimal-le, decimal_nonempty}
 use Rattle.std.proofs.lemmas.Int.Digits.{digits_value-lt}
 use Rattle.std.specs.Str.Parse.{digits_value}
-use Rattle.fints_syntax.specs.Spelling.{written_unit, text_bytes, unit_bytes, is_separator}
+use Rattle.fints_segments.specs.Spelling.{written_unit, text_bytes, unit_bytes, is_separator}
 use Rattle.fints_fields.specs.Joined.{joined}
 use Rattle.fints_fields.specs.Lengths.{text_len, binary_len}
 use Rattle.fints_fields.specs.Classes.{Counts, as_text, IsDigit, IsPlain, IsLatin, IsByte}

@@ -1,6 +1,6 @@
 -- What a field admits and how it is written, by its class.
 use Rattle.std.specs.Prelude.{◌≡◌, ℕ, List, [], length, map, replicate, slice_get, Some}
-use Rattle.fints_syntax.specs.declared.item.OwnedItem.{OwnedItem}
+use Rattle.fints_segments.specs.declared.item.OwnedItem.{OwnedItem}
 use Rattle.fints_fields.specs.Classes.{Counts, IsByte, IsDigit, IsLatin, IsPlain, as_binary, as_text}
 use Rattle.fints_fields.specs.Lengths.{binary_len, text_len}
 use Rattle.fints_fields.specs.Listed.{IsListed, account_items, account_len, account_text, first_longest, first_shortest, first_with, greatest}

@@ -1,7 +1,7 @@
 -- The text of an element without the byte that ends it.
 use Rattle.std.specs.Prelude.{ℕ, List, [], ◌∷◌, ◌++◌}
-use Rattle.fints_syntax.specs.declared.item.OwnedItem.{OwnedItem}
-use Rattle.fints_syntax.specs.Spelling.{written}
+use Rattle.fints_segments.specs.declared.item.OwnedItem.{OwnedItem}
+use Rattle.fints_segments.specs.Spelling.{written}
 
 -- the written items with `:` (58) between them
 abbrev pub joined : List OwnedItem → List ℕ

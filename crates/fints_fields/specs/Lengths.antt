@@ -1,7 +1,7 @@
 -- How long values are when they are written.
 use Rattle.std.specs.Prelude.{ℕ, List, length}
-use Rattle.fints_syntax.specs.declared.item.OwnedItem.TheVariants.{Text, Bin}
-use Rattle.fints_syntax.specs.Spelling.{written}
+use Rattle.fints_segments.specs.declared.item.OwnedItem.TheVariants.{Text, Bin}
+use Rattle.fints_segments.specs.Spelling.{written}
 
 abbrev pub text_len : List ℕ → ℕ
 text_len v = length (written (Text v))

@@ -7,7 +7,7 @@ use Rattle.std.proofs.lemmas.Bool.Decides.{nat_tests}
 use Rattle.std.proofs.lemmas.Slice.Eq.{bytes_eq-Decides}
 use Rattle.std.proofs.lemmas.List.{length-map}
 use Rattle.std.proofs.lemmas.List.Elements.{All-cons, All-nil, All-head, All-tail}
-use Rattle.fints_syntax.specs.declared.item.OwnedItem.TheVariants.{Text}
+use Rattle.fints_segments.specs.declared.item.OwnedItem.TheVariants.{Text}
 use Rattle.fints_fields.specs.Joined.{joined}
 use Rattle.fints_fields.specs.Listed.{IsListed, first_with, longest_from, first_longest, shortest_from, first_shortest, account_text, account_items, IsAccountList, greatest}
 

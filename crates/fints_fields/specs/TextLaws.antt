@@ -3,7 +3,7 @@ use Rattle.std.specs.Prelude.{◌≡◌, ◌≢◌, ◌⊎◌, ℕ, ◌≤◌, �
 use Rattle.std.proofs.Common.{refl, ap, sym, subst, ◌∙◌, arith, inl, inr, append_assoc, eqb}
 use Rattle.std.proofs.lemmas.Bool.{cases_Bool}
 use Rattle.std.proofs.lemmas.List.{append-nil}
-use Rattle.fints_syntax.specs.Spelling.{is_separator, text_bytes, unit_bytes, written_unit}
+use Rattle.fints_segments.specs.Spelling.{is_separator, text_bytes, unit_bytes, written_unit}
 use Rattle.fints_fields.specs.Listed.{account_text}
 
 -- ---- one byte

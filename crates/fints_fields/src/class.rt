@@ -1,6 +1,6 @@
 //! What a class of fields is.
 ghost use Rattle.std.specs.Prelude.{◌≡◌, ◌↔◌, ◌<◌, ◌≤◌, ℕ, IfOk, IsTrue, List, length};
-ghost use Rattle.fints_syntax.specs.declared.item.OwnedItem.{OwnedItem};
+ghost use Rattle.fints_segments.specs.declared.item.OwnedItem.{OwnedItem};
 ghost use Rattle.fints_fields.specs.Joined.{joined};
 
 use fints_syntax::Memory;

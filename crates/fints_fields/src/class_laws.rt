@@ -3,8 +3,8 @@ ghost use Rattle.std.specs.Prelude.{◌≡◌, ℕ, List, [], ◌∷◌, length,
 ghost use Rattle.fints_fields.specs.AccountLaws.{IsListedSomewhere, ListedAreAdmitted, ListedStandAsItems, TextIsOneAccount};
 ghost use Rattle.fints_fields.specs.Fields.{field_accounts, field_domain, field_items, field_longest, field_shortest};
 ghost use Rattle.fints_fields.specs.Joined.{joined};
-ghost use Rattle.fints_syntax.specs.Segment.{item_value};
-ghost use Rattle.fints_syntax.specs.declared.item.OwnedItem.{OwnedItem};
+ghost use Rattle.fints_segments.specs.Segment.{item_value};
+ghost use Rattle.fints_segments.specs.declared.item.OwnedItem.{OwnedItem};
 ghost use Rattle.fints_fields.specs.declared.field.Field.{Field};
 ghost use Rattle.fints_fields.specs.Lengths.{text_len};
 ghost use Rattle.fints_fields.specs.Listed.{IsFirstOfGreatest, IsFirstOfLeast, account_text};

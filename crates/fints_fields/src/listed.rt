@@ -1,7 +1,7 @@
 //! Listed values, and the greatest and least among them.
 ghost use Rattle.std.specs.Prelude.{◌≡◌, ◌≢◌, ◌↔◌, ◌<◌, ℕ, IfOk, IsTrue, List, OnOk, ◌++◌, length};
-ghost use Rattle.fints_syntax.specs.Spelling.{written};
-ghost use Rattle.fints_syntax.specs.declared.item.OwnedItem.TheVariants.{Text};
+ghost use Rattle.fints_segments.specs.Spelling.{written};
+ghost use Rattle.fints_segments.specs.declared.item.OwnedItem.TheVariants.{Text};
 ghost use Rattle.std.specs.List.{AllPairs, Contains};
 ghost use Rattle.fints_fields.specs.Listed.{IsListed, account_text, first_longest, first_shortest};
 

@@ -5,10 +5,10 @@ use Rattle.std.specs.List.{AllByRecursion}
 use Rattle.std.specs.Str.{bytes_eq}
 use Rattle.std.proofs.lemmas.Bool.{and_parts}
 use Rattle.std.proofs.lemmas.Slice.Eq.{bytes_eq-Decides}
-use Rattle.fints_syntax.specs.declared.item.OwnedItem.TheVariants.{Text}
-use Rattle.fints_syntax.specs.declared.item.OwnedSegment.{OwnedSegment}
-use Rattle.fints_syntax.specs.Number.{number_of}
-use Rattle.fints_syntax.specs.Values.{is_named}
+use Rattle.fints_segments.specs.declared.item.OwnedItem.TheVariants.{Text}
+use Rattle.fints_segments.specs.declared.item.OwnedSegment.{OwnedSegment}
+use Rattle.fints_segments.specs.Number.{number_of}
+use Rattle.fints_segments.specs.Values.{is_named}
 use Rattle.fints_messages.specs.Parts.{part_of}
 use Rattle.fints_messages.specs.Messages.{IsNumbered, IsInner, IsLast, IsKey, IsPlainTail, IsSealedTail, IsTail}
 use Rattle.fints_messages.specs.Front.{IsHalf, Follows, CanStand, BeginsBy, IsNumber}

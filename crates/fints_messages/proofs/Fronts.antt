@@ -1,9 +1,9 @@
 -- The steps of a look at the inner segments.
 use Rattle.std.proofs.Common.{◌≡◌, ℕ, ◌+◌, ◌<◌, ◌≤◌, List, [], ◌∷◌, ◌++◌, length, take, drop, refl, ap, ◌∙◌, sym, arith, subst, append_assoc, length-append}
 use Rattle.std.proofs.lemmas.List.{append-nil, drop-drop, length-map, length-take-le, take-append-drop}
-use Rattle.fints_syntax.specs.Spelling.{Spelled}
-use Rattle.fints_syntax.specs.Segment.{segment_bytes, IsSegment}
-use Rattle.fints_syntax.specs.declared.item.OwnedSegment.{OwnedSegment}
+use Rattle.fints_segments.specs.Spelling.{Spelled}
+use Rattle.fints_segments.specs.Segment.{segment_bytes, IsSegment}
+use Rattle.fints_segments.specs.declared.item.OwnedSegment.{OwnedSegment}
 use Rattle.fints_syntax.specs.Owned.{segment_of, segments_of}
 use Rattle.fints_messages.specs.Segments.{text_of}
 use Rattle.fints_messages.specs.Parts.{part_of}

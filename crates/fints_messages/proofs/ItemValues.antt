@@ -8,19 +8,19 @@ use Rattle.std.proofs.lemmas.Bool.{le-leb, lt-leb}
 use Rattle.std.proofs.lemmas.Bool.Decides.{nat_tests}
 use Rattle.std.proofs.Math.Nat.{pow-le-pow_right}
 use Rattle.std.proofs.lemmas.Nat.{pow-add}
-use Rattle.fints_syntax.specs.Spelling.{Spelled, item_of}
-use Rattle.fints_syntax.specs.Segment.{item_value}
+use Rattle.fints_segments.specs.Spelling.{Spelled, item_of}
+use Rattle.fints_segments.specs.Segment.{item_value}
 use Rattle.fints_syntax.specs.Places.{place_of}
 use Rattle.fints_syntax.specs.ItemIs.{ItemIs, value_of_item}
-use Rattle.fints_syntax.specs.declared.item.OwnedItem.{OwnedItem}
-use Rattle.fints_syntax.specs.declared.item.OwnedItem.TheVariants.{Text, Bin}
-use Rattle.fints_syntax.specs.Spelling.{TextUnit, unit_value, text, binary}
+use Rattle.fints_segments.specs.declared.item.OwnedItem.{OwnedItem}
+use Rattle.fints_segments.specs.declared.item.OwnedItem.TheVariants.{Text, Bin}
+use Rattle.fints_segments.specs.Spelling.{TextUnit, unit_value, text, binary}
 use Rattle.std.specs.Borrow.{Bor}
 use Rattle.fints_syntax.specs.declared.text.Item.{Item}
 use Rattle.fints_syntax.specs.declared.text.Item.TheVariants as items
 use Rattle.fints_syntax.specs.Owned.{segment_of}
-use Rattle.fints_syntax.specs.Values.{item_at, value_at}
-use Rattle.fints_syntax.specs.Number.{number_in}
+use Rattle.fints_segments.specs.Values.{item_at, value_at}
+use Rattle.fints_segments.specs.Number.{number_in}
 
 -- ---- places
 

@@ -1,6 +1,6 @@
 -- The numbers of a message's body.
 use Rattle.std.proofs.Common.{◌≡◌, ℕ, suc, ◌+◌, List, [], ◌∷◌, ◌++◌, length, subst, arith, inl, inr}
-use Rattle.fints_syntax.specs.declared.item.OwnedSegment.{OwnedSegment}
+use Rattle.fints_segments.specs.declared.item.OwnedSegment.{OwnedSegment}
 use Rattle.fints_messages.specs.Messages.{MessageView, IsMessage, IsInner, IsNumbered, IsTail}
 use Rattle.fints_messages.proofs.Forms.{numbered_front}
 

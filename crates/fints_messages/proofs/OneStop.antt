@@ -2,10 +2,10 @@
 use Rattle.std.proofs.Common.{◌≡◌, ◌≢◌, ℕ, List, [], ◌∷◌, ◌++◌, length, refl, ap, ◌∙◌, sym, subst, inl, inr, append_assoc}
 use Rattle.std.specs.List.{AllByRecursion}
 use Rattle.std.proofs.lemmas.List.{append_cancel_left, map-append}
-use Rattle.fints_syntax.specs.Spelling.{Spelled}
-use Rattle.fints_syntax.specs.Segment.{segment_bytes, IsSegment}
+use Rattle.fints_segments.specs.Spelling.{Spelled}
+use Rattle.fints_segments.specs.Segment.{segment_bytes, IsSegment}
 use Rattle.fints_syntax.specs.Laws.{OneSegmentText}
-use Rattle.fints_syntax.specs.declared.item.OwnedSegment.{OwnedSegment}
+use Rattle.fints_segments.specs.declared.item.OwnedSegment.{OwnedSegment}
 use Rattle.fints_syntax.specs.Owned.{segment_of, segments_of}
 use Rattle.fints_messages.specs.Segments.{text_of}
 use Rattle.fints_messages.specs.Messages.{MessageView, IsMessage, IsWhole, Begins}

@@ -1,18 +1,18 @@
 -- The sealed form.
 use Rattle.std.proofs.Common.{codes, ◌≡◌, ℕ, ◌+◌, ◌<◌, ◌≤◌, List, [], ◌∷◌, ◌++◌, length, drop, refl, ap, ◌∙◌, sym, subst, arith, inl, inr, append_assoc, length-append, Option, Some, None}
 use Rattle.std.specs.Prelude.{IsTrue, option_map, unwrap_or}
-use Rattle.fints_syntax.specs.declared.item.Head.{Head}
+use Rattle.fints_segments.specs.declared.item.Head.{Head}
 use Rattle.std.specs.List.{AllByRecursion}
 use Rattle.std.proofs.lemmas.List.{append-nil, length-map, length-drop, drop-drop, drop_all, map-append}
-use Rattle.fints_syntax.specs.Spelling.{Spelled}
-use Rattle.fints_syntax.specs.Segment.{segment_bytes, IsSegment}
-use Rattle.fints_syntax.specs.declared.item.OwnedItem.TheVariants.{Bin}
-use Rattle.fints_syntax.specs.declared.item.OwnedSegment.{OwnedSegment}
+use Rattle.fints_segments.specs.Spelling.{Spelled}
+use Rattle.fints_segments.specs.Segment.{segment_bytes, IsSegment}
+use Rattle.fints_segments.specs.declared.item.OwnedItem.TheVariants.{Bin}
+use Rattle.fints_segments.specs.declared.item.OwnedSegment.{OwnedSegment}
 use Rattle.fints_syntax.specs.Laws.{OneSegmentText}
 use Rattle.fints_syntax.specs.Owned.{no_head, segment_of, segments_of}
 use Rattle.fints_messages.specs.Segments.{text_of, IsText}
-use Rattle.fints_syntax.specs.Values.{item_at}
-use Rattle.fints_syntax.specs.Values.{is_named}
+use Rattle.fints_segments.specs.Values.{item_at}
+use Rattle.fints_segments.specs.Values.{is_named}
 use Rattle.fints_messages.specs.Messages.{IsInner, IsTail, IsKey, IsEnvelope, IsLast, IsNumbered, Stops}
 use Rattle.fints_messages.specs.Front.{IsFront, IsNext, HasNoNext, NoneStands, CanStand, IsNumber, IsEndOf, BeginsBy, IsWholeBy, IsReadBy, IsSealedRest, IsOpened}
 use Rattle.fints_messages.proofs.Texts.{segment_positive, rest_of}

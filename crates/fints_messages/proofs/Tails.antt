@@ -1,9 +1,9 @@
 -- Where what follows HNHBK stops, and where it is whole.
 use Rattle.std.proofs.Common.{◌≡◌, ℕ, ◌+◌, ◌<◌, ◌≤◌, List, [], ◌∷◌, ◌++◌, length, drop, refl, ap, ◌∙◌, sym, subst, arith, append_assoc, length-append}
 use Rattle.std.proofs.lemmas.List.{append-nil, length-map, length-drop, drop_all}
-use Rattle.fints_syntax.specs.Spelling.{Spelled}
-use Rattle.fints_syntax.specs.Segment.{segment_bytes, IsSegment}
-use Rattle.fints_syntax.specs.declared.item.OwnedSegment.{OwnedSegment}
+use Rattle.fints_segments.specs.Spelling.{Spelled}
+use Rattle.fints_segments.specs.Segment.{segment_bytes, IsSegment}
+use Rattle.fints_segments.specs.declared.item.OwnedSegment.{OwnedSegment}
 use Rattle.fints_syntax.specs.Owned.{segment_of, segments_of}
 use Rattle.fints_messages.specs.Segments.{text_of}
 use Rattle.fints_messages.specs.Messages.{IsTail, IsKey, Stops}

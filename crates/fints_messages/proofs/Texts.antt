@@ -3,8 +3,8 @@ use Rattle.std.proofs.Common.{◌≡◌, ℕ, ◌<◌, List, [], ◌∷◌, ◌+
 use Rattle.std.specs.List.{AllByRecursion}
 use Rattle.std.proofs.lemmas.List.{append-nil, append_cancel_left, map-append}
 use Rattle.std.proofs.lemmas.List.Concat.{flat_map-append}
-use Rattle.fints_syntax.specs.Spelling.{Spelled, spelled_bytes}
-use Rattle.fints_syntax.specs.Segment.{Token, tokens_bytes, token_bytes, element_tokens, segment_bytes, IsSegment}
+use Rattle.fints_segments.specs.Spelling.{Spelled, spelled_bytes}
+use Rattle.fints_segments.specs.Segment.{Token, tokens_bytes, token_bytes, element_tokens, segment_bytes, IsSegment}
 use Rattle.fints_syntax.specs.Faults.{BeginsWithSegment, window_of}
 use Rattle.fints_syntax.specs.Laws.{OneSegmentText, SegmentIsRead}
 use Rattle.fints_syntax.specs.Owned.{segment_of, segments_of}

@@ -3,11 +3,11 @@ use Rattle.std.proofs.Common.{◌≡◌, ◌≢◌, ℕ, ◌==◌, true, false, 
 use Rattle.std.specs.List.{AllByRecursion}
 use Rattle.std.proofs.lemmas.List.{append-nil}
 use Rattle.std.proofs.lemmas.Bool.Decides.{nat_tests}
-use Rattle.fints_syntax.specs.declared.item.OwnedSegment.{OwnedSegment}
+use Rattle.fints_segments.specs.declared.item.OwnedSegment.{OwnedSegment}
 use Rattle.fints_syntax.specs.Laws.{OneSegmentText}
 use Rattle.fints_messages.specs.Messages.{MessageView, IsInner, IsTail, IsForm, IsMessage, IsPlainTail, IsEnvelope}
-use Rattle.fints_syntax.specs.Number.{number_of}
-use Rattle.fints_syntax.specs.Values.{value_at}
+use Rattle.fints_segments.specs.Number.{number_of}
+use Rattle.fints_segments.specs.Values.{value_at}
 use Rattle.fints_messages.proofs.Ranks.{IsRanked}
 use Rattle.fints_messages.proofs.Forms.{rank_of, inner_ranked, split, at_end, inside, key_not_plain}
 use Rattle.fints_messages.proofs.Seals.{text_one, envelope_text}

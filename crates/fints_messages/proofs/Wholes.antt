@@ -2,14 +2,14 @@
 use Rattle.std.proofs.Common.{◌≡◌, ℕ, ◌+◌, List, [], ◌∷◌, ◌++◌, length, drop, refl, ap, ◌∙◌, sym, subst, arith, inl, inr, append_assoc, length-append, Option, Some}
 use Rattle.std.specs.List.{AllByRecursion}
 use Rattle.std.proofs.lemmas.List.{append-nil, map-append}
-use Rattle.fints_syntax.specs.Spelling.{Spelled}
-use Rattle.fints_syntax.specs.Segment.{segment_bytes, IsSegment}
-use Rattle.fints_syntax.specs.declared.item.OwnedSegment.{OwnedSegment}
+use Rattle.fints_segments.specs.Spelling.{Spelled}
+use Rattle.fints_segments.specs.Segment.{segment_bytes, IsSegment}
+use Rattle.fints_segments.specs.declared.item.OwnedSegment.{OwnedSegment}
 use Rattle.fints_syntax.specs.Laws.{OneSegmentText}
-use Rattle.fints_syntax.specs.Number.{number_of}
+use Rattle.fints_segments.specs.Number.{number_of}
 use Rattle.fints_syntax.specs.Owned.{segment_of, segments_of}
 use Rattle.fints_messages.specs.Segments.{text_of}
-use Rattle.fints_syntax.specs.Values.{value_at}
+use Rattle.fints_segments.specs.Values.{value_at}
 use Rattle.fints_messages.specs.Messages.{MessageView, IsFirst, IsTail, IsForm, IsMessage, IsWhole, Begins, Stops, IsNoMessage}
 use Rattle.fints_messages.specs.Front.{IsNext, HasNoNext, BeginsBy, IsWholeBy, IsReadBy}
 use Rattle.fints_messages.proofs.Texts.{segments-snoc, rest_of}

@@ -1,10 +1,10 @@
 -- What a look at the segments between HNHBK and HNHBS finds. Private contracts alone cite these words.
 use Rattle.std.specs.Prelude.{◌≡◌, ℕ, ◌+◌, ◌<◌, ◌≤◌, List, [], ◌∷◌, ◌++◌, length, drop, Option, Some, None}
 use Rattle.std.specs.List.{AllByRecursion}
-use Rattle.fints_syntax.specs.Spelling.{Spelled}
-use Rattle.fints_syntax.specs.Segment.{segment_bytes, IsSegment}
-use Rattle.fints_syntax.specs.declared.item.OwnedSegment.{OwnedSegment}
-use Rattle.fints_syntax.specs.Number.{number_of}
+use Rattle.fints_segments.specs.Spelling.{Spelled}
+use Rattle.fints_segments.specs.Segment.{segment_bytes, IsSegment}
+use Rattle.fints_segments.specs.declared.item.OwnedSegment.{OwnedSegment}
+use Rattle.fints_segments.specs.Number.{number_of}
 use Rattle.fints_syntax.specs.Owned.{segment_of, segments_of}
 use Rattle.fints_messages.specs.Segments.{text_of}
 use Rattle.fints_messages.specs.Parts.{part_of}

@@ -1,16 +1,16 @@
 -- Which bytes are a message, and where bytes cease to be one.
 use Rattle.std.specs.Prelude.{codes, ◌≡◌, ◌⊎◌, ℕ, ◌+◌, List, [], ◌∷◌, ◌++◌, length, Option, Some, IsTrue}
 use Rattle.std.specs.List.{AllByRecursion}
-use Rattle.fints_syntax.specs.Spelling.{Spelled}
-use Rattle.fints_syntax.specs.Segment.{segment_bytes, IsSegment}
-use Rattle.fints_syntax.specs.declared.item.OwnedItem.TheVariants.{Bin}
-use Rattle.fints_syntax.specs.declared.item.OwnedSegment.{OwnedSegment}
-use Rattle.fints_syntax.specs.Number.{number_of}
+use Rattle.fints_segments.specs.Spelling.{Spelled}
+use Rattle.fints_segments.specs.Segment.{segment_bytes, IsSegment}
+use Rattle.fints_segments.specs.declared.item.OwnedItem.TheVariants.{Bin}
+use Rattle.fints_segments.specs.declared.item.OwnedSegment.{OwnedSegment}
+use Rattle.fints_segments.specs.Number.{number_of}
 use Rattle.fints_syntax.specs.Owned.{segments_of}
 use Rattle.fints_messages.specs.Segments.{text_of, IsText}
-use Rattle.fints_syntax.specs.Values.{item_at, value_at}
-use Rattle.fints_syntax.specs.Number.{number_in}
-use Rattle.fints_syntax.specs.Values.{is_named}
+use Rattle.fints_segments.specs.Values.{item_at, value_at}
+use Rattle.fints_segments.specs.Number.{number_in}
+use Rattle.fints_segments.specs.Values.{is_named}
 use Rattle.fints_messages.specs.Parts.{part_of}
 use Rattle.fints_messages.specs.declared.part.Part.TheVariants.{Opener, Body, Ender}
 

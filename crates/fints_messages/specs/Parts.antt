@@ -1,8 +1,8 @@
 -- What a segment is within a message.
 use Rattle.std.specs.Prelude.{codes, if◌then◌else◌}
 use Rattle.fints_syntax.specs.Kind.{is_frame_kind}
-use Rattle.fints_syntax.specs.Values.{is_named}
-use Rattle.fints_syntax.specs.declared.item.OwnedSegment.{OwnedSegment}
+use Rattle.fints_segments.specs.Values.{is_named}
+use Rattle.fints_segments.specs.declared.item.OwnedSegment.{OwnedSegment}
 use Rattle.fints_messages.specs.declared.part.Part.{Part}
 use Rattle.fints_messages.specs.declared.part.Part.TheVariants.{Opener, Body, Ender, Other}
 

@@ -1,8 +1,8 @@
 //! Messages, as they are read.
 ghost use Rattle.std.specs.Prelude.{◌≡◌, ◌<◌, ◌≤◌, ◌^◌, ℕ, List, length, map, Option, Some, IfOk, IfErr, IfSome, IfNone};
-ghost use Rattle.fints_syntax.specs.Number.{number_of};
+ghost use Rattle.fints_segments.specs.Number.{number_of};
 ghost use Rattle.fints_syntax.specs.Owned.{segment_of, segments_of};
-ghost use Rattle.fints_syntax.specs.Values.{value_at};
+ghost use Rattle.fints_segments.specs.Values.{value_at};
 ghost use Rattle.fints_messages.specs.Messages.{IsMessage, IsFirst};
 ghost use Rattle.fints_messages.specs.Front.{IsNumber};
 ghost use Rattle.fints_messages.specs.Read.{IsRefusal};

@@ -2,8 +2,8 @@
 ghost use Rattle.std.specs.Prelude.{◌≡◌, ◌<◌, ◌≤◌};
 ghost use Rattle.std.specs.Str.{bytes_eq};
 ghost use Rattle.fints_syntax.specs.Owned.{segment_of};
-ghost use Rattle.fints_syntax.specs.Values.{is_named, value_at};
-ghost use Rattle.fints_syntax.specs.Number.{number_in};
+ghost use Rattle.fints_segments.specs.Values.{is_named, value_at};
+ghost use Rattle.fints_segments.specs.Number.{number_in};
 ghost use Rattle.fints_messages.specs.Parts.{part_of};
 
 use fints_syntax::{Item, Kind, SegmentView, is_frame_kind};

@@ -1,10 +1,10 @@
 //! The values of items.
 ghost use Rattle.std.specs.Prelude.{◌≡◌, ◌<◌, ◌≤◌, ℕ, List, IfSome, IfNone};
 ghost use Rattle.fints_syntax.specs.ItemIs.{value_of_item};
-ghost use Rattle.fints_syntax.specs.declared.item.OwnedItem.TheVariants.{Bin as BinItem};
+ghost use Rattle.fints_segments.specs.declared.item.OwnedItem.TheVariants.{Bin as BinItem};
 ghost use Rattle.fints_syntax.specs.Owned.{segment_of};
-ghost use Rattle.fints_syntax.specs.Values.{item_at, value_at};
-ghost use Rattle.fints_syntax.specs.Number.{number_in};
+ghost use Rattle.fints_segments.specs.Values.{item_at, value_at};
+ghost use Rattle.fints_segments.specs.Number.{number_in};
 
 use fints_syntax::{Item, SegmentView};
 

@@ -7,7 +7,7 @@ use Rattle.fints_syntax.specs.Owned.{segments_of}
 use Rattle.fints_params.specs.Laws.{SyntaxLaws}
 use Rattle.fints_syntax.specs.declared.capture.Placed as syntax
 use Rattle.fints_syntax.specs.declared.fault.SyntaxFault.{SyntaxFault}
-use Rattle.fints_syntax.specs.declared.item.OwnedSegment.{OwnedSegment}
+use Rattle.fints_segments.specs.declared.item.OwnedSegment.{OwnedSegment}
 use Rattle.fints_params.specs.declared.fault.ParamFault.{ParamFault}
 use Rattle.fints_params.specs.declared.fault.ParamFault.TheVariants.{Syntax}
 use Rattle.fints_params.specs.declared.placed.PlacedSegment.{PlacedSegment}

@@ -1,7 +1,7 @@
 //! HIUPA and HIUPD.
 ghost use Rattle.std.specs.Prelude.{◌≡◌, ◌≤◌, ℕ, List, map, drop, length, IfOk, IfErr, Some, None};
 ghost use Rattle.std.specs.List.{filter_map, count_by};
-ghost use Rattle.fints_syntax.specs.Segment.{item_value};
+ghost use Rattle.fints_segments.specs.Segment.{item_value};
 ghost use Rattle.fints_params.specs.Accounts.{is_empty_element, entry_kind, entry_of, is_odd_element, account_row, usage_of, usage_fault, entry_elements};
 ghost use Rattle.fints_params.specs.Faults.{IsBad};
 

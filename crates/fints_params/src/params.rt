@@ -1,7 +1,7 @@
 //! What a capture says of the bank and the user.
 ghost use Rattle.std.specs.Prelude.{◌≡◌, ◌<◌, ◌^◌, ◌==◌, List, [], None, Some, IfOk, IfErr};
 ghost use Rattle.std.specs.List.{list_all};
-ghost use Rattle.fints_syntax.specs.declared.item.OwnedSegment.{OwnedSegment};
+ghost use Rattle.fints_segments.specs.declared.item.OwnedSegment.{OwnedSegment};
 ghost use Rattle.fints_params.specs.Faults.{IsMemoryOr};
 ghost use Rattle.fints_params.specs.Parameters.{IsRowsOf, end_fault, fault_after, usage_from};
 ghost use Rattle.fints_params.specs.Captures.{IsParamsOf, IsParamFault};

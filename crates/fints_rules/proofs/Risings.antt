@@ -1,6 +1,6 @@
 -- The numbers of a message's body rise.
 use Rattle.std.proofs.Common.{◌≡◌, ℕ, zero, suc, ◌+◌, ◌<◌, List, [], ◌∷◌, length, get_or, ◌∙◌, arith}
-use Rattle.fints_syntax.specs.declared.item.OwnedSegment.{OwnedSegment}
+use Rattle.fints_segments.specs.declared.item.OwnedSegment.{OwnedSegment}
 use Rattle.fints_messages.specs.Messages.{IsNumbered}
 use Rattle.fints_rules.specs.Judging.{IsRising}
 

@@ -3,8 +3,8 @@ use Rattle.std.specs.Prelude.{codes, ℕ, Bool, not, ◌&&◌, ◌==◌, List, [
 use Rattle.std.specs.List.{list_any}
 use Rattle.std.specs.Set.{distinct_count}
 use Rattle.std.specs.Str.{bytes_eq}
-use Rattle.fints_syntax.specs.declared.item.OwnedSegment.{OwnedSegment}
-use Rattle.fints_syntax.specs.Values.{value_at}
+use Rattle.fints_segments.specs.declared.item.OwnedSegment.{OwnedSegment}
+use Rattle.fints_segments.specs.Values.{value_at}
 use Rattle.fints_messages.specs.Messages.{MessageView}
 use Rattle.fints_rules.specs.declared.facts.MessageFacts.{MessageFacts}
 use Rattle.fints_rules.specs.Kinds.{is_tan_order, is_plain_order}

@@ -1,6 +1,6 @@
 -- How many segments of a body have each kind. Private contracts alone cite these words.
 use Rattle.std.specs.Prelude.{◌≡◌, ℕ, List, Option, unwrap_or}
-use Rattle.fints_syntax.specs.declared.item.OwnedSegment.{OwnedSegment}
+use Rattle.fints_segments.specs.declared.item.OwnedSegment.{OwnedSegment}
 use Rattle.fints_rules.specs.Facts.{count_of}
 
 -- the map has at each kind how many segments have it; nothing stands for 0

@@ -1,7 +1,7 @@
 //! Laws of messages and rules: each function's contract is one.
 ghost use Rattle.std.specs.Prelude.{◌≡◌};
-ghost use Rattle.fints_syntax.specs.Values.{values_at};
-ghost use Rattle.fints_syntax.specs.declared.item.OwnedSegment.{OwnedSegment};
+ghost use Rattle.fints_segments.specs.Values.{values_at};
+ghost use Rattle.fints_segments.specs.declared.item.OwnedSegment.{OwnedSegment};
 ghost use Rattle.fints_rules.specs.Accounts.{account_of};
 ghost use Rattle.fints_rules.specs.Facts.{six_items};
 ghost use Rattle.fints_rules.specs.Laws.{OneTable, OneTableFault, NoTableAtFault};

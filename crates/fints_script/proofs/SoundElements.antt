@@ -7,7 +7,7 @@ use Rattle.std.proofs.lemmas.Bool.{cases_Bool, false≢true}
 use Rattle.std.proofs.lemmas.Bool.Decides.{nat_tests}
 use Rattle.std.proofs.lemmas.List.Elements.{All-cons, All-nil}
 use Rattle.toml.specs.Data.{Data, string, array}
-use Rattle.fints_syntax.specs.declared.item.OwnedItem.TheVariants.{Text, Bin}
+use Rattle.fints_segments.specs.declared.item.OwnedItem.TheVariants.{Text, Bin}
 use Rattle.fints_documents.specs.Document.{item_list}
 use Rattle.fints_field_rows.specs.NamedFields.{is_account_at, is_field_named, place_of_field}
 use Rattle.fints_field_rows.specs.PartLaws.{bind_ok, choice_ok, each_all, each_length}

@@ -1,15 +1,15 @@
 -- The values of a segment, as far as a cursor has read them.
-use Rattle.std.proofs.Common.{◌≡◌, ◌≢◌, ℕ, ◌<◌, false, eqb, List, [], ◌∷◌, ◌++◌, length, drop, refl, ap, ◌∙◌, sym, subst, arith, ◌⊎◌, inl, inr, append_assoc, map}
+use Rattle.std.proofs.Common.{◌≡◌, ◌≢◌, ℕ, ◌<◌, false, eqb, List, [], ◌∷◌, ◌++◌, length, drop, refl, ap, ◌∙◌, sym, subst, arith, ◌⊎◌, inl, inr, append_assoc}
 use Rattle.std.specs.List.{AllByRecursion}
-use Rattle.std.proofs.lemmas.List.{append-nil, length-map}
-use Rattle.fints_syntax.specs.Spelling.{Spelled, item_of, IsSpelled}
-use Rattle.fints_syntax.specs.Segment.{Token, element_tokens, segment_tokens, values_of}
+use Rattle.std.proofs.lemmas.List.{append-nil}
+use Rattle.fints_segments.specs.Spelling.{Spelled, item_of, IsSpelled}
+use Rattle.fints_segments.specs.Segment.{Token, element_tokens, segment_tokens, values_of}
 use Rattle.fints_syntax.specs.Reader.{segment_in, elements_in}
 use Rattle.fints_syntax.specs.Owned.{owned_item_of}
 use Rattle.fints_syntax.specs.Window.{IsFrameText}
 use Rattle.fints_syntax.specs.Cursor.{IsTaken, after_element}
 use Rattle.fints_syntax.specs.declared.cursor.Found.{Found}
-use Rattle.fints_syntax.specs.declared.item.OwnedItem.{OwnedItem}
+use Rattle.fints_segments.specs.declared.item.OwnedItem.{OwnedItem}
 use Rattle.fints_syntax.proofs.Tokens.{IsClosed, closed-segment, elements_in-tokens}
 use Rattle.fints_syntax.proofs.TakenItems.{owned_is, alone, with_items, none_read, first_read, element_read, colon_in, other_in, closed_colon, closed_other, none_of}
 
@@ -42,16 +42,6 @@ all_rest P (x ∷ xs) h = h.1
 values_rest : (es : List (List Spelled)) → values_of (drop 1 es) ≡ drop 1 (values_of es)
 values_rest [] = refl
 values_rest (e ∷ es) = refl
-
-values_some : (es : List (List Spelled)) → AllByRecursion (λ e. 0 < length e) es → AllByRecursion (λ x. 0 < length x) (values_of es)
-values_some [] h = tt
-values_some (e ∷ es) h = let size : length (map item_of e) ≡ length e = length-map e item_of in (omega (arith, size, h.0), values_some es h.1)
-
--- each element after the head has an item
-pub rest_nonempty : (source : List ℕ) → IsFrameText source → AllByRecursion (λ x. 0 < length x) (drop 1 (values_of (segment_in source)))
-rest_nonempty source f =
-    let some = all_rest (λ (e : List Spelled). 0 < length e) (segment_in source) f.framed.nonempty in
-    subst (λ xs. AllByRecursion (λ x. 0 < length x) xs) (values_rest (segment_in source)) (values_some (drop 1 (segment_in source)) some)
 
 pub filled_start : (source : List ℕ) (tokens : List Token) → IsFrameText source → tokens ≡ after_element (segment_tokens (segment_in source)) → Filled (drop 1 (values_of (segment_in source))) tokens [] []
 filled_start source tokens f is =

@@ -1,26 +1,10 @@
-//! Why bytes could not be read, and want of memory.
+//! Why bytes could not be read.
 ghost use Rattle.std.specs.Prelude.{◌≡◌};
 ghost use Rattle.fints_syntax.specs.declared.fault.SyntaxKind.TheVariants as kind;
 
+use fints_segments::Memory;
 use std::alloc::{AllocError, AllocFailed};
 use thiserror::Error;
-
-/// Want of memory: a growth was refused. All crates share this one error.
-#[derive(Clone, Copy, Debug, PartialEq, Eq, Error)]
-#[error("memory")]
-pub struct Memory;
-
-impl From<AllocError> for Memory {
-    fn from(_e: AllocError) -> Memory {
-        Memory
-    }
-}
-
-impl<T: Drop> From<AllocFailed<T>> for Memory {
-    fn from(_e: AllocFailed<T>) -> Memory {
-        Memory
-    }
-}
 
 /// What is wrong with bytes that are read as segments (FinTS 3.0, Formals, the syntax of segments).
 #[derive(Clone, Copy, Debug, PartialEq, Eq)]

@@ -3,7 +3,7 @@ use Rattle.std.specs.Prelude.{codes, ℕ, Bool, false, ◌&&◌, not, if◌then�
 use Rattle.std.specs.Str.{bytes_eq}
 use Rattle.hex.specs.Hex.{decode_of}
 use Rattle.toml.specs.Data.{Data, string, array}
-use Rattle.fints_syntax.specs.declared.item.OwnedItem.TheVariants.{Text, Bin}
+use Rattle.fints_segments.specs.declared.item.OwnedItem.TheVariants.{Text, Bin}
 use Rattle.fints_documents.specs.Document.{item_list}
 use Rattle.fints_field_rows.specs.NamedFields.{is_account_at, place_of_field}
 use Rattle.fints_field_rows.specs.Parts.{Part, ◌>>=◌, each, entries_of, not_empty}

@@ -1,6 +1,6 @@
 -- How much templates weigh, and how many items they have.
 use Rattle.std.specs.Prelude.{ℕ, ◌+◌, ◌-◌, ◌≤◌, List, [], ◌∷◌, length, get_or, Option, SomeIff}
-use Rattle.fints_syntax.specs.Spelling.{written}
+use Rattle.fints_segments.specs.Spelling.{written}
 use Rattle.fints_templates.specs.declared.template.TemplateItem.{TemplateItem}
 use Rattle.fints_templates.specs.declared.template.TemplateItem.TheVariants.{Literal, Dialog, Field}
 use Rattle.fints_templates.specs.declared.template.Signer.{Signer}

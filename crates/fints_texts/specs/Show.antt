@@ -2,8 +2,8 @@
 use Rattle.std.specs.Prelude.{◌≡◌, ◌⊎◌, ℕ, Bool, true, false, List, [], ◌∷◌, ◌++◌, length, drop, codes}
 use Rattle.std.specs.List.{flat_map}
 use Rattle.std.specs.Fmt.{decimal}
-use Rattle.fints_syntax.specs.declared.item.OwnedItem.TheVariants.{Text}
-use Rattle.fints_syntax.specs.Spelling.{written}
+use Rattle.fints_segments.specs.declared.item.OwnedItem.TheVariants.{Text}
+use Rattle.fints_segments.specs.Spelling.{written}
 use Rattle.fints_params.specs.declared.fault.ParamFault.{ParamFault}
 use Rattle.fints_params.specs.declared.rows.BankRow.{BankRow}
 use Rattle.fints_params.specs.declared.rows.OrderParam.{OrderParam}

@@ -9,12 +9,12 @@ use Rattle.std.proofs.lemmas.List.Elements.{All-append, All-from_get_or, All-hea
 use Rattle.std.proofs.lemmas.Bool.Decides.{nat_tests}
 use Rattle.std.proofs.lemmas.Fmt.{length-decimal-le, decimal_is_IsNumeral}
 use Rattle.std.proofs.lemmas.Str.Parse.{digit_at}
-use Rattle.fints_syntax.specs.declared.item.OwnedItem.{OwnedItem}
-use Rattle.fints_syntax.specs.declared.item.OwnedItem.TheVariants.{Bin}
-use Rattle.fints_syntax.specs.declared.item.OwnedSegment.{OwnedSegment}
-use Rattle.fints_syntax.specs.Segment.{token_bytes, element_tokens, segment_tokens}
-use Rattle.fints_syntax.specs.Spelling.{is_separator, text_bytes, unit_bytes, written, written_item, written_unit}
-use Rattle.fints_syntax.specs.Written.{element_text, elements_text, head_items, segment_values, written_elements, written_segment}
+use Rattle.fints_segments.specs.declared.item.OwnedItem.{OwnedItem}
+use Rattle.fints_segments.specs.declared.item.OwnedItem.TheVariants.{Bin}
+use Rattle.fints_segments.specs.declared.item.OwnedSegment.{OwnedSegment}
+use Rattle.fints_segments.specs.Segment.{token_bytes, element_tokens, segment_tokens}
+use Rattle.fints_segments.specs.Spelling.{is_separator, text_bytes, unit_bytes, written, written_item, written_unit}
+use Rattle.fints_segments.specs.Written.{element_text, elements_text, head_items, segment_values, written_elements, written_segment}
 use Rattle.fints_fields.specs.Lengths.{text_len}
 use Rattle.fints_script.specs.Scripts.{ScriptValue}
 use Rattle.fints_script.specs.Steps.{StepValue}

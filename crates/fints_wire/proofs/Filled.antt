@@ -6,10 +6,10 @@ use Rattle.std.proofs.lemmas.Bool.{cases_Bool, false≢true}
 use Rattle.std.proofs.lemmas.List.{append-nil}
 use Rattle.std.proofs.lemmas.List.Elements.{All-cons, All-head, All-tail}
 use Rattle.std.proofs.lemmas.Option.{same_Some}
-use Rattle.fints_syntax.specs.Segment.{item_value}
-use Rattle.fints_syntax.specs.Values.{values_at}
-use Rattle.fints_syntax.specs.declared.item.OwnedItem.{OwnedItem}
-use Rattle.fints_syntax.specs.declared.item.OwnedItem.TheVariants.{Text as TextItem}
+use Rattle.fints_segments.specs.Segment.{item_value}
+use Rattle.fints_segments.specs.Values.{values_at}
+use Rattle.fints_segments.specs.declared.item.OwnedItem.{OwnedItem}
+use Rattle.fints_segments.specs.declared.item.OwnedItem.TheVariants.{Text as TextItem}
 use Rattle.fints_fields.specs.Fields.{IsListedAt, field_domain, field_items}
 use Rattle.fints_fields.specs.Listed.{account_items}
 use Rattle.fints_fields.specs.declared.field.Field.{Field as Class}

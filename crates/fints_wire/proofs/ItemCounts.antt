@@ -5,11 +5,11 @@ use Rattle.std.specs.Option.{IfSome}
 use Rattle.std.proofs.lemmas.Bool.{cases_Bool}
 use Rattle.std.proofs.lemmas.List.{length-append, length-map}
 use Rattle.std.proofs.lemmas.List.Elements.{All-append, All-head, All-map, All-tail}
-use Rattle.fints_syntax.specs.declared.item.OwnedItem.{OwnedItem}
-use Rattle.fints_syntax.specs.declared.item.OwnedSegment.{OwnedSegment}
-use Rattle.fints_syntax.specs.Segment.{element_tokens, segment_tokens}
-use Rattle.fints_syntax.specs.Spelling.{Spelled, written_item}
-use Rattle.fints_syntax.specs.Written.{head_items, segment_values, written_elements, written_tree}
+use Rattle.fints_segments.specs.declared.item.OwnedItem.{OwnedItem}
+use Rattle.fints_segments.specs.declared.item.OwnedSegment.{OwnedSegment}
+use Rattle.fints_segments.specs.Segment.{element_tokens, segment_tokens}
+use Rattle.fints_segments.specs.Spelling.{Spelled, written_item}
+use Rattle.fints_segments.specs.Written.{head_items, segment_values, written_elements, written_tree}
 use Rattle.fints_fields.specs.FieldLaws.{has_few_items}
 use Rattle.fints_fields.specs.Fields.{field_most_items}
 use Rattle.fints_templates.specs.Figures.{figures_of}

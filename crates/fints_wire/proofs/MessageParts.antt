@@ -6,9 +6,9 @@ use Rattle.std.proofs.lemmas.Bool.{cases_Bool}
 use Rattle.std.proofs.lemmas.List.{length-map}
 use Rattle.std.proofs.lemmas.List.Elements.{All-head, All-tail}
 use Rattle.std.proofs.lemmas.Slice.Eq.{bytes_eq-Decides}
-use Rattle.fints_syntax.specs.declared.item.OwnedItem.{OwnedItem}
-use Rattle.fints_syntax.specs.declared.item.OwnedItem.TheVariants.{Bin}
-use Rattle.fints_syntax.specs.declared.item.OwnedSegment.{OwnedSegment}
+use Rattle.fints_segments.specs.declared.item.OwnedItem.{OwnedItem}
+use Rattle.fints_segments.specs.declared.item.OwnedItem.TheVariants.{Bin}
+use Rattle.fints_segments.specs.declared.item.OwnedSegment.{OwnedSegment}
 use Rattle.fints_messages.specs.Messages.{IsFirst, IsInner, IsLast, IsNumbered, IsTail}
 use Rattle.fints_messages.specs.Parts.{part_of}
 use Rattle.fints_messages.specs.Segments.{IsText}

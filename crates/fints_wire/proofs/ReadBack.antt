@@ -8,11 +8,11 @@ use Rattle.std.proofs.lemmas.Bool.{le-leb}
 use Rattle.std.proofs.lemmas.Fmt.{decimal_nonempty, digits_decimal, digits_value-decimal, length-decimal-le}
 use Rattle.std.proofs.lemmas.Str.Parse.{IsNumeralModel, numerals_by_value, tells_all_ascii_digits}
 use Rattle.fints_syntax.specs.Laws.{WrittenIsSpelled, WrittenHasValues, WrittenHasHead}
-use Rattle.fints_syntax.specs.Number.{number_in}
-use Rattle.fints_syntax.specs.Segment.{values_of, head_of, IsSegment}
-use Rattle.fints_syntax.specs.Written.{written_segment, written_tree, IsWritable}
-use Rattle.fints_syntax.specs.declared.item.OwnedSegment.{OwnedSegment}
-use Rattle.fints_syntax.specs.Number.{number_of}
+use Rattle.fints_segments.specs.Number.{number_in}
+use Rattle.fints_segments.specs.Segment.{values_of, head_of, IsSegment}
+use Rattle.fints_segments.specs.Written.{written_segment, written_tree, IsWritable}
+use Rattle.fints_segments.specs.declared.item.OwnedSegment.{OwnedSegment}
+use Rattle.fints_segments.specs.Number.{number_of}
 use Rattle.fints_syntax.specs.Owned.{no_head, segment_of, segments_of}
 use Rattle.fints_messages.specs.Segments.{text_of, IsText}
 use Rattle.fints_wire.specs.Messages.{segments_text, twelve_digits}

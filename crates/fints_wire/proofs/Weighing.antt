@@ -7,8 +7,8 @@ use Rattle.std.proofs.lemmas.Fmt.{length-decimal-le}
 use Rattle.std.proofs.lemmas.List.{drop_all, drop_more, length-append}
 use Rattle.std.proofs.lemmas.List.Elements.{All-append, All-from_recursion, All-head, All-map, All-tail}
 use Rattle.fints_syntax.specs.Kind.{IsKindByte, IsKindText}
-use Rattle.fints_syntax.specs.Spelling.{written}
-use Rattle.fints_syntax.specs.declared.item.OwnedItem.{OwnedItem}
+use Rattle.fints_segments.specs.Spelling.{written}
+use Rattle.fints_segments.specs.declared.item.OwnedItem.{OwnedItem}
 use Rattle.fints_fields.specs.ClassLaws.{text_len_marks}
 use Rattle.fints_fields.specs.Fields.{field_items, field_longest, field_written}
 use Rattle.fints_fields.specs.FieldLaws.{has_some_item, is_written_as_items, none_is_longer}

@@ -8,7 +8,7 @@ use Rattle.std.proofs.lemmas.Bool.Decides.{nat_tests}
 use Rattle.std.proofs.lemmas.Fmt.{decimal_is_IsNumeral, decimal_nonempty, length-decimal-le}
 use Rattle.std.proofs.lemmas.Int.Digits.{digits_value-lt}
 use Rattle.std.proofs.lemmas.List.Elements.{All-head, All-tail}
-use Rattle.fints_syntax.specs.declared.item.OwnedItem.{OwnedItem}
+use Rattle.fints_segments.specs.declared.item.OwnedItem.{OwnedItem}
 use Rattle.fints_fields.specs.Fields.{field_items, field_longest}
 use Rattle.fints_fields.specs.FieldLaws.{has_some_item, is_written_as_items, longest_is_admitted, none_is_longer}
 use Rattle.fints_script.specs.Plans.{Admits, IsChosen}

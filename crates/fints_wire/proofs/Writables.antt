@@ -6,11 +6,11 @@ use Rattle.std.specs.Fmt.{decimal}
 use Rattle.std.proofs.lemmas.List.{length-append}
 use Rattle.std.proofs.lemmas.List.Elements.{All-head, All-map, All-tail, recursion_from_All}
 use Rattle.fints_syntax.specs.Kind.{IsKindText}
-use Rattle.fints_syntax.specs.Segment.{segment_tokens}
-use Rattle.fints_syntax.specs.Written.{written_segment, written_tree, IsWritable}
-use Rattle.fints_syntax.specs.declared.item.OwnedItem.{OwnedItem}
-use Rattle.fints_syntax.specs.declared.item.OwnedItem.TheVariants.{Text, Bin}
-use Rattle.fints_syntax.specs.declared.item.OwnedSegment.{OwnedSegment}
+use Rattle.fints_segments.specs.Segment.{segment_tokens}
+use Rattle.fints_segments.specs.Written.{written_segment, written_tree, IsWritable}
+use Rattle.fints_segments.specs.declared.item.OwnedItem.{OwnedItem}
+use Rattle.fints_segments.specs.declared.item.OwnedItem.TheVariants.{Text, Bin}
+use Rattle.fints_segments.specs.declared.item.OwnedSegment.{OwnedSegment}
 use Rattle.fints_templates.specs.Figures.{figures_of}
 use Rattle.fints_script.specs.Plans.{Admits}
 use Rattle.fints_script.specs.Scripts.{ScriptValue}

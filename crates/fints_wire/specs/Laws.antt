@@ -1,9 +1,9 @@
 -- The laws of the messages of steps, and of runs. Each is the contract of a public function.
 use Rattle.std.specs.Prelude.{◌≡◌, ◌≢◌, ◌↔◌, ◌⊎◌, ◌+◌, ◌<◌, ◌≤◌, ◌++◌, ℕ, true, List, [], ◌∷◌, length, map, set, Some, slice_get}
 use Rattle.std.specs.List.{AllByRecursion, list_all}
-use Rattle.fints_syntax.specs.Segment.{item_value}
-use Rattle.fints_syntax.specs.Values.{values_at}
-use Rattle.fints_syntax.specs.declared.item.OwnedItem.{OwnedItem}
+use Rattle.fints_segments.specs.Segment.{item_value}
+use Rattle.fints_segments.specs.Values.{values_at}
+use Rattle.fints_segments.specs.declared.item.OwnedItem.{OwnedItem}
 use Rattle.fints_fields.specs.Fields.{IsListedAt, field_domain, field_items}
 use Rattle.fints_cases.specs.Answers.{IsAnswer}
 use Rattle.fints_cases.specs.declared.values.NamedValue.{NamedValue}

@@ -1,9 +1,9 @@
 -- How long a message is: each item counts with the byte after it. Private contracts alone cite these words.
 use Rattle.std.specs.Prelude.{ℕ, ◌+◌, ◌==◌, if◌then◌else◌, codes, List, [], ◌∷◌, length, map, get_or, Bool, true, false}
 use Rattle.std.specs.Fmt.{decimal}
-use Rattle.fints_syntax.specs.declared.item.OwnedItem.{OwnedItem}
-use Rattle.fints_syntax.specs.Spelling.{written}
-use Rattle.fints_syntax.specs.Written.{head_items}
+use Rattle.fints_segments.specs.declared.item.OwnedItem.{OwnedItem}
+use Rattle.fints_segments.specs.Spelling.{written}
+use Rattle.fints_segments.specs.Written.{head_items}
 use Rattle.fints_fields.specs.Fields.{field_longest, field_written}
 use Rattle.fints_field_rows.specs.declared.fields.NamedField.{NamedField}
 use Rattle.fints_script.specs.Scripts.{ScriptValue}

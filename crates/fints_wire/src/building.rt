@@ -1,6 +1,6 @@
 //! The bytes of a step's message.
 ghost use Rattle.std.specs.Prelude.{◌≡◌, ◌<◌, ◌≤◌, ◌++◌, length, All, IfOk, OnOk};
-ghost use Rattle.fints_syntax.specs.Written.{written_segment};
+ghost use Rattle.fints_segments.specs.Written.{written_segment};
 ghost use Rattle.fints_messages.specs.Messages.{IsMessage};
 ghost use Rattle.fints_script.specs.Plans.{Admits};
 ghost use Rattle.fints_script.specs.Sound.{IsSoundStep};

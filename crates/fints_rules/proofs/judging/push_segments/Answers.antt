@@ -1,6 +1,6 @@
 use Rattle.std.proofs.Common.{◌≡◌, ◌∙◌, [], refl, ap, sym, subst, take, List, true, false}
 use Rattle.std.proofs.lemmas.List.{append-nil, take_all}
-use Rattle.fints_syntax.specs.declared.item.OwnedSegment.{OwnedSegment}
+use Rattle.fints_segments.specs.declared.item.OwnedSegment.{OwnedSegment}
 use Rattle.fints_rules.specs.Breaks.{BreaksAt}
 use Rattle.fints_messages.specs.Messages.{MessageView}
 use Rattle.fints_rules.specs.Judging.{IsRising, ArePairs, Adds}

@@ -1,6 +1,6 @@
 use Rattle.std.proofs.Common.{◌∙◌, subst, arith}
-use Rattle.fints_syntax.specs.Flat.{HasNoEscape}
-use Rattle.fints_syntax.proofs.Flats.{no_escape_value}
+use Rattle.fints_syntax.specs.Items.{HasNoEscape}
+use Rattle.fints_syntax.proofs.Values.{no_escape_value}
 use Rattle.fints_syntax.proofs.head.plain_value.Goals as goal
 
 pub returns-else-has_escape : goal.returns-else-has_escape

@@ -1,0 +1,10 @@
+pub mod Number
+pub mod Spelling
+pub mod Head
+pub mod Segment
+pub mod Written
+pub mod Values
+pub mod ElementsFields
+pub mod ElementRefFields
+pub mod Lent
+pub mod Flat

@@ -1,0 +1,17 @@
+//! A segment by its values, and its written text.
+#![tactic(auto)]
+
+mod bytes;
+mod element;
+mod fault;
+mod flat;
+mod item;
+mod writing;
+
+pub use bytes::Bytes;
+pub use element::{ElementRef, ItemRef};
+pub use fault::Memory;
+pub use fints_kinds::Kind;
+pub use flat::{Filling, Valued};
+pub use item::{Elements, Head, OwnedItem, OwnedSegment};
+pub use writing::{decimal_len, write_item, write_segment, written_len};

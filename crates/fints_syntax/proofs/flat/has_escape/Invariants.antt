@@ -1,6 +1,0 @@
-use Rattle.std.proofs.Common.{take}
-use Rattle.fints_syntax.specs.Flat.{HasNoEscape}
-use Rattle.fints_syntax.proofs.flat.has_escape.Given as goal
-
-abbrev pub invariant-loop-b : goal.invariant-loop-b
-invariant-loop-b l = HasNoEscape (take l.b-index l.bytes)
