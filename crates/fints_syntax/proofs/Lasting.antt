@@ -5,8 +5,8 @@ use Rattle.std.specs.Str.Parse.{AllDigits, digits_value}
 use Rattle.std.proofs.lemmas.Bool.{cases_lt}
 use Rattle.std.proofs.lemmas.Bool.Decides.{nat_tests}
 use Rattle.std.proofs.lemmas.List.{append-nil, length-append, drop-append-le, take-append-le, take_all}
-use Rattle.fints_syntax.specs.Spelling.{Spelled, spelled_bytes, escaped, plain, text, binary, IsLength, is_separator}
-use Rattle.fints_syntax.specs.Segment.{segment_bytes, tokens_bytes, IsFramed, MAX_BYTES, MAX_ITEMS}
+use Rattle.fints_segments.specs.Spelling.{Spelled, spelled_bytes, escaped, plain, text, binary, IsLength, is_separator}
+use Rattle.fints_segments.specs.Segment.{segment_bytes, tokens_bytes, IsFramed, MAX_BYTES, MAX_ITEMS}
 use Rattle.fints_syntax.specs.Faults.{BeginsWithItem, IsCutBinary, IsBadBinary, Opens, IsBadAt, HasTooManyItems, IsUnfinished, BeginsFramed, BeginsWithSegment, KindAt, window_of}
 use Rattle.fints_syntax.specs.Capture.{piece_bytes, ReadsPlaced, FaultsAt}
 use Rattle.fints_syntax.specs.Streams.{IsSplit, PieceFaultAt}
