@@ -1,11 +1,16 @@
 -- Why a file couldn't be read, and what that says of the status.
-use Rattle.std.proofs.Common.{arith, ◌≡◌, ◌≤◌, inl, inr, refl, ℕ, List, [], ◌∷◌, Option}
+use Rattle.std.proofs.Common.{arith, ◌≡◌, ◌≤◌, inl, inr, refl, ℕ, List, [], ◌∷◌, Option, Result}
+use Rattle.fints_params.specs.Captures.{IsReadOf}
+use Rattle.fints_params.specs.Parameters.{Rows}
+use Rattle.fints_params.specs.declared.fault.ParamFault.{ParamFault}
+use Rattle.fints_texts.specs.declared.fault.Fault.{Fault}
+use Rattle.fints_cli.specs.Captures.{IsReadFrom}
 use Rattle.fints_cli.specs.declared.failing.Failure.{Failure}
 use Rattle.fints_cli.specs.declared.failing.Failure.TheVariants.{Input, Unread}
 use Rattle.fints_cli.specs.declared.reading.LoadFault.{LoadFault}
 use Rattle.fints_cli.specs.declared.reading.LoadFault.TheVariants as load_faults
 use Rattle.fints_texts.specs.declared.fault.Fault.TheVariants as texts
-use Rattle.fints_cli.specs.Commands.{IsUnloaded, IsVerifyFailure, failure_status}
+use Rattle.fints_cli.specs.Commands.{IsUnloaded, IsJudgeFailure, IsScriptFailure, IsVerifyFailure, failure_status}
 use Rattle.fints_cli.specs.Loading.{NamedFile, IsLoadFault, NoneFailed, FollowsReading}
 use Rattle.fints_cli.specs.Streams.{ReadCounts}
 
@@ -27,7 +32,21 @@ read_before files holds a b (Input texts.Memory) p low = absurd (omega arith)
 read_before files holds a b (Input f) p low = p
 
 -- where all files were read, a refusal follows from it
-pub verify_follows : (files : List NamedFile) (holds : List ℕ → Option (List ℕ)) (a b : ReadCounts) (x y z w : List ℕ) (f : Failure) → IsVerifyFailure x y z w f → NoneFailed a b → FollowsReading files holds a b f
-verify_follows files holds a b x y z w (Unread option) p none = absurd p
-verify_follows files holds a b x y z w (Input texts.Memory) p none = tt
-verify_follows files holds a b x y z w (Input f) p none = none
+input_follows : (files : List NamedFile) (holds : List ℕ → Option (List ℕ)) (a b : ReadCounts) (f : Fault) → NoneFailed a b → FollowsReading files holds a b (Input f)
+input_follows files holds a b texts.Memory none = tt
+input_follows files holds a b f none = none
+
+pub judge_follows : (files : List NamedFile) (holds : List ℕ → Option (List ℕ)) (a b : ReadCounts) (held : Option (List ℕ)) (params : Result Rows ParamFault) (y z : List ℕ) (f : Failure) → IsReadFrom held params → ((capture : List ℕ) → IsReadOf capture params → IsJudgeFailure capture y z f) → NoneFailed a b
+    → FollowsReading files holds a b f
+judge_follows files holds a b held params y z (Unread option) (x, h, read) p none = absurd (p x read)
+judge_follows files holds a b held params y z (Input f) r p none = input_follows files holds a b f none
+
+pub tell_follows : (files : List NamedFile) (holds : List ℕ → Option (List ℕ)) (a b : ReadCounts) (held : Option (List ℕ)) (params : Result Rows ParamFault) (y z : List ℕ) (f : Failure) → IsReadFrom held params → ((capture : List ℕ) → IsReadOf capture params → IsScriptFailure capture y z f) → NoneFailed a b
+    → FollowsReading files holds a b f
+tell_follows files holds a b held params y z (Unread option) (x, h, read) p none = absurd (p x read)
+tell_follows files holds a b held params y z (Input f) r p none = input_follows files holds a b f none
+
+pub verify_follows : (files : List NamedFile) (holds : List ℕ → Option (List ℕ)) (a b : ReadCounts) (held : Option (List ℕ)) (params : Result Rows ParamFault) (y z w : List ℕ) (f : Failure) → IsReadFrom held params → ((capture : List ℕ) → IsReadOf capture params → IsVerifyFailure capture y z w f) → NoneFailed a b
+    → FollowsReading files holds a b f
+verify_follows files holds a b held params y z w (Unread option) (x, h, read) p none = absurd (p x read)
+verify_follows files holds a b held params y z w (Input f) r p none = input_follows files holds a b f none

@@ -6,5 +6,5 @@ use Rattle.fints_cli.proofs.commands.verify_files.Goals as goal
 
 pub returns-clause-reason : goal.returns-clause-reason
 returns-clause-reason g c =
-    let read = c.in_ok-certificate.ensures.fine ∙ c.in_ok-script.ensures.fine ∙ c.in_ok-orders.ensures.fine ∙ c.in_ok-params.ensures.fine in
-    IfErr-weaker c.verify_loaded.result _ _ (λ r h. verify_follows (verify_files c.args.named.now c.args.certificate.now) (g.F.Files.holds c.args.files.now) (g.F.Files.reads c.args.files.now) (g.F.Files.reads c.load_option-4.new.files) _ _ _ _ r.failure h read) c.verify_loaded.ensures.refused
+    let read = c.in_ok-certificate.ensures.fine ∙ c.in_ok-script.ensures.fine ∙ c.in_ok-orders.ensures.fine ∙ c.in_ok-capture.ensures.fine in
+    IfErr-weaker c.verify_loaded.result _ _ (λ r h. verify_follows (verify_files c.args.named.now c.args.certificate.now) (g.F.Files.holds c.args.files.now) (g.F.Files.reads c.args.files.now) (g.F.Files.reads c.load_option-3.new.files) _ _ _ _ _ r.failure c.in_ok-capture.ensures.exact h read) c.verify_loaded.ensures.refused

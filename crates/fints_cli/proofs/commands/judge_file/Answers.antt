@@ -1,0 +1,10 @@
+use Rattle.std.proofs.Common.{◌∙◌}
+use Rattle.std.proofs.lemmas.Result.{IfErr-weaker}
+use Rattle.fints_cli.specs.Loading.{judge_files}
+use Rattle.fints_cli.proofs.ReasonLemmas.{judge_follows}
+use Rattle.fints_cli.proofs.commands.judge_file.Goals as goal
+
+pub returns-clause-reason : goal.returns-clause-reason
+returns-clause-reason g c =
+    let read = c.in_ok-message.ensures.fine ∙ c.in_ok-orders.ensures.fine ∙ c.in_ok-capture.ensures.fine in
+    IfErr-weaker c.judge_loaded.result _ _ (λ r h. judge_follows (judge_files c.args.params.now c.args.orders.now c.args.message.now) (g.F.Files.holds c.args.files.now) (g.F.Files.reads c.args.files.now) (g.F.Files.reads c.load_option-2.new.files) _ _ _ _ r.failure c.in_ok-capture.ensures.exact h read) c.judge_loaded.ensures.refused

@@ -1,0 +1,10 @@
+use Rattle.std.proofs.Common.{◌∙◌}
+use Rattle.std.proofs.lemmas.Result.{IfErr-weaker}
+use Rattle.fints_cli.specs.Loading.{script_files}
+use Rattle.fints_cli.proofs.ReasonLemmas.{tell_follows}
+use Rattle.fints_cli.proofs.commands.tell_files.Goals as goal
+
+pub returns-clause-reason : goal.returns-clause-reason
+returns-clause-reason g c =
+    let read = c.in_ok-script.ensures.fine ∙ c.in_ok-orders.ensures.fine ∙ c.in_ok-capture.ensures.fine in
+    IfErr-weaker c.tell_loaded.result _ _ (λ r h. tell_follows (script_files c.args.named.now) (g.F.Files.holds c.args.files.now) (g.F.Files.reads c.args.files.now) (g.F.Files.reads c.load_option-2.new.files) _ _ _ _ r.failure c.in_ok-capture.ensures.exact h read) c.tell_loaded.ensures.refused
