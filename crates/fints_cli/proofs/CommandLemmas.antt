@@ -3,7 +3,7 @@ use Rattle.std.proofs.Common.{◌≡◌, ℕ, Bool, List, subst, sym, Option}
 use Rattle.fints_words.specs.declared.words.Request.{Request}
 use Rattle.fints_words.specs.declared.words.Asked.{Asked}
 use Rattle.fints_words.specs.declared.words.Asked.TheVariants.{Run}
-use Rattle.fints_cli.specs.Streams.{GetsPrefix}
+use Rattle.fints_files.specs.Streams.{GetsPrefix}
 use Rattle.fints_cli.specs.Commands.{AnswersTo, IsCutOff}
 
 pub cut_answer : (asked : Asked) (request : Request) (hints : Bool) (holds : List ℕ → Option (List ℕ)) (status : ℕ) (text : List ℕ) (old new : Option (List ℕ)) → asked ≡ Run request hints → AnswersTo request holds status text → GetsPrefix old new text → IsCutOff asked holds old new

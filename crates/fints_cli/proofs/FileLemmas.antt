@@ -14,8 +14,8 @@ use Rattle.fints_words.specs.declared.words.ScriptFiles.{ScriptFiles}
 use Rattle.fints_cli.specs.declared.failing.Failure.{Failure}
 use Rattle.fints_cli.specs.declared.failing.Failure.TheVariants.{Input, Unread}
 use Rattle.fints_cli.specs.Commands.{ShowsFile, IsShowFailure, FailsToShow, JudgesFile, IsJudgeFailure, FailsToJudge, TellsFiles, IsScriptFailure, FailsToTell, VerifiesFiles, IsVerifyFailure, FailsToVerify, RunsFiles, IsRunFailure, FailsToRun}
-use Rattle.fints_cli.specs.Captures.{IsReadFrom}
-use Rattle.fints_cli.specs.Streams.{IsFile}
+use Rattle.fints_files.specs.Captures.{IsReadFrom}
+use Rattle.fints_files.specs.Streams.{IsFile}
 
 -- what holds of the bytes of a file holds of what it holds
 pub of_file : (P : List ℕ → Type 0) (a : Option (List ℕ)) (x : List ℕ) → IsFile a x → P x → IfSome a P

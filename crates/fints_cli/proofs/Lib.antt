@@ -1,5 +1,3 @@
 pub mod FileLemmas
-pub mod StreamLemmas
 pub mod CommandLemmas
 pub mod ReasonLemmas
-pub mod CaptureLemmas

@@ -4,15 +4,15 @@ use Rattle.fints_params.specs.Captures.{IsReadOf}
 use Rattle.fints_params.specs.Parameters.{Rows}
 use Rattle.fints_params.specs.declared.fault.ParamFault.{ParamFault}
 use Rattle.fints_texts.specs.declared.fault.Fault.{Fault}
-use Rattle.fints_cli.specs.Captures.{IsReadFrom}
+use Rattle.fints_files.specs.Captures.{IsReadFrom}
 use Rattle.fints_cli.specs.declared.failing.Failure.{Failure}
 use Rattle.fints_cli.specs.declared.failing.Failure.TheVariants.{Input, Unread}
-use Rattle.fints_cli.specs.declared.reading.LoadFault.{LoadFault}
-use Rattle.fints_cli.specs.declared.reading.LoadFault.TheVariants as load_faults
+use Rattle.fints_files.specs.declared.reading.LoadFault.{LoadFault}
+use Rattle.fints_files.specs.declared.reading.LoadFault.TheVariants as load_faults
 use Rattle.fints_texts.specs.declared.fault.Fault.TheVariants as texts
 use Rattle.fints_cli.specs.Commands.{IsUnloaded, IsJudgeFailure, IsScriptFailure, IsVerifyFailure, failure_status}
 use Rattle.fints_cli.specs.Loading.{NamedFile, IsLoadFault, NoneFailed, FollowsReading}
-use Rattle.fints_cli.specs.Streams.{ReadCounts}
+use Rattle.fints_files.specs.Streams.{ReadCounts}
 
 -- a file that wasn't loaded, by the option that named it
 pub option_unread : (fault : LoadFault) (option path : List ℕ) (limit : ℕ) (holds : List ℕ → Option (List ℕ)) (a b : ReadCounts) (f : Failure) → (fault ≡ load_faults.Memory → f ≡ Input texts.Memory) → IsUnloaded option f → IsLoadFault fault (holds path) limit a b → FollowsReading (record { option = option; path = path; limit = limit } ∷ []) holds a b f

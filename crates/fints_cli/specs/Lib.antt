@@ -1,5 +1,3 @@
-pub mod Streams
 pub mod BuiltIn
 pub mod Loading
-pub mod Captures
 pub mod Commands

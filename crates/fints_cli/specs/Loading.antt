@@ -1,11 +1,10 @@
 -- Which files a request names, and why one of them couldn't be read.
-use Rattle.std.specs.Prelude.{min, ◌+◌, ◌-◌, ◌^◌, ◌≡◌, ◌≤◌, ◌<◌, ◌⊎◌, ℕ, List, [], ◌∷◌, ◌++◌, length, Option, IfSome, codes}
+use Rattle.std.specs.Prelude.{◌≡◌, ◌⊎◌, ℕ, List, [], ◌∷◌, Option, codes}
 use Rattle.fints_cli.specs.declared.failing.Failure.{Failure}
 use Rattle.fints_cli.specs.declared.failing.Failure.TheVariants.{Input, Unread}
-use Rattle.fints_cli.specs.declared.reading.LoadFault.{LoadFault}
-use Rattle.fints_cli.specs.declared.reading.LoadFault.TheVariants.{Unreadable, TooLong, TooManyCalls, Memory}
 use Rattle.fints_texts.specs.declared.fault.Fault.TheVariants as texts
-use Rattle.fints_cli.specs.Streams.{ReadCounts, one_more, IsFile}
+use Rattle.fints_files.specs.Streams.{ReadCounts}
+use Rattle.fints_files.specs.Loading.{HasFailed, IsLonger, AreUsedUp}
 use Rattle.fints_words.specs.declared.words.Request.{Request}
 use Rattle.fints_words.specs.declared.words.Request.TheVariants.{BuiltIn, Show, Judge, Check, Explain, Certify, Verify}
 use Rattle.fints_words.specs.declared.words.Request.TheVariants as requests
@@ -53,29 +52,6 @@ files_of (Explain named) = script_files named
 files_of (Certify named) = script_files named
 files_of (Verify named certificate) = verify_files named certificate.now
 files_of (requests.Run named only) = run_files named
-
--- one read more failed
-abbrev pub HasFailed : ReadCounts → ReadCounts → Type 0
-HasFailed before after = after.failed ≡ one_more before.failed
-
--- a file whose bytes are told is longer than its limit
-abbrev pub IsLonger : Option (List ℕ) → ℕ → Type 0
-IsLonger held limit = IfSome held (λ bytes. limit < length bytes)
-
--- a sink took the bytes of a file, at most so many
-abbrev pub IsTakenFrom : {S : Type 0} → (List ℕ → S → Type 0) → Option (List ℕ) → ℕ → S → Type 0
-IsTakenFrom Holds held limit sink = (bytes : List ℕ) × IsFile held bytes × (length bytes ≤ limit) × Holds bytes sink
-
--- as many reads were asked for as one file may take
-abbrev pub AreUsedUp : ReadCounts → ReadCounts → Type 0
-AreUsedUp before after = min (before.calls + 5000000) (2 ^ 64 - 1) ≤ after.calls
-
--- why a file wasn't loaded, unless memory ran out
-abbrev pub IsLoadFault : LoadFault → Option (List ℕ) → ℕ → ReadCounts → ReadCounts → Type 0
-IsLoadFault (Unreadable cause) held limit before after = HasFailed before after
-IsLoadFault TooLong held limit before after = IsLonger held limit
-IsLoadFault TooManyCalls held limit before after = AreUsedUp before after
-IsLoadFault Memory held limit before after = Unit {0}
 
 -- what lets a file be answered as unread: a read failed; it is longer than its limit, or doesn't tell its bytes; or as many reads were asked for as one file may take
 abbrev pub IsUnreadable : Option (List ℕ) → ℕ → ReadCounts → ReadCounts → Type 0

@@ -1,8 +1,8 @@
 //! The commands, from words to a status.
 ghost use Rattle.std.specs.Prelude.{◌≡◌, ◌≤◌, ◌<◌, ◌+◌, ◌-◌, ◌*◌, ◌^◌, ◌⊎◌, ◌↔◌, min, ℕ, List, [], ◌∷◌, codes, false, IfOk, IfErr};
-ghost use Rattle.fints_cli.specs.Streams.{Gets, GetsNothing, GetsPrefix, IsFile, one_more};
+ghost use Rattle.fints_files.specs.Streams.{Gets, GetsNothing, GetsPrefix, IsFile, one_more};
 ghost use Rattle.fints_params.specs.Captures.{IsReadOf};
-ghost use Rattle.fints_cli.specs.Captures.{IsReadFrom};
+ghost use Rattle.fints_files.specs.Captures.{IsReadFrom};
 ghost use Rattle.fints_cli.specs.BuiltIn as texts;
 ghost use Rattle.fints_words.specs.declared.words.Request.TheVariants as request;
 ghost use Rattle.fints_texts.specs.Judge.{IsVerdictOf};
@@ -17,11 +17,8 @@ ghost use Rattle.fints_cli.specs.Commands.{failure_status, IsJudgeFailure, Shows
 ghost use Rattle.fints_words.specs.declared.words.Asked.TheVariants as asked;
 
 use crate::built_in;
-use crate::capture::{Capture, ReadCapture};
-use crate::emitting::emit;
 use crate::failing::{Failure, Refusal, refused, unread};
-use crate::reading::{MAX_CALLS, load, load_into};
-use crate::streams::{Files, Out};
+use fints_files::{Capture, Files, MAX_CALLS, Out, ReadCapture, emit, load, load_into};
 use fints_hints::Inputs;
 use fints_params::{ParamFault, Params};
 use fints_reports::{Wanted, run_case, tell_read, tell_script, verify_read};

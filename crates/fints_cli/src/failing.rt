@@ -2,10 +2,10 @@
 ghost use Rattle.std.specs.Prelude.{◌≡◌, ◌≢◌};
 ghost use Rattle.fints_cli.specs.Commands.{failure_status, IsUnloaded, IsUnreadAs};
 ghost use Rattle.fints_cli.specs.declared.failing.Failure.TheVariants as failure;
-ghost use Rattle.fints_cli.specs.declared.reading.LoadFault.TheVariants as load_fault;
+ghost use Rattle.fints_files.specs.declared.reading.LoadFault.TheVariants as load_fault;
 ghost use Rattle.fints_texts.specs.declared.fault.Fault.TheVariants as texts;
 
-use crate::reading::LoadFault;
+use fints_files::LoadFault;
 use fints_hints::{Inputs, hint};
 use fints_texts::Fault;
 use std::alloc::{AllocError, Global};

@@ -1,6 +1,6 @@
 use Rattle.std.proofs.Common.{subst, refl, inr}
 use Rattle.std.specs.Prelude.{string_bytes}
-use Rattle.fints_cli.specs.Streams.{GetsPrefix}
+use Rattle.fints_files.specs.Streams.{GetsPrefix}
 use Rattle.fints_cli.proofs.CommandLemmas.{cut_answer}
 use Rattle.fints_cli.proofs.commands.respond.Goals as goal
 

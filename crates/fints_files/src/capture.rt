@@ -1,21 +1,31 @@
 //! A capture that is read while its file comes.
 ghost use Rattle.std.specs.Prelude.{ℕ, List, []};
 ghost use Rattle.fints_params.specs.Captures.{IsReadOf};
-ghost use Rattle.fints_cli.specs.Captures.{HoldsCapture};
+ghost use Rattle.fints_files.specs.Captures.{HoldsCapture};
 
 use crate::reading::Sink;
+use fints_params::laws::any_cutting;
 use fints_params::{ParamFault, ParamReader, Params};
 use fints_syntax::Memory;
 use std::alloc::Global;
+use std::marker::Model;
 
-/// What the pieces of a capture gave so far. A syntax fault is kept, so that the file is read to its
-/// end; so are the bytes, where a hint may need them.
+/// What the pieces of a capture gave so far; a contract sees it. A syntax fault is kept, so that the
+/// file is read to its end; so are the bytes, where a hint may need them.
 #[derive(Drop)]
 pub struct Capture {
     reader: ParamReader,
     fault: Option<ParamFault>,
     keeps: bool,
     bytes: Vec<u8>,
+}
+
+impl Model for Capture {
+    ghost use Rattle.fints_files.specs.Captures.{Fed};
+
+    ghost Value = { Fed };
+
+    ghost view = { λ c. record { reader = c.reader; fault = c.fault } };
 }
 
 /// What a whole capture gave, and its bytes, where they were kept.
@@ -42,6 +52,7 @@ impl Capture {
     pub fn end(self) -> ReadCapture
         ensures { (bytes : List ℕ) → HoldsCapture bytes self → IsReadOf bytes result.params }
     {
+        any_cutting();
         let Capture {
             reader,
             fault,

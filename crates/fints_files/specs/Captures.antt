@@ -4,16 +4,20 @@ use Rattle.fints_params.specs.Pieces.{Received, IsPieceFault}
 use Rattle.fints_params.specs.declared.fault.ParamFault.{ParamFault}
 use Rattle.fints_params.specs.Parameters.{Rows}
 use Rattle.fints_params.specs.Captures.{IsReadOf}
-use Rattle.fints_cli.specs.Streams.{IsFile}
-use Rattle.fints_cli.specs.declared.capture.Capture.{Capture}
+use Rattle.fints_files.specs.Streams.{IsFile}
+
+-- what reads a capture as its file comes: a reader, and the fault that it met
+pub record Fed : Type 0 where
+  pub reader : Received
+  pub fault : Option ParamFault
 
 -- the reader has taken the bytes, or met a fault in a front of them
 abbrev pub IsFed : List ℕ → Received → Option ParamFault → Type 0
 IsFed bytes reader None = reader ≡ record { bytes = bytes; failed = None }
 IsFed bytes reader (Some f) = (front more : List ℕ) × (bytes ≡ front ++ more) × IsPieceFault front f
 
-abbrev pub HoldsCapture : List ℕ → Capture → Type 0
-HoldsCapture bytes capture = IsFed bytes capture.reader capture.fault
+abbrev pub HoldsCapture : List ℕ → Fed → Type 0
+HoldsCapture bytes fed = IsFed bytes fed.reader fed.fault
 
 -- what was answered where the parameters of a file were read
 abbrev pub IsReadFrom : Option (List ℕ) → Result Rows ParamFault → Type 0

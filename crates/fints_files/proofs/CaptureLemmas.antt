@@ -9,7 +9,7 @@ use Rattle.fints_params.specs.Parameters.{Rows}
 use Rattle.fints_params.specs.Pieces.{Received, IsReceived, IsNotReceived, IsUnfinished, IsPieceFault}
 use Rattle.fints_params.specs.declared.fault.ParamFault.{ParamFault}
 use Rattle.fints_params.specs.declared.fault.ParamFault.TheVariants.{Memory}
-use Rattle.fints_cli.specs.Captures.{IsFed}
+use Rattle.fints_files.specs.Captures.{IsFed}
 
 -- ---- a piece more
 
