@@ -1,39 +1,42 @@
 -- A capture that is read while it comes.
-use Rattle.std.proofs.Common.{◌≡◌, ◌≢◌, ℕ, List, [], ◌++◌, refl, ap, ◌∙◌, sym, subst, inl, inr, append_assoc, Option, Some, None, Result, Ok, Err}
+use Rattle.std.proofs.Common.{◌≡◌, ◌≢◌, ℕ, true, false, List, [], ◌++◌, ap, ◌∙◌, sym, subst, inl, inr, append_assoc, Option, Some, None, Result, Ok, Err}
+use Rattle.std.specs.Option.{is_some}
 use Rattle.std.specs.Prelude.{IfOk, IfErr}
 use Rattle.std.proofs.lemmas.List.{append-nil}
 use Rattle.fints_params.specs.Captures.{IsParamsOf, IsParamFault, IsReadOf}
 use Rattle.fints_params.specs.Faults.{IsMemoryOr}
 use Rattle.fints_params.specs.Laws.{PieceFaultIsParamFault}
 use Rattle.fints_params.specs.Parameters.{Rows}
-use Rattle.fints_params.specs.Pieces.{Received, IsReceived, IsNotReceived, IsUnfinished, IsPieceFault}
+use Rattle.fints_params.specs.Pieces.{Received, IsNotReceived, IsUnfinished, IsPieceFault}
 use Rattle.fints_params.specs.declared.fault.ParamFault.{ParamFault}
 use Rattle.fints_params.specs.declared.fault.ParamFault.TheVariants.{Memory}
 use Rattle.fints_files.specs.Captures.{IsFed}
 
 -- ---- a piece more
 
-pub fed_more : (old new : Received) (piece : List ℕ) → IsReceived old piece new → (bytes : List ℕ) → IsFed bytes old None → IsFed (bytes ++ piece) new None
-fed_more old new piece h bytes e = h.kept ∙ ap (λ (r : Received). record { bytes = r.bytes ++ piece; failed = None }) e
-
 stopped_at : (old new : Received) (failed : Option ℕ) (piece : List ℕ) (f : ParamFault) → failed ≡ None → f ≢ Memory → IsNotReceived failed old piece f new → IsPieceFault (old.bytes ++ piece) f
 stopped_at old new (Some o) piece f e n h = absurd cc
 stopped_at old new None piece f e n (inl (m, same)) = absurd (n m)
 stopped_at old new None piece f e n (inr (fault, at, is, now)) = (fault, at, is)
 
-pub fed_fault : (old new : Received) (piece : List ℕ) (f : ParamFault) → f ≢ Memory → IsNotReceived old.failed old piece f new → (bytes : List ℕ) → IsFed bytes old None → IsFed (bytes ++ piece) new (Some f)
-fed_fault old new piece f n h bytes e =
+pub fed_fault : (fault : Option ParamFault) (old new : Received) (piece : List ℕ) (f : ParamFault) → is_some fault ≡ false → f ≢ Memory → IsNotReceived old.failed old piece f new → (bytes : List ℕ) → IsFed bytes old fault → IsFed (bytes ++ piece) new (Some f)
+fed_fault (Some g) old new piece f none n h bytes e = absurd cc
+fed_fault None old new piece f none n h bytes e =
     let met = stopped_at old new old.failed piece f (ap (λ (r : Received). r.failed) e) n h in
     (bytes ++ piece, [], sym (append-nil (bytes ++ piece)), subst (λ (xs : List ℕ). IsPieceFault (xs ++ piece) f) (ap (λ (r : Received). r.bytes) e) met)
 
-pub fed_after : (fault : Option ParamFault) (reader : Received) (piece : List ℕ) → fault ≢ None → (bytes : List ℕ) → IsFed bytes reader fault → IsFed (bytes ++ piece) reader fault
-fed_after None reader piece some bytes h = absurd (some refl)
+pub fed_after : (fault : Option ParamFault) (reader : Received) (piece : List ℕ) → is_some fault ≡ true → (bytes : List ℕ) → IsFed bytes reader fault → IsFed (bytes ++ piece) reader fault
+fed_after None reader piece some bytes h = absurd cc
 fed_after (Some f) reader piece some bytes (front, more, e, h) = (front, more ++ piece, ap (λ (xs : List ℕ). xs ++ piece) e ∙ append_assoc front more piece, h)
 
 -- ---- the end
 
-pub read_fault : (law : PieceFaultIsParamFault) (reader : Received) (f : ParamFault) → (bytes : List ℕ) → IsFed bytes reader (Some f) → IsReadOf bytes (Err f)
-read_fault law reader f bytes (front, more, e, h) = inr (subst (λ (xs : List ℕ). IsParamFault xs f) (sym e) (law front more f h))
+pub read_fault : (law : PieceFaultIsParamFault) (reader : Received) (fault : Option ParamFault) (f : ParamFault) → fault ≡ Some f → (bytes : List ℕ) → IsFed bytes reader fault → IsReadOf bytes (Err f)
+read_fault law reader None f is bytes h = absurd cc
+read_fault law reader (Some g) f is bytes (front, more, e, h) =
+    let same : g ≡ f = cc in
+    let piece : IsPieceFault front f = subst (IsPieceFault front) same h in
+    inr (subst (λ (xs : List ℕ). IsParamFault xs f) (sym e) (law front more f piece))
 
 pub read_end : (reader : Received) (read : Result Rows ParamFault) → IfOk read (λ rows. (reader.failed ≡ None) × IsParamsOf reader.bytes rows) → IfErr read (λ f. IsUnfinished reader.failed reader f) → (bytes : List ℕ) → IsFed bytes reader None → IsReadOf bytes read
 read_end reader (Ok rows) good bad bytes e = subst (λ (xs : List ℕ). IsParamsOf xs rows) (ap (λ (r : Received). r.bytes) e) good.1

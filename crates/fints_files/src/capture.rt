@@ -1,5 +1,5 @@
 //! A capture that is read while its file comes.
-ghost use Rattle.std.specs.Prelude.{ℕ, List, []};
+ghost use Rattle.std.specs.Prelude.{◌≡◌, ℕ, List, []};
 ghost use Rattle.fints_params.specs.Captures.{IsReadOf};
 ghost use Rattle.fints_files.specs.Captures.{HoldsCapture};
 
@@ -59,11 +59,26 @@ impl Capture {
             bytes,
             ..
         } = self;
-        let params = match fault {
-            Some(fault) => Err(fault),
-            None => reader.finish(),
-        };
-        ReadCapture { params, bytes }
+        match fault {
+            Some(fault) => ReadCapture {
+                params: Err(fault),
+                bytes,
+            },
+            None => ReadCapture {
+                params: reader.finish(),
+                bytes,
+            },
+        }
+    }
+
+    // Keeps the bytes, where a hint may need them.
+    fn keep(&mut self, piece: &[u8]) -> Result<(), Memory>
+        ensures { self.new ≡ self.old }
+    {
+        if self.keeps {
+            self.bytes.extend_from_slice(piece)?;
+        }
+        Ok(())
     }
 }
 
@@ -71,19 +86,17 @@ impl Sink for Capture {
     ghost holds = { HoldsCapture };
 
     fn take(&mut self, piece: &[u8]) -> Result<(), Memory> {
-        if self.keeps {
-            self.bytes.extend_from_slice(piece)?;
-        }
+        self.keep(piece)?;
         if self.fault.is_some() {
             return Ok(());
         }
         match self.reader.feed(piece) {
             Ok(()) => Ok(()),
-            Err(ParamFault::Memory) => Err(Memory),
-            Err(fault) => {
-                self.fault = Some(fault);
+            Err(ParamFault::Syntax(fault)) => {
+                self.fault = Some(ParamFault::Syntax(fault));
                 Ok(())
             }
+            Err(_) => Err(Memory),
         }
     }
 }
