@@ -17,7 +17,7 @@ fn cut_segment(rt: HostRuntime) -> Result<(), Fail> {
     let [segment] = second.as_slice() else {
         return Err(Fail::from("one segment"));
     };
-    assert_eq!(rt; segment.head.id.as_bytes(), b"HKEND");
+    assert_eq!(rt; segment.head.id.as_bytes(), b"HKEND".as_slice());
     assert_eq!(rt; segment.head.number, 3);
     assert_eq!(rt; segment.head.version, 1);
     assert_eq!(rt; feeder.finish().err(), None);
@@ -63,9 +63,10 @@ fn feed_again(feeder: &mut Feeder, piece: &[u8]) -> Result<Vec<OwnedSegment>, Sy
 #[test]
 fn fed_again(rt: HostRuntime) -> Result<(), Fail> {
     let mut feeder = Feeder::new(rt.alloc());
-    let mut segments = 0;
+    let mut segments: usize = 0;
     for byte in C {
-        segments += feed_again(&mut feeder, &[*byte])?.len();
+        let fed = feed_again(&mut feeder, &[*byte])?;
+        segments = fed.len().saturating_add(segments);
     }
     assert_eq!(rt; segments, 10);
     assert_eq!(rt; feeder.finish().err(), None);

@@ -11,10 +11,8 @@ fn syntax(kind: SyntaxKind, offset: usize) -> Option<ParamFault> {
 
 // The last order of C, and its last account.
 fn end_as_c(params: &Params) -> bool {
-    params
-        .orders()
-        .last()
-        .is_some_and(|it| it.kind.as_bytes() == b"HKTAN" && it.version == 6)
+    params.orders().last().is_some_and(|it| it.kind.as_bytes() == b"HKTAN".as_slice()
+        && it.version == 6)
         && params
             .accounts()
             .last()
