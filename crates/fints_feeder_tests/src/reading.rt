@@ -22,7 +22,7 @@ fn end_as_c(params: &Params) -> bool {
 // The parameters of C.
 fn are_of_c(params: &Params) -> bool {
     params.bank().code.as_slice() == b"10020030".as_slice()
-        && params.bank().kilobytes == 300
+        && params.bank().kilobytes == 0
         && params.orders().len() == 5
         && params.pins().len() == 3
         && params.usage() == Usage::Locked
