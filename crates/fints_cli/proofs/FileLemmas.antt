@@ -32,18 +32,18 @@ of_files P (Some a) (Some b) (Some c) x y z h i j p = subst (λ r. P a b r) j (s
 pub files_judged : (a b c : Option (List ℕ)) (params : Result Rows ParamFault) (y z : List ℕ) (status : ℕ) (text : List ℕ) → IsReadFrom a params → IsFile b y → IsFile c z → ((capture : List ℕ) → IsReadOf capture params → IsVerdictOf capture y z status text) → JudgesFile a b c status text
 files_judged a b c params y z status text (x, h, read) i j p = of_files (λ q r s. IsVerdictOf q r s status text) a b c x y z h i j (p x read)
 
-pub files_failed : (a b c : Option (List ℕ)) (params : Result Rows ParamFault) (y z : List ℕ) (f : Failure) → IsReadFrom a params → IsFile b y → IsFile c z → ((capture : List ℕ) → IsReadOf capture params → IsJudgeFailure capture y z f) → FailsToJudge a b c f
-files_failed a b c params y z (Unread named) (x, h, read) i j p = absurd (p x read)
-files_failed a b c params y z (Input f) (x, h, read) i j p = of_files (λ q r s. IsJudgeRefusal q r s f) a b c x y z h i j (p x read)
+pub files_failed : (a b c : Option (List ℕ)) (params : Result Rows ParamFault) (y z : List ℕ) (f : Failure) → ((capture : List ℕ) → IsReadOf capture params → IsJudgeFailure capture y z f) → IsReadFrom a params → IsFile b y → IsFile c z → FailsToJudge a b c f
+files_failed a b c params y z (Unread named) p (x, h, read) i j = absurd (p x read)
+files_failed a b c params y z (Input f) p (x, h, read) i j = of_files (λ q r s. IsJudgeRefusal q r s f) a b c x y z h i j (p x read)
 
 pub files_told : (wanted : Wanted) (holds : List ℕ → Option (List ℕ)) (named : ScriptFiles) (params : Result Rows ParamFault) (y z : List ℕ) (status : ℕ) (text : List ℕ) → IsReadFrom (holds named.params.now) params → IsFile (holds named.orders.now) y → IsFile (holds named.script.now) z
     → ((capture : List ℕ) → IsReadOf capture params → IsToldOf wanted capture y z status text) → TellsFiles wanted holds named status text
 files_told wanted holds named params y z status text (x, h, read) i j p = of_files (λ q r s. IsToldOf wanted q r s status text) (holds named.params.now) (holds named.orders.now) (holds named.script.now) x y z h i j (p x read)
 
-pub files_not_told : (holds : List ℕ → Option (List ℕ)) (named : ScriptFiles) (params : Result Rows ParamFault) (y z : List ℕ) (f : Failure) → IsReadFrom (holds named.params.now) params → IsFile (holds named.orders.now) y → IsFile (holds named.script.now) z
-    → ((capture : List ℕ) → IsReadOf capture params → IsScriptFailure capture y z f) → FailsToTell holds named f
-files_not_told holds named params y z (Unread option) (x, h, read) i j p = absurd (p x read)
-files_not_told holds named params y z (Input f) (x, h, read) i j p = of_files (λ q r s. IsRefused q r s f) (holds named.params.now) (holds named.orders.now) (holds named.script.now) x y z h i j (p x read)
+pub files_not_told : (holds : List ℕ → Option (List ℕ)) (named : ScriptFiles) (params : Result Rows ParamFault) (y z : List ℕ) (f : Failure) → ((capture : List ℕ) → IsReadOf capture params → IsScriptFailure capture y z f) → IsReadFrom (holds named.params.now) params → IsFile (holds named.orders.now) y → IsFile (holds named.script.now) z
+    → FailsToTell holds named f
+files_not_told holds named params y z (Unread option) p (x, h, read) i j = absurd (p x read)
+files_not_told holds named params y z (Input f) p (x, h, read) i j = of_files (λ q r s. IsRefused q r s f) (holds named.params.now) (holds named.orders.now) (holds named.script.now) x y z h i j (p x read)
 
 pub files_verified : (holds : List ℕ → Option (List ℕ)) (named : ScriptFiles) (path : List ℕ) (params : Result Rows ParamFault) (y z w : List ℕ) (status : ℕ) (text : List ℕ) → IsReadFrom (holds named.params.now) params → IsFile (holds named.orders.now) y → IsFile (holds named.script.now) z → IsFile (holds path) w
     → ((capture : List ℕ) → IsReadOf capture params → IsVerifiedOf capture y z w status text) → VerifiesFiles holds named path status text
@@ -51,10 +51,10 @@ files_verified holds named path params y z w status text (x, h, read) i j k p =
     of_files (λ q r s. IfSome (holds path) (λ l. IsVerifiedOf q r s l status text)) (holds named.params.now) (holds named.orders.now) (holds named.script.now) x y z h i j
     (of_file (λ l. IsVerifiedOf x y z l status text) (holds path) w k (p x read))
 
-pub files_not_verified : (holds : List ℕ → Option (List ℕ)) (named : ScriptFiles) (path : List ℕ) (params : Result Rows ParamFault) (y z w : List ℕ) (f : Failure) → IsReadFrom (holds named.params.now) params → IsFile (holds named.orders.now) y → IsFile (holds named.script.now) z → IsFile (holds path) w
-    → ((capture : List ℕ) → IsReadOf capture params → IsVerifyFailure capture y z w f) → FailsToVerify holds named path f
-files_not_verified holds named path params y z w (Unread option) (x, h, read) i j k p = absurd (p x read)
-files_not_verified holds named path params y z w (Input f) (x, h, read) i j k p =
+pub files_not_verified : (holds : List ℕ → Option (List ℕ)) (named : ScriptFiles) (path : List ℕ) (params : Result Rows ParamFault) (y z w : List ℕ) (f : Failure) → ((capture : List ℕ) → IsReadOf capture params → IsVerifyFailure capture y z w f) → IsReadFrom (holds named.params.now) params → IsFile (holds named.orders.now) y → IsFile (holds named.script.now) z → IsFile (holds path) w
+    → FailsToVerify holds named path f
+files_not_verified holds named path params y z w (Unread option) p (x, h, read) i j k = absurd (p x read)
+files_not_verified holds named path params y z w (Input f) p (x, h, read) i j k =
     of_files (λ q r s. IfSome (holds path) (λ l. IsUnverified q r s l f)) (holds named.params.now) (holds named.orders.now) (holds named.script.now) x y z h i j
     (of_file (λ l. IsUnverified x y z l f) (holds path) w k (p x read))
 

@@ -11,7 +11,8 @@ use Rattle.fints_files.specs.declared.reading.LoadFault.{LoadFault}
 use Rattle.fints_files.specs.declared.reading.LoadFault.TheVariants as load_faults
 use Rattle.fints_texts.specs.declared.fault.Fault.TheVariants as texts
 use Rattle.fints_cli.specs.Commands.{IsUnloaded, IsJudgeFailure, IsScriptFailure, IsVerifyFailure, failure_status}
-use Rattle.fints_cli.specs.Loading.{NamedFile, IsLoadFault, NoneFailed, FollowsReading}
+use Rattle.fints_cli.specs.Loading.{NamedFile, NoneFailed, FollowsReading}
+use Rattle.fints_files.specs.Loading.{IsLoadFault}
 use Rattle.fints_files.specs.Streams.{ReadCounts}
 
 -- a file that wasn't loaded, by the option that named it

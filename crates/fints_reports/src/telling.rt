@@ -1,5 +1,5 @@
 //! What is told of a script, from the texts of its inputs.
-ghost use Rattle.std.specs.Prelude.{◌≡◌, ℕ, List, IfOk, IfErr};
+ghost use Rattle.std.specs.Prelude.{◌≡◌, ◌≤◌, ℕ, List, IfOk, IfErr};
 ghost use Rattle.fints_params.specs.Captures.{IsReadOf};
 ghost use Rattle.fints_reports.specs.Plans.{IsPlanRefusal};
 ghost use Rattle.fints_reports.specs.Told.{IsRefused, IsToldBy, IsToldOf, IsToldOn};
@@ -74,6 +74,7 @@ pub fn tell_read(
     script: &[u8],
     wanted: Wanted,
 ) -> Result<Reply, Fault>
+    ensures status { IfOk result (λ reply. reply.status ≤ 1) }
     ensures told { IfOk result (λ reply. (capture : List ℕ) → IsReadOf capture params → IsToldOf wanted capture orders.now script.now reply.status reply.text.items) }
     ensures refused { IfErr result (λ f. (capture : List ℕ) → IsReadOf capture params → IsRefused capture orders.now script.now f) }
 {

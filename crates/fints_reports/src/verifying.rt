@@ -1,5 +1,5 @@
 //! Whether a certificate is closed, from the texts of its inputs.
-ghost use Rattle.std.specs.Prelude.{◌≡◌, ◌↔◌, ℕ, List, IsTrue, IfOk, IfErr};
+ghost use Rattle.std.specs.Prelude.{◌≡◌, ◌≤◌, ◌↔◌, ℕ, List, IsTrue, IfOk, IfErr};
 ghost use Rattle.fints_certs.specs.CertTexts.{IsCertificateOf};
 ghost use Rattle.fints_params.specs.Captures.{IsReadOf};
 ghost use Rattle.fints_reports.specs.Verified.{IsCertificateRefusal, IsUnverified, IsVerifiedBy, IsVerifiedOf, IsVerifiedOn, IsVerifyRefusal, TellsWhether};
@@ -87,6 +87,7 @@ pub fn verify_read(
     script: &[u8],
     certificate: &[u8],
 ) -> Result<Reply, Fault>
+    ensures status { IfOk result (λ reply. reply.status ≤ 1) }
     ensures told { IfOk result (λ reply. (capture : List ℕ) → IsReadOf capture params → IsVerifiedOf capture orders.now script.now certificate.now reply.status reply.text.items) }
     ensures refused { IfErr result (λ f. (capture : List ℕ) → IsReadOf capture params → IsUnverified capture orders.now script.now certificate.now f) }
 {

@@ -1,5 +1,5 @@
 //! The text of `judge`: the rules that a message breaks.
-ghost use Rattle.std.specs.Prelude.{◌≡◌, ◌++◌, ℕ, List, OnOk, IfOk, IfErr, string_bytes};
+ghost use Rattle.std.specs.Prelude.{◌≡◌, ◌≤◌, ◌++◌, ℕ, List, OnOk, IfOk, IfErr, string_bytes};
 ghost use Rattle.fints_params.specs.Captures.{IsReadOf};
 ghost use Rattle.std.specs.List.{flat_map};
 ghost use Rattle.fints_texts.specs.Judge.{broken_line, last_line, verdict_text, verdict_status, IsVerdictBy, IsVerdictOf, IsMessageRefusal, IsJudgeRefusal};
@@ -82,6 +82,7 @@ pub fn judge_read(
     orders: &[u8],
     message: &[u8],
 ) -> Result<Reply, Fault>
+    ensures status { IfOk result (λ reply. reply.status ≤ 1) }
     ensures judged { IfOk result (λ reply. (capture : List ℕ) → IsReadOf capture params → IsVerdictOf capture orders.now message.now reply.status reply.text.items) }
     ensures refused { IfErr result (λ f. (capture : List ℕ) → IsReadOf capture params → IsJudgeRefusal capture orders.now message.now f) }
 {

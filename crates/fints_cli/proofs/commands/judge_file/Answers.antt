@@ -1,8 +1,13 @@
-use Rattle.std.proofs.Common.{◌∙◌}
+use Rattle.std.proofs.Common.{rules, ◌∙◌}
 use Rattle.std.proofs.lemmas.Result.{IfErr-weaker}
 use Rattle.fints_cli.specs.Loading.{judge_files}
+use Rattle.fints_cli.proofs.FileLemmas.{files_failed}
 use Rattle.fints_cli.proofs.ReasonLemmas.{judge_follows}
 use Rattle.fints_cli.proofs.commands.judge_file.Goals as goal
+
+pub returns-clause-refused : goal.returns-clause-refused
+returns-clause-refused g c =
+    IfErr-weaker c.judge_loaded.result _ _ (λ r h. files_failed (g.F.Files.holds c.args.files.now c.args.params.now) (g.F.Files.holds c.args.files.now c.args.orders.now) (g.F.Files.holds c.args.files.now c.args.message.now) _ _ _ r.failure h c.in_ok-capture.ensures.exact (search rules) (search rules)) c.judge_loaded.ensures.refused
 
 pub returns-clause-reason : goal.returns-clause-reason
 returns-clause-reason g c =

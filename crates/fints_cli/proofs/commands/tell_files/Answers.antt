@@ -1,8 +1,13 @@
-use Rattle.std.proofs.Common.{◌∙◌}
+use Rattle.std.proofs.Common.{rules, ◌∙◌}
 use Rattle.std.proofs.lemmas.Result.{IfErr-weaker}
 use Rattle.fints_cli.specs.Loading.{script_files}
+use Rattle.fints_cli.proofs.FileLemmas.{files_not_told}
 use Rattle.fints_cli.proofs.ReasonLemmas.{tell_follows}
 use Rattle.fints_cli.proofs.commands.tell_files.Goals as goal
+
+pub returns-clause-refused : goal.returns-clause-refused
+returns-clause-refused g c =
+    IfErr-weaker c.tell_loaded.result _ _ (λ r h. files_not_told (g.F.Files.holds c.args.files.now) c.args.named.now _ _ _ r.failure h c.in_ok-capture.ensures.exact (search rules) (search rules)) c.tell_loaded.ensures.refused
 
 pub returns-clause-reason : goal.returns-clause-reason
 returns-clause-reason g c =

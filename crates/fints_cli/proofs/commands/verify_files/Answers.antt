@@ -1,8 +1,13 @@
-use Rattle.std.proofs.Common.{◌∙◌}
+use Rattle.std.proofs.Common.{rules, ◌∙◌}
 use Rattle.std.proofs.lemmas.Result.{IfErr-weaker}
 use Rattle.fints_cli.specs.Loading.{verify_files}
+use Rattle.fints_cli.proofs.FileLemmas.{files_not_verified}
 use Rattle.fints_cli.proofs.ReasonLemmas.{verify_follows}
 use Rattle.fints_cli.proofs.commands.verify_files.Goals as goal
+
+pub returns-clause-refused : goal.returns-clause-refused
+returns-clause-refused g c =
+    IfErr-weaker c.verify_loaded.result _ _ (λ r h. files_not_verified (g.F.Files.holds c.args.files.now) c.args.named.now c.args.certificate.now _ _ _ _ r.failure h c.in_ok-capture.ensures.exact (search rules) (search rules) (search rules)) c.verify_loaded.ensures.refused
 
 pub returns-clause-reason : goal.returns-clause-reason
 returns-clause-reason g c =
