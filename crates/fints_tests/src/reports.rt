@@ -1,5 +1,6 @@
-//! Reports by `check_text`, and its refusals in their order.
-use fints_cli::{built_in, check_text};
+//! Reports by `check_text` and `report_text`, and the refusals in their order.
+use fints_cli::{built_in, check_text, report_text};
+use fints_params::Params;
 use std::test::Fail;
 
 // A bank that limits messages to a kilobyte.
@@ -62,6 +63,17 @@ fn reports(rt: HostRuntime) -> Result<(), Fail> {
         let text = check_text(rt.alloc(), params, built_in::ORDERS, script)?;
         assert_eq!(rt; text.as_slice(), wanted.as_bytes());
     }
+    Ok(())
+}
+
+#[test]
+fn report_by_parameters(rt: HostRuntime) -> Result<(), Fail> {
+    let params = Params::read(rt.alloc(), built_in::CAPTURE)?;
+    let text = report_text(rt.alloc(), &params, built_in::ORDERS, built_in::SCRIPT)?;
+    assert_eq!(rt;
+        text.as_slice(),
+        "step end number 1 size 55\nclean\n".as_bytes()
+    );
     Ok(())
 }
 
