@@ -269,6 +269,9 @@ def output(lab):
             yield later(lab.hold, f"the output takes {k} bytes", cut, run.words, run.folder, "cut", CUT_WRITE=1, CUT_AFTER=k)
         for how in ("byte", "half"):
             yield later(lab.hold, f"the output takes a part ({how})", run.want, run.words, run.folder, "cut", CUT_WRITE=1, CUT_HOW=how)
+        yield later(lab.hold, "a signal interrupts the output", run.want, run.words, run.folder, "cut", CUT_WRITE=1, CUT_AT=1, CUT_HOW="fail", CUT_ERRNO=errno.EINTR)
+        cut = Ran(5, b"", b"error: write\n")
+        yield later(lab.hold, "signals interrupt each write", cut, run.words, run.folder, "cut", CUT_WRITE=1, CUT_HOW="fail", CUT_ERRNO=errno.EINTR)
         yield later(by_shell, ">&-", run, Ran(5, b"", b"error: write\n"))
         yield later(by_shell, ">/dev/full", run, Ran(5, b"", b"error: write\n"))
         yield later(by_shell, "| true", run, Ran(0, b"", b"error: write\n5\n"), '(sleep 0.2; "$0" "$@"; echo $? >&2)')
@@ -276,6 +279,7 @@ def output(lab):
         for name in names.split():
             it = row(name)
             silent = it.want._replace(err=b"")
+            yield later(lab.hold, f"{name}: a signal interrupts standard error", it.want, it.words, it.folder, "cut", CUT_WRITE=2, CUT_AT=1, CUT_HOW="fail", CUT_ERRNO=errno.EINTR)
             yield later(by_shell, "2>&-", it, silent)
             yield later(by_shell, "2>/dev/full", it, silent)
             yield later(lab.hold, f"{name}: standard error fails", silent, it.words, it.folder, "cut", CUT_WRITE=2, CUT_HOW="fail")

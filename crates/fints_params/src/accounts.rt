@@ -1,7 +1,6 @@
 //! HIUPA and HIUPD.
-ghost use Rattle.std.specs.Prelude.{◌≡◌, ◌≤◌, ℕ, List, map, drop, length, IfOk, IfErr, Some, None};
-ghost use Rattle.std.specs.List.{filter_map, count_by};
-ghost use Rattle.fints_segments.specs.Segment.{item_value};
+ghost use Rattle.std.specs.Prelude.{◌≡◌, ◌++◌, ◌∷◌, [], drop, IfOk, IfErr, None};
+ghost use Rattle.std.specs.List.{cons_option, filter_map, count_by};
 ghost use Rattle.fints_params.specs.Accounts.{is_empty_element, entry_kind, entry_of, is_odd_element, account_row, usage_of, usage_fault, entry_elements};
 ghost use Rattle.fints_params.specs.Faults.{IsBad};
 
@@ -57,62 +56,51 @@ fn is_blank(items: &ElementRef<'_>) -> bool
     }
 }
 
-fn is_odd(items: &ElementRef<'_>) -> bool
-    ensures { result ≡ is_odd_element items.now }
+// Adds the entry that the element is. The answer is how many elements are skipped and counted: 1
+// where it is neither an entry nor empty.
+fn take_element(items: &ElementRef<'_>, entries: &mut Vec<Entry>) -> Result<usize, AllocError>
+    ensures entries { IfOk result (λ _. entries.new.items ≡ entries.old.items ++ cons_option (entry_of items.now) []) }
+    ensures skipped { IfOk result (λ n. n ≡ count_by is_odd_element (items.now ∷ [])) }
 {
-    !is_blank(items) && read_entry(items).is_none()
+    match read_entry(items) {
+        Some(entry) => {
+            entries.push(entry)?;
+            Ok(0)
+        }
+        None => {
+            if is_blank(items) {
+                return Ok(0);
+            }
+            Ok(1)
+        }
+    }
 }
 
-// The entries among the elements from 11 on.
-fn entries_of(alloc: Global, elements: &Elements) -> Result<Vec<Entry>, AllocError>
-    ensures { IfOk result (λ v. v.items ≡ filter_map entry_of (drop 9 elements.now)) }
+// The entries among the elements from 11 on, and how many others are skipped and counted.
+fn entries_of(alloc: Global, elements: &Elements) -> Result<(Vec<Entry>, usize), AllocError>
+    ensures entries { IfOk result (λ r. r.0.items ≡ filter_map entry_of (drop 9 elements.now)) }
+    ensures skipped { IfOk result (λ r. r.1 ≡ count_by is_odd_element (drop 9 elements.now)) }
 {
     let mut entries = Vec::new(alloc);
+    let mut skipped = 0;
     let mut at = FIRST_ENTRY;
     while at < elements.len() {
-        if let Some(entry) = read_entry(&elements.items(at)) {
-            entries.push(entry)?;
-        }
+        skipped += take_element(&elements.items(at), &mut entries)?;
         at += 1;
     }
-    Ok(entries)
+    Ok((entries, skipped))
 }
 
-// How many of the elements from 11 on are neither empty nor an entry.
-fn odd_elements(elements: &Elements) -> usize
-    ensures { result ≡ count_by is_odd_element (drop 9 elements.now) }
+/// What HIUPD says, and how many of its elements are skipped and counted.
+pub fn read_account(
+    alloc: Global,
+    segment: &OwnedSegment,
+) -> Result<(AccountRow, usize), AllocError>
+    ensures row { IfOk result (λ r. r.0 ≡ account_row segment.now) }
+    ensures skipped { IfOk result (λ r. r.1 ≡ count_by is_odd_element (entry_elements segment.now)) }
 {
-    let mut count = 0;
-    let mut at = FIRST_ENTRY;
-    while at < elements.len() {
-        if is_odd(&elements.items(at)) {
-            count += 1;
-        }
-        at += 1;
-    }
-    count
-}
-
-/// How many elements of HIUPD are skipped and counted.
-pub fn odd_entries(segment: &OwnedSegment) -> usize
-    ensures { result ≡ count_by is_odd_element (entry_elements segment.now) }
-{
-    odd_elements(&segment.elements)
-}
-
-fn read_entries(alloc: Global, segment: &OwnedSegment) -> Result<Entries, AllocError>
-    ensures { IfOk result (λ v. v ≡ filter_map entry_of (entry_elements segment.now)) }
-{
-    let entries = entries_of(alloc, &segment.elements)?;
-    Ok(Entries::new(entries))
-}
-
-/// What HIUPD says.
-pub fn read_account(alloc: Global, segment: &OwnedSegment) -> Result<AccountRow, AllocError>
-    ensures { IfOk result (λ r. r ≡ account_row segment.now) }
-{
-    let entries = read_entries(alloc, segment)?;
-    Ok(AccountRow {
+    let (entries, skipped) = entries_of(alloc, &segment.elements)?;
+    let row = AccountRow {
         national: National {
             number: copy(alloc, segment.value(2, 1))?,
             subaccount: copy(alloc, segment.value(2, 2))?,
@@ -120,6 +108,7 @@ pub fn read_account(alloc: Global, segment: &OwnedSegment) -> Result<AccountRow,
             bank: copy(alloc, segment.value(2, 4))?,
         },
         iban: copy(alloc, segment.value(3, 1))?,
-        entries,
-    })
+        entries: Entries::new(entries),
+    };
+    Ok((row, skipped))
 }

@@ -5,7 +5,7 @@ ghost use Rattle.fints_params.specs.Taken.{Adds, IsTakeFault, SoFar};
 use crate::fault::ParamFault;
 use crate::gathered::Gathered;
 use crate::opening::Reader;
-use crate::taking::{take_account, take_bank, take_order, take_pins, take_skipped, take_usage};
+use crate::taking::{take_account, take_bank, take_order, take_pins, take_usage};
 use fints_syntax::OwnedSegment;
 use std::alloc::Global;
 
@@ -31,9 +31,9 @@ fn take(alloc: Global, segment: &OwnedSegment, rows: &mut Gathered) -> Result<()
     take_bank(alloc, segment, &mut rows.bank)?;
     take_usage(segment, &mut rows.usages)?;
     take_pins(segment, &mut rows.pins, &mut rows.has_pins)?;
-    take_order(segment, &mut rows.orders)?;
-    take_account(alloc, segment, &mut rows.accounts)?;
-    take_skipped(segment, &mut rows.skipped);
+    let orders = take_order(segment, &mut rows.orders)?;
+    let entries = take_account(alloc, segment, &mut rows.accounts)?;
+    rows.skipped = rows.skipped.saturating_add(orders).saturating_add(entries);
     Ok(())
 }
 

@@ -1,5 +1,5 @@
 //! Segments one after the other, an HNVSD version 1 replaced once by the segments of its data.
-ghost use Rattle.std.specs.Prelude.{◌≡◌, [], ◌∷◌, List, map, option_copied, IfOk, IfErr};
+ghost use Rattle.std.specs.Prelude.{◌≡◌, true, [], ◌∷◌, List, map, option_copied, IfOk, IfErr};
 ghost use Rattle.fints_segments.specs.declared.item.OwnedSegment.{OwnedSegment};
 ghost use Rattle.fints_params.specs.Sealed.{is_sealed, data_of};
 ghost use Rattle.fints_params.specs.Faults.{IsMemoryOr};
@@ -81,18 +81,16 @@ fn add_all<R: Reader>(
     Ok(())
 }
 
-// A segment of a capture, or those of its data.
-fn add_placed<R: Reader>(
+// The segments of the data of an HNVSD.
+fn add_sealed<R: Reader>(
     alloc: Global,
     placed: &PlacedSegment,
     reader: &mut R,
 ) -> Result<(), ParamFault>
+    requires { is_sealed placed.now.segment ≡ true }
     ensures ok { IfOk result (λ _. ContinuesOver R.good reader.old reader.new placed.now) }
     ensures stopped { IfErr result (λ f. IsMemoryOr (StopsAt R.rule R.good reader.old placed.now) f) }
 {
-    if !is_sealed(&placed.segment) {
-        return reader.add(alloc, &placed.segment);
-    }
     let views = open(alloc, placed)?;
     add_all(alloc, views.as_slice(), reader)
 }
@@ -111,8 +109,12 @@ pub fn add_view<R: Reader>(
     ensures stopped { IfErr result (λ f. IsMemoryOr (StopsNext R.rule R.good reader.old (record { start = start; segment = view.now })) f) }
 {
     let segment = view.to_owned_in(elements)?;
+    if !is_sealed(&segment) {
+        reader.add(alloc, &segment)?;
+        return Ok(segment.into_elements());
+    }
     let place = place_of(start, view);
     let placed = PlacedSegment { segment, place };
-    add_placed(alloc, &placed, reader)?;
+    add_sealed(alloc, &placed, reader)?;
     Ok(placed.into_elements())
 }

@@ -1,7 +1,6 @@
 //! Parameter segments: what a bank allows of a kind of orders.
-ghost use Rattle.std.specs.Prelude.{◌≡◌, Some, None};
-ghost use Rattle.fints_params.specs.Orders.{order_kind, order_of, order_in, is_odd_order};
-ghost use Rattle.std.specs.Option.{is_some};
+ghost use Rattle.std.specs.Prelude.{◌≡◌};
+ghost use Rattle.fints_params.specs.Orders.{order_kind, order_of};
 
 use crate::rows::OrderParam;
 use fints_syntax::{Kind, OwnedSegment, parse_number};
@@ -39,20 +38,4 @@ pub fn read_order(segment: &OwnedSegment, kind: Kind) -> Option<OrderParam>
         orders,
         signatures,
     })
-}
-
-fn has_order(segment: &OwnedSegment) -> bool
-    ensures { result ≡ is_some (order_in segment.now) }
-{
-    match kind_of(segment.head.id) {
-        None => false,
-        Some(kind) => read_order(segment, kind).is_some(),
-    }
-}
-
-/// A parameter segment without both numbers.
-pub fn is_odd(segment: &OwnedSegment) -> bool
-    ensures { result ≡ is_odd_order segment.now }
-{
-    kind_of(segment.head.id).is_some() && !has_order(segment)
 }

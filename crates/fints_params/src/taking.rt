@@ -4,15 +4,15 @@ ghost use Rattle.std.specs.List.{filter, filter_map, cons_option, flat_map, list
 ghost use Rattle.fints_params.specs.Bank.{is_bank, bank_row};
 ghost use Rattle.fints_params.specs.Pins.{is_pins, pin_rows};
 ghost use Rattle.fints_params.specs.Accounts.{is_usage, usage_of, is_account, account_row, entry_elements, is_odd_element};
-ghost use Rattle.fints_params.specs.Orders.{order_in};
+ghost use Rattle.fints_params.specs.Orders.{order_in, is_odd_order};
 ghost use Rattle.fints_params.specs.Faults.{IsBad};
-ghost use Rattle.fints_params.specs.Taken.{IsBankFault, capped_sum};
-ghost use Rattle.fints_params.specs.Parameters.{bad_bank, bad_usage, bad_pins, read_each, skipped_in};
+ghost use Rattle.fints_params.specs.Taken.{IsBankFault};
+ghost use Rattle.fints_params.specs.Parameters.{bad_bank, bad_usage, bad_pins, read_each};
 
-use crate::accounts::{odd_entries, read_account, read_usage};
+use crate::accounts::{read_account, read_usage};
 use crate::bank::read_bank;
 use crate::fault::ParamFault;
-use crate::orders::{is_odd, kind_of, read_order};
+use crate::orders::{kind_of, read_order};
 use crate::pins::read_pins;
 use crate::rows::{AccountRow, BankRow, OrderParam, PinRow};
 use fints_syntax::OwnedSegment;
@@ -38,17 +38,22 @@ pub fn take_bank(
     Ok(())
 }
 
-/// A parameter segment gives a row, if it has both numbers.
-pub fn take_order(segment: &OwnedSegment, rows: &mut Vec<OrderParam>) -> Result<(), AllocError>
-    ensures { IfOk result (λ _. rows.new.items ≡ rows.old.items ++ filter_map order_in (segment.now ∷ [])) }
+/// A parameter segment gives a row, if it has both numbers. The answer is how many segments are
+/// skipped and counted: 1 where it has not.
+pub fn take_order(segment: &OwnedSegment, rows: &mut Vec<OrderParam>) -> Result<usize, AllocError>
+    ensures rows { IfOk result (λ _. rows.new.items ≡ rows.old.items ++ filter_map order_in (segment.now ∷ [])) }
+    ensures skipped { IfOk result (λ n. n ≡ count_by is_odd_order (segment.now ∷ [])) }
 {
     let Some(kind) = kind_of(segment.head.id) else {
-        return Ok(());
+        return Ok(0);
     };
-    if let Some(row) = read_order(segment, kind) {
-        rows.push(row)?;
+    match read_order(segment, kind) {
+        Some(row) => {
+            rows.push(row)?;
+            Ok(0)
+        }
+        None => Ok(1),
     }
-    Ok(())
 }
 
 /// HIPINS 1 gives rows.
@@ -70,19 +75,21 @@ pub fn take_pins(
     Ok(())
 }
 
-/// HIUPD 6 gives a row.
+/// HIUPD 6 gives a row. The answer is how many of its elements are skipped and counted.
 pub fn take_account(
     alloc: Global,
     segment: &OwnedSegment,
     rows: &mut Vec<AccountRow>,
-) -> Result<(), AllocError>
-    ensures { IfOk result (λ _. rows.new.items ≡ rows.old.items ++ read_each is_account account_row (segment.now ∷ [])) }
+) -> Result<usize, AllocError>
+    ensures rows { IfOk result (λ _. rows.new.items ≡ rows.old.items ++ read_each is_account account_row (segment.now ∷ [])) }
+    ensures skipped { IfOk result (λ n. n ≡ count_by is_odd_element (flat_map entry_elements (filter is_account (segment.now ∷ [])))) }
 {
     if !segment.is_named(b"HIUPD", 6) {
-        return Ok(());
+        return Ok(0);
     }
-    rows.push(read_account(alloc, segment)?)?;
-    Ok(())
+    let (row, skipped) = read_account(alloc, segment)?;
+    rows.push(row)?;
+    Ok(skipped)
 }
 
 /// HIUPA 4 gives a usage.
@@ -96,25 +103,4 @@ pub fn take_usage(segment: &OwnedSegment, usages: &mut Vec<u32>) -> Result<(), P
     }
     usages.push(read_usage(segment)?)?;
     Ok(())
-}
-
-// How many elements are skipped and counted.
-fn skipped_entries(segment: &OwnedSegment) -> usize
-    ensures { result ≡ count_by is_odd_element (flat_map entry_elements (filter is_account (segment.now ∷ []))) }
-{
-    if segment.is_named(b"HIUPD", 6) {
-        odd_entries(segment)
-    } else {
-        0
-    }
-}
-
-/// Counts what is skipped.
-pub fn take_skipped(segment: &OwnedSegment, skipped: &mut usize)
-    ensures { skipped.new ≡ capped_sum skipped.old (skipped_in (segment.now ∷ [])) }
-{
-    *skipped = skipped.saturating_add(skipped_entries(segment));
-    if is_odd(segment) {
-        *skipped = skipped.saturating_add(1);
-    }
 }

@@ -1,0 +1,211 @@
+#!/usr/bin/env python3
+"""Tries the must-fail edits of crates several at once: edits of different functions stand in one
+check, and each of these functions has to be refused for itself, not for what it calls. What a
+function must meet is its own contract, and it rests on the contracts of others alone, so an edit of
+another function neither helps nor harms. An edit that isn't refused so is tried alone, by
+`rt must-fail`, which says what it came to.
+
+The crates are to be checked before (`rt check`). It works in a copy, which it removes.
+
+Usage: tools/edits-together.py [--gate] [--at-once N] [--only WORD] [CRATE..]
+       none: all that stand in edits/; --gate: those of crates/CRATE/must-fail in place of edits/CRATE
+"""
+import argparse
+import glob
+import os
+import re
+import shutil
+import subprocess
+import sys
+import tempfile
+
+TOP = os.path.dirname(os.path.dirname(os.path.abspath(__file__)))
+# What a line of a function says where it is not refused for itself.
+FOR_ANOTHER = re.compile(r": (no proof|not proved)(: it (calls|passes|waits)|; it waits)")
+# What a proof file's line says where it names what the edit took away.
+LOST_NAME = re.compile(r"has no field|is not in scope|has no `|was not admitted")
+
+
+class Edit:
+    """One must-fail edit: pairs of a file, an old and a new text, each a line."""
+
+    def __init__(self, path, folder):
+        self.path, self.name, self.folder = path, os.path.basename(path), folder
+        self.pairs, file, old = [], None, None
+        for line in open(path, encoding="utf-8").read().split("\n"):
+            if line.startswith("file: "):
+                file = line[len("file: ") :].strip()
+            elif line.startswith("old: "):
+                old = line[len("old: ") :]
+            elif line.startswith("new:") and old is not None:
+                self.pairs.append((file, old, line[len("new:") :].removeprefix(" ")))
+                old = None
+        self.places = self.functions()
+
+    def apply(self, texts):
+        """The texts with the edit, or None where an old text doesn't stand once."""
+        texts = dict(texts)
+        for file, old, new in self.pairs:
+            if file not in texts:
+                texts[file] = open(f"{self.folder}/{file}", encoding="utf-8").read()
+            if texts[file].count(old) != 1:
+                return None
+            texts[file] = texts[file].replace(old, new)
+        return texts
+
+    def functions(self):
+        """The functions that the edit changes, as module and name; None where it changes more."""
+        found, texts = set(), {}
+        for file, old, new in self.pairs:
+            text = texts.get(file) or open(f"{self.folder}/{file}", encoding="utf-8").read()
+            if text.count(old) != 1 or not file.startswith("src/"):
+                return None
+            at = text.index(old)
+            ends = [at + (len(old) - len(old.lstrip())), at + len(old.rstrip()) - 1]
+            names = {function_at(text, end) for end in ends}
+            if None in names or re.search(r"\bfn \w", old) or re.search(r"\bfn \w", new):
+                return None
+            module = re.sub(r"(/mod)?\.rt$", "", file[len("src/") :]).replace("/", "::")
+            found |= {(module, name) for name in names}
+            texts[file] = text.replace(old, new)
+        return found
+
+
+def function_at(text, at):
+    """The name of the function whose body stands at this place of the text."""
+    name = None
+    for head in re.finditer(r"^ *(?:pub(?:\([a-z]+\))? )?(?:const )?fn (\w+)", text, re.M):
+        indent = re.match(r" *", head[0])[0]
+        body = re.compile(rf"^{indent}\{{$|^.*\{{$", re.M).search(text, head.start())
+        end = re.compile(rf"^{indent}\}}$", re.M).search(text, head.start())
+        if body and end and body.end() <= at < end.start():
+            name = head[1]
+    return name
+
+
+def batches(edits, most):
+    """Edits of different functions that can be applied together."""
+    left = [it for it in edits if it.places]
+    while left:
+        taken, places, texts = [], set(), {}
+        for edit in left:
+            applied = None if places & edit.places else edit.apply(texts)
+            if applied is not None and len(taken) < most:
+                taken, places, texts = [*taken, edit], places | edit.places, applied
+        left = [it for it in left if it not in taken]
+        yield taken, texts
+
+
+def refusals(crate, said):
+    """What is said of each function that is refused for itself, by module and name."""
+    found = {}
+    for line in said.split("\n"):
+        told = re.match(rf"fn {crate}::(\S+): (not proved|no proof|could not tell)", line)
+        if told and not FOR_ANOTHER.search(line):
+            found[told[1]] = line
+    return found
+
+
+def refused(edit, found):
+    """Whether each function of the edit is among those that are refused, itself or by a closure."""
+    for module, name in edit.places:
+        inside = module + "::" if module not in ("lib", "main") else ""
+        paths = [it for it in found if it.startswith(inside)]
+        parts = [it[len(inside) :].split("+")[0].split("::") for it in paths]
+        if not any(it[-1] == name or "fn" in it and name in it for it in parts):
+            return False
+    return True
+
+
+def only_names(edit, said):
+    """Whether all that is said against the edit's functions is that a proof file names what is gone."""
+    lines = [it for it in said.split("\n") if re.match(r"(note: )?\S+:\d+:\d+:", it)]
+    for module, name in edit.places:
+        mine = [it for it in lines if f"proofs/{module.replace('::', '/')}/" in it and f"/{name}/" in it]
+        source = [it for it in lines if f"src/{module.replace('::', '/')}.rt" in it]
+        if not mine or source or any(not LOST_NAME.search(it) for it in mine):
+            return False
+    return True
+
+
+def check(room, crate, texts):
+    """What a check of the crate says with these texts in place of its own."""
+    folder, were = f"{room}/crates/{crate}", {}
+    for file, text in texts.items():
+        were[file] = open(f"{folder}/{file}", encoding="utf-8").read()
+        open(f"{folder}/{file}", "w", encoding="utf-8").write(text)
+    try:
+        ran = subprocess.run(["rt", "check", "--jobs", "1"], cwd=folder, capture_output=True, text=True, errors="replace", stdin=subprocess.DEVNULL)
+    finally:
+        for file, text in were.items():
+            open(f"{folder}/{file}", "w", encoding="utf-8").write(text)
+    return ran.stdout + ran.stderr
+
+
+def tried_alone(room, crate, edits):
+    """Tries these by rt must-fail; the number of those that were not refused."""
+    into = f"{room}/crates/{crate}/must-fail"
+    os.makedirs(into)
+    for edit in edits:
+        shutil.copy(edit.path, into)
+    ran = subprocess.run(["rt", "must-fail", crate], cwd=room, stdout=subprocess.PIPE, text=True, errors="replace", stdin=subprocess.DEVNULL)
+    shutil.rmtree(into)
+    told = [it for it in ran.stdout.split("\n") if it.startswith("must-fail ")]
+    print(*told, sep="\n", flush=True)
+    return sum(": refused, as it must be" not in it for it in told) + max(0, len(edits) - len(told))
+
+
+def try_crate(room, crate, paths, most):
+    """Tries a crate's edits; how many were refused, and how many were not."""
+    edits = [Edit(it, f"{room}/crates/{crate}") for it in paths]
+    alone, passed = [it for it in edits if not it.places], 0
+    for taken, texts in batches(edits, most):
+        said = check(room, crate, texts)
+        found = refusals(crate, said)
+        for edit in taken:
+            if refused(edit, found):
+                passed += 1
+                little = " (only because a proof file names what the edit took away)" * only_names(edit, said)
+                print(f"{crate}/{edit.name}: refused, with {len(taken) - 1} others{little}", flush=True)
+            else:
+                alone.append(edit)
+    failed = tried_alone(room, crate, alone) if alone else 0
+    return passed + len(alone) - failed, failed
+
+
+def copy_to(room, crates):
+    """Copies the repository without its edits; what was proved of other crates is left out."""
+
+    def left_out(folder, names):
+        name = os.path.basename(os.path.dirname(folder))
+        proved = ["incremental"] * (os.path.basename(folder) == "out" and name not in crates)
+        return [it for it in names if it in ("must-fail", *proved)]
+
+    for name in ("crates.txt", "HANDLES"):
+        shutil.copy2(f"{TOP}/{name}", room)
+    shutil.copytree(f"{TOP}/crates", f"{room}/crates", symlinks=True, ignore=left_out)
+
+
+def main():
+    words = argparse.ArgumentParser(description=__doc__, formatter_class=argparse.RawDescriptionHelpFormatter)
+    words.add_argument("--gate", action="store_true")
+    words.add_argument("--at-once", type=int, default=12, metavar="N")
+    words.add_argument("--only", default="", metavar="WORD")
+    words.add_argument("crates", nargs="*", metavar="CRATE")
+    given = words.parse_args()
+    where = f"{TOP}/crates/*/must-fail" if given.gate else f"{TOP}/edits/*"
+    crate_of = lambda path: path.split("/")[-3 if given.gate else -2]
+    paths = sorted(it for it in glob.glob(f"{where}/*.edit") if given.only in it)
+    crates = given.crates or sorted({crate_of(it) for it in paths})
+    passed = failed = 0
+    with tempfile.TemporaryDirectory(prefix="edits-") as room:
+        copy_to(room, crates)
+        for crate in crates:
+            good, bad = try_crate(room, crate, [it for it in paths if crate_of(it) == crate], given.at_once)
+            passed, failed = passed + good, failed + bad
+    print(f"{passed} passed, {failed} failed")
+    return 1 if failed else 0
+
+
+if __name__ == "__main__":
+    sys.exit(main())
