@@ -278,7 +278,7 @@ def stack_table(room, wanted):
             ends = [" or ".join(dict.fromkeys(ended(room.run(words, stack=it)) for words in both)) for it in STACKS]
             need = max(stack_need(room, words) for words in both)
             print(f"{label:56} {depth:10,} {need:6,}  " + " ".join(f"{it:>10}" for it in ends), flush=True)
-    for label, words in (("the built-in report", []), ("a report on the whole dialogue", dialogue())):
+    for label, words in (("the built-in report", []), ("an explanation of examples/dialogue/second-signature.toml", dialogue())):
         print(f"{label:56} {'':10} {stack_need(room, words):6,}", flush=True)
 
 

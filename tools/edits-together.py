@@ -150,8 +150,8 @@ def tried_alone(room, crate, edits):
         shutil.copy(edit.path, into)
     ran = subprocess.run(["rt", "must-fail", crate], cwd=room, stdout=subprocess.PIPE, text=True, errors="replace", stdin=subprocess.DEVNULL)
     shutil.rmtree(into)
-    told = [it for it in ran.stdout.split("\n") if it.startswith("must-fail ")]
-    print(*told, sep="\n", flush=True)
+    told = [it.removeprefix("rt: ") for it in ran.stdout.split("\n") if it.removeprefix("rt: ").startswith("must-fail ")]
+    print(*told or ran.stdout.split("\n"), sep="\n", flush=True)
     return sum(": refused, as it must be" not in it for it in told) + max(0, len(edits) - len(told))
 
 

@@ -18,10 +18,10 @@ fn write_value(alloc: Global, out: &mut Vec<u8>, value: &[u8]) -> Result<(), Mem
 {
     if value.is_empty() {
         out.push(b'-')?;
-    } else {
-        let digits = hex::encode(alloc, value)?;
-        out.extend_from_slice(digits.as_bytes())?;
+        return Ok(());
     }
+    let digits = hex::encode(alloc, value)?;
+    out.extend_from_slice(digits.as_bytes())?;
     Ok(())
 }
 

@@ -29,7 +29,7 @@ use std::alloc::Global;
 // A capture or a message has at most this many bytes.
 const MAX_CAPTURE: usize = 4_194_304;
 
-// An order table, a script or a case has at most this many bytes.
+// An order table, a script, a case or a certificate has at most this many bytes.
 const MAX_TEXT: usize = 1_048_576;
 
 // Loads the file of an option.
@@ -330,8 +330,8 @@ fn run_files<F: Files>(
     run_loaded(alloc, &inputs, only, hints)
 }
 
-/// Answers a request over the files, all of which are read before any is looked at. A refusal has
-/// a hint where that is asked for.
+/// Answers a request over the files, all of which are read before any fault of what stands in them
+/// is told. A refusal has a hint where that is asked for.
 pub fn perform<F: Files>(
     alloc: Global,
     request: &Request<'_>,

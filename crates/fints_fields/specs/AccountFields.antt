@@ -1,4 +1,4 @@
--- What an account value keeps inside. Private contracts alone cite these words.
+-- What an account value keeps inside. The model of `AccountValue` alone cites these words.
 use Rattle.std.specs.Prelude.{◌≡◌, List, ℕ}
 use Rattle.fints_fields.specs.Listed.{account_text}
 use Rattle.fints_fields.specs.declared.listed.AccountValue.TheInside.{Inside}

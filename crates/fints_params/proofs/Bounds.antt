@@ -15,7 +15,7 @@ use Rattle.fints_params.specs.Sealed.{data_of, data_len}
 use Rattle.fints_params.specs.Parameters.{skipped_in}
 use Rattle.fints_syntax.specs.Streams.{place_in}
 use Rattle.fints_params.specs.Opened.{Part, part, closed, ReadsAs, DataStandFor, SealedStandsFor, StandsFor, StandFor, IsPlacedValue, IsValuesOf}
-use Rattle.fints_params.specs.Steps.{IsWithin, CanCountSkipped}
+use Rattle.fints_params.specs.Steps.{IsWithin}
 use Rattle.fints_params.proofs.RowsSoFar.{skipped_more}
 use Rattle.fints_params.proofs.Sizes.{data_within, skipped_within}
 
@@ -104,6 +104,10 @@ read_skips capture placed parts v h =
     let r = v.read.2 in
     let zip = subst (λ (vs : List syntax.Placed). AllZip IsPlacedValue vs placed) (sym r.placed_are) v.each in
     omega (arith, all_skips 0 r.pieces placed parts r.each zip h, ap length r.text, length-append (flat_map piece_bytes r.pieces) v.read.0)
+
+-- fewer things than a number can count are skipped
+abbrev pub CanCountSkipped : List PlacedSegment → Type 0
+CanCountSkipped placed = (segments : List OwnedSegment) → StandFor placed (map part segments) → skipped_in segments < 2 ^ 32
 
 -- the number of things skipped fits
 pub can_count : (capture : List ℕ) (placed : List PlacedSegment) → IsValuesOf capture placed → CanCountSkipped placed

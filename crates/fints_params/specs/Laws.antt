@@ -1,4 +1,4 @@
--- The laws of what captures tell: their bytes have one meaning at most. Each is the contract of a public function.
+-- The laws of what captures tell: their bytes have one meaning at most. Each but `SyntaxLaws` is the contract of a public function.
 use Rattle.std.specs.Prelude.{◌≡◌, ◌++◌, ℕ, List, None}
 use Rattle.std.specs.List.{flat_map}
 use Rattle.fints_syntax.specs.Laws.{OneCapture, NoCaptureAtFault, OnePlacedCapture, OneCaptureFault}

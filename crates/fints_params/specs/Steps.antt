@@ -1,5 +1,5 @@
--- What a reader that goes from segment to segment has read so far, and where it stops. Private contracts alone cite these words.
-use Rattle.std.specs.Prelude.{◌≡◌, ◌⊎◌, ◌+◌, ◌<◌, ◌≤◌, ◌^◌, ℕ, ◌∷◌, [], ◌++◌, List, length, map, Option, Some, None}
+-- What a reader that goes from segment to segment has read so far, and where it stops. Private contracts and, by `Inside`, the invariant of `ParamReader` alone cite these words.
+use Rattle.std.specs.Prelude.{◌≡◌, ◌⊎◌, ◌+◌, ◌≤◌, ℕ, ◌∷◌, [], ◌++◌, List, length, map, Option, Some, None}
 use Rattle.std.specs.List.{AllZip}
 use Rattle.fints_segments.specs.Segment.{segment_bytes}
 use Rattle.fints_syntax.specs.Capture.{MAX_CAPTURE}
@@ -9,7 +9,6 @@ use Rattle.fints_syntax.specs.declared.stream.ReadTo.{ReadTo}
 use Rattle.fints_segments.specs.declared.item.OwnedSegment.{OwnedSegment}
 use Rattle.fints_params.specs.declared.fault.ParamFault.{ParamFault}
 use Rattle.fints_params.specs.declared.placed.PlacedSegment.{PlacedSegment}
-use Rattle.fints_params.specs.Parameters.{skipped_in}
 use Rattle.fints_params.specs.Sealed.{data_of}
 use Rattle.fints_params.specs.Opened.{Part, part, closed, StandsFor, SealedStandsFor, StandFor, IsPlacedValue, IsValuesOf}
 use Rattle.fints_params.specs.Captures.{Rule, IsRefusedAfter, IsRefusedIn, IsSyntaxFault}
@@ -43,10 +42,6 @@ IsClosedBy p f = SealedStandsFor p (data_of p.segment) (closed f ∷ [])
 -- the segment ends within the longest capture
 abbrev pub IsWithin : syntax.Placed → Type 0
 IsWithin view = view.start + length (segment_bytes view.segment) ≤ MAX_CAPTURE
-
--- fewer things than a number can count are skipped
-abbrev pub CanCountSkipped : List PlacedSegment → Type 0
-CanCountSkipped placed = (segments : List OwnedSegment) → StandFor placed (map part segments) → skipped_in segments < 2 ^ 32
 
 -- a placed segment's view is read next, or stops the reader
 abbrev pub ReadsNext : {S : Type 0} → (List OwnedSegment → S → Type 0) → S → S → syntax.Placed → Type 0

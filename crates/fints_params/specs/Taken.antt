@@ -1,4 +1,4 @@
--- What a segment adds to the rows so far. Private contracts alone cite these words.
+-- What a segment adds to the rows so far. Private contracts and, by `Inside`, the invariant of `ParamReader` alone cite these words.
 use Rattle.std.specs.Prelude.{◌≡◌, ℕ, ◌+◌, ◌-◌, ◌^◌, min, ◌||◌, ◌&&◌, true, not, if◌then◌else◌, List, [], ◌∷◌, ◌++◌, map, Option, Some, None}
 use Rattle.std.specs.List.{filter, filter_map, flat_map, cons_option}
 use Rattle.fints_segments.specs.declared.item.OwnedSegment.{OwnedSegment}

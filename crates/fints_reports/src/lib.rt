@@ -11,5 +11,5 @@ mod verifying;
 mod writing;
 
 pub use running::run_case;
-pub use telling::{Wanted, check_text, report_text, tell, tell_read, tell_script};
+pub use telling::{Wanted, tell, tell_read, tell_script};
 pub use verifying::{verify_certificate, verify_read, verify_script};

@@ -1,9 +1,8 @@
 //! What is told of a script, from the texts of its inputs.
-ghost use Rattle.std.specs.Prelude.{◌≡◌, ◌≤◌, ℕ, List, IfOk, IfErr};
+ghost use Rattle.std.specs.Prelude.{◌≤◌, ℕ, List, IfOk, IfErr};
 ghost use Rattle.fints_params.specs.Captures.{IsReadOf};
 ghost use Rattle.fints_reports.specs.Plans.{IsPlanRefusal};
 ghost use Rattle.fints_reports.specs.Told.{IsRefused, IsToldBy, IsToldOf, IsToldOn};
-ghost use Rattle.fints_reports.specs.declared.telling.Wanted.TheVariants as wanted_is;
 
 use crate::certifying::certify;
 use crate::explaining::explain;
@@ -98,37 +97,4 @@ pub fn tell_script(
     ensures refused { IfErr result (λ f. IsRefused params.now orders.now script.now f) }
 {
     tell_read(alloc, Params::read(alloc, params), orders, script, wanted)
-}
-
-/// The text of the report on a script by good parameters, with the refusals of `tell`.
-pub fn report_text(
-    alloc: Global,
-    params: &Params,
-    orders: &[u8],
-    script: &[u8],
-) -> Result<Vec<u8>, Fault>
-    ensures told { IfOk result (λ text. (status : ℕ) × IsToldOn wanted_is.Report params.now orders.now script.now status text.items) }
-    ensures refused { IfErr result (λ f. IsPlanRefusal orders.now script.now f) }
-{
-    let reply = tell(alloc, params, orders, script, Wanted::Report)?;
-    Ok(reply.text)
-}
-
-/// The text of the report on a script by a capture. The refusal of the capture comes before the
-/// others.
-pub fn check_text(
-    alloc: Global,
-    params: &[u8],
-    orders: &[u8],
-    script: &[u8],
-) -> Result<Vec<u8>, Fault>
-    ensures told { IfOk result (λ text. (status : ℕ) × IsToldOf wanted_is.Report params.now orders.now script.now status text.items) }
-    ensures refused { IfErr result (λ f. IsRefused params.now orders.now script.now f) }
-{
-    let params = match Params::read(alloc, params) {
-        Ok(params) => params,
-        Err(fault) => return Err(Fault::from(fault)),
-    };
-    let text = report_text(alloc, &params, orders, script)?;
-    Ok(text)
 }

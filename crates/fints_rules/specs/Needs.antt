@@ -1,4 +1,4 @@
--- The entries of accounts in the order in which they are looked for. Only private contracts cite this file.
+-- The entries of accounts in the order in which they are looked for. Private contracts and the invariant of `Permissions` alone cite this file.
 use Rattle.std.specs.Prelude.{ℕ, ◌≡◌, ◌≤◌, Bool, true, false, List, [], ◌∷◌, Option, Some, None, Contains, slice_get}
 use Rattle.std.specs.Cmp.Lexicographic.{slice_cmp}
 use Rattle.std.specs.List.{flat_map}

@@ -21,7 +21,7 @@ pub enum SyntaxKind {
     BadHead,
     /// A capture passes 4,194,304 bytes, which is the offset. `parse_segment` never answers it.
     CaptureTooLong,
-    /// What reads a stream has met a fault before, at the offset. A `Feeder` alone answers it.
+    /// What reads a stream has met a fault before, at the offset. A feeder and a reader of parameters alone answer it.
     Failed,
 }
 
