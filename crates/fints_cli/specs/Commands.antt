@@ -11,8 +11,9 @@ use Rattle.fints_words.specs.declared.words.ScriptFiles.{ScriptFiles}
 use Rattle.fints_words.specs.declared.words.Asked.{Asked}
 use Rattle.fints_words.specs.declared.words.Asked.TheVariants.{Help, Usage, NoMemory, Run}
 use Rattle.fints_cli.specs.BuiltIn as built_in
-use Rattle.fints_cli.specs.Loading.{files_of, NoneFailed, FollowsReading}
+use Rattle.fints_cli.specs.Loading.{files_of, FollowsReading}
 use Rattle.fints_files.specs.Streams.{ReadCounts, Gets, GetsNothing, GetsPrefix, one_more}
+use Rattle.fints_files.specs.Loading.{NoneFailed}
 use Rattle.fints_texts.specs.Show.{IsShowOf, IsMemoryOrShowFault}
 use Rattle.fints_texts.specs.Judge.{IsVerdictOf, IsJudgeRefusal}
 use Rattle.fints_reports.specs.Told.{IsRefused, IsToldOf}

@@ -2,9 +2,8 @@
 use Rattle.std.specs.Prelude.{◌≡◌, ◌⊎◌, ℕ, List, [], ◌∷◌, Option, codes}
 use Rattle.fints_cli.specs.declared.failing.Failure.{Failure}
 use Rattle.fints_cli.specs.declared.failing.Failure.TheVariants.{Input, Unread}
-use Rattle.fints_texts.specs.declared.fault.Fault.TheVariants as texts
 use Rattle.fints_files.specs.Streams.{ReadCounts}
-use Rattle.fints_files.specs.Loading.{HasFailed, IsLonger, AreUsedUp}
+use Rattle.fints_files.specs.Loading.{HasFailed, NoneFailed, IsLonger, AreUsedUp}
 use Rattle.fints_words.specs.declared.words.Request.{Request}
 use Rattle.fints_words.specs.declared.words.Request.TheVariants.{BuiltIn, Show, Judge, Check, Explain, Certify, Verify}
 use Rattle.fints_words.specs.declared.words.Request.TheVariants as requests
@@ -63,12 +62,7 @@ HasUnreadable [] holds before after option = ⊥
 HasUnreadable (file ∷ files) holds before after option =
     ((option ≡ file.option) × IsUnreadable (holds file.path) file.limit before after) ⊎ HasUnreadable files holds before after option
 
--- no read failed
-abbrev pub NoneFailed : ReadCounts → ReadCounts → Type 0
-NoneFailed before after = after.failed ≡ before.failed
-
--- a failure after these files were read: one of them may be answered as unread, or none failed and an input is refused, or memory ran out
+-- a failure after these files were read: one of them may be answered as unread, or no read failed, and an input is refused or memory ran out
 abbrev pub FollowsReading : List NamedFile → (List ℕ → Option (List ℕ)) → ReadCounts → ReadCounts → Failure → Type 0
 FollowsReading files holds before after (Unread option) = HasUnreadable files holds before after option.now
-FollowsReading files holds before after (Input texts.Memory) = Unit {0}
 FollowsReading files holds before after (Input f) = NoneFailed before after

@@ -12,13 +12,14 @@ ghost use Rattle.fints_reports.specs.Told.{IsToldOf};
 ghost use Rattle.fints_reports.specs.declared.telling.Wanted.TheVariants as wants;
 ghost use Rattle.fints_reports.specs.RunText.{IsRunOf};
 ghost use Rattle.fints_reports.specs.Verified.{IsVerifiedOf};
-ghost use Rattle.fints_cli.specs.Loading.{wire_file, script_files, judge_files, verify_files, run_files, files_of, NoneFailed, FollowsReading};
+ghost use Rattle.fints_cli.specs.Loading.{wire_file, script_files, judge_files, verify_files, run_files, files_of, FollowsReading};
+ghost use Rattle.fints_files.specs.Loading.{MAX_READS, NoneFailed};
 ghost use Rattle.fints_cli.specs.Commands.{failure_status, IsJudgeFailure, ShowsFile, JudgesFile, FailsToJudge, TellsFiles, IsScriptFailure, FailsToTell, IsRunFailure, RunsFiles, FailsToRun, IsVerifyFailure, VerifiesFiles, FailsToVerify, AnswersTo, IsUnloaded, IsShowFailure, FailsToShow, FailsFor, IsAnswered, IsCutOff, IsResponse, IsUsage, FailsToRead, FailsWith};
 ghost use Rattle.fints_words.specs.declared.words.Asked.TheVariants as asked;
 
 use crate::built_in;
 use crate::failing::{Failure, Refusal, refused, unread};
-use fints_files::{Capture, Files, MAX_CALLS, Out, ReadCapture, emit, load, load_into};
+use fints_files::{Capture, Files, Out, ReadCapture, emit, load, load_into};
 use fints_hints::Inputs;
 use fints_params::{ParamFault, Params};
 use fints_reports::{Wanted, run_case, tell_read, tell_script, verify_read};
@@ -41,12 +42,12 @@ fn load_option<F: Files>(
     limit: usize,
     hints: bool,
 ) -> Result<Vec<u8>, Refusal>
-    ensures calls { (F.reads files.new).calls ≤ (F.reads files.old).calls + MAX_CALLS }
+    ensures calls { (F.reads files.new).calls ≤ (F.reads files.old).calls + MAX_READS }
     ensures keeps { F.holds files.new ≡ F.holds files.old }
     ensures exact { IfOk result (λ bytes. IsFile (F.holds files.old path.now) bytes.items) }
     ensures unread { IfErr result (λ r. IsUnloaded option.now r.failure) }
     ensures counted { min ((F.reads files.old).calls) (2 ^ 64 - 1) ≤ (F.reads files.new).calls }
-    ensures fine { IfOk result (λ _. (F.reads files.new).failed ≡ (F.reads files.old).failed) }
+    ensures fine { IfOk result (λ _. NoneFailed (F.reads files.old) (F.reads files.new)) }
     ensures reason { IfErr result (λ r.
         FollowsReading (record { option = option.now; path = path.now; limit = limit } ∷ []) (F.holds files.old) (F.reads files.old) (F.reads files.new) r.failure) }
 {
@@ -64,12 +65,12 @@ fn load_capture<F: Files>(
     path: &str,
     hints: bool,
 ) -> Result<ReadCapture, Refusal>
-    ensures calls { (F.reads files.new).calls ≤ (F.reads files.old).calls + MAX_CALLS }
+    ensures calls { (F.reads files.new).calls ≤ (F.reads files.old).calls + MAX_READS }
     ensures keeps { F.holds files.new ≡ F.holds files.old }
     ensures exact { IfOk result (λ capture. IsReadFrom (F.holds files.old path.now) capture.params) }
     ensures unread { IfErr result (λ r. IsUnloaded (codes "params") r.failure) }
     ensures counted { min ((F.reads files.old).calls) (2 ^ 64 - 1) ≤ (F.reads files.new).calls }
-    ensures fine { IfOk result (λ _. (F.reads files.new).failed ≡ (F.reads files.old).failed) }
+    ensures fine { IfOk result (λ _. NoneFailed (F.reads files.old) (F.reads files.new)) }
     ensures reason { IfErr result (λ r.
         FollowsReading (wire_file (codes "params") path.now ∷ []) (F.holds files.old) (F.reads files.old) (F.reads files.new) r.failure) }
 {
@@ -129,7 +130,7 @@ fn tell_files<F: Files>(
     ensures refused { IfErr result (λ r. FailsToTell (F.holds files.old) named.now r.failure) }
     ensures read { IfOk result (λ _. NoneFailed (F.reads files.old) (F.reads files.new)) }
     ensures reason { IfErr result (λ r. FollowsReading (script_files named.now) (F.holds files.old) (F.reads files.old) (F.reads files.new) r.failure) }
-    ensures calls { (F.reads files.new).calls ≤ (F.reads files.old).calls + 3 * MAX_CALLS }
+    ensures calls { (F.reads files.new).calls ≤ (F.reads files.old).calls + 3 * MAX_READS }
     ensures keeps { F.holds files.new ≡ F.holds files.old }
 {
     let capture = load_capture(alloc, files, named.params, hints)?;
@@ -183,7 +184,7 @@ fn verify_files<F: Files>(
     ensures read { IfOk result (λ _. NoneFailed (F.reads files.old) (F.reads files.new)) }
     ensures reason { IfErr result (λ r.
         FollowsReading (verify_files named.now certificate.now) (F.holds files.old) (F.reads files.old) (F.reads files.new) r.failure) }
-    ensures calls { (F.reads files.new).calls ≤ (F.reads files.old).calls + 4 * MAX_CALLS }
+    ensures calls { (F.reads files.new).calls ≤ (F.reads files.old).calls + 4 * MAX_READS }
     ensures keeps { F.holds files.new ≡ F.holds files.old }
 {
     let capture = load_capture(alloc, files, named.params, hints)?;
@@ -225,7 +226,7 @@ fn show_file<F: Files>(
     ensures read { IfOk result (λ _. NoneFailed (F.reads files.old) (F.reads files.new)) }
     ensures reason { IfErr result (λ r.
         FollowsReading (wire_file (codes "params") params.now ∷ []) (F.holds files.old) (F.reads files.old) (F.reads files.new) r.failure) }
-    ensures calls { (F.reads files.new).calls ≤ (F.reads files.old).calls + MAX_CALLS }
+    ensures calls { (F.reads files.new).calls ≤ (F.reads files.old).calls + MAX_READS }
     ensures keeps { F.holds files.new ≡ F.holds files.old }
 {
     let capture = load_option(alloc, files, "params", params, MAX_CAPTURE, hints)?;
@@ -270,7 +271,7 @@ fn judge_file<F: Files>(
     ensures read { IfOk result (λ _. NoneFailed (F.reads files.old) (F.reads files.new)) }
     ensures reason { IfErr result (λ r.
         FollowsReading (judge_files params.now orders.now message.now) (F.holds files.old) (F.reads files.old) (F.reads files.new) r.failure) }
-    ensures calls { (F.reads files.new).calls ≤ (F.reads files.old).calls + 3 * MAX_CALLS }
+    ensures calls { (F.reads files.new).calls ≤ (F.reads files.old).calls + 3 * MAX_READS }
     ensures keeps { F.holds files.new ≡ F.holds files.old }
 {
     let capture = load_capture(alloc, files, params, hints)?;
@@ -315,7 +316,7 @@ fn run_files<F: Files>(
     ensures refused { IfErr result (λ r. FailsToRun (F.holds files.old) named.now only r.failure) }
     ensures read { IfOk result (λ _. NoneFailed (F.reads files.old) (F.reads files.new)) }
     ensures reason { IfErr result (λ r. FollowsReading (run_files named.now) (F.holds files.old) (F.reads files.old) (F.reads files.new) r.failure) }
-    ensures calls { (F.reads files.new).calls ≤ (F.reads files.old).calls + 3 * MAX_CALLS }
+    ensures calls { (F.reads files.new).calls ≤ (F.reads files.old).calls + 3 * MAX_READS }
     ensures keeps { F.holds files.new ≡ F.holds files.old }
 {
     let orders = load_option(alloc, files, "orders", named.orders, MAX_TEXT, hints)?;
@@ -343,7 +344,7 @@ pub fn perform<F: Files>(
     ensures refused { IfErr result (λ r. FailsFor request.now (F.holds files.old) r.failure) }
     ensures read { IfOk result (λ _. NoneFailed (F.reads files.old) (F.reads files.new)) }
     ensures reason { IfErr result (λ r. FollowsReading (files_of request.now) (F.holds files.old) (F.reads files.old) (F.reads files.new) r.failure) }
-    ensures calls { (F.reads files.new).calls ≤ (F.reads files.old).calls + 4 * MAX_CALLS }
+    ensures calls { (F.reads files.new).calls ≤ (F.reads files.old).calls + 4 * MAX_READS }
     ensures keeps { F.holds files.new ≡ F.holds files.old }
 {
     match request {
@@ -453,7 +454,7 @@ pub fn respond<F: Files, O: Out, E: Out>(
         × (O.failed_calls out.new ≡ one_more (O.failed_calls out.old))) }
     ensures unread { IsUsage asked.now → (F.reads files.new).calls ≡ (F.reads files.old).calls }
     ensures read { result ≤ 3 → NoneFailed (F.reads files.old) (F.reads files.new) }
-    ensures calls { (F.reads files.new).calls ≤ (F.reads files.old).calls + 4 * MAX_CALLS }
+    ensures calls { (F.reads files.new).calls ≤ (F.reads files.old).calls + 4 * MAX_READS }
 {
     match asked {
         Asked::Help(text) => deliver(text.as_bytes(), 0, out, err),
@@ -485,7 +486,7 @@ pub fn execute<F: Files, O: Out, E: Out>(
     ensures status { result ≤ 5 }
     ensures responds { (what : Asked) × (words.now ≡ [] → what ≡ asked.Run request.BuiltIn false)
         × IsResponse what (F.holds files.old) (F.reads files.old) (F.reads files.new) (O.failed_calls out.old) (O.failed_calls out.new) result (O.told out.old) (O.told out.new) }
-    ensures calls { (F.reads files.new).calls ≤ (F.reads files.old).calls + 4 * MAX_CALLS }
+    ensures calls { (F.reads files.new).calls ≤ (F.reads files.old).calls + 4 * MAX_READS }
 {
     let asked = read_words(alloc, words);
     respond(alloc, &asked, files, out, err)

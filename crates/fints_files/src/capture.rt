@@ -11,7 +11,7 @@ use std::alloc::Global;
 use std::marker::Model;
 
 /// What the pieces of a capture gave so far; a contract sees it. A syntax fault is kept, so that the
-/// file is read to its end; so are the bytes, where a hint may need them.
+/// file is read to its end. So are the bytes, where a hint may need them; of these no clause speaks.
 #[derive(Drop)]
 pub struct Capture {
     reader: ParamReader,

@@ -6,4 +6,4 @@ returns-in-Ok-clause-exact g c = let taken = c.in-Ok.ensures.exact in (taken.0, 
 
 pub returns-in-Err-clause-reason : goal.returns-in-Err-clause-reason
 returns-in-Err-clause-reason g c =
-    option_unread c.in-Err.fault _ c.args.path.now _ (g.F.Files.holds c.args.files.now) (g.F.Files.reads c.args.files.now) (g.F.Files.reads c.load_into.new.files) c.unread.result.failure c.unread.ensures.memory c.unread.ensures.told c.in-Err.ensures.fault
+    option_unread c.in-Err.fault _ c.args.path.now _ (g.F.Files.holds c.args.files.now) (g.F.Files.reads c.args.files.now) (g.F.Files.reads c.load_into.new.files) c.unread.result.failure c.unread.ensures.memory c.unread.ensures.file c.in-Err.ensures.fault
