@@ -119,7 +119,8 @@ impl Feeder {
 
     /// Takes the places of the segments that the last piece gave, in their order, and leaves none:
     /// for each the offset in the stream of item 1 of element 2, of its data where it is binary, or
-    /// 0 where there is no element 2. It takes no memory.
+    /// 0 where there is no element 2. A piece that was refused for want of memory counts as none. It
+    /// takes no memory.
     pub fn take_places(&mut self) -> Vec<usize>
         ensures places { result.items ≡ self.old.places }
         ensures left { self.new ≡ record self.old { places = [] } }
