@@ -20,10 +20,6 @@ HasFailed before after = after.failed ≡ one_more before.failed
 abbrev pub IsLonger : Option (List ℕ) → ℕ → Type 0
 IsLonger held limit = IfSome held (λ bytes. limit < length bytes)
 
--- and one that isn't
-abbrev pub IsWithin : Option (List ℕ) → ℕ → Type 0
-IsWithin held limit = IfSome held (λ bytes. length bytes ≤ limit)
-
 -- a sink took the bytes of a file, at most so many
 abbrev pub IsTakenFrom : {S : Type 0} → (List ℕ → S → Type 0) → Option (List ℕ) → ℕ → S → Type 0
 IsTakenFrom Holds held limit sink = (bytes : List ℕ) × IsFile held bytes × (length bytes ≤ limit) × Holds bytes sink
