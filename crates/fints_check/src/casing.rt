@@ -38,7 +38,8 @@ fn choice_of(
     requires to { n ≤ length plan.now.script.steps }
     requires orders { permissions.now.orders ≡ plan.now.orders }
     ensures { (step : StepValue) (other values : List NamedValue) (lower : ℕ) → numbered plan.now.script.steps n ≡ Some step → IsOther rule
-        → Admits plan.now.script.fields other → Breaks permissions.now (message_view plan.now.script step lower other) rule place → IsChoice plan.now.script.fields result values
+        → Admits plan.now.script.fields other → Breaks permissions.now (message_view plan.now.script step lower other) rule place
+        → IsChoice plan.now.script.fields result values
         → Admits plan.now.script.fields values × ((number : ℕ) → Breaks permissions.now (message_view plan.now.script step number values) rule place) }
 {
     templates_decide();

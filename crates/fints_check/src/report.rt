@@ -48,9 +48,21 @@ impl<'a> Model for Report<'a> {
 
     ghost Value = { ReportValue };
 
-    ghost view = { λ r. record { plan = r.plan.now; granted = r.permissions.now; figures = r.figures.items; findings = r.findings.items; numbers = r.numbers.greatest.items; visits = r.numbers.visits } };
+    ghost view = { λ r. record {
+      plan = r.plan.now;
+      granted = r.permissions.now;
+      figures = r.figures.items;
+      findings = r.findings.items;
+      numbers = r.numbers.greatest.items;
+      visits = r.numbers.visits;
+    } };
 
-    ghost invariant = { λ r. (r.permissions.now.orders ≡ r.plan.now.orders) × AreFindings r.permissions.now r.plan.now.script r.findings.items × AreFigures r.plan.now.script r.figures.items × (r.numbers.visits ≡ looked_at r.plan.now.script.steps (map is_some r.figures.items)) × AreGreatest r.plan.now.script.steps r.numbers.greatest.items × AreSources r.plan.now.script.steps r.numbers.greatest.items r.numbers.sources.items };
+    ghost invariant = { λ r. (r.permissions.now.orders ≡ r.plan.now.orders)
+        × AreFindings r.permissions.now r.plan.now.script r.findings.items
+        × AreFigures r.plan.now.script r.figures.items
+        × (r.numbers.visits ≡ looked_at r.plan.now.script.steps (map is_some r.figures.items))
+        × AreGreatest r.plan.now.script.steps r.numbers.greatest.items
+        × AreSources r.plan.now.script.steps r.numbers.greatest.items r.numbers.sources.items };
 }
 
 impl<'a> Report<'a> {

@@ -485,7 +485,8 @@ pub fn execute<F: Files, O: Out, E: Out>(
 ) -> u8
     ensures status { result ≤ 5 }
     ensures responds { (what : Asked) × (words.now ≡ [] → what ≡ asked.Run request.BuiltIn false)
-        × IsResponse what (F.holds files.old) (F.reads files.old) (F.reads files.new) (O.failed_calls out.old) (O.failed_calls out.new) result (O.told out.old) (O.told out.new) }
+        × IsResponse what (F.holds files.old) (F.reads files.old) (F.reads files.new)
+        (O.failed_calls out.old) (O.failed_calls out.new) result (O.told out.old) (O.told out.new) }
     ensures calls { (F.reads files.new).calls ≤ (F.reads files.old).calls + 4 * MAX_READS }
 {
     let asked = read_words(alloc, words);

@@ -1,3 +1,4 @@
 pub mod Feeding
 pub mod Inside
+pub mod Laws
 pub mod Taken

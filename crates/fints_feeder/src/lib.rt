@@ -2,6 +2,7 @@
 #![tactic(auto)]
 
 mod feeder;
+pub mod laws;
 mod taken;
 
 pub use feeder::Feeder;

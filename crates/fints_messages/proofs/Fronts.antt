@@ -7,7 +7,8 @@ use Rattle.fints_segments.specs.declared.item.OwnedSegment.{OwnedSegment}
 use Rattle.fints_syntax.specs.Owned.{segment_of, segments_of}
 use Rattle.fints_messages.specs.Segments.{text_of}
 use Rattle.fints_messages.specs.Parts.{part_of}
-use Rattle.fints_messages.specs.declared.part.Part.TheVariants.{Opener, Body, Ender}
+use Rattle.fints_messages.specs.declared.part.Part.{Part}
+use Rattle.fints_messages.specs.declared.part.Part.TheVariants.{Opener, Body, Ender, Other}
 use Rattle.fints_messages.specs.Messages.{IsNumbered}
 use Rattle.fints_messages.specs.Front.{IsHalf, IsFront, IsNext, CanStand, Follows, NoneStands}
 use Rattle.fints_syntax.specs.Laws.{OneSegmentText}
@@ -120,8 +121,12 @@ none_stands bs t n k b e next bad u more h eq stands =
 pub after_opener : (s : OwnedSegment) (k b e : ℕ) → CanStand s k b e → Opener ≡ part_of s → (b ≡ 0) × (e ≡ 0)
 after_opener s k b e h p = subst (λ q. Follows q k b e) (sym p) h.1
 
-pub after_body : (s : OwnedSegment) (k b e : ℕ) → CanStand s k b e → Body ≡ part_of s → e ≡ 0
-after_body s k b e h p = subst (λ q. Follows q k b e) (sym p) h.1
+-- what can stand there and is neither HNSHK nor HNSHA is of the body
+pub after_body : (s : OwnedSegment) (k b e : ℕ) (p : Part) → CanStand s k b e → p ≡ part_of s → (p ≡ Opener → ⊥) → (p ≡ Ender → ⊥) → (part_of s ≡ Body) × (e ≡ 0)
+after_body s k b e Opener h p opener ender = absurd (opener refl)
+after_body s k b e Body h p opener ender = (sym p, subst (λ q. Follows q k b e) (sym p) h.1)
+after_body s k b e Ender h p opener ender = absurd (ender refl)
+after_body s k b e Other h p opener ender = absurd (subst (λ q. Follows q k b e) (sym p) h.1)
 
 pub after_ender : (s : OwnedSegment) (k b e : ℕ) → CanStand s k b e → Ender ≡ part_of s → e < k
 after_ender s k b e h p = subst (λ q. Follows q k b e) (sym p) h.1

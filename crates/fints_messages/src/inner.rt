@@ -76,17 +76,16 @@ pub fn read_inner<'a>(alloc: Global, bytes: &'a [u8]) -> Result<Inner<'a>, Alloc
                         at += len;
                         continue;
                     }
-                    Part::Body => {
-                        body.push(view)?;
-                        at += len;
-                        continue;
-                    }
                     Part::Ender => {
                         ends.push(view)?;
                         at += len;
                         continue;
                     }
-                    Part::Other => unreachable!(),
+                    _ => {
+                        body.push(view)?;
+                        at += len;
+                        continue;
+                    }
                 }
             }
         }

@@ -118,7 +118,13 @@ fn with_segments(
     body: &[SegmentView<'_>],
     ends: &[SegmentView<'_>],
 ) -> Result<Message, Memory>
-    ensures { IfOk result (λ m. m ≡ record { size = frame.size; protocol = frame.protocol; number = frame.number; body = segments_of body.now; ends = segments_of ends.now }) }
+    ensures { IfOk result (λ m. m ≡ record {
+      size = frame.size;
+      protocol = frame.protocol;
+      number = frame.number;
+      body = segments_of body.now;
+      ends = segments_of ends.now;
+    }) }
 {
     let Frame {
         size,

@@ -16,11 +16,11 @@ use Rattle.fints_syntax.specs.declared.stream.ReadTo.{ReadTo}
 use Rattle.fints_params.specs.declared.fault.ParamFault.{ParamFault}
 use Rattle.fints_params.specs.declared.fault.ParamFault.TheVariants.{Memory, Syntax}
 use Rattle.fints_params.specs.declared.placed.PlacedSegment.{PlacedSegment}
-use Rattle.fints_params.specs.Captures.{Rule, IsSyntaxFault, IsParamFault}
+use Rattle.fints_params.specs.Captures.{Rule, IsSyntaxFault, IsParamFault, IsRefusedOf}
 use Rattle.fints_params.specs.Faults.{IsMemoryOr, fault_from, fault_of}
 use Rattle.fints_params.specs.Opened.{IsValuesOf, IsPlacedValue}
 use Rattle.fints_params.specs.Pieces.{Received, unread, AreReceived, IsPieceFault, IsNotReceived, IsUnfinished}
-use Rattle.fints_params.specs.Steps.{IsWithin, ReadsNext, StopsNext, HasRead, HasCome, ReadsCapture, IsRefusedOf, IsRefusedInViews}
+use Rattle.fints_params.specs.Steps.{IsWithin, ReadsNext, StopsNext, HasRead, HasCome, ReadsCapture, IsRefusedInViews}
 use Rattle.fints_params.proofs.Viewed.{views_none, views_push, views_stopped, views_stay}
 
 -- how many bytes the whole segments take

@@ -11,9 +11,9 @@ use Rattle.fints_params.specs.declared.placed.PlacedSegment.{PlacedSegment}
 use Rattle.fints_params.specs.Faults.{IsMemoryOr}
 use Rattle.fints_syntax.specs.Streams.{place_in}
 use Rattle.fints_params.specs.Opened.{Part, part, StandFor, IsPlacedValue}
-use Rattle.fints_params.specs.Captures.{Rule, IsRefusedAfter, IsParamFault}
+use Rattle.fints_params.specs.Captures.{Rule, IsRefusedAfter, IsParamFault, IsRefusedOf}
 use Rattle.fints_params.specs.Parameters.{fault_after}
-use Rattle.fints_params.specs.Steps.{ContinuesOver, StopsAt, ReadsAll, IsWithin, ReadsNext, StopsNext, ReadsViews, IsRefusedInViews, IsRefusedOf}
+use Rattle.fints_params.specs.Steps.{ContinuesOver, StopsAt, ReadsAll, IsWithin, ReadsNext, StopsNext, ReadsViews, IsRefusedInViews}
 use Rattle.fints_params.proofs.Refusing.{memory_or, read_none, stand_more, refused_later}
 use Rattle.fints_params.proofs.Bounds.{placed_fits}
 

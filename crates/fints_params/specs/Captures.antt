@@ -66,6 +66,10 @@ IsCodesIn placed numbers = (segments : List OwnedSegment) × IsAccepted feedback
 abbrev pub IsSyntaxFault : List ℕ → ParamFault → Type 0
 IsSyntaxFault capture f = (fault : SyntaxFault) × IsUnreadable capture fault × (f ≡ Syntax fault)
 
+-- the first refusal of a capture or a message by a rule: it is none, or a part is refused
+abbrev pub IsRefusedOf : Rule → List ℕ → ParamFault → Type 0
+IsRefusedOf rule capture f = IsSyntaxFault capture f ⊎ ((placed : List PlacedSegment) × IsValuesOf capture placed × IsRefusedIn rule placed f)
+
 -- the parameters of a capture, and its first refusal
 abbrev pub IsParamsOf : List ℕ → Rows → Type 0
 IsParamsOf capture rows = (placed : List PlacedSegment) × IsValuesOf capture placed × IsParamsIn placed rows
@@ -83,7 +87,7 @@ abbrev pub IsCodesOf : List ℕ → List ℕ → Type 0
 IsCodesOf message numbers = (placed : List PlacedSegment) × IsValuesOf message placed × IsCodesIn placed numbers
 
 abbrev pub IsCodeFault : List ℕ → ParamFault → Type 0
-IsCodeFault message f = IsSyntaxFault message f ⊎ ((placed : List PlacedSegment) × IsValuesOf message placed × IsRefusedIn feedback_fault placed f)
+IsCodeFault message f = IsRefusedOf feedback_fault message f
 
 -- the first refusal of a capture of which both are asked for: by its parameters, or where it has parameters by its codes
 abbrev pub IsEitherFault : List ℕ → ParamFault → Type 0

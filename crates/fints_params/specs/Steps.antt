@@ -1,5 +1,5 @@
 -- What a reader that goes from segment to segment has read so far, and where it stops. Private contracts and, by `Inside`, the invariant of `ParamReader` alone cite these words.
-use Rattle.std.specs.Prelude.{◌≡◌, ◌⊎◌, ◌+◌, ◌≤◌, ℕ, ◌∷◌, [], ◌++◌, List, length, map, Option, Some, None}
+use Rattle.std.specs.Prelude.{◌≡◌, ◌+◌, ◌≤◌, ℕ, ◌∷◌, [], ◌++◌, List, length, map, Option, Some, None}
 use Rattle.std.specs.List.{AllZip}
 use Rattle.fints_segments.specs.Segment.{segment_bytes}
 use Rattle.fints_syntax.specs.Capture.{MAX_CAPTURE}
@@ -11,7 +11,7 @@ use Rattle.fints_params.specs.declared.fault.ParamFault.{ParamFault}
 use Rattle.fints_params.specs.declared.placed.PlacedSegment.{PlacedSegment}
 use Rattle.fints_params.specs.Sealed.{data_of}
 use Rattle.fints_params.specs.Opened.{Part, part, closed, StandsFor, SealedStandsFor, StandFor, IsPlacedValue, IsValuesOf}
-use Rattle.fints_params.specs.Captures.{Rule, IsRefusedAfter, IsRefusedIn, IsSyntaxFault}
+use Rattle.fints_params.specs.Captures.{Rule, IsRefusedAfter, IsRefusedIn}
 
 -- a state that is right for what was seen is right after these segments too
 abbrev pub Continues : {S : Type 0} → (List OwnedSegment → S → Type 0) → S → S → List OwnedSegment → Type 0
@@ -77,7 +77,3 @@ HasComeIn rule Good bytes to refused state = (front more : List ℕ) × (bytes �
 -- the same for the segments of a capture
 abbrev pub ReadsCapture : {S : Type 0} → (List OwnedSegment → S → Type 0) → List ℕ → S → Type 0
 ReadsCapture Good capture new = (placed : List PlacedSegment) × IsValuesOf capture placed × ReadsAll Good placed new
-
--- its syntax fault, or the first refusal
-abbrev pub IsRefusedOf : Rule → List ℕ → ParamFault → Type 0
-IsRefusedOf rule capture f = IsSyntaxFault capture f ⊎ ((placed : List PlacedSegment) × IsValuesOf capture placed × IsRefusedIn rule placed f)

@@ -5,9 +5,8 @@ ghost use Rattle.fints_params.specs.Accounts.{is_empty_element, entry_kind, entr
 ghost use Rattle.fints_params.specs.Faults.{IsBad};
 
 use crate::fault::{ParamFault, bad_element};
-use crate::reading::copy;
 use crate::rows::{AccountRow, Entries, Entry, National};
-use fints_syntax::{ElementRef, Elements, ItemRef, Kind, OwnedSegment, parse_number};
+use fints_syntax::{Bytes, ElementRef, Elements, ItemRef, Kind, OwnedSegment, parse_number};
 use std::alloc::{AllocError, Global};
 
 // Entries stand in the elements from 11 on, and elements after the head are counted from 0 here.
@@ -102,12 +101,12 @@ pub fn read_account(
     let (entries, skipped) = entries_of(alloc, &segment.elements)?;
     let row = AccountRow {
         national: National {
-            number: copy(alloc, segment.value(2, 1))?,
-            subaccount: copy(alloc, segment.value(2, 2))?,
-            country: copy(alloc, segment.value(2, 3))?,
-            bank: copy(alloc, segment.value(2, 4))?,
+            number: Bytes::copied(alloc, segment.value(2, 1))?,
+            subaccount: Bytes::copied(alloc, segment.value(2, 2))?,
+            country: Bytes::copied(alloc, segment.value(2, 3))?,
+            bank: Bytes::copied(alloc, segment.value(2, 4))?,
         },
-        iban: copy(alloc, segment.value(3, 1))?,
+        iban: Bytes::copied(alloc, segment.value(3, 1))?,
         entries: Entries::new(entries),
     };
     Ok((row, skipped))

@@ -5,9 +5,8 @@ ghost use Rattle.fints_params.specs.Faults.{IsBad};
 ghost use Rattle.fints_segments.specs.Segment.{item_value};
 
 use crate::fault::{ParamFault, bad_element};
-use crate::reading::copy;
 use crate::rows::{BankRow, Numbers};
-use fints_syntax::{ElementRef, OwnedSegment, parse_number};
+use fints_syntax::{Bytes, ElementRef, OwnedSegment, parse_number};
 use std::alloc::{AllocError, Global};
 
 // The protocol versions, if each that isn't empty is a number.
@@ -53,8 +52,8 @@ pub fn read_bank(alloc: Global, segment: &OwnedSegment) -> Result<BankRow, Param
         return Err(bad_element(segment, 8));
     };
     Ok(BankRow {
-        country: copy(alloc, segment.value(3, 1))?,
-        code: copy(alloc, segment.value(3, 2))?,
+        country: Bytes::copied(alloc, segment.value(3, 1))?,
+        code: Bytes::copied(alloc, segment.value(3, 2))?,
         kinds,
         protocols,
         kilobytes,

@@ -18,7 +18,6 @@ mod pins;
 mod placed;
 mod progress;
 mod reader;
-mod reading;
 mod rows;
 mod taking;
 

@@ -33,7 +33,14 @@ impl Model for Params {
 
     ghost Value = { Rows };
 
-    ghost view = { λ p. record { bank = p.bank; orders = p.orders.items; pins = p.pins.items; usage = p.usage; accounts = p.accounts.items; skipped = p.skipped } };
+    ghost view = { λ p. record {
+      bank = p.bank;
+      orders = p.orders.items;
+      pins = p.pins.items;
+      usage = p.usage;
+      accounts = p.accounts.items;
+      skipped = p.skipped;
+    } };
 }
 
 impl Params {

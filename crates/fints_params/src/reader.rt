@@ -1,7 +1,7 @@
 //! Parameters of a capture that comes in pieces.
 ghost use Rattle.std.specs.Prelude.{◌≡◌, OnOk, IfOk, IfErr};
 ghost use Rattle.fints_params.specs.Captures.{IsParamsOf};
-ghost use Rattle.fints_params.specs.Inside.{HasComeTo, MayGoOn};
+ghost use Rattle.fints_params.specs.Inside.{MayGoOn};
 ghost use Rattle.fints_params.specs.Pieces.{unread, failed_at, IsReceived, IsNotReceived, IsUnfinished};
 
 use crate::fault::ParamFault;
@@ -13,9 +13,9 @@ use fints_syntax::{SyntaxFault, SyntaxKind};
 use std::alloc::Global;
 use std::marker::Model;
 
-/// What reads a capture as its pieces come; a contract sees what it keeps. Each segment is read
-/// once, when its last byte has come. The bytes are kept, so that after want of memory the reader
-/// is as before.
+/// What reads a capture as its pieces come; a contract sees what it keeps. A segment is read when
+/// its last byte has come, and only once. The bytes are kept, so that after want of memory the
+/// reader is as before; what was read of them is read once more then.
 #[derive(Debug, Drop)]
 pub struct ParamReader {
     bytes: Vec<u8>,

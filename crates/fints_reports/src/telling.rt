@@ -74,7 +74,8 @@ pub fn tell_read(
     wanted: Wanted,
 ) -> Result<Reply, Fault>
     ensures status { IfOk result (λ reply. reply.status ≤ 1) }
-    ensures told { IfOk result (λ reply. (capture : List ℕ) → IsReadOf capture params → IsToldOf wanted capture orders.now script.now reply.status reply.text.items) }
+    ensures told { IfOk result (λ reply. (capture : List ℕ) → IsReadOf capture params
+        → IsToldOf wanted capture orders.now script.now reply.status reply.text.items) }
     ensures refused { IfErr result (λ f. (capture : List ℕ) → IsReadOf capture params → IsRefused capture orders.now script.now f) }
 {
     let params = match params {

@@ -88,7 +88,8 @@ pub fn verify_read(
     certificate: &[u8],
 ) -> Result<Reply, Fault>
     ensures status { IfOk result (λ reply. reply.status ≤ 1) }
-    ensures told { IfOk result (λ reply. (capture : List ℕ) → IsReadOf capture params → IsVerifiedOf capture orders.now script.now certificate.now reply.status reply.text.items) }
+    ensures told { IfOk result (λ reply. (capture : List ℕ) → IsReadOf capture params
+        → IsVerifiedOf capture orders.now script.now certificate.now reply.status reply.text.items) }
     ensures refused { IfErr result (λ f. (capture : List ℕ) → IsReadOf capture params → IsUnverified capture orders.now script.now certificate.now f) }
 {
     let params = match params {

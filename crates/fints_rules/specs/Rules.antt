@@ -62,9 +62,13 @@ pub record NamesAccount (table : List OrderRow) (s : SegmentFactsValue) (account
 abbrev pub BreaksVersion : Rows → SegmentFactsValue → Type 0
 BreaksVersion rows s = ((version : ℕ) × (own_version s.kind ≡ Some version) × (s.version ≢ version)) ⊎ (IsOrder s × (params_of s.kind s.version rows.orders ≡ []))
 
--- P6: some row of the order's kind and version has a limit, and the message holds more orders of the kind
+-- some row of the order's kind and version has a limit, and the message holds more orders of the kind
+abbrev pub RowAllowsFewer : Rows → SegmentFactsValue → Type 0
+RowAllowsFewer rows s = Any (λ row. (row.orders ≢ 0) × (row.orders < s.count)) (params_of s.kind s.version rows.orders)
+
+-- P6
 abbrev pub BreaksOrders : Rows → SegmentFactsValue → Type 0
-BreaksOrders rows s = IsOrder s × Any (λ row. (row.orders ≢ 0) × (row.orders < s.count)) (params_of s.kind s.version rows.orders)
+BreaksOrders rows s = IsOrder s × RowAllowsFewer rows s
 
 -- P7
 abbrev pub BreaksListed : Rows → SegmentFactsValue → Type 0

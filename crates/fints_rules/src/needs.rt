@@ -124,7 +124,8 @@ fn has_key(rows: &[AccountRow], place: &Place, key: &NeedKey<'_>) -> bool
 // Adds the places of the entries of a row, each under both names of its account.
 fn add_row(places: &mut Vec<Place>, rows: &[AccountRow], row: usize) -> Result<(), Memory>
     requires { row < length rows.now }
-    ensures { (none : AccountRowValue) → OnOk result (map (seen_at rows.now) places.new.items ≡ map (seen_at rows.now) places.old.items ++ seen_in_row (get_or rows.now row none)) }
+    ensures { (none : AccountRowValue) → OnOk result (map (seen_at rows.now) places.new.items
+        ≡ map (seen_at rows.now) places.old.items ++ seen_in_row (get_or rows.now row none)) }
 {
     for entry in 0..rows[row].entries.as_slice().len() {
         places.push(Place {

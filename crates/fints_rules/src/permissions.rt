@@ -49,7 +49,9 @@ impl<'a> Model for Permissions<'a> {
 
     ghost view = { λ p. record { rows = p.params.now; orders = p.orders.now } };
 
-    ghost invariant = { λ p. HoldsLimits p.params.now.orders (get key_cmp p.limits) × HoldsPins p.params.now.pins (get (slice_cmp nat_cmp) p.pins) × IsPermutation (seen_in p.params.now.accounts) p.needs };
+    ghost invariant = { λ p. HoldsLimits p.params.now.orders (get key_cmp p.limits)
+        × HoldsPins p.params.now.pins (get (slice_cmp nat_cmp) p.pins)
+        × IsPermutation (seen_in p.params.now.accounts) p.needs };
 }
 
 impl<'a> Permissions<'a> {

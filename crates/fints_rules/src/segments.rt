@@ -1,10 +1,10 @@
 //! The rules of a segment of the body, P5 to P10, over its facts and those of the message.
-ghost use Rattle.std.specs.Prelude.{◌≡◌, ◌≢◌, ◌<◌, ◌↔◌, ◌⊎◌, IsTrue, Any};
+ghost use Rattle.std.specs.Prelude.{◌≡◌, ◌≢◌, ◌<◌, ◌↔◌, ◌⊎◌, IsTrue};
 ghost use Rattle.fints_rules.specs.Accounts.{account_of, Account};
 ghost use Rattle.fints_rules.specs.AccountTests.{AccountPermitIs};
-ghost use Rattle.fints_rules.specs.Permits.{params_of, IsListed, IsListedWithTan};
+ghost use Rattle.fints_rules.specs.Permits.{IsListed, IsListedWithTan};
 ghost use Rattle.fints_rules.specs.Breaks.{BreaksAt};
-ghost use Rattle.fints_rules.specs.Rules.{OrderNeedsMore, AccountNeedsMore, AccountIsLocked, CarriesTan, SendsTan, BreaksVersion, BreaksOrders, BreaksListed, BreaksSignatures, BreaksAccount, BreaksTan, SegmentBreaks};
+ghost use Rattle.fints_rules.specs.Rules.{RowAllowsFewer, OrderNeedsMore, AccountNeedsMore, AccountIsLocked, CarriesTan, SendsTan, BreaksVersion, BreaksOrders, BreaksListed, BreaksSignatures, BreaksAccount, BreaksTan, SegmentBreaks};
 
 use crate::account::AccountKey;
 use crate::facts::{MessageFacts, SegmentFacts};
@@ -36,7 +36,7 @@ fn exceeds(limit: u32, count: usize) -> bool
 
 // Whether some row of the order's kind and version allows fewer orders.
 fn row_allows_fewer(permissions: &Permissions<'_>, segment: &SegmentFacts<'_>) -> bool
-    ensures { IsTrue result ↔ Any (λ row. (row.orders ≢ 0) × (row.orders < segment.now.count)) (params_of segment.now.kind segment.now.version permissions.now.rows.orders) }
+    ensures { IsTrue result ↔ RowAllowsFewer permissions.now.rows segment.now }
 {
     match permissions.limits(segment.kind(), segment.version()) {
         None => false,

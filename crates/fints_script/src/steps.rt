@@ -38,7 +38,15 @@ impl Model for Step {
 
     ghost Value = { StepValue };
 
-    ghost view = { λ s. record { name = s.name; templates = s.templates.items; sealed = s.sealed; signers = s.signers.items; repeat = s.repeat; branches = s.branches.items; otherwise = s.otherwise } };
+    ghost view = { λ s. record {
+      name = s.name;
+      templates = s.templates.items;
+      sealed = s.sealed;
+      signers = s.signers.items;
+      repeat = s.repeat;
+      branches = s.branches.items;
+      otherwise = s.otherwise;
+    } };
 }
 
 impl Step {

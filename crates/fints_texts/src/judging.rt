@@ -83,7 +83,8 @@ pub fn judge_read(
     message: &[u8],
 ) -> Result<Reply, Fault>
     ensures status { IfOk result (λ reply. reply.status ≤ 1) }
-    ensures judged { IfOk result (λ reply. (capture : List ℕ) → IsReadOf capture params → IsVerdictOf capture orders.now message.now reply.status reply.text.items) }
+    ensures judged { IfOk result (λ reply. (capture : List ℕ) → IsReadOf capture params
+        → IsVerdictOf capture orders.now message.now reply.status reply.text.items) }
     ensures refused { IfErr result (λ f. (capture : List ℕ) → IsReadOf capture params → IsJudgeRefusal capture orders.now message.now f) }
 {
     let params = match params {

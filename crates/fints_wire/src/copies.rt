@@ -4,22 +4,13 @@ ghost use Rattle.std.specs.Prelude.{◌≡◌, ◌++◌, IfOk, OnOk};
 use fints_syntax::{Bytes, Memory, OwnedItem};
 use std::alloc::Global;
 
-/// A copy of bytes, with an owner.
-pub fn copy_bytes(alloc: Global, bytes: &[u8]) -> Result<Bytes, Memory>
-    ensures { IfOk result (λ copy. copy ≡ bytes.now) }
-{
-    let mut copy = Vec::new(alloc);
-    copy.extend_from_slice(bytes)?;
-    Ok(Bytes::new(copy))
-}
-
 /// A copy of an item.
 pub fn copy_item(alloc: Global, item: &OwnedItem) -> Result<OwnedItem, Memory>
     ensures { IfOk result (λ copy. copy ≡ item.now) }
 {
     match item {
-        OwnedItem::Text(bytes) => Ok(OwnedItem::Text(copy_bytes(alloc, bytes.as_slice())?)),
-        OwnedItem::Bin(bytes) => Ok(OwnedItem::Bin(copy_bytes(alloc, bytes.as_slice())?)),
+        OwnedItem::Text(bytes) => Ok(OwnedItem::Text(Bytes::copied(alloc, bytes.as_slice())?)),
+        OwnedItem::Bin(bytes) => Ok(OwnedItem::Bin(Bytes::copied(alloc, bytes.as_slice())?)),
     }
 }
 

@@ -5,7 +5,7 @@ ghost use Rattle.fints_fields.specs.Fields.{field_items};
 ghost use Rattle.fints_fields.specs.Listed.{account_items, account_text, first_with};
 ghost use Rattle.fints_wire.specs.Filling.{AreFilled, dialog_items, items_of_fields, filling_of, filled_item, filled_element, filled_elements};
 
-use crate::copies::{copy_bytes, copy_item, copy_items, push_copies};
+use crate::copies::{copy_item, copy_items, push_copies};
 use fints_script::{AccountValue, Field, NamedField, NamedValue, TemplateItem};
 use fints_syntax::{Bytes, Elements, Memory, OwnedItem};
 use std::alloc::Global;
@@ -40,7 +40,7 @@ fn texts(alloc: Global, texts: &[Bytes]) -> Result<Vec<OwnedItem>, Memory>
 {
     let mut items = Vec::new(alloc);
     for text in texts {
-        items.push(OwnedItem::Text(copy_bytes(alloc, text.as_slice())?))?;
+        items.push(OwnedItem::Text(Bytes::copied(alloc, text.as_slice())?))?;
     }
     Ok(items)
 }
@@ -66,8 +66,8 @@ fn value_items(alloc: Global, field: &Field, value: &[u8]) -> Result<Vec<OwnedIt
 {
     match field {
         Field::Account(c) => account_items(alloc, c.values.as_slice(), value),
-        Field::Bin(_) => only(alloc, OwnedItem::Bin(copy_bytes(alloc, value)?)),
-        _ => only(alloc, OwnedItem::Text(copy_bytes(alloc, value)?)),
+        Field::Bin(_) => only(alloc, OwnedItem::Bin(Bytes::copied(alloc, value)?)),
+        _ => only(alloc, OwnedItem::Text(Bytes::copied(alloc, value)?)),
     }
 }
 
@@ -93,7 +93,7 @@ fn dialog_items(
     ensures { IfOk result (λ v. v.items ≡ dialog_items (map (λ items. items.items) fields.now) number) }
 {
     if number == 1 {
-        return only(alloc, OwnedItem::Text(copy_bytes(alloc, b"0")?));
+        return only(alloc, OwnedItem::Text(Bytes::copied(alloc, b"0")?));
     }
     match fields.first() {
         Some(items) => copy_items(alloc, items.as_slice()),

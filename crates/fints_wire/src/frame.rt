@@ -6,7 +6,6 @@ ghost use Rattle.fints_syntax.specs.Kind.{kind_from};
 ghost use Rattle.fints_wire.specs.Filling.{make_segment};
 ghost use Rattle.fints_wire.specs.Messages.{twelve_digits, first_segment, last_segment};
 
-use crate::copies::copy_bytes;
 use fints_syntax::{Bytes, Elements, Head, Kind, Memory, OwnedItem, OwnedSegment, decimal_len};
 use itoa::Buffer;
 use std::alloc::Global;
@@ -57,7 +56,7 @@ fn push_item(elements: &mut Elements, item: &OwnedItem) -> Result<(), Memory>
 fn push_text(alloc: Global, elements: &mut Elements, text: &[u8]) -> Result<(), Memory>
     ensures { OnOk result (elements.new ≡ elements.old ++ (Text text.now ∷ []) ∷ []) }
 {
-    push_item(elements, &OwnedItem::Text(copy_bytes(alloc, text)?))
+    push_item(elements, &OwnedItem::Text(Bytes::copied(alloc, text)?))
 }
 
 fn push_number(alloc: Global, elements: &mut Elements, number: u32) -> Result<(), Memory>

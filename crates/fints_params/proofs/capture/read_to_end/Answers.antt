@@ -1,7 +1,7 @@
 use Rattle.std.proofs.Common.{inr}
 use Rattle.std.proofs.lemmas.Result.{IfErr-weaker}
 use Rattle.fints_params.specs.Faults.{IsMemoryOr}
-use Rattle.fints_params.specs.Steps.{IsRefusedOf}
+use Rattle.fints_params.specs.Captures.{IsRefusedOf}
 use Rattle.fints_params.proofs.capture.read_to_end.Goals as goal
 
 pub returns-clause-refused : goal.returns-clause-refused

@@ -2,7 +2,7 @@ use Rattle.std.proofs.Common.{◌<◌, ◌^◌, arith}
 use Rattle.std.proofs.lemmas.Result.{err_from_is_err_and}
 use Rattle.fints_params.specs.Captures.{IsParamFault}
 use Rattle.fints_params.specs.Parameters.{fault_after, skipped_in}
-use Rattle.fints_params.specs.Steps.{IsRefusedOf}
+use Rattle.fints_params.specs.Captures.{IsRefusedOf}
 use Rattle.fints_params.proofs.Bounds.{can_count}
 use Rattle.fints_params.proofs.Refusing.{memory_or}
 use Rattle.fints_params.proofs.Viewed.{param_fault}
