@@ -9,14 +9,19 @@ use fints_hint_words::places::{Told, row_at, row_named, text_in, told_at, told_o
 use fints_hint_words::quoting::{Quoted, Shown};
 use fints_hint_words::unread::why_no_toml;
 use fints_rules::TableFault;
+use fints_rules::kinds::is_plain_order;
 use fints_syntax::Kind;
 use std::alloc::Global;
 use toml::{Table, Value};
 
 const WORDS: [&str; 3] = ["none", "national", "international"];
 
+// Whether it is the kind of an administrative segment, or HKTAN.
 fn is_reserved(text: &str) -> bool {
-    matches!(text, "HKIDN" | "HKVVB" | "HKSYN" | "HKEND" | "HKTAN")
+    match Kind::parse(text.as_bytes()) {
+        Some(kind) => !is_plain_order(kind),
+        None => false,
+    }
 }
 
 fn is_order_kind(text: &str) -> bool {

@@ -14,4 +14,4 @@ pub use fault::Memory;
 pub use fints_kinds::Kind;
 pub use flat::{Filling, Valued};
 pub use item::{Elements, Head, OwnedItem, OwnedSegment};
-pub use writing::{decimal_len, write_item, write_segment, written_len};
+pub use writing::{decimal_len, write_item, write_segment, written_binary_len, written_len};

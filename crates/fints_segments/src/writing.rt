@@ -1,5 +1,5 @@
 //! Writing items and segments in their written spelling (FinTS 3.0, Formals, the syntax of segments).
-ghost use Rattle.std.specs.Prelude.{◌≡◌, if◌then◌else◌, ◌++◌, ◌∷◌, [], ◌<◌, ◌≤◌, ◌*◌, ◌^◌, length, map, OnOk, OnErr};
+ghost use Rattle.std.specs.Prelude.{◌≡◌, if◌then◌else◌, ◌++◌, ◌∷◌, [], ◌<◌, ◌≤◌, ◌*◌, ◌+◌, ◌^◌, length, map, OnOk, OnErr};
 ghost use Rattle.std.specs.Fmt.{decimal};
 ghost use Rattle.fints_segments.specs.Spelling.{written, written_unit, unit_bytes, text_bytes};
 ghost use Rattle.fints_segments.specs.Written.{element_text, elements_text, head_items, written_segment, KeepsFront};
@@ -23,6 +23,14 @@ pub fn decimal_len(n: u64) -> u32
 {
     let mut buffer = Buffer::new();
     buffer.format(n).len() as u32
+}
+
+/// How many bytes a binary item of `len` bytes takes when it is written.
+pub fn written_binary_len(len: u64) -> u64
+    requires { len < 2 ^ 63 }
+    ensures { result ≡ len + length (decimal len) + 2 }
+{
+    len + u64::from(decimal_len(len)) + 2
 }
 
 /// How many bytes the value takes when it is written as a text item.

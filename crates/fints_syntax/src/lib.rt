@@ -19,7 +19,7 @@ pub use fault::{SyntaxFault, SyntaxKind};
 pub use fints_kinds::{Kind, is_frame_kind};
 pub use fints_segments::{
     Bytes, ElementRef, Elements, Head, ItemRef, Memory, OwnedItem, OwnedSegment, decimal_len,
-    write_item, write_segment, written_len,
+    write_item, write_segment, written_binary_len, written_len,
 };
 pub use scan::parse_number;
 pub use stream::{Begun, ReadTo, Taker, place_of, read_piece};

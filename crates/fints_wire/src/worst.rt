@@ -12,7 +12,7 @@ ghost use Rattle.fints_wire.specs.Messages.{seal_of, templates_of};
 
 use crate::part::{Part, part_at, part_count};
 use fints_script::{FieldClass, Plan, Step, TemplateItem};
-use fints_syntax::{Kind, OwnedItem, decimal_len, written_len};
+use fints_syntax::{Kind, OwnedItem, decimal_len, written_binary_len, written_len};
 
 fn written_size(item: &OwnedItem) -> u64
     requires { length (written item.now) < 2 ^ 63 }
@@ -20,10 +20,7 @@ fn written_size(item: &OwnedItem) -> u64
 {
     match item {
         OwnedItem::Text(bytes) => written_len(bytes.as_slice()),
-        OwnedItem::Bin(bytes) => {
-            let len = bytes.as_slice().len() as u64;
-            2 + u64::from(decimal_len(len)) + len
-        }
+        OwnedItem::Bin(bytes) => written_binary_len(bytes.as_slice().len() as u64),
     }
 }
 
