@@ -16,7 +16,7 @@ mod top;
 pub use fints_cases::{Answer, Branch, Case, CaseFault, NamedValue, Pattern, Target, Values};
 pub use fints_field_rows::{FaultKind, NamedField, Place, ScriptFault};
 pub use fints_fields::{
-    Account, AccountValue, Accounts, Bin, Digits, Field, FieldClass, Name, OneOf, Plain, Text,
+    Account, AccountValue, Accounts, Alphabet, Bin, Field, FieldClass, Name, OneOf, Text,
     Texts, class_laws,
 };
 pub use fints_templates::{Signer, Template, TemplateElements, TemplateItem};
