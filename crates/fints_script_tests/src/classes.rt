@@ -86,8 +86,13 @@ fn admitted_numbers_and_bytes(rt: HostRuntime) -> Result<(), Fail> {
 
 #[test]
 fn bounds(rt: HostRuntime) {
-    assert!(rt; Text::new(Alphabet::Digits, 3, 2).is_none() && Text::new(Alphabet::Digits, 0, 0).is_some());
-    assert!(rt; Text::new(Alphabet::Latin, 0, 10_001).is_none() && Text::new(Alphabet::Latin, 0, 10_000).is_some());
+    assert!(rt;
+        Text::new(Alphabet::Digits, 3, 2).is_none() && Text::new(Alphabet::Digits, 0, 0).is_some()
+    );
+    assert!(rt;
+        Text::new(Alphabet::Latin, 0, 10_001).is_none()
+            && Text::new(Alphabet::Latin, 0, 10_000).is_some()
+    );
     assert!(rt; Text::new(Alphabet::Plain, 1, 0).is_none());
     assert!(rt; Bin::new(0, 2).is_none() && Bin::new(1, 1).is_some());
 }
