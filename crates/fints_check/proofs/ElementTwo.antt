@@ -78,8 +78,6 @@ listed_are fields items a = ap (listed_in fields) a.items_are ∙ ap accounts_at
 
 class_listed : (class : Class) → 0 < length (field_accounts class) → is_account class ≡ true
 class_listed (classes.Account c) h = refl
-class_listed (classes.Digits c) h = absurd (omega (arith, h))
-class_listed (classes.Plain c) h = absurd (omega (arith, h))
 class_listed (classes.Text c) h = absurd (omega (arith, h))
 class_listed (classes.Bin c) h = absurd (omega (arith, h))
 class_listed (classes.OneOf c) h = absurd (omega (arith, h))

@@ -34,8 +34,6 @@ use Rattle.fints_check.proofs.Lists.{slice_there}
 
 single_class : (class : Class) → is_account class ≡ false → field_accounts class ≡ []
 single_class (classes.Account c) h = absurd cc
-single_class (classes.Digits c) h = refl
-single_class (classes.Plain c) h = refl
 single_class (classes.Text c) h = refl
 single_class (classes.Bin c) h = refl
 single_class (classes.OneOf c) h = refl

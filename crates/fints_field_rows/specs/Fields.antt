@@ -9,6 +9,8 @@ use Rattle.fints_documents.specs.Entries.{is_named}
 use Rattle.fints_field_rows.specs.Parts.{Part, ◌>>=◌, both, each, entries_of, integer_in, required}
 use Rattle.fints_field_rows.specs.RowNames.{row_name}
 use Rattle.fints_field_rows.specs.Texts.{is_latin1, latin1}
+use Rattle.fints_fields.specs.declared.alphabet.Alphabet.{Alphabet}
+use Rattle.fints_fields.specs.declared.alphabet.Alphabet.TheVariants as alphabets
 use Rattle.fints_fields.specs.declared.field.Field.{Field}
 use Rattle.fints_fields.specs.declared.field.Field.TheVariants as fields
 use Rattle.fints_field_rows.specs.declared.fault.FaultKind.TheVariants as kinds
@@ -16,19 +18,15 @@ use Rattle.fints_field_rows.specs.declared.fields.NamedField.{NamedField}
 use Rattle.fints_field_rows.specs.declared.field_class.ClassName.{ClassName}
 use Rattle.fints_field_rows.specs.declared.field_class.ClassName.TheVariants as names
 
--- what is seen of a field: its class, with the bounds or the listed values
+-- what is seen of a field: its class, with the alphabet, the bounds or the listed values
 pub data ClassValue : Type 0 where
-  digits : ℕ → ℕ → ClassValue
-  plain : ℕ → ℕ → ClassValue
-  text : ℕ → ℕ → ClassValue
+  text : Alphabet → ℕ → ℕ → ClassValue
   bin : ℕ → ℕ → ClassValue
   oneof : List (List ℕ) → ClassValue
   account : List (List (List ℕ)) → ClassValue
 
 abbrev pub class_value : Field → ClassValue
-class_value (fields.Digits c) = digits c.min c.max
-class_value (fields.Plain c) = plain c.min c.max
-class_value (fields.Text c) = text c.min c.max
+class_value (fields.Text c) = text c.alphabet c.min c.max
 class_value (fields.Bin c) = bin c.min c.max
 class_value (fields.OneOf c) = oneof c.values
 class_value (fields.Account c) = account c.values
@@ -99,9 +97,9 @@ accounts_class accounts = listing (pointwise bytes_eq) (list_all is_short) accou
 
 abbrev pub class_named : List ℕ → Part ClassName
 class_named name =
-    if bytes_eq name (codes "digits") then Ok names.Digits
-    else if bytes_eq name (codes "plain") then Ok names.Plain
-    else if bytes_eq name (codes "text") then Ok names.Text
+    if bytes_eq name (codes "digits") then Ok (names.Text alphabets.Digits)
+    else if bytes_eq name (codes "plain") then Ok (names.Text alphabets.Plain)
+    else if bytes_eq name (codes "text") then Ok (names.Text alphabets.Latin)
     else if bytes_eq name (codes "bin") then Ok names.Bin
     else if bytes_eq name (codes "oneof") then Ok names.OneOf
     else if bytes_eq name (codes "account") then Ok names.Account
@@ -116,9 +114,7 @@ class_of ms = required (codes "class") ms >>= class_name_in
 
 -- the class of this name that a table's keys give
 unfoldable pub class_with : Members → ClassName → Part ClassValue
-class_with ms names.Digits = lengths_in ms >>= sized 0 digits
-class_with ms names.Plain = lengths_in ms >>= sized 0 plain
-class_with ms names.Text = lengths_in ms >>= sized 0 text
+class_with ms (names.Text alphabet) = lengths_in ms >>= sized 0 (text alphabet)
 class_with ms names.Bin = lengths_in ms >>= sized 1 bin
 class_with ms names.OneOf = listed_in ms >>= each text_in >>= texts_class
 class_with ms names.Account = listed_in ms >>= each account_in >>= accounts_class

@@ -7,14 +7,13 @@ ghost use Rattle.fints_field_rows.specs.Fields.{class_name_in, class_named, clas
 use crate::fault::FaultKind;
 use crate::parts::required;
 use fints_documents::document::only_keys;
+use fints_fields::Alphabet;
 use toml::{Table, Value};
 
 /// The name of a class.
-#[derive(Clone, Copy, Debug, PartialEq, Eq)]
+#[derive(Clone, Copy, Debug)]
 pub enum ClassName {
-    Digits,
-    Plain,
-    Text,
+    Text(Alphabet),
     Bin,
     OneOf,
     Account,
@@ -24,9 +23,9 @@ fn class_named(text: &str) -> Result<ClassName, FaultKind>
     ensures { result ≡ class_named text.now }
 {
     match text {
-        "digits" => Ok(ClassName::Digits),
-        "plain" => Ok(ClassName::Plain),
-        "text" => Ok(ClassName::Text),
+        "digits" => Ok(ClassName::Text(Alphabet::Digits)),
+        "plain" => Ok(ClassName::Text(Alphabet::Plain)),
+        "text" => Ok(ClassName::Text(Alphabet::Latin)),
         "bin" => Ok(ClassName::Bin),
         "oneof" => Ok(ClassName::OneOf),
         "account" => Ok(ClassName::Account),

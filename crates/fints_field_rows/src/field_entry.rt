@@ -14,7 +14,7 @@ use crate::fields::NamedField;
 use crate::names::{name_text, new_name};
 use crate::parts::both;
 use fints_documents::entries::some_is_named;
-use fints_fields::{Bin, Digits, Field, Name, Plain, Text};
+use fints_fields::{Bin, Field, Name, Text};
 use std::alloc::Global;
 use toml::{Table, Value};
 
@@ -37,19 +37,9 @@ fn class_with(alloc: Global, table: &Table, class: ClassName) -> Result<Field, F
     ensures { Gives class_value result (class_with (table_view table.now) class) }
 {
     match class {
-        ClassName::Digits => {
+        ClassName::Text(alphabet) => {
             let (min, max) = lengths_in(table)?;
-            let class = Digits::new(min, max).ok_or(FaultKind::Limit)?;
-            Ok(Field::Digits(class))
-        }
-        ClassName::Plain => {
-            let (min, max) = lengths_in(table)?;
-            let class = Plain::new(min, max).ok_or(FaultKind::Limit)?;
-            Ok(Field::Plain(class))
-        }
-        ClassName::Text => {
-            let (min, max) = lengths_in(table)?;
-            let class = Text::new(min, max).ok_or(FaultKind::Limit)?;
+            let class = Text::new(alphabet, min, max).ok_or(FaultKind::Limit)?;
             Ok(Field::Text(class))
         }
         ClassName::Bin => {

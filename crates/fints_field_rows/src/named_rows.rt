@@ -2,10 +2,9 @@
 ghost use Rattle.std.specs.Prelude.{◌≡◌, ℕ, List, length, map, option_map, position, take, IfOk, OnOk};
 ghost use Rattle.std.specs.List.{list_any};
 ghost use Rattle.std.specs.Str.{bytes_eq};
-ghost use Rattle.indexmap.specs.IndexMap.{get_by};
 ghost use Rattle.toml.specs.View.{view};
 ghost use Rattle.fints_documents.specs.Entries.{is_named, name_in};
-ghost use Rattle.fints_field_rows.specs.Places.{first_place, HoldsPlaces};
+ghost use Rattle.fints_field_rows.specs.Places.{first_place, HoldsPlaces, place_in};
 
 use fints_documents::entries::text_at;
 use fints_syntax::Memory;
@@ -25,11 +24,9 @@ pub struct NamedRows<'a> {
 impl<'a> Model for NamedRows<'a> {
     ghost use Rattle.std.specs.Prelude.{List, map};
     ghost use Rattle.toml.specs.declared.value.Value.{Value as Row};
-    ghost use Rattle.std.specs.Str.{bytes_eq};
-    ghost use Rattle.indexmap.specs.IndexMap.{get_by};
     ghost use Rattle.toml.specs.View.{view as data_of};
     ghost use Rattle.fints_documents.specs.Entries.{is_named};
-    ghost use Rattle.fints_field_rows.specs.Places.{HoldsPlaces};
+    ghost use Rattle.fints_field_rows.specs.Places.{HoldsPlaces, place_in};
     ghost use Rattle.std.specs.Coded.{codes};
     ghost use Rattle.toml.specs.contracts.value.Value as value;
 
@@ -39,7 +36,7 @@ impl<'a> Model for NamedRows<'a> {
 
     ghost view = { λ r. r.rows.now };
 
-    ghost invariant = { λ r. HoldsPlaces is_named (map data_of r.rows.now) (λ name. get_by (λ k. bytes_eq name k.now) r.places) };
+    ghost invariant = { λ r. HoldsPlaces is_named (map data_of r.rows.now) (place_in r.places) };
 }
 
 fn name_in<'a>(row: &'a Value) -> Option<&'a str>
@@ -57,7 +54,7 @@ fn note<'a>(
     name: &'a str,
     place: usize,
 ) -> Result<(), Memory>
-    ensures { OnOk result ((q : List ℕ) → get_by (λ k. bytes_eq q k.now) places.new ≡ first_place (get_by (λ k. bytes_eq q k.now) places.old) (bytes_eq q name.now) place) }
+    ensures { OnOk result ((q : List ℕ) → place_in places.new q ≡ first_place (place_in places.old q) (bytes_eq q name.now) place) }
 {
     if !places.contains_key(name) {
         places.insert(name, place)?;
@@ -66,7 +63,7 @@ fn note<'a>(
 }
 
 fn places_of<'a>(alloc: Global, rows: &'a [Value]) -> Result<IndexMap<&'a str, usize>, Memory>
-    ensures { IfOk result (λ m. HoldsPlaces is_named (map view rows.now) (λ name. get_by (λ k. bytes_eq name k.now) m)) }
+    ensures { IfOk result (λ m. HoldsPlaces is_named (map view rows.now) (place_in m)) }
 {
     let mut places = IndexMap::new(alloc);
     for i in 0..rows.len() {

@@ -6,6 +6,7 @@ use Rattle.fints_segments.specs.Segment.{item_value}
 use Rattle.fints_segments.specs.declared.item.OwnedItem.{OwnedItem}
 use Rattle.fints_segments.specs.declared.item.OwnedItem.TheVariants as item
 use Rattle.fints_fields.specs.ClassLaws.{text_len-low}
+use Rattle.fints_fields.specs.Classes.{shortest_character}
 use Rattle.fints_fields.specs.Fields.{IsListedAt, field_accounts, field_domain, field_items, field_shortest}
 use Rattle.fints_fields.specs.Lengths.{text_len}
 use Rattle.fints_fields.specs.Listed.{IsListed, account_items, account_text, first_with, first_shortest}
@@ -47,16 +48,12 @@ value_listed c v l =
 
 pub listed_admitted : (f : Field) (place : ℕ) (account : List (List ℕ)) → slice_get (field_accounts f) place ≡ Some account → field_domain f (account_text account)
 listed_admitted (fields.Account c) place account at = listed_at c.values place account at
-listed_admitted (fields.Digits c) place account at = absurd cc
-listed_admitted (fields.Plain c) place account at = absurd cc
 listed_admitted (fields.Text c) place account at = absurd cc
 listed_admitted (fields.Bin c) place account at = absurd cc
 listed_admitted (fields.OneOf c) place account at = absurd cc
 
 pub listed_items : (f : Field) (place : ℕ) (account : List (List ℕ)) → slice_get (field_accounts f) place ≡ Some account → IsListedAt f (account_text account) place account
 listed_items (fields.Account c) place account at = record { listed = at; text = refl; items = ap account_items (found_is c.values place account c.each at) }
-listed_items (fields.Digits c) place account at = absurd cc
-listed_items (fields.Plain c) place account at = absurd cc
 listed_items (fields.Text c) place account at = absurd cc
 listed_items (fields.Bin c) place account at = absurd cc
 listed_items (fields.OneOf c) place account at = absurd cc
@@ -68,8 +65,6 @@ no_accounts [] some e = absurd (omega arith)
 no_accounts (a ∷ more) some e = absurd cc
 
 pub one_item : (f : Field) (v : List ℕ) → field_accounts f ≡ [] → (i : OwnedItem) × (field_items f v ≡ i ∷ []) × (item_value i ≡ v)
-one_item (fields.Digits c) v none = (item.Text v, refl, refl)
-one_item (fields.Plain c) v none = (item.Text v, refl, refl)
 one_item (fields.Text c) v none = (item.Text v, refl, refl)
 one_item (fields.Bin c) v none = (item.Bin v, refl, refl)
 one_item (fields.OneOf c) v none = (item.Text v, refl, refl)
@@ -86,9 +81,7 @@ no_copies zero fill h = refl
 no_copies (suc n) fill h = absurd (omega arith)
 
 pub empty_shortest : (f : Field) → field_domain f [] → field_shortest f ≡ []
-empty_shortest (fields.Digits c) h = no_copies c.min 48 h.least
-empty_shortest (fields.Plain c) h = no_copies c.min 65 h.least
-empty_shortest (fields.Text c) h = no_copies c.min 65 h.least
+empty_shortest (fields.Text c) h = no_copies c.min (shortest_character c.alphabet) h.least
 empty_shortest (fields.Bin c) h = no_copies c.min 0 h.least
 empty_shortest (fields.OneOf c) h =
     let least : text_len (first_shortest text_len [] c.values) ≤ 0 = shortest_least (λ x. x) text_len [] c.values [] h in

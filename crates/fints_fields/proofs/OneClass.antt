@@ -1,4 +1,4 @@
--- Classes of the same bounds, or of the same listed values, are the same.
+-- Classes of the same alphabet and bounds, or of the same listed values, are the same.
 use Rattle.std.proofs.Common.{◌≡◌, ◌≢◌, ◌≤◌, ◌∙◌, ℕ, List, [], length, map, All, ap, sym}
 use Rattle.std.specs.List.{AllPairs}
 use Rattle.std.proofs.Props.{props}
@@ -6,30 +6,13 @@ use mathlib.Core.HLevel.{is_prop→PathP}
 use Rattle.fints_fields.specs.Lengths.{text_len}
 use Rattle.fints_fields.specs.Listed.{IsAccountList, IsShort, account_len, first_longest, greatest}
 use Rattle.fints_fields.specs.declared.counted.Bin.{Bin}
-use Rattle.fints_fields.specs.declared.counted.Digits.{Digits}
-use Rattle.fints_fields.specs.declared.counted.Plain.{Plain}
 use Rattle.fints_fields.specs.declared.counted.Text.{Text}
 use Rattle.fints_fields.specs.declared.listing.Account.{Account}
 use Rattle.fints_fields.specs.declared.listing.OneOf.{OneOf}
 
-pub one_digits : (c d : Digits) → c.min ≡ d.min → c.max ≡ d.max → c ≡ d
-one_digits c d low high = λ i. record {
-  min = low i;
-  max = high i;
-  ordered = is_prop→PathP (λ j. low j ≤ high j) (λ j. hlevel props) c.ordered d.ordered i;
-  short = is_prop→PathP (λ j. high j ≤ 10000) (λ j. hlevel props) c.short d.short i;
-}
-
-pub one_plain : (c d : Plain) → c.min ≡ d.min → c.max ≡ d.max → c ≡ d
-one_plain c d low high = λ i. record {
-  min = low i;
-  max = high i;
-  ordered = is_prop→PathP (λ j. low j ≤ high j) (λ j. hlevel props) c.ordered d.ordered i;
-  short = is_prop→PathP (λ j. high j ≤ 10000) (λ j. hlevel props) c.short d.short i;
-}
-
-pub one_text : (c d : Text) → c.min ≡ d.min → c.max ≡ d.max → c ≡ d
-one_text c d low high = λ i. record {
+pub one_text : (c d : Text) → c.alphabet ≡ d.alphabet → c.min ≡ d.min → c.max ≡ d.max → c ≡ d
+one_text c d same low high = λ i. record {
+  alphabet = same i;
   min = low i;
   max = high i;
   ordered = is_prop→PathP (λ j. low j ≤ high j) (λ j. hlevel props) c.ordered d.ordered i;

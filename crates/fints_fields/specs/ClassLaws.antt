@@ -1,7 +1,7 @@
 -- How long the values of a class are written. Lemmas with their proofs: nothing here need be believed.
 use Rattle.std.specs.Prelude.{ℕ, ◌≡◌, ◌+◌, ◌*◌, ◌^◌, ◌<◌, ◌≤◌, ◌||◌, false, List, [], ◌∷◌, length, map, All, replicate, suc, zero}
 use Rattle.std.specs.Fmt.{decimal}
-use Rattle.std.proofs.Common.{refl, sym, ◌∙◌, arith, inl, inr, eqb}
+use Rattle.std.proofs.Common.{refl, ◌∙◌, arith, inl, inr, eqb}
 use Rattle.std.proofs.lemmas.Bool.{cases_Bool}
 use Rattle.std.proofs.lemmas.Bool.Decides.{nat_tests}
 use Rattle.std.proofs.lemmas.List.{length-replicate, length-append}
@@ -10,20 +10,15 @@ use Rattle.std.proofs.lemmas.Fmt.{decimal_is_IsNumeral, length-decimal-le, decim
 use Rattle.std.proofs.lemmas.Int.Digits.{digits_value-lt}
 use Rattle.std.specs.Str.Parse.{digits_value}
 use Rattle.fints_segments.specs.Spelling.{written_unit, text_bytes, unit_bytes, is_separator}
-use Rattle.fints_fields.specs.Joined.{joined}
 use Rattle.fints_fields.specs.Lengths.{text_len, binary_len}
-use Rattle.fints_fields.specs.Classes.{Counts, as_text, IsDigit, IsPlain, IsLatin, IsByte}
+use Rattle.fints_fields.specs.Classes.{Counts, IsByte, IsCharacter, longest_character, shortest_character}
+use Rattle.fints_fields.specs.declared.alphabet.Alphabet.{Alphabet}
+use Rattle.fints_fields.specs.declared.alphabet.Alphabet.TheVariants.{Digits, Plain, Latin}
 
 -- ---- how many bytes values have
 
 fill_len : (n fill : ℕ) → length (replicate n fill) ≡ n
 fill_len n fill = length-replicate n fill
-
-pub replicate_most : (max fill : ℕ) (v : List ℕ) → length v ≤ max → length v ≤ length (replicate max fill)
-replicate_most max fill v h = let c : length (replicate max fill) ≡ max = length-replicate max fill in omega arith
-
-pub replicate_least : (min fill : ℕ) (v : List ℕ) → min ≤ length v → length (replicate min fill) ≤ length v
-replicate_least min fill v h = let c : length (replicate min fill) ≡ min = length-replicate min fill in omega arith
 
 -- a value of any count within the limits is in the domain
 counted : (P : ℕ → Type 0) (min max n fill : ℕ) → P fill → min ≤ n → n ≤ max → Counts P min max (replicate n fill)
@@ -72,29 +67,54 @@ text_len-bare (b ∷ bs) h = let e = text_len-cons b bs in let one : length (uni
 bare : (b : ℕ) → (is_separator b || eqb b 63 || eqb b 64) ≡ false → IsBare b
 bare b h = rw h refl
 
-digit_bare : (b : ℕ) → IsDigit b → IsBare b
+-- digits, and letters and digits, are written as they stand
+digit_bare : (b : ℕ) → IsCharacter Digits b → IsBare b
 digit_bare b h = bare b (grind (arith, nat_tests))
 
-plain_bare : (b : ℕ) → IsPlain b → IsBare b
+plain_bare : (b : ℕ) → IsCharacter Plain b → IsBare b
 plain_bare b h = bare b (grind (arith, nat_tests))
-
--- digits, and letters and digits, are written as they stand
-pub digits_as_text : (v : List ℕ) → All IsDigit v → length v ≡ length (joined (as_text v))
-digits_as_text v h = sym (text_len-bare v (λ k d lt. digit_bare _ (h k d lt)))
-
-pub plain_as_text : (v : List ℕ) → All IsPlain v → length v ≡ length (joined (as_text v))
-plain_as_text v h = sym (text_len-bare v (λ k d lt. plain_bare _ (h k d lt)))
 
 bare_fill : (n fill : ℕ) → IsBare fill → text_len (replicate n fill) ≡ n
 bare_fill n fill p = text_len-bare (replicate n fill) (All-replicate IsBare n fill p) ∙ fill_len n fill
 
-pub text_most : (min max : ℕ) (v : List ℕ) → Counts IsLatin min max v → text_len v ≤ text_len (replicate max 63)
-text_most min max v h = let a = text_len-high v in let b = text_len_marks max in omega (arith, h.most)
+pub text_len_nines : (n : ℕ) → text_len (replicate n 57) ≡ n
+text_len_nines n = bare_fill n 57 refl
 
-pub text_least : (min max : ℕ) (v : List ℕ) → Counts IsLatin min max v → text_len (replicate min 65) ≤ text_len v
-text_least min max v h =
-    let a = text_len-low v in
-    let b = bare_fill min 65 refl in
+pub text_len_capitals : (n : ℕ) → text_len (replicate n 90) ≡ n
+text_len_capitals n = bare_fill n 90 refl
+
+-- ---- the longest and the shortest text of an alphabet
+
+pub longest_has : (a : Alphabet) → IsCharacter a (longest_character a)
+longest_has Digits = (omega arith, omega arith)
+longest_has Plain = inl (omega arith, omega arith)
+longest_has Latin = inl (omega arith, omega arith)
+
+pub shortest_has : (a : Alphabet) → IsCharacter a (shortest_character a)
+shortest_has Digits = (omega arith, omega arith)
+shortest_has Plain = inl (omega arith, omega arith)
+shortest_has Latin = inl (omega arith, omega arith)
+
+pub text_most : (a : Alphabet) (min max : ℕ) (v : List ℕ) → Counts (IsCharacter a) min max v → text_len v ≤ text_len (replicate max (longest_character a))
+text_most Digits min max v h =
+    let same = text_len-bare v (λ k d lt. digit_bare _ (h.each k d lt)) in
+    let most = text_len_nines max in
+    omega (arith, h.most)
+text_most Plain min max v h =
+    let same = text_len-bare v (λ k d lt. plain_bare _ (h.each k d lt)) in
+    let most = text_len_capitals max in
+    omega (arith, h.most)
+text_most Latin min max v h = let high = text_len-high v in let most = text_len_marks max in omega (arith, h.most)
+
+shortest_bare : (a : Alphabet) → IsBare (shortest_character a)
+shortest_bare Digits = refl
+shortest_bare Plain = refl
+shortest_bare Latin = refl
+
+pub text_least : (a : Alphabet) (min max : ℕ) (v : List ℕ) → Counts (IsCharacter a) min max v → text_len (replicate min (shortest_character a)) ≤ text_len v
+text_least a min max v h =
+    let low = text_len-low v in
+    let least = bare_fill min (shortest_character a) (shortest_bare a) in
     omega (arith, h.least)
 
 -- ---- binary items

@@ -1,25 +1,21 @@
 -- What a field admits and how it is written, by its class.
 use Rattle.std.specs.Prelude.{◌≡◌, ℕ, List, [], length, map, replicate, slice_get, Some}
 use Rattle.fints_segments.specs.declared.item.OwnedItem.{OwnedItem}
-use Rattle.fints_fields.specs.Classes.{Counts, IsByte, IsDigit, IsLatin, IsPlain, as_binary, as_text}
+use Rattle.fints_fields.specs.Classes.{Counts, IsByte, IsCharacter, as_binary, as_text, longest_character, shortest_character}
 use Rattle.fints_fields.specs.Lengths.{binary_len, text_len}
 use Rattle.fints_fields.specs.Listed.{IsListed, account_items, account_len, account_text, first_longest, first_shortest, first_with, greatest}
 use Rattle.fints_fields.specs.declared.field.Field.{Field}
-use Rattle.fints_fields.specs.declared.field.Field.TheVariants.{Account, Bin, Digits, OneOf, Plain, Text}
+use Rattle.fints_fields.specs.declared.field.Field.TheVariants.{Account, Bin, OneOf, Text}
 
 -- the values that the field admits
 abbrev pub field_domain : Field → List ℕ → Type 0
-field_domain (Digits c) v = Counts IsDigit c.min c.max v
-field_domain (Plain c) v = Counts IsPlain c.min c.max v
-field_domain (Text c) v = Counts IsLatin c.min c.max v
+field_domain (Text c) v = Counts (IsCharacter c.alphabet) c.min c.max v
 field_domain (Bin c) v = Counts IsByte c.min c.max v
 field_domain (OneOf c) v = IsListed (λ x. x) c.values v
 field_domain (Account c) v = IsListed account_text c.values v
 
 -- the items that stand for a value
 abbrev pub field_items : Field → List ℕ → List OwnedItem
-field_items (Digits c) v = as_text v
-field_items (Plain c) v = as_text v
 field_items (Text c) v = as_text v
 field_items (Bin c) v = as_binary v
 field_items (OneOf c) v = as_text v
@@ -27,8 +23,6 @@ field_items (Account c) v = account_items (first_with account_text [] c.values v
 
 -- how many bytes a value takes when it is written
 abbrev pub field_written : Field → List ℕ → ℕ
-field_written (Digits c) v = length v
-field_written (Plain c) v = length v
 field_written (Text c) v = text_len v
 field_written (Bin c) v = binary_len v
 field_written (OneOf c) v = text_len v
@@ -36,18 +30,14 @@ field_written (Account c) v = length v
 
 -- a value of greatest written length
 abbrev pub field_longest : Field → List ℕ
-field_longest (Digits c) = replicate c.max 57
-field_longest (Plain c) = replicate c.max 90
-field_longest (Text c) = replicate c.max 63
+field_longest (Text c) = replicate c.max (longest_character c.alphabet)
 field_longest (Bin c) = replicate c.max 255
 field_longest (OneOf c) = first_longest text_len [] c.values
 field_longest (Account c) = account_text (first_longest account_len [] c.values)
 
 -- a value of least written length
 abbrev pub field_shortest : Field → List ℕ
-field_shortest (Digits c) = replicate c.min 48
-field_shortest (Plain c) = replicate c.min 65
-field_shortest (Text c) = replicate c.min 65
+field_shortest (Text c) = replicate c.min (shortest_character c.alphabet)
 field_shortest (Bin c) = replicate c.min 0
 field_shortest (OneOf c) = first_shortest text_len [] c.values
 field_shortest (Account c) = account_text (first_shortest account_len [] c.values)

@@ -10,8 +10,6 @@ ghost use Rattle.fints_fields.specs.Lengths.{text_len};
 ghost use Rattle.fints_fields.specs.Listed.{IsFirstOfGreatest, IsFirstOfLeast, account_text};
 ghost use Rattle.fints_fields.specs.declared.field.Field.TheVariants as fields;
 ghost use Rattle.fints_fields.specs.declared.counted.Bin.{Bin};
-ghost use Rattle.fints_fields.specs.declared.counted.Digits.{Digits};
-ghost use Rattle.fints_fields.specs.declared.counted.Plain.{Plain};
 ghost use Rattle.fints_fields.specs.declared.counted.Text.{Text};
 ghost use Rattle.fints_fields.specs.declared.listing.Account.{Account};
 ghost use Rattle.fints_fields.specs.declared.listing.OneOf.{OneOf};
@@ -60,11 +58,9 @@ pub fn empty_is_shortest()
     ensures { (f : Field) → field_domain f [] → field_shortest f ≡ [] }
 {}
 
-/// A class is given by its bounds, or by its listed values: no two classes of a kind have the same.
+/// A class is given by its alphabet and bounds, or by its listed values: no two classes of a kind have the same.
 pub fn one_class()
-    ensures digits { (c d : Digits) → c.min ≡ d.min → c.max ≡ d.max → c ≡ d }
-    ensures plain { (c d : Plain) → c.min ≡ d.min → c.max ≡ d.max → c ≡ d }
-    ensures text { (c d : Text) → c.min ≡ d.min → c.max ≡ d.max → c ≡ d }
+    ensures text { (c d : Text) → c.alphabet ≡ d.alphabet → c.min ≡ d.min → c.max ≡ d.max → c ≡ d }
     ensures bin { (c d : Bin) → c.min ≡ d.min → c.max ≡ d.max → c ≡ d }
     ensures oneof { (c d : OneOf) → c.values ≡ d.values → c ≡ d }
     ensures account { (c d : Account) → c.values ≡ d.values → c ≡ d }

@@ -1,11 +1,12 @@
 //! The classes whose fields bound the number of bytes.
-ghost use Rattle.std.specs.Prelude.{◌≡◌, ◌↔◌, ◌+◌, ◌^◌, ◌<◌, ◌≤◌, All, IfOk, IfSome, IsSome, IsTrue, length, refl, replicate};
+ghost use Rattle.std.specs.Prelude.{◌≡◌, ◌↔◌, ◌+◌, ◌^◌, ◌<◌, ◌≤◌, IfOk, IfSome, IsSome, IsTrue, length, refl, replicate};
 ghost use Rattle.std.specs.Fmt.{decimal};
-ghost use Rattle.std.proofs.Common.{arith, inl};
-ghost use Rattle.fints_fields.specs.Classes.{Counts, IsByte, IsDigit, IsLatin, IsPlain, as_binary, as_text};
+ghost use Rattle.std.proofs.Common.{arith};
+ghost use Rattle.fints_fields.specs.Classes.{Counts, IsByte, IsCharacter, as_binary, as_text, longest_character, shortest_character};
 ghost use Rattle.fints_fields.specs.Lengths.{binary_len, text_len};
-ghost use Rattle.fints_fields.specs.ClassLaws.{binary_least, binary_most, counted_least, counted_most, digits_as_text, plain_as_text, replicate_least, replicate_most, text_least, text_most};
+ghost use Rattle.fints_fields.specs.ClassLaws.{binary_least, binary_most, counted_least, counted_most, longest_has, shortest_has, text_least, text_most};
 
+use crate::alphabet::Alphabet;
 use crate::class::FieldClass;
 use fints_syntax::{Memory, decimal_len, written_len};
 use std::alloc::Global;
@@ -13,22 +14,16 @@ use std::alloc::Global;
 /// The most bytes of a field's value.
 const MAX_LEN: u16 = 10_000;
 
-fn is_digit(b: u8) -> bool
-    ensures { IsTrue result ↔ IsDigit b }
+fn are_bounds(min: u16, max: u16) -> bool
+    ensures { IsTrue result ↔ ((min ≤ max) × (max ≤ 10000)) }
 {
-    b.is_ascii_digit()
+    min <= max && max <= MAX_LEN
 }
 
-fn is_plain(b: u8) -> bool
-    ensures { IsTrue result ↔ IsPlain b }
+fn is_within(min: u16, max: u16, value: &[u8]) -> bool
+    ensures { IsTrue result ↔ ((min ≤ length value.now) × (length value.now ≤ max)) }
 {
-    b.is_ascii_alphanumeric()
-}
-
-fn is_latin(b: u8) -> bool
-    ensures { IsTrue result ↔ IsLatin b }
-{
-    (b' '..=b'~').contains(&b) || b >= 160
+    value.len() >= usize::from(min) && value.len() <= usize::from(max)
 }
 
 /// `count` times the byte.
@@ -39,145 +34,10 @@ fn repeated(alloc: Global, b: u8, count: u16) -> Result<Vec<u8>, Memory>
     Ok(bytes)
 }
 
-/// Digits 0 to 9, `min` to `max` of them.
-#[derive(Clone, Copy, Debug)]
-pub struct Digits {
-    pub min: u16,
-    pub max: u16,
-    pub ghost ordered: { min ≤ max },
-    pub ghost short: { max ≤ 10000 },
-}
-
-impl Digits {
-    /// A field of `min` to `max` bytes.
-    pub fn new(min: u16, max: u16) -> Option<Digits>
-        ensures some { IsSome result ↔ ((min ≤ max) × (max ≤ 10000)) }
-        ensures bounds { IfSome result (λ c. (c.min ≡ min) × (c.max ≡ max)) }
-    {
-        if min > max || max > MAX_LEN {
-            return None;
-        }
-        Some(Digits { min, max })
-    }
-}
-
-impl FieldClass for Digits {
-    ghost domain = { λ c v. Counts IsDigit c.min c.max v };
-
-    ghost items_of = { λ c v. as_text v };
-
-    ghost written = { λ c v. length v };
-
-    ghost longest = { λ c. replicate c.max 57 };
-
-    ghost shortest = { λ c. replicate c.min 48 };
-
-    fn admits(&self, value: &[u8]) -> bool {
-        value.len() >= usize::from(self.min)
-            && value.len() <= usize::from(self.max)
-            && value.iter().all(|b| is_digit(*b))
-    }
-
-    fn longest(&self, alloc: Global) -> Result<Vec<u8>, Memory> {
-        repeated(alloc, b'9', self.max)
-    }
-
-    fn shortest(&self, alloc: Global) -> Result<Vec<u8>, Memory> {
-        repeated(alloc, b'0', self.min)
-    }
-
-    fn written(&self, value: &[u8]) -> u64 {
-        value.len() as u64
-    }
-
-    fn longest_written(&self) -> u64 {
-        u64::from(self.max)
-    }
-
-    ghost longest_admitted = { λ c. counted_most IsDigit c.min c.max 57 (Prim.omega arith, Prim.omega arith) c.ordered };
-
-    ghost shortest_admitted = { λ c. counted_least IsDigit c.min c.max 48 (Prim.omega arith, Prim.omega arith) c.ordered };
-
-    ghost some_item = { λ c v h. Prim.omega arith };
-
-    ghost written_as_items = { λ c v h. digits_as_text v h.each };
-
-    ghost none_longer = { λ c v h. replicate_most c.max 57 v h.most };
-
-    ghost none_shorter = { λ c v h. replicate_least c.min 48 v h.least };
-}
-
-/// Letters A to Z and a to z and digits, `min` to `max` of them.
-#[derive(Clone, Copy, Debug)]
-pub struct Plain {
-    pub min: u16,
-    pub max: u16,
-    pub ghost ordered: { min ≤ max },
-    pub ghost short: { max ≤ 10000 },
-}
-
-impl Plain {
-    /// A field of `min` to `max` bytes.
-    pub fn new(min: u16, max: u16) -> Option<Plain>
-        ensures some { IsSome result ↔ ((min ≤ max) × (max ≤ 10000)) }
-        ensures bounds { IfSome result (λ c. (c.min ≡ min) × (c.max ≡ max)) }
-    {
-        if min > max || max > MAX_LEN {
-            return None;
-        }
-        Some(Plain { min, max })
-    }
-}
-
-impl FieldClass for Plain {
-    ghost domain = { λ c v. Counts IsPlain c.min c.max v };
-
-    ghost items_of = { λ c v. as_text v };
-
-    ghost written = { λ c v. length v };
-
-    ghost longest = { λ c. replicate c.max 90 };
-
-    ghost shortest = { λ c. replicate c.min 65 };
-
-    fn admits(&self, value: &[u8]) -> bool {
-        value.len() >= usize::from(self.min)
-            && value.len() <= usize::from(self.max)
-            && value.iter().all(|b| is_plain(*b))
-    }
-
-    fn longest(&self, alloc: Global) -> Result<Vec<u8>, Memory> {
-        repeated(alloc, b'Z', self.max)
-    }
-
-    fn shortest(&self, alloc: Global) -> Result<Vec<u8>, Memory> {
-        repeated(alloc, b'A', self.min)
-    }
-
-    fn written(&self, value: &[u8]) -> u64 {
-        value.len() as u64
-    }
-
-    fn longest_written(&self) -> u64 {
-        u64::from(self.max)
-    }
-
-    ghost longest_admitted = { λ c. counted_most IsPlain c.min c.max 90 (inl (Prim.omega arith, Prim.omega arith)) c.ordered };
-
-    ghost shortest_admitted = { λ c. counted_least IsPlain c.min c.max 65 (inl (Prim.omega arith, Prim.omega arith)) c.ordered };
-
-    ghost some_item = { λ c v h. Prim.omega arith };
-
-    ghost written_as_items = { λ c v h. plain_as_text v h.each };
-
-    ghost none_longer = { λ c v h. replicate_most c.max 90 v h.most };
-
-    ghost none_shorter = { λ c v h. replicate_least c.min 65 v h.least };
-}
-
-/// Characters of ISO 8859-1 that are no controls, one byte each, `min` to `max` of them.
+/// Texts of one alphabet, `min` to `max` bytes.
 #[derive(Clone, Copy, Debug)]
 pub struct Text {
+    pub alphabet: Alphabet,
     pub min: u16,
     pub max: u16,
     pub ghost ordered: { min ≤ max },
@@ -186,62 +46,64 @@ pub struct Text {
 
 impl Text {
     /// A field of `min` to `max` bytes.
-    pub fn new(min: u16, max: u16) -> Option<Text>
+    pub fn new(alphabet: Alphabet, min: u16, max: u16) -> Option<Text>
         ensures some { IsSome result ↔ ((min ≤ max) × (max ≤ 10000)) }
-        ensures bounds { IfSome result (λ c. (c.min ≡ min) × (c.max ≡ max)) }
+        ensures kept { IfSome result (λ c. (c.alphabet ≡ alphabet) × (c.min ≡ min) × (c.max ≡ max)) }
     {
-        if min > max || max > MAX_LEN {
+        if !are_bounds(min, max) {
             return None;
         }
-        Some(Text { min, max })
+        Some(Text { alphabet, min, max })
     }
 }
 
 impl FieldClass for Text {
-    ghost domain = { λ c v. Counts IsLatin c.min c.max v };
+    ghost domain = { λ c v. Counts (IsCharacter c.alphabet) c.min c.max v };
 
     ghost items_of = { λ c v. as_text v };
 
     ghost written = { λ c v. text_len v };
 
-    ghost longest = { λ c. replicate c.max 63 };
+    ghost longest = { λ c. replicate c.max (longest_character c.alphabet) };
 
-    ghost shortest = { λ c. replicate c.min 65 };
+    ghost shortest = { λ c. replicate c.min (shortest_character c.alphabet) };
 
     fn admits(&self, value: &[u8]) -> bool {
-        value.len() >= usize::from(self.min)
-            && value.len() <= usize::from(self.max)
-            && value.iter().all(|b| is_latin(*b))
+        let alphabet = self.alphabet;
+        is_within(self.min, self.max, value) && value.iter().all(|b| alphabet.has(*b))
     }
 
     fn longest(&self, alloc: Global) -> Result<Vec<u8>, Memory> {
-        repeated(alloc, b'?', self.max)
+        repeated(alloc, self.alphabet.longest(), self.max)
     }
 
     fn shortest(&self, alloc: Global) -> Result<Vec<u8>, Memory> {
-        repeated(alloc, b'A', self.min)
+        repeated(alloc, self.alphabet.shortest(), self.min)
     }
 
     fn written(&self, value: &[u8]) -> u64 {
         written_len(value)
     }
 
-    #[tactic(auto, using(crate::specs::ClassLaws::text_len_marks))]
+    #[tactic(auto, using(crate::specs::ClassLaws::text_len_capitals, crate::specs::ClassLaws::text_len_marks, crate::specs::ClassLaws::text_len_nines))]
     fn longest_written(&self) -> u64 {
-        2 * u64::from(self.max)
+        match self.alphabet {
+            Alphabet::Digits | Alphabet::Plain => u64::from(self.max),
+            Alphabet::Latin => 2 * u64::from(self.max),
+        }
     }
 
-    ghost longest_admitted = { λ c. counted_most IsLatin c.min c.max 63 (inl (Prim.omega arith, Prim.omega arith)) c.ordered };
+    ghost longest_admitted = { λ c. counted_most (IsCharacter c.alphabet) c.min c.max (longest_character c.alphabet) (longest_has c.alphabet) c.ordered };
 
-    ghost shortest_admitted = { λ c. counted_least IsLatin c.min c.max 65 (inl (Prim.omega arith, Prim.omega arith)) c.ordered };
+    ghost shortest_admitted = { λ c. counted_least (IsCharacter c.alphabet) c.min c.max (shortest_character c.alphabet) (shortest_has c.alphabet) c.ordered };
 
     ghost some_item = { λ c v h. Prim.omega arith };
 
     ghost written_as_items = { λ c v h. refl };
 
-    ghost none_longer = { λ c v h. text_most c.min c.max v h };
+    ghost none_longer = { λ c v h. text_most c.alphabet c.min c.max v h };
 
-    ghost none_shorter = { λ c v h. text_least c.min c.max v h };
+    ghost none_shorter = { λ c v h. text_least c.alphabet c.min c.max v h };
 }
 
 /// How many bytes a binary item of `len` bytes takes when it is written.
@@ -268,7 +130,7 @@ impl Bin {
         ensures some { IsSome result ↔ ((1 ≤ min) × (min ≤ max) × (max ≤ 10000)) }
         ensures bounds { IfSome result (λ c. (c.min ≡ min) × (c.max ≡ max)) }
     {
-        if min == 0 || min > max || max > MAX_LEN {
+        if min == 0 || !are_bounds(min, max) {
             return None;
         }
         Some(Bin { min, max })
@@ -287,7 +149,7 @@ impl FieldClass for Bin {
     ghost shortest = { λ c. replicate c.min 0 };
 
     fn admits(&self, value: &[u8]) -> bool {
-        value.len() >= usize::from(self.min) && value.len() <= usize::from(self.max)
+        is_within(self.min, self.max, value)
     }
 
     fn longest(&self, alloc: Global) -> Result<Vec<u8>, Memory> {

@@ -2,7 +2,7 @@
 ghost use Rattle.std.specs.Prelude.{◌≡◌, ◌≤◌, List, length, ℕ};
 
 use crate::class::FieldClass;
-use crate::counted::{Bin, Digits, Plain, Text};
+use crate::counted::{Bin, Text};
 use crate::listed::AccountValue;
 use crate::listing::{Account, OneOf};
 use fints_syntax::Memory;
@@ -11,8 +11,6 @@ use std::alloc::Global;
 /// A field of a script, by its class.
 #[derive(Debug, Drop)]
 pub enum Field {
-    Digits(Digits),
-    Plain(Plain),
     Text(Text),
     Bin(Bin),
     OneOf(OneOf),
@@ -61,8 +59,6 @@ impl FieldClass for Field {
 
     fn admits(&self, value: &[u8]) -> bool {
         match self {
-            Field::Digits(c) => c.admits(value),
-            Field::Plain(c) => c.admits(value),
             Field::Text(c) => c.admits(value),
             Field::Bin(c) => c.admits(value),
             Field::OneOf(c) => c.admits(value),
@@ -72,8 +68,6 @@ impl FieldClass for Field {
 
     fn longest(&self, alloc: Global) -> Result<Vec<u8>, Memory> {
         match self {
-            Field::Digits(c) => c.longest(alloc),
-            Field::Plain(c) => c.longest(alloc),
             Field::Text(c) => c.longest(alloc),
             Field::Bin(c) => c.longest(alloc),
             Field::OneOf(c) => c.longest(alloc),
@@ -83,8 +77,6 @@ impl FieldClass for Field {
 
     fn shortest(&self, alloc: Global) -> Result<Vec<u8>, Memory> {
         match self {
-            Field::Digits(c) => c.shortest(alloc),
-            Field::Plain(c) => c.shortest(alloc),
             Field::Text(c) => c.shortest(alloc),
             Field::Bin(c) => c.shortest(alloc),
             Field::OneOf(c) => c.shortest(alloc),
@@ -94,8 +86,6 @@ impl FieldClass for Field {
 
     fn written(&self, value: &[u8]) -> u64 {
         match self {
-            Field::Digits(c) => c.written(value),
-            Field::Plain(c) => c.written(value),
             Field::Text(c) => c.written(value),
             Field::Bin(c) => c.written(value),
             Field::OneOf(c) => c.written(value),
@@ -105,8 +95,6 @@ impl FieldClass for Field {
 
     fn longest_written(&self) -> u64 {
         match self {
-            Field::Digits(c) => c.longest_written(),
-            Field::Plain(c) => c.longest_written(),
             Field::Text(c) => c.longest_written(),
             Field::Bin(c) => c.longest_written(),
             Field::OneOf(c) => c.longest_written(),

@@ -1,6 +1,7 @@
 //! Fields of messages: their names, and the classes that say which values they may have.
 #![tactic(auto)]
 
+mod alphabet;
 mod class;
 pub mod class_laws;
 mod counted;
@@ -10,8 +11,9 @@ mod listing;
 mod lists;
 mod name;
 
+pub use alphabet::Alphabet;
 pub use class::FieldClass;
-pub use counted::{Bin, Digits, Plain, Text};
+pub use counted::{Bin, Text};
 pub use field::Field;
 pub use listed::{AccountValue, Listed, are_distinct};
 pub use listing::{Account, OneOf};

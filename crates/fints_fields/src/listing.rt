@@ -22,14 +22,6 @@ const MAX_ITEMS: usize = 6;
 /// The most bytes of a listed text.
 const MAX_TEXT: usize = 10_000;
 
-fn copy(alloc: Global, bytes: &[u8]) -> Result<Vec<u8>, Memory>
-    ensures { IfOk result (λ v. v.items ≡ bytes.now) }
-{
-    let mut out = Vec::new(alloc);
-    out.extend_from_slice(bytes)?;
-    Ok(out)
-}
-
 fn is_count(count: usize) -> bool
     ensures { IsTrue result ↔ ((1 ≤ count) × (count ≤ 100)) }
 {
@@ -129,11 +121,13 @@ impl FieldClass for OneOf {
     }
 
     fn longest(&self, alloc: Global) -> Result<Vec<u8>, Memory> {
-        copy(alloc, longest_of(self.values.as_slice()).as_slice())
+        let longest = longest_of(self.values.as_slice());
+        Ok(longest.as_slice().to_vec(alloc)?)
     }
 
     fn shortest(&self, alloc: Global) -> Result<Vec<u8>, Memory> {
-        copy(alloc, shortest_of(self.values.as_slice()).as_slice())
+        let shortest = shortest_of(self.values.as_slice());
+        Ok(shortest.as_slice().to_vec(alloc)?)
     }
 
     fn written(&self, value: &[u8]) -> u64 {
@@ -227,11 +221,13 @@ impl FieldClass for Account {
     }
 
     fn longest(&self, alloc: Global) -> Result<Vec<u8>, Memory> {
-        copy(alloc, longest_of(self.values.as_slice()).text())
+        let longest = longest_of(self.values.as_slice());
+        Ok(longest.text().to_vec(alloc)?)
     }
 
     fn shortest(&self, alloc: Global) -> Result<Vec<u8>, Memory> {
-        copy(alloc, shortest_of(self.values.as_slice()).text())
+        let shortest = shortest_of(self.values.as_slice());
+        Ok(shortest.text().to_vec(alloc)?)
     }
 
     fn written(&self, value: &[u8]) -> u64 {

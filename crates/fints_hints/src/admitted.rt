@@ -1,78 +1,41 @@
 //! Which value of a case a script doesn't admit. The value itself may be a secret: it is never told.
-use crate::labels::{label_of, name_text};
+use crate::labels::{alphabet_name, label_of, name_text};
 use fints_cases::{Case, NamedValue};
 use fints_field_rows::NamedField;
-use fints_fields::{Field, FieldClass};
+use fints_fields::{Alphabet, Field, FieldClass};
 use fints_hint_words::places::Told;
 use fints_script::Script;
 use fints_syntax::Memory;
 use std::alloc::Global;
 
-/// Which bytes a value of a class has.
-#[derive(Clone, Copy, Debug)]
-struct Counted {
-    min: u16,
-    max: u16,
-    class: &'static str,
-    each: &'static str,
-}
-
-fn counted_of(field: &Field) -> Option<Counted> {
-    match field {
-        Field::Digits(c) => Some(Counted {
-            min: c.min,
-            max: c.max,
-            class: "digits",
-            each: "is no digit",
-        }),
-        Field::Plain(c) => Some(Counted {
-            min: c.min,
-            max: c.max,
-            class: "plain",
-            each: "is neither a letter A to Z or a to z nor a digit",
-        }),
-        Field::Text(c) => Some(Counted {
-            min: c.min,
-            max: c.max,
-            class: "text",
-            each: "is no character of ISO 8859-1, or a control",
-        }),
-        Field::Bin(c) => Some(Counted {
-            min: c.min,
-            max: c.max,
-            class: "bin",
-            each: "",
-        }),
-        _ => None,
-    }
-}
-
-fn fits(field: &Field, byte: u8) -> bool {
-    match field {
-        Field::Digits(_) => byte.is_ascii_digit(),
-        Field::Plain(_) => byte.is_ascii_alphanumeric(),
-        Field::Text(_) => (b' '..=b'~').contains(&byte) || byte >= 160,
-        _ => true,
-    }
-}
-
-fn counted_text(alloc: Global, field: &Field, counted: &Counted, value: &[u8]) -> Told {
-    let Counted {
-        min,
-        max,
-        class,
-        each,
-    } = *counted;
+fn length_text(alloc: Global, min: u16, max: u16, value: &[u8]) -> Told {
     let len = value.len();
     if len < usize::from(min) || len > usize::from(max) {
         return Ok(Some(format!(in alloc;
             "its value has {len} bytes, and must have {min} to {max}"
         )?));
     }
-    match value.iter().position(|byte| !fits(field, *byte)) {
+    Ok(None)
+}
+
+// What a byte is that is no character of the alphabet.
+fn misfit_words(alphabet: Alphabet) -> &'static str {
+    match alphabet {
+        Alphabet::Digits => "is no digit",
+        Alphabet::Plain => "is neither a letter A to Z or a to z nor a digit",
+        Alphabet::Latin => "is no character of ISO 8859-1, or a control",
+    }
+}
+
+// The first byte that is no character of the alphabet.
+fn character_text(alloc: Global, alphabet: Alphabet, value: &[u8]) -> Told {
+    match value.iter().position(|byte| !alphabet.has(*byte)) {
         Some(place) => {
             let number = place.saturating_add(1);
-            Ok(Some(format!(in alloc; "byte {number} of its value {each}; the class is {class}")?))
+            let (misfit, class) = (misfit_words(alphabet), alphabet_name(alphabet));
+            Ok(Some(format!(in alloc;
+                "byte {number} of its value {misfit}; the class is {class}"
+            )?))
         }
         None => Ok(None),
     }
@@ -80,16 +43,18 @@ fn counted_text(alloc: Global, field: &Field, counted: &Counted, value: &[u8]) -
 
 // Why a value is none of the field's.
 fn value_text(alloc: Global, field: &Field, value: &[u8]) -> Told {
-    if let Some(counted) = counted_of(field) {
-        return counted_text(alloc, field, &counted, value);
-    }
     match field {
+        Field::Text(c) => match length_text(alloc, c.min, c.max, value)? {
+            Some(text) => Ok(Some(text)),
+            None => character_text(alloc, c.alphabet, value),
+        },
+        Field::Bin(c) => length_text(alloc, c.min, c.max, value),
         Field::OneOf(c) => {
             let count = c.values.as_slice().len();
             Ok(Some(format!(in alloc; "its value is none of the {count} that the script lists")?))
         }
-        _ => {
-            let count = field.accounts().len();
+        Field::Account(c) => {
+            let count = c.values.as_slice().len();
             Ok(Some(format!(in alloc;
                 "its value is none of the {count} accounts that the script lists, their items written with : between"
             )?))

@@ -1,7 +1,7 @@
 //! Fields of a case by their names. What stands where a name must may be a value, which may be a secret:
 //! only a name that the script has, or one near to it, is told.
 use fints_field_rows::NamedField;
-use fints_fields::Name;
+use fints_fields::{Alphabet, Name};
 use fints_hint_words::guessing::near;
 use fints_syntax::Memory;
 use std::alloc::Global;
@@ -11,6 +11,15 @@ use std::fmt::{Display, Formatter, Write};
 /// The text of a name.
 pub fn name_text(name: &Name) -> &str {
     std::str::from_utf8(name.as_bytes()).unwrap_or("")
+}
+
+/// The class of texts of an alphabet, as scripts name it.
+pub fn alphabet_name(alphabet: Alphabet) -> &'static str {
+    match alphabet {
+        Alphabet::Digits => "digits",
+        Alphabet::Plain => "plain",
+        Alphabet::Latin => "text",
+    }
 }
 
 fn names_of(alloc: Global, fields: &[NamedField]) -> Result<Vec<&str>, Memory> {

@@ -1,5 +1,5 @@
 //! Which segment of a script leaves its account or its TAN process open, and what to write.
-use crate::labels::name_text;
+use crate::labels::{alphabet_name, name_text};
 use fints_field_rows::NamedField;
 use fints_fields::Field;
 use fints_hint_words::places::Told;
@@ -12,9 +12,7 @@ use std::alloc::Global;
 
 fn class_name(field: &Field) -> &'static str {
     match field {
-        Field::Digits(_) => "digits",
-        Field::Plain(_) => "plain",
-        Field::Text(_) => "text",
+        Field::Text(c) => alphabet_name(c.alphabet),
         Field::Bin(_) => "bin",
         Field::OneOf(_) => "oneof",
         Field::Account(_) => "account",

@@ -39,11 +39,11 @@ one_stop found r q (f, is, r_is) (g, also, q_is) = r_is ∙ ap Err (same_err f g
 no_stop : {X : Type 0} (found : Result X ScriptFault) (x : X) (r : Outcome) → found ≡ Ok x → Stops found r → ⊥
 no_stop found x r is (f, stops, r_is) = ok_err x f (sym is ∙ stops)
 
-module _ (one_text : (c d : Text) → c.min ≡ d.min → c.max ≡ d.max → c ≡ d) (one_field : OneField) where
+module _ (one_text : (c d : Text) → c.alphabet ≡ d.alphabet → c.min ≡ d.min → c.max ≡ d.max → c ≡ d) (one_field : OneField) where
   -- ---- the fields of rows
 
   one_dialog_class : (f g : Field) → IsDialogClass f → IsDialogClass g → f ≡ g
-  one_dialog_class (classes.Text c) (classes.Text d) h i = ap classes.Text (one_text c d (h.0 ∙ sym i.0) (h.1 ∙ sym i.1))
+  one_dialog_class (classes.Text c) (classes.Text d) h i = ap classes.Text (one_text c d (h.0 ∙ sym i.0) (h.1 ∙ sym i.1) (h.2 ∙ sym i.2))
   one_dialog_class (classes.Text c) _ h i = absurd i
   one_dialog_class _ _ h i = absurd h
 

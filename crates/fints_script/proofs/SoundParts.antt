@@ -33,8 +33,6 @@ use Rattle.fints_script.proofs.SoundElements.{IsBehindFirst, frame_elements}
 -- ---- items of lists without account fields
 
 one_item : (class : Field) → is_account class ≡ false → field_most_items class ≡ 1
-one_item (classes.Digits c) h = refl
-one_item (classes.Plain c) h = refl
 one_item (classes.Text c) h = refl
 one_item (classes.Bin c) h = refl
 one_item (classes.OneOf c) h = refl

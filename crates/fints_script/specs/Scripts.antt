@@ -12,6 +12,7 @@ use Rattle.fints_field_rows.specs.declared.fault.FaultKind.{FaultKind}
 use Rattle.fints_field_rows.specs.declared.fault.FaultKind.TheVariants as kinds
 use Rattle.fints_field_rows.specs.declared.fault.Place.TheVariants as places
 use Rattle.fints_field_rows.specs.declared.fault.ScriptFault.{ScriptFault}
+use Rattle.fints_fields.specs.declared.alphabet.Alphabet.TheVariants.{Latin}
 use Rattle.fints_fields.specs.declared.field.Field.{Field}
 use Rattle.fints_fields.specs.declared.field.Field.TheVariants as fields
 use Rattle.fints_field_rows.specs.declared.fields.NamedField.{NamedField}
@@ -77,7 +78,7 @@ fields_from rows = rows_from (λ n. places.Field n) (λ i row. field_in (take i 
 
 -- the class of the dialogue id: a text of 1 to 30 bytes
 abbrev pub IsDialogClass : Field → Type 0
-IsDialogClass (fields.Text c) = (c.min ≡ 1) × (c.max ≡ 30)
+IsDialogClass (fields.Text c) = (c.alphabet ≡ Latin) × (c.min ≡ 1) × (c.max ≡ 30)
 IsDialogClass _ = ⊥
 
 abbrev pub IsDialogField : NamedField → Type 0

@@ -6,7 +6,7 @@ ghost use Rattle.fints_script.specs.Scripts.{DenoteFields, IsDialogField, MAX_FI
 
 use fints_field_rows::names::dialog;
 use fints_field_rows::{Fields, NamedField, Place, ScriptFault, field_in, placed};
-use fints_fields::{Field, Text};
+use fints_fields::{Alphabet, Field, Text};
 use std::alloc::Global;
 use toml::Value;
 
@@ -16,7 +16,11 @@ fn dialog_field() -> NamedField
 {
     NamedField {
         name: dialog(),
-        class: Field::Text(Text { min: 1, max: 30 }),
+        class: Field::Text(Text {
+            alphabet: Alphabet::Latin,
+            min: 1,
+            max: 30,
+        }),
     }
 }
 

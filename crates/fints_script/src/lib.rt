@@ -16,8 +16,8 @@ mod top;
 pub use fints_cases::{Answer, Branch, Case, CaseFault, NamedValue, Pattern, Target, Values};
 pub use fints_field_rows::{FaultKind, NamedField, Place, ScriptFault};
 pub use fints_fields::{
-    Account, AccountValue, Accounts, Bin, Digits, Field, FieldClass, Name, OneOf, Plain, Text,
-    Texts, class_laws,
+    Account, AccountValue, Accounts, Alphabet, Bin, Field, FieldClass, Name, OneOf, Text, Texts,
+    class_laws,
 };
 pub use fints_templates::{Signer, Template, TemplateElements, TemplateItem};
 pub use opens::PlanFault;

@@ -1,6 +1,6 @@
 //! The classes of fields: what they admit, and how long their values are written.
 use fints_script::{
-    Account, AccountValue, Accounts, Bin, Digits, Field, FieldClass, OneOf, Plain, Text, Texts,
+    Account, AccountValue, Accounts, Alphabet, Bin, Field, FieldClass, OneOf, Text, Texts,
 };
 use fints_syntax::Bytes;
 use std::alloc::Global;
@@ -50,16 +50,16 @@ fn assert_ends<C: FieldClass>(
 
 #[test]
 fn ends_of_texts(rt: HostRuntime) -> Result<(), Fail> {
-    let text = Text::new(0, 3).ok_or("text")?;
+    let text = Text::new(Alphabet::Latin, 0, 3).ok_or("text")?;
     assert_eq!(rt; text.written(b"a+'"), 5);
     assert_ends(&rt, rt.alloc(), &text, (b"???", 6), (b"", 0))?;
-    let plain = Plain::new(1, 2).ok_or("plain")?;
+    let plain = Text::new(Alphabet::Plain, 1, 2).ok_or("plain")?;
     assert_ends(&rt, rt.alloc(), &plain, (b"ZZ", 2), (b"A", 1))
 }
 
 #[test]
 fn ends_of_numbers_and_bytes(rt: HostRuntime) -> Result<(), Fail> {
-    let digits = Digits::new(5, 6).ok_or("digits")?;
+    let digits = Text::new(Alphabet::Digits, 5, 6).ok_or("digits")?;
     assert_ends(&rt, rt.alloc(), &digits, (b"999999", 6), (b"00000", 5))?;
     let bin = Bin::new(1, 2).ok_or("bin")?;
     assert_ends(&rt, rt.alloc(), &bin, (b"\xff\xff", 5), (b"\x00", 4))
@@ -67,17 +67,17 @@ fn ends_of_numbers_and_bytes(rt: HostRuntime) -> Result<(), Fail> {
 
 #[test]
 fn admitted_texts(rt: HostRuntime) -> Result<(), Fail> {
-    let text = Text::new(1, 2).ok_or("text")?;
+    let text = Text::new(Alphabet::Latin, 1, 2).ok_or("text")?;
     assert!(rt; text.admits(b" ~") && text.admits(b"\xa0\xff"));
     assert!(rt; !text.admits(b"\x80") && !text.admits(b"\x7f") && !text.admits(b""));
-    let plain = Plain::new(0, 2).ok_or("plain")?;
+    let plain = Text::new(Alphabet::Plain, 0, 2).ok_or("plain")?;
     assert!(rt; plain.admits(b"aZ") && !plain.admits(b"-"));
     Ok(())
 }
 
 #[test]
 fn admitted_numbers_and_bytes(rt: HostRuntime) -> Result<(), Fail> {
-    let digits = Digits::new(0, 2).ok_or("digits")?;
+    let digits = Text::new(Alphabet::Digits, 0, 2).ok_or("digits")?;
     assert!(rt; digits.admits(b"09") && !digits.admits(b"a") && !digits.admits(b"012"));
     let bin = Bin::new(1, 2).ok_or("bin")?;
     assert!(rt; bin.admits(b"\x00") && !bin.admits(b""));
@@ -86,9 +86,14 @@ fn admitted_numbers_and_bytes(rt: HostRuntime) -> Result<(), Fail> {
 
 #[test]
 fn bounds(rt: HostRuntime) {
-    assert!(rt; Digits::new(3, 2).is_none() && Digits::new(0, 0).is_some());
-    assert!(rt; Text::new(0, 10_001).is_none() && Text::new(0, 10_000).is_some());
-    assert!(rt; Plain::new(1, 0).is_none());
+    assert!(rt;
+        Text::new(Alphabet::Digits, 3, 2).is_none() && Text::new(Alphabet::Digits, 0, 0).is_some()
+    );
+    assert!(rt;
+        Text::new(Alphabet::Latin, 0, 10_001).is_none()
+            && Text::new(Alphabet::Latin, 0, 10_000).is_some()
+    );
+    assert!(rt; Text::new(Alphabet::Plain, 1, 0).is_none());
     assert!(rt; Bin::new(0, 2).is_none() && Bin::new(1, 1).is_some());
 }
 

@@ -1,7 +1,7 @@
 //! What scripts hold, part by part.
 use fints_samples::{BALANCE, END, FORK, SEALED_END, SECOND_ACCOUNT};
 use fints_script::{
-    Field, FieldClass, NamedField, Pattern, Script, Signer, Step, Target, Template,
+    Alphabet, Field, FieldClass, NamedField, Pattern, Script, Signer, Step, Target, Template,
     TemplateElements, TemplateItem,
 };
 use fints_syntax::OwnedItem;
@@ -53,17 +53,21 @@ fn push_word(out: &mut Vec<u8>, before: &[u8], word: &[u8]) -> Result<(), Fail> 
     Ok(())
 }
 
+fn alphabet_name(alphabet: Alphabet) -> &'static str {
+    match alphabet {
+        Alphabet::Digits => "digits",
+        Alphabet::Plain => "plain",
+        Alphabet::Latin => "text",
+    }
+}
+
 // A field by its name, and its bounds or its longest value.
 fn push_field(alloc: Global, out: &mut Vec<u8>, field: &NamedField) -> Result<(), Fail> {
     push_word(out, b"field ", field.name.as_bytes())?;
     match &field.class {
         Field::Text(class) => {
-            let (min, max) = (class.min, class.max);
-            push_text(out, format!(in alloc; " text {min} {max}"))?
-        }
-        Field::Digits(class) => {
-            let (min, max) = (class.min, class.max);
-            push_text(out, format!(in alloc; " digits {min} {max}"))?
+            let (name, min, max) = (alphabet_name(class.alphabet), class.min, class.max);
+            push_text(out, format!(in alloc; " {name} {min} {max}"))?
         }
         class => push_word(out, b" longest ", class.longest(alloc)?.as_slice())?,
     }

@@ -83,8 +83,6 @@ set_items (x ∷ xs) (v ∷ vs) (suc f) field value at = ap (λ (is : List (List
 
 account_class : (class : Class) → is_account class ≡ true → (c : AccountClass) × (class ≡ classes.Account c)
 account_class (classes.Account c) h = (c, refl)
-account_class (classes.Digits c) h = absurd (false≢true h)
-account_class (classes.Plain c) h = absurd (false≢true h)
 account_class (classes.Text c) h = absurd (false≢true h)
 account_class (classes.Bin c) h = absurd (false≢true h)
 account_class (classes.OneOf c) h = absurd (false≢true h)
@@ -116,9 +114,7 @@ account_stands listed fields values number n e f t field admits alone at is =
 -- ---- the dialogue id
 
 dialog_class : (class : Class) (v : List ℕ) → IsDialogClass class → field_domain class v → (field_items class v ≡ TextItem v ∷ []) × (v ≢ [])
-dialog_class (classes.Text c) v is h = (refl, λ e. let n : length v ≡ 0 = ap length e in let least = h.least in let one = is.0 in omega arith)
-dialog_class (classes.Digits c) v is h = absurd is
-dialog_class (classes.Plain c) v is h = absurd is
+dialog_class (classes.Text c) v is h = (refl, λ e. let n : length v ≡ 0 = ap length e in let least = h.least in let one = is.1 in omega arith)
 dialog_class (classes.Bin c) v is h = absurd is
 dialog_class (classes.OneOf c) v is h = absurd is
 dialog_class (classes.Account c) v is h = absurd is

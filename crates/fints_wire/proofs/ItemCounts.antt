@@ -89,8 +89,6 @@ field_few (f ∷ fs) (v ∷ vs) (suc i) h = let n = h.0 in field_few fs vs i (om
 
 dialog_class : (c : Field) → IsDialogClass c → field_most_items c ≡ 1
 dialog_class (classes.Text c) h = refl
-dialog_class (classes.Digits c) h = absurd h
-dialog_class (classes.Plain c) h = absurd h
 dialog_class (classes.Bin c) h = absurd h
 dialog_class (classes.OneOf c) h = absurd h
 dialog_class (classes.Account c) h = absurd h

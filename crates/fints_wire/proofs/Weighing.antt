@@ -1,5 +1,5 @@
 -- A message is no longer than the weight of its step, and what stands around it.
-use Rattle.std.proofs.Common.{◌≡◌, ℕ, zero, suc, ◌+◌, ◌^◌, ◌<◌, ◌≤◌, eqb, Bool, true, false, codes, List, [], ◌∷◌, ◌++◌, length, map, get_or, drop, Option, Some, None, refl, ap, ◌∙◌, sym, arith, inl, inr}
+use Rattle.std.proofs.Common.{◌≡◌, ℕ, zero, suc, ◌+◌, ◌^◌, ◌<◌, ◌≤◌, eqb, Bool, true, false, codes, List, [], ◌∷◌, ◌++◌, length, map, get_or, drop, replicate, Option, Some, None, refl, ap, ◌∙◌, sym, arith, inl, inr}
 use Rattle.std.specs.List.{All, slice_get, zip}
 use Rattle.std.proofs.lemmas.Bool.{cases_Bool}
 use Rattle.std.proofs.lemmas.Bool.Decides.{nat_tests}
@@ -10,6 +10,7 @@ use Rattle.fints_syntax.specs.Kind.{IsKindByte, IsKindText}
 use Rattle.fints_segments.specs.Spelling.{written}
 use Rattle.fints_segments.specs.declared.item.OwnedItem.{OwnedItem}
 use Rattle.fints_fields.specs.ClassLaws.{text_len_marks}
+use Rattle.fints_fields.specs.Classes.{longest_character}
 use Rattle.fints_fields.specs.Fields.{field_items, field_longest, field_written}
 use Rattle.fints_fields.specs.FieldLaws.{has_some_item, is_written_as_items, none_is_longer}
 use Rattle.fints_templates.specs.Figures.{figures_of}
@@ -20,6 +21,7 @@ use Rattle.fints_script.specs.Scripts.{ScriptValue, IsDialogClass}
 use Rattle.fints_script.specs.Sound.{HasDialog, IsSound, IsSoundStep}
 use Rattle.fints_script.specs.Steps.{StepValue, seal_weight, signature_weight, weight_of_signer}
 use Rattle.fints_templates.specs.Weights.{element_weight, item_weight, no_figures, segment_weight, total}
+use Rattle.fints_fields.specs.declared.alphabet.Alphabet.{Alphabet}
 use Rattle.fints_fields.specs.declared.field.Field.{Field}
 use Rattle.fints_fields.specs.declared.field.Field.TheVariants as classes
 use Rattle.fints_field_rows.specs.declared.fields.NamedField.{NamedField}
@@ -232,9 +234,10 @@ field_light (f ∷ fs) (v ∷ vs) zero h =
 field_light (f ∷ fs) (v ∷ vs) (suc i) h = let n = h.0 in field_light fs vs i (omega arith, All-tail IsPair (f, v) (zip fs vs) h.1)
 
 pub dialog_written : (c : Field) → IsDialogClass c → field_written c (field_longest c) ≡ 60
-dialog_written (classes.Text c) h = let n = text_len_marks c.max in omega (arith, h.1)
-dialog_written (classes.Digits c) h = absurd h
-dialog_written (classes.Plain c) h = absurd h
+dialog_written (classes.Text c) h =
+    let marks = text_len_marks c.max in
+    let latin : text_len (replicate c.max (longest_character c.alphabet)) ≡ text_len (replicate c.max 63) = ap (λ (a : Alphabet). text_len (replicate c.max (longest_character a))) h.0 in
+    omega (arith, h.2)
 dialog_written (classes.Bin c) h = absurd h
 dialog_written (classes.OneOf c) h = absurd h
 dialog_written (classes.Account c) h = absurd h

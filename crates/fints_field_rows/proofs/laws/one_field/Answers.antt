@@ -4,4 +4,4 @@ use Rattle.fints_field_rows.proofs.laws.one_field.Goals as goal
 pub returns : goal.returns
 returns c =
     let given = c.one_class.ensures in
-    one_field (record { digits = given.digits; plain = given.plain; text = given.text; bin = given.bin; oneof = given.oneof; account = given.account })
+    one_field (record { text = given.text; bin = given.bin; oneof = given.oneof; account = given.account })

@@ -1,10 +1,8 @@
 use Rattle.std.proofs.Common.{map, take}
-use Rattle.std.specs.Str.{bytes_eq}
-use Rattle.indexmap.specs.IndexMap.{get_by}
 use Rattle.toml.specs.View.{view}
 use Rattle.fints_documents.specs.Entries.{is_named}
-use Rattle.fints_field_rows.specs.Places.{HoldsPlaces}
+use Rattle.fints_field_rows.specs.Places.{HoldsPlaces, place_in}
 use Rattle.fints_field_rows.proofs.named_rows.places_of.Given as goal
 
 abbrev pub invariant-loop-i : goal.invariant-loop-i
-invariant-loop-i l = HoldsPlaces is_named (take l.i (map view l.rows)) (λ name. get_by (λ k. bytes_eq name k.now) l.places)
+invariant-loop-i l = HoldsPlaces is_named (take l.i (map view l.rows)) (place_in l.places)

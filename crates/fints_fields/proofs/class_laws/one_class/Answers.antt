@@ -1,11 +1,5 @@
-use Rattle.fints_fields.proofs.OneClass.{one_account, one_bin, one_digits, one_oneof, one_plain, one_text}
+use Rattle.fints_fields.proofs.OneClass.{one_account, one_bin, one_oneof, one_text}
 use Rattle.fints_fields.proofs.class_laws.one_class.Goals as goal
-
-pub returns-clause-digits : goal.returns-clause-digits
-returns-clause-digits c = one_digits
-
-pub returns-clause-plain : goal.returns-clause-plain
-returns-clause-plain c = one_plain
 
 pub returns-clause-text : goal.returns-clause-text
 returns-clause-text c = one_text
