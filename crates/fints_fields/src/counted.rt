@@ -8,7 +8,7 @@ ghost use Rattle.fints_fields.specs.ClassLaws.{binary_least, binary_most, counte
 
 use crate::alphabet::Alphabet;
 use crate::class::FieldClass;
-use fints_syntax::{Memory, decimal_len, written_len};
+use fints_syntax::{Memory, written_binary_len, written_len};
 use std::alloc::Global;
 
 /// The most bytes of a field's value.
@@ -106,14 +106,6 @@ impl FieldClass for Text {
     ghost none_shorter = { λ c v h. text_least c.alphabet c.min c.max v h };
 }
 
-/// How many bytes a binary item of `len` bytes takes when it is written.
-fn binary_size(len: u64) -> u64
-    requires { len < 2 ^ 63 }
-    ensures { result ≡ len + length (decimal len) + 2 }
-{
-    len + u64::from(decimal_len(len)) + 2
-}
-
 /// Bytes, `min` to `max` of them and at least one, written as a binary item.
 #[derive(Clone, Copy, Debug)]
 pub struct Bin {
@@ -162,12 +154,12 @@ impl FieldClass for Bin {
 
     #[tactic(auto, using(crate::specs::ClassLaws::binary_length))]
     fn written(&self, value: &[u8]) -> u64 {
-        binary_size(value.len() as u64)
+        written_binary_len(value.len() as u64)
     }
 
     #[tactic(auto, using(crate::specs::ClassLaws::binary_length))]
     fn longest_written(&self) -> u64 {
-        binary_size(u64::from(self.max))
+        written_binary_len(u64::from(self.max))
     }
 
     ghost longest_admitted = { λ c. counted_most IsByte c.min c.max 255 (Prim.omega arith) c.ordered };
