@@ -4,6 +4,7 @@
 tools/believe.py           a table: lines of definitions in specs/, and those that public contracts reach
 tools/believe.py --apart   the spec files of which public contracts reach nothing, and those that they reach in part
 tools/believe.py NAME..    the same table for what these definitions alone reach, as Headline
+--bare                     with any of these: lines without the comments
 
 A definition's lines are its signature, its equations and the comment above it. The contracts of laws
 and the files of laws are left out: what a law says is proved, so nobody need believe it.
@@ -39,7 +40,7 @@ def imports(text, begin):
     return names, files
 
 
-def read_specs():
+def read_specs(bare):
     definitions, scopes = {}, {}
     for path in sorted(glob.glob(f"{TOP}/crates/*/specs/*.antt")):
         crate, file = path.split("/")[-3], os.path.basename(path)[:-5]
@@ -60,7 +61,7 @@ def read_specs():
             start = START.match(line)
             if start and not line.startswith(" ") and (crate, file, start[1]) not in definitions:
                 current = definitions[crate, file, start[1]] = Definition(crate, file, start[1])
-                current.lines += len(comment)
+                current.lines += 0 if bare else len(comment)
             comment = []
             if current:
                 current.lines += 1
@@ -140,8 +141,8 @@ def of_names(names, definitions):
 
 
 def main():
-    definitions, scopes = read_specs()
-    names = [it for it in sys.argv[1:] if it != "--apart"]
+    definitions, scopes = read_specs("--bare" in sys.argv)
+    names = [it for it in sys.argv[1:] if not it.startswith("--")]
     reached = reached_from(of_names(names, definitions) if names else roots(definitions), definitions, scopes)
     if "--apart" in sys.argv:
         by_file = collections.defaultdict(list)
