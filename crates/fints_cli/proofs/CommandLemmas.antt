@@ -5,6 +5,7 @@ use Rattle.fints_words.specs.declared.words.Asked.{Asked}
 use Rattle.fints_words.specs.declared.words.Asked.TheVariants.{Run}
 use Rattle.fints_files.specs.Streams.{GetsPrefix}
 use Rattle.fints_cli.specs.Commands.{AnswersTo, IsCutOff}
+use Rattle.fints_cli.specs.Loading.{files_of, AreWithin}
 
-pub cut_answer : (asked : Asked) (request : Request) (hints : Bool) (holds : List ℕ → Option (List ℕ)) (status : ℕ) (text : List ℕ) (old new : Option (List ℕ)) → asked ≡ Run request hints → AnswersTo request holds status text → GetsPrefix old new text → IsCutOff asked holds old new
-cut_answer asked request hints holds status text old new is answers prefix = subst (λ a. IsCutOff a holds old new) (sym is) (status, text, answers, prefix)
+pub cut_answer : (asked : Asked) (request : Request) (hints : Bool) (holds : List ℕ → Option (List ℕ)) (status : ℕ) (text : List ℕ) (old new : Option (List ℕ)) → asked ≡ Run request hints → AnswersTo request holds status text → AreWithin (files_of request) holds → GetsPrefix old new text → IsCutOff asked holds old new
+cut_answer asked request hints holds status text old new is answers within prefix = subst (λ a. IsCutOff a holds old new) (sym is) (status, text, (answers, within), prefix)

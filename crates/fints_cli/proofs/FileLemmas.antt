@@ -1,5 +1,5 @@
 -- What holds of the bytes of files holds of what the files hold.
-use Rattle.std.proofs.Common.{ℕ, List, subst, Option, None, Some, IfSome, Result}
+use Rattle.std.proofs.Common.{◌≡◌, ◌≤◌, ℕ, List, [], ◌∷◌, length, subst, Option, None, Some, IfOk, IfSome, Result, Ok, Err}
 use Rattle.fints_params.specs.Captures.{IsReadOf}
 use Rattle.fints_params.specs.Parameters.{Rows}
 use Rattle.fints_params.specs.declared.fault.ParamFault.{ParamFault}
@@ -14,6 +14,7 @@ use Rattle.fints_words.specs.declared.words.ScriptFiles.{ScriptFiles}
 use Rattle.fints_cli.specs.declared.failing.Failure.{Failure}
 use Rattle.fints_cli.specs.declared.failing.Failure.TheVariants.{Input, Unread}
 use Rattle.fints_cli.specs.Commands.{ShowsFile, IsShowFailure, FailsToShow, JudgesFile, IsJudgeFailure, FailsToJudge, TellsFiles, IsScriptFailure, FailsToTell, VerifiesFiles, IsVerifyFailure, FailsToVerify, RunsFiles, IsRunFailure, FailsToRun}
+use Rattle.fints_cli.specs.Loading.{NamedFile, AreWithin}
 use Rattle.fints_files.specs.Captures.{IsReadFrom}
 use Rattle.fints_files.specs.Streams.{IsFile}
 
@@ -71,3 +72,18 @@ file_shown held bytes text same shown = of_file (λ capture. IsShowOf capture te
 pub file_not_shown : (held : Option (List ℕ)) (bytes : List ℕ) (f : Failure) → IsFile held bytes → IsShowFailure bytes f → FailsToShow held f
 file_not_shown held bytes (Unread named) same refused = absurd refused
 file_not_shown held bytes (Input f) same refused = of_file (λ capture. IsMemoryOrShowFault capture f) held bytes same refused
+
+-- ---- limits
+
+-- a file that was loaded is within its limit
+pub one_within : (file : NamedFile) (holds : List ℕ → Option (List ℕ)) (bytes : List ℕ) → IsFile (holds file.path) bytes → length bytes ≤ file.limit → AreWithin (file ∷ []) holds
+one_within file holds bytes same le = (of_file (λ b. length b ≤ file.limit) (holds file.path) bytes same le, tt)
+
+-- and so are those that were loaded after it
+pub more_within : (file : NamedFile) (files : List NamedFile) (before after : List ℕ → Option (List ℕ)) → AreWithin (file ∷ []) before → after ≡ before → AreWithin files after → AreWithin (file ∷ files) before
+more_within file files before after first same more = (first.0, subst (AreWithin files) same more)
+
+-- what holds anyhow holds of an answer
+pub of_answer : {A E : Type 0} (result : Result A E) (P : Type 0) → P → IfOk result (λ _. P)
+of_answer (Ok a) P p = p
+of_answer (Err e) P p = tt

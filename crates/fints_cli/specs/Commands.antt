@@ -11,7 +11,7 @@ use Rattle.fints_words.specs.declared.words.ScriptFiles.{ScriptFiles}
 use Rattle.fints_words.specs.declared.words.Asked.{Asked}
 use Rattle.fints_words.specs.declared.words.Asked.TheVariants.{Help, Usage, NoMemory, Run}
 use Rattle.fints_cli.specs.BuiltIn as built_in
-use Rattle.fints_cli.specs.Loading.{files_of, FollowsReading}
+use Rattle.fints_cli.specs.Loading.{files_of, AreWithin, FollowsReading}
 use Rattle.fints_files.specs.Streams.{ReadCounts, Gets, GetsNothing, GetsPrefix, one_more}
 use Rattle.fints_files.specs.Loading.{NoneFailed}
 use Rattle.fints_texts.specs.Show.{IsShowOf, IsMemoryOrShowFault}
@@ -140,12 +140,12 @@ FailsFor (Certify named) holds failure = FailsToTell holds named failure
 FailsFor (Verify named certificate) holds failure = FailsToVerify holds named certificate.now failure
 FailsFor (requests.Run named only) holds failure = FailsToRun holds named only failure
 
--- the status and the text are what was asked for: the help, or the request's answer
+-- the status and the text are what was asked for: the help, or the request's answer, for which no file is longer than its limit
 abbrev pub IsTextFor : Asked → (List ℕ → Option (List ℕ)) → ℕ → List ℕ → Type 0
 IsTextFor (Help help) holds status text = (status ≡ 0) × (text ≡ string_bytes help)
 IsTextFor (Usage fault) holds status text = ⊥
 IsTextFor NoMemory holds status text = ⊥
-IsTextFor (Run request hints) holds status text = AnswersTo request holds status text
+IsTextFor (Run request hints) holds status text = AnswersTo request holds status text × AreWithin (files_of request) holds
 
 -- the output got the whole text
 abbrev pub IsAnswered : Asked → (List ℕ → Option (List ℕ)) → ℕ → Option (List ℕ) → Option (List ℕ) → Type 0

@@ -1,5 +1,5 @@
 -- Which files a request names, and why one of them couldn't be read.
-use Rattle.std.specs.Prelude.{◌≡◌, ◌⊎◌, ℕ, List, [], ◌∷◌, Option, codes}
+use Rattle.std.specs.Prelude.{◌≡◌, ◌≤◌, ◌⊎◌, ℕ, List, [], ◌∷◌, length, Option, IfSome, codes}
 use Rattle.fints_cli.specs.declared.failing.Failure.{Failure}
 use Rattle.fints_cli.specs.declared.failing.Failure.TheVariants.{Input, Unread}
 use Rattle.fints_files.specs.Streams.{ReadCounts}
@@ -51,6 +51,11 @@ files_of (Explain named) = script_files named
 files_of (Certify named) = script_files named
 files_of (Verify named certificate) = verify_files named certificate.now
 files_of (requests.Run named only) = run_files named
+
+-- none of these files is longer than its limit, where its bytes are told
+abbrev pub AreWithin : List NamedFile → (List ℕ → Option (List ℕ)) → Type 0
+AreWithin [] holds = Unit {0}
+AreWithin (file ∷ files) holds = IfSome (holds file.path) (λ bytes. length bytes ≤ file.limit) × AreWithin files holds
 
 -- what lets a file be answered as unread: a read failed; it is longer than its limit, or doesn't tell its bytes; or as many reads were asked for as one file may take
 abbrev pub IsUnreadable : Option (List ℕ) → ℕ → ReadCounts → ReadCounts → Type 0

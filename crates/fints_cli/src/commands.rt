@@ -12,7 +12,7 @@ ghost use Rattle.fints_reports.specs.Told.{IsToldOf};
 ghost use Rattle.fints_reports.specs.declared.telling.Wanted.TheVariants as wants;
 ghost use Rattle.fints_reports.specs.RunText.{IsRunOf};
 ghost use Rattle.fints_reports.specs.Verified.{IsVerifiedOf};
-ghost use Rattle.fints_cli.specs.Loading.{wire_file, script_files, judge_files, verify_files, run_files, files_of, FollowsReading};
+ghost use Rattle.fints_cli.specs.Loading.{wire_file, script_files, judge_files, verify_files, run_files, files_of, AreWithin, FollowsReading};
 ghost use Rattle.fints_files.specs.Loading.{MAX_READS, NoneFailed};
 ghost use Rattle.fints_cli.specs.Commands.{failure_status, IsJudgeFailure, ShowsFile, JudgesFile, FailsToJudge, TellsFiles, IsScriptFailure, FailsToTell, IsRunFailure, RunsFiles, FailsToRun, IsVerifyFailure, VerifiesFiles, FailsToVerify, AnswersTo, IsUnloaded, IsShowFailure, FailsToShow, FailsFor, IsAnswered, IsCutOff, IsResponse, IsUsage, FailsToRead, FailsWith};
 ghost use Rattle.fints_words.specs.declared.words.Asked.TheVariants as asked;
@@ -48,6 +48,7 @@ fn load_option<F: Files>(
     ensures unread { IfErr result (λ r. IsUnloaded option.now r.failure) }
     ensures counted { min ((F.reads files.old).calls) (2 ^ 64 - 1) ≤ (F.reads files.new).calls }
     ensures fine { IfOk result (λ _. NoneFailed (F.reads files.old) (F.reads files.new)) }
+    ensures within { IfOk result (λ _. AreWithin (record { option = option.now; path = path.now; limit = limit } ∷ []) (F.holds files.old)) }
     ensures reason { IfErr result (λ r.
         FollowsReading (record { option = option.now; path = path.now; limit = limit } ∷ []) (F.holds files.old) (F.reads files.old) (F.reads files.new) r.failure) }
 {
@@ -71,6 +72,7 @@ fn load_capture<F: Files>(
     ensures unread { IfErr result (λ r. IsUnloaded (codes "params") r.failure) }
     ensures counted { min ((F.reads files.old).calls) (2 ^ 64 - 1) ≤ (F.reads files.new).calls }
     ensures fine { IfOk result (λ _. NoneFailed (F.reads files.old) (F.reads files.new)) }
+    ensures within { IfOk result (λ _. AreWithin (wire_file (codes "params") path.now ∷ []) (F.holds files.old)) }
     ensures reason { IfErr result (λ r.
         FollowsReading (wire_file (codes "params") path.now ∷ []) (F.holds files.old) (F.reads files.old) (F.reads files.new) r.failure) }
 {
@@ -129,6 +131,7 @@ fn tell_files<F: Files>(
     ensures told { IfOk result (λ reply. TellsFiles wanted (F.holds files.old) named.now reply.status reply.text.items) }
     ensures refused { IfErr result (λ r. FailsToTell (F.holds files.old) named.now r.failure) }
     ensures read { IfOk result (λ _. NoneFailed (F.reads files.old) (F.reads files.new)) }
+    ensures within { IfOk result (λ _. AreWithin (script_files named.now) (F.holds files.old)) }
     ensures reason { IfErr result (λ r. FollowsReading (script_files named.now) (F.holds files.old) (F.reads files.old) (F.reads files.new) r.failure) }
     ensures calls { (F.reads files.new).calls ≤ (F.reads files.old).calls + 3 * MAX_READS }
     ensures keeps { F.holds files.new ≡ F.holds files.old }
@@ -182,6 +185,7 @@ fn verify_files<F: Files>(
     ensures told { IfOk result (λ reply. VerifiesFiles (F.holds files.old) named.now certificate.now reply.status reply.text.items) }
     ensures refused { IfErr result (λ r. FailsToVerify (F.holds files.old) named.now certificate.now r.failure) }
     ensures read { IfOk result (λ _. NoneFailed (F.reads files.old) (F.reads files.new)) }
+    ensures within { IfOk result (λ _. AreWithin (verify_files named.now certificate.now) (F.holds files.old)) }
     ensures reason { IfErr result (λ r.
         FollowsReading (verify_files named.now certificate.now) (F.holds files.old) (F.reads files.old) (F.reads files.new) r.failure) }
     ensures calls { (F.reads files.new).calls ≤ (F.reads files.old).calls + 4 * MAX_READS }
@@ -224,6 +228,7 @@ fn show_file<F: Files>(
     ensures shown { IfOk result (λ reply. ShowsFile (F.holds files.old params.now) reply.text.items) }
     ensures refused { IfErr result (λ r. FailsToShow (F.holds files.old params.now) r.failure) }
     ensures read { IfOk result (λ _. NoneFailed (F.reads files.old) (F.reads files.new)) }
+    ensures within { IfOk result (λ _. AreWithin (wire_file (codes "params") params.now ∷ []) (F.holds files.old)) }
     ensures reason { IfErr result (λ r.
         FollowsReading (wire_file (codes "params") params.now ∷ []) (F.holds files.old) (F.reads files.old) (F.reads files.new) r.failure) }
     ensures calls { (F.reads files.new).calls ≤ (F.reads files.old).calls + MAX_READS }
@@ -269,6 +274,7 @@ fn judge_file<F: Files>(
         JudgesFile (F.holds files.old params.now) (F.holds files.old orders.now) (F.holds files.old message.now) reply.status reply.text.items) }
     ensures refused { IfErr result (λ r. FailsToJudge (F.holds files.old params.now) (F.holds files.old orders.now) (F.holds files.old message.now) r.failure) }
     ensures read { IfOk result (λ _. NoneFailed (F.reads files.old) (F.reads files.new)) }
+    ensures within { IfOk result (λ _. AreWithin (judge_files params.now orders.now message.now) (F.holds files.old)) }
     ensures reason { IfErr result (λ r.
         FollowsReading (judge_files params.now orders.now message.now) (F.holds files.old) (F.reads files.old) (F.reads files.new) r.failure) }
     ensures calls { (F.reads files.new).calls ≤ (F.reads files.old).calls + 3 * MAX_READS }
@@ -315,6 +321,7 @@ fn run_files<F: Files>(
     ensures told { IfOk result (λ reply. RunsFiles (F.holds files.old) named.now only reply.text.items) }
     ensures refused { IfErr result (λ r. FailsToRun (F.holds files.old) named.now only r.failure) }
     ensures read { IfOk result (λ _. NoneFailed (F.reads files.old) (F.reads files.new)) }
+    ensures within { IfOk result (λ _. AreWithin (run_files named.now) (F.holds files.old)) }
     ensures reason { IfErr result (λ r. FollowsReading (run_files named.now) (F.holds files.old) (F.reads files.old) (F.reads files.new) r.failure) }
     ensures calls { (F.reads files.new).calls ≤ (F.reads files.old).calls + 3 * MAX_READS }
     ensures keeps { F.holds files.new ≡ F.holds files.old }
@@ -343,6 +350,7 @@ pub fn perform<F: Files>(
     ensures answers { IfOk result (λ reply. AnswersTo request.now (F.holds files.old) reply.status reply.text.items) }
     ensures refused { IfErr result (λ r. FailsFor request.now (F.holds files.old) r.failure) }
     ensures read { IfOk result (λ _. NoneFailed (F.reads files.old) (F.reads files.new)) }
+    ensures within { IfOk result (λ _. AreWithin (files_of request.now) (F.holds files.old)) }
     ensures reason { IfErr result (λ r. FollowsReading (files_of request.now) (F.holds files.old) (F.reads files.old) (F.reads files.new) r.failure) }
     ensures calls { (F.reads files.new).calls ≤ (F.reads files.old).calls + 4 * MAX_READS }
     ensures keeps { F.holds files.new ≡ F.holds files.old }

@@ -1,6 +1,10 @@
 use Rattle.fints_cli.proofs.ReasonLemmas.{option_unread}
+use Rattle.fints_cli.proofs.FileLemmas.{one_within}
 use Rattle.fints_cli.proofs.commands.load_option.Goals as goal
 
 pub returns-in-Err-clause-reason : goal.returns-in-Err-clause-reason
 returns-in-Err-clause-reason g c =
     option_unread c.in-Err.fault c.args.option.now c.args.path.now c.args.limit (g.F.Files.holds c.args.files.now) (g.F.Files.reads c.args.files.now) (g.F.Files.reads c.load.new.files) c.unread.result.failure c.unread.ensures.memory c.unread.ensures.file c.in-Err.ensures.fault
+
+pub returns-in-Ok-clause-within : goal.returns-in-Ok-clause-within
+returns-in-Ok-clause-within g c = one_within _ (g.F.Files.holds c.args.files.now) c.in-Ok.bytes.items c.in-Ok.ensures.exact c.in-Ok.ensures.within

@@ -1,7 +1,7 @@
 use Rattle.std.proofs.Common.{rules, ◌∙◌}
 use Rattle.std.proofs.lemmas.Result.{IfErr-weaker}
 use Rattle.fints_cli.specs.Loading.{script_files}
-use Rattle.fints_cli.proofs.FileLemmas.{files_not_told}
+use Rattle.fints_cli.proofs.FileLemmas.{more_within, of_answer, files_not_told}
 use Rattle.fints_cli.proofs.ReasonLemmas.{tell_follows}
 use Rattle.fints_cli.proofs.commands.tell_files.Goals as goal
 
@@ -13,3 +13,6 @@ pub returns-clause-reason : goal.returns-clause-reason
 returns-clause-reason g c =
     let read = c.in_ok-script.ensures.fine ∙ c.in_ok-orders.ensures.fine ∙ c.in_ok-capture.ensures.fine in
     IfErr-weaker c.tell_loaded.result _ _ (λ r h. tell_follows (script_files c.args.named.now) (g.F.Files.holds c.args.files.now) (g.F.Files.reads c.args.files.now) (g.F.Files.reads c.load_option-2.new.files) _ _ _ _ r.failure c.in_ok-capture.ensures.exact h read) c.tell_loaded.ensures.refused
+
+pub returns-clause-within : goal.returns-clause-within
+returns-clause-within g c = of_answer c.tell_loaded.result _ (more_within _ _ _ _ c.in_ok-capture.ensures.within c.load_capture.ensures.keeps (more_within _ _ _ _ c.in_ok-orders.ensures.within c.load_option.ensures.keeps c.in_ok-script.ensures.within))
