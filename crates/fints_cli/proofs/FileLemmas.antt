@@ -79,9 +79,9 @@ file_not_shown held bytes (Input f) same refused = of_file (λ capture. IsMemory
 pub one_within : (file : NamedFile) (holds : List ℕ → Option (List ℕ)) (bytes : List ℕ) → IsFile (holds file.path) bytes → length bytes ≤ file.limit → AreWithin (file ∷ []) holds
 one_within file holds bytes same le = (of_file (λ b. length b ≤ file.limit) (holds file.path) bytes same le, tt)
 
--- and so are those that were loaded after it
-pub more_within : (file : NamedFile) (files : List NamedFile) (before after : List ℕ → Option (List ℕ)) → AreWithin (file ∷ []) before → after ≡ before → AreWithin files after → AreWithin (file ∷ files) before
-more_within file files before after first same more = (first.0, subst (AreWithin files) same more)
+-- and so is one that was loaded later
+pub later_within : (before after : List ℕ → Option (List ℕ)) (path : List ℕ) (limit : ℕ) → after ≡ before → IfSome (after path) (λ b. length b ≤ limit) → IfSome (before path) (λ b. length b ≤ limit)
+later_within before after path limit same h = subst (λ (holds : List ℕ → Option (List ℕ)). IfSome (holds path) (λ b. length b ≤ limit)) same h
 
 -- what holds anyhow holds of an answer
 pub of_answer : {A E : Type 0} (result : Result A E) (P : Type 0) → P → IfOk result (λ _. P)

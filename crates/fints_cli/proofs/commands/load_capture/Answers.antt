@@ -1,5 +1,7 @@
+use Rattle.std.specs.Prelude.{codes}
 use Rattle.fints_cli.proofs.ReasonLemmas.{option_unread}
 use Rattle.fints_cli.proofs.FileLemmas.{one_within}
+use Rattle.fints_cli.specs.Loading.{wire_file}
 use Rattle.fints_cli.proofs.commands.load_capture.Goals as goal
 
 pub returns-in-Ok-clause-exact : goal.returns-in-Ok-clause-exact
@@ -10,4 +12,6 @@ returns-in-Err-clause-reason g c =
     option_unread c.in-Err.fault _ c.args.path.now _ (g.F.Files.holds c.args.files.now) (g.F.Files.reads c.args.files.now) (g.F.Files.reads c.load_into.new.files) c.unread.result.failure c.unread.ensures.memory c.unread.ensures.file c.in-Err.ensures.fault
 
 pub returns-in-Ok-clause-within : goal.returns-in-Ok-clause-within
-returns-in-Ok-clause-within g c = let taken = c.in-Ok.ensures.exact in one_within _ (g.F.Files.holds c.args.files.now) taken.0 taken.1 taken.2
+returns-in-Ok-clause-within g c =
+    let taken = c.in-Ok.ensures.exact in
+    one_within (wire_file (codes "params") c.args.path.now) (g.F.Files.holds c.args.files.now) taken.0 taken.1 taken.2

@@ -1,7 +1,7 @@
 use Rattle.std.proofs.Common.{rules, ◌∙◌}
 use Rattle.std.proofs.lemmas.Result.{IfErr-weaker}
-use Rattle.fints_cli.specs.Loading.{script_files}
-use Rattle.fints_cli.proofs.FileLemmas.{more_within, of_answer, files_not_told}
+use Rattle.fints_cli.specs.Loading.{AreWithin, script_files}
+use Rattle.fints_cli.proofs.FileLemmas.{later_within, of_answer, files_not_told}
 use Rattle.fints_cli.proofs.ReasonLemmas.{tell_follows}
 use Rattle.fints_cli.proofs.commands.tell_files.Goals as goal
 
@@ -15,4 +15,9 @@ returns-clause-reason g c =
     IfErr-weaker c.tell_loaded.result _ _ (λ r h. tell_follows (script_files c.args.named.now) (g.F.Files.holds c.args.files.now) (g.F.Files.reads c.args.files.now) (g.F.Files.reads c.load_option-2.new.files) _ _ _ _ r.failure c.in_ok-capture.ensures.exact h read) c.tell_loaded.ensures.refused
 
 pub returns-clause-within : goal.returns-clause-within
-returns-clause-within g c = of_answer c.tell_loaded.result _ (more_within _ _ _ _ c.in_ok-capture.ensures.within c.load_capture.ensures.keeps (more_within _ _ _ _ c.in_ok-orders.ensures.within c.load_option.ensures.keeps c.in_ok-script.ensures.within))
+returns-clause-within g c =
+    let holds = g.F.Files.holds c.args.files.now in
+    let kept = c.load_capture.ensures.keeps in
+    let kept-2 = c.load_option.ensures.keeps ∙ kept in
+    of_answer c.tell_loaded.result (AreWithin (script_files c.args.named.now) holds)
+    (c.in_ok-capture.ensures.within.0, later_within holds (g.F.Files.holds c.load_capture.new.files) c.args.named.now.orders.now 1048576 kept c.in_ok-orders.ensures.within.0, later_within holds (g.F.Files.holds c.load_option.new.files) c.args.named.now.script.now 1048576 kept-2 c.in_ok-script.ensures.within.0, tt)
