@@ -20,4 +20,4 @@ returns-clause-within g c =
     let kept = c.load_capture.ensures.keeps in
     let kept-2 = c.load_option.ensures.keeps ∙ kept in
     of_answer c.judge_loaded.result (AreWithin (judge_files c.args.params.now c.args.orders.now c.args.message.now) holds)
-    (c.in_ok-capture.ensures.within.0, later_within holds (g.F.Files.holds c.load_capture.new.files) c.args.orders.now 1048576 kept c.in_ok-orders.ensures.within.0, later_within holds (g.F.Files.holds c.load_option.new.files) c.args.message.now 4194304 kept-2 c.in_ok-message.ensures.within.0, tt)
+    (c.in_ok-capture.ensures.within.0, (later_within holds (g.F.Files.holds c.load_capture.new.files) c.args.orders.now 1048576 kept c.in_ok-orders.ensures.within.0, (later_within holds (g.F.Files.holds c.load_option.new.files) c.args.message.now 4194304 kept-2 c.in_ok-message.ensures.within.0, tt)))

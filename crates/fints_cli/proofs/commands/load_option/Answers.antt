@@ -1,6 +1,7 @@
 use Rattle.std.proofs.Common.{◌≤◌, subst}
 use Rattle.fints_cli.proofs.ReasonLemmas.{option_unread}
 use Rattle.fints_cli.proofs.FileLemmas.{one_within}
+use Rattle.fints_cli.specs.Loading.{NamedFile}
 use Rattle.fints_cli.proofs.commands.load_option.Goals as goal
 
 pub returns-in-Err-clause-reason : goal.returns-in-Err-clause-reason
@@ -10,5 +11,5 @@ returns-in-Err-clause-reason g c =
 pub returns-in-Ok-clause-within : goal.returns-in-Ok-clause-within
 returns-in-Ok-clause-within g c =
     let bytes = c.in-Ok.bytes in
-    let file = record { option = c.args.option.now; path = c.args.path.now; limit = c.args.limit } in
+    let file : NamedFile = record { option = c.args.option.now; path = c.args.path.now; limit = c.args.limit } in
     one_within file (g.F.Files.holds c.args.files.now) bytes.items c.in-Ok.ensures.exact (subst (λ n. n ≤ c.args.limit) bytes.ok.0 c.in-Ok.ensures.within)

@@ -9,4 +9,4 @@ returns-clause-within g c =
     let kept = c.load_option.ensures.keeps in
     let kept-2 = c.load_option-2.ensures.keeps ∙ kept in
     of_answer c.run_loaded.result (AreWithin (run_files c.args.named.now) holds)
-    (c.in_ok-orders.ensures.within.0, later_within holds (g.F.Files.holds c.load_option.new.files) c.args.named.now.script.now 1048576 kept c.in_ok-script.ensures.within.0, later_within holds (g.F.Files.holds c.load_option-2.new.files) c.args.named.now.case.now 1048576 kept-2 c.in_ok-case.ensures.within.0, tt)
+    (c.in_ok-orders.ensures.within.0, (later_within holds (g.F.Files.holds c.load_option.new.files) c.args.named.now.script.now 1048576 kept c.in_ok-script.ensures.within.0, (later_within holds (g.F.Files.holds c.load_option-2.new.files) c.args.named.now.case.now 1048576 kept-2 c.in_ok-case.ensures.within.0, tt)))
