@@ -1,7 +1,7 @@
 //! A capture that is read while its file comes.
-ghost use Rattle.std.specs.Prelude.{◌≡◌, ℕ, List, []};
+ghost use Rattle.std.specs.Prelude.{◌≡◌, ℕ, List, [], OnOk};
 ghost use Rattle.fints_params.specs.Captures.{IsReadOf};
-ghost use Rattle.fints_files.specs.Captures.{HoldsCapture};
+ghost use Rattle.fints_files.specs.Captures.{AreKept, HoldsCapture, kept_after};
 
 use crate::reading::Sink;
 use fints_params::laws::any_cutting;
@@ -11,7 +11,7 @@ use std::alloc::Global;
 use std::marker::Model;
 
 /// What the pieces of a capture gave so far; a contract sees it. A syntax fault is kept, so that the
-/// file is read to its end. So are the bytes, where a hint may need them; of these no clause speaks.
+/// file is read to its end. So are the bytes, where a hint may need them.
 #[derive(Drop)]
 pub struct Capture {
     reader: ParamReader,
@@ -25,7 +25,7 @@ impl Model for Capture {
 
     ghost Value = { Fed };
 
-    ghost view = { λ c. record { reader = c.reader; fault = c.fault } };
+    ghost view = { λ c. record { reader = c.reader; fault = c.fault; keeps = c.keeps; kept = c.bytes.items } };
 }
 
 /// What a whole capture gave, and its bytes, where they were kept.
@@ -38,7 +38,8 @@ pub struct ReadCapture {
 impl Capture {
     /// Nothing of a capture.
     pub fn new(alloc: Global, keeps: bool) -> Capture
-        ensures { HoldsCapture [] result }
+        ensures nothing { HoldsCapture [] result }
+        ensures keeps { result.keeps ≡ keeps }
     {
         Capture {
             reader: ParamReader::new(alloc),
@@ -50,7 +51,8 @@ impl Capture {
 
     /// The parameters of the capture, which ends here, or its first refusal.
     pub fn end(self) -> ReadCapture
-        ensures { (bytes : List ℕ) → HoldsCapture bytes self → IsReadOf bytes result.params }
+        ensures read { (bytes : List ℕ) → HoldsCapture bytes self → IsReadOf bytes result.params }
+        ensures kept { (bytes : List ℕ) → HoldsCapture bytes self → AreKept self.keeps bytes result.bytes.items }
     {
         any_cutting();
         let Capture {
@@ -73,7 +75,7 @@ impl Capture {
 
     // Keeps the bytes, where a hint may need them.
     fn keep(&mut self, piece: &[u8]) -> Result<(), Memory>
-        ensures { self.new ≡ self.old }
+        ensures { OnOk result (self.new ≡ record self.old { kept = kept_after self.old.keeps self.old.kept piece.now }) }
     {
         if self.keeps {
             self.bytes.extend_from_slice(piece)?;

@@ -5,7 +5,7 @@ use Rattle.fints_cli.specs.Loading.{wire_file}
 use Rattle.fints_cli.proofs.commands.load_capture.Goals as goal
 
 pub returns-in-Ok-clause-exact : goal.returns-in-Ok-clause-exact
-returns-in-Ok-clause-exact g c = let taken = c.in-Ok.ensures.exact in (taken.0, taken.1, c.end.ensures taken.0 taken.3)
+returns-in-Ok-clause-exact g c = let taken = c.in-Ok.ensures.exact in (taken.0, taken.1, c.end.ensures.read taken.0 taken.3)
 
 pub returns-in-Err-clause-reason : goal.returns-in-Err-clause-reason
 returns-in-Err-clause-reason g c =
