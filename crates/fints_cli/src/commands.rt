@@ -50,7 +50,8 @@ fn load_option<F: Files>(
     ensures fine { IfOk result (λ _. NoneFailed (F.reads files.old) (F.reads files.new)) }
     ensures within { IfOk result (λ _. AreWithin (record { option = option.now; path = path.now; limit = limit } ∷ []) (F.holds files.old)) }
     ensures reason { IfErr result (λ r.
-        FollowsReading (record { option = option.now; path = path.now; limit = limit } ∷ []) (F.holds files.old) (F.reads files.old) (F.reads files.new) r.failure) }
+        FollowsReading (record { option = option.now; path = path.now; limit = limit } ∷ [])
+        (F.holds files.old) (F.reads files.old) (F.reads files.new) r.failure) }
 {
     match load(alloc, files, path, limit) {
         Ok(bytes) => Ok(bytes),
