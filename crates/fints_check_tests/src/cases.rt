@@ -103,8 +103,7 @@ fn first_case(alloc: Global, text: &[u8]) -> Result<(usize, u32), Fail> {
 #[test]
 fn long_case(rt: HostRuntime) -> Result<(), Fail> {
     let text = ladder(rt.alloc(), 200)?;
-    let (answers, number) = first_case(rt.alloc(), text.as_bytes())?;
-    assert_eq!(rt; answers, 10046);
-    assert_eq!(rt; number, 10047);
+    let found = first_case(rt.alloc(), text.as_bytes())?;
+    assert_eq!(rt; found, (10046, 10047));
     Ok(())
 }

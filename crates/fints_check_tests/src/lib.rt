@@ -1,10 +1,16 @@
-//! Tests of the checker's calls: what no row of `rows/` can show.
+//! Tests of the checker, of certificates and of hints: what no row of `rows/` can show.
 #![tactic(auto)]
 
 #[cfg(test)]
 mod cases;
 #[cfg(test)]
+mod certificates;
+#[cfg(test)]
+mod hints;
+#[cfg(test)]
 mod inputs;
+#[cfg(test)]
+mod long_certificates;
 #[cfg(test)]
 mod numbers;
 #[cfg(test)]

@@ -111,8 +111,7 @@ fn samples(rt: HostRuntime) -> Result<(), Fail> {
     ];
     for (capture, text, wanted, visits) in rows {
         let (found, looked_at) = report_of(rt.alloc(), capture, text)?;
-        assert_eq!(rt; found.as_str(), wanted);
-        assert_eq!(rt; looked_at, visits, "{wanted}");
+        assert_eq!(rt; (found.as_str(), looked_at), (wanted, visits));
     }
     Ok(())
 }

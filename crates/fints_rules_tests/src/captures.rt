@@ -25,9 +25,10 @@ fn bank_rows(rt: HostRuntime) -> Result<(), Fail> {
 #[test]
 fn counts(rt: HostRuntime) -> Result<(), Fail> {
     let params = Params::read(rt.alloc(), C)?;
-    assert_eq!(rt; params.pins().len(), 3);
-    assert_eq!(rt; params.usage(), Usage::Locked);
-    assert_eq!(rt; params.skipped(), 0);
+    assert_eq!(rt;
+        (params.pins().len(), params.usage(), params.skipped()),
+        (3, Usage::Locked, 0)
+    );
     Ok(())
 }
 
@@ -51,8 +52,10 @@ fn account_rows(rt: HostRuntime) -> Result<(), Fail> {
     let [_, second] = params.accounts() else {
         return Err(Fail::from("two accounts"));
     };
-    assert_eq!(rt; second.national.number.as_slice(), b"7654321".as_slice());
-    assert_eq!(rt; second.iban.as_slice(), b"DE222".as_slice());
+    assert_eq!(rt;
+        (second.national.number.as_slice(), second.iban.as_slice()),
+        (b"7654321".as_slice(), b"DE222".as_slice())
+    );
     assert_eq!(rt; second.entries.as_slice().len(), 2);
     Ok(())
 }
@@ -116,8 +119,10 @@ fn wide_accounts(alloc: Global) -> Result<Vec<u8>, Fail> {
 fn many_elements(rt: HostRuntime) -> Result<(), Fail> {
     let capture = wide_accounts(rt.alloc())?;
     let params = Params::read(rt.alloc(), capture.as_slice())?;
-    assert_eq!(rt; params.accounts().len(), 70);
-    assert_eq!(rt; params.skipped(), 1_330_000);
+    assert_eq!(rt;
+        (params.accounts().len(), params.skipped()),
+        (70, 1_330_000)
+    );
     Ok(())
 }
 
@@ -149,7 +154,9 @@ fn code_faults(rt: HostRuntime) {
 
 #[test]
 fn code_numbers(rt: HostRuntime) {
-    assert_eq!(rt; Code::from_number(30), Code::parse(b"0030"));
-    assert_eq!(rt; Code::from_number(9999), Code::parse(b"9999"));
+    assert_eq!(rt;
+        (Code::from_number(30), Code::from_number(9999)),
+        (Code::parse(b"0030"), Code::parse(b"9999"))
+    );
     assert_eq!(rt; Code::from_number(10000), None);
 }

@@ -4,7 +4,11 @@
 #[cfg(test)]
 mod captures;
 #[cfg(test)]
+mod feeding;
+#[cfg(test)]
 mod permissions;
+#[cfg(test)]
+mod reading;
 #[cfg(test)]
 mod segments;
 #[cfg(test)]

@@ -97,10 +97,9 @@ fn parts(rt: HostRuntime) -> Result<(), Fail> {
     let order = kind(b"HKSAL")?;
     let bank = bank_of(rt.alloc(), C1, b"")?;
     let permissions = Permissions::build(rt.alloc(), &bank.params, &bank.orders)?;
-    assert_eq!(rt; permissions.bank().kinds, 1);
     assert_eq!(rt;
-        permissions.form(order, 7),
-        Some(AccountForm::International)
+        (permissions.bank().kinds, permissions.form(order, 7)),
+        (1, Some(AccountForm::International))
     );
     Ok(())
 }
@@ -226,15 +225,16 @@ fn broken(rt: HostRuntime) -> Result<(), Fail> {
 #[test]
 fn messages(rt: HostRuntime) -> Result<(), Fail> {
     let message = read_message(rt.alloc(), END_MESSAGE)?;
-    assert_eq!(rt; (message.size(), message.number()), (55, 1));
-    assert_eq!(rt; message.protocol(), Some(300));
+    assert_eq!(rt;
+        (message.size(), message.number(), message.protocol()),
+        (55, 1, Some(300))
+    );
     Ok(())
 }
 
 #[test]
 fn message_parts(rt: HostRuntime) -> Result<(), Fail> {
     let message = read_message(rt.alloc(), END_MESSAGE)?;
-    assert_eq!(rt; message.body().len(), 1);
-    assert_eq!(rt; message.ends().len(), 0);
+    assert_eq!(rt; (message.body().len(), message.ends().len()), (1, 0));
     Ok(())
 }

@@ -14,10 +14,11 @@ const ANSWER: &[u8] = b"fints-case 1\nfield dialog 44\nanswer 0020\n";
 fn values_of_cases(rt: HostRuntime) -> Result<(), Fail> {
     let (acct, tan) = (name(b"acct")?, name(b"tan")?);
     let case = Case::read(rt.alloc(), VALUES)?;
-    assert_eq!(rt; case.values.pairs().len(), 4);
-    assert_eq!(rt; case.values.get(acct), Some(b"DE222".as_slice()));
-    assert_eq!(rt; case.values.get(tan), Some(b"".as_slice()));
-    assert_eq!(rt; case.answers.len(), 0);
+    assert_eq!(rt; (case.values.pairs().len(), case.answers.len()), (4, 0));
+    assert_eq!(rt;
+        (case.values.get(acct), case.values.get(tan)),
+        (Some(b"DE222".as_slice()), Some(b"".as_slice()))
+    );
     Ok(())
 }
 
@@ -57,8 +58,10 @@ fn first_values(rt: HostRuntime) -> Result<(), Fail> {
     let (tan, pin) = (name(b"tan")?, name(b"pin")?);
     let values = values(rt.alloc(), &[(b"tan", b"7"), (b"tan", b"8")])?;
     assert_eq!(rt; values.pairs().len(), 2);
-    assert_eq!(rt; values.get(tan), Some(b"7".as_slice()));
-    assert_eq!(rt; values.get(pin), None);
+    assert_eq!(rt;
+        (values.get(tan), values.get(pin)),
+        (Some(b"7".as_slice()), None)
+    );
     Ok(())
 }
 
@@ -87,8 +90,8 @@ fn longest_case(rt: HostRuntime) -> Result<(), Fail> {
     ];
     for (bytes, len, fault) in rows {
         let text = long_text(rt.alloc(), bytes)?;
-        assert_eq!(rt; text.len(), len);
-        assert_eq!(rt; Case::read(rt.alloc(), text.as_slice()).err(), fault);
+        let found = Case::read(rt.alloc(), text.as_slice()).err();
+        assert_eq!(rt; (text.len(), found), (len, fault));
     }
     Ok(())
 }

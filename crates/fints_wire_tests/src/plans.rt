@@ -48,9 +48,14 @@ fn chosen(rt: HostRuntime) -> Result<(), Fail> {
     let (late, early) = (code(9010)?, code(20)?);
     let script = Script::read(rt.alloc(), FORK)?;
     let one = &script.steps()[0];
-    assert_eq!(rt; one.choose(&[late, early]), Target::Step(3));
-    assert_eq!(rt; one.choose(&[late]), Target::Stop);
-    assert_eq!(rt; one.choose(&[]), Target::Stop);
+    assert_eq!(rt;
+        (
+            one.choose(&[late, early]),
+            one.choose(&[late]),
+            one.choose(&[])
+        ),
+        (Target::Step(3), Target::Stop, Target::Stop)
+    );
     Ok(())
 }
 
@@ -60,9 +65,10 @@ fn openers(rt: HostRuntime) -> Result<(), Fail> {
     let script = Script::read(rt.alloc(), FORK)?;
     let one = &script.steps()[0];
     assert_eq!(rt; one.branches().len(), 2);
-    assert_eq!(rt; one.opener(1), Some(least));
-    assert_eq!(rt; one.opener(2), None);
-    assert_eq!(rt; one.opener(3), Some(other));
+    assert_eq!(rt;
+        (one.opener(1), one.opener(2), one.opener(3)),
+        (Some(least), None, Some(other))
+    );
     Ok(())
 }
 
@@ -72,8 +78,7 @@ fn parts(rt: HostRuntime) -> Result<(), Fail> {
     let orders = OrderTable::read(rt.alloc(), T)?;
     let plan = script.plan(&orders)?;
     assert_eq!(rt; plan.step_count(), 3);
-    assert!(rt; plan.orders().same(&orders));
-    assert!(rt; plan.seal().is_none());
+    assert!(rt; plan.orders().same(&orders) && plan.seal().is_none());
     Ok(())
 }
 

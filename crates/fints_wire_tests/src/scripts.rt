@@ -237,8 +237,10 @@ fn patterns(rt: HostRuntime) -> Result<(), Fail> {
     let [done, bad] = one.branches() else {
         return Err(Fail::from("two branches"));
     };
-    assert_eq!(rt; Some(done.on), Pattern::parse(b"0***"));
-    assert_eq!(rt; Some(bad.on), Pattern::parse(b"0030"));
+    assert_eq!(rt;
+        (Some(done.on), Some(bad.on)),
+        (Pattern::parse(b"0***"), Pattern::parse(b"0030"))
+    );
     assert_eq!(rt; (done.to, bad.to), (Target::Step(3), Target::Step(2)));
     Ok(())
 }

@@ -16,8 +16,10 @@ fn assert_longest<C: FieldClass>(
     written: u64,
 ) -> Result<(), Fail> {
     let longest = class.longest(alloc)?;
-    assert_eq!(rt; longest.as_slice(), value);
-    assert_eq!(rt; class.longest_written(), written);
+    assert_eq!(rt;
+        (longest.as_slice(), class.longest_written()),
+        (value, written)
+    );
     assert!(rt; class.admits(longest.as_slice()));
     Ok(())
 }
@@ -31,8 +33,10 @@ fn assert_shortest<C: FieldClass>(
     written: u64,
 ) -> Result<(), Fail> {
     let shortest = class.shortest(alloc)?;
-    assert_eq!(rt; shortest.as_slice(), value);
-    assert_eq!(rt; class.written(shortest.as_slice()), written);
+    assert_eq!(rt;
+        (shortest.as_slice(), class.written(shortest.as_slice())),
+        (value, written)
+    );
     assert!(rt; class.admits(shortest.as_slice()));
     Ok(())
 }
@@ -165,8 +169,10 @@ fn accounts(rt: HostRuntime) -> Result<(), Fail> {
     let [iban, national] = field.accounts() else {
         return Err(Fail::from("two accounts"));
     };
-    assert_eq!(rt; iban.items().len(), 1);
-    assert_eq!(rt; national.text(), b"1234567::280:10020030".as_slice());
+    assert_eq!(rt;
+        (iban.items().len(), national.text()),
+        (1, b"1234567::280:10020030".as_slice())
+    );
     Ok(())
 }
 
