@@ -4,6 +4,7 @@ use fints_params::Code;
 use fints_rules::OrderTable;
 use fints_samples::{FORK, T};
 use fints_script::{Pattern, PlanFault, Script, Target};
+use std::alloc::Global;
 use std::test::*;
 
 const OPEN_ACCOUNT: &[u8] = br#"
@@ -96,33 +97,40 @@ fn patterns(rt: HostRuntime) -> Result<(), Fail> {
     Ok(())
 }
 
-// The values of `CLOSED`: in another order, one too few, and beyond their domains.
+const DIALOG: (&[u8], &[u8]) = (b"dialog", b"A");
+
+const ACCOUNT: (&[u8], &[u8]) = (b"acct", b"DE222");
+
+const PIN: (&[u8], &[u8]) = (b"pin", b"12345");
+
+// Values for `CLOSED`: as it wants them, one too few, in another order, and beyond their domains.
+const CHOSEN: [(&[(&[u8], &[u8])], bool); 6] = [
+    (&[DIALOG, ACCOUNT, PIN], true),
+    (&[DIALOG, ACCOUNT], false),
+    (&[DIALOG, PIN, ACCOUNT], false),
+    (&[DIALOG, (b"acct", b"DE333"), PIN], false),
+    (&[(b"dialog", b""), ACCOUNT, PIN], false),
+    (
+        &[
+            (b"dialog", b"1234567890123456789012345678901"),
+            ACCOUNT,
+            PIN,
+        ],
+        false,
+    ),
+];
+
+fn is_admitted(alloc: Global, pairs: &[(&[u8], &[u8])]) -> Result<bool, Fail> {
+    let script = Script::read(alloc, CLOSED)?;
+    let orders = OrderTable::read(alloc, T)?;
+    let chosen = values(alloc, pairs)?;
+    Ok(script.plan(&orders)?.admits(&chosen))
+}
+
 #[test]
 fn admitted(rt: HostRuntime) -> Result<(), Fail> {
-    let dialog: (&[u8], &[u8]) = (b"dialog", b"A");
-    let pin: (&[u8], &[u8]) = (b"pin", b"12345");
-    let account: (&[u8], &[u8]) = (b"acct", b"DE222");
-    let rows: [(&[(&[u8], &[u8])], bool); 6] = [
-        (&[dialog, account, pin], true),
-        (&[dialog, account], false),
-        (&[dialog, pin, account], false),
-        (&[dialog, (b"acct", b"DE333"), pin], false),
-        (&[(b"dialog", b""), account, pin], false),
-        (
-            &[
-                (b"dialog", b"1234567890123456789012345678901"),
-                account,
-                pin,
-            ],
-            false,
-        ),
-    ];
-    let script = Script::read(rt.alloc(), CLOSED)?;
-    let orders = OrderTable::read(rt.alloc(), T)?;
-    let plan = script.plan(&orders)?;
-    for (pairs, is_admitted) in rows {
-        let chosen = values(rt.alloc(), pairs)?;
-        assert_eq!(rt; plan.admits(&chosen), is_admitted, "{pairs:?}");
+    for (pairs, wanted) in CHOSEN {
+        assert_eq!(rt; is_admitted(rt.alloc(), pairs)?, wanted, "{pairs:?}");
     }
     Ok(())
 }
