@@ -42,11 +42,9 @@ fn assert_shown(rt: &impl Abort, alloc: Global, capture: &[u8], quirk: Quirk, is
     } else {
         (5, b"".as_slice(), b"error: read --params\n".as_slice())
     };
-    assert_eq!(rt;
-        (status, out.bytes(), err.bytes()),
-        (want, output, errors),
-        "{quirk:?}"
-    );
+    assert_eq!(rt; status, want, "{quirk:?}");
+    assert_eq!(rt; out.bytes(), output, "{quirk:?}");
+    assert_eq!(rt; err.bytes(), errors, "{quirk:?}");
 }
 
 // The output that fails after each byte of the built-in report keeps what came before.
@@ -58,11 +56,9 @@ fn output_fails_after_each_byte(rt: HostRuntime) {
             let mut out = Tape::new(room, piece);
             let mut err = Tape::new(4096, 1);
             let status = execute(rt.alloc(), &[], &mut shelf, &mut out, &mut err);
-            assert_eq!(rt;
-                (status, out.bytes(), err.bytes()),
-                (5, &REPORT[..room], b"error: write\n".as_slice()),
-                "{room}"
-            );
+            assert_eq!(rt; status, 5, "{room}");
+            assert_eq!(rt; out.bytes(), &REPORT[..room], "{room}");
+            assert_eq!(rt; err.bytes(), b"error: write\n".as_slice(), "{room}");
         }
     }
 }
@@ -71,8 +67,8 @@ fn output_fails_after_each_byte(rt: HostRuntime) {
 fn whole_output(rt: HostRuntime) {
     for piece in [1, 5, 31, 32] {
         let mut out = Tape::new(REPORT.len(), piece);
-        let is_written = emit(REPORT, &mut out).is_ok();
-        assert_eq!(rt; (is_written, out.bytes()), (true, REPORT), "{piece}");
+        assert!(rt; emit(REPORT, &mut out).is_ok(), "{piece}");
+        assert_eq!(rt; out.bytes(), REPORT, "{piece}");
     }
     let mut full = Tape::new(0, 1);
     assert!(rt; emit(b"", &mut full).is_ok());
@@ -93,10 +89,9 @@ fn errors_may_fail(rt: HostRuntime) {
         let mut out = Tape::new(4096, 4096);
         let mut err = Tape::new(3, 4096);
         let got = execute(rt.alloc(), words, &mut shelf, &mut out, &mut err);
-        assert_eq!(rt;
-            (got, out.bytes(), err.bytes()),
-            (status, b"".as_slice(), b"err".as_slice())
-        );
+        assert_eq!(rt; got, status);
+        assert!(rt; out.bytes().is_empty());
+        assert_eq!(rt; err.bytes(), b"err".as_slice());
     }
 }
 
@@ -160,7 +155,8 @@ fn most_calls(rt: HostRuntime) -> Result<(), Fail> {
         let files = [("f", bytes.as_slice())];
         let mut shelf = Shelf::new(&files, Quirk::Pieces(1));
         let read = load(rt.alloc(), &mut shelf, "f", 6_000_000);
-        assert_eq!(rt; (read.is_ok(), shelf.calls()), (is_read, 5_000_000));
+        assert_eq!(rt; read.is_ok(), is_read);
+        assert_eq!(rt; shelf.calls(), 5_000_000);
         bytes.push(b'\n')?;
     }
     Ok(())
@@ -193,7 +189,10 @@ fn replies(rt: HostRuntime) {
     for (request, text) in rows {
         let mut shelf = Shelf::new(&files, Quirk::None);
         match perform(rt.alloc(), &request, &mut shelf, false) {
-            Ok(reply) => assert_eq!(rt; (reply.status, reply.text.as_slice()), (0, text)),
+            Ok(reply) => {
+                assert_eq!(rt; reply.status, 0);
+                assert_eq!(rt; reply.text.as_slice(), text);
+            }
             Err(refusal) => assert!(rt; false, "{}", refusal.failure),
         }
     }

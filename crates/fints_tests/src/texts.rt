@@ -28,10 +28,8 @@ fn shown(rt: HostRuntime) -> Result<(), Fail> {
 #[test]
 fn judged(rt: HostRuntime) -> Result<(), Fail> {
     let reply = judge_message(rt.alloc(), built_in::CAPTURE, built_in::ORDERS, MESSAGE)?;
-    assert_eq!(rt;
-        (reply.status, reply.text.as_slice()),
-        (0, b"permitted\n".as_slice())
-    );
+    assert_eq!(rt; reply.status, 0);
+    assert_eq!(rt; reply.text.as_slice(), b"permitted\n".as_slice());
     Ok(())
 }
 
@@ -107,7 +105,9 @@ fn assert_run(
     ];
     let got = execute(alloc, &words, &mut shelf, &mut out, &mut err);
     let output = if status == 0 { SENT } else { b"".as_slice() };
-    assert_eq!(rt; (got, out.bytes(), err.bytes()), (status, output, errors));
+    assert_eq!(rt; err.bytes(), errors);
+    assert_eq!(rt; out.bytes(), output);
+    assert_eq!(rt; got, status);
 }
 
 // A text of 1,048,576 bytes is read, and no longer one.
