@@ -1,8 +1,9 @@
 -- What the commands answer, and why they have no answer.
-use Rattle.std.specs.Prelude.{◌≡◌, ◌≤◌, ◌⊎◌, ℕ, List, Option, IfSome, codes, string_bytes}
+use Rattle.std.specs.Prelude.{◌≡◌, ◌≤◌, ◌⊎◌, ℕ, Bool, false, List, Option, None, IfSome, codes, string_bytes}
 use Rattle.fints_texts.specs.declared.fault.Fault.TheVariants.{Memory, NoMessage}
 use Rattle.fints_cli.specs.declared.failing.Failure.{Failure}
 use Rattle.fints_cli.specs.declared.failing.Failure.TheVariants.{Input, Unread}
+use Rattle.fints_cli.specs.declared.failing.Refusal.{Refusal}
 use Rattle.fints_words.specs.declared.words.Request.{Request}
 use Rattle.fints_words.specs.declared.words.Request.TheVariants.{BuiltIn, Show, Judge, Check, Explain, Certify, Verify}
 use Rattle.fints_words.specs.declared.words.Request.TheVariants as requests
@@ -28,6 +29,10 @@ failure_status (Input Memory) = 4
 failure_status (Input (NoMessage number)) = 2
 failure_status (Input _) = 3
 failure_status (Unread option) = 5
+
+-- a hint stands only where it is asked for
+abbrev pub HintsIfAsked : Bool → Refusal → Type 0
+HintsIfAsked asked refusal = asked ≡ false → refusal.hint ≡ None
 
 -- the text shows the capture, where its bytes are told
 abbrev pub ShowsFile : Option (List ℕ) → List ℕ → Type 0

@@ -14,7 +14,7 @@ ghost use Rattle.fints_reports.specs.RunText.{IsRunOf};
 ghost use Rattle.fints_reports.specs.Verified.{IsVerifiedOf};
 ghost use Rattle.fints_cli.specs.Loading.{wire_file, script_files, judge_files, verify_files, run_files, files_of, AreWithin, FollowsReading};
 ghost use Rattle.fints_files.specs.Loading.{MAX_READS, NoneFailed};
-ghost use Rattle.fints_cli.specs.Commands.{failure_status, IsJudgeFailure, ShowsFile, JudgesFile, FailsToJudge, TellsFiles, IsScriptFailure, FailsToTell, IsRunFailure, RunsFiles, FailsToRun, IsVerifyFailure, VerifiesFiles, FailsToVerify, AnswersTo, IsUnloaded, IsShowFailure, FailsToShow, FailsFor, IsAnswered, IsCutOff, IsResponse, IsUsage, FailsToRead, FailsWith};
+ghost use Rattle.fints_cli.specs.Commands.{failure_status, IsJudgeFailure, ShowsFile, JudgesFile, FailsToJudge, TellsFiles, IsScriptFailure, FailsToTell, IsRunFailure, RunsFiles, FailsToRun, IsVerifyFailure, VerifiesFiles, FailsToVerify, AnswersTo, IsUnloaded, IsShowFailure, FailsToShow, FailsFor, HintsIfAsked, IsAnswered, IsCutOff, IsResponse, IsUsage, FailsToRead, FailsWith};
 ghost use Rattle.fints_words.specs.declared.words.Asked.TheVariants as asked;
 
 use crate::built_in;
@@ -52,6 +52,7 @@ fn load_option<F: Files>(
     ensures reason { IfErr result (λ r.
         FollowsReading (record { option = option.now; path = path.now; limit = limit } ∷ [])
         (F.holds files.old) (F.reads files.old) (F.reads files.new) r.failure) }
+    ensures unasked { IfErr result (λ r. HintsIfAsked hints r) }
 {
     match load(alloc, files, path, limit) {
         Ok(bytes) => Ok(bytes),
@@ -76,6 +77,7 @@ fn load_capture<F: Files>(
     ensures within { IfOk result (λ _. AreWithin (wire_file (codes "params") path.now ∷ []) (F.holds files.old)) }
     ensures reason { IfErr result (λ r.
         FollowsReading (wire_file (codes "params") path.now ∷ []) (F.holds files.old) (F.reads files.old) (F.reads files.new) r.failure) }
+    ensures unasked { IfErr result (λ r. HintsIfAsked hints r) }
 {
     match load_into(files, path, MAX_CAPTURE, Capture::new(alloc, hints)) {
         Ok(capture) => Ok(capture.end()),
@@ -95,6 +97,7 @@ fn tell_loaded(
         → IsToldOf wanted capture inputs.now.orders.now inputs.now.script.now reply.status reply.text.items) }
     ensures refused { IfErr result (λ r. (capture : List ℕ) → IsReadOf capture params
         → IsScriptFailure capture inputs.now.orders.now inputs.now.script.now r.failure) }
+    ensures unasked { IfErr result (λ r. HintsIfAsked hints r) }
 {
     match tell_read(alloc, params, inputs.orders, inputs.script, wanted) {
         Ok(reply) => Ok(reply),
@@ -107,6 +110,7 @@ fn check_built_in(alloc: Global) -> Result<Reply, Refusal>
     ensures status { IfOk result (λ reply. reply.status ≤ 1) }
     ensures told { IfOk result (λ reply. IsToldOf wants.Report texts.capture texts.orders texts.script reply.status reply.text.items) }
     ensures refused { IfErr result (λ r. IsScriptFailure texts.capture texts.orders texts.script r.failure) }
+    ensures unasked { IfErr result (λ r. HintsIfAsked false r) }
 {
     match tell_script(
         alloc,
@@ -136,6 +140,7 @@ fn tell_files<F: Files>(
     ensures reason { IfErr result (λ r. FollowsReading (script_files named.now) (F.holds files.old) (F.reads files.old) (F.reads files.new) r.failure) }
     ensures calls { (F.reads files.new).calls ≤ (F.reads files.old).calls + 3 * MAX_READS }
     ensures keeps { F.holds files.new ≡ F.holds files.old }
+    ensures unasked { IfErr result (λ r. HintsIfAsked hints r) }
 {
     let capture = load_capture(alloc, files, named.params, hints)?;
     let orders = load_option(alloc, files, "orders", named.orders, MAX_TEXT, hints)?;
@@ -161,6 +166,7 @@ fn verify_loaded(
         → IsVerifiedOf capture inputs.now.orders.now inputs.now.script.now inputs.now.certificate.now reply.status reply.text.items) }
     ensures refused { IfErr result (λ r. (capture : List ℕ) → IsReadOf capture params
         → IsVerifyFailure capture inputs.now.orders.now inputs.now.script.now inputs.now.certificate.now r.failure) }
+    ensures unasked { IfErr result (λ r. HintsIfAsked hints r) }
 {
     match verify_read(
         alloc,
@@ -191,6 +197,7 @@ fn verify_files<F: Files>(
         FollowsReading (verify_files named.now certificate.now) (F.holds files.old) (F.reads files.old) (F.reads files.new) r.failure) }
     ensures calls { (F.reads files.new).calls ≤ (F.reads files.old).calls + 4 * MAX_READS }
     ensures keeps { F.holds files.new ≡ F.holds files.old }
+    ensures unasked { IfErr result (λ r. HintsIfAsked hints r) }
 {
     let capture = load_capture(alloc, files, named.params, hints)?;
     let orders = load_option(alloc, files, "orders", named.orders, MAX_TEXT, hints)?;
@@ -211,6 +218,7 @@ fn show_loaded(alloc: Global, inputs: &Inputs<'_>, hints: bool) -> Result<Reply,
     ensures status { IfOk result (λ reply. reply.status ≡ 0) }
     ensures shown { IfOk result (λ reply. IsShowOf inputs.now.params.now reply.text.items) }
     ensures refused { IfErr result (λ r. IsShowFailure inputs.now.params.now r.failure) }
+    ensures unasked { IfErr result (λ r. HintsIfAsked hints r) }
 {
     match show(alloc, inputs.params) {
         Ok(text) => Ok(Reply { status: 0, text }),
@@ -234,6 +242,7 @@ fn show_file<F: Files>(
         FollowsReading (wire_file (codes "params") params.now ∷ []) (F.holds files.old) (F.reads files.old) (F.reads files.new) r.failure) }
     ensures calls { (F.reads files.new).calls ≤ (F.reads files.old).calls + MAX_READS }
     ensures keeps { F.holds files.new ≡ F.holds files.old }
+    ensures unasked { IfErr result (λ r. HintsIfAsked hints r) }
 {
     let capture = load_option(alloc, files, "params", params, MAX_CAPTURE, hints)?;
     let inputs = Inputs {
@@ -254,6 +263,7 @@ fn judge_loaded(
         → IsVerdictOf capture inputs.now.orders.now inputs.now.message.now reply.status reply.text.items) }
     ensures refused { IfErr result (λ r. (capture : List ℕ) → IsReadOf capture params
         → IsJudgeFailure capture inputs.now.orders.now inputs.now.message.now r.failure) }
+    ensures unasked { IfErr result (λ r. HintsIfAsked hints r) }
 {
     match judge_read(alloc, params, inputs.orders, inputs.message) {
         Ok(reply) => Ok(reply),
@@ -280,6 +290,7 @@ fn judge_file<F: Files>(
         FollowsReading (judge_files params.now orders.now message.now) (F.holds files.old) (F.reads files.old) (F.reads files.new) r.failure) }
     ensures calls { (F.reads files.new).calls ≤ (F.reads files.old).calls + 3 * MAX_READS }
     ensures keeps { F.holds files.new ≡ F.holds files.old }
+    ensures unasked { IfErr result (λ r. HintsIfAsked hints r) }
 {
     let capture = load_capture(alloc, files, params, hints)?;
     let orders = load_option(alloc, files, "orders", orders, MAX_TEXT, hints)?;
@@ -303,6 +314,7 @@ fn run_loaded(
     ensures status { IfOk result (λ reply. reply.status ≡ 0) }
     ensures told { IfOk result (λ reply. IsRunOf inputs.now.orders.now inputs.now.script.now inputs.now.case.now only reply.text.items) }
     ensures refused { IfErr result (λ r. IsRunFailure inputs.now.orders.now inputs.now.script.now inputs.now.case.now only r.failure) }
+    ensures unasked { IfErr result (λ r. HintsIfAsked hints r) }
 {
     match run_case(alloc, inputs.orders, inputs.script, inputs.case, only) {
         Ok(text) => Ok(Reply { status: 0, text }),
@@ -326,6 +338,7 @@ fn run_files<F: Files>(
     ensures reason { IfErr result (λ r. FollowsReading (run_files named.now) (F.holds files.old) (F.reads files.old) (F.reads files.new) r.failure) }
     ensures calls { (F.reads files.new).calls ≤ (F.reads files.old).calls + 3 * MAX_READS }
     ensures keeps { F.holds files.new ≡ F.holds files.old }
+    ensures unasked { IfErr result (λ r. HintsIfAsked hints r) }
 {
     let orders = load_option(alloc, files, "orders", named.orders, MAX_TEXT, hints)?;
     let script = load_option(alloc, files, "script", named.script, MAX_TEXT, hints)?;
@@ -355,6 +368,7 @@ pub fn perform<F: Files>(
     ensures reason { IfErr result (λ r. FollowsReading (files_of request.now) (F.holds files.old) (F.reads files.old) (F.reads files.new) r.failure) }
     ensures calls { (F.reads files.new).calls ≤ (F.reads files.old).calls + 4 * MAX_READS }
     ensures keeps { F.holds files.new ≡ F.holds files.old }
+    ensures unasked { IfErr result (λ r. HintsIfAsked hints r) }
 {
     match request {
         Request::BuiltIn => check_built_in(alloc),

@@ -1,6 +1,6 @@
 //! Why a command has no answer.
 ghost use Rattle.std.specs.Prelude.{◌≡◌, ◌≢◌};
-ghost use Rattle.fints_cli.specs.Commands.{failure_status, IsUnloaded, IsUnreadAs};
+ghost use Rattle.fints_cli.specs.Commands.{failure_status, HintsIfAsked, IsUnloaded, IsUnreadAs};
 ghost use Rattle.fints_cli.specs.declared.failing.Failure.TheVariants as failure;
 ghost use Rattle.fints_files.specs.declared.reading.LoadFault.TheVariants as load_fault;
 ghost use Rattle.fints_texts.specs.declared.fault.Fault.TheVariants as texts;
@@ -46,7 +46,8 @@ pub struct Refusal {
 
 /// The refusal of inputs, with a hint where that is asked for.
 pub fn refused(alloc: Global, fault: Fault, inputs: &Inputs<'_>, hints: bool) -> Refusal
-    ensures { result.failure ≡ failure.Input fault }
+    ensures failure { result.failure ≡ failure.Input fault }
+    ensures unasked { HintsIfAsked hints result }
 {
     let hint = if hints {
         hint(alloc, &fault, inputs).unwrap_or(None)
@@ -87,6 +88,7 @@ pub fn unread(
     ensures told { IsUnloaded option.now result.failure }
     ensures file { fault ≢ load_fault.Memory → IsUnreadAs option.now result.failure }
     ensures memory { fault ≡ load_fault.Memory → result.failure ≡ failure.Input texts.Memory }
+    ensures unasked { HintsIfAsked hints result }
 {
     let failure = match fault {
         LoadFault::Memory => Failure::Input(Fault::Memory),
