@@ -1,4 +1,4 @@
--- What the commands answer, and why they have no answer.
+-- What the commands answer, and why they have no answer. Words of private contracts and proofs alone stand last, under a heading.
 use Rattle.std.specs.Prelude.{◌≡◌, ◌≤◌, ◌⊎◌, ℕ, Bool, false, List, Option, None, IfSome, codes, string_bytes}
 use Rattle.fints_texts.specs.declared.fault.Fault.TheVariants.{Memory, NoMessage}
 use Rattle.fints_cli.specs.declared.failing.Failure.{Failure}
@@ -69,31 +69,10 @@ AnswersTo (Certify named) holds status text = TellsFiles Certificate holds named
 AnswersTo (Verify named certificate) holds status text = VerifiesFiles holds named certificate.now status text
 AnswersTo (requests.Run named only) holds status text = (status ≡ 0) × RunsFiles holds named only text
 
--- the file of the option couldn't be read
-abbrev pub IsUnreadAs : List ℕ → Failure → Type 0
-IsUnreadAs option (Unread named) = named.now ≡ option
-IsUnreadAs option (Input f) = ⊥
-
--- the file of the option couldn't be read, or memory ran out
-abbrev pub IsUnloaded : List ℕ → Failure → Type 0
-IsUnloaded option (Unread named) = named.now ≡ option
-IsUnloaded option (Input Memory) = Unit {0}
-IsUnloaded option (Input _) = ⊥
-
--- why loaded bytes aren't shown
-abbrev pub IsShowFailure : List ℕ → Failure → Type 0
-IsShowFailure capture (Unread named) = ⊥
-IsShowFailure capture (Input f) = IsMemoryOrShowFault capture f
-
 -- why a capture isn't shown, where its bytes are told
 abbrev pub FailsToShow : Option (List ℕ) → Failure → Type 0
 FailsToShow held (Unread named) = Unit {0}
 FailsToShow held (Input f) = IfSome held (λ capture. IsMemoryOrShowFault capture f)
-
--- why loaded bytes aren't judged
-abbrev pub IsJudgeFailure : List ℕ → List ℕ → List ℕ → Failure → Type 0
-IsJudgeFailure params orders message (Unread named) = ⊥
-IsJudgeFailure params orders message (Input f) = IsJudgeRefusal params orders message f
 
 -- why a message isn't judged, where the bytes of the files are told
 abbrev pub FailsToJudge : Option (List ℕ) → Option (List ℕ) → Option (List ℕ) → Failure → Type 0
@@ -112,21 +91,11 @@ FailsToTell holds named (Unread option) = Unit {0}
 FailsToTell holds named (Input f) =
     IfSome (holds named.params.now) (λ capture. IfSome (holds named.orders.now) (λ table. IfSome (holds named.script.now) (λ steps. IsRefused capture table steps f)))
 
--- why nothing is told of loaded bytes of a certificate
-abbrev pub IsVerifyFailure : List ℕ → List ℕ → List ℕ → List ℕ → Failure → Type 0
-IsVerifyFailure params orders script certificate (Unread option) = ⊥
-IsVerifyFailure params orders script certificate (Input f) = IsUnverified params orders script certificate f
-
 -- why nothing is told of a certificate, where the bytes of the files are told
 abbrev pub FailsToVerify : (List ℕ → Option (List ℕ)) → ScriptFiles → List ℕ → Failure → Type 0
 FailsToVerify holds named certificate (Unread option) = Unit {0}
 FailsToVerify holds named certificate (Input f) =
     IfSome (holds named.params.now) (λ capture. IfSome (holds named.orders.now) (λ table. IfSome (holds named.script.now) (λ steps. IfSome (holds certificate) (λ lines. IsUnverified capture table steps lines f))))
-
--- why loaded bytes aren't run
-abbrev pub IsRunFailure : List ℕ → List ℕ → List ℕ → Option ℕ → Failure → Type 0
-IsRunFailure orders script case only (Unread named) = ⊥
-IsRunFailure orders script case only (Input f) = IsRunRefusal orders script case only f
 
 -- why a case isn't run, where the bytes of the files are told
 abbrev pub FailsToRun : (List ℕ → Option (List ℕ)) → RunFiles → Option ℕ → Failure → Type 0
@@ -191,3 +160,36 @@ pub record IsResponse (asked : Asked) (holds : List ℕ → Option (List ℕ)) (
   pub silent : (status ≡ 2) ⊎ ((status ≡ 3) ⊎ (status ≡ 4)) → GetsNothing old new
   pub fine : status ≤ 4 → lost_after ≡ lost
   pub failed : status ≡ 5 → (FailsToRead asked holds before after × GetsNothing old new) ⊎ (IsCutOff asked holds old new × (lost_after ≡ one_more lost))
+
+-- ---- of private contracts and proofs alone
+
+-- the file of the option couldn't be read
+abbrev pub IsUnreadAs : List ℕ → Failure → Type 0
+IsUnreadAs option (Unread named) = named.now ≡ option
+IsUnreadAs option (Input f) = ⊥
+
+-- the file of the option couldn't be read, or memory ran out
+abbrev pub IsUnloaded : List ℕ → Failure → Type 0
+IsUnloaded option (Unread named) = named.now ≡ option
+IsUnloaded option (Input Memory) = Unit {0}
+IsUnloaded option (Input _) = ⊥
+
+-- why loaded bytes aren't shown
+abbrev pub IsShowFailure : List ℕ → Failure → Type 0
+IsShowFailure capture (Unread named) = ⊥
+IsShowFailure capture (Input f) = IsMemoryOrShowFault capture f
+
+-- why loaded bytes aren't judged
+abbrev pub IsJudgeFailure : List ℕ → List ℕ → List ℕ → Failure → Type 0
+IsJudgeFailure params orders message (Unread named) = ⊥
+IsJudgeFailure params orders message (Input f) = IsJudgeRefusal params orders message f
+
+-- why nothing is told of loaded bytes of a certificate
+abbrev pub IsVerifyFailure : List ℕ → List ℕ → List ℕ → List ℕ → Failure → Type 0
+IsVerifyFailure params orders script certificate (Unread option) = ⊥
+IsVerifyFailure params orders script certificate (Input f) = IsUnverified params orders script certificate f
+
+-- why loaded bytes aren't run
+abbrev pub IsRunFailure : List ℕ → List ℕ → List ℕ → Option ℕ → Failure → Type 0
+IsRunFailure orders script case only (Unread named) = ⊥
+IsRunFailure orders script case only (Input f) = IsRunRefusal orders script case only f

@@ -1,4 +1,4 @@
--- What stands at the keys of a table.
+-- What stands at the keys of a table. Words of private contracts and proofs alone stand last, under a heading.
 use Rattle.std.specs.Prelude.{codes, ℕ, Bool, false, List, Option, Some, None, option_and_then, is_some}
 use Rattle.std.specs.Str.{bytes_eq}
 use Rattle.toml.specs.Data.{Data, string, table, Members, get_member, as_str}
@@ -10,11 +10,6 @@ text_at key ms = option_and_then as_str (get_member key ms)
 abbrev pub has_key : List ℕ → Members → Bool
 has_key key ms = is_some (get_member key ms)
 
--- the name of a row, where it is a table that has one
-abbrev pub name_in : Data → Option (List ℕ)
-name_in (table ms) = text_at (codes "name") ms
-name_in _ = None
-
 -- there is a value, and it is this text
 abbrev pub holds_text : List ℕ → Option Data → Bool
 holds_text text (Some (string other)) = bytes_eq text other
@@ -24,3 +19,10 @@ holds_text text _ = false
 abbrev pub is_named : List ℕ → Data → Bool
 is_named name (table ms) = holds_text name (get_member (codes "name") ms)
 is_named name _ = false
+
+-- ---- of private contracts and proofs alone
+
+-- the name of a row, where it is a table that has one
+abbrev pub name_in : Data → Option (List ℕ)
+name_in (table ms) = text_at (codes "name") ms
+name_in _ = None

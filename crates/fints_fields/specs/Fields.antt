@@ -1,4 +1,4 @@
--- What a field admits and how it is written, by its class.
+-- What a field admits and how it is written, by its class. Words of private contracts and proofs alone stand last, under a heading.
 use Rattle.std.specs.Prelude.{◌≡◌, ℕ, List, [], length, map, replicate, slice_get, Some}
 use Rattle.fints_segments.specs.declared.item.OwnedItem.{OwnedItem}
 use Rattle.fints_fields.specs.Classes.{Counts, IsByte, IsCharacter, as_binary, as_text, longest_character, shortest_character}
@@ -51,6 +51,8 @@ field_most_items _ = 1
 abbrev pub field_accounts : Field → List (List (List ℕ))
 field_accounts (Account c) = c.values
 field_accounts _ = []
+
+-- ---- of private contracts and proofs alone
 
 -- the value of a field stands as the items of the account that is listed at this place, counted from 0, and is their text
 pub record IsListedAt (f : Field) (v : List ℕ) (place : ℕ) (account : List (List ℕ)) : Type 0 where

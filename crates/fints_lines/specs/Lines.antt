@@ -1,4 +1,4 @@
--- Texts of lines: what lines spell, what a reader finds in a text, and which of its lines is refused first. A line stands without the line feed (10) that ends it.
+-- Texts of lines: what lines spell, what a reader finds in a text, and which of its lines is refused first. A line stands without the line feed (10) that ends it. Words of private contracts and proofs alone stand last, under a heading.
 use Rattle.std.specs.Prelude.{ℕ, ◌+◌, ◌-◌, ◌≡◌, ◌≢◌, ◌≤◌, Option, MatchOption, List, [], ◌∷◌, ◌++◌, length}
 use Rattle.std.specs.List.{All, flat_map}
 
@@ -11,10 +11,6 @@ MAX_TEXT = 1048576
 -- lines, each with a line feed after it
 abbrev pub text_of_lines : List (List ℕ) → List ℕ
 text_of_lines lines = flat_map (λ line. line ++ 10 ∷ []) lines
-
--- without a line feed
-abbrev pub NoFeed : List ℕ → Type 0
-NoFeed line = All (λ b. b ≢ 10) line
 
 -- ---- what is found in a text
 
@@ -30,11 +26,6 @@ pub record IsNextLine (whole : ℕ) (rest line more : List ℕ) : Type 0 where
 -- it begins with no such line
 abbrev pub HasNoNextLine : ℕ → List ℕ → Type 0
 HasNoNextLine whole rest = (line more : List ℕ) → IsNextLine whole rest line more → ⊥
-
--- what is found is a good value with this text, and nothing is found only where the text is that of no good value
-abbrev pub IsReadAs : {X : Type 0} → (X → Type 0) → (X → List ℕ) → List ℕ → Option X → Type 0
-IsReadAs {X} IsGood text_of text found =
-    MatchOption found ((x : X) → IsGood x → text ≢ text_of x) (λ x. IsGood x × (text ≡ text_of x))
 
 -- ---- which line is refused: `Good` tells which lists of lines make a text of the kind
 
@@ -52,3 +43,14 @@ pub record IsFirstBadLineOf (Good : List (List ℕ) → Type 0) (text : List ℕ
   pub begins : BeginsText Good lines
   pub bad : (line more : List ℕ) → rest ≡ line ++ 10 ∷ more → BeginsText Good (lines ++ line ∷ []) → ⊥
   pub no_text : (all : List (List ℕ)) → Good all → text ≢ text_of_lines all
+
+-- ---- of private contracts and proofs alone
+
+-- without a line feed
+abbrev pub NoFeed : List ℕ → Type 0
+NoFeed line = All (λ b. b ≢ 10) line
+
+-- what is found is a good value with this text, and nothing is found only where the text is that of no good value
+abbrev pub IsReadAs : {X : Type 0} → (X → Type 0) → (X → List ℕ) → List ℕ → Option X → Type 0
+IsReadAs {X} IsGood text_of text found =
+    MatchOption found ((x : X) → IsGood x → text ≢ text_of x) (λ x. IsGood x × (text ≡ text_of x))

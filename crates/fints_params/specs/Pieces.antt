@@ -1,4 +1,4 @@
--- A reader of parameters: what it keeps of a capture that comes in pieces, and why a piece or the end is refused.
+-- A reader of parameters: what it keeps of a capture that comes in pieces, and why a piece or the end is refused. Words of private contracts and proofs alone stand last, under a heading.
 use Rattle.std.specs.Prelude.{◌≡◌, ◌⊎◌, ◌≤◌, ℕ, List, [], ◌∷◌, ◌++◌, length, Option, Some, None}
 use Rattle.fints_syntax.specs.Capture.{MAX_CAPTURE}
 use Rattle.fints_syntax.specs.Streams.{IsSplit, PieceFaultAt}
@@ -51,6 +51,8 @@ IsNotReceived None old piece f new = IsStopped old piece f new
 abbrev pub IsUnfinished : Option ℕ → Received → ParamFault → Type 0
 IsUnfinished (Some offset) received f = f ≡ failed_at offset
 IsUnfinished None received f = IsMemoryOr (IsParamFault received.bytes) f
+
+-- ---- of private contracts and proofs alone
 
 -- a reader takes these pieces, one after the other
 abbrev pub AreReceived : Received → List (List ℕ) → Received → Type 0

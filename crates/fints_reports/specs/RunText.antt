@@ -1,4 +1,4 @@
--- The text of `run`: the messages that a client sends under a case, each behind a line that tells it, with LF at the ends.
+-- The text of `run`: the messages that a client sends under a case, each behind a line that tells it, with LF at the ends. Words of private contracts and proofs alone stand last, under a heading.
 use Rattle.std.specs.Prelude.{◌≡◌, ℕ, List, ◌++◌, length, codes, Contains, Option, None, Some}
 use Rattle.std.specs.List.{flat_map, All}
 use Rattle.std.specs.Fmt.{decimal}
@@ -81,23 +81,11 @@ IsBadCase case cases.Memory = ⊥
 abbrev pub IsUnsent : List Sent → ℕ → Type 0
 IsUnsent sent number = All (λ (m : Sent). m.number ≡ number → ⊥) sent
 
--- want of memory, or that no message has the number
-abbrev pub IsUnsentRefusal : List Sent → ℕ → Fault → Type 0
-IsUnsentRefusal sent number Memory = Unit {0}
-IsUnsentRefusal sent number (NoMessage n) = (n ≡ number) × IsUnsent sent number
-IsUnsentRefusal sent number _ = ⊥
-
 -- the run of these values and answers has no message of this number
 pub record IsNotReached (script : ScriptValue) (values : List NamedValue) (answers : List (List ℕ)) (number : ℕ) : Type 0 where
   pub sent : List Sent
   pub run : Run script values answers sent
   pub unsent : IsUnsent sent number
-
--- want of memory, or a number that was asked for and isn't reached
-abbrev pub IsAdmittedRefusal : ScriptValue → List NamedValue → List (List ℕ) → Option ℕ → Fault → Type 0
-IsAdmittedRefusal script values answers only Memory = Unit {0}
-IsAdmittedRefusal script values answers only (NoMessage number) = (only ≡ Some number) × IsNotReached script values answers number
-IsAdmittedRefusal script values answers only _ = ⊥
 
 -- the text of a case has values that the script admits, and its run has no message of this number
 pub record IsCaseWithout (script : ScriptValue) (case : List ℕ) (number : ℕ) : Type 0 where
@@ -107,6 +95,27 @@ pub record IsCaseWithout (script : ScriptValue) (case : List ℕ) (number : ℕ)
   pub admitted : Admits script.fields values
   pub not_reached : IsNotReached script values answers number
 
+-- want of memory, or the first refusal: of the order table, of the script, of what it leaves open, of the case, or else of the number
+abbrev pub IsRunRefusal : List ℕ → List ℕ → List ℕ → Option ℕ → Fault → Type 0
+IsRunRefusal orders script case only (Case f) = ((value : ScriptValue) × ArePlan orders script value) × IsBadCase case f
+IsRunRefusal orders script case only NotAdmitted = (value : ScriptValue) × ArePlan orders script value × IsNotAdmitted value case
+IsRunRefusal orders script case only (NoMessage number) = (only ≡ Some number) × ((value : ScriptValue) × ArePlan orders script value × IsCaseWithout value case number)
+IsRunRefusal orders script case only f = IsPlanRefusal orders script f
+
+-- ---- of private contracts and proofs alone
+
+-- want of memory, or that no message has the number
+abbrev pub IsUnsentRefusal : List Sent → ℕ → Fault → Type 0
+IsUnsentRefusal sent number Memory = Unit {0}
+IsUnsentRefusal sent number (NoMessage n) = (n ≡ number) × IsUnsent sent number
+IsUnsentRefusal sent number _ = ⊥
+
+-- want of memory, or a number that was asked for and isn't reached
+abbrev pub IsAdmittedRefusal : ScriptValue → List NamedValue → List (List ℕ) → Option ℕ → Fault → Type 0
+IsAdmittedRefusal script values answers only Memory = Unit {0}
+IsAdmittedRefusal script values answers only (NoMessage number) = (only ≡ Some number) × IsNotReached script values answers number
+IsAdmittedRefusal script values answers only _ = ⊥
+
 -- want of memory, the refusal of the case, or that of the number
 abbrev pub IsCaseRefusal : ScriptValue → List ℕ → Option ℕ → Fault → Type 0
 IsCaseRefusal script case only Memory = Unit {0}
@@ -114,10 +123,3 @@ IsCaseRefusal script case only (Case f) = IsBadCase case f
 IsCaseRefusal script case only NotAdmitted = IsNotAdmitted script case
 IsCaseRefusal script case only (NoMessage number) = (only ≡ Some number) × IsCaseWithout script case number
 IsCaseRefusal script case only _ = ⊥
-
--- want of memory, or the first refusal: of the order table, of the script, of what it leaves open, of the case, or else of the number
-abbrev pub IsRunRefusal : List ℕ → List ℕ → List ℕ → Option ℕ → Fault → Type 0
-IsRunRefusal orders script case only (Case f) = ((value : ScriptValue) × ArePlan orders script value) × IsBadCase case f
-IsRunRefusal orders script case only NotAdmitted = (value : ScriptValue) × ArePlan orders script value × IsNotAdmitted value case
-IsRunRefusal orders script case only (NoMessage number) = (only ≡ Some number) × ((value : ScriptValue) × ArePlan orders script value × IsCaseWithout value case number)
-IsRunRefusal orders script case only f = IsPlanRefusal orders script f

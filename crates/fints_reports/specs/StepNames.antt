@@ -1,13 +1,9 @@
--- The names of a script's steps; steps count from 1.
+-- The names of a script's steps; steps count from 1. Words of private contracts and proofs alone stand last, under a heading.
 use Rattle.std.specs.Prelude.{◌≤◌, ℕ, List, length, codes, Option, None, Some}
 use Rattle.fints_script.specs.Numbered.{numbered}
 use Rattle.fints_script.specs.Steps.{StepValue}
 use Rattle.fints_check.specs.declared.finding.Finding.{Finding}
 use Rattle.fints_wire.specs.declared.dialogue.Sent.{Sent}
-
--- there is a step of this number
-abbrev pub IsWithin : List StepValue → ℕ → Type 0
-IsWithin steps n = (1 ≤ n) × (n ≤ length steps)
 
 abbrev pub name_in : Option StepValue → List ℕ
 name_in None = codes ""
@@ -16,6 +12,12 @@ name_in (Some step) = step.name
 -- the name of step n
 abbrev pub step_name : List StepValue → ℕ → List ℕ
 step_name steps n = name_in (numbered steps n)
+
+-- ---- of private contracts and proofs alone
+
+-- there is a step of this number
+abbrev pub IsWithin : List StepValue → ℕ → Type 0
+IsWithin steps n = (1 ≤ n) × (n ≤ length steps)
 
 -- the message is of one of the steps
 abbrev pub IsMessageOf : List StepValue → Sent → Type 0

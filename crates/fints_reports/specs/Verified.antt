@@ -1,4 +1,4 @@
--- What `verify` tells of a certificate, and why nothing is.
+-- What `verify` tells of a certificate, and why nothing is. Words of private contracts and proofs alone stand last, under a heading.
 use Rattle.std.specs.Prelude.{◌≡◌, ◌↔◌, ℕ, Bool, true, false, IsTrue, List, codes}
 use Rattle.fints_certs.specs.Certificates.{IsClosedCertificate}
 use Rattle.fints_certs.specs.CertTexts.{IsCertificateOf, IsFirstBadLine}
@@ -41,12 +41,6 @@ pub record IsVerifiedOf (params orders script certificate : List ℕ) (status : 
 
 -- ---- why nothing is
 
--- want of memory, or the first line that is no line of a certificate there
-abbrev pub IsCertificateRefusal : List ℕ → Fault → Type 0
-IsCertificateRefusal certificate Memory = Unit {0}
-IsCertificateRefusal certificate (Certificate line) = IsFirstBadLine certificate line
-IsCertificateRefusal certificate _ = ⊥
-
 -- want of memory, or the first refusal: of the order table, of the script, of what it leaves open, or else of the certificate
 abbrev pub IsVerifyRefusal : List ℕ → List ℕ → List ℕ → Fault → Type 0
 IsVerifyRefusal orders script certificate (Certificate line) = ((value : ScriptValue) × ArePlan orders script value) × IsFirstBadLine certificate line
@@ -56,3 +50,11 @@ IsVerifyRefusal orders script certificate f = IsPlanRefusal orders script f
 abbrev pub IsUnverified : List ℕ → List ℕ → List ℕ → List ℕ → Fault → Type 0
 IsUnverified params orders script certificate (Certificate line) = ((rows : Rows) × IsParamsOf params rows) × IsVerifyRefusal orders script certificate (Certificate line)
 IsUnverified params orders script certificate f = IsRefused params orders script f
+
+-- ---- of private contracts and proofs alone
+
+-- want of memory, or the first line that is no line of a certificate there
+abbrev pub IsCertificateRefusal : List ℕ → Fault → Type 0
+IsCertificateRefusal certificate Memory = Unit {0}
+IsCertificateRefusal certificate (Certificate line) = IsFirstBadLine certificate line
+IsCertificateRefusal certificate _ = ⊥

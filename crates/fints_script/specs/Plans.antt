@@ -1,4 +1,4 @@
--- A script with an order table: which accounts and processes are open, and which values are admitted.
+-- A script with an order table: which accounts and processes are open, and which values are admitted. Words of private contracts and proofs alone stand last, under a heading.
 use Rattle.std.specs.Prelude.{◌≡◌, ◌⊎◌, ℕ, ◌+◌, ◌<◌, Bool, true, false, ◌&&◌, ◌||◌, not, if◌then◌else◌, codes, List, [], ◌∷◌, length, slice_get, zip, All, Option, Some, None}
 use Rattle.std.specs.List.{list_all}
 use Rattle.std.specs.Str.{bytes_eq}
@@ -96,11 +96,6 @@ IsPlanFault s orders f = IsFirstOpenStep s.fields orders s.steps f
 abbrev pub IsClosed : ScriptValue → List OrderRow → Type 0
 IsClosed s orders = StepsAreClosed s.fields orders s.steps (length s.steps)
 
--- element 2 of an HKTAN is all literals; that of an order that names an account is all literals, or one field of listed accounts by itself
-pub record IsClosedTemplate (fields : List NamedField) (orders : List OrderRow) (t : Template) : Type 0 where
-  pub process : bytes_eq t.kind (codes "HKTAN") ≡ true → list_all is_literal (element_two t) ≡ true
-  pub account : names_account (form_of orders t.kind t.version) ≡ true → (list_all is_literal (element_two t) ≡ true) ⊎ (is_account_field fields (element_two t) ≡ true)
-
 -- ---- values
 
 -- the value has the field's name, and is one of its domain
@@ -110,3 +105,10 @@ IsChosen field value = (value.name ≡ field.name) × field_domain field.class v
 -- exactly the fields, in order, each with a value of its domain
 abbrev pub Admits : List NamedField → List NamedValue → Type 0
 Admits fields values = (length values ≡ length fields) × All (λ (p : NamedField × NamedValue). IsChosen p.0 p.1) (zip fields values)
+
+-- ---- of private contracts and proofs alone
+
+-- element 2 of an HKTAN is all literals; that of an order that names an account is all literals, or one field of listed accounts by itself
+pub record IsClosedTemplate (fields : List NamedField) (orders : List OrderRow) (t : Template) : Type 0 where
+  pub process : bytes_eq t.kind (codes "HKTAN") ≡ true → list_all is_literal (element_two t) ≡ true
+  pub account : names_account (form_of orders t.kind t.version) ≡ true → (list_all is_literal (element_two t) ≡ true) ⊎ (is_account_field fields (element_two t) ≡ true)

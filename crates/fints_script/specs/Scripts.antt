@@ -1,4 +1,4 @@
--- Which script a text denotes, and which fault stands in it first.
+-- Which script a text denotes, and which fault stands in it first. Words of private contracts and proofs alone stand last, under a heading.
 use Rattle.std.specs.Prelude.{◌≡◌, ◌⊎◌, ◌<◌, ◌≤◌, codes, ℕ, if◌then◌else◌, List, [], ◌∷◌, length, map, take, Option, Some, None, Result, Ok, Err}
 use Rattle.toml.specs.Data.{Data, Members, get_member}
 use Rattle.fints_documents.specs.Document.{document, only_keys}
@@ -158,10 +158,12 @@ IsNoToml text f = (length text ≤ MAX_TEXT) × (document text ≡ None) × (f �
 abbrev pub IsFirstOf : List ℕ → ScriptFault → Type 0
 IsFirstOf text f = IsTooLong text f ⊎ IsNoToml text f ⊎ ((ms : Members) × (document text ≡ Some ms) × IsFaultOf ms f)
 
--- what was answered for a table, unless memory ran out
-abbrev pub RefusesTable : Members → ScriptFault → Type 0
-RefusesTable ms f = (f ≡ no_memory) ⊎ IsFaultOf ms f
-
 -- what was answered, unless memory ran out
 abbrev pub Refuses : List ℕ → ScriptFault → Type 0
 Refuses text f = (f ≡ no_memory) ⊎ IsFirstOf text f
+
+-- ---- of private contracts and proofs alone
+
+-- what was answered for a table, unless memory ran out
+abbrev pub RefusesTable : Members → ScriptFault → Type 0
+RefusesTable ms f = (f ≡ no_memory) ⊎ IsFaultOf ms f

@@ -1,4 +1,4 @@
--- The written text of a segment.
+-- The written text of a segment. Words of private contracts and proofs alone stand last, under a heading.
 use Rattle.std.specs.Prelude.{◌≡◌, ℕ, ◌<◌, ◌≤◌, List, [], ◌∷◌, length, map, take, Option, Some, None, IfSome}
 use Rattle.std.specs.List.{AllByRecursion}
 use Rattle.std.specs.Fmt.{decimal}
@@ -31,6 +31,12 @@ written_tree s = written_elements (segment_values s)
 abbrev pub written_segment : OwnedSegment → List ℕ
 written_segment s = segment_bytes (written_tree s)
 
+-- a list that still begins with what it held
+abbrev pub KeepsFront : List ℕ → List ℕ → Type 0
+KeepsFront old new = take (length old) new ≡ old
+
+-- ---- of private contracts and proofs alone
+
 -- what a segment has, within the limits
 pub record IsWritable (s : OwnedSegment) : Type 0 where
   pub id : IsKindText s.head.id
@@ -48,7 +54,3 @@ element_text end items = tokens_bytes (element_tokens end (map written_item item
 -- the written text of the elements, to the end of the segment
 abbrev pub elements_text : List (List OwnedItem) → List ℕ
 elements_text es = segment_bytes (written_elements es)
-
--- a list that still begins with what it held
-abbrev pub KeepsFront : List ℕ → List ℕ → Type 0
-KeepsFront old new = take (length old) new ≡ old

@@ -1,4 +1,4 @@
--- Segments in bytes that come in pieces: which of them are whole, and what is left for the next piece.
+-- Segments in bytes that come in pieces: which of them are whole, and what is left for the next piece. Words of private contracts and proofs alone stand last, under a heading.
 use Rattle.std.specs.Prelude.{◌≡◌, ◌≢◌, ◌⊎◌, ℕ, ◌+◌, ◌-◌, ◌<◌, ◌≤◌, ◌==◌, Bool, List, [], ◌∷◌, ◌++◌, length, map, take, drop}
 use Rattle.std.specs.List.{AllByRecursion}
 use Rattle.std.specs.Option.{option_map, unwrap_or}
@@ -72,6 +72,8 @@ IsMemory f = f ≡ record { kind = Memory; offset = 0 }
 -- want of memory, or the fault of a stream, of which these bytes stand from `at` on; its offset is counted in the stream
 abbrev pub IsStreamFault : ℕ → List ℕ → SyntaxFault → Type 0
 IsStreamFault at bytes f = IsMemory f ⊎ ((o : ℕ) × (f.offset ≡ at + o) × PieceFaultAt (MAX_CAPTURE - at) f.kind o bytes)
+
+-- ---- of private contracts and proofs alone
 
 -- want of memory, or a fault of the bytes that no further byte mends
 abbrev pub IsStop : ℕ → List ℕ → SyntaxFault → Type 0

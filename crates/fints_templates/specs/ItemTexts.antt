@@ -1,4 +1,4 @@
--- How the string of an item is read.
+-- How the string of an item is read. Words of private contracts and proofs alone stand last, under a heading.
 use Rattle.std.specs.Prelude.{ℕ, ◌==◌, if◌then◌else◌, List, [], ◌∷◌}
 use Rattle.fints_templates.specs.declared.item_text.ItemText.{ItemText}
 use Rattle.fints_templates.specs.declared.item_text.ItemText.TheVariants.{Reference, Hex, Literal}
@@ -20,6 +20,8 @@ reading_from first rest =
 abbrev pub reading_of : List ℕ → Reading
 reading_of [] = literal []
 reading_of (c ∷ cs) = reading_from c cs
+
+-- ---- of private contracts and proofs alone
 
 abbrev pub read_as : ItemText → Reading
 read_as (Reference name) = reference name.now

@@ -1,4 +1,4 @@
--- The text of `judge`: the rules that a message breaks, in lines with LF at their ends.
+-- The text of `judge`: the rules that a message breaks, in lines with LF at their ends. Words of private contracts and proofs alone stand last, under a heading.
 use Rattle.std.specs.Prelude.{◌≡◌, ℕ, List, [], ◌∷◌, ◌++◌, length, codes}
 use Rattle.std.specs.List.{flat_map}
 use Rattle.std.specs.Fmt.{decimal}
@@ -64,12 +64,6 @@ abbrev pub IsStop : List ℕ → JudgeFault → Type 0
 IsStop message message_faults.Memory = ⊥
 IsStop message (message_faults.NotAMessage offset) = IsNoMessage message offset
 
--- want of memory, or the refusal of the message
-abbrev pub IsMessageRefusal : List ℕ → Fault → Type 0
-IsMessageRefusal message Memory = Unit {0}
-IsMessageRefusal message (Message f) = IsStop message f
-IsMessageRefusal message _ = ⊥
-
 -- want of memory, or the first refusal: of the capture, of the order table, of the message
 abbrev pub IsJudgeRefusal : List ℕ → List ℕ → List ℕ → Fault → Type 0
 IsJudgeRefusal params orders message Memory = Unit {0}
@@ -77,3 +71,11 @@ IsJudgeRefusal params orders message (Params f) = IsParamFault params f
 IsJudgeRefusal params orders message (Orders f) = ((rows : Rows) × IsParamsOf params rows) × IsTableRefusal orders f
 IsJudgeRefusal params orders message (Message f) = AreGood params orders × IsStop message f
 IsJudgeRefusal params orders message _ = ⊥
+
+-- ---- of private contracts and proofs alone
+
+-- want of memory, or the refusal of the message
+abbrev pub IsMessageRefusal : List ℕ → Fault → Type 0
+IsMessageRefusal message Memory = Unit {0}
+IsMessageRefusal message (Message f) = IsStop message f
+IsMessageRefusal message _ = ⊥

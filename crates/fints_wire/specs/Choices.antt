@@ -1,4 +1,4 @@
--- Choices: of the longest and of the shortest values, and with one field's value set; and the longest message.
+-- Choices: of the longest and of the shortest values, and with one field's value set; and the longest message. Words of private contracts and proofs alone stand last, under a heading.
 use Rattle.std.specs.Prelude.{◌≡◌, ◌≤◌, ℕ, List, length, map, set, Some}
 use Rattle.fints_fields.specs.Fields.{field_longest, field_shortest}
 use Rattle.fints_field_rows.specs.declared.fields.NamedField.{NamedField}
@@ -25,10 +25,6 @@ longest_choice fields = map with_longest fields
 abbrev pub shortest_choice : List NamedField → List NamedValue
 shortest_choice fields = map with_shortest fields
 
--- the choice in which the field at this place, counted from 0, has this value, and each other field its own
-abbrev pub with_value : List NamedValue → ℕ → NamedField → List ℕ → List NamedValue
-with_value values f field value = set values f (value_of field value)
-
 -- the message of a step, of this number, of the longest values
 abbrev pub longest_message : ScriptValue → StepValue → ℕ → List ℕ
 longest_message script step number = message_bytes script step number (longest_choice script.fields)
@@ -38,3 +34,9 @@ abbrev pub NoneIsLonger : ScriptValue → ℕ → ℕ → ℕ → Type 0
 NoneIsLonger script n number size =
     (s : StepValue) (values : List NamedValue) (lower : ℕ) → numbered script.steps n ≡ Some s → Admits script.fields values → 1 ≤ lower → lower ≤ number
     → length (message_bytes script s lower values) ≤ size
+
+-- ---- of private contracts and proofs alone
+
+-- the choice in which the field at this place, counted from 0, has this value, and each other field its own
+abbrev pub with_value : List NamedValue → ℕ → NamedField → List ℕ → List NamedValue
+with_value values f field value = set values f (value_of field value)

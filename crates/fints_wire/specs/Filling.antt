@@ -1,4 +1,4 @@
--- Templates with the items of a choice put in.
+-- Templates with the items of a choice put in. Words of private contracts and proofs alone stand last, under a heading.
 use Rattle.std.specs.Prelude.{◌≡◌, ℕ, ◌==◌, ◌+◌, ◌-◌, ◌<◌, if◌then◌else◌, codes, List, [], ◌∷◌, map, get_or, zip, length, slice_get, All, None, Some}
 use Rattle.std.specs.List.{flat_map}
 use Rattle.fints_segments.specs.declared.item.OwnedItem.{OwnedItem}
@@ -24,13 +24,6 @@ value_items p = field_items p.0.class p.1.value
 abbrev pub items_of_fields : List NamedField → List NamedValue → List (List OwnedItem)
 items_of_fields fields values = map value_items (zip fields values)
 
--- what is chosen for the field at this place, counted from 0, and the items that stand in messages for it
-pub record IsPutIn (fields : List NamedField) (values : List NamedValue) (f : ℕ) (field : NamedField) : Type 0 where
-  pub value : NamedValue
-  pub there : slice_get values f ≡ Some value
-  pub chosen : IsChosen field value
-  pub items : get_or (items_of_fields fields values) f [] ≡ field_items field.class value.value
-
 -- the dialogue id is `0` in message 1, and afterwards the value of the first field, `dialog`
 abbrev pub dialog_items : List (List OwnedItem) → ℕ → List OwnedItem
 dialog_items fields number = if number == 1 then Text (codes "0") ∷ [] else get_or fields 0 []
@@ -51,17 +44,6 @@ filled_element filling items = flat_map (filled_item filling) items
 abbrev pub filled_elements : FillingValue → List (List TemplateItem) → List (List OwnedItem)
 filled_elements filling elements = map (filled_element filling) elements
 
--- each element has an item
-abbrev pub AreFilled : FillingValue → List (List TemplateItem) → Type 0
-AreFilled filling elements = All (λ items. 0 < length (filled_element filling items)) elements
-
-abbrev pub TemplatesAreFilled : FillingValue → List Template → Type 0
-TemplatesAreFilled filling templates = All (λ (t : Template). AreFilled filling t.elements) templates
-
--- element e of a segment, from 2 on: the head is element 1, and what is absent is empty
-abbrev pub element_at : Template → ℕ → List TemplateItem
-element_at t e = get_or t.elements (e - 2) []
-
 -- a segment of this number, without a reference
 abbrev pub make_segment : List ℕ → ℕ → ℕ → List (List OwnedItem) → OwnedSegment
 make_segment kind n version elements = record { head = record { id = kind; number = n; version = version; reference = None }; elements = elements }
@@ -73,3 +55,23 @@ filled_segment filling n t = make_segment t.kind n t.version (filled_elements fi
 abbrev pub filled_segments : FillingValue → ℕ → List Template → List OwnedSegment
 filled_segments filling n [] = []
 filled_segments filling n (t ∷ ts) = filled_segment filling n t ∷ filled_segments filling (n + 1) ts
+
+-- ---- of private contracts and proofs alone
+
+-- what is chosen for the field at this place, counted from 0, and the items that stand in messages for it
+pub record IsPutIn (fields : List NamedField) (values : List NamedValue) (f : ℕ) (field : NamedField) : Type 0 where
+  pub value : NamedValue
+  pub there : slice_get values f ≡ Some value
+  pub chosen : IsChosen field value
+  pub items : get_or (items_of_fields fields values) f [] ≡ field_items field.class value.value
+
+-- each element has an item
+abbrev pub AreFilled : FillingValue → List (List TemplateItem) → Type 0
+AreFilled filling elements = All (λ items. 0 < length (filled_element filling items)) elements
+
+abbrev pub TemplatesAreFilled : FillingValue → List Template → Type 0
+TemplatesAreFilled filling templates = All (λ (t : Template). AreFilled filling t.elements) templates
+
+-- element e of a segment, from 2 on: the head is element 1, and what is absent is empty
+abbrev pub element_at : Template → ℕ → List TemplateItem
+element_at t e = get_or t.elements (e - 2) []

@@ -1,4 +1,4 @@
--- The message of a step.
+-- The message of a step. Words of private contracts and proofs alone stand last, under a heading.
 use Rattle.std.specs.Prelude.{ℕ, ◌≡◌, ◌+◌, ◌-◌, codes, List, [], ◌∷◌, ◌++◌, length, map, get_or, replicate, slice_get, Bool, true, false, Some, None}
 use Rattle.std.specs.List.{flat_map}
 use Rattle.std.specs.Fmt.{decimal}
@@ -53,10 +53,6 @@ seal_of script = elim script.seal [ None ↦ [] | Some seal ↦ seal ]
 abbrev pub envelope : List (List OwnedItem) → List OwnedSegment → List OwnedSegment
 envelope seal inner = make_segment (codes "HNVSK") 998 3 seal ∷ make_segment (codes "HNVSD") 999 1 ((Bin (segments_text inner) ∷ []) ∷ []) ∷ []
 
--- the text of the envelope round inner segments of this text
-abbrev pub envelope_text : List (List OwnedItem) → List ℕ → List ℕ
-envelope_text seal inner = written_segment (make_segment (codes "HNVSK") 998 3 seal) ++ written_segment (make_segment (codes "HNVSD") 999 1 ((Bin inner ∷ []) ∷ []))
-
 -- between the first segment and the last: the inner segments, or the envelope round them
 abbrev pub middle_segments : Bool → List (List OwnedItem) → List OwnedSegment → List OwnedSegment
 middle_segments false seal inner = inner
@@ -83,10 +79,6 @@ later_segments script step filling number =
     between_segments script step filling
     ++ last_segment (2 + length (templates_of script step)) number ∷ []
 
--- the text of what follows the first segment behind that segment, which has the size of the whole; whatever the size, it has 12 digits
-abbrev pub text_with_first : List OwnedItem → ℕ → List ℕ → List ℕ
-text_with_first dialog number later = written_segment (first_segment (length (written_segment (first_segment 0 dialog number)) + length later) dialog number) ++ later
-
 -- the message with a size in its first segment
 abbrev pub message_with : ScriptValue → StepValue → FillingValue → ℕ → ℕ → List OwnedSegment
 message_with script step filling number size = first_segment size filling.dialog number ∷ later_segments script step filling number
@@ -111,3 +103,13 @@ message_bytes script step number values = segments_text (message_segments script
 -- this is so for the step of this number, counted from 1
 abbrev pub OfStep : List StepValue → ℕ → (StepValue → Type 0) → Type 0
 OfStep steps n so = (s : StepValue) → slice_get steps (n - 1) ≡ Some s → so s
+
+-- ---- of private contracts and proofs alone
+
+-- the text of the envelope round inner segments of this text
+abbrev pub envelope_text : List (List OwnedItem) → List ℕ → List ℕ
+envelope_text seal inner = written_segment (make_segment (codes "HNVSK") 998 3 seal) ++ written_segment (make_segment (codes "HNVSD") 999 1 ((Bin inner ∷ []) ∷ []))
+
+-- the text of what follows the first segment behind that segment, which has the size of the whole; whatever the size, it has 12 digits
+abbrev pub text_with_first : List OwnedItem → ℕ → List ℕ → List ℕ
+text_with_first dialog number later = written_segment (first_segment (length (written_segment (first_segment 0 dialog number)) + length later) dialog number) ++ later

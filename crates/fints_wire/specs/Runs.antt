@@ -1,4 +1,4 @@
--- Which messages a client sends under a list of answers. Steps and messages count from 1.
+-- Which messages a client sends under a list of answers. Steps and messages count from 1. Words of private contracts and proofs alone stand last, under a heading.
 use Rattle.std.specs.Prelude.{ℕ, ◌≡◌, ◌<◌, ◌≤◌, ◌+◌, ◌*◌, ◌==◌, cond, Some, List, [], ◌∷◌, length}
 use Rattle.std.specs.List.{AllByRecursion}
 use Rattle.fints_cases.specs.Answers.{CanLead, IsAnswer, leads}
@@ -63,11 +63,6 @@ pub record AreVisits (steps : List StepValue) (answers : List (List ℕ)) (visit
 abbrev pub last_of : Visit → List Visit → Visit
 last_of v [] = v
 last_of v (w ∷ ws) = last_of w ws
-
--- how many of these are messages of step n
-abbrev pub sent_of : ℕ → List Visit → ℕ
-sent_of n [] = 0
-sent_of n (v ∷ vs) = cond (v.step == n) 1 0 + sent_of n vs
 
 -- some run sends v, as its last message
 pub record Arrives (steps : List StepValue) (v : Visit) : Type 0 where
@@ -147,6 +142,13 @@ pub record EndsIn (script : ScriptValue) (values : List NamedValue) (answers : L
   pub sent : List Sent
   pub run : Run script values answers sent
   pub last : EndsWith sent m
+
+-- ---- of private contracts and proofs alone
+
+-- how many of these are messages of step n
+abbrev pub sent_of : ℕ → List Visit → ℕ
+sent_of n [] = 0
+sent_of n (v ∷ vs) = cond (v.step == n) 1 0 + sent_of n vs
 
 -- from step m this target is step n
 abbrev pub IsTarget : Target → ℕ → ℕ → Type 0
