@@ -1,5 +1,5 @@
 -- What holds of the bytes of files holds of what the files hold.
-use Rattle.std.proofs.Common.{◌≡◌, ◌≤◌, ℕ, List, [], ◌∷◌, length, subst, Option, None, Some, IfOk, IfSome, Result, Ok, Err}
+use Rattle.std.proofs.Common.{◌≡◌, ◌≤◌, ℕ, List, [], ◌∷◌, length, subst, Option, None, Some, IfOk, IfErr, IfSome, Result, Ok, Err}
 use Rattle.fints_params.specs.Captures.{IsReadOf}
 use Rattle.fints_params.specs.Parameters.{Rows}
 use Rattle.fints_params.specs.declared.fault.ParamFault.{ParamFault}
@@ -12,8 +12,9 @@ use Rattle.fints_texts.specs.Show.{IsMemoryOrShowFault, IsShowOf}
 use Rattle.fints_words.specs.declared.words.RunFiles.{RunFiles}
 use Rattle.fints_words.specs.declared.words.ScriptFiles.{ScriptFiles}
 use Rattle.fints_cli.specs.declared.failing.Failure.{Failure}
+use Rattle.fints_cli.specs.declared.failing.Refusal.{Refusal}
 use Rattle.fints_cli.specs.declared.failing.Failure.TheVariants.{Input, Unread}
-use Rattle.fints_cli.specs.Commands.{ShowsFile, IsShowFailure, FailsToShow, JudgesFile, IsJudgeFailure, FailsToJudge, TellsFiles, IsScriptFailure, FailsToTell, VerifiesFiles, IsVerifyFailure, FailsToVerify, RunsFiles, IsRunFailure, FailsToRun}
+use Rattle.fints_cli.specs.Commands.{failure_status, ShowsFile, IsShowFailure, FailsToShow, JudgesFile, IsJudgeFailure, FailsToJudge, TellsFiles, IsScriptFailure, FailsToTell, VerifiesFiles, IsVerifyFailure, FailsToVerify, RunsFiles, IsRunFailure, FailsToRun}
 use Rattle.fints_cli.specs.Loading.{NamedFile, AreWithin}
 use Rattle.fints_files.specs.Captures.{IsReadFrom}
 use Rattle.fints_files.specs.Streams.{IsFile}
@@ -87,3 +88,8 @@ later_within before after path limit same h = subst (λ (holds : List ℕ → Op
 pub of_answer : {A E : Type 0} (result : Result A E) (P : Type 0) → P → IfOk result (λ _. P)
 of_answer (Ok a) P p = p
 of_answer (Err e) P p = tt
+
+-- and of a refusal
+pub of_refusal : {A : Type 0} (result : Result A Refusal) (P : Type 0) → P → IfErr result (λ r. failure_status r.failure ≤ 3 → P)
+of_refusal (Ok a) P p = tt
+of_refusal (Err r) P p = λ low. p

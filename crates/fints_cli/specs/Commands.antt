@@ -142,6 +142,13 @@ FailsWith status (Usage fault) holds = ⊥
 FailsWith status NoMemory holds = ⊥
 FailsWith status (Run request hints) holds = (f : Failure) × (failure_status f ≡ status) × FailsFor request holds f
 
+-- none of the files that are named is longer than its limit, where their bytes are told
+abbrev pub FilesAreWithin : Asked → (List ℕ → Option (List ℕ)) → Type 0
+FilesAreWithin (Help help) holds = Unit {0}
+FilesAreWithin (Usage fault) holds = Unit {0}
+FilesAreWithin NoMemory holds = Unit {0}
+FilesAreWithin (Run request hints) holds = AreWithin (files_of request) holds
+
 -- the request has no answer, since a file that it names couldn't be read
 abbrev pub FailsToRead : Asked → (List ℕ → Option (List ℕ)) → ReadCounts → ReadCounts → Type 0
 FailsToRead (Help help) holds before after = ⊥
@@ -157,6 +164,7 @@ pub record IsResponse (asked : Asked) (holds : List ℕ → Option (List ℕ)) (
   pub unread : IsUsage asked → after.calls ≡ before.calls
   pub refused : status ≡ 3 → FailsWith 3 asked holds
   pub read : status ≤ 3 → NoneFailed before after
+  pub within : status ≤ 3 → FilesAreWithin asked holds
   pub silent : (status ≡ 2) ⊎ ((status ≡ 3) ⊎ (status ≡ 4)) → GetsNothing old new
   pub fine : status ≤ 4 → lost_after ≡ lost
   pub failed : status ≡ 5 → (FailsToRead asked holds before after × GetsNothing old new) ⊎ (IsCutOff asked holds old new × (lost_after ≡ one_more lost))

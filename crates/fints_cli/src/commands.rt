@@ -14,7 +14,7 @@ ghost use Rattle.fints_reports.specs.RunText.{IsRunOf};
 ghost use Rattle.fints_reports.specs.Verified.{IsVerifiedOf};
 ghost use Rattle.fints_cli.specs.Loading.{wire_file, script_files, judge_files, verify_files, run_files, files_of, AreWithin, FollowsReading};
 ghost use Rattle.fints_files.specs.Loading.{MAX_READS, NoneFailed};
-ghost use Rattle.fints_cli.specs.Commands.{failure_status, IsJudgeFailure, ShowsFile, JudgesFile, FailsToJudge, TellsFiles, IsScriptFailure, FailsToTell, IsRunFailure, RunsFiles, FailsToRun, IsVerifyFailure, VerifiesFiles, FailsToVerify, AnswersTo, IsUnloaded, IsShowFailure, FailsToShow, FailsFor, HintsIfAsked, IsAnswered, IsCutOff, IsResponse, IsUsage, FailsToRead, FailsWith};
+ghost use Rattle.fints_cli.specs.Commands.{failure_status, IsJudgeFailure, ShowsFile, JudgesFile, FailsToJudge, TellsFiles, IsScriptFailure, FailsToTell, IsRunFailure, RunsFiles, FailsToRun, IsVerifyFailure, VerifiesFiles, FailsToVerify, AnswersTo, IsUnloaded, IsShowFailure, FailsToShow, FailsFor, HintsIfAsked, IsAnswered, IsCutOff, IsResponse, IsUsage, FailsToRead, FailsWith, FilesAreWithin};
 ghost use Rattle.fints_words.specs.declared.words.Asked.TheVariants as asked;
 
 use crate::built_in;
@@ -46,6 +46,7 @@ fn load_option<F: Files>(
     ensures keeps { F.holds files.new ≡ F.holds files.old }
     ensures exact { IfOk result (λ bytes. IsFile (F.holds files.old path.now) bytes.items) }
     ensures unread { IfErr result (λ r. IsUnloaded option.now r.failure) }
+    ensures status { IfErr result (λ r. 4 ≤ failure_status r.failure) }
     ensures counted { min ((F.reads files.old).calls) (2 ^ 64 - 1) ≤ (F.reads files.new).calls }
     ensures fine { IfOk result (λ _. NoneFailed (F.reads files.old) (F.reads files.new)) }
     ensures within { IfOk result (λ _. AreWithin (record { option = option.now; path = path.now; limit = limit } ∷ []) (F.holds files.old)) }
@@ -72,6 +73,7 @@ fn load_capture<F: Files>(
     ensures keeps { F.holds files.new ≡ F.holds files.old }
     ensures exact { IfOk result (λ capture. IsReadFrom (F.holds files.old path.now) capture.params) }
     ensures unread { IfErr result (λ r. IsUnloaded (codes "params") r.failure) }
+    ensures status { IfErr result (λ r. 4 ≤ failure_status r.failure) }
     ensures counted { min ((F.reads files.old).calls) (2 ^ 64 - 1) ≤ (F.reads files.new).calls }
     ensures fine { IfOk result (λ _. NoneFailed (F.reads files.old) (F.reads files.new)) }
     ensures within { IfOk result (λ _. AreWithin (wire_file (codes "params") path.now ∷ []) (F.holds files.old)) }
@@ -137,6 +139,7 @@ fn tell_files<F: Files>(
     ensures refused { IfErr result (λ r. FailsToTell (F.holds files.old) named.now r.failure) }
     ensures read { IfOk result (λ _. NoneFailed (F.reads files.old) (F.reads files.new)) }
     ensures within { IfOk result (λ _. AreWithin (script_files named.now) (F.holds files.old)) }
+    ensures refused_within { IfErr result (λ r. failure_status r.failure ≤ 3 → AreWithin (script_files named.now) (F.holds files.old)) }
     ensures reason { IfErr result (λ r. FollowsReading (script_files named.now) (F.holds files.old) (F.reads files.old) (F.reads files.new) r.failure) }
     ensures calls { (F.reads files.new).calls ≤ (F.reads files.old).calls + 3 * MAX_READS }
     ensures keeps { F.holds files.new ≡ F.holds files.old }
@@ -193,6 +196,7 @@ fn verify_files<F: Files>(
     ensures refused { IfErr result (λ r. FailsToVerify (F.holds files.old) named.now certificate.now r.failure) }
     ensures read { IfOk result (λ _. NoneFailed (F.reads files.old) (F.reads files.new)) }
     ensures within { IfOk result (λ _. AreWithin (verify_files named.now certificate.now) (F.holds files.old)) }
+    ensures refused_within { IfErr result (λ r. failure_status r.failure ≤ 3 → AreWithin (verify_files named.now certificate.now) (F.holds files.old)) }
     ensures reason { IfErr result (λ r.
         FollowsReading (verify_files named.now certificate.now) (F.holds files.old) (F.reads files.old) (F.reads files.new) r.failure) }
     ensures calls { (F.reads files.new).calls ≤ (F.reads files.old).calls + 4 * MAX_READS }
@@ -238,6 +242,7 @@ fn show_file<F: Files>(
     ensures refused { IfErr result (λ r. FailsToShow (F.holds files.old params.now) r.failure) }
     ensures read { IfOk result (λ _. NoneFailed (F.reads files.old) (F.reads files.new)) }
     ensures within { IfOk result (λ _. AreWithin (wire_file (codes "params") params.now ∷ []) (F.holds files.old)) }
+    ensures refused_within { IfErr result (λ r. failure_status r.failure ≤ 3 → AreWithin (wire_file (codes "params") params.now ∷ []) (F.holds files.old)) }
     ensures reason { IfErr result (λ r.
         FollowsReading (wire_file (codes "params") params.now ∷ []) (F.holds files.old) (F.reads files.old) (F.reads files.new) r.failure) }
     ensures calls { (F.reads files.new).calls ≤ (F.reads files.old).calls + MAX_READS }
@@ -286,6 +291,7 @@ fn judge_file<F: Files>(
     ensures refused { IfErr result (λ r. FailsToJudge (F.holds files.old params.now) (F.holds files.old orders.now) (F.holds files.old message.now) r.failure) }
     ensures read { IfOk result (λ _. NoneFailed (F.reads files.old) (F.reads files.new)) }
     ensures within { IfOk result (λ _. AreWithin (judge_files params.now orders.now message.now) (F.holds files.old)) }
+    ensures refused_within { IfErr result (λ r. failure_status r.failure ≤ 3 → AreWithin (judge_files params.now orders.now message.now) (F.holds files.old)) }
     ensures reason { IfErr result (λ r.
         FollowsReading (judge_files params.now orders.now message.now) (F.holds files.old) (F.reads files.old) (F.reads files.new) r.failure) }
     ensures calls { (F.reads files.new).calls ≤ (F.reads files.old).calls + 3 * MAX_READS }
@@ -335,6 +341,7 @@ fn run_files<F: Files>(
     ensures refused { IfErr result (λ r. FailsToRun (F.holds files.old) named.now only r.failure) }
     ensures read { IfOk result (λ _. NoneFailed (F.reads files.old) (F.reads files.new)) }
     ensures within { IfOk result (λ _. AreWithin (run_files named.now) (F.holds files.old)) }
+    ensures refused_within { IfErr result (λ r. failure_status r.failure ≤ 3 → AreWithin (run_files named.now) (F.holds files.old)) }
     ensures reason { IfErr result (λ r. FollowsReading (run_files named.now) (F.holds files.old) (F.reads files.old) (F.reads files.new) r.failure) }
     ensures calls { (F.reads files.new).calls ≤ (F.reads files.old).calls + 3 * MAX_READS }
     ensures keeps { F.holds files.new ≡ F.holds files.old }
@@ -365,6 +372,7 @@ pub fn perform<F: Files>(
     ensures refused { IfErr result (λ r. FailsFor request.now (F.holds files.old) r.failure) }
     ensures read { IfOk result (λ _. NoneFailed (F.reads files.old) (F.reads files.new)) }
     ensures within { IfOk result (λ _. AreWithin (files_of request.now) (F.holds files.old)) }
+    ensures refused_within { IfErr result (λ r. failure_status r.failure ≤ 3 → AreWithin (files_of request.now) (F.holds files.old)) }
     ensures reason { IfErr result (λ r. FollowsReading (files_of request.now) (F.holds files.old) (F.reads files.old) (F.reads files.new) r.failure) }
     ensures calls { (F.reads files.new).calls ≤ (F.reads files.old).calls + 4 * MAX_READS }
     ensures keeps { F.holds files.new ≡ F.holds files.old }
@@ -477,6 +485,7 @@ pub fn respond<F: Files, O: Out, E: Out>(
         × (O.failed_calls out.new ≡ one_more (O.failed_calls out.old))) }
     ensures unread { IsUsage asked.now → (F.reads files.new).calls ≡ (F.reads files.old).calls }
     ensures read { result ≤ 3 → NoneFailed (F.reads files.old) (F.reads files.new) }
+    ensures within { result ≤ 3 → FilesAreWithin asked.now (F.holds files.old) }
     ensures calls { (F.reads files.new).calls ≤ (F.reads files.old).calls + 4 * MAX_READS }
 {
     match asked {

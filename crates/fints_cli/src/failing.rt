@@ -1,5 +1,5 @@
 //! Why a command has no answer.
-ghost use Rattle.std.specs.Prelude.{◌≡◌, ◌≢◌};
+ghost use Rattle.std.specs.Prelude.{◌≡◌, ◌≢◌, ◌≤◌};
 ghost use Rattle.fints_cli.specs.Commands.{failure_status, HintsIfAsked, IsUnloaded, IsUnreadAs};
 ghost use Rattle.fints_cli.specs.declared.failing.Failure.TheVariants as failure;
 ghost use Rattle.fints_files.specs.declared.reading.LoadFault.TheVariants as load_fault;
@@ -88,6 +88,7 @@ pub fn unread(
     ensures told { IsUnloaded option.now result.failure }
     ensures file { fault ≢ load_fault.Memory → IsUnreadAs option.now result.failure }
     ensures memory { fault ≡ load_fault.Memory → result.failure ≡ failure.Input texts.Memory }
+    ensures status { 4 ≤ failure_status result.failure }
     ensures unasked { HintsIfAsked hints result }
 {
     let failure = match fault {

@@ -10,6 +10,7 @@ returns-clause-responds g c = (
     unread = c.respond.ensures.unread;
     refused = c.respond.ensures.refused;
     read = c.respond.ensures.read;
+    within = c.respond.ensures.within;
     silent = c.respond.ensures.silent;
     fine = c.respond.ensures.fine;
     failed = c.respond.ensures.failed;

@@ -1,7 +1,7 @@
 use Rattle.std.proofs.Common.{rules, ◌∙◌}
 use Rattle.std.proofs.lemmas.Result.{IfErr-weaker}
 use Rattle.fints_cli.specs.Loading.{AreWithin, judge_files}
-use Rattle.fints_cli.proofs.FileLemmas.{later_within, of_answer, files_failed}
+use Rattle.fints_cli.proofs.FileLemmas.{later_within, of_answer, of_refusal, files_failed}
 use Rattle.fints_cli.proofs.ReasonLemmas.{judge_follows}
 use Rattle.fints_cli.proofs.commands.judge_file.Goals as goal
 
@@ -20,4 +20,12 @@ returns-clause-within g c =
     let kept = c.load_capture.ensures.keeps in
     let kept-2 = c.load_option.ensures.keeps ∙ kept in
     of_answer c.judge_loaded.result (AreWithin (judge_files c.args.params.now c.args.orders.now c.args.message.now) holds)
+    (c.in_ok-capture.ensures.within.0, (later_within holds (g.F.Files.holds c.load_capture.new.files) c.args.orders.now 1048576 kept c.in_ok-orders.ensures.within.0, (later_within holds (g.F.Files.holds c.load_option.new.files) c.args.message.now 4194304 kept-2 c.in_ok-message.ensures.within.0, tt)))
+
+pub returns-clause-refused_within : goal.returns-clause-refused_within
+returns-clause-refused_within g c =
+    let holds = g.F.Files.holds c.args.files.now in
+    let kept = c.load_capture.ensures.keeps in
+    let kept-2 = c.load_option.ensures.keeps ∙ kept in
+    of_refusal c.judge_loaded.result (AreWithin (judge_files c.args.params.now c.args.orders.now c.args.message.now) holds)
     (c.in_ok-capture.ensures.within.0, (later_within holds (g.F.Files.holds c.load_capture.new.files) c.args.orders.now 1048576 kept c.in_ok-orders.ensures.within.0, (later_within holds (g.F.Files.holds c.load_option.new.files) c.args.message.now 4194304 kept-2 c.in_ok-message.ensures.within.0, tt)))

@@ -1,7 +1,7 @@
 use Rattle.std.proofs.Common.{rules, ◌∙◌}
 use Rattle.std.proofs.lemmas.Result.{IfErr-weaker}
 use Rattle.fints_cli.specs.Loading.{AreWithin, script_files}
-use Rattle.fints_cli.proofs.FileLemmas.{later_within, of_answer, files_not_told}
+use Rattle.fints_cli.proofs.FileLemmas.{later_within, of_answer, of_refusal, files_not_told}
 use Rattle.fints_cli.proofs.ReasonLemmas.{tell_follows}
 use Rattle.fints_cli.proofs.commands.tell_files.Goals as goal
 
@@ -20,4 +20,12 @@ returns-clause-within g c =
     let kept = c.load_capture.ensures.keeps in
     let kept-2 = c.load_option.ensures.keeps ∙ kept in
     of_answer c.tell_loaded.result (AreWithin (script_files c.args.named.now) holds)
+    (c.in_ok-capture.ensures.within.0, (later_within holds (g.F.Files.holds c.load_capture.new.files) c.args.named.now.orders.now 1048576 kept c.in_ok-orders.ensures.within.0, (later_within holds (g.F.Files.holds c.load_option.new.files) c.args.named.now.script.now 1048576 kept-2 c.in_ok-script.ensures.within.0, tt)))
+
+pub returns-clause-refused_within : goal.returns-clause-refused_within
+returns-clause-refused_within g c =
+    let holds = g.F.Files.holds c.args.files.now in
+    let kept = c.load_capture.ensures.keeps in
+    let kept-2 = c.load_option.ensures.keeps ∙ kept in
+    of_refusal c.tell_loaded.result (AreWithin (script_files c.args.named.now) holds)
     (c.in_ok-capture.ensures.within.0, (later_within holds (g.F.Files.holds c.load_capture.new.files) c.args.named.now.orders.now 1048576 kept c.in_ok-orders.ensures.within.0, (later_within holds (g.F.Files.holds c.load_option.new.files) c.args.named.now.script.now 1048576 kept-2 c.in_ok-script.ensures.within.0, tt)))

@@ -1,7 +1,7 @@
 use Rattle.std.proofs.Common.{rules, ◌∙◌}
 use Rattle.std.proofs.lemmas.Result.{IfErr-weaker}
 use Rattle.fints_cli.specs.Loading.{AreWithin, verify_files}
-use Rattle.fints_cli.proofs.FileLemmas.{later_within, of_answer, files_not_verified}
+use Rattle.fints_cli.proofs.FileLemmas.{later_within, of_answer, of_refusal, files_not_verified}
 use Rattle.fints_cli.proofs.ReasonLemmas.{verify_follows}
 use Rattle.fints_cli.proofs.commands.verify_files.Goals as goal
 
@@ -21,4 +21,13 @@ returns-clause-within g c =
     let kept-2 = c.load_option.ensures.keeps ∙ kept in
     let kept-3 = c.load_option-2.ensures.keeps ∙ kept-2 in
     of_answer c.verify_loaded.result (AreWithin (verify_files c.args.named.now c.args.certificate.now) holds)
+    (c.in_ok-capture.ensures.within.0, (later_within holds (g.F.Files.holds c.load_capture.new.files) c.args.named.now.orders.now 1048576 kept c.in_ok-orders.ensures.within.0, (later_within holds (g.F.Files.holds c.load_option.new.files) c.args.named.now.script.now 1048576 kept-2 c.in_ok-script.ensures.within.0, (later_within holds (g.F.Files.holds c.load_option-2.new.files) c.args.certificate.now 1048576 kept-3 c.in_ok-certificate.ensures.within.0, tt))))
+
+pub returns-clause-refused_within : goal.returns-clause-refused_within
+returns-clause-refused_within g c =
+    let holds = g.F.Files.holds c.args.files.now in
+    let kept = c.load_capture.ensures.keeps in
+    let kept-2 = c.load_option.ensures.keeps ∙ kept in
+    let kept-3 = c.load_option-2.ensures.keeps ∙ kept-2 in
+    of_refusal c.verify_loaded.result (AreWithin (verify_files c.args.named.now c.args.certificate.now) holds)
     (c.in_ok-capture.ensures.within.0, (later_within holds (g.F.Files.holds c.load_capture.new.files) c.args.named.now.orders.now 1048576 kept c.in_ok-orders.ensures.within.0, (later_within holds (g.F.Files.holds c.load_option.new.files) c.args.named.now.script.now 1048576 kept-2 c.in_ok-script.ensures.within.0, (later_within holds (g.F.Files.holds c.load_option-2.new.files) c.args.certificate.now 1048576 kept-3 c.in_ok-certificate.ensures.within.0, tt))))
