@@ -1,7 +1,8 @@
 -- Fields by their names.
-use Rattle.std.specs.Prelude.{ℕ, Bool, true, false, List, position, slice_get, Option, Some, None, option_and_then}
+use Rattle.std.specs.Prelude.{ℕ, Bool, true, false, List, position, slice_get, Option, option_and_then}
 use Rattle.std.specs.Str.{bytes_eq}
 use Rattle.std.specs.List.{All}
+use Rattle.std.specs.Option.{option_map_or}
 use Rattle.fints_fields.specs.Names.{IsName}
 use Rattle.fints_fields.specs.declared.field.Field.{Field}
 use Rattle.fints_fields.specs.declared.field.Field.TheVariants.{Account}
@@ -23,8 +24,7 @@ is_account (Account c) = true
 is_account _ = false
 
 abbrev pub is_account_at : Option NamedField → Bool
-is_account_at None = false
-is_account_at (Some field) = is_account field.class
+is_account_at field = option_map_or (λ field. is_account field.class) field false
 
 -- the first field of the name is one of listed accounts
 abbrev pub is_account_named : List NamedField → List ℕ → Bool

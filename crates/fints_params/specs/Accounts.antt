@@ -16,12 +16,9 @@ use Rattle.fints_params.specs.Reading.{number_or_zero, is_empty}
 abbrev pub is_usage : OwnedSegment → Bool
 is_usage s = is_named s (codes "HIUPA") 4
 
--- usage 0 or 1
-abbrev pub is_usage_number : ℕ → Bool
-is_usage_number n = n == 0 || n == 1
-
+-- no usage 0 or 1
 abbrev pub usage_fault : OwnedSegment → Option ℕ
-usage_fault s = if option_map_or is_usage_number (number_of (value_at s 4 1)) false then None else Some 4
+usage_fault s = if option_map_or (λ n. n == 0 || n == 1) (number_of (value_at s 4 1)) false then None else Some 4
 
 abbrev pub usage_of : OwnedSegment → ℕ
 usage_of s = number_or_zero (value_at s 4 1)

@@ -1,6 +1,7 @@
 -- What is sent and what is found is of the script's steps.
 use Rattle.std.proofs.Common.{◌≡◌, ◌≤◌, ◌-◌, ℕ, zero, suc, List, [], ◌∷◌, ap, sym, subst, refl, Some, All, arith}
 use Rattle.std.specs.Prelude.{slice_get, Contains}
+use Rattle.std.specs.Option.{option_map_or}
 use Rattle.std.proofs.lemmas.List.Elements.{All-nil, All-cons, All-head, All-tail}
 use Rattle.fints_cases.specs.declared.values.NamedValue.{NamedValue}
 use Rattle.fints_check.specs.Findings.{AreFindings, IsReal}
@@ -12,14 +13,14 @@ use Rattle.fints_script.specs.Steps.{StepValue}
 use Rattle.fints_wire.specs.Runs.{start, AreSent, EndsWith, IsSent, Run}
 use Rattle.fints_wire.specs.declared.dialogue.Sent.{Sent}
 use Rattle.fints_wire.specs.declared.dialogue.Visit.{Visit}
-use Rattle.fints_reports.specs.StepNames.{name_in, step_name, IsFindingOf, IsMessageOf, IsWithin}
+use Rattle.fints_reports.specs.StepNames.{step_name, IsFindingOf, IsMessageOf, IsWithin}
 
 -- the step at a place has the number after it
 pub named : (steps : List StepValue) (n : ℕ) (step : StepValue) → 1 ≤ n → slice_get steps (n - 1) ≡ Some step → step_name steps n ≡ step.name
 named steps zero step one at = absurd (omega arith)
 named steps (suc n) step one at =
     let e : suc n - 1 ≡ n = omega arith in
-    ap name_in (subst (λ i. slice_get steps i ≡ Some step) e at)
+    ap (λ o. option_map_or (λ (s : StepValue). s.name) o []) (subst (λ i. slice_get steps i ≡ Some step) e at)
 
 -- ---- messages
 

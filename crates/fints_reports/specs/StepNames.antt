@@ -1,17 +1,14 @@
 -- The names of a script's steps; steps count from 1. Words of private contracts and proofs alone stand last, under a heading.
-use Rattle.std.specs.Prelude.{◌≤◌, ℕ, List, length, codes, Option, None, Some}
+use Rattle.std.specs.Prelude.{◌≤◌, ℕ, List, [], length}
+use Rattle.std.specs.Option.{option_map_or}
 use Rattle.fints_script.specs.Numbered.{numbered}
 use Rattle.fints_script.specs.Steps.{StepValue}
 use Rattle.fints_check.specs.declared.finding.Finding.{Finding}
 use Rattle.fints_wire.specs.declared.dialogue.Sent.{Sent}
 
-abbrev pub name_in : Option StepValue → List ℕ
-name_in None = codes ""
-name_in (Some step) = step.name
-
 -- the name of step n
 abbrev pub step_name : List StepValue → ℕ → List ℕ
-step_name steps n = name_in (numbered steps n)
+step_name steps n = option_map_or (λ step. step.name) (numbered steps n) []
 
 -- ---- of private contracts and proofs alone
 

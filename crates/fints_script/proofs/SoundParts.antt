@@ -1,12 +1,14 @@
 -- What signers and the seal of a read script keep.
 use Rattle.std.proofs.Common.{◌≡◌, ℕ, ◌+◌, ◌<◌, ◌≤◌, false, codes, List, [], ◌∷◌, length, get_or, map, nat_lt, All, Option, Some, None, Ok, refl, ap, subst, ◌∙◌, sym, arith}
 use Rattle.std.specs.Prelude.{slice_get, IfSome}
+use Rattle.std.specs.List.{list_any}
 use Rattle.std.proofs.lemmas.Bool.{false≢true}
 use Rattle.std.proofs.lemmas.List.{get_or-map}
 use Rattle.std.proofs.lemmas.List.Elements.{All-head, All-tail}
 use Rattle.std.proofs.lemmas.Option.{slice_get-get_or}
 use Rattle.toml.specs.Data.{Data, table, Members}
 use Rattle.fints_documents.specs.Document.{only_keys}
+use Rattle.fints_documents.specs.Entries.{is_named}
 use Rattle.fints_fields.specs.Fields.{field_most_items}
 use Rattle.fints_fields.specs.declared.field.Field.{Field}
 use Rattle.fints_fields.specs.declared.field.Field.TheVariants as classes
@@ -20,7 +22,7 @@ use Rattle.fints_field_rows.specs.declared.fault.Place.TheVariants as places
 use Rattle.fints_field_rows.specs.declared.fields.NamedField.{NamedField}
 use Rattle.fints_templates.specs.Elements.{elements_in}
 use Rattle.fints_templates.specs.Figures.{figures_of}
-use Rattle.fints_templates.specs.Signers.{few_items, frame_at, frame_in, frames_in, is_taken_signer, signer_in, signer_keys, signer_of, table_signer}
+use Rattle.fints_templates.specs.Signers.{few_items, frame_at, frame_in, frames_in, signer_in, signer_keys, signer_of, table_signer}
 use Rattle.fints_templates.specs.Weights.{total, item_count, element_count, items_in, no_figures, MAX_TEMPLATE_ITEMS}
 use Rattle.fints_templates.specs.declared.template.Signer.{Signer}
 use Rattle.fints_templates.specs.declared.template.TemplateItem.{TemplateItem}
@@ -82,10 +84,10 @@ module _ (fields : List NamedField) (behind : IsBehindFirst fields) where
   sound_table : (earlier : List Data) (ms : Members) (signer : Signer) → table_signer fields earlier ms ≡ Ok signer → IsSoundSigner fields signer
   unfolding table_signer
   sound_table earlier ms signer e =
-      let parts = both (row_name (is_taken_signer earlier) ms) (frames_in fields ms) in
+      let parts = both (row_name (λ name. list_any (is_named name) earlier) ms) (frames_in fields ms) in
       let table = passed (only_keys signer_keys ms) (seen signer_of parts) kinds.UnknownKey signer e in
       let read = seen_ok signer_of parts signer table.1 in
-      let named = both_ok (row_name (is_taken_signer earlier) ms) (frames_in fields ms) read.0 read.1 in
+      let named = both_ok (row_name (λ name. list_any (is_named name) earlier) ms) (frames_in fields ms) read.0 read.1 in
       let ends = both_ok (frame_at (codes "head") fields ms) (frame_at (codes "end") fields ms) read.0.1 named.1 in
       subst (IsSoundSigner fields) read.2 (record { head = frame_at_key (codes "head") ms read.0.1.0 ends.0; end = frame_at_key (codes "end") ms read.0.1.1 ends.1 })
 

@@ -1,6 +1,7 @@
 -- What a step's row is: a step, or the first kind of fault in it.
 use Rattle.std.specs.Prelude.{codes, ℕ, ◌+◌, nat_le, nat_lt, Bool, true, false, ◌&&◌, ◌||◌, not, if◌then◌else◌, List, [], ◌∷◌, position, slice_get, take, Option, Some, None, is_some, Ok, Err, ok_or}
 use Rattle.std.specs.List.{list_any}
+use Rattle.std.specs.Option.{option_map_or}
 use Rattle.std.specs.Str.{bytes_eq}
 use Rattle.toml.specs.Data.{Data, string, table, Members, get_member}
 use Rattle.fints_documents.specs.Document.{only_keys}
@@ -154,12 +155,8 @@ abbrev pub MAX_WEIGHT : ℕ
 MAX_WEIGHT = 1000000
 
 -- the weight of the signer at a place among those of the script
-abbrev pub weight_of_signer : List Figures → Option Signer → ℕ
-weight_of_signer figures None = 0
-weight_of_signer figures (Some signer) = signer_weight figures signer
-
 abbrev pub signature_weight : List Figures → List Signer → ℕ → ℕ
-signature_weight figures signers place = weight_of_signer figures (slice_get signers place)
+signature_weight figures signers place = option_map_or (signer_weight figures) (slice_get signers place) 0
 
 abbrev pub seal_weight : List Figures → Bool → Option (List (List TemplateItem)) → ℕ
 seal_weight figures true (Some seal) = segment_weight figures seal

@@ -31,16 +31,12 @@ frames_in fields ms = both (frame_at (codes "head") fields ms) (frame_at (codes 
 abbrev pub signer_keys : List (List ℕ)
 signer_keys = codes "name" ∷ codes "head" ∷ codes "end" ∷ []
 
--- a name of an earlier row
-abbrev pub is_taken_signer : List Data → List ℕ → Bool
-is_taken_signer earlier name = list_any (is_named name) earlier
-
 abbrev pub signer_of : List ℕ × (List (List TemplateItem) × List (List TemplateItem)) → Signer
 signer_of (name, (head, end)) = record { name = name; head = head; end = end }
 
 unfoldable pub table_signer : List NamedField → List Data → Members → Part Signer
 table_signer fields earlier ms =
-    if only_keys signer_keys ms then seen signer_of (both (row_name (is_taken_signer earlier) ms) (frames_in fields ms))
+    if only_keys signer_keys ms then seen signer_of (both (row_name (λ name. list_any (is_named name) earlier) ms) (frames_in fields ms))
     else Err kinds.UnknownKey
 
 -- a row of `signer` behind earlier ones

@@ -1,9 +1,11 @@
 //! Signers and the seal.
 ghost use Rattle.std.specs.Prelude.{◌≡◌, map};
+ghost use Rattle.std.specs.List.{list_any};
 ghost use Rattle.toml.specs.View.{view, table_view};
+ghost use Rattle.fints_documents.specs.Entries.{is_named};
 ghost use Rattle.fints_field_rows.specs.Parts.{Gives};
 ghost use Rattle.fints_field_rows.specs.RowNames.{row_name};
-ghost use Rattle.fints_templates.specs.Signers.{few_items, frame_at, frame_in, frames_in, is_taken_signer, signer_in, table_signer};
+ghost use Rattle.fints_templates.specs.Signers.{few_items, frame_at, frame_in, frames_in, signer_in, table_signer};
 
 use crate::elements::elements_in;
 use crate::template::{Signer, TemplateElements};
@@ -63,7 +65,7 @@ fn frames_in(
 }
 
 fn signer_name(earlier: &[Value], table: &Table) -> Result<Name, FaultKind>
-    ensures { result ≡ row_name (is_taken_signer (map view earlier.now)) (table_view table.now) }
+    ensures { result ≡ row_name (λ name. list_any (is_named name) (map view earlier.now)) (table_view table.now) }
 {
     let text = name_text(table)?;
     new_name(text, some_is_named(text, earlier))

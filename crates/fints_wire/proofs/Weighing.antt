@@ -1,6 +1,7 @@
 -- A message is no longer than the weight of its step, and what stands around it.
 use Rattle.std.proofs.Common.{◌≡◌, ℕ, zero, suc, ◌+◌, ◌^◌, ◌<◌, ◌≤◌, eqb, Bool, true, false, codes, List, [], ◌∷◌, ◌++◌, length, map, get_or, drop, replicate, Option, Some, None, refl, ap, ◌∙◌, sym, arith, inl, inr}
 use Rattle.std.specs.List.{All, slice_get, zip}
+use Rattle.std.specs.Option.{option_map_or}
 use Rattle.std.proofs.lemmas.Bool.{cases_Bool}
 use Rattle.std.proofs.lemmas.Bool.Decides.{nat_tests}
 use Rattle.std.proofs.lemmas.Fmt.{length-decimal-le}
@@ -19,8 +20,8 @@ use Rattle.fints_fields.specs.Lengths.{text_len}
 use Rattle.fints_script.specs.Plans.{Admits, IsChosen}
 use Rattle.fints_script.specs.Scripts.{ScriptValue, IsDialogClass}
 use Rattle.fints_script.specs.Sound.{HasDialog, IsSound, IsSoundStep}
-use Rattle.fints_script.specs.Steps.{StepValue, seal_weight, signature_weight, weight_of_signer}
-use Rattle.fints_templates.specs.Weights.{element_weight, item_weight, no_figures, segment_weight, total}
+use Rattle.fints_script.specs.Steps.{StepValue, seal_weight, signature_weight}
+use Rattle.fints_templates.specs.Weights.{element_weight, item_weight, no_figures, segment_weight, signer_weight, total}
 use Rattle.fints_fields.specs.declared.alphabet.Alphabet.{Alphabet}
 use Rattle.fints_fields.specs.declared.field.Field.{Field}
 use Rattle.fints_fields.specs.declared.field.Field.TheVariants as classes
@@ -134,7 +135,7 @@ module _ (figures : List Figures) (signers : List Signer) where
   signatures_weight : (places : List ℕ) → All (λ (place : ℕ). place < length signers) places → total (signature_weight figures signers) places ≡ total head_weight places + total end_weight places
   signatures_weight [] h = refl
   signatures_weight (p ∷ ps) h =
-      let here : signature_weight figures signers p ≡ head_weight p + end_weight p = ap (weight_of_signer figures) (slice_get_in signers p no_signer (All-head (λ (place : ℕ). place < length signers) p ps h)) in
+      let here : signature_weight figures signers p ≡ head_weight p + end_weight p = ap (λ (o : Option Signer). option_map_or (signer_weight figures) o 0) (slice_get_in signers p no_signer (All-head (λ (place : ℕ). place < length signers) p ps h)) in
       let ih = signatures_weight ps (All-tail (λ (place : ℕ). place < length signers) p ps h) in
       omega arith
 

@@ -1,6 +1,6 @@
 -- Which messages a client sends under a list of answers. Steps and messages count from 1. Words of private contracts and proofs alone stand last, under a heading.
 use Rattle.std.specs.Prelude.{ℕ, ◌≡◌, ◌<◌, ◌≤◌, ◌+◌, ◌*◌, ◌==◌, cond, Some, List, [], ◌∷◌, length}
-use Rattle.std.specs.List.{AllByRecursion}
+use Rattle.std.specs.List.{AllByRecursion, AllZip}
 use Rattle.fints_cases.specs.Answers.{CanLead, IsAnswer, leads}
 use Rattle.fints_script.specs.Scripts.{ScriptValue}
 use Rattle.fints_script.specs.Numbered.{numbered}
@@ -111,10 +111,7 @@ pub record IsSent (script : ScriptValue) (values : List NamedValue) (v : Visit) 
 
 -- each is the message of the visit at its place
 abbrev pub AreSent : ScriptValue → List NamedValue → List Visit → List Sent → Type 0
-AreSent script values [] [] = Unit {0}
-AreSent script values [] (m ∷ ms) = ⊥
-AreSent script values (v ∷ vs) [] = ⊥
-AreSent script values (v ∷ vs) (m ∷ ms) = IsSent script values v m × AreSent script values vs ms
+AreSent script values visits sent = AllZip (IsSent script values) visits sent
 
 -- the run: what is sent under these answers
 pub record Run (script : ScriptValue) (values : List NamedValue) (answers : List (List ℕ)) (sent : List Sent) : Type 0 where

@@ -1,9 +1,10 @@
-use Rattle.std.proofs.Common.{◌≡◌, ◌∙◌, ◌++◌, ap, sym, subst}
+use Rattle.std.proofs.Common.{◌≡◌, ◌∙◌, ◌++◌, [], ap, sym, subst}
+use Rattle.std.specs.Option.{option_map_or}
 use Rattle.fints_cases.specs.Cases.{case_text}
 use Rattle.fints_check.specs.Findings.{Shows}
 use Rattle.fints_script.specs.Plans.{PlanValue}
 use Rattle.fints_reports.specs.Explaining.{IsCaseWritten}
-use Rattle.fints_reports.specs.StepNames.{name_in}
+use Rattle.fints_script.specs.Steps.{StepValue}
 use Rattle.fints_reports.proofs.CaseLemmas.{case_written, on_ok}
 use Rattle.fints_reports.proofs.explaining.write_case.Goals as goal
 
@@ -14,7 +15,7 @@ returns-clause-written c =
     let f = c.args.finding in
     let values = c.in_ok-values.values in
     let answers = c.args.way.items in
-    let named = ap name_in c.step-step.ensures.numbered ∙ sym c.name.ensures in
+    let named = ap (λ o. option_map_or (λ (s : StepValue). s.name) o []) c.step-step.ensures.numbered ∙ sym c.name.ensures in
     let shows = subst (λ (p : PlanValue). Shows granted p.script f values answers) c.requires.plan (c.in_ok-values.ensures f answers c.requires.finding c.requires.way) in
     on_ok (c.write_values.new.text.items ≡ c.write_case_line.new.text.items ++ case_text values answers) (IsCaseWritten granted script c.args.number f c.args.text.now.items c.write_values.new.text.items) c.write_values.result
     (λ text. case_written granted script c.args.number f c.name.result c.args.text.now.items c.write_case_line.new.text.items c.write_values.new.text.items values answers named shows c.in_ok-write_case_line.ensures text)

@@ -1,0 +1,13 @@
+use Rattle.std.proofs.Common.{◌∙◌, Some, cond, ap, sym}
+use Rattle.std.proofs.lemmas.Map.Text.{is_eq-slice_cmp}
+use Rattle.std.specs.BTreeMap.{get}
+use Rattle.std.specs.Cmp.Lexicographic.{slice_cmp}
+use Rattle.std.specs.Ordering.{nat_cmp}
+use Rattle.fints_field_rows.proofs.FirstPlaces.{noted}
+use Rattle.fints_field_rows.proofs.fields.note.Goals as goal
+
+pub returns-in_ok-insert : goal.returns-in_ok-insert
+returns-in_ok-insert c =
+    noted (get (slice_cmp nat_cmp) c.args.places.now) (get (slice_cmp nat_cmp) c.insert.new.self) c.args.name c.args.place
+    (sym c.contains_key.ensures ∙ c.if-not-contains_key.true)
+    (λ q. c.in_ok-insert.ensures.updates.0 q ∙ ap (λ t. cond t (Some c.args.place) (get (slice_cmp nat_cmp) c.args.places.now q)) (is_eq-slice_cmp c.args.name q))
