@@ -6,7 +6,8 @@ listed answers, `run` makes the messages and `judge` names what they break. What
 what `check` prints: the rules broken in each step, its greatest number and its greatest size. And
 each case that `explain` prints must be a run that breaks what it is a case of. One script more has
 10,200 messages in a row, the last 201 with numbers that P2 refuses. Of further scripts, which break
-nothing, the certificate must be valid, and with any figure one less, or none, invalid.
+nothing, the certificate must be valid, and with any figure one less, or none, invalid. And of scripts
+with long fields the run with the longest values must have the figures that `check` prints.
 
 The last line tells how many scripts passed and failed.
 """
@@ -183,6 +184,34 @@ def clean(data, row, repeat, room):
     return good
 
 
+def written(text):
+    """The text as the standard spells it in an item."""
+    return re.sub(r"([+:'?@])", r"?\1", text)
+
+
+def longest(field):
+    """A value of a field than which none is written longer."""
+    if "max" in field:
+        return {"digits": b"9", "plain": b"Z", "text": b"?", "bin": b"\xff"}[field["class"]] * field["max"]
+    if field["class"] == "oneof":
+        return max(field["values"], key=lambda it: len(written(it))).encode("latin-1")
+    return max((":".join(map(written, it)) for it in field["values"]), key=len).encode("latin-1")
+
+
+def wide(data, text, sealed, room):
+    """Whether the run of a script with the longest values has the figures that are printed."""
+    text = data["wide"]["seal"] + "\n" + text + (", sealed = true" if sealed else "") + data["wide"]["rest"]
+    script = Script(room, data["banks"]["c1"], data["orders"], text)
+    seen = Seen(script)
+    values = [b"?" * 30, *(longest(it) for it in tomllib.loads(text).get("field", []))]
+    seen.add(case_text(script.names, values, ["0000"] * 10))
+    number, size = seen.figures["end"]
+    good = number == 11 and script.ask("check").startswith(f"step end number 11 size {size}\n")
+    if not good:
+        print(f"all-runs: the longest values don't give the figures of {text}", file=sys.stderr)
+    return good
+
+
 def main():
     if not os.access(PROGRAM, os.X_OK):
         sys.exit("all-runs: crates/fints/out/fints isn't built")
@@ -193,6 +222,7 @@ def main():
         looked = [lanes.submit(ladder, data, next(rooms))]
         looked += [lanes.submit(small, data, row, next(rooms)) for row in data["script"]]
         certified = [lanes.submit(clean, data, row, repeat, next(rooms)) for row in data["clean"]["scripts"] for repeat in data["clean"]["repeats"]]
+        certified += [lanes.submit(wide, data, text, sealed, next(rooms)) for text in data["wide"]["scripts"] for sealed in (False, True)]
         results = [it.result() for it in looked]
         goods = [good for good, _ in results] + [it.result() for it in certified]
     rules = {finding[1] for _, seen in results for finding in seen.findings}

@@ -1,13 +1,11 @@
 //! Cases, and whether they show a finding.
-ghost use Rattle.std.specs.Prelude.{◌≡◌};
+ghost use Rattle.std.specs.Prelude.{◌≡◌, ◌<◌, length};
 
 use crate::inputs::read_inputs;
-use crate::reports::ladder;
 use fints_check::{Finding, check, confirm};
 use fints_rules::{Permissions, Rule};
-use fints_samples::{C, C1, SECOND_ACCOUNT, T};
+use fints_samples::{C, SECOND_ACCOUNT, T};
 use fints_script::{Case, Plan};
-use fints_wire::run;
 use std::alloc::Global;
 use std::test::*;
 
@@ -64,24 +62,12 @@ fn shown_findings(rt: HostRuntime) -> Result<(), Fail> {
     Ok(())
 }
 
-// How many answers a case has, and the number of the last message that it sends.
-fn replayed(alloc: Global, plan: &Plan<'_>, case: &Case) -> Result<(usize, u32), Fail> {
-    if !plan.admits(&case.values) {
-        return Err(Fail::from("values that aren't admitted"));
-    }
-    let sent = run(alloc, plan, &case.values, case.answers.as_slice())?;
-    match sent.last() {
-        Some(last) => Ok((case.answers.len(), last.number)),
-        None => Err(Fail::from("nothing is sent")),
-    }
-}
-
-// The same of the case of the first finding.
-fn replayed_first(
+// The case of the first finding, written.
+fn first_case(
     alloc: Global,
     permissions: &Permissions<'_>,
     plan: &Plan<'_>,
-) -> Result<(usize, u32), Fail>
+) -> Result<Vec<u8>, Fail>
     requires { permissions.now.orders ≡ plan.now.orders }
 {
     let report = check(alloc, permissions, plan)?;
@@ -89,21 +75,19 @@ fn replayed_first(
         return Err(Fail::from("nothing is found"));
     }
     let case = report.case(alloc, 0)?;
-    replayed(alloc, plan, &case)
+    Ok(case.write(alloc)?)
 }
 
-fn first_case(alloc: Global, text: &[u8]) -> Result<(usize, u32), Fail> {
-    let inputs = read_inputs(alloc, C1, T, text)?;
+fn case_of(alloc: Global, capture: &[u8], text: &[u8]) -> Result<Vec<u8>, Fail> {
+    let inputs = read_inputs(alloc, capture, T, text)?;
     let permissions = Permissions::build(alloc, &inputs.params, &inputs.orders)?;
     let plan = inputs.script.plan(&inputs.orders)?;
-    replayed_first(alloc, &permissions, &plan)
+    first_case(alloc, &permissions, &plan)
 }
 
-// The first finding is that of step 197, whose last message has number 10,047.
 #[test]
-fn long_case(rt: HostRuntime) -> Result<(), Fail> {
-    let text = ladder(rt.alloc(), 200)?;
-    let found = first_case(rt.alloc(), text.as_bytes())?;
-    assert_eq!(rt; found, (10046, 10047));
+fn cases(rt: HostRuntime) -> Result<(), Fail> {
+    let found = case_of(rt.alloc(), C, SECOND_ACCOUNT)?;
+    assert_eq!(rt; found.as_slice(), SHOWN);
     Ok(())
 }

@@ -5,7 +5,6 @@ use fints_script::{FaultKind, Place, ScriptFault};
 use fints_syntax::{SyntaxFault, SyntaxKind};
 use fints_texts::Fault;
 use std::alloc::{AllocError, Global};
-use std::process::Abort;
 use std::test::Fail;
 
 const BANK: &[u8] = b"HIBPA:3:3+12+280:10020030+Bank+1+1+300+0'\n";
@@ -32,56 +31,51 @@ fn capture(alloc: Global, byte: u8, count: usize) -> Result<Vec<u8>, AllocError>
     Ok(text)
 }
 
-fn assert_hint(
-    rt: &impl Abort,
-    alloc: Global,
-    fault: &Fault,
-    inputs: &Inputs<'_>,
-    wanted: &str,
-) -> Result<(), Fail> {
-    let told = hint(alloc, fault, inputs)?;
-    let told = told.ok_or("a hint")?;
-    assert_eq!(rt; told.as_str(), wanted);
+fn of_script<'a>(script: &'a [u8]) -> Inputs<'a> {
+    let mut inputs = Inputs::none();
+    inputs.script = script;
+    inputs
+}
+
+fn of_params<'a>(params: &'a [u8]) -> Inputs<'a> {
+    let mut inputs = Inputs::none();
+    inputs.params = params;
+    inputs
+}
+
+#[test]
+fn long_inputs(rt: HostRuntime) -> Result<(), Fail> {
+    let script = vec![in rt.alloc(); b'\n'; 1_048_577]?;
+    let lines = vec![in rt.alloc(); b'\n'; 4_194_305]?;
+    let items = capture(rt.alloc(), b':', 20_000)?;
+    let segment = capture(rt.alloc(), b'A', 1_048_576)?;
+    let rows: [(Fault, Inputs<'_>, &str); 4] = [
+        (
+            too_long(),
+            of_script(script.as_slice()),
+            "longer than 1048576 bytes: it has 1048577",
+        ),
+        (
+            syntax(SyntaxKind::CaptureTooLong, 4_194_304),
+            of_params(lines.as_slice()),
+            "longer than 4194304 bytes: it has 4194305",
+        ),
+        (
+            syntax(SyntaxKind::TooLong, BANK.len()),
+            of_params(items.as_slice()),
+            "segment 4 (HISALS) in line 2 has 20000 items or more",
+        ),
+        (
+            syntax(SyntaxKind::TooLong, BANK.len()),
+            of_params(segment.as_slice()),
+            "segment 4 (HISALS) in line 2 has no end within 1048576 bytes",
+        ),
+    ];
+    for (fault, inputs, wanted) in rows {
+        let told = hint(rt.alloc(), &fault, &inputs)?.ok_or("a hint")?;
+        assert_eq!(rt; told.as_str(), wanted);
+    }
     Ok(())
-}
-
-#[test]
-fn a_long_script(rt: HostRuntime) -> Result<(), Fail> {
-    let text = vec![in rt.alloc(); b'\n'; 1_048_577]?;
-    let mut inputs = Inputs::none();
-    inputs.script = text.as_slice();
-    let wanted = "longer than 1048576 bytes: it has 1048577";
-    assert_hint(&rt, rt.alloc(), &too_long(), &inputs, wanted)
-}
-
-#[test]
-fn a_long_capture(rt: HostRuntime) -> Result<(), Fail> {
-    let text = vec![in rt.alloc(); b'\n'; 4_194_305]?;
-    let mut inputs = Inputs::none();
-    inputs.params = text.as_slice();
-    let fault = syntax(SyntaxKind::CaptureTooLong, 4_194_304);
-    let wanted = "longer than 4194304 bytes: it has 4194305";
-    assert_hint(&rt, rt.alloc(), &fault, &inputs, wanted)
-}
-
-#[test]
-fn many_items(rt: HostRuntime) -> Result<(), Fail> {
-    let text = capture(rt.alloc(), b':', 20_000)?;
-    let mut inputs = Inputs::none();
-    inputs.params = text.as_slice();
-    let fault = syntax(SyntaxKind::TooLong, BANK.len());
-    let wanted = "segment 4 (HISALS) in line 2 has 20000 items or more";
-    assert_hint(&rt, rt.alloc(), &fault, &inputs, wanted)
-}
-
-#[test]
-fn a_long_segment(rt: HostRuntime) -> Result<(), Fail> {
-    let text = capture(rt.alloc(), b'A', 1_048_576)?;
-    let mut inputs = Inputs::none();
-    inputs.params = text.as_slice();
-    let fault = syntax(SyntaxKind::TooLong, BANK.len());
-    let wanted = "segment 4 (HISALS) in line 2 has no end within 1048576 bytes";
-    assert_hint(&rt, rt.alloc(), &fault, &inputs, wanted)
 }
 
 #[test]

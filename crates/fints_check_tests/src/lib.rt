@@ -10,8 +10,6 @@ mod hints;
 #[cfg(test)]
 mod inputs;
 #[cfg(test)]
-mod long_certificates;
-#[cfg(test)]
 mod numbers;
 #[cfg(test)]
 mod reports;

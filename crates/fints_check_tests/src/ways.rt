@@ -1,7 +1,6 @@
 //! Answers that lead to the greatest numbers of steps.
 ghost use Rattle.std.specs.Prelude.{◌≤◌, length};
 
-use crate::reports::ladder;
 use fints_reach::{greatest_numbers, longest_way};
 use fints_rules::OrderTable;
 use fints_samples::{FORK, T};
@@ -19,20 +18,6 @@ fn answers_to(alloc: Global, plan: &Plan<'_>, n: usize) -> Result<Vec<Answer>, F
         None => Err(Fail::from("no run sends the step")),
         Some(_) => Ok(longest_way(alloc, plan, &numbers, n)?),
     }
-}
-
-// How many answers lead to step n of a script.
-fn way_len(alloc: Global, text: &[u8], n: usize) -> Result<usize, Fail>
-    requires { 1 ≤ n }
-{
-    let orders = OrderTable::read(alloc, T)?;
-    let script = Script::read(alloc, text)?;
-    let plan = script.plan(&orders)?;
-    if n > plan.step_count() {
-        return Err(Fail::from("no such step"));
-    }
-    let answers = answers_to(alloc, &plan, n)?;
-    Ok(answers.len())
 }
 
 // The numbers of the codes, with a `;` behind each answer.
@@ -91,14 +76,5 @@ fn few_answers(rt: HostRuntime) -> Result<(), Fail> {
         let found = way_of(rt.alloc(), text)?;
         assert_eq!(rt; found.as_str(), told);
     }
-    Ok(())
-}
-
-// One answer for each message but the first.
-#[test]
-fn many_answers(rt: HostRuntime) -> Result<(), Fail> {
-    let text = ladder(rt.alloc(), 200)?;
-    let count = way_len(rt.alloc(), text.as_bytes(), 197)?;
-    assert_eq!(rt; count, 10046);
     Ok(())
 }

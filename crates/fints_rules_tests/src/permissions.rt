@@ -92,18 +92,6 @@ fn demands(rt: HostRuntime) -> Result<(), Fail> {
     Ok(())
 }
 
-#[test]
-fn parts(rt: HostRuntime) -> Result<(), Fail> {
-    let order = kind(b"HKSAL")?;
-    let bank = bank_of(rt.alloc(), C1, b"")?;
-    let permissions = Permissions::build(rt.alloc(), &bank.params, &bank.orders)?;
-    assert_eq!(rt;
-        (permissions.bank().kinds, permissions.form(order, 7)),
-        (1, Some(AccountForm::International))
-    );
-    Ok(())
-}
-
 // A second row of the first account, that asks for no signature.
 const SECOND_ROW: &[u8] = b"HIUPD:13:6+1234567::280:10020030+DE111+cust+1+EUR+Name++Giro++HKSAL:0'";
 
@@ -118,67 +106,49 @@ const NO_IBAN: [&[u8]; 6] = [b"", b"", b"1234567", b"", b"280", b"10020030"];
 
 const IBAN: [&[u8]; 1] = [b"DE222"];
 
+// An order that names an account: its kind, and the form and the items of the account.
+type Order<'a> = (&'a [u8], AccountForm, &'a [&'a [u8]]);
+
+fn balance<'a>(items: &'a [&'a [u8]]) -> Order<'a> {
+    (b"HKSAL", AccountForm::National, items)
+}
+
+fn transfer<'a>(items: &'a [&'a [u8]]) -> Order<'a> {
+    (b"HKCCS", AccountForm::International, items)
+}
+
 // What the bank of the capture and of more segments permits.
 fn permit(
     alloc: Global,
     capture: &[u8],
     more: &[u8],
-    order: &[u8],
-    account: &AccountKey<'_>,
+    order: Order<'_>,
     signatures: usize,
 ) -> Result<Permit, Fail> {
-    let order = kind(order)?;
+    let (text, form, items) = order;
+    let order = kind(text)?;
     let bank = bank_of(alloc, capture, more)?;
     let permissions = Permissions::build(alloc, &bank.params, &bank.orders)?;
-    Ok(permissions.permit(order, account, signatures))
-}
-
-// A balance of a national account.
-fn national(
-    alloc: Global,
-    capture: &[u8],
-    more: &[u8],
-    items: &[&[u8]],
-    signatures: usize,
-) -> Result<Permit, Fail> {
-    let account = AccountKey::of(AccountForm::National, items);
-    permit(alloc, capture, more, b"HKSAL", &account, signatures)
+    Ok(permissions.permit(order, &AccountKey::of(form, items), signatures))
 }
 
 // All rows of an account count, and what is not listed is left open where the bank says so.
 #[test]
-fn national_permits(rt: HostRuntime) -> Result<(), Fail> {
+fn permits(rt: HostRuntime) -> Result<(), Fail> {
     let open = b"HIUPA:10:4+user+3+1'";
-    let rows: [(&[u8], &[u8], &[&[u8]], usize, Permit); 5] = [
-        (C, b"", &FIRST, 1, Permit::Allowed),
-        (C, b"", &FIRST, 0, Permit::MoreSignatures),
-        (C, b"", &OTHER, 1, Permit::Refused),
-        (C, SECOND_ROW, &FIRST, 0, Permit::Allowed),
-        (C1, open, &FIRST, 0, Permit::Allowed),
+    let rows: [(&[u8], &[u8], Order<'_>, usize, Permit); 9] = [
+        (C, b"", balance(&FIRST), 1, Permit::Allowed),
+        (C, b"", balance(&FIRST), 0, Permit::MoreSignatures),
+        (C, b"", balance(&OTHER), 1, Permit::Refused),
+        (C, SECOND_ROW, balance(&FIRST), 0, Permit::Allowed),
+        (C1, open, balance(&FIRST), 0, Permit::Allowed),
+        (C, b"", transfer(&IBAN), 1, Permit::MoreSignatures),
+        (C, b"", transfer(&BOTH), 1, Permit::MoreSignatures),
+        (C, b"", transfer(&BOTH), 2, Permit::Allowed),
+        (C, b"", transfer(&NO_IBAN), 1, Permit::Allowed),
     ];
-    for (capture, more, items, signatures, wanted) in rows {
-        let found = national(rt.alloc(), capture, more, items, signatures)?;
-        assert_eq!(rt; found, wanted);
-    }
-    Ok(())
-}
-
-// A transfer of an international account.
-fn international(alloc: Global, items: &[&[u8]], signatures: usize) -> Result<Permit, Fail> {
-    let account = AccountKey::of(AccountForm::International, items);
-    permit(alloc, C, b"", b"HKCCS", &account, signatures)
-}
-
-#[test]
-fn international_permits(rt: HostRuntime) -> Result<(), Fail> {
-    let rows: [(&[&[u8]], usize, Permit); 4] = [
-        (&IBAN, 1, Permit::MoreSignatures),
-        (&BOTH, 1, Permit::MoreSignatures),
-        (&BOTH, 2, Permit::Allowed),
-        (&NO_IBAN, 1, Permit::Allowed),
-    ];
-    for (items, signatures, wanted) in rows {
-        let found = international(rt.alloc(), items, signatures)?;
+    for (capture, more, order, signatures, wanted) in rows {
+        let found = permit(rt.alloc(), capture, more, order, signatures)?;
         assert_eq!(rt; found, wanted);
     }
     Ok(())
@@ -196,45 +166,25 @@ fn judged_by(alloc: Global, message: &[u8]) -> Result<Result<Vec<Broken>, JudgeF
     Ok(judge(alloc, &permissions, message))
 }
 
+fn at_two(rule: Rule) -> Broken {
+    Broken { rule, segment: 2 }
+}
+
 #[test]
 fn judged(rt: HostRuntime) -> Result<(), Fail> {
-    let permitted = judged_by(rt.alloc(), END_MESSAGE)?;
-    assert!(rt; permitted.is_ok_and(|broken| broken.is_empty()));
+    assert_eq!(rt; judged_by(rt.alloc(), END_MESSAGE)??.len(), 0);
+    let broken = judged_by(rt.alloc(), UNSIGNED)??;
+    let wanted = [at_two(Rule::Version), at_two(Rule::Account)];
+    assert_eq!(rt; broken.as_slice(), wanted.as_slice());
     let none = JudgeFault::NotAMessage { offset: 0 };
     assert_eq!(rt; judged_by(rt.alloc(), b"x")?.err(), Some(none));
     Ok(())
 }
 
 #[test]
-fn broken(rt: HostRuntime) -> Result<(), Fail> {
-    let broken = judged_by(rt.alloc(), UNSIGNED)??;
-    let wanted = [
-        Broken {
-            rule: Rule::Version,
-            segment: 2,
-        },
-        Broken {
-            rule: Rule::Account,
-            segment: 2,
-        },
-    ];
-    assert_eq!(rt; broken.as_slice(), wanted.as_slice());
-    Ok(())
-}
-
-#[test]
 fn messages(rt: HostRuntime) -> Result<(), Fail> {
     let message = read_message(rt.alloc(), END_MESSAGE)?;
-    assert_eq!(rt;
-        (message.size(), message.number(), message.protocol()),
-        (55, 1, Some(300))
-    );
-    Ok(())
-}
-
-#[test]
-fn message_parts(rt: HostRuntime) -> Result<(), Fail> {
-    let message = read_message(rt.alloc(), END_MESSAGE)?;
+    assert_eq!(rt; (message.size(), message.number()), (55, 1));
     assert_eq!(rt; (message.body().len(), message.ends().len()), (1, 0));
     Ok(())
 }

@@ -40,17 +40,6 @@ fn cut_at(alloc: Global, at: usize) -> Result<Params, ParamFault> {
     reader.finish()
 }
 
-#[test]
-fn byte_by_byte(rt: HostRuntime) -> Result<(), Fail> {
-    let mut reader = ParamReader::new(rt.alloc());
-    for byte in C {
-        reader.feed(&[*byte])?;
-    }
-    let params = reader.finish()?;
-    assert!(rt; are_of_c(&params));
-    Ok(())
-}
-
 // Feeds a piece, and feeds it again after want of memory.
 fn feed_again(reader: &mut ParamReader, piece: &[u8]) -> Result<(), ParamFault> {
     match reader.feed(piece) {
@@ -81,15 +70,6 @@ fn each_cut(rt: HostRuntime) -> Result<(), Fail> {
 }
 
 #[test]
-fn unfinished_data(rt: HostRuntime) -> Result<(), Fail> {
-    let mut reader = ParamReader::new(rt.alloc());
-    reader.feed(b"HNVSD:999:1+@5@HI")?;
-    reader.feed(b"BPA'")?;
-    assert_eq!(rt; reader.finish().err(), syntax(SyntaxKind::Incomplete, 15));
-    Ok(())
-}
-
-#[test]
 fn fault_is_kept(rt: HostRuntime) -> Result<(), Fail> {
     let mut reader = ParamReader::new(rt.alloc());
     let first = reader.feed(b"HKEND:2:1+@x'").err();
@@ -100,42 +80,10 @@ fn fault_is_kept(rt: HostRuntime) -> Result<(), Fail> {
 }
 
 #[test]
-fn unfinished(rt: HostRuntime) -> Result<(), Fail> {
-    let mut reader = ParamReader::new(rt.alloc());
-    reader.feed(b"HIXYZ:1:1+@999999999@abc'")?;
-    assert_eq!(rt; reader.finish().err(), syntax(SyntaxKind::Incomplete, 0));
-    Ok(())
-}
-
-#[test]
 fn rows_and_codes(rt: HostRuntime) -> Result<(), Fail> {
     let told = params_and_codes(rt.alloc(), C)?;
     assert!(rt; are_of_c(&told.params));
     assert_eq!(rt; told.codes.len(), 0);
-    Ok(())
-}
-
-// 4,194,304 line breaks.
-fn longest(alloc: Global) -> Result<ParamReader, ParamFault> {
-    let mut reader = ParamReader::new(alloc);
-    for _ in 0..1024 {
-        reader.feed(&[b'\n'; 4096])?;
-    }
-    Ok(reader)
-}
-
-#[test]
-fn longest_capture(rt: HostRuntime) -> Result<(), Fail> {
-    let reader = longest(rt.alloc())?;
-    assert_eq!(rt; reader.finish().err(), Some(ParamFault::NoBankParameters));
-    Ok(())
-}
-
-#[test]
-fn too_long_capture(rt: HostRuntime) -> Result<(), Fail> {
-    let mut reader = longest(rt.alloc())?;
-    let refused = reader.feed(b"\n").err();
-    assert_eq!(rt; refused, syntax(SyntaxKind::CaptureTooLong, 4_194_304));
     Ok(())
 }
 

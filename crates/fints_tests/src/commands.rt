@@ -47,22 +47,6 @@ fn assert_shown(rt: &impl Abort, alloc: Global, capture: &[u8], quirk: Quirk, is
     assert_eq!(rt; err.bytes(), errors, "{quirk:?}");
 }
 
-// The output that fails after each byte of the built-in report keeps what came before.
-#[test]
-fn output_fails_after_each_byte(rt: HostRuntime) {
-    for room in 0..REPORT.len() {
-        for piece in [1, 5, 4096] {
-            let mut shelf = Shelf::new(&[], Quirk::None);
-            let mut out = Tape::new(room, piece);
-            let mut err = Tape::new(4096, 1);
-            let status = execute(rt.alloc(), &[], &mut shelf, &mut out, &mut err);
-            assert_eq!(rt; status, 5, "{room}");
-            assert_eq!(rt; out.bytes(), &REPORT[..room], "{room}");
-            assert_eq!(rt; err.bytes(), b"error: write\n".as_slice(), "{room}");
-        }
-    }
-}
-
 #[test]
 fn whole_output(rt: HostRuntime) {
     for piece in [1, 5, 31, 32] {
@@ -73,26 +57,6 @@ fn whole_output(rt: HostRuntime) {
     let mut full = Tape::new(0, 1);
     assert!(rt; emit(b"", &mut full).is_ok());
     assert!(rt; emit(b"x", &mut full).is_err());
-}
-
-// A fault of the errors changes no status.
-#[test]
-fn errors_may_fail(rt: HostRuntime) {
-    let files = [("bad", b"x".as_slice())];
-    let rows: [(&[&str], u8); 3] = [
-        (&["show", "--params", "bad"], 3),
-        (&["show", "--params", "none"], 5),
-        (&["bogus"], 2),
-    ];
-    for (words, status) in rows {
-        let mut shelf = Shelf::new(&files, Quirk::None);
-        let mut out = Tape::new(4096, 4096);
-        let mut err = Tape::new(3, 4096);
-        let got = execute(rt.alloc(), words, &mut shelf, &mut out, &mut err);
-        assert_eq!(rt; got, status);
-        assert!(rt; out.bytes().is_empty());
-        assert_eq!(rt; err.bytes(), b"err".as_slice());
-    }
 }
 
 // 9,000 bytes are read by four calls, the last of which tells the end.
@@ -119,15 +83,6 @@ fn reads_fail(rt: HostRuntime) -> Result<(), Fail> {
             true,
         );
     }
-    Ok(())
-}
-
-#[test]
-fn longest_capture(rt: HostRuntime) -> Result<(), Fail> {
-    let mut capture = padded(rt.alloc(), 4_194_304)?;
-    assert_shown(&rt, rt.alloc(), capture.as_slice(), Quirk::None, true);
-    capture.push(b'\n')?;
-    assert_shown(&rt, rt.alloc(), capture.as_slice(), Quirk::None, false);
     Ok(())
 }
 

@@ -52,25 +52,6 @@ fn one_code(rt: HostRuntime) -> Result<(), Fail> {
     Ok(())
 }
 
-// Of a name twice the first value counts.
-#[test]
-fn first_values(rt: HostRuntime) -> Result<(), Fail> {
-    let (tan, pin) = (name(b"tan")?, name(b"pin")?);
-    let values = values(rt.alloc(), &[(b"tan", b"7"), (b"tan", b"8")])?;
-    assert_eq!(rt; values.pairs().len(), 2);
-    assert_eq!(rt;
-        (values.get(tan), values.get(pin)),
-        (Some(b"7".as_slice()), None)
-    );
-    Ok(())
-}
-
-#[test]
-fn unknown_versions(rt: HostRuntime) {
-    let fault = Case::read(rt.alloc(), b"fints-case 2").err();
-    assert_eq!(rt; fault, Some(CaseFault::Bad { line: 1 }));
-}
-
 // A case with one value of so many bytes, as it is written.
 fn long_text(alloc: Global, bytes: usize) -> Result<Vec<u8>, Fail> {
     let value = vec![in alloc; b'0'; bytes]?;

@@ -79,28 +79,6 @@ fn admitted_texts(rt: HostRuntime) -> Result<(), Fail> {
     Ok(())
 }
 
-#[test]
-fn admitted_numbers_and_bytes(rt: HostRuntime) -> Result<(), Fail> {
-    let digits = Text::new(Alphabet::Digits, 0, 2).ok_or("digits")?;
-    assert!(rt; digits.admits(b"09") && !digits.admits(b"a") && !digits.admits(b"012"));
-    let bin = Bin::new(1, 2).ok_or("bin")?;
-    assert!(rt; bin.admits(b"\x00") && !bin.admits(b""));
-    Ok(())
-}
-
-#[test]
-fn bounds(rt: HostRuntime) {
-    assert!(rt;
-        Text::new(Alphabet::Digits, 3, 2).is_none() && Text::new(Alphabet::Digits, 0, 0).is_some()
-    );
-    assert!(rt;
-        Text::new(Alphabet::Latin, 0, 10_001).is_none()
-            && Text::new(Alphabet::Latin, 0, 10_000).is_some()
-    );
-    assert!(rt; Text::new(Alphabet::Plain, 1, 0).is_none());
-    assert!(rt; Bin::new(0, 2).is_none() && Bin::new(1, 1).is_some());
-}
-
 fn bytes(alloc: Global, text: &[u8]) -> Result<Bytes, Fail> {
     Ok(Bytes::new(text.to_vec(alloc)?))
 }
@@ -118,16 +96,6 @@ fn listed_texts(rt: HostRuntime) -> Result<(), Fail> {
     let class = one_of(rt.alloc(), &[b"abc", b"+:", b"??", b"de"])?.ok_or("one of")?;
     assert!(rt; class.admits(b"abc") && !class.admits(b"ab"));
     assert_ends(&rt, rt.alloc(), &class, (b"+:", 4), (b"de", 2))
-}
-
-#[test]
-fn no_lists_of_texts(rt: HostRuntime) -> Result<(), Fail> {
-    let rows: [&[&[u8]]; 2] = [&[b"a", b"b", b"a"], &[]];
-    for row in rows {
-        let class = one_of(rt.alloc(), row)?;
-        assert!(rt; class.is_none(), "{row:?}");
-    }
-    Ok(())
 }
 
 fn account_value(alloc: Global, row: &[&[u8]]) -> Result<AccountValue, Fail> {
@@ -161,27 +129,4 @@ fn listed_accounts(rt: HostRuntime) -> Result<(), Fail> {
         (b"1234567::280:10020030", 21),
         (b"DE?:111", 7),
     )
-}
-
-#[test]
-fn accounts(rt: HostRuntime) -> Result<(), Fail> {
-    let field = Field::Account(account(rt.alloc(), &[IBAN, NATIONAL])?.ok_or("account")?);
-    let [iban, national] = field.accounts() else {
-        return Err(Fail::from("two accounts"));
-    };
-    assert_eq!(rt;
-        (iban.items().len(), national.text()),
-        (1, b"1234567::280:10020030".as_slice())
-    );
-    Ok(())
-}
-
-#[test]
-fn no_lists_of_accounts(rt: HostRuntime) -> Result<(), Fail> {
-    let rows: [&[&[&[u8]]]; 2] = [&[IBAN, NATIONAL, IBAN], &[&[]]];
-    for row in rows {
-        let class = account(rt.alloc(), row)?;
-        assert!(rt; class.is_none(), "{row:?}");
-    }
-    Ok(())
 }

@@ -12,10 +12,6 @@ mod plans;
 #[cfg(test)]
 mod samples;
 #[cfg(test)]
-mod script_faults;
-#[cfg(test)]
-mod script_limits;
-#[cfg(test)]
 mod scripts;
 #[cfg(test)]
 mod worst_sizes;

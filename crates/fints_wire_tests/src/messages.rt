@@ -58,24 +58,6 @@ fn built(rt: HostRuntime) -> Result<(), Fail> {
     Ok(())
 }
 
-const SEALED_PAD: &[u8] =
-    br#"seal = [["PIN","1"], "998", "1", ["1","","0"], ["1","20260101","120000"], ["2","2","13","%3030303030303030","5","1"], ["280","10020030","user","V","0","0"], "0"]
-field = [{name = "pad", class = "digits", min = 0, max = 987}]
-step = [{name = "end", sealed = true, segments = [{kind = "HKEND", version = 1, elements = ["$dialog", "$pad"]}]}]
-"#;
-
-// The length of what is sealed has three digits, and then four.
-#[test]
-fn sealed_pads(rt: HostRuntime) -> Result<(), Fail> {
-    for (zeros, len) in [(986, 1156), (987, 1158)] {
-        let pad = vec![in rt.alloc(); b'0'; zeros]?;
-        let pairs: [(&[u8], &[u8]); 2] = [(b"dialog", b"D"), (b"pad", pad.as_slice())];
-        let bytes = message_of(rt.alloc(), SEALED_PAD, 1, &pairs)?;
-        assert_eq!(rt; bytes.len(), len);
-    }
-    Ok(())
-}
-
 // What is sent by a plan for a value of the dialogue id and an answer of one code.
 fn sent_by(alloc: Global, plan: &Plan, dialog: &[u8], code: Code) -> Result<Vec<Sent>, Fail> {
     let values = values(alloc, &[(b"dialog", dialog)])?;
