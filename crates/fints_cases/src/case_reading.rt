@@ -21,7 +21,7 @@ use std::alloc::Global;
 use std::collections::BTreeSet;
 
 /// What a line after the first tells.
-#[derive(Debug, Drop)]
+#[derive(Drop)]
 pub enum CaseLine {
     Field(NamedValue),
     Reply(Answer),

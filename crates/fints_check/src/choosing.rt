@@ -19,7 +19,7 @@ use std::alloc::Global;
 
 /// Which listed account a field is set to: the place of the field among the plan's, and that of the
 /// account among the field's, both from 0 on.
-#[derive(Clone, Copy, Debug, PartialEq, Eq)]
+#[derive(Clone, Copy, PartialEq, Eq)]
 pub struct SetAccount {
     pub field: usize,
     pub account: usize,

@@ -46,7 +46,7 @@ fn of_reports(rt: HostRuntime) -> Result<(), Fail> {
     ];
     for (capture, script, wanted) in rows {
         let found = made_of(rt.alloc(), capture, script)?;
-        assert_eq!(rt; found.as_slice(), wanted);
+        assert!(rt; found.as_slice() == wanted);
     }
     Ok(())
 }
@@ -71,7 +71,7 @@ fn past_the_limit(rt: HostRuntime) -> Result<(), Fail> {
     for (count, wanted) in rows {
         let text = lines(rt.alloc(), count)?;
         let read = Certificate::read(rt.alloc(), text.as_bytes());
-        assert_eq!(rt; read.map(|certificate| certificate.lines().len()), wanted);
+        assert!(rt; read.map(|certificate| certificate.lines().len()) == wanted);
     }
     Ok(())
 }

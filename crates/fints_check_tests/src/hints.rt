@@ -73,7 +73,7 @@ fn long_inputs(rt: HostRuntime) -> Result<(), Fail> {
     ];
     for (fault, inputs, wanted) in rows {
         let told = hint(rt.alloc(), &fault, &inputs)?.ok_or("a hint")?;
-        assert_eq!(rt; told.as_str(), wanted);
+        assert!(rt; told.as_str() == wanted);
     }
     Ok(())
 }

@@ -42,7 +42,7 @@ fn few_steps(rt: HostRuntime) -> Result<(), Fail> {
     let rows: [(&[u8], &str); 2] = [(FORK, "1 - 2 7"), (REPEATED, "3 4 - 6 9")];
     for (text, told) in rows {
         let found = numbers_of(rt.alloc(), text)?;
-        assert_eq!(rt; found.as_str(), told);
+        assert!(rt; found.as_str() == told);
     }
     Ok(())
 }

@@ -74,7 +74,7 @@ fn few_answers(rt: HostRuntime) -> Result<(), Fail> {
     ];
     for (text, told) in rows {
         let found = way_of(rt.alloc(), text)?;
-        assert_eq!(rt; found.as_str(), told);
+        assert!(rt; found.as_str() == told);
     }
     Ok(())
 }

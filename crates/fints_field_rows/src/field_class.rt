@@ -11,7 +11,7 @@ use fints_fields::Alphabet;
 use toml::{Table, Value};
 
 /// The name of a class.
-#[derive(Clone, Copy, Debug)]
+#[derive(Clone, Copy)]
 pub enum ClassName {
     Text(Alphabet),
     Bin,

@@ -47,7 +47,7 @@ pub fn near<'a>(alloc: Global, words: &[&'a str], text: &str) -> Result<Option<&
 }
 
 /// A text that is no word, with the word that was meant, if one is near.
-#[derive(Clone, Copy, Debug)]
+#[derive(Clone, Copy)]
 pub struct Guess<'t, 'n> {
     pub text: &'t str,
     pub near: Option<&'n str>,
@@ -77,7 +77,7 @@ impl Display for Guess<'_, '_> {
 }
 
 /// Words in a row, with commas between.
-#[derive(Clone, Copy, Debug)]
+#[derive(Clone, Copy)]
 pub struct Joined<'a>(pub &'a [&'a str]);
 
 impl Display for Joined<'_> {
@@ -87,7 +87,7 @@ impl Display for Joined<'_> {
 }
 
 /// The first names of a list, in quotes.
-#[derive(Clone, Copy, Debug)]
+#[derive(Clone, Copy)]
 pub struct Known<'a>(pub &'a [&'a str]);
 
 impl Display for Known<'_> {

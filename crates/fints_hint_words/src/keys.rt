@@ -51,7 +51,7 @@ pub fn missing_key(alloc: Global, table: &Table, keys: &[&str], whose: &str) -> 
 }
 
 /// A key, and what must stand there.
-#[derive(Clone, Copy, Debug)]
+#[derive(Clone, Copy)]
 pub struct Wanted {
     pub key: &'static str,
     pub what: &'static str,

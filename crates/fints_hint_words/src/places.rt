@@ -39,7 +39,7 @@ pub fn row_at(rows: &[Value], number: u16) -> Option<&Value> {
 }
 
 /// A row of a document by what it is, its number, and what it is called, if that can be told.
-#[derive(Clone, Copy, Debug)]
+#[derive(Clone, Copy)]
 pub struct Row<'a> {
     pub what: &'a str,
     pub number: usize,

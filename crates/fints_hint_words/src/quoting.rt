@@ -33,7 +33,7 @@ fn write_byte<W: Write>(f: &mut Formatter<W>, byte: u8) -> fmt::Result {
 }
 
 /// A text, with escapes for what isn't printable ASCII, and without quotes.
-#[derive(Clone, Copy, Debug)]
+#[derive(Clone, Copy)]
 pub struct Bare<'a>(pub &'a str);
 
 impl Display for Bare<'_> {
@@ -49,7 +49,7 @@ impl Display for Bare<'_> {
 }
 
 /// A text in quotes.
-#[derive(Clone, Copy, Debug)]
+#[derive(Clone, Copy)]
 pub struct Quoted<'a>(pub &'a str);
 
 impl Display for Quoted<'_> {
@@ -60,7 +60,7 @@ impl Display for Quoted<'_> {
 }
 
 /// Bytes in quotes.
-#[derive(Clone, Copy, Debug)]
+#[derive(Clone, Copy)]
 pub struct Sample<'a>(pub &'a [u8]);
 
 impl Display for Sample<'_> {
@@ -77,7 +77,7 @@ impl Display for Sample<'_> {
 }
 
 /// A character in quotes, or by its number, as in U+20AC, where it isn't printable ASCII.
-#[derive(Clone, Copy, Debug)]
+#[derive(Clone, Copy)]
 pub struct Character(pub char);
 
 impl Display for Character {

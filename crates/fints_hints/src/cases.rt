@@ -11,7 +11,7 @@ use fints_syntax::Memory;
 use std::alloc::Global;
 
 /// What stands from a line on: the line, where it has a line feed, and the lines before it.
-#[derive(Clone, Copy, Debug)]
+#[derive(Clone, Copy)]
 pub struct Place<'a> {
     pub before: &'a [u8],
     pub line: Option<&'a [u8]>,
@@ -37,7 +37,7 @@ pub fn place_of(text: &[u8], line: u32) -> Place<'_> {
 }
 
 /// What is wrong with a line of a text of lines, whatever its form.
-#[derive(Clone, Copy, Debug, PartialEq, Eq)]
+#[derive(Clone, Copy, PartialEq, Eq)]
 pub enum End {
     /// The text ends before the line.
     Missing,

@@ -31,7 +31,7 @@ fn names_of(alloc: Global, fields: &[NamedField]) -> Result<Vec<&str>, Memory> {
 }
 
 /// A field of a case, by its name where that may be told.
-#[derive(Clone, Copy, Debug)]
+#[derive(Clone, Copy)]
 pub struct Label<'a> {
     name: Option<&'a str>,
 }

@@ -6,7 +6,7 @@ use fints_script::{Script, Step, Target};
 use std::alloc::Global;
 
 /// Why nothing more is sent.
-#[derive(Clone, Copy, Debug, PartialEq, Eq)]
+#[derive(Clone, Copy, PartialEq, Eq)]
 enum End {
     /// There is no further answer.
     NoAnswer,
@@ -18,7 +18,7 @@ enum End {
 
 /// The last message of a run: its number, its step by the place from 0, and how many messages of the
 /// step stand in a row up to it.
-#[derive(Clone, Copy, Debug)]
+#[derive(Clone, Copy)]
 struct Last {
     number: usize,
     place: usize,

@@ -9,7 +9,7 @@ ghost use Rattle.fints_messages.specs.Parts.{part_of};
 use fints_syntax::{Item, Kind, SegmentView, is_frame_kind};
 
 /// A segment between the first and the last of a message.
-#[derive(Clone, Copy, Debug, PartialEq, Eq)]
+#[derive(Clone, Copy, PartialEq, Eq)]
 pub enum Part {
     /// HNSHK.
     Opener,

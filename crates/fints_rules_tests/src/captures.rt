@@ -20,12 +20,9 @@ fn order_rows(rt: HostRuntime) -> Result<(), Fail> {
     let [_, _, statement, _, _] = params.orders() else {
         return Err(Fail::from("five orders"));
     };
-    assert_eq!(rt; statement.kind.as_bytes(), b"HKKAZ".as_slice());
-    assert_eq!(rt;
-        (statement.version, statement.orders, statement.signatures),
-        (5, 20, 1)
-    );
-    assert_eq!(rt; params.skipped(), 0);
+    assert!(rt; statement.kind.as_bytes() == b"HKKAZ".as_slice());
+    assert!(rt; (statement.version, statement.orders, statement.signatures) == (5, 20, 1));
+    assert!(rt; params.skipped() == 0);
     Ok(())
 }
 
@@ -34,7 +31,7 @@ fn codes(rt: HostRuntime) -> Result<(), Fail> {
     let feedback = b"HIRMG:2:2+0010::Received'HIRMS:3:2:4+0030::TAN++3060::Note'";
     let found = feedback_codes(rt.alloc(), feedback)?;
     let numbers: Vec<u16> = found.iter().map(|code| code.number()).collect(rt.alloc())?;
-    assert_eq!(rt; numbers.as_slice(), [10, 30, 3060].as_slice());
+    assert!(rt; numbers.as_slice() == [10, 30, 3060].as_slice());
     Ok(())
 }
 
@@ -51,6 +48,6 @@ fn code_faults(rt: HostRuntime) {
     ];
     for (message, fault) in rows {
         let found = feedback_codes(rt.alloc(), message).err();
-        assert_eq!(rt; found, Some(fault), "{message:?}");
+        assert!(rt; found == Some(fault), "{message:?}");
     }
 }

@@ -63,7 +63,7 @@ fn limits(rt: HostRuntime) -> Result<(), Fail> {
     ];
     for (capture, more, order, version, wanted) in rows {
         let found = limits_of(rt.alloc(), capture, more, order, version)?;
-        assert_eq!(rt; found, wanted);
+        assert!(rt; found == wanted);
     }
     Ok(())
 }
@@ -87,7 +87,7 @@ fn demands(rt: HostRuntime) -> Result<(), Fail> {
     ];
     for (order, wanted) in rows {
         let found = demand_of(rt.alloc(), order)?;
-        assert_eq!(rt; found, wanted, "{order:?}");
+        assert!(rt; found == wanted, "{order:?}");
     }
     Ok(())
 }
@@ -149,7 +149,7 @@ fn permits(rt: HostRuntime) -> Result<(), Fail> {
     ];
     for (capture, more, order, signatures, wanted) in rows {
         let found = permit(rt.alloc(), capture, more, order, signatures)?;
-        assert_eq!(rt; found, wanted);
+        assert!(rt; found == wanted);
     }
     Ok(())
 }
@@ -172,19 +172,19 @@ fn at_two(rule: Rule) -> Broken {
 
 #[test]
 fn judged(rt: HostRuntime) -> Result<(), Fail> {
-    assert_eq!(rt; judged_by(rt.alloc(), END_MESSAGE)??.len(), 0);
+    assert!(rt; judged_by(rt.alloc(), END_MESSAGE)??.len() == 0);
     let broken = judged_by(rt.alloc(), UNSIGNED)??;
     let wanted = [at_two(Rule::Version), at_two(Rule::Account)];
-    assert_eq!(rt; broken.as_slice(), wanted.as_slice());
+    assert!(rt; broken.as_slice() == wanted.as_slice());
     let none = JudgeFault::NotAMessage { offset: 0 };
-    assert_eq!(rt; judged_by(rt.alloc(), b"x")?.err(), Some(none));
+    assert!(rt; judged_by(rt.alloc(), b"x")?.err() == Some(none));
     Ok(())
 }
 
 #[test]
 fn messages(rt: HostRuntime) -> Result<(), Fail> {
     let message = read_message(rt.alloc(), END_MESSAGE)?;
-    assert_eq!(rt; (message.size(), message.number()), (55, 1));
-    assert_eq!(rt; (message.body().len(), message.ends().len()), (1, 0));
+    assert!(rt; (message.size(), message.number()) == (55, 1));
+    assert!(rt; (message.body().len(), message.ends().len()) == (1, 0));
     Ok(())
 }

@@ -11,7 +11,7 @@ use fints_templates::{Template, TemplateItem};
 use thiserror::Error;
 
 /// What a segment leaves open.
-#[derive(Clone, Copy, Debug, PartialEq, Eq)]
+#[derive(Clone, Copy, PartialEq, Eq)]
 pub enum Open {
     Account,
     Process,

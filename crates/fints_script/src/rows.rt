@@ -32,7 +32,7 @@ pub fn read_signers(
 }
 
 /// The steps of the rows.
-pub fn read_steps(alloc: Global, around: &Around<'_>) -> Result<Vec<Step>, ScriptFault>
+pub fn read_steps(alloc: Global, around: &Around<'_, '_>) -> Result<Vec<Step>, ScriptFault>
     requires { length around.now.rows.now ≤ MAX_STEPS }
     ensures { Finds (λ v. v.items) result (steps_from (surroundings_of around.now)) }
 {

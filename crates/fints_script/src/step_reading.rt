@@ -136,7 +136,7 @@ fn signatures_at(alloc: Global, signers: &[Signer], table: &Table) -> Result<Vec
     }
 }
 
-fn sent_in(alloc: Global, around: &Around<'_>, table: &Table) -> Result<Sent, FaultKind>
+fn sent_in(alloc: Global, around: &Around<'_, '_>, table: &Table) -> Result<Sent, FaultKind>
     ensures { Gives seen_sent result (sent_in (surroundings_of around.now) (table_view table.now)) }
 {
     let segments = segments_at(alloc, around.fields, table);
@@ -219,7 +219,7 @@ fn only_step_keys(table: &Table) -> bool
 
 fn parts_in(
     alloc: Global,
-    around: &Around<'_>,
+    around: &Around<'_, '_>,
     row: usize,
     table: &Table,
 ) -> Result<(Sent, Course), FaultKind>
@@ -235,7 +235,7 @@ fn parts_in(
 #[tactic(auto, unfolding(crate::specs::Steps::table_step))]
 fn table_step(
     alloc: Global,
-    around: &Around<'_>,
+    around: &Around<'_, '_>,
     row: usize,
     table: &Table,
 ) -> Result<Step, FaultKind>
@@ -253,7 +253,7 @@ fn table_step(
 /// The step in this row, counted from 0, or its first fault in the order of the kinds.
 pub fn step_in(
     alloc: Global,
-    around: &Around<'_>,
+    around: &Around<'_, '_>,
     row: usize,
     entry: &Value,
 ) -> Result<Step, FaultKind>

@@ -139,7 +139,7 @@ fn spend_templates(allowance: u64, figures: &[Figures], templates: &[Template]) 
     Some(left)
 }
 
-fn spend_signature(left: u64, around: &Around<'_>, place: usize) -> Option<u64>
+fn spend_signature(left: u64, around: &Around<'_, '_>, place: usize) -> Option<u64>
     ensures { Spends left (signature_weight around.now.figures.now around.now.signers.now place) result }
 {
     match around.signers.get(place) {
@@ -148,7 +148,7 @@ fn spend_signature(left: u64, around: &Around<'_>, place: usize) -> Option<u64>
     }
 }
 
-fn spend_signatures(allowance: u64, around: &Around<'_>, places: &[usize]) -> Option<u64>
+fn spend_signatures(allowance: u64, around: &Around<'_, '_>, places: &[usize]) -> Option<u64>
     ensures { Spends allowance (total (signature_weight around.now.figures.now around.now.signers.now) places.now) result }
 {
     let mut left = allowance;
@@ -172,7 +172,7 @@ fn spend_seal(
     }
 }
 
-fn spend_step(left: u64, around: &Around<'_>, step: &Step) -> Option<u64>
+fn spend_step(left: u64, around: &Around<'_, '_>, step: &Step) -> Option<u64>
     ensures { Spends left (step_weight (surroundings_of around.now) step.now) result }
 {
     let left = spend_templates(left, around.figures, step.templates())?;
@@ -188,7 +188,7 @@ fn has_large_segment(figures: &[Figures], templates: &[Template]) -> bool
         .any(|template| has_too_many_items(figures, &template.elements))
 }
 
-fn is_too_large(around: &Around<'_>, step: &Step) -> bool
+fn is_too_large(around: &Around<'_, '_>, step: &Step) -> bool
     ensures { result ≡ is_too_large (surroundings_of around.now) step.now }
 {
     has_large_segment(around.figures, step.templates())
@@ -212,7 +212,7 @@ pub fn whole_step(name: Name, parts: (Sent, Course)) -> Step
 }
 
 /// The step, unless it is too large for the script that it stands in.
-pub fn sized_step(around: &Around<'_>, step: Step) -> Result<Step, FaultKind>
+pub fn sized_step(around: &Around<'_, '_>, step: Step) -> Result<Step, FaultKind>
     ensures { result ≡ sized_step (surroundings_of around.now) step }
 {
     if is_too_large(around, &step) {

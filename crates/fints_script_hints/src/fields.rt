@@ -17,7 +17,7 @@ use toml::{Table, Value};
 const CLASSES: [&str; 6] = ["digits", "plain", "text", "bin", "oneof", "account"];
 
 /// What is known of the class that a row names.
-#[derive(Clone, Copy, Debug, PartialEq, Eq)]
+#[derive(Clone, Copy, PartialEq, Eq)]
 enum Class {
     /// With `min` and `max`.
     Bounded,

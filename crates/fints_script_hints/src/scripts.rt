@@ -75,7 +75,7 @@ fn top_hint(alloc: Global, kind: FaultKind, table: &Table) -> Told {
     told_at(alloc, "top", found)
 }
 
-fn place_hint(alloc: Global, fault: &ScriptFault, around: &Around<'_>) -> Told {
+fn place_hint(alloc: Global, fault: &ScriptFault, around: &Around<'_, '_>) -> Told {
     match fault.place {
         Place::Top => Ok(None),
         Place::Field(row) => field_hint(alloc, fault.kind, around.fields, row),
@@ -85,12 +85,12 @@ fn place_hint(alloc: Global, fault: &ScriptFault, around: &Around<'_>) -> Told {
     }
 }
 
-fn around_hint(
+fn around_hint<'r>(
     alloc: Global,
     fault: &ScriptFault,
     table: &Table,
-    fields: &NamedRows<'_>,
-    steps: &NamedRows<'_>,
+    fields: &NamedRows<'r>,
+    steps: &NamedRows<'r>,
 ) -> Told {
     let around = Around {
         fields,

@@ -19,14 +19,14 @@ use toml::{Table, Value};
 
 /// What a script has besides the step that is looked at.
 #[derive(Clone, Copy)]
-pub struct Around<'a> {
-    pub fields: &'a NamedRows<'a>,
+pub struct Around<'a, 'r> {
+    pub fields: &'a NamedRows<'r>,
     pub signers: &'a [Value],
     pub seal: Option<&'a Value>,
-    pub steps: &'a NamedRows<'a>,
+    pub steps: &'a NamedRows<'r>,
 }
 
-fn missing(alloc: Global, around: &Around<'_>, table: &Table) -> Told {
+fn missing(alloc: Global, around: &Around<'_, '_>, table: &Table) -> Told {
     if has_key(table, "name") && has_key(table, "segments") {
         if is_set(member(table, "sealed")) && around.seal.is_none() {
             return Ok(Some(String::from_str(
@@ -137,7 +137,7 @@ fn past(alloc: Global, table: &Table) -> Told {
 fn own_slip(
     alloc: Global,
     kind: FaultKind,
-    around: &Around<'_>,
+    around: &Around<'_, '_>,
     row: usize,
     table: &Table,
 ) -> Told {
@@ -228,7 +228,7 @@ fn ways_slip(
 fn parts_slip(
     alloc: Global,
     kind: FaultKind,
-    around: &Around<'_>,
+    around: &Around<'_, '_>,
     row: usize,
     table: &Table,
 ) -> Told {
@@ -245,7 +245,7 @@ fn parts_slip(
     ways_slip(alloc, kind, around.steps, row, table)
 }
 
-fn size_of(alloc: Global, around: &Around<'_>, table: &Table) -> Told {
+fn size_of(alloc: Global, around: &Around<'_, '_>, table: &Table) -> Told {
     let seal = if is_set(member(table, "sealed")) {
         around.seal
     } else {
@@ -264,7 +264,7 @@ fn size_of(alloc: Global, around: &Around<'_>, table: &Table) -> Told {
 fn table_slip(
     alloc: Global,
     kind: FaultKind,
-    around: &Around<'_>,
+    around: &Around<'_, '_>,
     row: usize,
     table: &Table,
 ) -> Told {
@@ -280,7 +280,7 @@ fn table_slip(
 }
 
 /// What the fault of this kind in a row of `step` is about.
-pub fn step_hint(alloc: Global, kind: FaultKind, around: &Around<'_>, number: u16) -> Told {
+pub fn step_hint(alloc: Global, kind: FaultKind, around: &Around<'_, '_>, number: u16) -> Told {
     let Some(row) = row_at(around.steps.as_slice(), number) else {
         return Ok(None);
     };

@@ -12,7 +12,7 @@ use toml::{Table, Value};
 const MOST_ITEMS: u64 = 10_000;
 
 /// How long the longest value of a field is written, and how many items it has at most.
-#[derive(Clone, Copy, Debug)]
+#[derive(Clone, Copy)]
 pub struct Figures {
     written: u64,
     items: u64,
@@ -121,12 +121,12 @@ fn all_figures(alloc: Global, rows: &[Value]) -> Result<Vec<Figures>, Memory> {
 
 /// The fields by their names, with their figures.
 #[derive(Clone, Copy)]
-struct Measured<'a> {
-    fields: &'a NamedRows<'a>,
+struct Measured<'a, 'r> {
+    fields: &'a NamedRows<'r>,
     figures: &'a [Figures],
 }
 
-fn figures_of(measured: &Measured<'_>, name: &str) -> Figures {
+fn figures_of(measured: &Measured<'_, '_>, name: &str) -> Figures {
     let dialog = Figures {
         written: 60,
         items: 1,
@@ -138,7 +138,7 @@ fn figures_of(measured: &Measured<'_>, name: &str) -> Figures {
 }
 
 // How much an item weighs, and for how many it counts.
-fn text_figures(measured: &Measured<'_>, text: &str) -> Figures {
+fn text_figures(measured: &Measured<'_, '_>, text: &str) -> Figures {
     if let Some(name) = text.strip_prefix('$') {
         let own = figures_of(measured, name);
         return Figures {
@@ -163,7 +163,7 @@ fn add(total: Figures, own: Figures) -> Figures {
     }
 }
 
-fn items_figures(measured: &Measured<'_>, values: &[Value]) -> Figures {
+fn items_figures(measured: &Measured<'_, '_>, values: &[Value]) -> Figures {
     let mut total = Figures {
         written: 0,
         items: 0,
@@ -174,7 +174,7 @@ fn items_figures(measured: &Measured<'_>, values: &[Value]) -> Figures {
     total
 }
 
-fn element_figures(measured: &Measured<'_>, value: &Value) -> Figures {
+fn element_figures(measured: &Measured<'_, '_>, value: &Value) -> Figures {
     match value {
         Value::Array(values) => items_figures(measured, values.as_slice()),
         _ => text_figures(measured, value.as_str().unwrap_or("")),
@@ -182,7 +182,7 @@ fn element_figures(measured: &Measured<'_>, value: &Value) -> Figures {
 }
 
 // How much a segment weighs, and how many items its elements have.
-fn segment_figures(measured: &Measured<'_>, elements: &[Value]) -> Figures {
+fn segment_figures(measured: &Measured<'_, '_>, elements: &[Value]) -> Figures {
     let mut total = Figures {
         written: 15,
         items: 0,
@@ -208,7 +208,7 @@ fn many_text(alloc: Global, number: usize, row: &Value, count: u64) -> Told {
 }
 
 // The first segment with too many items.
-fn many_items(alloc: Global, measured: &Measured<'_>, rows: &[Value]) -> Told {
+fn many_items(alloc: Global, measured: &Measured<'_, '_>, rows: &[Value]) -> Told {
     for (i, row) in rows.iter().enumerate() {
         let count = segment_figures(measured, elements_of(row, "elements")).items;
         if count > MOST_ITEMS {
@@ -219,14 +219,14 @@ fn many_items(alloc: Global, measured: &Measured<'_>, rows: &[Value]) -> Told {
 }
 
 /// A place among segments, and what stands there weighs.
-#[derive(Clone, Copy, Debug)]
+#[derive(Clone, Copy)]
 struct Weight {
     place: usize,
     weight: u64,
 }
 
 // The heaviest segment, and what all weigh.
-fn heaviest(measured: &Measured<'_>, rows: &[Value]) -> (Weight, u64) {
+fn heaviest(measured: &Measured<'_, '_>, rows: &[Value]) -> (Weight, u64) {
     let mut most = Weight {
         place: 0,
         weight: 0,
@@ -245,7 +245,7 @@ fn heaviest(measured: &Measured<'_>, rows: &[Value]) -> (Weight, u64) {
     (most, total)
 }
 
-fn signer_weight(measured: &Measured<'_>, signers: &[Value], name: &str) -> u64 {
+fn signer_weight(measured: &Measured<'_, '_>, signers: &[Value], name: &str) -> u64 {
     match signers
         .iter()
         .find(|row| text_in(row, "name") == Some(name))
@@ -259,7 +259,7 @@ fn signer_weight(measured: &Measured<'_>, signers: &[Value], name: &str) -> u64 
     }
 }
 
-fn signers_weight(measured: &Measured<'_>, signers: &[Value], names: &[Value]) -> u64 {
+fn signers_weight(measured: &Measured<'_, '_>, signers: &[Value], names: &[Value]) -> u64 {
     let mut total: u64 = 0;
     for name in names {
         total = total.saturating_add(signer_weight(measured, signers, name.as_str().unwrap_or("")));
@@ -269,8 +269,8 @@ fn signers_weight(measured: &Measured<'_>, signers: &[Value], names: &[Value]) -
 
 /// What a step with these segments stands among.
 #[derive(Clone, Copy)]
-pub struct Parts<'a> {
-    pub fields: &'a NamedRows<'a>,
+pub struct Parts<'a, 'r> {
+    pub fields: &'a NamedRows<'r>,
     pub signers: &'a [Value],
     /// The elements of the seal, where the step is sealed.
     pub seal: Option<&'a Value>,
@@ -279,14 +279,14 @@ pub struct Parts<'a> {
     pub segments: &'a [Value],
 }
 
-fn seal_weight(measured: &Measured<'_>, seal: Option<&Value>) -> u64 {
+fn seal_weight(measured: &Measured<'_, '_>, seal: Option<&Value>) -> u64 {
     match seal {
         Some(value) => segment_figures(measured, rows_of(Some(value))).written,
         None => 0,
     }
 }
 
-fn weight_text(alloc: Global, measured: &Measured<'_>, parts: &Parts<'_>) -> Told {
+fn weight_text(alloc: Global, measured: &Measured<'_, '_>, parts: &Parts<'_, '_>) -> Told {
     let (most, own) = heaviest(measured, parts.segments);
     let total = own
         .saturating_add(signers_weight(measured, parts.signers, parts.names))
@@ -298,7 +298,7 @@ fn weight_text(alloc: Global, measured: &Measured<'_>, parts: &Parts<'_>) -> Tol
 }
 
 /// What makes a step too large, where nothing else is wrong with it.
-pub fn size_slip(alloc: Global, parts: &Parts<'_>) -> Told {
+pub fn size_slip(alloc: Global, parts: &Parts<'_, '_>) -> Told {
     let figures = all_figures(alloc, parts.fields.as_slice())?;
     let measured = Measured {
         fields: parts.fields,

@@ -6,7 +6,7 @@ use fints_syntax::{ElementRef, Item, Memory, OwnedSegment, Placed, parse_number,
 use std::alloc::Global;
 
 /// A segment of a capture, with its offset; whether it stands in the data of an HNVSD.
-#[derive(Debug, Drop)]
+#[derive(Drop)]
 pub struct Spot {
     pub offset: usize,
     pub inner: bool,

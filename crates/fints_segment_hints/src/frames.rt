@@ -6,7 +6,7 @@ use fints_syntax::{Kind, Memory, OwnedSegment, SegmentView, parse_number, parse_
 use std::alloc::Global;
 
 /// What a segment is within a message.
-#[derive(Clone, Copy, Debug, PartialEq, Eq)]
+#[derive(Clone, Copy, PartialEq, Eq)]
 pub enum Part {
     Opener,
     Body,
@@ -44,7 +44,7 @@ pub fn part_of(view: &SegmentView<'_>) -> Part {
 }
 
 /// How many segments of each part stand before a place, and where that is.
-#[derive(Clone, Copy, Debug)]
+#[derive(Clone, Copy)]
 pub struct Walk {
     pub at: usize,
     pub openers: usize,

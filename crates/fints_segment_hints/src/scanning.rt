@@ -5,7 +5,7 @@ use fints_syntax::parse_number;
 const MOST: usize = 20_000;
 
 /// Why bytes cease to be a segment.
-#[derive(Clone, Copy, Debug, PartialEq, Eq)]
+#[derive(Clone, Copy, PartialEq, Eq)]
 pub enum Why {
     /// They end within an item.
     Cut,
@@ -22,7 +22,7 @@ pub enum Why {
 }
 
 /// The element and the item, from 1 on, in which bytes cease to be a segment.
-#[derive(Clone, Copy, Debug)]
+#[derive(Clone, Copy)]
 pub struct Stop {
     pub element: usize,
     pub item: usize,
@@ -30,7 +30,7 @@ pub struct Stop {
 }
 
 /// What stands at the front of bytes.
-#[derive(Clone, Copy, Debug)]
+#[derive(Clone, Copy)]
 enum Scanned {
     /// An item of so many bytes, and the separator behind it.
     Item { len: usize, after: u8 },

@@ -11,7 +11,7 @@ use std::fmt::{Display, Formatter, Write};
 const MOST: usize = 1_048_576;
 
 /// Bytes of an input: where they begin in it, and in what they stand.
-#[derive(Clone, Copy, Debug)]
+#[derive(Clone, Copy)]
 pub struct Region<'a> {
     pub input: &'a [u8],
     pub bytes: &'a [u8],
@@ -77,7 +77,7 @@ fn first_word(bytes: &[u8]) -> (&[u8], &[u8]) {
 }
 
 /// A segment by what its bytes begin with.
-#[derive(Clone, Copy, Debug)]
+#[derive(Clone, Copy)]
 struct Begin<'a>(&'a [u8]);
 
 impl Display for Begin<'_> {
@@ -108,7 +108,7 @@ fn write_kind<W: Write>(f: &mut Formatter<W>, id: &[u8]) -> fmt::Result {
 }
 
 /// The number and the identifier of a segment.
-#[derive(Clone, Copy, Debug)]
+#[derive(Clone, Copy)]
 pub struct Numbered {
     pub number: u16,
     pub id: Kind,

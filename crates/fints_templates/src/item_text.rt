@@ -3,7 +3,7 @@ ghost use Rattle.std.specs.Prelude.{◌≡◌};
 ghost use Rattle.fints_templates.specs.ItemTexts.{reading_of, read_as};
 
 /// The string of an item: the name of a field behind `$`, hex digits behind `%`, or a text.
-#[derive(Clone, Copy, Debug)]
+#[derive(Clone, Copy)]
 pub enum ItemText<'a> {
     Reference(&'a str),
     Hex(&'a str),

@@ -42,9 +42,9 @@ fn assert_shown(rt: &impl Abort, alloc: Global, capture: &[u8], quirk: Quirk, is
     } else {
         (5, b"".as_slice(), b"error: read --params\n".as_slice())
     };
-    assert_eq!(rt; status, want, "{quirk:?}");
-    assert_eq!(rt; out.bytes(), output, "{quirk:?}");
-    assert_eq!(rt; err.bytes(), errors, "{quirk:?}");
+    assert!(rt; status == want, "{quirk:?}");
+    assert!(rt; out.bytes() == output, "{quirk:?}");
+    assert!(rt; err.bytes() == errors, "{quirk:?}");
 }
 
 #[test]
@@ -52,7 +52,7 @@ fn whole_output(rt: HostRuntime) {
     for piece in [1, 5, 31, 32] {
         let mut out = Tape::new(REPORT.len(), piece);
         assert!(rt; emit(REPORT, &mut out).is_ok(), "{piece}");
-        assert_eq!(rt; out.bytes(), REPORT, "{piece}");
+        assert!(rt; out.bytes() == REPORT, "{piece}");
     }
     let mut full = Tape::new(0, 1);
     assert!(rt; emit(b"", &mut full).is_ok());
@@ -95,7 +95,7 @@ fn limits(rt: HostRuntime) {
         match load(rt.alloc(), &mut shelf, "f", limit) {
             Ok(read) => {
                 assert!(rt; is_read, "{limit}");
-                assert_eq!(rt; read.as_slice(), bytes.as_slice(), "{limit}");
+                assert!(rt; read.as_slice() == bytes.as_slice(), "{limit}");
             }
             Err(fault) => assert!(rt; !is_read && fault == LoadFault::TooLong, "{limit}"),
         }
@@ -110,8 +110,8 @@ fn most_calls(rt: HostRuntime) -> Result<(), Fail> {
         let files = [("f", bytes.as_slice())];
         let mut shelf = Shelf::new(&files, Quirk::Pieces(1));
         let read = load(rt.alloc(), &mut shelf, "f", 6_000_000);
-        assert_eq!(rt; read.is_ok(), is_read);
-        assert_eq!(rt; shelf.calls(), 5_000_000);
+        assert!(rt; read.is_ok() == is_read);
+        assert!(rt; shelf.calls() == 5_000_000);
         bytes.push(b'\n')?;
     }
     Ok(())
@@ -145,8 +145,8 @@ fn replies(rt: HostRuntime) {
         let mut shelf = Shelf::new(&files, Quirk::None);
         match perform(rt.alloc(), &request, &mut shelf, false) {
             Ok(reply) => {
-                assert_eq!(rt; reply.status, 0);
-                assert_eq!(rt; reply.text.as_slice(), text);
+                assert!(rt; reply.status == 0);
+                assert!(rt; reply.text.as_slice() == text);
             }
             Err(refusal) => assert!(rt; false, "{}", refusal.failure),
         }
@@ -160,7 +160,7 @@ fn replies(rt: HostRuntime) {
     ) {
         Ok(_) => assert!(rt; false, "no file"),
         Err(refusal) => {
-            assert_eq!(rt; refusal.failure.status(), 5);
+            assert!(rt; refusal.failure.status() == 5);
             assert!(rt; refusal.failure == Failure::Unread("params"));
         }
     }

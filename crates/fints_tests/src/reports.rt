@@ -20,7 +20,7 @@ fn reports(rt: HostRuntime) -> Result<(), Fail> {
     ];
     for (script, wanted) in rows {
         let text = check_text(rt.alloc(), built_in::CAPTURE, built_in::ORDERS, script)?;
-        assert_eq!(rt; text.as_slice(), wanted.as_bytes());
+        assert!(rt; text.as_slice() == wanted.as_bytes());
     }
     Ok(())
 }
@@ -29,9 +29,6 @@ fn reports(rt: HostRuntime) -> Result<(), Fail> {
 fn report_by_parameters(rt: HostRuntime) -> Result<(), Fail> {
     let params = Params::read(rt.alloc(), built_in::CAPTURE)?;
     let text = report_text(rt.alloc(), &params, built_in::ORDERS, built_in::SCRIPT)?;
-    assert_eq!(rt;
-        text.as_slice(),
-        "step end number 1 size 55\nclean\n".as_bytes()
-    );
+    assert!(rt; text.as_slice() == "step end number 1 size 55\nclean\n".as_bytes());
     Ok(())
 }

@@ -12,9 +12,9 @@ const SENT: &[u8] =
 #[test]
 fn shown(rt: HostRuntime) -> Result<(), Fail> {
     let text = show(rt.alloc(), built_in::CAPTURE)?;
-    assert_eq!(rt;
-        text.as_slice(),
-        b"bank 280 10020030 kinds 1 kilobytes 0 protocols 300\npin HKSAL N\npin HKKAZ N\npin HKCCS J\nusage 0\nskipped 0\n".as_slice()
+    assert!(rt;
+        text.as_slice()
+            == b"bank 280 10020030 kinds 1 kilobytes 0 protocols 300\npin HKSAL N\npin HKKAZ N\npin HKCCS J\nusage 0\nskipped 0\n".as_slice()
     );
     Ok(())
 }
@@ -22,15 +22,15 @@ fn shown(rt: HostRuntime) -> Result<(), Fail> {
 #[test]
 fn judged(rt: HostRuntime) -> Result<(), Fail> {
     let reply = judge_message(rt.alloc(), built_in::CAPTURE, built_in::ORDERS, MESSAGE)?;
-    assert_eq!(rt; reply.status, 0);
-    assert_eq!(rt; reply.text.as_slice(), b"permitted\n".as_slice());
+    assert!(rt; reply.status == 0);
+    assert!(rt; reply.text.as_slice() == b"permitted\n".as_slice());
     Ok(())
 }
 
 #[test]
 fn sent(rt: HostRuntime) -> Result<(), Fail> {
     let text = run_case(rt.alloc(), built_in::ORDERS, built_in::SCRIPT, CASE, None)?;
-    assert_eq!(rt; text.as_slice(), SENT);
+    assert!(rt; text.as_slice() == SENT);
     Ok(())
 }
 
@@ -38,7 +38,7 @@ fn sent(rt: HostRuntime) -> Result<(), Fail> {
 fn one_message(rt: HostRuntime) -> Result<(), Fail> {
     let alloc = rt.alloc();
     let bytes = run_case(alloc, built_in::ORDERS, built_in::SCRIPT, CASE, Some(1))?;
-    assert_eq!(rt; bytes.as_slice(), MESSAGE);
+    assert!(rt; bytes.as_slice() == MESSAGE);
     for number in [0, 2, u32::MAX] {
         let run = run_case(
             alloc,
@@ -48,7 +48,7 @@ fn one_message(rt: HostRuntime) -> Result<(), Fail> {
             Some(number),
         )
         .err();
-        assert_eq!(rt; run, Some(Fault::NoMessage { number }));
+        assert!(rt; run == Some(Fault::NoMessage { number }));
     }
     Ok(())
 }

@@ -14,10 +14,10 @@ const ANSWER: &[u8] = b"fints-case 1\nfield dialog 44\nanswer 0020\n";
 fn values_of_cases(rt: HostRuntime) -> Result<(), Fail> {
     let (acct, tan) = (name(b"acct")?, name(b"tan")?);
     let case = Case::read(rt.alloc(), VALUES)?;
-    assert_eq!(rt; (case.values.pairs().len(), case.answers.len()), (4, 0));
-    assert_eq!(rt;
-        (case.values.get(acct), case.values.get(tan)),
-        (Some(b"DE222".as_slice()), Some(b"".as_slice()))
+    assert!(rt; (case.values.pairs().len(), case.answers.len()) == (4, 0));
+    assert!(rt;
+        (case.values.get(acct), case.values.get(tan))
+            == (Some(b"DE222".as_slice()), Some(b"".as_slice()))
     );
     Ok(())
 }
@@ -29,7 +29,7 @@ fn answers_of_cases(rt: HostRuntime) -> Result<(), Fail> {
     let [answer] = case.answers.as_slice() else {
         return Err(Fail::from("one answer"));
     };
-    assert_eq!(rt; answer.codes(), codes.as_slice());
+    assert!(rt; answer.codes() == codes.as_slice());
     assert!(rt; Answer::new(Vec::new(rt.alloc())).is_none());
     Ok(())
 }
@@ -39,7 +39,7 @@ fn written(rt: HostRuntime) -> Result<(), Fail> {
     for text in [VALUES, ANSWER] {
         let case = Case::read(rt.alloc(), text)?;
         let again = case.write(rt.alloc())?;
-        assert_eq!(rt; again.as_slice(), text);
+        assert!(rt; again.as_slice() == text);
     }
     Ok(())
 }
@@ -48,7 +48,7 @@ fn written(rt: HostRuntime) -> Result<(), Fail> {
 fn one_code(rt: HostRuntime) -> Result<(), Fail> {
     let code = Code::from_number(30).ok_or("code")?;
     let answer = Answer::single(rt.alloc(), code)?;
-    assert_eq!(rt; answer.codes(), [code].as_slice());
+    assert!(rt; answer.codes() == [code].as_slice());
     Ok(())
 }
 
@@ -72,7 +72,7 @@ fn longest_case(rt: HostRuntime) -> Result<(), Fail> {
     for (bytes, len, fault) in rows {
         let text = long_text(rt.alloc(), bytes)?;
         let found = Case::read(rt.alloc(), text.as_slice()).err();
-        assert_eq!(rt; (text.len(), found), (len, fault));
+        assert!(rt; (text.len(), found) == (len, fault));
     }
     Ok(())
 }

@@ -16,10 +16,7 @@ fn assert_longest<C: FieldClass>(
     written: u64,
 ) -> Result<(), Fail> {
     let longest = class.longest(alloc)?;
-    assert_eq!(rt;
-        (longest.as_slice(), class.longest_written()),
-        (value, written)
-    );
+    assert!(rt; (longest.as_slice(), class.longest_written()) == (value, written));
     assert!(rt; class.admits(longest.as_slice()));
     Ok(())
 }
@@ -33,10 +30,7 @@ fn assert_shortest<C: FieldClass>(
     written: u64,
 ) -> Result<(), Fail> {
     let shortest = class.shortest(alloc)?;
-    assert_eq!(rt;
-        (shortest.as_slice(), class.written(shortest.as_slice())),
-        (value, written)
-    );
+    assert!(rt; (shortest.as_slice(), class.written(shortest.as_slice())) == (value, written));
     assert!(rt; class.admits(shortest.as_slice()));
     Ok(())
 }
@@ -55,7 +49,7 @@ fn assert_ends<C: FieldClass>(
 #[test]
 fn ends_of_texts(rt: HostRuntime) -> Result<(), Fail> {
     let text = Text::new(Alphabet::Latin, 0, 3).ok_or("text")?;
-    assert_eq!(rt; text.written(b"a+'"), 5);
+    assert!(rt; text.written(b"a+'") == 5);
     assert_ends(&rt, rt.alloc(), &text, (b"???", 6), (b"", 0))?;
     let plain = Text::new(Alphabet::Plain, 1, 2).ok_or("plain")?;
     assert_ends(&rt, rt.alloc(), &plain, (b"ZZ", 2), (b"A", 1))
@@ -121,7 +115,7 @@ const NATIONAL: &[&[u8]] = &[b"1234567", b"", b"280", b"10020030"];
 #[test]
 fn listed_accounts(rt: HostRuntime) -> Result<(), Fail> {
     let field = Field::Account(account(rt.alloc(), &[IBAN, NATIONAL])?.ok_or("account")?);
-    assert_eq!(rt; field.most_items(), 4);
+    assert!(rt; field.most_items() == 4);
     assert_ends(
         &rt,
         rt.alloc(),

@@ -53,7 +53,7 @@ fn built(rt: HostRuntime) -> Result<(), Fail> {
     ];
     for (text, number, pairs, wanted) in rows {
         let bytes = message_of(rt.alloc(), text, number, pairs)?;
-        assert_eq!(rt; bytes.as_slice(), wanted);
+        assert!(rt; bytes.as_slice() == wanted);
     }
     Ok(())
 }
@@ -82,13 +82,10 @@ fn sent(rt: HostRuntime) -> Result<(), Fail> {
     let [one, done] = sent.as_slice() else {
         return Err(Fail::from("two messages"));
     };
-    assert_eq!(rt;
-        (one.step, one.number, done.step, done.number),
-        (1, 1, 3, 2)
-    );
-    assert_eq!(rt;
-        done.bytes.as_slice(),
-        b"HNHBK:1:3+000000000055+300+D+2'HKEND:2:1+D'HNHBS:3:1+2'".as_slice()
+    assert!(rt; (one.step, one.number, done.step, done.number) == (1, 1, 3, 2));
+    assert!(rt;
+        done.bytes.as_slice()
+            == b"HNHBK:1:3+000000000055+300+D+2'HKEND:2:1+D'HNHBS:3:1+2'".as_slice()
     );
     Ok(())
 }

@@ -47,7 +47,7 @@ fn known_sizes(rt: HostRuntime) -> Result<(), Fail> {
         (FORK, 3, 10_000, 181),
     ];
     for (text, step, number, size) in rows {
-        assert_eq!(rt; size_of(rt.alloc(), text, step, number)?, size);
+        assert!(rt; size_of(rt.alloc(), text, step, number)? == size);
     }
     Ok(())
 }
@@ -85,7 +85,7 @@ fn worst_of(alloc: Global, script: &[u8]) -> Result<Vec<u8>, Fail> {
 fn worst_choice(rt: HostRuntime) -> Result<(), Fail> {
     let wanted = longest(rt.alloc())?;
     let found = worst_of(rt.alloc(), ESCAPED_PAD)?;
-    assert_eq!(rt; found.as_slice(), wanted.as_slice());
+    assert!(rt; found.as_slice() == wanted.as_slice());
     Ok(())
 }
 
@@ -100,6 +100,6 @@ fn least_of(alloc: Global, script: &[u8]) -> Result<Vec<u8>, Fail> {
 fn least_choice(rt: HostRuntime) -> Result<(), Fail> {
     let found = least_of(rt.alloc(), BALANCE)?;
     let wanted = b"dialog=A pin=00000 tan= ".as_slice();
-    assert_eq!(rt; found.as_slice(), wanted);
+    assert!(rt; found.as_slice() == wanted);
     Ok(())
 }
