@@ -1,37 +1,9 @@
 //! Certificates of reports, and those that are read.
-ghost use Rattle.std.specs.Prelude.{◌≡◌};
-
-use crate::inputs::read_inputs;
-use fints_certs::{CertFault, Certificate, certificate_of, verify};
-use fints_check::check;
-use fints_rules::Permissions;
-use fints_samples::{C, C1, END, FORK, SECOND_ACCOUNT, T};
-use fints_script::Plan;
+use crate::asking::{Ask, answer};
+use fints_certs::{CertFault, Certificate};
+use fints_samples::{C, C1, END, FORK, SECOND_ACCOUNT};
 use std::alloc::Global;
 use std::test::*;
-
-// The certificate of the plan's report, or `none`.
-fn made(alloc: Global, permissions: &Permissions<'_>, plan: &Plan<'_>) -> Result<Vec<u8>, Fail>
-    requires { permissions.now.orders ≡ plan.now.orders }
-{
-    let report = check(alloc, permissions, plan)?;
-    match certificate_of(alloc, &report)? {
-        None => Ok(Vec::from_slice(alloc, b"none")?),
-        Some(certificate) => {
-            if !verify(permissions, plan, &certificate) {
-                return Err(Fail::from("not closed"));
-            }
-            Ok(certificate.write(alloc)?)
-        }
-    }
-}
-
-fn made_of(alloc: Global, capture: &[u8], script: &[u8]) -> Result<Vec<u8>, Fail> {
-    let inputs = read_inputs(alloc, capture, T, script)?;
-    let permissions = Permissions::build(alloc, &inputs.params, &inputs.orders)?;
-    let plan = inputs.script.plan(&inputs.orders)?;
-    made(alloc, &permissions, &plan)
-}
 
 #[test]
 fn of_reports(rt: HostRuntime) -> Result<(), Fail> {
@@ -45,7 +17,7 @@ fn of_reports(rt: HostRuntime) -> Result<(), Fail> {
         (C, SECOND_ACCOUNT, b"none"),
     ];
     for (capture, script, wanted) in rows {
-        let found = made_of(rt.alloc(), capture, script)?;
+        let found = answer(rt.alloc(), capture, script, &Ask::Certificate)?;
         assert!(rt; found.as_slice() == wanted);
     }
     Ok(())

@@ -5,20 +5,9 @@ use fints_script::{FaultKind, Place, ScriptFault};
 use fints_syntax::{SyntaxFault, SyntaxKind};
 use fints_texts::Fault;
 use std::alloc::{AllocError, Global};
-use std::test::Fail;
+use std::test::*;
 
 const BANK: &[u8] = b"HIBPA:3:3+12+280:10020030+Bank+1+1+300+0'\n";
-
-fn too_long() -> Fault {
-    Fault::Script(ScriptFault {
-        kind: FaultKind::Limit,
-        place: Place::Top,
-    })
-}
-
-fn syntax(kind: SyntaxKind, offset: usize) -> Fault {
-    Fault::Params(ParamFault::Syntax(SyntaxFault { kind, offset }))
-}
 
 // A segment after the bank's, of as many of these bytes.
 fn capture(alloc: Global, byte: u8, count: usize) -> Result<Vec<u8>, AllocError> {
@@ -31,56 +20,55 @@ fn capture(alloc: Global, byte: u8, count: usize) -> Result<Vec<u8>, AllocError>
     Ok(text)
 }
 
-fn of_script<'a>(script: &'a [u8]) -> Inputs<'a> {
+// The hint for the refusal of a capture of which the second segment has as many of these bytes.
+fn hint_of(alloc: Global, fault: SyntaxFault, byte: u8, count: usize) -> Result<String, Fail> {
+    let text = capture(alloc, byte, count)?;
     let mut inputs = Inputs::none();
-    inputs.script = script;
-    inputs
-}
-
-fn of_params<'a>(params: &'a [u8]) -> Inputs<'a> {
-    let mut inputs = Inputs::none();
-    inputs.params = params;
-    inputs
+    inputs.params = text.as_slice();
+    let fault = Fault::Params(ParamFault::Syntax(fault));
+    Ok(hint(alloc, &fault, &inputs)?.ok_or("a hint")?)
 }
 
 #[test]
-fn long_inputs(rt: HostRuntime) -> Result<(), Fail> {
-    let script = vec![in rt.alloc(); b'\n'; 1_048_577]?;
-    let lines = vec![in rt.alloc(); b'\n'; 4_194_305]?;
-    let items = capture(rt.alloc(), b':', 20_000)?;
-    let segment = capture(rt.alloc(), b'A', 1_048_576)?;
-    let rows: [(Fault, Inputs<'_>, &str); 4] = [
+fn long_captures(rt: HostRuntime) -> Result<(), Fail> {
+    let rows: [(SyntaxKind, usize, u8, usize, &str); 3] = [
         (
-            too_long(),
-            of_script(script.as_slice()),
-            "longer than 1048576 bytes: it has 1048577",
+            SyntaxKind::CaptureTooLong,
+            4_194_304,
+            b'A',
+            4_194_304,
+            "longer than 4194304 bytes: it has 4194358",
         ),
         (
-            syntax(SyntaxKind::CaptureTooLong, 4_194_304),
-            of_params(lines.as_slice()),
-            "longer than 4194304 bytes: it has 4194305",
-        ),
-        (
-            syntax(SyntaxKind::TooLong, BANK.len()),
-            of_params(items.as_slice()),
+            SyntaxKind::TooLong,
+            BANK.len(),
+            b':',
+            20_000,
             "segment 4 (HISALS) in line 2 has 20000 items or more",
         ),
         (
-            syntax(SyntaxKind::TooLong, BANK.len()),
-            of_params(segment.as_slice()),
+            SyntaxKind::TooLong,
+            BANK.len(),
+            b'A',
+            1_048_576,
             "segment 4 (HISALS) in line 2 has no end within 1048576 bytes",
         ),
     ];
-    for (fault, inputs, wanted) in rows {
-        let told = hint(rt.alloc(), &fault, &inputs)?.ok_or("a hint")?;
+    for (kind, offset, byte, count, wanted) in rows {
+        let told = hint_of(rt.alloc(), SyntaxFault { kind, offset }, byte, count)?;
         assert!(rt; told.as_str() == wanted);
     }
     Ok(())
 }
 
 #[test]
-fn no_memory(rt: HostRuntime) -> Result<(), Fail> {
-    let told = hint(rt.alloc(), &Fault::Memory, &Inputs::none())?;
-    assert!(rt; told.is_none());
+fn a_long_script(rt: HostRuntime) -> Result<(), Fail> {
+    let text = vec![in rt.alloc(); b'\n'; 1_048_577]?;
+    let mut inputs = Inputs::none();
+    inputs.script = text.as_slice();
+    let (kind, place) = (FaultKind::Limit, Place::Top);
+    let fault = Fault::Script(ScriptFault { kind, place });
+    let told = hint(rt.alloc(), &fault, &inputs)?.ok_or("a hint")?;
+    assert!(rt; told.as_str() == "longer than 1048576 bytes: it has 1048577");
     Ok(())
 }

@@ -2,13 +2,13 @@
 #![tactic(auto)]
 
 #[cfg(test)]
+mod asking;
+#[cfg(test)]
 mod cases;
 #[cfg(test)]
 mod certificates;
 #[cfg(test)]
 mod hints;
-#[cfg(test)]
-mod inputs;
 #[cfg(test)]
 mod numbers;
 #[cfg(test)]

@@ -1,10 +1,9 @@
 //! Plans: where answers lead, and which values are admitted.
-use crate::samples::values;
+use crate::asking::{Ask, answer};
+use crate::samples::Pairs;
 use fints_params::Code;
-use fints_rules::OrderTable;
-use fints_samples::{FORK, T};
+use fints_samples::FORK;
 use fints_script::{Script, Target};
-use std::alloc::Global;
 use std::test::*;
 
 const CLOSED: &[u8] = br#"
@@ -39,33 +38,27 @@ const ACCOUNT: (&[u8], &[u8]) = (b"acct", b"DE222");
 const PIN: (&[u8], &[u8]) = (b"pin", b"12345");
 
 // Values for `CLOSED`: as it wants them, one too few, in another order, and beyond their domains.
-const CHOSEN: [(&[(&[u8], &[u8])], bool); 6] = [
-    (&[DIALOG, ACCOUNT, PIN], true),
-    (&[DIALOG, ACCOUNT], false),
-    (&[DIALOG, PIN, ACCOUNT], false),
-    (&[DIALOG, (b"acct", b"DE333"), PIN], false),
-    (&[(b"dialog", b""), ACCOUNT, PIN], false),
+const CHOSEN: [(Pairs<'static>, &[u8]); 6] = [
+    (&[DIALOG, ACCOUNT, PIN], b"true"),
+    (&[DIALOG, ACCOUNT], b"false"),
+    (&[DIALOG, PIN, ACCOUNT], b"false"),
+    (&[DIALOG, (b"acct", b"DE333"), PIN], b"false"),
+    (&[(b"dialog", b""), ACCOUNT, PIN], b"false"),
     (
         &[
             (b"dialog", b"1234567890123456789012345678901"),
             ACCOUNT,
             PIN,
         ],
-        false,
+        b"false",
     ),
 ];
-
-fn is_admitted(alloc: Global, pairs: &[(&[u8], &[u8])]) -> Result<bool, Fail> {
-    let script = Script::read(alloc, CLOSED)?;
-    let orders = OrderTable::read(alloc, T)?;
-    let chosen = values(alloc, pairs)?;
-    Ok(script.plan(&orders)?.admits(&chosen))
-}
 
 #[test]
 fn admitted(rt: HostRuntime) -> Result<(), Fail> {
     for (pairs, wanted) in CHOSEN {
-        assert!(rt; is_admitted(rt.alloc(), pairs)? == wanted, "{pairs:?}");
+        let found = answer(rt.alloc(), CLOSED, Ask::Admits(pairs))?;
+        assert!(rt; found.as_slice() == wanted, "{pairs:?}");
     }
     Ok(())
 }

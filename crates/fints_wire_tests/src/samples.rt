@@ -7,7 +7,10 @@ pub fn name(text: &[u8]) -> Result<Name, Fail> {
     Ok(Name::parse(text).ok_or("name")?)
 }
 
-pub fn values(alloc: Global, pairs: &[(&[u8], &[u8])]) -> Result<Values, Fail> {
+/// Names of fields, each with its value.
+pub type Pairs<'a> = &'a [(&'a [u8], &'a [u8])];
+
+pub fn values(alloc: Global, pairs: Pairs<'_>) -> Result<Values, Fail> {
     let mut values = Values::new(alloc);
     for (field, value) in pairs {
         values.push(name(field)?, value)?;
