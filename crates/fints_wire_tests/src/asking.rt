@@ -24,7 +24,7 @@ pub enum Ask<'a> {
     Message(u32, Pairs<'a>),
     /// What is sent for the values of these pairs and an answer of one code: step, number and
     /// message, each with a line feed behind it.
-    Sent(Pairs<'a>, Code),
+    Sent(Pairs<'a>, u16),
 }
 
 fn size(alloc: Global, plan: &Plan<'_>, step: usize, number: u32) -> Result<Vec<u8>, Fail> {
@@ -54,8 +54,9 @@ fn message(alloc: Global, plan: &Plan<'_>, number: u32, pairs: Pairs<'_>) -> Res
     Ok(build(alloc, plan, 1, number, &values)?)
 }
 
-fn sent(alloc: Global, plan: &Plan<'_>, pairs: Pairs<'_>, code: Code) -> Result<Vec<u8>, Fail> {
+fn sent(alloc: Global, plan: &Plan<'_>, pairs: Pairs<'_>, code: u16) -> Result<Vec<u8>, Fail> {
     let values = values(alloc, pairs)?;
+    let code = Code::from_number(code).ok_or("code")?;
     let answers = vec![in alloc; Answer::single(alloc, code)?]?;
     if !plan.admits(&values) {
         return Err(Fail::from("not admitted"));
@@ -75,19 +76,19 @@ fn flag(alloc: Global, flag: bool) -> Result<Vec<u8>, Fail> {
     Ok(word.to_vec(alloc)?)
 }
 
-fn answer_by(alloc: Global, plan: &Plan<'_>, ask: Ask<'_>) -> Result<Vec<u8>, Fail> {
+fn answer_by(alloc: Global, plan: &Plan<'_>, ask: &Ask<'_>) -> Result<Vec<u8>, Fail> {
     match ask {
-        Ask::Size(step, number) => size(alloc, plan, step, number),
+        Ask::Size(step, number) => size(alloc, plan, *step, *number),
         Ask::Worst => text_of(alloc, &worst_values(alloc, plan)?),
         Ask::Least => text_of(alloc, &least_values(alloc, plan)?),
         Ask::Admits(pairs) => flag(alloc, plan.admits(&values(alloc, pairs)?)),
-        Ask::Message(number, pairs) => message(alloc, plan, number, pairs),
-        Ask::Sent(pairs, code) => sent(alloc, plan, pairs, code),
+        Ask::Message(number, pairs) => message(alloc, plan, *number, pairs),
+        Ask::Sent(pairs, code) => sent(alloc, plan, pairs, *code),
     }
 }
 
 /// The answer to what is asked of the plan of a script.
-pub fn answer(alloc: Global, script: &[u8], ask: Ask<'_>) -> Result<Vec<u8>, Fail> {
+pub fn answer(alloc: Global, script: &[u8], ask: &Ask<'_>) -> Result<Vec<u8>, Fail> {
     let orders = OrderTable::read(alloc, T)?;
     let script = Script::read(alloc, script)?;
     let plan = script.plan(&orders)?;

@@ -1,7 +1,6 @@
 //! Messages that are built and sent.
 use crate::asking::{Ask, answer};
 use crate::samples::Pairs;
-use fints_params::Code;
 use fints_samples::{FORK, SEALED_END};
 use std::test::*;
 
@@ -28,7 +27,7 @@ fn built(rt: HostRuntime) -> Result<(), Fail> {
         (SEALED_END, 1, &[(b"dialog", b"D")], SEALED_1),
     ];
     for (text, number, pairs, wanted) in rows {
-        let bytes = answer(rt.alloc(), text, Ask::Message(number, pairs))?;
+        let bytes = answer(rt.alloc(), text, &Ask::Message(number, pairs))?;
         assert!(rt; bytes.as_slice() == wanted);
     }
     Ok(())
@@ -39,9 +38,8 @@ const SENT: &[u8] =
 
 #[test]
 fn sent(rt: HostRuntime) -> Result<(), Fail> {
-    let code = Code::from_number(20).ok_or("code")?;
-    let ask = Ask::Sent(&[(b"dialog", b"D")], code);
-    let found = answer(rt.alloc(), FORK, ask)?;
+    let ask = Ask::Sent(&[(b"dialog", b"D")], 20);
+    let found = answer(rt.alloc(), FORK, &ask)?;
     assert!(rt; found.as_slice() == SENT);
     Ok(())
 }

@@ -57,7 +57,7 @@ const CHOSEN: [(Pairs<'static>, &[u8]); 6] = [
 #[test]
 fn admitted(rt: HostRuntime) -> Result<(), Fail> {
     for (pairs, wanted) in CHOSEN {
-        let found = answer(rt.alloc(), CLOSED, Ask::Admits(pairs))?;
+        let found = answer(rt.alloc(), CLOSED, &Ask::Admits(pairs))?;
         assert!(rt; found.as_slice() == wanted, "{pairs:?}");
     }
     Ok(())

@@ -34,7 +34,7 @@ fn known_sizes(rt: HostRuntime) -> Result<(), Fail> {
         (FORK, 3, 10_000, b"181"),
     ];
     for (text, step, number, size) in rows {
-        let found = answer(rt.alloc(), text, Ask::Size(step, number))?;
+        let found = answer(rt.alloc(), text, &Ask::Size(step, number))?;
         assert!(rt; found.as_slice() == size);
     }
     Ok(())
@@ -53,14 +53,14 @@ fn longest(alloc: Global) -> Result<Vec<u8>, Fail> {
 #[test]
 fn worst_choice(rt: HostRuntime) -> Result<(), Fail> {
     let wanted = longest(rt.alloc())?;
-    let found = answer(rt.alloc(), ESCAPED_PAD, Ask::Worst)?;
+    let found = answer(rt.alloc(), ESCAPED_PAD, &Ask::Worst)?;
     assert!(rt; found.as_slice() == wanted.as_slice());
     Ok(())
 }
 
 #[test]
 fn least_choice(rt: HostRuntime) -> Result<(), Fail> {
-    let found = answer(rt.alloc(), BALANCE, Ask::Least)?;
+    let found = answer(rt.alloc(), BALANCE, &Ask::Least)?;
     let wanted = b"dialog=A pin=00000 tan= ".as_slice();
     assert!(rt; found.as_slice() == wanted);
     Ok(())
