@@ -43,7 +43,7 @@ fn past_the_limit(rt: HostRuntime) -> Result<(), Fail> {
     for (count, wanted) in rows {
         let text = lines(rt.alloc(), count)?;
         let read = Certificate::read(rt.alloc(), text.as_bytes());
-        assert!(rt; read.map(|certificate| certificate.lines().len()) == wanted);
+        assert_eq!(rt; read.map(|certificate| certificate.lines().len()), wanted);
     }
     Ok(())
 }

@@ -48,6 +48,6 @@ fn code_faults(rt: HostRuntime) {
     ];
     for (message, fault) in rows {
         let found = feedback_codes(rt.alloc(), message).err();
-        assert!(rt; found == Some(fault), "{message:?}");
+        assert_eq!(rt; found, Some(fault), "{message:?}");
     }
 }

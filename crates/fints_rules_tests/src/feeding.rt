@@ -28,7 +28,7 @@ fn cut_segment(rt: HostRuntime) -> Result<(), Fail> {
 fn fault_is_kept(rt: HostRuntime) -> Result<(), Fail> {
     let mut feeder = Feeder::new(rt.alloc());
     let first = feeder.feed(b"HKEND:2:1+@x'").err();
-    assert!(rt; first == fault(SyntaxKind::BadBinary, 10));
+    assert_eq!(rt; first, fault(SyntaxKind::BadBinary, 10));
     assert!(rt; feeder.feed(b"").err() == fault(SyntaxKind::Failed, 10));
     assert!(rt; feeder.take_places().len() == 0);
     assert!(rt; feeder.finish().err() == fault(SyntaxKind::Failed, 10));
@@ -93,7 +93,8 @@ fn too_long_stream(rt: HostRuntime) -> Result<(), Fail> {
         assert!(rt; feeder.feed(&[b'\n'; 4096])?.len() == 0);
     }
     let limit = 4_194_304;
-    assert!(rt; feeder.feed(b"\n").err() == fault(SyntaxKind::CaptureTooLong, limit));
+    let passed = feeder.feed(b"\n").err();
+    assert_eq!(rt; passed, fault(SyntaxKind::CaptureTooLong, limit));
     assert!(rt; feeder.feed(b"\n").err() == fault(SyntaxKind::Failed, limit));
     Ok(())
 }

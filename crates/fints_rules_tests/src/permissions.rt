@@ -177,7 +177,7 @@ fn judged(rt: HostRuntime) -> Result<(), Fail> {
     let wanted = [at_two(Rule::Version), at_two(Rule::Account)];
     assert!(rt; broken.as_slice() == wanted.as_slice());
     let none = JudgeFault::NotAMessage { offset: 0 };
-    assert!(rt; judged_by(rt.alloc(), b"x")?.err() == Some(none));
+    assert_eq!(rt; judged_by(rt.alloc(), b"x")?.err(), Some(none));
     Ok(())
 }
 

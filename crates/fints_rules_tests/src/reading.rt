@@ -73,7 +73,7 @@ fn each_cut(rt: HostRuntime) -> Result<(), Fail> {
 fn fault_is_kept(rt: HostRuntime) -> Result<(), Fail> {
     let mut reader = ParamReader::new(rt.alloc());
     let first = reader.feed(b"HKEND:2:1+@x'").err();
-    assert!(rt; first == syntax(SyntaxKind::BadBinary, 10));
+    assert_eq!(rt; first, syntax(SyntaxKind::BadBinary, 10));
     assert!(rt; reader.feed(C).err() == syntax(SyntaxKind::Failed, 10));
     assert!(rt; reader.finish().err() == syntax(SyntaxKind::Failed, 10));
     Ok(())

@@ -72,7 +72,7 @@ fn longest_case(rt: HostRuntime) -> Result<(), Fail> {
     for (bytes, len, fault) in rows {
         let text = long_text(rt.alloc(), bytes)?;
         let found = Case::read(rt.alloc(), text.as_slice()).err();
-        assert!(rt; (text.len(), found) == (len, fault));
+        assert_eq!(rt; (text.len(), found), (len, fault));
     }
     Ok(())
 }

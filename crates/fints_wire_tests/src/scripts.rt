@@ -29,7 +29,7 @@ fn faults(rt: HostRuntime) -> Result<(), Fail> {
     ];
     for (text, kind, place) in rows {
         let found = Script::read(rt.alloc(), text).err();
-        assert!(rt; found == Some(ScriptFault { kind, place }));
+        assert_eq!(rt; found, Some(ScriptFault { kind, place }));
     }
     Ok(())
 }
