@@ -9,7 +9,7 @@ use std::alloc::Global;
 use std::marker::Model;
 
 /// An answer of the bank: one code or more; a contract sees the list.
-#[derive(Debug, Drop)]
+#[derive(Drop)]
 pub struct Answer {
     codes: Vec<Code>,
 }
@@ -66,7 +66,7 @@ impl Answer {
 }
 
 /// A run to be looked at: the values of the script's fields, and the bank's answers in order.
-#[derive(Debug, Drop)]
+#[derive(Drop)]
 pub struct Case {
     pub values: Values,
     pub answers: Vec<Answer>,

@@ -8,7 +8,7 @@ use fints_params::Code;
 use std::marker::Model;
 
 /// A pattern of codes: four characters, each a digit or `*`; a contract sees the characters.
-#[derive(Clone, Copy, Debug, PartialEq, Eq)]
+#[derive(Clone, Copy, PartialEq, Eq)]
 pub struct Pattern {
     places: [u8; 4],
 }

@@ -9,14 +9,14 @@ use std::alloc::Global;
 use std::marker::Model;
 
 /// A field's name with its value.
-#[derive(Debug, Drop)]
+#[derive(Drop)]
 pub struct NamedValue {
     pub name: Name,
     pub value: Bytes,
 }
 
 /// Values of fields, in order; a contract sees the list.
-#[derive(Debug, Drop)]
+#[derive(Drop)]
 pub struct Values {
     pairs: Vec<NamedValue>,
 }

@@ -7,14 +7,14 @@ use std::marker::Model;
 
 /// What a certificate says of a step: bounds of the number and the length of its messages, or that no
 /// run sends it.
-#[derive(Clone, Copy, Debug)]
+#[derive(Clone, Copy)]
 pub struct Line {
     pub name: Name,
     pub reached: Option<Reached>,
 }
 
 /// Lines, one for each step of a script; a contract sees the list.
-#[derive(Debug, Drop)]
+#[derive(Drop)]
 pub struct Certificate {
     lines: Vec<Line>,
 }

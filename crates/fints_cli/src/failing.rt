@@ -38,7 +38,7 @@ impl Failure {
 }
 
 /// Why a command has no answer, and what to look at where that was asked for and can be told.
-#[derive(Debug, Drop)]
+#[derive(Drop)]
 pub struct Refusal {
     pub failure: Failure,
     pub hint: Option<String>,

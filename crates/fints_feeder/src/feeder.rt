@@ -14,7 +14,7 @@ use std::mem::replace;
 
 /// What reads a stream of segments, with CR and LF between them, as its pieces come; a contract
 /// sees what it keeps. The bytes of an unfinished segment are not looked at anew when more come.
-#[derive(Debug, Drop)]
+#[derive(Drop)]
 pub struct Feeder {
     rest: Vec<u8>,
     at: usize,

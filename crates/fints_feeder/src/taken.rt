@@ -6,7 +6,7 @@ use fints_syntax::{Memory, OwnedSegment, SegmentView, Taker, place_of};
 use std::alloc::Global;
 
 /// Segments by their values, and the place of each.
-#[derive(Debug, Drop)]
+#[derive(Drop)]
 pub struct Taken {
     pub segments: Vec<OwnedSegment>,
     pub places: Vec<usize>,

@@ -3,7 +3,7 @@ ghost use Rattle.std.specs.Prelude.{◌≡◌};
 ghost use Rattle.fints_field_rows.specs.declared.fault.FaultKind.TheVariants as kinds;
 ghost use Rattle.fints_field_rows.specs.declared.fault.Place.TheVariants as places;
 
-use fints_syntax::Memory;
+use fints_segments::Memory;
 use std::alloc::{AllocError, AllocFailed};
 use std::fmt;
 use std::fmt::{Display, Formatter, Write};

@@ -8,7 +8,7 @@ use crate::fault::FaultKind;
 use crate::parts::{both, entries_of, integer_in, more, required};
 use crate::text::{is_latin1, latin1};
 use fints_fields::{Account, AccountValue, Accounts, Field, OneOf, Texts, are_distinct};
-use fints_syntax::Bytes;
+use fints_segments::Bytes;
 use std::alloc::Global;
 use toml::{Table, Value};
 

@@ -8,13 +8,13 @@ ghost use Rattle.fints_field_rows.specs.NamedFields.{place_of_field, is_field_na
 ghost use Rattle.fints_field_rows.specs.Places.{first_place, HoldsPlaces};
 
 use fints_fields::{Field, Name};
-use fints_syntax::Memory;
+use fints_segments::Memory;
 use std::alloc::Global;
 use std::collections::BTreeMap;
 use std::marker::Model;
 
 /// A field with its name.
-#[derive(Debug, Drop)]
+#[derive(Drop)]
 pub struct NamedField {
     pub name: Name,
     pub class: Field,
@@ -29,7 +29,7 @@ pub fn is_account(class: &Field) -> bool
 
 /// Fields in order, with a map from each name to the place of the first field that has it; a
 /// contract sees the fields.
-#[derive(Debug, Drop)]
+#[derive(Drop)]
 pub struct Fields {
     list: Vec<NamedField>,
     places: BTreeMap<Name, usize>,

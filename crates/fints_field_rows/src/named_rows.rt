@@ -7,7 +7,7 @@ ghost use Rattle.fints_documents.specs.Entries.{is_named, name_in};
 ghost use Rattle.fints_field_rows.specs.Places.{first_place, HoldsPlaces, place_in};
 
 use fints_documents::entries::text_at;
-use fints_syntax::Memory;
+use fints_segments::Memory;
 use std::alloc::Global;
 use std::collections::BTreeMap;
 use std::marker::Model;

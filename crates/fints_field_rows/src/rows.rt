@@ -3,7 +3,7 @@ ghost use Rattle.std.specs.Prelude.{◌≡◌};
 ghost use Rattle.fints_field_rows.specs.Rows.{placed};
 
 use crate::fault::{FaultKind, Place, ScriptFault};
-use fints_syntax::Memory;
+use fints_segments::Memory;
 
 /// What stands at a place; want of memory has no place of its own.
 pub fn placed<X: Drop>(place: Place, part: Result<X, FaultKind>) -> Result<X, ScriptFault>

@@ -2,7 +2,7 @@
 ghost use Rattle.std.specs.Prelude.{◌≡◌, IfOk};
 ghost use Rattle.fints_field_rows.specs.Texts.{byte_of, is_latin1, is_latin1_char, latin1};
 
-use fints_syntax::Memory;
+use fints_segments::Memory;
 use std::alloc::Global;
 
 fn is_latin1_char(ch: char) -> bool

@@ -3,7 +3,7 @@ ghost use Rattle.std.specs.Prelude.{◌≡◌, ◌↔◌, IsTrue};
 ghost use Rattle.fints_fields.specs.Classes.{IsCharacter, longest_character, shortest_character};
 
 /// The characters of a text, one byte each.
-#[derive(Clone, Copy, Debug)]
+#[derive(Clone, Copy)]
 pub enum Alphabet {
     /// 0 to 9.
     Digits,

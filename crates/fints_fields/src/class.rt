@@ -3,7 +3,7 @@ ghost use Rattle.std.specs.Prelude.{◌≡◌, ◌↔◌, ◌<◌, ◌≤◌, �
 ghost use Rattle.fints_segments.specs.declared.item.OwnedItem.{OwnedItem};
 ghost use Rattle.fints_fields.specs.Joined.{joined};
 
-use fints_syntax::Memory;
+use fints_segments::Memory;
 use std::alloc::Global;
 
 /// A class of fields: which values a field admits, and how long they are written.

@@ -8,7 +8,7 @@ ghost use Rattle.fints_fields.specs.ClassLaws.{binary_least, binary_most, counte
 
 use crate::alphabet::Alphabet;
 use crate::class::FieldClass;
-use fints_syntax::{Memory, written_binary_len, written_len};
+use fints_segments::{Memory, written_binary_len, written_len};
 use std::alloc::Global;
 
 /// The most bytes of a field's value.
@@ -35,7 +35,7 @@ fn repeated(alloc: Global, b: u8, count: u16) -> Result<Vec<u8>, Memory>
 }
 
 /// Texts of one alphabet, `min` to `max` bytes.
-#[derive(Clone, Copy, Debug)]
+#[derive(Clone, Copy)]
 pub struct Text {
     pub alphabet: Alphabet,
     pub min: u16,
@@ -107,7 +107,7 @@ impl FieldClass for Text {
 }
 
 /// Bytes, `min` to `max` of them and at least one, written as a binary item.
-#[derive(Clone, Copy, Debug)]
+#[derive(Clone, Copy)]
 pub struct Bin {
     pub min: u16,
     pub max: u16,

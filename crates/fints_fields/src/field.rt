@@ -5,11 +5,11 @@ use crate::class::FieldClass;
 use crate::counted::{Bin, Text};
 use crate::listed::AccountValue;
 use crate::listing::{Account, OneOf};
-use fints_syntax::Memory;
+use fints_segments::Memory;
 use std::alloc::Global;
 
 /// A field of a script, by its class.
-#[derive(Debug, Drop)]
+#[derive(Drop)]
 pub enum Field {
     Text(Text),
     Bin(Bin),

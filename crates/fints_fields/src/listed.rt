@@ -5,7 +5,7 @@ ghost use Rattle.fints_segments.specs.declared.item.OwnedItem.TheVariants.{Text}
 ghost use Rattle.std.specs.List.{AllPairs, Contains};
 ghost use Rattle.fints_fields.specs.Listed.{IsListed, account_text, first_longest, first_shortest};
 
-use fints_syntax::{Bytes, Memory, OwnedItem, write_item, written_len};
+use fints_segments::{Bytes, Memory, OwnedItem, write_item, written_len};
 use std::alloc::Global;
 use std::collections::BTreeSet;
 use std::marker::Model;
@@ -137,7 +137,7 @@ impl Listed for Bytes {
 }
 
 /// The items of a listed account, and the written text of the element; a contract sees the items.
-#[derive(Debug, Drop)]
+#[derive(Drop)]
 pub struct AccountValue {
     items: Vec<Bytes>,
     text: Bytes,

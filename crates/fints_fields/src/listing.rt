@@ -10,7 +10,7 @@ ghost use Rattle.fints_fields.specs.ListedLaws.{account_as_items, account_some, 
 use crate::class::FieldClass;
 use crate::listed::{AccountValue, Listed, are_few_distinct, is_listed, longest_of, shortest_of};
 use crate::lists::{Accounts, Texts};
-use fints_syntax::{Bytes, Memory, written_len};
+use fints_segments::{Bytes, Memory, written_len};
 use std::alloc::Global;
 
 /// The most listed values.
@@ -65,7 +65,7 @@ fn most_items(accounts: &[AccountValue]) -> usize
 }
 
 /// One of the listed texts. It keeps how long the longest is written.
-#[derive(Debug, Drop)]
+#[derive(Drop)]
 pub struct OneOf {
     pub values: Texts,
     most_written: u64,
@@ -153,7 +153,7 @@ impl FieldClass for OneOf {
 
 /// One of the listed accounts; the value is the written text of the account's items. It keeps how
 /// long the longest is written, and how many items the one with the most has.
-#[derive(Debug, Drop)]
+#[derive(Drop)]
 pub struct Account {
     pub values: Accounts,
     most_written: u64,

@@ -2,11 +2,11 @@
 ghost use Rattle.std.specs.Prelude.{◌≡◌};
 
 use crate::listed::AccountValue;
-use fints_syntax::Bytes;
+use fints_segments::Bytes;
 use std::marker::Model;
 
 /// Texts in a row; a contract sees the lists.
-#[derive(Debug, Drop)]
+#[derive(Drop)]
 pub struct Texts {
     items: Vec<Bytes>,
 }
@@ -34,7 +34,7 @@ impl Texts {
 }
 
 /// Accounts in a row; a contract sees the lists of items.
-#[derive(Debug, Drop)]
+#[derive(Drop)]
 pub struct Accounts {
     items: Vec<AccountValue>,
 }

@@ -2,7 +2,7 @@
 use crate::rows::{AccountRow, BankRow, OrderParam, PinRow};
 
 /// The rows so far.
-#[derive(Debug, Drop)]
+#[derive(Drop)]
 pub struct Gathered {
     pub bank: Option<BankRow>,
     pub orders: Vec<OrderParam>,

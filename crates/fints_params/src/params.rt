@@ -18,7 +18,7 @@ use std::alloc::Global;
 use std::marker::Model;
 
 /// The parameters of a capture; a contract sees the rows.
-#[derive(Debug, Drop)]
+#[derive(Drop)]
 pub struct Params {
     bank: BankRow,
     orders: Vec<OrderParam>,

@@ -6,7 +6,7 @@ use fints_syntax::{Elements, OwnedSegment};
 
 /// A segment, and the offset in the capture of item 1 of its element 2 (of its data, where it is
 /// binary), 0 where there is none.
-#[derive(Debug, Drop)]
+#[derive(Drop)]
 pub struct PlacedSegment {
     pub segment: OwnedSegment,
     pub place: usize,

@@ -16,7 +16,7 @@ use std::mem::replace;
 
 /// A reader, and the first refusal among the segments that came, after which it is left alone. Each
 /// segment is read into the memory of the one before.
-#[derive(Debug, Drop)]
+#[derive(Drop)]
 pub struct Reading<R> {
     pub reader: R,
     pub refused: Option<ParamFault>,
@@ -46,7 +46,7 @@ impl<R: Reader + Drop> Taker for Reading<R> {
 }
 
 /// How far bytes are read, and what was read of their whole segments.
-#[derive(Debug, Drop)]
+#[derive(Drop)]
 pub struct Progress<R> {
     pub to: ReadTo,
     pub reading: Reading<R>,

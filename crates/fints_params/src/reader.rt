@@ -16,7 +16,7 @@ use std::marker::Model;
 /// What reads a capture as its pieces come; a contract sees what it keeps. A segment is read when
 /// its last byte has come, and only once. The bytes are kept, so that after want of memory the
 /// reader is as before; what was read of them is read once more then.
-#[derive(Debug, Drop)]
+#[derive(Drop)]
 pub struct ParamReader {
     bytes: Vec<u8>,
     failed: Option<usize>,

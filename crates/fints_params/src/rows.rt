@@ -5,7 +5,7 @@ use fints_syntax::{Bytes, Kind};
 use std::marker::Model;
 
 /// A list of numbers; a contract sees the list.
-#[derive(Debug, Drop)]
+#[derive(Drop)]
 pub struct Numbers {
     items: Vec<u32>,
 }
@@ -31,7 +31,7 @@ impl Numbers {
 }
 
 /// The bank's own parameters: HIBPA version 3 (FinTS 3.0, Formals).
-#[derive(Debug, Drop)]
+#[derive(Drop)]
 pub struct BankRow {
     /// The bank's country and code: items 1 and 2 of element 3.
     pub country: Bytes,
@@ -72,7 +72,7 @@ pub struct Entry {
 }
 
 /// The entries of an account; a contract sees the list.
-#[derive(Debug, Drop)]
+#[derive(Drop)]
 pub struct Entries {
     items: Vec<Entry>,
 }
@@ -101,7 +101,7 @@ impl Entries {
 }
 
 /// An account as it is named within its country; what is absent is empty.
-#[derive(Debug, Drop)]
+#[derive(Drop)]
 pub struct National {
     pub number: Bytes,
     pub subaccount: Bytes,
@@ -110,7 +110,7 @@ pub struct National {
 }
 
 /// An account of the user: HIUPD version 6 (FinTS 3.0, Formals).
-#[derive(Debug, Drop)]
+#[derive(Drop)]
 pub struct AccountRow {
     /// The first four items of element 2.
     pub national: National,

@@ -18,7 +18,7 @@ use std::alloc::Global;
 /// The greatest number of each step's messages over all runs, in order of steps, or none for a step
 /// that no run sends; the step that each comes from, counted from 1, or none for the first step and
 /// those that no run sends; and how many steps and branches were looked at for them.
-#[derive(Debug, Drop)]
+#[derive(Drop)]
 pub struct Numbers {
     pub greatest: Vec<Option<u32>>,
     pub sources: Vec<Option<u16>>,

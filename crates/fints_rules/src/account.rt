@@ -10,7 +10,7 @@ use fints_syntax::Kind;
 use std::marker::Model;
 
 // An account by what names it.
-#[derive(Clone, Copy, Debug)]
+#[derive(Clone, Copy)]
 enum Named<'a> {
     Nobody,
     National {
@@ -24,7 +24,7 @@ enum Named<'a> {
 
 /// The account that element 2 of an order names: none, one by its four national items (number,
 /// subaccount, country and bank code), or one by its IBAN, which is not empty.
-#[derive(Debug, Drop)]
+#[derive(Drop)]
 pub struct AccountKey<'a> {
     named: Named<'a>,
 }

@@ -5,7 +5,7 @@ use fints_syntax::Kind;
 use std::marker::Model;
 
 /// What the rules ask of a whole message.
-#[derive(Clone, Copy, Debug)]
+#[derive(Clone, Copy)]
 pub struct MessageFacts {
     /// The protocol version of HNHBK, where it is a number.
     pub protocol: Option<u64>,
@@ -25,7 +25,7 @@ pub struct MessageFacts {
 }
 
 /// What the rules ask of a segment of the body; a contract sees the values.
-#[derive(Debug, Drop)]
+#[derive(Drop)]
 pub struct SegmentFacts<'a> {
     kind: Kind,
     version: u16,

@@ -25,7 +25,7 @@ pub const MAX_STEPS: usize = 200;
 
 /// A script: its fields, of which the first is the built-in `dialog`, its signers, its seal if any,
 /// and its steps; a contract sees these parts.
-#[derive(Debug, Drop)]
+#[derive(Drop)]
 pub struct Script {
     fields: Fields,
     signers: Vec<Signer>,

@@ -22,7 +22,7 @@ pub type Course = (u16, (Vec<Branch>, Target));
 
 /// A step of a script: its segments, who signs them, and where answers lead; a contract sees its
 /// parts.
-#[derive(Debug, Drop)]
+#[derive(Drop)]
 pub struct Step {
     name: Name,
     templates: Vec<Template>,

@@ -9,7 +9,7 @@ ghost use Rattle.fints_segments.specs.Lent.{item_of_ref};
 use std::marker::Model;
 
 /// Where the value of an item stands among the bytes.
-#[derive(Clone, Copy, Debug)]
+#[derive(Clone, Copy)]
 pub struct Span {
     pub start: usize,
     pub len: usize,
@@ -17,14 +17,14 @@ pub struct Span {
 }
 
 /// An item by its value, where it stands.
-#[derive(Clone, Copy, Debug)]
+#[derive(Clone, Copy)]
 pub enum ItemRef<'a> {
     Text(&'a [u8]),
     Bin(&'a [u8]),
 }
 
 /// The items of an element; a contract sees the list.
-#[derive(Debug, Drop)]
+#[derive(Drop)]
 pub struct ElementRef<'a> {
     bytes: &'a [u8],
     spans: &'a [Span],

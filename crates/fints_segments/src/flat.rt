@@ -12,14 +12,14 @@ use std::alloc::{AllocError, Global};
 use std::marker::Model;
 
 /// Where the items of an element stand among the items.
-#[derive(Clone, Copy, Debug)]
+#[derive(Clone, Copy)]
 pub struct Group {
     pub first: usize,
     pub count: usize,
 }
 
 /// Elements, and the items of one that is not whole yet; a contract sees the lists.
-#[derive(Debug, Drop)]
+#[derive(Drop)]
 pub struct Filling {
     bytes: Vec<u8>,
     spans: Vec<Span>,

@@ -10,7 +10,7 @@ use std::alloc::Global;
 use std::marker::Model;
 
 /// An item by its value.
-#[derive(Debug, Drop)]
+#[derive(Drop)]
 pub enum OwnedItem {
     Text(Bytes),
     Bin(Bytes),
@@ -27,7 +27,7 @@ pub struct Head {
 }
 
 /// The elements after the head, each with at least one item; a contract sees the lists.
-#[derive(Debug, Drop)]
+#[derive(Drop)]
 pub struct Elements {
     filling: Filling,
 }
@@ -46,7 +46,7 @@ impl Model for Elements {
 }
 
 /// A segment by its values.
-#[derive(Debug, Drop)]
+#[derive(Drop)]
 pub struct OwnedSegment {
     pub head: Head,
     pub elements: Elements,

@@ -11,7 +11,7 @@ mod writing;
 pub use bytes::Bytes;
 pub use element::{ElementRef, ItemRef};
 pub use fault::Memory;
-pub use fints_kinds::Kind;
+pub use fints_kinds::{Kind, is_frame_kind};
 pub use flat::{Filling, Valued};
 pub use item::{Elements, Head, OwnedItem, OwnedSegment};
 pub use writing::{decimal_len, write_item, write_segment, written_binary_len, written_len};

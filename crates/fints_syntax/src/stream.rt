@@ -14,7 +14,7 @@ use fints_segments::Memory;
 
 /// How far bytes that hold no whole segment are looked at. When more bytes follow, the look goes on
 /// from there.
-#[derive(Clone, Copy, Debug)]
+#[derive(Clone, Copy)]
 pub struct Begun {
     /// How many line breaks stand at the front.
     pub gap: usize,
@@ -35,7 +35,7 @@ impl Begun {
 }
 
 /// How far bytes are read.
-#[derive(Clone, Copy, Debug)]
+#[derive(Clone, Copy)]
 pub struct ReadTo {
     /// How many bytes the whole segments take, with the line breaks before and between them.
     pub whole: usize,

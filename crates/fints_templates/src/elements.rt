@@ -11,7 +11,7 @@ use crate::template::{TemplateElements, TemplateItem};
 use fints_field_rows::parts::{both, entries_of, more, not_empty};
 use fints_field_rows::text::{is_latin1, latin1};
 use fints_field_rows::{FaultKind, Fields};
-use fints_syntax::{Bytes, OwnedItem};
+use fints_segments::{Bytes, OwnedItem};
 use hex::FromHexError;
 use std::alloc::Global;
 use toml::Value;

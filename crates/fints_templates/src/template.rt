@@ -2,13 +2,13 @@
 ghost use Rattle.std.specs.Prelude.{◌≡◌, ◌++◌, ◌∷◌, [], map, OnOk, OnErr};
 
 use fints_fields::Name;
-use fints_syntax::{Kind, Memory, OwnedItem};
+use fints_segments::{Kind, Memory, OwnedItem};
 use std::alloc::Global;
 use std::marker::Model;
 
 /// An item of a template: a literal, the dialogue id, or a field by its place among the fields of
 /// the script, counted from 0, where the built-in field `dialog` stands.
-#[derive(Debug, Drop)]
+#[derive(Drop)]
 pub enum TemplateItem {
     Literal(OwnedItem),
     Dialog,
@@ -16,7 +16,7 @@ pub enum TemplateItem {
 }
 
 /// Elements of a template; a contract sees the lists of items.
-#[derive(Debug, Drop)]
+#[derive(Drop)]
 pub struct TemplateElements {
     elements: Vec<Vec<TemplateItem>>,
 }
@@ -58,7 +58,7 @@ impl TemplateElements {
 }
 
 /// A segment of a template: its elements from element 2 on.
-#[derive(Debug, Drop)]
+#[derive(Drop)]
 pub struct Template {
     pub kind: Kind,
     pub version: u16,
@@ -66,7 +66,7 @@ pub struct Template {
 }
 
 /// A signer: the elements, from element 2 on, of its HNSHK (the head) and its HNSHA (the end).
-#[derive(Debug, Drop)]
+#[derive(Drop)]
 pub struct Signer {
     pub name: Name,
     pub head: TemplateElements,

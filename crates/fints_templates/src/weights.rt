@@ -7,12 +7,12 @@ ghost use Rattle.fints_templates.specs.Figures.{figures_of};
 use crate::template::{Signer, TemplateElements, TemplateItem};
 use fints_field_rows::NamedField;
 use fints_fields::FieldClass;
-use fints_syntax::{Memory, OwnedItem, decimal_len, written_len};
+use fints_segments::{Memory, OwnedItem, decimal_len, written_len};
 use std::alloc::Global;
 
 /// How many bytes the longest value of a field takes when it is written, and how many items its
 /// value with the most items has.
-#[derive(Clone, Copy, Debug, PartialEq, Eq)]
+#[derive(Clone, Copy, PartialEq, Eq)]
 pub struct Figures {
     pub written: u64,
     pub items: u32,

@@ -14,7 +14,7 @@ use std::alloc::Global;
 
 /// A message before its values: its step and its number, both counted from 1, and how many messages
 /// of this step were sent in a row, itself counted.
-#[derive(Clone, Copy, Debug, PartialEq, Eq)]
+#[derive(Clone, Copy, PartialEq, Eq)]
 pub struct Visit {
     pub step: u16,
     pub number: u32,
@@ -22,7 +22,7 @@ pub struct Visit {
 }
 
 /// A message that is sent: its step and its number, both counted from 1, and its bytes.
-#[derive(Debug, Drop)]
+#[derive(Drop)]
 pub struct Sent {
     pub step: u16,
     pub number: u32,
