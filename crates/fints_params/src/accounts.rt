@@ -90,6 +90,18 @@ fn entries_of(alloc: Global, elements: &Elements) -> Result<(Vec<Entry>, usize),
     Ok((entries, skipped))
 }
 
+// The account by its number.
+fn read_national(alloc: Global, segment: &OwnedSegment) -> Result<National, AllocError>
+    ensures { IfOk result (λ n. n ≡ (account_row segment.now).national) }
+{
+    Ok(National {
+        number: Bytes::copied(alloc, segment.value(2, 1))?,
+        subaccount: Bytes::copied(alloc, segment.value(2, 2))?,
+        country: Bytes::copied(alloc, segment.value(2, 3))?,
+        bank: Bytes::copied(alloc, segment.value(2, 4))?,
+    })
+}
+
 /// What HIUPD says, and how many of its elements are skipped and counted.
 pub fn read_account(
     alloc: Global,
@@ -100,12 +112,7 @@ pub fn read_account(
 {
     let (entries, skipped) = entries_of(alloc, &segment.elements)?;
     let row = AccountRow {
-        national: National {
-            number: Bytes::copied(alloc, segment.value(2, 1))?,
-            subaccount: Bytes::copied(alloc, segment.value(2, 2))?,
-            country: Bytes::copied(alloc, segment.value(2, 3))?,
-            bank: Bytes::copied(alloc, segment.value(2, 4))?,
-        },
+        national: read_national(alloc, segment)?,
         iban: Bytes::copied(alloc, segment.value(3, 1))?,
         entries: Entries::new(entries),
     };

@@ -78,15 +78,24 @@ pub fn write_segment(out: &mut Vec<u8>, segment: &OwnedSegment) -> Result<(), Me
 
 // The functions below may leave a part behind what `out` held, where memory runs out.
 
+// A byte of a text item, behind its `?` where it is one of the syntax.
+fn append_unit(out: &mut Vec<u8>, b: u8) -> Result<(), Memory>
+    ensures written { OnOk result (out.new.items ≡ out.old.items ++ unit_bytes (written_unit b)) }
+    ensures kept { OnErr result (KeepsFront out.old.items out.new.items) }
+{
+    if is_syntax(b) {
+        out.push(b'?')?;
+    }
+    out.push(b)?;
+    Ok(())
+}
+
 fn append_text(out: &mut Vec<u8>, value: &[u8]) -> Result<(), Memory>
     ensures written { OnOk result (out.new.items ≡ out.old.items ++ text_bytes (map written_unit value.now)) }
     ensures kept { OnErr result (KeepsFront out.old.items out.new.items) }
 {
     for b in value {
-        if is_syntax(*b) {
-            out.push(b'?')?;
-        }
-        out.push(*b)?;
+        append_unit(out, *b)?;
     }
     Ok(())
 }
