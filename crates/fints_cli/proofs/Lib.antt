@@ -1,3 +1,2 @@
-pub mod FileLemmas
-pub mod CommandLemmas
-pub mod ReasonLemmas
+pub mod CutAnswers
+pub mod Writes

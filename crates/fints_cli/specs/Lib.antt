@@ -1,3 +1,1 @@
-pub mod BuiltIn
-pub mod Loading
-pub mod Commands
+pub mod Responses

@@ -1,0 +1,64 @@
+-- The status and the output of the words that were given.
+use Rattle.std.specs.Prelude.{◌≡◌, ◌≤◌, ◌⊎◌, ℕ, List, Option, string_bytes}
+use Rattle.fints_files.specs.Streams.{ReadCounts, Gets, GetsNothing, GetsPrefix, one_more}
+use Rattle.fints_files.specs.Loading.{NoneFailed}
+use Rattle.fints_words.specs.declared.words.Asked.{Asked}
+use Rattle.fints_words.specs.declared.words.Asked.TheVariants.{Help, Usage, NoMemory, Run}
+use Rattle.fints_commands.specs.declared.failing.Failure.{Failure}
+use Rattle.fints_commands.specs.Loading.{files_of, AreWithin, FollowsReading}
+use Rattle.fints_commands.specs.Commands.{failure_status, AnswersTo, FailsFor}
+
+-- the status and the text are what was asked for: the help, or the request's answer, for which no file is longer than its limit
+abbrev pub IsTextFor : Asked → (List ℕ → Option (List ℕ)) → ℕ → List ℕ → Type 0
+IsTextFor (Help help) holds status text = (status ≡ 0) × (text ≡ string_bytes help)
+IsTextFor (Usage fault) holds status text = ⊥
+IsTextFor NoMemory holds status text = ⊥
+IsTextFor (Run request hints) holds status text = AnswersTo request holds status text × AreWithin (files_of request) holds
+
+-- the output got the whole text
+abbrev pub IsAnswered : Asked → (List ℕ → Option (List ℕ)) → ℕ → Option (List ℕ) → Option (List ℕ) → Type 0
+IsAnswered asked holds status old new = (text : List ℕ) × IsTextFor asked holds status text × Gets old new text
+
+-- the output got a prefix of the text
+abbrev pub IsCutOff : Asked → (List ℕ → Option (List ℕ)) → Option (List ℕ) → Option (List ℕ) → Type 0
+IsCutOff asked holds old new = (status : ℕ) × (text : List ℕ) × IsTextFor asked holds status text × GetsPrefix old new text
+
+abbrev pub IsUsage : Asked → Type 0
+IsUsage (Help help) = ⊥
+IsUsage (Usage fault) = Unit {0}
+IsUsage NoMemory = ⊥
+IsUsage (Run request hints) = ⊥
+
+-- the request has no answer, and this status
+abbrev pub FailsWith : ℕ → Asked → (List ℕ → Option (List ℕ)) → Type 0
+FailsWith status (Help help) holds = ⊥
+FailsWith status (Usage fault) holds = ⊥
+FailsWith status NoMemory holds = ⊥
+FailsWith status (Run request hints) holds = (f : Failure) × (failure_status f ≡ status) × FailsFor request holds f
+
+-- none of the files that are named is longer than its limit, where their bytes are told
+abbrev pub FilesAreWithin : Asked → (List ℕ → Option (List ℕ)) → Type 0
+FilesAreWithin (Help help) holds = Unit {0}
+FilesAreWithin (Usage fault) holds = Unit {0}
+FilesAreWithin NoMemory holds = Unit {0}
+FilesAreWithin (Run request hints) holds = AreWithin (files_of request) holds
+
+-- the request has no answer, since a file that it names couldn't be read
+abbrev pub FailsToRead : Asked → (List ℕ → Option (List ℕ)) → ReadCounts → ReadCounts → Type 0
+FailsToRead (Help help) holds before after = ⊥
+FailsToRead (Usage fault) holds before after = ⊥
+FailsToRead NoMemory holds before after = ⊥
+FailsToRead (Run request hints) holds before after = (f : Failure) × (failure_status f ≡ 5) × FailsFor request holds f × FollowsReading (files_of request) holds before after f
+
+-- The status, what the output got and how reads and writes went are those of what was asked for: up to status 1 the whole text,
+-- from 2 to 4 nothing, and at 5 nothing where a file couldn't be read, else a prefix of the text, after which a write failed.
+pub record IsResponse (asked : Asked) (holds : List ℕ → Option (List ℕ)) (before after : ReadCounts) (lost lost_after : ℕ) (status : ℕ) (old new : Option (List ℕ)) : Type 0 where
+  pub answered : status ≤ 1 → IsAnswered asked holds status old new
+  pub usage : status ≡ 2 → IsUsage asked ⊎ FailsWith 2 asked holds
+  pub unread : IsUsage asked → after.calls ≡ before.calls
+  pub refused : status ≡ 3 → FailsWith 3 asked holds
+  pub read : status ≤ 3 → NoneFailed before after
+  pub within : status ≤ 3 → FilesAreWithin asked holds
+  pub silent : (status ≡ 2) ⊎ ((status ≡ 3) ⊎ (status ≡ 4)) → GetsNothing old new
+  pub fine : status ≤ 4 → lost_after ≡ lost
+  pub failed : status ≡ 5 → (FailsToRead asked holds before after × GetsNothing old new) ⊎ (IsCutOff asked holds old new × (lost_after ≡ one_more lost))

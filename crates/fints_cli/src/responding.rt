@@ -1,0 +1,140 @@
+//! From words to a status: the answer of a command on the output, and what it says on the errors.
+ghost use Rattle.std.specs.Prelude.{◌≡◌, ◌≤◌, ◌<◌, ◌+◌, ◌*◌, ◌⊎◌, [], false};
+ghost use Rattle.fints_files.specs.Streams.{Gets, GetsNothing, GetsPrefix, one_more};
+ghost use Rattle.fints_files.specs.Loading.{MAX_READS, NoneFailed};
+ghost use Rattle.fints_words.specs.declared.words.Request.TheVariants as request;
+ghost use Rattle.fints_words.specs.declared.words.Asked.{Asked};
+ghost use Rattle.fints_words.specs.declared.words.Asked.TheVariants as asked;
+ghost use Rattle.fints_commands.specs.Commands.{failure_status};
+ghost use Rattle.fints_cli.specs.Responses.{IsAnswered, IsCutOff, IsResponse, IsUsage, FailsToRead, FailsWith, FilesAreWithin};
+
+use crate::emitting::emit;
+use fints_commands::{Failure, Refusal, perform};
+use fints_files::{Files, Out};
+use fints_words::{Asked, read_words};
+use std::alloc::Global;
+
+// Writes a line to the errors; a fault there changes nothing.
+fn tell<E: Out>(line: &[u8], err: &mut E) {
+    let _ = emit(line, err);
+}
+
+fn tell_memory<E: Out>(err: &mut E) -> u8
+    ensures { result ≡ 4 }
+{
+    tell(b"error: memory\n", err);
+    4
+}
+
+// Says on the errors why there is no answer.
+fn tell_failure<E: Out>(alloc: Global, failure: &Failure, err: &mut E) -> u8
+    ensures { (result ≡ failure_status failure.now) ⊎ (result ≡ 4) }
+{
+    match format!(in alloc; "error: {failure}\n") {
+        Ok(line) => {
+            tell(line.as_bytes(), err);
+            failure.status()
+        }
+        Err(_) => tell_memory(err),
+    }
+}
+
+// Says on the errors what to look at.
+fn tell_hint<E: Out>(alloc: Global, hint: &str, err: &mut E) {
+    if let Ok(line) = format!(in alloc; "hint: {hint}\n") {
+        tell(line.as_bytes(), err);
+    }
+}
+
+// Says on the errors why there is no answer, and what to look at where there is a hint; none stands
+// behind want of memory.
+fn tell_refusal<E: Out>(alloc: Global, refusal: &Refusal, err: &mut E) -> u8
+    ensures { (result ≡ failure_status refusal.now.failure) ⊎ (result ≡ 4) }
+{
+    let status = tell_failure(alloc, &refusal.failure, err);
+    if let Some(hint) = &refusal.hint
+        && status != 4
+    {
+        tell_hint(alloc, hint.as_str(), err);
+    }
+    status
+}
+
+// Writes the text to the output.
+fn deliver<O: Out, E: Out>(text: &[u8], status: u8, out: &mut O, err: &mut E) -> u8
+    requires { status < 5 }
+    ensures statuses { (result ≡ status) ⊎ (result ≡ 5) }
+    ensures written { result ≡ status → Gets (O.told out.old) (O.told out.new) text.now }
+    ensures fine { result ≡ status → O.failed_calls out.new ≡ O.failed_calls out.old }
+    ensures cut { result ≡ 5 → GetsPrefix (O.told out.old) (O.told out.new) text.now }
+    ensures failed { result ≡ 5 → O.failed_calls out.new ≡ one_more (O.failed_calls out.old) }
+{
+    if emit(text, out).is_err() {
+        tell(b"error: write\n", err);
+        return 5;
+    }
+    status
+}
+
+/// Does what is asked, and gives the status as `execute` does.
+pub fn respond<F: Files, O: Out, E: Out>(
+    alloc: Global,
+    asked: &Asked<'_>,
+    files: &mut F,
+    out: &mut O,
+    err: &mut E,
+) -> u8
+    ensures status { result ≤ 5 }
+    ensures answered { result ≤ 1
+        → IsAnswered asked.now (F.holds files.old) result (O.told out.old) (O.told out.new) }
+    ensures usage { IsUsage asked.now → result ≡ 2 }
+    ensures only_usage { result ≡ 2 → IsUsage asked.now ⊎ FailsWith 2 asked.now (F.holds files.old) }
+    ensures refused { result ≡ 3 → FailsWith 3 asked.now (F.holds files.old) }
+    ensures silent { (result ≡ 2) ⊎ ((result ≡ 3) ⊎ (result ≡ 4))
+        → GetsNothing (O.told out.old) (O.told out.new) }
+    ensures fine { result ≤ 4 → O.failed_calls out.new ≡ O.failed_calls out.old }
+    ensures failed { result ≡ 5
+        → (FailsToRead asked.now (F.holds files.old) (F.reads files.old) (F.reads files.new) × GetsNothing (O.told out.old) (O.told out.new))
+        ⊎ (IsCutOff asked.now (F.holds files.old) (O.told out.old) (O.told out.new)
+        × (O.failed_calls out.new ≡ one_more (O.failed_calls out.old))) }
+    ensures unread { IsUsage asked.now → (F.reads files.new).calls ≡ (F.reads files.old).calls }
+    ensures read { result ≤ 3 → NoneFailed (F.reads files.old) (F.reads files.new) }
+    ensures within { result ≤ 3 → FilesAreWithin asked.now (F.holds files.old) }
+    ensures calls { (F.reads files.new).calls ≤ (F.reads files.old).calls + 4 * MAX_READS }
+{
+    match asked {
+        Asked::Help(text) => deliver(text.as_bytes(), 0, out, err),
+        Asked::Usage(text) => {
+            tell(text.as_bytes(), err);
+            2
+        }
+        Asked::NoMemory => tell_memory(err),
+        Asked::Run { request, hints } => match perform(alloc, request, files, *hints) {
+            Ok(reply) => deliver(reply.text.as_slice(), reply.status, out, err),
+            Err(refusal) => tell_refusal(alloc, &refusal, err),
+        },
+    }
+}
+
+/// Does what the words after the program's name ask for, and gives the status: 0 where the answer
+/// or the help stands on the output, 2 for bad words and for a message that a run doesn't reach, 3
+/// for a refused input, 4 for want of memory, and 5 where a file couldn't be read or the output
+/// failed. Status 1 is that of a message that breaks
+/// a rule, of a script with a run that does, and of a certificate that isn't closed. Each status from
+/// 2 on has its line on the errors, where those take it.
+pub fn execute<F: Files, O: Out, E: Out>(
+    alloc: Global,
+    words: &[&str],
+    files: &mut F,
+    out: &mut O,
+    err: &mut E,
+) -> u8
+    ensures status { result ≤ 5 }
+    ensures responds { (what : Asked) × (words.now ≡ [] → what ≡ asked.Run request.BuiltIn false)
+        × IsResponse what (F.holds files.old) (F.reads files.old) (F.reads files.new)
+        (O.failed_calls out.old) (O.failed_calls out.new) result (O.told out.old) (O.told out.new) }
+    ensures calls { (F.reads files.new).calls ≤ (F.reads files.old).calls + 4 * MAX_READS }
+{
+    let asked = read_words(alloc, words);
+    respond(alloc, &asked, files, out, err)
+}

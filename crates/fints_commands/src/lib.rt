@@ -1,0 +1,9 @@
+//! The commands, over files that are handed in: what each answers, and why it has no answer.
+#![tactic(auto)]
+
+pub mod built_in;
+mod commands;
+mod failing;
+
+pub use commands::perform;
+pub use failing::{Failure, Refusal};
