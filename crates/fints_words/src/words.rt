@@ -30,7 +30,7 @@ Files:
 const SEE_HELP: &str = "The statuses and the files: fints --help";
 
 /// The files of a command that reads a script.
-#[derive(Clone, Copy, Debug, PartialEq, Eq)]
+#[derive(Clone, Copy)]
 pub struct ScriptFiles<'a> {
     pub params: &'a str,
     pub orders: &'a str,
@@ -38,7 +38,7 @@ pub struct ScriptFiles<'a> {
 }
 
 /// The files of a command that sends the messages of a case.
-#[derive(Clone, Copy, Debug, PartialEq, Eq)]
+#[derive(Clone, Copy)]
 pub struct RunFiles<'a> {
     pub orders: &'a str,
     pub script: &'a str,
@@ -46,7 +46,7 @@ pub struct RunFiles<'a> {
 }
 
 /// A command with its files.
-#[derive(Debug, Drop)]
+#[derive(Drop)]
 pub enum Request<'a> {
     /// The report of the built-in texts.
     BuiltIn,
@@ -80,7 +80,7 @@ pub enum Request<'a> {
 }
 
 /// What the words ask for.
-#[derive(Debug, Drop)]
+#[derive(Drop)]
 pub enum Asked<'a> {
     /// Help, which goes to the output.
     Help(String),
@@ -92,92 +92,109 @@ pub enum Asked<'a> {
     Run { request: Request<'a>, hints: bool },
 }
 
-// An option that takes a file.
-fn file_option<'a>(alloc: Global, name: &'a str, help: &'a str) -> Arg<'a> {
-    Arg::new(alloc, name)
-        .long(name)
+// A file that a command takes: the name of its option, and what the command's help says of it.
+struct File {
+    name: &'static str,
+    help: &'static str,
+}
+
+const PARAMS: File = File {
+    name: "params",
+    help: "The capture",
+};
+
+const ORDERS: File = File {
+    name: "orders",
+    help: "The order table",
+};
+
+const SCRIPT: File = File {
+    name: "script",
+    help: "The script",
+};
+
+const CASE: File = File {
+    name: "case",
+    help: "The case",
+};
+
+const CERTIFICATE: File = File {
+    name: "cert",
+    help: "The certificate",
+};
+
+const MESSAGE: File = File {
+    name: "message",
+    help: "The message",
+};
+
+// A command: its name, what its help says of it, and the files that it takes.
+struct Described {
+    name: &'static str,
+    about: &'static str,
+    files: &'static [File],
+}
+
+// The commands that take files alone.
+const COMMANDS: [Described; 6] = [
+    Described {
+        name: "show",
+        about: "Shows what a capture says of the bank and the user",
+        files: &[PARAMS],
+    },
+    Described {
+        name: "judge",
+        about: "Names the rules that a message breaks",
+        files: &[PARAMS, ORDERS, MESSAGE],
+    },
+    Described {
+        name: "check",
+        about: "Names the rules that some run of a script breaks",
+        files: &[PARAMS, ORDERS, SCRIPT],
+    },
+    Described {
+        name: "explain",
+        about: "Names the rules that some run of a script breaks, each with a case",
+        files: &[PARAMS, ORDERS, SCRIPT],
+    },
+    Described {
+        name: "certify",
+        about: "Prints the certificate of a script whose runs break no rule",
+        files: &[PARAMS, ORDERS, SCRIPT],
+    },
+    Described {
+        name: "verify",
+        about: "Tells whether a certificate of a script is closed",
+        files: &[PARAMS, ORDERS, SCRIPT, CERTIFICATE],
+    },
+];
+
+// The command that takes the number of a message too.
+const RUN: Described = Described {
+    name: "run",
+    about: "Prints the messages that a client sends under a case",
+    files: &[ORDERS, SCRIPT, CASE],
+};
+
+// The option that takes a file.
+fn file_option<'a>(alloc: Global, file: &File) -> Arg<'a> {
+    Arg::new(alloc, file.name)
+        .long(file.name)
         .value_name("FILE")
-        .help(help)
+        .help(file.help)
         .required(true)
         .action(ArgAction::Set)
 }
 
-// A command.
-fn command<'a>(alloc: Global, name: &'a str, about: &'a str) -> Command<'a> {
-    Command::new(alloc, name).about(about).after_help(SEE_HELP)
-}
-
-fn show_command<'a>(alloc: Global) -> Result<Command<'a>, AllocError> {
-    command(
-        alloc,
-        "show",
-        "Shows what a capture says of the bank and the user",
-    )
-    .arg(file_option(alloc, "params", "The capture"))
-}
-
-fn judge_command<'a>(alloc: Global) -> Result<Command<'a>, AllocError> {
-    command(alloc, "judge", "Names the rules that a message breaks")
-        .arg(file_option(alloc, "params", "The capture"))?
-        .arg(file_option(alloc, "orders", "The order table"))?
-        .arg(file_option(alloc, "message", "The message"))
-}
-
-// A command that takes a script.
-fn script_command<'a>(
-    alloc: Global,
-    name: &'a str,
-    about: &'a str,
-) -> Result<Command<'a>, AllocError> {
-    command(alloc, name, about)
-        .arg(file_option(alloc, "params", "The capture"))?
-        .arg(file_option(alloc, "orders", "The order table"))?
-        .arg(file_option(alloc, "script", "The script"))
-}
-
-fn check_command<'a>(alloc: Global) -> Result<Command<'a>, AllocError> {
-    script_command(
-        alloc,
-        "check",
-        "Names the rules that some run of a script breaks",
-    )
-}
-
-fn explain_command<'a>(alloc: Global) -> Result<Command<'a>, AllocError> {
-    script_command(
-        alloc,
-        "explain",
-        "Names the rules that some run of a script breaks, each with a case",
-    )
-}
-
-fn certify_command<'a>(alloc: Global) -> Result<Command<'a>, AllocError> {
-    script_command(
-        alloc,
-        "certify",
-        "Prints the certificate of a script whose runs break no rule",
-    )
-}
-
-fn verify_command<'a>(alloc: Global) -> Result<Command<'a>, AllocError> {
-    script_command(
-        alloc,
-        "verify",
-        "Tells whether a certificate of a script is closed",
-    )?
-    .arg(file_option(alloc, "cert", "The certificate"))
-}
-
-fn run_command<'a>(alloc: Global) -> Result<Command<'a>, AllocError> {
-    command(
-        alloc,
-        "run",
-        "Prints the messages that a client sends under a case",
-    )
-    .arg(file_option(alloc, "orders", "The order table"))?
-    .arg(file_option(alloc, "script", "The script"))?
-    .arg(file_option(alloc, "case", "The case"))?
-    .arg(message_option(alloc))
+// A command with an option for each of its files.
+fn command<'a>(alloc: Global, described: &Described) -> Result<Command<'a>, AllocError> {
+    let mut command = Command::new(alloc, described.name)
+        .about(described.about)
+        .after_help(SEE_HELP);
+    for file in described.files {
+        command = command.arg(file_option(alloc, file))?;
+    }
+    Ok(command)
 }
 
 // The option that takes the number of a message.
@@ -188,6 +205,11 @@ fn message_option<'a>(alloc: Global) -> Arg<'a> {
         .help("Only the bytes of message N")
         .value_parser(value_parser!(u32))
         .action(ArgAction::Set)
+}
+
+// The command that prints messages, or one of them.
+fn run_command<'a>(alloc: Global) -> Result<Command<'a>, AllocError> {
+    command(alloc, &RUN)?.arg(message_option(alloc))
 }
 
 // The option that each command has.
@@ -211,15 +233,21 @@ fn program<'a>(alloc: Global) -> Result<Command<'a>, AllocError> {
         .arg(hints_option(alloc))
 }
 
+// The program with a command more.
+fn with_command<'a>(
+    alloc: Global,
+    program: Command<'a>,
+    described: &Described,
+) -> Result<Command<'a>, AllocError> {
+    program.subcommand(command(alloc, described)?)
+}
+
 fn command_line<'a>(alloc: Global) -> Result<Command<'a>, AllocError> {
-    program(alloc)?
-        .subcommand(show_command(alloc)?)?
-        .subcommand(judge_command(alloc)?)?
-        .subcommand(check_command(alloc)?)?
-        .subcommand(explain_command(alloc)?)?
-        .subcommand(certify_command(alloc)?)?
-        .subcommand(verify_command(alloc)?)?
-        .subcommand(run_command(alloc)?)
+    let mut program = program(alloc)?;
+    for described in &COMMANDS {
+        program = with_command(alloc, program, described)?;
+    }
+    program.subcommand(run_command(alloc)?)
 }
 
 // What is told in place of a command.
@@ -280,28 +308,43 @@ fn run_files<'a>(options: &ArgMatches<'a>) -> Option<RunFiles<'a>> {
     })
 }
 
+fn show_request<'a>(options: &ArgMatches<'a>) -> Option<Request<'a>> {
+    let params = options.get_str("params")?;
+    Some(Request::Show { params })
+}
+
+fn judge_request<'a>(options: &ArgMatches<'a>) -> Option<Request<'a>> {
+    Some(Request::Judge {
+        params: options.get_str("params")?,
+        orders: options.get_str("orders")?,
+        message: options.get_str("message")?,
+    })
+}
+
+fn verify_request<'a>(options: &ArgMatches<'a>) -> Option<Request<'a>> {
+    Some(Request::Verify {
+        files: script_files(options)?,
+        certificate: options.get_str("cert")?,
+    })
+}
+
+fn run_request<'a>(options: &ArgMatches<'a>) -> Option<Request<'a>> {
+    Some(Request::Run {
+        files: run_files(options)?,
+        message: options.get_one::<u32>("message"),
+    })
+}
+
 // The command with its options, each of which the command line requires.
 fn named_request<'a>(name: &str, options: &ArgMatches<'a>) -> Option<Request<'a>> {
     match name {
-        "show" => Some(Request::Show {
-            params: options.get_str("params")?,
-        }),
-        "judge" => Some(Request::Judge {
-            params: options.get_str("params")?,
-            orders: options.get_str("orders")?,
-            message: options.get_str("message")?,
-        }),
+        "show" => show_request(options),
+        "judge" => judge_request(options),
         "check" => Some(Request::Check(script_files(options)?)),
         "explain" => Some(Request::Explain(script_files(options)?)),
         "certify" => Some(Request::Certify(script_files(options)?)),
-        "verify" => Some(Request::Verify {
-            files: script_files(options)?,
-            certificate: options.get_str("cert")?,
-        }),
-        "run" => Some(Request::Run {
-            files: run_files(options)?,
-            message: options.get_one::<u32>("message"),
-        }),
+        "verify" => verify_request(options),
+        "run" => run_request(options),
         _ => None,
     }
 }
