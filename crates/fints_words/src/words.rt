@@ -92,113 +92,81 @@ pub enum Asked<'a> {
     Run { request: Request<'a>, hints: bool },
 }
 
-// A file that a command takes: the name of its option, and what the command's help says of it.
-struct File {
-    name: &'static str,
-    help: &'static str,
+// An option of a command.
+enum Choice {
+    // A file: the name of the option, and what the command's help says of it.
+    File(&'static str, &'static str),
+    // The number of a message.
+    Number,
 }
 
-const PARAMS: File = File {
-    name: "params",
-    help: "The capture",
-};
+const PARAMS: Choice = Choice::File("params", "The capture");
 
-const ORDERS: File = File {
-    name: "orders",
-    help: "The order table",
-};
+const ORDERS: Choice = Choice::File("orders", "The order table");
 
-const SCRIPT: File = File {
-    name: "script",
-    help: "The script",
-};
+const SCRIPT: Choice = Choice::File("script", "The script");
 
-const CASE: File = File {
-    name: "case",
-    help: "The case",
-};
+const CASE: Choice = Choice::File("case", "The case");
 
-const CERTIFICATE: File = File {
-    name: "cert",
-    help: "The certificate",
-};
+const CERTIFICATE: Choice = Choice::File("cert", "The certificate");
 
-const MESSAGE: File = File {
-    name: "message",
-    help: "The message",
-};
+const MESSAGE: Choice = Choice::File("message", "The message");
 
-// A command: its name, what its help says of it, and the files that it takes.
+// A command: its name, what its help says of it, and its options.
 struct Described {
     name: &'static str,
     about: &'static str,
-    files: &'static [File],
+    options: &'static [Choice],
 }
 
-// The commands that take files alone.
-const COMMANDS: [Described; 6] = [
+const COMMANDS: [Described; 7] = [
     Described {
         name: "show",
         about: "Shows what a capture says of the bank and the user",
-        files: &[PARAMS],
+        options: &[PARAMS],
     },
     Described {
         name: "judge",
         about: "Names the rules that a message breaks",
-        files: &[PARAMS, ORDERS, MESSAGE],
+        options: &[PARAMS, ORDERS, MESSAGE],
     },
     Described {
         name: "check",
         about: "Names the rules that some run of a script breaks",
-        files: &[PARAMS, ORDERS, SCRIPT],
+        options: &[PARAMS, ORDERS, SCRIPT],
     },
     Described {
         name: "explain",
         about: "Names the rules that some run of a script breaks, each with a case",
-        files: &[PARAMS, ORDERS, SCRIPT],
+        options: &[PARAMS, ORDERS, SCRIPT],
     },
     Described {
         name: "certify",
         about: "Prints the certificate of a script whose runs break no rule",
-        files: &[PARAMS, ORDERS, SCRIPT],
+        options: &[PARAMS, ORDERS, SCRIPT],
     },
     Described {
         name: "verify",
         about: "Tells whether a certificate of a script is closed",
-        files: &[PARAMS, ORDERS, SCRIPT, CERTIFICATE],
+        options: &[PARAMS, ORDERS, SCRIPT, CERTIFICATE],
+    },
+    Described {
+        name: "run",
+        about: "Prints the messages that a client sends under a case",
+        options: &[ORDERS, SCRIPT, CASE, Choice::Number],
     },
 ];
 
-// The command that takes the number of a message too.
-const RUN: Described = Described {
-    name: "run",
-    about: "Prints the messages that a client sends under a case",
-    files: &[ORDERS, SCRIPT, CASE],
-};
-
-// The option that takes a file.
-fn file_option<'a>(alloc: Global, file: &File) -> Arg<'a> {
-    Arg::new(alloc, file.name)
-        .long(file.name)
+fn file_option<'a>(alloc: Global, name: &'a str, help: &'a str) -> Arg<'a> {
+    Arg::new(alloc, name)
+        .long(name)
         .value_name("FILE")
-        .help(file.help)
+        .help(help)
         .required(true)
         .action(ArgAction::Set)
 }
 
-// A command with an option for each of its files.
-fn command<'a>(alloc: Global, described: &Described) -> Result<Command<'a>, AllocError> {
-    let mut command = Command::new(alloc, described.name)
-        .about(described.about)
-        .after_help(SEE_HELP);
-    for file in described.files {
-        command = command.arg(file_option(alloc, file))?;
-    }
-    Ok(command)
-}
-
-// The option that takes the number of a message.
-fn message_option<'a>(alloc: Global) -> Arg<'a> {
+fn number_option<'a>(alloc: Global) -> Arg<'a> {
     Arg::new(alloc, "message")
         .long("message")
         .value_name("N")
@@ -207,9 +175,22 @@ fn message_option<'a>(alloc: Global) -> Arg<'a> {
         .action(ArgAction::Set)
 }
 
-// The command that prints messages, or one of them.
-fn run_command<'a>(alloc: Global) -> Result<Command<'a>, AllocError> {
-    command(alloc, &RUN)?.arg(message_option(alloc))
+fn option<'a>(alloc: Global, choice: &Choice) -> Arg<'a> {
+    match choice {
+        Choice::File(name, help) => file_option(alloc, name, help),
+        Choice::Number => number_option(alloc),
+    }
+}
+
+// A command with its options.
+fn command<'a>(alloc: Global, described: &Described) -> Result<Command<'a>, AllocError> {
+    let mut command = Command::new(alloc, described.name)
+        .about(described.about)
+        .after_help(SEE_HELP);
+    for choice in described.options {
+        command = command.arg(option(alloc, choice))?;
+    }
+    Ok(command)
 }
 
 // The option that each command has.
@@ -233,21 +214,12 @@ fn program<'a>(alloc: Global) -> Result<Command<'a>, AllocError> {
         .arg(hints_option(alloc))
 }
 
-// The program with a command more.
-fn with_command<'a>(
-    alloc: Global,
-    program: Command<'a>,
-    described: &Described,
-) -> Result<Command<'a>, AllocError> {
-    program.subcommand(command(alloc, described)?)
-}
-
 fn command_line<'a>(alloc: Global) -> Result<Command<'a>, AllocError> {
     let mut program = program(alloc)?;
     for described in &COMMANDS {
-        program = with_command(alloc, program, described)?;
+        program = program.subcommand(command(alloc, described)?)?;
     }
-    program.subcommand(run_command(alloc)?)
+    Ok(program)
 }
 
 // What is told in place of a command.
