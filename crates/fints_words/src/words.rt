@@ -30,7 +30,7 @@ Files:
 const SEE_HELP: &str = "The statuses and the files: fints --help";
 
 /// The files of a command that reads a script.
-#[derive(Clone, Copy, Debug, PartialEq, Eq)]
+#[derive(Clone, Copy)]
 pub struct ScriptFiles<'a> {
     pub params: &'a str,
     pub orders: &'a str,
@@ -38,7 +38,7 @@ pub struct ScriptFiles<'a> {
 }
 
 /// The files of a command that sends the messages of a case.
-#[derive(Clone, Copy, Debug, PartialEq, Eq)]
+#[derive(Clone, Copy)]
 pub struct RunFiles<'a> {
     pub orders: &'a str,
     pub script: &'a str,
@@ -46,7 +46,7 @@ pub struct RunFiles<'a> {
 }
 
 /// A command with its files.
-#[derive(Debug, Drop)]
+#[derive(Drop)]
 pub enum Request<'a> {
     /// The report of the built-in texts.
     BuiltIn,
@@ -80,7 +80,7 @@ pub enum Request<'a> {
 }
 
 /// What the words ask for.
-#[derive(Debug, Drop)]
+#[derive(Drop)]
 pub enum Asked<'a> {
     /// Help, which goes to the output.
     Help(String),
@@ -92,7 +92,71 @@ pub enum Asked<'a> {
     Run { request: Request<'a>, hints: bool },
 }
 
-// An option that takes a file.
+// An option of a command.
+enum Choice {
+    // A file: the name of the option, and what the command's help says of it.
+    File(&'static str, &'static str),
+    // The number of a message.
+    Number,
+}
+
+const PARAMS: Choice = Choice::File("params", "The capture");
+
+const ORDERS: Choice = Choice::File("orders", "The order table");
+
+const SCRIPT: Choice = Choice::File("script", "The script");
+
+const CASE: Choice = Choice::File("case", "The case");
+
+const CERTIFICATE: Choice = Choice::File("cert", "The certificate");
+
+const MESSAGE: Choice = Choice::File("message", "The message");
+
+// A command: its name, what its help says of it, and its options.
+struct Described {
+    name: &'static str,
+    about: &'static str,
+    options: &'static [Choice],
+}
+
+const COMMANDS: [Described; 7] = [
+    Described {
+        name: "show",
+        about: "Shows what a capture says of the bank and the user",
+        options: &[PARAMS],
+    },
+    Described {
+        name: "judge",
+        about: "Names the rules that a message breaks",
+        options: &[PARAMS, ORDERS, MESSAGE],
+    },
+    Described {
+        name: "check",
+        about: "Names the rules that some run of a script breaks",
+        options: &[PARAMS, ORDERS, SCRIPT],
+    },
+    Described {
+        name: "explain",
+        about: "Names the rules that some run of a script breaks, each with a case",
+        options: &[PARAMS, ORDERS, SCRIPT],
+    },
+    Described {
+        name: "certify",
+        about: "Prints the certificate of a script whose runs break no rule",
+        options: &[PARAMS, ORDERS, SCRIPT],
+    },
+    Described {
+        name: "verify",
+        about: "Tells whether a certificate of a script is closed",
+        options: &[PARAMS, ORDERS, SCRIPT, CERTIFICATE],
+    },
+    Described {
+        name: "run",
+        about: "Prints the messages that a client sends under a case",
+        options: &[ORDERS, SCRIPT, CASE, Choice::Number],
+    },
+];
+
 fn file_option<'a>(alloc: Global, name: &'a str, help: &'a str) -> Arg<'a> {
     Arg::new(alloc, name)
         .long(name)
@@ -102,92 +166,31 @@ fn file_option<'a>(alloc: Global, name: &'a str, help: &'a str) -> Arg<'a> {
         .action(ArgAction::Set)
 }
 
-// A command.
-fn command<'a>(alloc: Global, name: &'a str, about: &'a str) -> Command<'a> {
-    Command::new(alloc, name).about(about).after_help(SEE_HELP)
-}
-
-fn show_command<'a>(alloc: Global) -> Result<Command<'a>, AllocError> {
-    command(
-        alloc,
-        "show",
-        "Shows what a capture says of the bank and the user",
-    )
-    .arg(file_option(alloc, "params", "The capture"))
-}
-
-fn judge_command<'a>(alloc: Global) -> Result<Command<'a>, AllocError> {
-    command(alloc, "judge", "Names the rules that a message breaks")
-        .arg(file_option(alloc, "params", "The capture"))?
-        .arg(file_option(alloc, "orders", "The order table"))?
-        .arg(file_option(alloc, "message", "The message"))
-}
-
-// A command that takes a script.
-fn script_command<'a>(
-    alloc: Global,
-    name: &'a str,
-    about: &'a str,
-) -> Result<Command<'a>, AllocError> {
-    command(alloc, name, about)
-        .arg(file_option(alloc, "params", "The capture"))?
-        .arg(file_option(alloc, "orders", "The order table"))?
-        .arg(file_option(alloc, "script", "The script"))
-}
-
-fn check_command<'a>(alloc: Global) -> Result<Command<'a>, AllocError> {
-    script_command(
-        alloc,
-        "check",
-        "Names the rules that some run of a script breaks",
-    )
-}
-
-fn explain_command<'a>(alloc: Global) -> Result<Command<'a>, AllocError> {
-    script_command(
-        alloc,
-        "explain",
-        "Names the rules that some run of a script breaks, each with a case",
-    )
-}
-
-fn certify_command<'a>(alloc: Global) -> Result<Command<'a>, AllocError> {
-    script_command(
-        alloc,
-        "certify",
-        "Prints the certificate of a script whose runs break no rule",
-    )
-}
-
-fn verify_command<'a>(alloc: Global) -> Result<Command<'a>, AllocError> {
-    script_command(
-        alloc,
-        "verify",
-        "Tells whether a certificate of a script is closed",
-    )?
-    .arg(file_option(alloc, "cert", "The certificate"))
-}
-
-fn run_command<'a>(alloc: Global) -> Result<Command<'a>, AllocError> {
-    command(
-        alloc,
-        "run",
-        "Prints the messages that a client sends under a case",
-    )
-    .arg(file_option(alloc, "orders", "The order table"))?
-    .arg(file_option(alloc, "script", "The script"))?
-    .arg(file_option(alloc, "case", "The case"))?
-    .arg(message_option(alloc))
-}
-
-// The option that takes the number of a message.
-fn message_option<'a>(alloc: Global) -> Arg<'a> {
+fn number_option<'a>(alloc: Global) -> Arg<'a> {
     Arg::new(alloc, "message")
         .long("message")
         .value_name("N")
         .help("Only the bytes of message N")
         .value_parser(value_parser!(u32))
         .action(ArgAction::Set)
+}
+
+fn option<'a>(alloc: Global, choice: &Choice) -> Arg<'a> {
+    match choice {
+        Choice::File(name, help) => file_option(alloc, name, help),
+        Choice::Number => number_option(alloc),
+    }
+}
+
+// A command with its options.
+fn command<'a>(alloc: Global, described: &Described) -> Result<Command<'a>, AllocError> {
+    let mut command = Command::new(alloc, described.name)
+        .about(described.about)
+        .after_help(SEE_HELP);
+    for choice in described.options {
+        command = command.arg(option(alloc, choice))?;
+    }
+    Ok(command)
 }
 
 // The option that each command has.
@@ -212,14 +215,11 @@ fn program<'a>(alloc: Global) -> Result<Command<'a>, AllocError> {
 }
 
 fn command_line<'a>(alloc: Global) -> Result<Command<'a>, AllocError> {
-    program(alloc)?
-        .subcommand(show_command(alloc)?)?
-        .subcommand(judge_command(alloc)?)?
-        .subcommand(check_command(alloc)?)?
-        .subcommand(explain_command(alloc)?)?
-        .subcommand(certify_command(alloc)?)?
-        .subcommand(verify_command(alloc)?)?
-        .subcommand(run_command(alloc)?)
+    let mut program = program(alloc)?;
+    for described in &COMMANDS {
+        program = program.subcommand(command(alloc, described)?)?;
+    }
+    Ok(program)
 }
 
 // What is told in place of a command.
@@ -280,28 +280,43 @@ fn run_files<'a>(options: &ArgMatches<'a>) -> Option<RunFiles<'a>> {
     })
 }
 
+fn show_request<'a>(options: &ArgMatches<'a>) -> Option<Request<'a>> {
+    let params = options.get_str("params")?;
+    Some(Request::Show { params })
+}
+
+fn judge_request<'a>(options: &ArgMatches<'a>) -> Option<Request<'a>> {
+    Some(Request::Judge {
+        params: options.get_str("params")?,
+        orders: options.get_str("orders")?,
+        message: options.get_str("message")?,
+    })
+}
+
+fn verify_request<'a>(options: &ArgMatches<'a>) -> Option<Request<'a>> {
+    Some(Request::Verify {
+        files: script_files(options)?,
+        certificate: options.get_str("cert")?,
+    })
+}
+
+fn run_request<'a>(options: &ArgMatches<'a>) -> Option<Request<'a>> {
+    Some(Request::Run {
+        files: run_files(options)?,
+        message: options.get_one::<u32>("message"),
+    })
+}
+
 // The command with its options, each of which the command line requires.
 fn named_request<'a>(name: &str, options: &ArgMatches<'a>) -> Option<Request<'a>> {
     match name {
-        "show" => Some(Request::Show {
-            params: options.get_str("params")?,
-        }),
-        "judge" => Some(Request::Judge {
-            params: options.get_str("params")?,
-            orders: options.get_str("orders")?,
-            message: options.get_str("message")?,
-        }),
+        "show" => show_request(options),
+        "judge" => judge_request(options),
         "check" => Some(Request::Check(script_files(options)?)),
         "explain" => Some(Request::Explain(script_files(options)?)),
         "certify" => Some(Request::Certify(script_files(options)?)),
-        "verify" => Some(Request::Verify {
-            files: script_files(options)?,
-            certificate: options.get_str("cert")?,
-        }),
-        "run" => Some(Request::Run {
-            files: run_files(options)?,
-            message: options.get_one::<u32>("message"),
-        }),
+        "verify" => verify_request(options),
+        "run" => run_request(options),
         _ => None,
     }
 }
