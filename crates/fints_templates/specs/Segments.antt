@@ -1,7 +1,7 @@
 -- What a segment's table is: a template, or the first kind of fault in it.
 use Rattle.std.specs.Prelude.{codes, ℕ, true, if◌then◌else◌, List, [], ◌∷◌, Err, ok_or}
 use Rattle.toml.specs.Data.{Data, string, table, Members, get_member}
-use Rattle.fints_segments.specs.Kind.{kind_from, is_frame_kind}
+use Rattle.fints_kinds.specs.Kind.{kind_from, is_frame_kind}
 use Rattle.fints_documents.specs.Document.{only_keys}
 use Rattle.fints_field_rows.specs.Parts.{Part, ◌>>=◌, both, integer_in, optional, required, seen}
 use Rattle.fints_field_rows.specs.declared.fault.FaultKind.TheVariants as kinds

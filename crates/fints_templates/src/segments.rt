@@ -9,7 +9,7 @@ use crate::template::{Template, TemplateElements};
 use fints_documents::document;
 use fints_field_rows::parts::{both, integer_in, required};
 use fints_field_rows::{FaultKind, Fields};
-use fints_segments::{Kind, is_frame_kind};
+use fints_kinds::{Kind, is_frame_kind};
 use std::alloc::Global;
 use toml::{Table, Value};
 
