@@ -21,7 +21,7 @@ pub enum Target {
 }
 
 /// An answer with a code that the pattern matches leads to the target.
-#[derive(Clone, Copy, Debug, PartialEq, Eq)]
+#[derive(Clone, Copy, PartialEq, Eq)]
 pub struct Branch {
     pub on: Pattern,
     pub to: Target,
