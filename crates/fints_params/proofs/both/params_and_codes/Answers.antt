@@ -1,5 +1,7 @@
 use Rattle.std.proofs.Common.{◌<◌, ◌^◌, arith, inl, inr}
 use Rattle.std.proofs.lemmas.Result.{err_from_is_err_and}
+use Rattle.fints_params.specs.Captures.{IsEitherFault}
+use Rattle.fints_params.specs.Faults.{IsMemoryOr}
 use Rattle.fints_params.specs.Parameters.{skipped_in}
 use Rattle.fints_params.proofs.Bounds.{can_count}
 use Rattle.fints_params.proofs.BothRead.{code_fault, params_of, missing}
@@ -24,3 +26,19 @@ returns-in-Some-clause-refused c =
     let rows = params_of c.args.capture.now e.0 e.2.0 c.in_ok-rows.field-0.rows c.in_ok-params.params e.1 e.2.1 e.2.2.0 (c.in_ok-params.ensures.complete e.2.0 e.2.2.0.rows) (c.in_ok-params.ensures.rows e.2.0 e.2.2.0.rows) in
     let fault = code_fault c.args.capture.now e.0 e.2.0 c.in_ok-rows.field-0.refused c.in_ok-rows.field-0.found.codes.items c.in-Some.fault c.in-Some.is e.1 e.2.1 e.2.2.1 in
     inr (inr (c.in_ok-params.params, rows, fault))
+
+pub returns-in_err-rows-clause-refused : goal.returns-in_err-rows-clause-refused
+returns-in_err-rows-clause-refused c =
+    let f = c.in_err-rows.field-0.0 in
+    let told : IsMemoryOr (IsEitherFault c.args.capture.now) f = elim c.in_err-rows.ensures.refused [
+      | inl m ↦ inl m
+      | inr (inl s) ↦ inr (inl (inl s))
+      | inr (inr (placed, values, r)) ↦ inr (inl (inr (placed, values, inl r)))
+    ] in
+    let p = err_from_is_err_and c.from_residual.result c.from_residual.ensures.1 in
+    rw (p.1, p.2) told
+
+pub returns-clause-params : goal.returns-clause-params
+returns-clause-params c =
+    let e = c.in_ok-rows.ensures.ok in
+    params_of c.args.capture.now e.0 e.2.0 c.in_ok-rows.field-0.rows c.in_ok-params.params e.1 e.2.1 e.2.2.0 (c.in_ok-params.ensures.complete e.2.0 e.2.2.0.rows) (c.in_ok-params.ensures.rows e.2.0 e.2.2.0.rows)

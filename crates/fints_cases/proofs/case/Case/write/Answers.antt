@@ -1,4 +1,4 @@
-use Rattle.std.proofs.Common.{[], ◌∷◌, codes, map}
+use Rattle.std.proofs.Common.{rules, [], ◌∷◌, codes, map}
 use Rattle.fints_lines.specs.LineLaws.{lines_more, all_more}
 use Rattle.fints_cases.specs.Answers.{IsAnswer}
 use Rattle.fints_cases.specs.Cases.{field_text, answer_text, IsNamedValue}
@@ -22,3 +22,6 @@ loop-answer-preserved c =
       values = c.loop-answer.invariant.values;
       good = all_more IsAnswer c.args.self.now.answers.items c.loop-answer.answer-index c.answer-item.result within item c.loop-answer.invariant.good c.in_ok-write_answer.ensures.good;
     }
+
+pub loop-pair-init : goal.loop-pair-init
+loop-pair-init c = search rules

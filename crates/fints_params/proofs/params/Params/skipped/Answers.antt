@@ -1,0 +1,5 @@
+use Rattle.std.proofs.Common.{rules}
+use Rattle.fints_params.proofs.params.Params.skipped.Goals as goal
+
+pub returns : goal.returns
+returns c = search rules
