@@ -1,10 +1,10 @@
 //! What is wrong with elements.
-use crate::guessing::{Known, guess_of};
-use crate::places::{Told, names_of, text_in};
-use crate::quoting::{Character, Quoted, Shown};
+use crate::guessing::{Named, not_named};
+use crate::keys::must_be;
+use crate::places::{Spot, Told, names_of, text_in, told, told_at};
+use crate::quoting::{Character, Quoted};
 use fints_field_rows::text::is_latin1;
 use fints_field_rows::{FaultKind, NamedRows};
-use fints_syntax::Memory;
 use std::alloc::Global;
 use toml::Value;
 
@@ -25,9 +25,21 @@ pub enum ItemSlip<'a> {
     NotLatin1(&'a str),
 }
 
+impl ItemSlip<'_> {
+    // The fault that it is.
+    fn kind(&self) -> FaultKind {
+        match self {
+            ItemSlip::Empty | ItemSlip::NoText(_) | ItemSlip::Account(_) => FaultKind::WrongKind,
+            ItemSlip::Unknown(_) => FaultKind::NoSuchName,
+            ItemSlip::Digits(_) => FaultKind::BadHex,
+            ItemSlip::NotLatin1(_) => FaultKind::NotLatin1,
+        }
+    }
+}
+
 /// The element, from 2 on, and the item in it, from 1 on, where it is an array.
 #[derive(Clone, Copy)]
-pub struct ElementSlip<'a> {
+struct ElementSlip<'a> {
     element: usize,
     item: Option<usize>,
     slip: ItemSlip<'a>,
@@ -43,44 +55,41 @@ fn is_account(fields: &NamedRows<'_>, name: &str) -> bool {
     }
 }
 
-fn reference_slip<'a>(
-    kind: FaultKind,
-    fields: &NamedRows<'_>,
-    free: bool,
-    name: &'a str,
-) -> Option<ItemSlip<'a>> {
-    match kind {
-        FaultKind::WrongKind if !free && is_account(fields, name) => Some(ItemSlip::Account(name)),
-        FaultKind::NoSuchName if name != "dialog" && !fields.has(name) => {
-            Some(ItemSlip::Unknown(name))
-        }
-        _ => None,
+fn reference_slip<'a>(fields: &NamedRows<'_>, free: bool, name: &'a str) -> Option<ItemSlip<'a>> {
+    if name != "dialog" && !fields.has(name) {
+        return Some(ItemSlip::Unknown(name));
     }
+    if free || !is_account(fields, name) {
+        return None;
+    }
+    Some(ItemSlip::Account(name))
+}
+
+// The first character that is no hex digit.
+fn bad_digit(digits: &str) -> Option<char> {
+    digits.chars().find(|ch| !ch.is_digit(16))
 }
 
 fn is_hex(digits: &str) -> bool {
-    digits.len() % 2 == 0 && digits.bytes().all(|b| b.is_ascii_hexdigit())
+    digits.len() % 2 == 0 && bad_digit(digits).is_none()
 }
 
-fn text_slip<'a>(
-    kind: FaultKind,
-    fields: &NamedRows<'_>,
-    free: bool,
-    text: &'a str,
-) -> Option<ItemSlip<'a>> {
+fn text_slip<'a>(fields: &NamedRows<'_>, free: bool, text: &'a str) -> Option<ItemSlip<'a>> {
     if let Some(name) = text.strip_prefix('$') {
-        return reference_slip(kind, fields, free, name);
+        return reference_slip(fields, free, name);
     }
     if let Some(digits) = text.strip_prefix('%') {
-        return match kind {
-            FaultKind::BadHex if !is_hex(digits) => Some(ItemSlip::Digits(digits)),
-            _ => None,
+        return if is_hex(digits) {
+            None
+        } else {
+            Some(ItemSlip::Digits(digits))
         };
     }
     let literal = text.strip_prefix('=').unwrap_or(text);
-    match kind {
-        FaultKind::NotLatin1 if !is_latin1(literal) => Some(ItemSlip::NotLatin1(literal)),
-        _ => None,
+    if is_latin1(literal) {
+        None
+    } else {
+        Some(ItemSlip::NotLatin1(literal))
     }
 }
 
@@ -90,12 +99,14 @@ fn item_slip<'a>(
     free: bool,
     value: &'a Value,
 ) -> Option<ItemSlip<'a>> {
-    match value {
-        Value::String(text) => text_slip(kind, fields, free, text.as_str()),
-        _ => match kind {
-            FaultKind::WrongKind => Some(ItemSlip::NoText(value)),
-            _ => None,
-        },
+    let slip = match value {
+        Value::String(text) => text_slip(fields, free, text.as_str())?,
+        _ => ItemSlip::NoText(value),
+    };
+    if slip.kind() == kind {
+        Some(slip)
+    } else {
+        None
     }
 }
 
@@ -134,14 +145,11 @@ fn element_slip<'a>(
 ) -> Option<ElementSlip<'a>> {
     match value {
         Value::Array(values) => array_slip(kind, fields, element, values.as_slice()),
-        _ => {
-            let slip = item_slip(kind, fields, free, value)?;
-            Some(ElementSlip {
-                element,
-                item: None,
-                slip,
-            })
-        }
+        _ => Some(ElementSlip {
+            element,
+            item: None,
+            slip: item_slip(kind, fields, free, value)?,
+        }),
     }
 }
 
@@ -160,81 +168,71 @@ fn first_slip<'a>(
     None
 }
 
-fn unknown_text(alloc: Global, fields: &NamedRows<'_>, name: &str) -> Result<String, Memory> {
-    let mut names = names_of(alloc, fields.as_slice())?;
-    names.push("dialog")?;
-    let guess = guess_of(alloc, names.as_slice(), name)?;
-    if guess.near.is_some() {
-        return Ok(format!(in alloc; ": no field is named {guess}")?);
-    }
-    let known = Known(names.as_slice());
-    Ok(format!(in alloc;
-        ": no field is named {guess}; {known}. A text that begins with $ is written \"=$..\""
-    )?)
+fn unknown_text(alloc: Global, fields: &NamedRows<'_>, name: &str) -> Told {
+    let names = names_of(alloc, fields.as_slice(), &["dialog"])?;
+    let named = Named {
+        what: "field",
+        names: names.as_slice(),
+        remark: ". A text that begins with $ is written \"=$..\"",
+    };
+    not_named(alloc, "", &named, name)
 }
 
-fn digits_text(alloc: Global, digits: &str) -> Result<String, Memory> {
-    match digits.chars().find(|ch| !ch.is_digit(16)) {
-        Some(ch) => {
-            let ch = Character(ch);
-            Ok(format!(in alloc;
-                ": the character {ch} behind % is no hex digit. A text that begins with % is written \"=%..\""
-            )?)
-        }
-        None => {
-            let count = digits.len();
-            Ok(format!(in alloc;
-                ": behind % stands an odd number of hex digits, {count}; two make a byte"
-            )?)
-        }
-    }
-}
-
-fn is_latin1_char(ch: char) -> bool {
-    matches!(ch, ' '..='~' | '\u{a0}'..='\u{ff}')
+fn digits_text(alloc: Global, digits: &str) -> Told {
+    let Some(ch) = bad_digit(digits) else {
+        let count = digits.len();
+        return told(
+            alloc,
+            format_args!(": behind % stands an odd number of hex digits, {count}; two make a byte"),
+        );
+    };
+    let ch = Character(ch);
+    told(
+        alloc,
+        format_args!(
+            ": the character {ch} behind % is no hex digit. A text that begins with % is written \"=%..\""
+        ),
+    )
 }
 
 /// What is wrong with a text that isn't of ISO 8859-1.
-pub fn not_latin1(alloc: Global, text: &str) -> Result<String, Memory> {
+pub fn not_latin1(alloc: Global, text: &str) -> Told {
     let shown = Quoted(text);
-    match text.chars().find(|ch| !is_latin1_char(*ch)) {
-        Some(ch) => {
-            let ch = Character(ch);
-            Ok(format!(in alloc;
-                ": the text {shown} has the character {ch}; a text has U+0020 to U+007E and U+00A0 to U+00FF"
-            )?)
-        }
-        None => Ok(format!(in alloc; ": the text {shown}")?),
-    }
+    let Some(ch) = text
+        .chars()
+        .find(|ch| !matches!(ch, ' '..='~' | '\u{a0}'..='\u{ff}'))
+    else {
+        return told(alloc, format_args!(": the text {shown}"));
+    };
+    let ch = Character(ch);
+    told(
+        alloc,
+        format_args!(
+            ": the text {shown} has the character {ch}; a text has U+0020 to U+007E and U+00A0 to U+00FF"
+        ),
+    )
 }
 
-fn no_text(alloc: Global, in_array: bool, value: &Value) -> Result<String, Memory> {
-    let shown = Shown(value);
-    if in_array {
-        Ok(format!(in alloc; " is {shown}, and must be a text")?)
-    } else {
-        Ok(format!(in alloc; " is {shown}, and must be a text or an array of texts")?)
-    }
-}
-
-fn account_text(alloc: Global, name: &str) -> Result<String, Memory> {
+fn account_text(alloc: Global, name: &str) -> Told {
     let shown = Quoted(name);
-    Ok(format!(in alloc;
-        ": the field {shown} is of class account; such a field is an element by itself (no array), in the segments of a step"
-    )?)
+    told(
+        alloc,
+        format_args!(
+            ": the field {shown} is of class account; such a field is an element by itself (no array), in the segments of a step"
+        ),
+    )
 }
 
-fn slip_text(
-    alloc: Global,
-    fields: &NamedRows<'_>,
-    found: &ElementSlip<'_>,
-) -> Result<String, Memory> {
+fn slip_text(alloc: Global, fields: &NamedRows<'_>, found: &ElementSlip<'_>) -> Told {
     match found.slip {
-        ItemSlip::Empty => Ok(String::from_str(
+        ItemSlip::Empty => told(
             alloc,
             " is an empty array; an element without bytes is \"\"",
-        )?),
-        ItemSlip::NoText(value) => no_text(alloc, found.item.is_some(), value),
+        ),
+        ItemSlip::NoText(value) => match found.item {
+            Some(_) => must_be(alloc, "", value, "a text"),
+            None => must_be(alloc, "", value, "a text or an array of texts"),
+        },
         ItemSlip::Account(name) => account_text(alloc, name),
         ItemSlip::Unknown(name) => unknown_text(alloc, fields, name),
         ItemSlip::Digits(digits) => digits_text(alloc, digits),
@@ -242,17 +240,14 @@ fn slip_text(
     }
 }
 
-fn place_text(
-    alloc: Global,
-    fields: &NamedRows<'_>,
-    found: &ElementSlip<'_>,
-) -> Result<String, Memory> {
-    let text = slip_text(alloc, fields, found)?;
-    let element = found.element;
-    match found.item {
-        Some(item) => Ok(format!(in alloc; ", element {element}, item {item}{text}")?),
-        None => Ok(format!(in alloc; ", element {element}{text}")?),
-    }
+fn found_text(alloc: Global, fields: &NamedRows<'_>, found: &ElementSlip<'_>) -> Told {
+    let spot = Spot {
+        list: ", element",
+        number: found.element,
+        part: ", item",
+        place: found.item,
+    };
+    told_at(alloc, spot, slip_text(alloc, fields, found)?)
 }
 
 /// The first element, of a list that stands at a key, in which a fault of this kind stands; account
@@ -264,12 +259,11 @@ pub fn elements_slip(
     free: bool,
     value: Option<&Value>,
 ) -> Told {
-    let found = match value {
-        Some(Value::Array(values)) => first_slip(kind, fields, free, values.as_slice()),
-        _ => None,
+    let Some(Value::Array(values)) = value else {
+        return Ok(None);
     };
-    match found {
-        Some(found) => Ok(Some(place_text(alloc, fields, &found)?)),
+    match first_slip(kind, fields, free, values.as_slice()) {
+        Some(found) => found_text(alloc, fields, &found),
         None => Ok(None),
     }
 }

@@ -1,7 +1,7 @@
 //! What is wrong with the listed values of a field.
 use crate::elements::not_latin1;
-use crate::places::Told;
-use crate::quoting::Shown;
+use crate::keys::must_be;
+use crate::places::{Spot, Told, told, told_at};
 use fints_field_rows::FaultKind;
 use fints_field_rows::text::is_latin1;
 use fints_syntax::Memory;
@@ -14,7 +14,7 @@ const MOST: usize = 10_000;
 
 /// What is wrong with a listed value.
 #[derive(Clone, Copy)]
-pub enum ValueSlip<'a> {
+enum ValueSlip<'a> {
     /// No text.
     NoText(&'a Value),
     /// No array of texts.
@@ -29,7 +29,7 @@ pub enum ValueSlip<'a> {
 
 /// The entry and the text in it, from 1 on.
 #[derive(Clone, Copy)]
-pub struct EntrySlip<'a> {
+struct EntrySlip<'a> {
     entry: usize,
     text: Option<usize>,
     slip: ValueSlip<'a>,
@@ -96,11 +96,10 @@ fn entry_slip(
     if accounts {
         return account_slip(kind, entry, value);
     }
-    let slip = text_slip(kind, value)?;
     Some(EntrySlip {
         entry,
         text: None,
-        slip,
+        slip: text_slip(kind, value)?,
     })
 }
 
@@ -113,32 +112,21 @@ fn first_slip(kind: FaultKind, accounts: bool, values: &[Value]) -> Option<Entry
     None
 }
 
-fn slip_text(alloc: Global, slip: &ValueSlip<'_>) -> Result<String, Memory> {
-    match slip {
-        ValueSlip::NoText(value) => {
-            let shown = Shown(*value);
-            Ok(format!(in alloc; " is {shown}, and must be a text")?)
-        }
-        ValueSlip::NoArray(value) => {
-            let shown = Shown(*value);
-            Ok(format!(in alloc; " is {shown}, and must be an array of 1 to 6 texts")?)
-        }
-        ValueSlip::Count(count) => Ok(format!(in alloc;
-            " has {count} texts; an account has 1 to 6, the items of its element"
-        )?),
+fn slip_text(alloc: Global, slip: &ValueSlip<'_>) -> Told {
+    match *slip {
+        ValueSlip::NoText(value) => must_be(alloc, "", value, "a text"),
+        ValueSlip::NoArray(value) => must_be(alloc, "", value, "an array of 1 to 6 texts"),
+        ValueSlip::Count(count) => told(
+            alloc,
+            format_args!(" has {count} texts; an account has 1 to 6, the items of its element"),
+        ),
         ValueSlip::NotLatin1(text) => not_latin1(alloc, text),
         ValueSlip::Long(count) => {
-            Ok(format!(in alloc; " has {count} characters, and may have {MOST}")?)
+            told(
+                alloc,
+                format_args!(" has {count} characters, and may have {MOST}"),
+            )
         }
-    }
-}
-
-fn entry_text(alloc: Global, found: &EntrySlip<'_>) -> Result<String, Memory> {
-    let text = slip_text(alloc, &found.slip)?;
-    let entry = found.entry;
-    match found.text {
-        Some(number) => Ok(format!(in alloc; ", values, entry {entry}, text {number}{text}")?),
-        None => Ok(format!(in alloc; ", values, entry {entry}{text}")?),
     }
 }
 
@@ -159,50 +147,51 @@ fn key_of(alloc: Global, value: &Value) -> Result<String, Memory> {
     Ok(key)
 }
 
-fn first_twice(alloc: Global, values: &[Value]) -> Result<Option<(usize, usize)>, Memory> {
+fn twice_text(alloc: Global, values: &[Value]) -> Told {
     let mut seen: BTreeMap<String, usize> = BTreeMap::new(alloc);
     for (i, value) in values.iter().enumerate() {
+        let entry = i.saturating_add(1);
         let key = key_of(alloc, value)?;
-        if let Some(earlier) = seen.get(key.as_str()) {
-            return Ok(Some((*earlier, i)));
+        if let Some(first) = seen.insert(key, entry)? {
+            return told(
+                alloc,
+                format_args!(", values, entry {entry} is the same as entry {first}"),
+            );
         }
-        seen.insert(key, i)?;
     }
     Ok(None)
 }
 
-fn twice_text(alloc: Global, values: &[Value]) -> Told {
-    match first_twice(alloc, values)? {
-        Some((earlier, later)) => {
-            let entry = later.saturating_add(1);
-            let first = earlier.saturating_add(1);
-            Ok(Some(format!(in alloc; ", values, entry {entry} is the same as entry {first}")?))
-        }
-        None => Ok(None),
-    }
-}
-
 fn first_text(alloc: Global, kind: FaultKind, accounts: bool, values: &[Value]) -> Told {
-    match first_slip(kind, accounts, values) {
-        Some(found) => Ok(Some(entry_text(alloc, &found)?)),
-        None => Ok(None),
-    }
+    let Some(found) = first_slip(kind, accounts, values) else {
+        return Ok(None);
+    };
+    let spot = Spot {
+        list: ", values, entry",
+        number: found.entry,
+        part: ", text",
+        place: found.text,
+    };
+    told_at(alloc, spot, slip_text(alloc, &found.slip)?)
 }
 
 fn limit_text(alloc: Global, accounts: bool, values: &[Value]) -> Told {
     let count = values.len();
     if count == 0 || count > 100 {
-        return Ok(Some(format!(in alloc; ": values has {count} entries, and must have 1 to 100")?));
+        return told(
+            alloc,
+            format_args!(": values has {count} entries, and must have 1 to 100"),
+        );
     }
     first_text(alloc, FaultKind::Limit, accounts, values)
 }
 
 /// The first listed value in which a fault of this kind stands; of class account (`accounts`) or not.
 pub fn values_slip(alloc: Global, kind: FaultKind, accounts: bool, value: Option<&Value>) -> Told {
-    let values = match value {
-        Some(Value::Array(values)) => values.as_slice(),
-        _ => return Ok(None),
+    let Some(Value::Array(values)) = value else {
+        return Ok(None);
     };
+    let values = values.as_slice();
     match kind {
         FaultKind::Duplicate => twice_text(alloc, values),
         FaultKind::Limit => limit_text(alloc, accounts, values),
