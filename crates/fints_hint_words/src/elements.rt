@@ -1,49 +1,13 @@
 //! What is wrong with elements.
 use crate::guessing::{Named, not_named};
 use crate::keys::must_be;
-use crate::places::{Spot, Told, names_of, text_in, told, told_at};
+use crate::places::{Told, names_of, numbered, text_in, told, told_at};
 use crate::quoting::{Character, Quoted};
+use fints_documents::tables::rows_of;
 use fints_field_rows::text::is_latin1;
 use fints_field_rows::{FaultKind, NamedRows};
 use std::alloc::Global;
 use toml::Value;
-
-/// What is wrong with a string of an element, or with an element that is none.
-#[derive(Clone, Copy)]
-pub enum ItemSlip<'a> {
-    /// An array of no strings.
-    Empty,
-    /// No string.
-    NoText(&'a Value),
-    /// The name of an account field, where none may stand.
-    Account(&'a str),
-    /// The name of no field.
-    Unknown(&'a str),
-    /// Behind `%`, no hex digits in pairs.
-    Digits(&'a str),
-    /// A character that is no byte of a text.
-    NotLatin1(&'a str),
-}
-
-impl ItemSlip<'_> {
-    // The fault that it is.
-    fn kind(&self) -> FaultKind {
-        match self {
-            ItemSlip::Empty | ItemSlip::NoText(_) | ItemSlip::Account(_) => FaultKind::WrongKind,
-            ItemSlip::Unknown(_) => FaultKind::NoSuchName,
-            ItemSlip::Digits(_) => FaultKind::BadHex,
-            ItemSlip::NotLatin1(_) => FaultKind::NotLatin1,
-        }
-    }
-}
-
-/// The element, from 2 on, and the item in it, from 1 on, where it is an array.
-#[derive(Clone, Copy)]
-struct ElementSlip<'a> {
-    element: usize,
-    item: Option<usize>,
-    slip: ItemSlip<'a>,
-}
 
 fn is_account(fields: &NamedRows<'_>, name: &str) -> bool {
     match fields.place_of(name) {
@@ -55,117 +19,9 @@ fn is_account(fields: &NamedRows<'_>, name: &str) -> bool {
     }
 }
 
-fn reference_slip<'a>(fields: &NamedRows<'_>, free: bool, name: &'a str) -> Option<ItemSlip<'a>> {
-    if name != "dialog" && !fields.has(name) {
-        return Some(ItemSlip::Unknown(name));
-    }
-    if free || !is_account(fields, name) {
-        return None;
-    }
-    Some(ItemSlip::Account(name))
-}
-
 // The first character that is no hex digit.
 fn bad_digit(digits: &str) -> Option<char> {
     digits.chars().find(|ch| !ch.is_digit(16))
-}
-
-fn is_hex(digits: &str) -> bool {
-    digits.len() % 2 == 0 && bad_digit(digits).is_none()
-}
-
-fn text_slip<'a>(fields: &NamedRows<'_>, free: bool, text: &'a str) -> Option<ItemSlip<'a>> {
-    if let Some(name) = text.strip_prefix('$') {
-        return reference_slip(fields, free, name);
-    }
-    if let Some(digits) = text.strip_prefix('%') {
-        return if is_hex(digits) {
-            None
-        } else {
-            Some(ItemSlip::Digits(digits))
-        };
-    }
-    let literal = text.strip_prefix('=').unwrap_or(text);
-    if is_latin1(literal) {
-        None
-    } else {
-        Some(ItemSlip::NotLatin1(literal))
-    }
-}
-
-fn item_slip<'a>(
-    kind: FaultKind,
-    fields: &NamedRows<'_>,
-    free: bool,
-    value: &'a Value,
-) -> Option<ItemSlip<'a>> {
-    let slip = match value {
-        Value::String(text) => text_slip(fields, free, text.as_str())?,
-        _ => ItemSlip::NoText(value),
-    };
-    if slip.kind() == kind {
-        Some(slip)
-    } else {
-        None
-    }
-}
-
-// The first bad item of an array, the element's number being this one.
-fn array_slip<'a>(
-    kind: FaultKind,
-    fields: &NamedRows<'_>,
-    element: usize,
-    values: &'a [Value],
-) -> Option<ElementSlip<'a>> {
-    if values.is_empty() && kind == FaultKind::WrongKind {
-        return Some(ElementSlip {
-            element,
-            item: None,
-            slip: ItemSlip::Empty,
-        });
-    }
-    for (i, value) in values.iter().enumerate() {
-        if let Some(slip) = item_slip(kind, fields, false, value) {
-            return Some(ElementSlip {
-                element,
-                item: Some(i.saturating_add(1)),
-                slip,
-            });
-        }
-    }
-    None
-}
-
-fn element_slip<'a>(
-    kind: FaultKind,
-    fields: &NamedRows<'_>,
-    free: bool,
-    element: usize,
-    value: &'a Value,
-) -> Option<ElementSlip<'a>> {
-    match value {
-        Value::Array(values) => array_slip(kind, fields, element, values.as_slice()),
-        _ => Some(ElementSlip {
-            element,
-            item: None,
-            slip: item_slip(kind, fields, free, value)?,
-        }),
-    }
-}
-
-// The first bad element.
-fn first_slip<'a>(
-    kind: FaultKind,
-    fields: &NamedRows<'_>,
-    free: bool,
-    values: &'a [Value],
-) -> Option<ElementSlip<'a>> {
-    for (i, value) in values.iter().enumerate() {
-        if let Some(slip) = element_slip(kind, fields, free, i.saturating_add(2), value) {
-            return Some(slip);
-        }
-    }
-    None
 }
 
 fn unknown_text(alloc: Global, fields: &NamedRows<'_>, name: &str) -> Told {
@@ -178,21 +34,25 @@ fn unknown_text(alloc: Global, fields: &NamedRows<'_>, name: &str) -> Told {
     not_named(alloc, "", &named, name)
 }
 
+// Why what stands behind `%` is no hex.
 fn digits_text(alloc: Global, digits: &str) -> Told {
-    let Some(ch) = bad_digit(digits) else {
-        let count = digits.len();
-        return told(
+    let count = digits.len();
+    match bad_digit(digits) {
+        Some(ch) => {
+            let ch = Character(ch);
+            told(
+                alloc,
+                format_args!(
+                    ": the character {ch} behind % is no hex digit. A text that begins with % is written \"=%..\""
+                ),
+            )
+        }
+        None if count % 2 == 1 => told(
             alloc,
             format_args!(": behind % stands an odd number of hex digits, {count}; two make a byte"),
-        );
-    };
-    let ch = Character(ch);
-    told(
-        alloc,
-        format_args!(
-            ": the character {ch} behind % is no hex digit. A text that begins with % is written \"=%..\""
         ),
-    )
+        None => Ok(None),
+    }
 }
 
 /// What is wrong with a text that isn't of ISO 8859-1.
@@ -223,35 +83,97 @@ fn account_text(alloc: Global, name: &str) -> Told {
     )
 }
 
-fn slip_text(alloc: Global, fields: &NamedRows<'_>, found: &ElementSlip<'_>) -> Told {
-    match found.slip {
-        ItemSlip::Empty => told(
-            alloc,
-            " is an empty array; an element without bytes is \"\"",
-        ),
-        ItemSlip::NoText(value) => match found.item {
-            Some(_) => must_be(alloc, "", value, "a text"),
-            None => must_be(alloc, "", value, "a text or an array of texts"),
-        },
-        ItemSlip::Account(name) => account_text(alloc, name),
-        ItemSlip::Unknown(name) => unknown_text(alloc, fields, name),
-        ItemSlip::Digits(digits) => digits_text(alloc, digits),
-        ItemSlip::NotLatin1(text) => not_latin1(alloc, text),
+// What is wrong with the name of a field, behind `$`.
+fn reference_slip(
+    alloc: Global,
+    kind: FaultKind,
+    fields: &NamedRows<'_>,
+    free: bool,
+    name: &str,
+) -> Told {
+    match kind {
+        FaultKind::NoSuchName if name != "dialog" && !fields.has(name) => {
+            unknown_text(alloc, fields, name)
+        }
+        FaultKind::WrongKind if !free && is_account(fields, name) => account_text(alloc, name),
+        _ => Ok(None),
     }
 }
 
-fn found_text(alloc: Global, fields: &NamedRows<'_>, found: &ElementSlip<'_>) -> Told {
-    let spot = Spot {
-        list: ", element",
-        number: found.element,
-        part: ", item",
-        place: found.item,
-    };
-    told_at(alloc, spot, slip_text(alloc, fields, found)?)
+fn text_slip(
+    alloc: Global,
+    kind: FaultKind,
+    fields: &NamedRows<'_>,
+    free: bool,
+    text: &str,
+) -> Told {
+    if let Some(name) = text.strip_prefix('$') {
+        return reference_slip(alloc, kind, fields, free, name);
+    }
+    if let Some(digits) = text.strip_prefix('%') {
+        return match kind {
+            FaultKind::BadHex => digits_text(alloc, digits),
+            _ => Ok(None),
+        };
+    }
+    let literal = text.strip_prefix('=').unwrap_or(text);
+    match kind {
+        FaultKind::NotLatin1 if !is_latin1(literal) => not_latin1(alloc, literal),
+        _ => Ok(None),
+    }
 }
 
-/// The first element, of a list that stands at a key, in which a fault of this kind stands; account
-/// fields may stand in it (`free`) or not.
+// What is wrong with a string of an element, or with a value that must be one or what the words say.
+fn item_slip(
+    alloc: Global,
+    kind: FaultKind,
+    fields: &NamedRows<'_>,
+    free: bool,
+    value: &Value,
+    what: &str,
+) -> Told {
+    match value {
+        Value::String(text) => text_slip(alloc, kind, fields, free, text.as_str()),
+        _ if kind == FaultKind::WrongKind => must_be(alloc, "", value, what),
+        _ => Ok(None),
+    }
+}
+
+// The first bad item of an array, from 1 on.
+fn array_slip(alloc: Global, kind: FaultKind, fields: &NamedRows<'_>, values: &[Value]) -> Told {
+    if values.is_empty() && kind == FaultKind::WrongKind {
+        return told(
+            alloc,
+            " is an empty array; an element without bytes is \"\"",
+        );
+    }
+    for (i, value) in values.iter().enumerate() {
+        let found = item_slip(alloc, kind, fields, false, value, "a text")?;
+        if found.is_some() {
+            return told_at(alloc, numbered(", item", i.saturating_add(1)), found);
+        }
+    }
+    Ok(None)
+}
+
+fn element_slip(
+    alloc: Global,
+    kind: FaultKind,
+    fields: &NamedRows<'_>,
+    free: bool,
+    value: &Value,
+) -> Told {
+    match value {
+        Value::Array(values) => array_slip(alloc, kind, fields, values.as_slice()),
+        _ => {
+            let what = "a text or an array of texts";
+            item_slip(alloc, kind, fields, free, value, what)
+        }
+    }
+}
+
+/// The first element, from 2 on, of a list that stands at a key, in which a fault of this kind stands;
+/// account fields may stand in it (`free`) or not.
 pub fn elements_slip(
     alloc: Global,
     kind: FaultKind,
@@ -259,11 +181,11 @@ pub fn elements_slip(
     free: bool,
     value: Option<&Value>,
 ) -> Told {
-    let Some(Value::Array(values)) = value else {
-        return Ok(None);
-    };
-    match first_slip(kind, fields, free, values.as_slice()) {
-        Some(found) => found_text(alloc, fields, &found),
-        None => Ok(None),
+    for (i, element) in rows_of(value).iter().enumerate() {
+        let found = element_slip(alloc, kind, fields, free, element)?;
+        if found.is_some() {
+            return told_at(alloc, numbered(", element", i.saturating_add(2)), found);
+        }
     }
+    Ok(None)
 }

@@ -72,7 +72,7 @@ impl Display for Guess<'_, '_> {
                 let word = Quoted(word);
                 write!(f, "{text} (did you mean {word}?)")
             }
-            None => write!(f, "{text}"),
+            None => text.fmt(f),
         }
     }
 }

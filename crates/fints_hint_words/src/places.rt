@@ -64,6 +64,15 @@ pub struct Row<'a> {
     pub name: Option<&'a str>,
 }
 
+/// A row, or an entry of a list, that is called nothing.
+pub fn numbered(what: &str, number: usize) -> Row<'_> {
+    Row {
+        what,
+        number,
+        name: None,
+    }
+}
+
 /// The text at a key of a row, where the row is a table.
 pub fn text_in<'a>(row: &'a Value, key: &str) -> Option<&'a str> {
     match row {
@@ -90,30 +99,6 @@ impl Display for Row<'_> {
                 write!(f, "{what} {number} ({name})")
             }
             None => write!(f, "{what} {number}"),
-        }
-    }
-}
-
-/// A part of a list by its number, and by its own a part of that, where it is one of several.
-#[derive(Clone, Copy)]
-pub struct Spot {
-    pub list: &'static str,
-    pub number: usize,
-    pub part: &'static str,
-    pub place: Option<usize>,
-}
-
-impl Display for Spot {
-    fn fmt<W: Write>(&self, f: &mut Formatter<W>) -> fmt::Result {
-        let Spot {
-            list,
-            number,
-            part,
-            place,
-        } = *self;
-        match place {
-            Some(place) => write!(f, "{list} {number}{part} {place}"),
-            None => write!(f, "{list} {number}"),
         }
     }
 }

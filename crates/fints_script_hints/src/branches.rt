@@ -7,7 +7,7 @@ use fints_hint_words::guessing::{Named, not_named};
 use fints_hint_words::keys::{
     Form, Wanted, missing_key, must_be, no_table, unknown_key, wrong_value,
 };
-use fints_hint_words::places::{Row, Told, names_of, told, told_at};
+use fints_hint_words::places::{Told, names_of, numbered, told, told_at};
 use fints_hint_words::quoting::{Quoted, misfit_of};
 use std::alloc::Global;
 use toml::{Table, Value};
@@ -148,12 +148,7 @@ pub fn branches_slip(
     for (i, branch) in branches.iter().enumerate() {
         let found = branch_slip(alloc, kind, steps, row, branch)?;
         if found.is_some() {
-            let place = Row {
-                what: ", branch",
-                number: i.saturating_add(1),
-                name: None,
-            };
-            return told_at(alloc, place, found);
+            return told_at(alloc, numbered(", branch", i.saturating_add(1)), found);
         }
     }
     Ok(None)

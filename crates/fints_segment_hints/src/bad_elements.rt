@@ -1,5 +1,4 @@
 //! Elements of a capture that can't be read.
-use fints_hint_words::places::Spot;
 use fints_hint_words::quoting::Sample;
 use fints_messages::is_kind;
 use fints_params::Code;
@@ -114,15 +113,20 @@ pub struct BadElement<'a> {
 
 impl Display for BadElement<'_> {
     fn fmt<W: Write>(&self, f: &mut Formatter<W>) -> fmt::Result {
-        let spot = Spot {
-            list: "element",
-            number: self.element,
-            part: ", item",
-            place: self.item,
-        };
-        let shown = Sample(self.value);
-        let wanted = self.wanted;
-        write!(f, "{spot} is {shown}, and must be {wanted}")
+        let BadElement {
+            element,
+            item,
+            value,
+            wanted,
+        } = *self;
+        let shown = Sample(value);
+        match item {
+            Some(item) => write!(
+                f,
+                "element {element}, item {item} is {shown}, and must be {wanted}"
+            ),
+            None => write!(f, "element {element} is {shown}, and must be {wanted}"),
+        }
     }
 }
 
