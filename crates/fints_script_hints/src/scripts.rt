@@ -83,18 +83,27 @@ fn steps_hint<'r>(
     step_hint(alloc, kind, &around, row)
 }
 
-fn table_hint(alloc: Global, fault: &ScriptFault, table: &Table) -> Told {
+fn place_hint<'r>(
+    alloc: Global,
+    fault: &ScriptFault,
+    fields: &NamedRows<'r>,
+    table: &'r Table,
+) -> Told {
     let ScriptFault { place, kind } = *fault;
-    let fields = NamedRows::new(alloc, rows_of(member(table, "field")))?;
     match place {
         Place::Top => top_hint(alloc, kind, table),
-        Place::Field(row) => field_hint(alloc, kind, &fields, row),
+        Place::Field(row) => field_hint(alloc, kind, fields, row),
         Place::Signer(row) => {
-            signer_hint(alloc, kind, &fields, rows_of(member(table, "signer")), row)
+            signer_hint(alloc, kind, fields, rows_of(member(table, "signer")), row)
         }
-        Place::Seal => seal_hint(alloc, kind, &fields, member(table, "seal")),
-        Place::Step(row) => steps_hint(alloc, kind, &fields, table, row),
+        Place::Seal => seal_hint(alloc, kind, fields, member(table, "seal")),
+        Place::Step(row) => steps_hint(alloc, kind, fields, table, row),
     }
+}
+
+fn table_hint(alloc: Global, fault: &ScriptFault, table: &Table) -> Told {
+    let fields = NamedRows::new(alloc, rows_of(member(table, "field")))?;
+    place_hint(alloc, fault, &fields, table)
 }
 
 /// What the refusal of a script is about.

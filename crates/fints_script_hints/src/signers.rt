@@ -93,10 +93,12 @@ fn wrong_kind(alloc: Global, fields: &NamedRows<'_>, table: &Table) -> Told {
 
 fn twice(alloc: Global, rows: &[Value], table: &Table) -> Told {
     let name = text_at(table, "name").unwrap_or("");
-    match rows.iter().position(|row| is_named(name, row)) {
-        Some(place) => name_taken(alloc, "signer", place.saturating_add(1), name),
-        None => Ok(None),
+    for (i, row) in rows.iter().enumerate() {
+        if is_named(name, row) {
+            return name_taken(alloc, "signer", i.saturating_add(1), name);
+        }
     }
+    Ok(None)
 }
 
 fn table_slip(

@@ -1,9 +1,9 @@
 //! How many items the segments of a step have, and how much they weigh.
 use fints_documents::document::member;
-use fints_documents::entries::text_at;
+use fints_documents::entries::{is_named, text_at};
 use fints_documents::tables::rows_of;
 use fints_field_rows::NamedRows;
-use fints_hint_words::places::{Told, row_named, text_in, told};
+use fints_hint_words::places::{Told, row_named, told};
 use fints_syntax::Memory;
 use std::alloc::Global;
 use toml::{Table, Value};
@@ -249,17 +249,14 @@ fn heaviest(measured: &Measured<'_, '_>, rows: &[Value]) -> (Weight, u64) {
 }
 
 fn signer_weight(measured: &Measured<'_, '_>, signers: &[Value], name: &str) -> u64 {
-    match signers
-        .iter()
-        .find(|row| text_in(row, "name") == Some(name))
-    {
-        Some(row) => {
+    for row in signers {
+        if is_named(name, row) {
             let head = segment_figures(measured, elements_of(row, "head")).written;
             let end = segment_figures(measured, elements_of(row, "end")).written;
-            head.saturating_add(end)
+            return head.saturating_add(end);
         }
-        None => 0,
     }
+    0
 }
 
 fn signers_weight(measured: &Measured<'_, '_>, signers: &[Value], names: &[Value]) -> u64 {
