@@ -1,4 +1,5 @@
 //! Words that are meant, perhaps, and lists of the words that there are.
+use crate::places::{Told, told};
 use crate::quoting::Quoted;
 use fints_syntax::Memory;
 use std::alloc::Global;
@@ -71,7 +72,7 @@ impl Display for Guess<'_, '_> {
                 let word = Quoted(word);
                 write!(f, "{text} (did you mean {word}?)")
             }
-            None => write!(f, "{text}"),
+            None => text.fmt(f),
         }
     }
 }
@@ -86,24 +87,60 @@ impl Display for Joined<'_> {
     }
 }
 
-/// The first names of a list, in quotes.
+/// Words in quotes, with commas between.
 #[derive(Clone, Copy)]
-pub struct Known<'a>(pub &'a [&'a str]);
+struct QuotedWords<'a>(&'a [&'a str]);
+
+impl Display for QuotedWords<'_> {
+    fn fmt<W: Write>(&self, f: &mut Formatter<W>) -> fmt::Result {
+        f.write_joined(self.0.iter().map(|word| Quoted(*word)), ", ")
+    }
+}
+
+/// The names that there are.
+#[derive(Clone, Copy)]
+struct Known<'a>(&'a [&'a str]);
 
 impl Display for Known<'_> {
     fn fmt<W: Write>(&self, f: &mut Formatter<W>) -> fmt::Result {
-        if self.0.is_empty() {
-            return f.write_str("there is none");
+        let names = QuotedWords(self.0.get(..MOST).unwrap_or(self.0));
+        match self.0.len().saturating_sub(MOST) {
+            0 if self.0.is_empty() => f.write_str("there is none"),
+            0 => write!(f, "the names are {names}"),
+            more => write!(f, "the names are {names} and {more} more"),
         }
-        f.write_str("the names are ")?;
-        f.write_joined(
-            self.0.iter().copied().take(MOST).map(|name| Quoted(name)),
-            ", ",
-        )?;
-        if self.0.len() > MOST {
-            let more = self.0.len().saturating_sub(MOST);
-            write!(f, " and {more} more")?;
-        }
-        Ok(())
     }
+}
+
+/// What has names: the word for such a thing, the names that there are, and what else is told where
+/// none is near.
+#[derive(Clone, Copy)]
+pub struct Named<'a> {
+    pub what: &'a str,
+    pub names: &'a [&'a str],
+    pub remark: &'a str,
+}
+
+/// That nothing has the name that stands at a place: with the name that was meant, or else with those
+/// that there are.
+pub fn not_named<T: Display + Drop>(
+    alloc: Global,
+    place: T,
+    named: &Named<'_>,
+    name: &str,
+) -> Told {
+    let Named {
+        what,
+        names,
+        remark,
+    } = *named;
+    let guess = guess_of(alloc, names, name)?;
+    if guess.near.is_some() {
+        return told(alloc, format_args!("{place}: no {what} is named {guess}"));
+    }
+    let known = Known(names);
+    told(
+        alloc,
+        format_args!("{place}: no {what} is named {guess}; {known}{remark}"),
+    )
 }

@@ -1,21 +1,31 @@
-//! Keys of tables: those that don't stand there, those that are missing, and names.
+//! Keys of tables: those that don't stand there, those that are missing, and what stands at one where
+//! something else must.
 use crate::guessing::{Joined, guess_of};
-use crate::places::Told;
-use crate::quoting::{Character, Quoted, Shown};
+use crate::places::{Told, told};
+use crate::quoting::{Quoted, Shown, misfit_of};
 use fints_documents::document::member;
 use fints_documents::entries::has_key;
+use fints_documents::tables::{
+    is_no_array, is_no_flag, is_no_integer, is_no_list, is_no_text, is_outside,
+};
 use fints_field_rows::names::parsed;
 use std::alloc::Global;
+use std::fmt::Display;
 use toml::{Table, Value};
 
-// Whether the name is one of those.
-fn is_among(names: &[&str], name: &str) -> bool {
-    names.iter().any(|other| *other == name)
+/// Whether the name is one of those.
+pub fn is_among(names: &[&str], name: &str) -> bool {
+    for other in names {
+        if *other == name {
+            return true;
+        }
+    }
+    false
 }
 
 fn first_unknown<'a>(table: &'a Table, keys: &[&str]) -> Option<&'a str> {
     for key in table.keys() {
-        if !is_among(keys, key.as_str()) {
+        if !is_among(&*keys, key.as_str()) {
             return Some(key.as_str());
         }
     }
@@ -29,7 +39,10 @@ pub fn unknown_key(alloc: Global, table: &Table, keys: &[&str], whose: &str) -> 
     };
     let guess = guess_of(alloc, keys, key)?;
     let keys = Joined(keys);
-    Ok(Some(format!(in alloc; ": unknown key {guess}; the keys of {whose} are {keys}")?))
+    told(
+        alloc,
+        format_args!(": unknown key {guess}; the keys of {whose} are {keys}"),
+    )
 }
 
 fn first_missing<'a>(table: &Table, keys: &[&'a str]) -> Option<&'a str> {
@@ -47,78 +60,107 @@ pub fn missing_key(alloc: Global, table: &Table, keys: &[&str], whose: &str) -> 
         return Ok(None);
     };
     let keys = Joined(keys);
-    Ok(Some(format!(in alloc; ": the key \"{key}\" is missing; {whose} needs {keys}")?))
+    told(
+        alloc,
+        format_args!(": the key \"{key}\" is missing; {whose} needs {keys}"),
+    )
 }
 
-/// A key, and what must stand there.
-#[derive(Clone, Copy)]
-pub struct Wanted {
-    pub key: &'static str,
-    pub what: &'static str,
-}
-
-/// That another value stands at a key than must.
-pub fn wrong(alloc: Global, table: &Table, wanted: Option<Wanted>) -> Told {
-    let Some(Wanted { key, what }) = wanted else {
-        return Ok(None);
-    };
-    match member(table, key) {
-        Some(value) => {
-            let shown = Shown(value);
-            Ok(Some(format!(in alloc; ": {key} is {shown}, and must be {what}")?))
-        }
-        None => Ok(None),
-    }
+/// That a value stands at a place, and what must stand there.
+pub fn must_be<T: Display + Drop>(alloc: Global, place: T, value: &Value, what: &str) -> Told {
+    let shown = Shown(value);
+    told(
+        alloc,
+        format_args!("{place} is {shown}, and must be {what}"),
+    )
 }
 
 /// That a row is no table.
 pub fn no_table(alloc: Global, row: &Value) -> Told {
-    let shown = Shown(row);
-    Ok(Some(format!(in alloc; " is {shown}, and must be a table")?))
+    must_be(alloc, "", row, "a table")
 }
 
-fn is_name_char(ch: char) -> bool {
-    matches!(ch, 'a'..='z' | '0'..='9' | '_' | '-')
+/// The form of the values that may stand at a key.
+#[derive(Clone, Copy)]
+pub enum Form {
+    Name,
+    Text,
+    Integer,
+    Flag,
+    Array,
+    /// An array of at least one table.
+    List,
+    /// No integer outside of these two.
+    Within(u16, u16),
 }
 
-fn bad_name(alloc: Global, name: &str) -> Told {
-    let shown = Quoted(name);
-    match name.chars().find(|ch| !is_name_char(*ch)) {
-        Some(ch) => {
-            let ch = Character(ch);
-            Ok(Some(format!(in alloc;
-                ": the name {shown} has the character {ch}; a name has 1 to 40 of a to z, 0 to 9, _ and -"
-            )?))
-        }
-        None => {
-            let count = name.len();
-            Ok(Some(format!(in alloc;
-                ": the name {shown} has {count} characters; a name has 1 to 40 of a to z, 0 to 9, _ and -"
-            )?))
-        }
-    }
+/// A key, the form of what may stand there, and the words for it.
+#[derive(Clone, Copy)]
+pub struct Wanted {
+    pub key: &'static str,
+    pub form: Form,
+    pub what: &'static str,
 }
 
-/// Whether a value stands at `name` that is no name.
-pub fn has_bad_name(table: &Table) -> bool {
-    match member(table, "name") {
+fn is_no_name(value: Option<&Value>) -> bool {
+    match value {
         None => false,
         Some(Value::String(text)) => parsed(text.as_str()).is_none(),
         Some(_) => true,
     }
 }
 
-/// Why what stands at `name` is no name, where `has_bad_name` says so.
-pub fn name_slip(alloc: Global, table: &Table) -> Told {
-    match member(table, "name") {
-        Some(Value::String(name)) => bad_name(alloc, name.as_str()),
-        _ => wrong(
-            alloc,
-            table,
-            Some(Wanted {
-                key: "name",
-                what: "a text",
-            }),
-        ),
+fn misfits(form: Form, value: Option<&Value>) -> bool {
+    match form {
+        Form::Name => is_no_name(value),
+        Form::Text => is_no_text(value),
+        Form::Integer => is_no_integer(value),
+        Form::Flag => is_no_flag(value),
+        Form::Array => is_no_array(value),
+        Form::List => is_no_list(value),
+        Form::Within(low, high) => is_outside(low, high, value),
     }
+}
+
+/// That an earlier row of this number has the name already.
+pub fn name_taken(alloc: Global, what: &str, number: usize, name: &str) -> Told {
+    let shown = Quoted(name);
+    told(
+        alloc,
+        format_args!(": the name {shown} is that of {what} {number} already"),
+    )
+}
+
+fn bad_name(alloc: Global, name: &str) -> Told {
+    let bad = name
+        .chars()
+        .find(|ch| !matches!(ch, 'a'..='z' | '0'..='9' | '_' | '-'));
+    let shown = Quoted(name);
+    let misfit = misfit_of(name, bad);
+    told(
+        alloc,
+        format_args!(
+            ": the name {shown} has {misfit}; a name has 1 to 40 of a to z, 0 to 9, _ and -"
+        ),
+    )
+}
+
+fn wrong(alloc: Global, wanted: &Wanted, value: &Value) -> Told {
+    let Wanted { key, form, what } = *wanted;
+    match (form, value) {
+        (Form::Name, Value::String(name)) => bad_name(alloc, name.as_str()),
+        _ => must_be(alloc, format_args!(": {key}"), value, what),
+    }
+}
+
+/// The first key of these at which another value stands than may.
+pub fn wrong_value(alloc: Global, table: &Table, all: &[Wanted]) -> Told {
+    for wanted in all {
+        let value = member(table, wanted.key);
+        match value {
+            Some(value) if misfits(wanted.form, Some(value)) => return wrong(alloc, wanted, value),
+            _ => {}
+        }
+    }
+    Ok(None)
 }

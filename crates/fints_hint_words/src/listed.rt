@@ -1,7 +1,7 @@
 //! What is wrong with the listed values of a field.
 use crate::elements::not_latin1;
-use crate::places::Told;
-use crate::quoting::Shown;
+use crate::keys::must_be;
+use crate::places::{Told, numbered, told, told_at};
 use fints_field_rows::FaultKind;
 use fints_field_rows::text::is_latin1;
 use fints_syntax::Memory;
@@ -12,134 +12,75 @@ use toml::Value;
 /// The most characters of a listed text.
 const MOST: usize = 10_000;
 
-/// What is wrong with a listed value.
-#[derive(Clone, Copy)]
-pub enum ValueSlip<'a> {
-    /// No text.
-    NoText(&'a Value),
-    /// No array of texts.
-    NoArray(&'a Value),
-    /// An account of so many texts.
-    Count(usize),
-    /// A character that is no byte of a text.
-    NotLatin1(&'a str),
-    /// A text of so many characters.
-    Long(usize),
+fn long_text(alloc: Global, text: &str) -> Told {
+    let count = text.chars().count();
+    if count <= MOST {
+        return Ok(None);
+    }
+    told(
+        alloc,
+        format_args!(" has {count} characters, and may have {MOST}"),
+    )
 }
 
-/// The entry and the text in it, from 1 on.
-#[derive(Clone, Copy)]
-pub struct EntrySlip<'a> {
-    entry: usize,
-    text: Option<usize>,
-    slip: ValueSlip<'a>,
-}
-
-fn text_slip(kind: FaultKind, value: &Value) -> Option<ValueSlip<'_>> {
+// What is wrong with a text that is listed, or one of those of an account.
+fn text_slip(alloc: Global, kind: FaultKind, value: &Value) -> Told {
     match (kind, value) {
         (FaultKind::NotLatin1, Value::String(text)) if !is_latin1(text.as_str()) => {
-            Some(ValueSlip::NotLatin1(text.as_str()))
+            not_latin1(alloc, text.as_str())
         }
-        (FaultKind::Limit, Value::String(text)) => {
-            let count = text.as_str().chars().count();
-            if count > MOST {
-                Some(ValueSlip::Long(count))
-            } else {
-                None
-            }
-        }
-        (_, Value::String(_)) => None,
-        (FaultKind::WrongKind, _) => Some(ValueSlip::NoText(value)),
-        _ => None,
+        (FaultKind::Limit, Value::String(text)) => long_text(alloc, text.as_str()),
+        (_, Value::String(_)) => Ok(None),
+        (FaultKind::WrongKind, _) => must_be(alloc, "", value, "a text"),
+        _ => Ok(None),
     }
 }
 
-fn texts_slip(kind: FaultKind, entry: usize, texts: &[Value]) -> Option<EntrySlip<'_>> {
+fn texts_slip(alloc: Global, kind: FaultKind, texts: &[Value]) -> Told {
     let count = texts.len();
     if kind == FaultKind::WrongKind && (count == 0 || count > 6) {
-        return Some(EntrySlip {
-            entry,
-            text: None,
-            slip: ValueSlip::Count(count),
-        });
+        return told(
+            alloc,
+            format_args!(" has {count} texts; an account has 1 to 6, the items of its element"),
+        );
     }
     for (i, value) in texts.iter().enumerate() {
-        if let Some(slip) = text_slip(kind, value) {
-            return Some(EntrySlip {
-                entry,
-                text: Some(i.saturating_add(1)),
-                slip,
-            });
+        let found = text_slip(alloc, kind, value)?;
+        if found.is_some() {
+            return told_at(alloc, numbered(", text", i.saturating_add(1)), found);
         }
     }
-    None
+    Ok(None)
 }
 
-fn account_slip(kind: FaultKind, entry: usize, value: &Value) -> Option<EntrySlip<'_>> {
+fn account_slip(alloc: Global, kind: FaultKind, value: &Value) -> Told {
     match value {
-        Value::Array(texts) => texts_slip(kind, entry, texts.as_slice()),
-        _ if kind == FaultKind::WrongKind => Some(EntrySlip {
-            entry,
-            text: None,
-            slip: ValueSlip::NoArray(value),
-        }),
-        _ => None,
+        Value::Array(texts) => texts_slip(alloc, kind, texts.as_slice()),
+        _ if kind == FaultKind::WrongKind => must_be(alloc, "", value, "an array of 1 to 6 texts"),
+        _ => Ok(None),
     }
 }
 
-fn entry_slip(
-    kind: FaultKind,
-    accounts: bool,
-    entry: usize,
-    value: &Value,
-) -> Option<EntrySlip<'_>> {
+fn entry_slip(alloc: Global, kind: FaultKind, accounts: bool, value: &Value) -> Told {
     if accounts {
-        return account_slip(kind, entry, value);
+        account_slip(alloc, kind, value)
+    } else {
+        text_slip(alloc, kind, value)
     }
-    let slip = text_slip(kind, value)?;
-    Some(EntrySlip {
-        entry,
-        text: None,
-        slip,
-    })
 }
 
-fn first_slip(kind: FaultKind, accounts: bool, values: &[Value]) -> Option<EntrySlip<'_>> {
+fn first_slip(alloc: Global, kind: FaultKind, accounts: bool, values: &[Value]) -> Told {
     for (i, value) in values.iter().enumerate() {
-        if let Some(slip) = entry_slip(kind, accounts, i.saturating_add(1), value) {
-            return Some(slip);
+        let found = entry_slip(alloc, kind, accounts, value)?;
+        if found.is_some() {
+            return told_at(
+                alloc,
+                numbered(", values, entry", i.saturating_add(1)),
+                found,
+            );
         }
     }
-    None
-}
-
-fn slip_text(alloc: Global, slip: &ValueSlip<'_>) -> Result<String, Memory> {
-    match slip {
-        ValueSlip::NoText(value) => {
-            let shown = Shown(*value);
-            Ok(format!(in alloc; " is {shown}, and must be a text")?)
-        }
-        ValueSlip::NoArray(value) => {
-            let shown = Shown(*value);
-            Ok(format!(in alloc; " is {shown}, and must be an array of 1 to 6 texts")?)
-        }
-        ValueSlip::Count(count) => Ok(format!(in alloc;
-            " has {count} texts; an account has 1 to 6, the items of its element"
-        )?),
-        ValueSlip::NotLatin1(text) => not_latin1(alloc, text),
-        ValueSlip::Long(count) => {
-            Ok(format!(in alloc; " has {count} characters, and may have {MOST}")?)
-        }
-    }
-}
-
-fn entry_text(alloc: Global, found: &EntrySlip<'_>) -> Result<String, Memory> {
-    let text = slip_text(alloc, &found.slip)?;
-    let entry = found.entry;
-    match found.text {
-        Some(number) => Ok(format!(in alloc; ", values, entry {entry}, text {number}{text}")?),
-        None => Ok(format!(in alloc; ", values, entry {entry}{text}")?),
-    }
+    Ok(None)
 }
 
 // What a listed value is, as one text: those of an account one after the other. No text has a line
@@ -159,53 +100,41 @@ fn key_of(alloc: Global, value: &Value) -> Result<String, Memory> {
     Ok(key)
 }
 
-fn first_twice(alloc: Global, values: &[Value]) -> Result<Option<(usize, usize)>, Memory> {
+fn twice_text(alloc: Global, values: &[Value]) -> Told {
     let mut seen: BTreeMap<String, usize> = BTreeMap::new(alloc);
     for (i, value) in values.iter().enumerate() {
+        let entry = i.saturating_add(1);
         let key = key_of(alloc, value)?;
-        if let Some(earlier) = seen.get(key.as_str()) {
-            return Ok(Some((*earlier, i)));
+        if let Some(first) = seen.insert(key, entry)? {
+            return told(
+                alloc,
+                format_args!(", values, entry {entry} is the same as entry {first}"),
+            );
         }
-        seen.insert(key, i)?;
     }
     Ok(None)
-}
-
-fn twice_text(alloc: Global, values: &[Value]) -> Told {
-    match first_twice(alloc, values)? {
-        Some((earlier, later)) => {
-            let entry = later.saturating_add(1);
-            let first = earlier.saturating_add(1);
-            Ok(Some(format!(in alloc; ", values, entry {entry} is the same as entry {first}")?))
-        }
-        None => Ok(None),
-    }
-}
-
-fn first_text(alloc: Global, kind: FaultKind, accounts: bool, values: &[Value]) -> Told {
-    match first_slip(kind, accounts, values) {
-        Some(found) => Ok(Some(entry_text(alloc, &found)?)),
-        None => Ok(None),
-    }
 }
 
 fn limit_text(alloc: Global, accounts: bool, values: &[Value]) -> Told {
     let count = values.len();
     if count == 0 || count > 100 {
-        return Ok(Some(format!(in alloc; ": values has {count} entries, and must have 1 to 100")?));
+        return told(
+            alloc,
+            format_args!(": values has {count} entries, and must have 1 to 100"),
+        );
     }
-    first_text(alloc, FaultKind::Limit, accounts, values)
+    first_slip(alloc, FaultKind::Limit, accounts, values)
 }
 
 /// The first listed value in which a fault of this kind stands; of class account (`accounts`) or not.
 pub fn values_slip(alloc: Global, kind: FaultKind, accounts: bool, value: Option<&Value>) -> Told {
-    let values = match value {
-        Some(Value::Array(values)) => values.as_slice(),
-        _ => return Ok(None),
+    let Some(Value::Array(values)) = value else {
+        return Ok(None);
     };
+    let values = values.as_slice();
     match kind {
         FaultKind::Duplicate => twice_text(alloc, values),
         FaultKind::Limit => limit_text(alloc, accounts, values),
-        _ => first_text(alloc, kind, accounts, values),
+        _ => first_slip(alloc, kind, accounts, values),
     }
 }

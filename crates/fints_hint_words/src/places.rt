@@ -11,6 +11,24 @@ use toml::Value;
 /// follows its place.
 pub type Told = Result<Option<String>, Memory>;
 
+/// A text, as it is shown.
+pub fn written<T: Display + Drop>(alloc: Global, text: T) -> Result<String, Memory> {
+    Ok(text.to_string(alloc)?)
+}
+
+/// That there is something to tell: this text.
+pub fn told<T: Display + Drop>(alloc: Global, text: T) -> Told {
+    Ok(Some(text.to_string(alloc)?))
+}
+
+/// What is told, behind its place.
+pub fn told_at<T: Display + Drop>(alloc: Global, place: T, found: Option<String>) -> Told {
+    match found {
+        Some(text) => told(alloc, format_args!("{place}{text}")),
+        None => Ok(None),
+    }
+}
+
 /// The line, from 1, in which the byte at an offset stands.
 pub fn line_at(text: &[u8], offset: usize) -> usize {
     text.iter()
@@ -46,6 +64,15 @@ pub struct Row<'a> {
     pub name: Option<&'a str>,
 }
 
+/// A row, or an entry of a list, that is called nothing.
+pub fn numbered(what: &str, number: usize) -> Row<'_> {
+    Row {
+        what,
+        number,
+        name: None,
+    }
+}
+
 /// The text at a key of a row, where the row is a table.
 pub fn text_in<'a>(row: &'a Value, key: &str) -> Option<&'a str> {
     match row {
@@ -76,27 +103,16 @@ impl Display for Row<'_> {
     }
 }
 
-/// What is told, behind its row.
-pub fn told_of(alloc: Global, row: &Row<'_>, told: Option<String>) -> Told {
-    match told {
-        Some(text) => Ok(Some(format!(in alloc; "{row}{text}")?)),
-        None => Ok(None),
-    }
-}
-
-/// What is told, behind a word.
-pub fn told_at(alloc: Global, place: &str, told: Option<String>) -> Told {
-    match told {
-        Some(text) => Ok(Some(format!(in alloc; "{place}{text}")?)),
-        None => Ok(None),
-    }
-}
-
-/// The names in rows, in order.
-pub fn names_of(alloc: Global, rows: &[Value]) -> Result<Vec<&str>, Memory> {
-    let names = rows
+/// The names in rows, in order, and these words behind them.
+pub fn names_of<'a>(
+    alloc: Global,
+    rows: &'a [Value],
+    words: &[&'a str],
+) -> Result<Vec<&'a str>, Memory> {
+    let mut names: Vec<&'a str> = rows
         .iter()
         .filter_map(|row| text_in(row, "name"))
         .collect(alloc)?;
+    names.extend_from_slice(words)?;
     Ok(names)
 }

@@ -6,29 +6,20 @@ use toml::Value;
 /// The most characters that are shown.
 const MOST: usize = 60;
 
-// Writes a character so that a line stays a line.
-fn write_shown<W: Write>(f: &mut Formatter<W>, ch: char) -> fmt::Result {
-    match ch {
-        '"' => f.write_str("\\\""),
-        '\\' => f.write_str("\\\\"),
-        ' '..='~' => f.write_char(ch),
-        '\u{0}'..='\u{ff}' => {
-            let code = u32::from(ch);
-            write!(f, "\\x{code:02x}")
-        }
-        _ => {
-            let code = u32::from(ch);
-            write!(f, "\\u{{{code:x}}}")
-        }
-    }
-}
+/// A character, so that a line stays a line.
+#[derive(Clone, Copy)]
+struct Escaped(char);
 
-fn write_byte<W: Write>(f: &mut Formatter<W>, byte: u8) -> fmt::Result {
-    match byte {
-        b'"' => f.write_str("\\\""),
-        b'\\' => f.write_str("\\\\"),
-        b' '..=b'~' => f.write_char(char::from(byte)),
-        _ => write!(f, "\\x{byte:02x}"),
+impl Display for Escaped {
+    fn fmt<W: Write>(&self, f: &mut Formatter<W>) -> fmt::Result {
+        let code = u32::from(self.0);
+        match self.0 {
+            '"' => f.write_str("\\\""),
+            '\\' => f.write_str("\\\\"),
+            ' '..='~' => f.write_char(self.0),
+            '\u{0}'..='\u{ff}' => write!(f, "\\x{code:02x}"),
+            _ => write!(f, "\\u{{{code:x}}}"),
+        }
     }
 }
 
@@ -39,12 +30,12 @@ pub struct Bare<'a>(pub &'a str);
 impl Display for Bare<'_> {
     fn fmt<W: Write>(&self, f: &mut Formatter<W>) -> fmt::Result {
         for ch in self.0.chars().take(MOST) {
-            write_shown(f, ch)?;
+            Escaped(ch).fmt(f)?;
         }
-        if self.0.chars().nth(MOST).is_some() {
-            f.write_str("..")?;
+        match self.0.chars().nth(MOST) {
+            Some(_) => f.write_str(".."),
+            None => Ok(()),
         }
-        Ok(())
     }
 }
 
@@ -67,12 +58,9 @@ impl Display for Sample<'_> {
     fn fmt<W: Write>(&self, f: &mut Formatter<W>) -> fmt::Result {
         f.write_str("\"")?;
         for byte in self.0.iter().take(MOST) {
-            write_byte(f, *byte)?;
+            Escaped(char::from(*byte)).fmt(f)?;
         }
-        if self.0.len() > MOST {
-            f.write_str("..")?;
-        }
-        f.write_str("\"")
+        f.write_str(if self.0.len() > MOST { "..\"" } else { "\"" })
     }
 }
 
@@ -85,15 +73,54 @@ impl Display for Character {
         let Character(ch) = *self;
         match ch {
             ' '..='~' => {
-                f.write_str("\"")?;
-                write_shown(f, ch)?;
-                f.write_str("\"")
+                let shown = Escaped(ch);
+                write!(f, "\"{shown}\"")
             }
             _ => {
                 let code = u32::from(ch);
                 write!(f, "U+{code:04X}")
             }
         }
+    }
+}
+
+/// What keeps a text from being a name or a pattern: a character that none has, or how many it has.
+#[derive(Clone, Copy)]
+pub enum Misfit {
+    Character(char),
+    Count(usize),
+}
+
+/// The misfit of a text with this bad character, if it has one.
+pub fn misfit_of(text: &str, bad: Option<char>) -> Misfit {
+    match bad {
+        Some(ch) => Misfit::Character(ch),
+        None => Misfit::Count(text.len()),
+    }
+}
+
+impl Display for Misfit {
+    fn fmt<W: Write>(&self, f: &mut Formatter<W>) -> fmt::Result {
+        match *self {
+            Misfit::Character(ch) => {
+                let ch = Character(ch);
+                write!(f, "the character {ch}")
+            }
+            Misfit::Count(count) => write!(f, "{count} characters"),
+        }
+    }
+}
+
+// What a value is that is shown by no more than a word.
+fn word_of(value: &Value) -> &'static str {
+    match value {
+        Value::Float(_) => "a number with a point",
+        Value::Boolean(true) => "true",
+        Value::Boolean(false) => "false",
+        Value::Datetime(_) => "a date or a time",
+        Value::Array(values) if values.is_empty() => "an empty array",
+        Value::Array(_) => "an array",
+        _ => "a table",
     }
 }
 
@@ -109,12 +136,7 @@ impl Display for Shown<'_> {
                 write!(f, "the text {quoted}")
             }
             Value::Integer(number) => write!(f, "the number {number}"),
-            Value::Float(_) => f.write_str("a number with a point"),
-            Value::Boolean(flag) => write!(f, "{flag}"),
-            Value::Datetime(_) => f.write_str("a date or a time"),
-            Value::Array(values) if values.is_empty() => f.write_str("an empty array"),
-            Value::Array(_) => f.write_str("an array"),
-            Value::Table(_) => f.write_str("a table"),
+            other => f.write_str(word_of(other)),
         }
     }
 }

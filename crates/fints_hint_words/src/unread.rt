@@ -1,21 +1,27 @@
 //! Why bytes are no TOML.
-use crate::places::{Told, column_at, line_at};
+use crate::places::{Told, column_at, line_at, told};
 use crate::quoting::Quoted;
 use fints_documents::document::MAX_TEXT;
 use std::alloc::Global;
+use std::fmt;
+use std::fmt::{Display, Formatter, Write};
 use toml::de::Error;
 
 /// That a text is too long.
 pub fn too_long(alloc: Global, text: &[u8]) -> Told {
     let len = text.len();
-    Ok(Some(format!(in alloc; "longer than {MAX_TEXT} bytes: it has {len}")?))
+    told(
+        alloc,
+        format_args!("longer than {MAX_TEXT} bytes: it has {len}"),
+    )
 }
 
 fn not_utf8(alloc: Global, text: &[u8], offset: usize) -> Told {
     let line = line_at(text, offset);
-    Ok(Some(format!(in alloc;
-        "not UTF-8: the first bad byte is at offset {offset}, in line {line}"
-    )?))
+    told(
+        alloc,
+        format_args!("not UTF-8: the first bad byte is at offset {offset}, in line {line}"),
+    )
 }
 
 // What stands at an offset, to the end of its line.
@@ -31,15 +37,39 @@ fn before(text: &str, offset: usize) -> &str {
     front.rsplit('\n').next().unwrap_or("")
 }
 
-// The refusal at the end of a line.
-fn ended(alloc: Global, line: usize, column: usize, why: &str, text: &str) -> Told {
-    if text.is_empty() {
-        return Ok(Some(format!(in alloc;
-            "line {line}, column {column}: {why}; there the line ends"
-        )?));
+/// What stands at an offset: words, and a text behind them, if any.
+#[derive(Clone, Copy)]
+struct There<'a> {
+    words: &'static str,
+    text: &'a str,
+}
+
+fn there_at(text: &str, offset: usize) -> There<'_> {
+    match (rest_of_line(text, offset), before(text, offset)) {
+        (Some(rest), _) => There {
+            words: "there stands",
+            text: rest,
+        },
+        (None, "") => There {
+            words: "there the line ends",
+            text: "",
+        },
+        (None, line) => There {
+            words: "there ends the line",
+            text: line,
+        },
     }
-    let text = Quoted(text);
-    Ok(Some(format!(in alloc; "line {line}, column {column}: {why}; there ends the line {text}")?))
+}
+
+impl Display for There<'_> {
+    fn fmt<W: Write>(&self, f: &mut Formatter<W>) -> fmt::Result {
+        let There { words, text } = *self;
+        if text.is_empty() {
+            return f.write_str(words);
+        }
+        let text = Quoted(text);
+        write!(f, "{words} {text}")
+    }
 }
 
 fn refusal(alloc: Global, text: &str, error: &Error) -> Told {
@@ -49,13 +79,11 @@ fn refusal(alloc: Global, text: &str, error: &Error) -> Told {
     let line = line_at(text.as_bytes(), span.start);
     let column = column_at(text.as_bytes(), span.start);
     let why = error.message();
-    match rest_of_line(text, span.start) {
-        Some(rest) => {
-            let rest = Quoted(rest);
-            Ok(Some(format!(in alloc; "line {line}, column {column}: {why}; there stands {rest}")?))
-        }
-        None => ended(alloc, line, column, why, before(text, span.start)),
-    }
+    let there = there_at(text, span.start);
+    told(
+        alloc,
+        format_args!("line {line}, column {column}: {why}; {there}"),
+    )
 }
 
 fn no_toml(alloc: Global, text: &str) -> Told {

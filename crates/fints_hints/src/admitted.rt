@@ -2,20 +2,20 @@
 use crate::labels::{alphabet_name, label_of, name_text};
 use fints_cases::{Case, NamedValue};
 use fints_field_rows::NamedField;
-use fints_fields::{Alphabet, Field, FieldClass};
-use fints_hint_words::places::Told;
+use fints_fields::{Alphabet, Field, FieldClass, Text};
+use fints_hint_words::places::{Told, told, told_at};
 use fints_script::Script;
-use fints_syntax::Memory;
 use std::alloc::Global;
 
 fn length_text(alloc: Global, min: u16, max: u16, value: &[u8]) -> Told {
     let len = value.len();
-    if len < usize::from(min) || len > usize::from(max) {
-        return Ok(Some(format!(in alloc;
-            "its value has {len} bytes, and must have {min} to {max}"
-        )?));
+    if usize::from(min) <= len && len <= usize::from(max) {
+        return Ok(None);
     }
-    Ok(None)
+    told(
+        alloc,
+        format_args!("its value has {len} bytes, and must have {min} to {max}"),
+    )
 }
 
 // What a byte is that is no character of the alphabet.
@@ -29,36 +29,42 @@ fn misfit_words(alphabet: Alphabet) -> &'static str {
 
 // The first byte that is no character of the alphabet.
 fn character_text(alloc: Global, alphabet: Alphabet, value: &[u8]) -> Told {
-    match value.iter().position(|byte| !alphabet.has(*byte)) {
-        Some(place) => {
-            let number = place.saturating_add(1);
-            let (misfit, class) = (misfit_words(alphabet), alphabet_name(alphabet));
-            Ok(Some(format!(in alloc;
-                "byte {number} of its value {misfit}; the class is {class}"
-            )?))
-        }
-        None => Ok(None),
+    let Some(place) = value.iter().position(|byte| !alphabet.has(*byte)) else {
+        return Ok(None);
+    };
+    let number = place.saturating_add(1);
+    let (misfit, class) = (misfit_words(alphabet), alphabet_name(alphabet));
+    told(
+        alloc,
+        format_args!("byte {number} of its value {misfit}; the class is {class}"),
+    )
+}
+
+fn text_value_text(alloc: Global, class: &Text, value: &[u8]) -> Told {
+    match length_text(alloc, class.min, class.max, value)? {
+        None => character_text(alloc, class.alphabet, value),
+        found => Ok(found),
     }
+}
+
+fn listed_text(alloc: Global, count: usize, what: &str) -> Told {
+    told(
+        alloc,
+        format_args!("its value is none of the {count}{what}"),
+    )
 }
 
 // Why a value is none of the field's.
 fn value_text(alloc: Global, field: &Field, value: &[u8]) -> Told {
     match field {
-        Field::Text(c) => match length_text(alloc, c.min, c.max, value)? {
-            Some(text) => Ok(Some(text)),
-            None => character_text(alloc, c.alphabet, value),
-        },
+        Field::Text(c) => text_value_text(alloc, c, value),
         Field::Bin(c) => length_text(alloc, c.min, c.max, value),
-        Field::OneOf(c) => {
-            let count = c.values.as_slice().len();
-            Ok(Some(format!(in alloc; "its value is none of the {count} that the script lists")?))
-        }
-        Field::Account(c) => {
-            let count = c.values.as_slice().len();
-            Ok(Some(format!(in alloc;
-                "its value is none of the {count} accounts that the script lists, their items written with : between"
-            )?))
-        }
+        Field::OneOf(c) => listed_text(alloc, c.values.as_slice().len(), " that the script lists"),
+        Field::Account(c) => listed_text(
+            alloc,
+            c.values.as_slice().len(),
+            " accounts that the script lists, their items written with : between",
+        ),
     }
 }
 
@@ -76,9 +82,12 @@ fn other_name(
     let line = line_of(place);
     let wanted = name_text(&field.name);
     let found = label_of(alloc, fields, &pair.name)?;
-    Ok(Some(format!(in alloc;
-        "line {line} tells {found}, and must tell {wanted}; the fields stand in the order of the script"
-    )?))
+    told(
+        alloc,
+        format_args!(
+            "line {line} tells {found}, and must tell {wanted}; the fields stand in the order of the script"
+        ),
+    )
 }
 
 fn pair_text(
@@ -94,14 +103,14 @@ fn pair_text(
     if field.class.admits(pair.value.as_slice()) {
         return Ok(None);
     }
-    match value_text(alloc, &field.class, pair.value.as_slice())? {
-        Some(why) => {
-            let line = line_of(place);
-            let name = name_text(&field.name);
-            Ok(Some(format!(in alloc; "line {line}, the field {name}: {why}")?))
-        }
-        None => Ok(None),
-    }
+    let line = line_of(place);
+    let name = name_text(&field.name);
+    let found = value_text(alloc, &field.class, pair.value.as_slice())?;
+    told_at(
+        alloc,
+        format_args!("line {line}, the field {name}: "),
+        found,
+    )
 }
 
 fn first_pair(alloc: Global, fields: &[NamedField], pairs: &[NamedValue]) -> Told {
@@ -114,37 +123,42 @@ fn first_pair(alloc: Global, fields: &[NamedField], pairs: &[NamedValue]) -> Tol
     Ok(None)
 }
 
+fn missing_text(alloc: Global, field: &NamedField, line: usize) -> Told {
+    let name = name_text(&field.name);
+    told(
+        alloc,
+        format_args!("the field {name} of the script is missing; it must stand in line {line}"),
+    )
+}
+
+fn excess_text(alloc: Global, last: &NamedField, line: usize) -> Told {
+    let name = name_text(&last.name);
+    told(
+        alloc,
+        format_args!("line {line} tells a field too many; the last one of the script is {name}"),
+    )
+}
+
 // The field that is missing, or told and none of the script's.
 fn count_text(alloc: Global, fields: &[NamedField], pairs: &[NamedValue]) -> Told {
-    if let Some(field) = fields.get(pairs.len()) {
-        let line = line_of(pairs.len());
-        let name = name_text(&field.name);
-        return Ok(Some(format!(in alloc;
-            "the field {name} of the script is missing; it must stand in line {line}"
-        )?));
-    }
-    match fields.last() {
-        Some(last) if pairs.len() > fields.len() => {
-            let line = line_of(fields.len());
-            let name = name_text(&last.name);
-            Ok(Some(format!(in alloc;
-                "line {line} tells a field too many; the last one of the script is {name}"
-            )?))
+    match (fields.get(pairs.len()), fields.last()) {
+        (Some(field), _) => missing_text(alloc, field, line_of(pairs.len())),
+        (None, Some(last)) if pairs.len() > fields.len() => {
+            excess_text(alloc, last, line_of(fields.len()))
         }
         _ => Ok(None),
     }
 }
 
 fn values_text(alloc: Global, fields: &[NamedField], pairs: &[NamedValue]) -> Told {
-    let found = first_pair(alloc, fields, pairs)?;
-    if found.is_some() {
-        return Ok(found);
+    match first_pair(alloc, fields, pairs)? {
+        None => count_text(alloc, fields, pairs),
+        found => Ok(found),
     }
-    count_text(alloc, fields, pairs)
 }
 
 /// The first value of a case that the script doesn't admit.
-pub fn admitted_hint(alloc: Global, script: &[u8], text: &[u8]) -> Result<Option<String>, Memory> {
+pub fn admitted_hint(alloc: Global, script: &[u8], text: &[u8]) -> Told {
     let Ok(script) = Script::read(alloc, script) else {
         return Ok(None);
     };

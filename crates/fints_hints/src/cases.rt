@@ -1,173 +1,90 @@
 //! Which line of a case is bad, and what it should look like. The value of a field may be a secret: it
 //! is never told, nor is a line that has no other form.
 use crate::labels::label_of;
+use crate::lines::{Line, Opening, has_line, line_of, line_with_name, told_line};
 use fints_field_rows::NamedField;
 use fints_fields::Name;
-use fints_hint_words::places::Told;
+use fints_hint_words::places::{Told, told};
 use fints_lines::{after, split_once};
 use fints_params::Code;
 use fints_script::Script;
-use fints_syntax::Memory;
 use std::alloc::Global;
 
-/// What stands from a line on: the line, where it has a line feed, and the lines before it.
-#[derive(Clone, Copy)]
-pub struct Place<'a> {
-    pub before: &'a [u8],
-    pub line: Option<&'a [u8]>,
-    pub rest: &'a [u8],
-}
+const OPENING: Opening = Opening {
+    first: "the first line must be \"fints-case 1\", with its line feed",
+    second: "the text ends before it; \"field dialog VALUE\" must stand there",
+};
 
-/// What stands from a line on, counted from 1.
-pub fn place_of(text: &[u8], line: u32) -> Place<'_> {
-    let mut at: usize = 0;
-    for _ in 1..line {
-        let rest = text.get(at..).unwrap_or(&[]);
-        match rest.iter().position(|b| *b == b'\n') {
-            Some(len) => at = at.saturating_add(len).saturating_add(1),
-            None => at = text.len(),
-        }
+// What is wrong with a value as it is written.
+fn hex_slip(value: &[u8]) -> Option<&'static str> {
+    if value == b"-".as_slice() {
+        return None;
     }
-    let rest = text.get(at..).unwrap_or(&[]);
-    Place {
-        before: text.get(..at).unwrap_or(text),
-        line: split_once(rest, b'\n').map(|parts| parts.0),
-        rest,
-    }
-}
-
-/// What is wrong with a line of a text of lines, whatever its form.
-#[derive(Clone, Copy, PartialEq, Eq)]
-pub enum End {
-    /// The text ends before the line.
-    Missing,
-    /// The line has no line feed.
-    Open,
-    /// A carriage return stands before its line feed.
-    Return,
-    /// Nothing.
-    Good,
-}
-
-/// How a line of a text of lines ends.
-pub fn end_of(place: &Place<'_>) -> End {
-    match place.line {
-        None if place.rest.is_empty() => End::Missing,
-        None => End::Open,
-        Some([.., b'\r']) => End::Return,
-        Some(_) => End::Good,
-    }
-}
-
-/// What is said of a line with another end than a line feed.
-pub fn end_text(end: End) -> &'static str {
-    match end {
-        End::Open => "it has no line feed at its end",
-        End::Return => "a carriage return stands before its line feed",
-        _ => "the text ends before it",
-    }
-}
-
-fn hex_slip(value: &[u8]) -> &'static str {
     if value.is_empty() {
-        return "its value is empty; a value of no bytes is written -";
+        return Some("its value is empty; a value of no bytes is written -");
     }
     if value.iter().any(|b| b.is_ascii_uppercase()) {
-        return "its value has capitals; the hex digits are 0 to 9 and a to f";
+        return Some("its value has capitals; the hex digits are 0 to 9 and a to f");
     }
     if !value.iter().all(|b| b.is_ascii_hexdigit()) {
-        return "its value has a character that is no hex digit; a value is written in hex, 41 for A";
+        return Some(
+            "its value has a character that is no hex digit; a value is written in hex, 41 for A",
+        );
     }
     if value.len() % 2 == 1 {
-        return "its value has an odd number of hex digits; two make a byte";
+        return Some("its value has an odd number of hex digits; two make a byte");
     }
-    ""
-}
-
-// The name of the field that a line tells.
-fn name_in(line: &[u8]) -> Option<Name> {
-    let rest = after(line, b"field ")?;
-    let (name, _) = split_once(rest, b' ')?;
-    Name::parse(name)
-}
-
-// The number, from 1, of the earlier line that tells a field of this name.
-fn earlier_line(before: &[u8], name: Name) -> Option<usize> {
-    let place = before
-        .split(|b| *b == b'\n')
-        .position(|line| name_in(line) == Some(name))?;
-    Some(place.saturating_add(1))
-}
-
-fn has_answer(before: &[u8]) -> bool {
-    before
-        .split(|b| *b == b'\n')
-        .any(|line| line.starts_with(b"answer"))
-}
-
-fn has_field(before: &[u8]) -> bool {
-    before
-        .split(|b| *b == b'\n')
-        .any(|line| line.starts_with(b"field "))
+    None
 }
 
 // Why the line of a field with a good value may not stand there.
-fn order_text(alloc: Global, fields: &[NamedField], line: u32, name: Name, before: &[u8]) -> Told {
+fn order_text(alloc: Global, fields: &[NamedField], line: &Line<'_>, name: Name) -> Told {
     let shown = label_of(alloc, fields, &name)?;
-    if let Some(earlier) = earlier_line(before, name) {
-        return Ok(Some(format!(in alloc;
-            "line {line}: {shown} stands in line {earlier} already"
-        )?));
+    let number = line.number;
+    if let Some(earlier) = line_with_name(line.before, b"field ", name.as_bytes()) {
+        return told(
+            alloc,
+            format_args!("line {number}: {shown} stands in line {earlier} already"),
+        );
     }
-    if has_answer(before) {
-        return Ok(Some(format!(in alloc;
-            "line {line}: {shown} stands behind an answer; all fields come first"
-        )?));
-    }
-    Ok(Some(format!(in alloc;
-        "line {line}: {shown} is the first; the first is dialog, the id of the dialogue"
-    )?))
+    let why = if has_line(line.before, b"answer") {
+        "stands behind an answer; all fields come first"
+    } else {
+        "is the first; the first is dialog, the id of the dialogue"
+    };
+    told(alloc, format_args!("line {number}: {shown} {why}"))
 }
 
 fn named_text(
     alloc: Global,
     fields: &[NamedField],
-    line: u32,
+    line: &Line<'_>,
     name: Name,
     value: &[u8],
-    before: &[u8],
 ) -> Told {
-    let why = if value == b"-".as_slice() {
-        ""
-    } else {
-        hex_slip(value)
+    let Some(why) = hex_slip(value) else {
+        return order_text(alloc, fields, line, name);
     };
-    if why.is_empty() {
-        return order_text(alloc, fields, line, name, before);
-    }
     let shown = label_of(alloc, fields, &name)?;
-    Ok(Some(format!(in alloc; "line {line}: {shown}: {why}")?))
+    let number = line.number;
+    told(alloc, format_args!("line {number}: {shown}: {why}"))
 }
 
-fn told_line(alloc: Global, line: u32, why: &str) -> Told {
-    Ok(Some(format!(in alloc; "line {line}: {why}")?))
-}
-
-fn field_text(alloc: Global, fields: &[NamedField], line: u32, rest: &[u8], before: &[u8]) -> Told {
-    match split_once(rest, b' ') {
+fn field_text(alloc: Global, fields: &[NamedField], line: &Line<'_>, rest: &[u8]) -> Told {
+    let Some((name, value)) = split_once(rest, b' ') else {
+        return told_line(
+            alloc,
+            line.number,
+            "the line of a field is \"field NAME VALUE\", with one space between; a value of no bytes is -",
+        );
+    };
+    match Name::parse(name) {
+        Some(name) => named_text(alloc, fields, line, name, value),
         None => told_line(
             alloc,
-            line,
-            "the line of a field is \"field NAME VALUE\", with one space between; a value of no bytes is -",
+            line.number,
+            "behind \"field \" stands no name; one has 1 to 40 characters a to z, 0 to 9, _ and -",
         ),
-        Some((name, value)) => match Name::parse(name) {
-            Some(name) => named_text(alloc, fields, line, name, value, before),
-            None => told_line(
-                alloc,
-                line,
-                "behind \"field \" stands no name; one has 1 to 40 characters a to z, 0 to 9, _ and -",
-            ),
-        },
     }
 }
 
@@ -187,69 +104,50 @@ fn bad_code(codes: &[u8]) -> usize {
     count
 }
 
-fn answer_text(alloc: Global, line: u32, codes: &[u8], before: &[u8]) -> Told {
+fn answer_text(alloc: Global, line: &Line<'_>, codes: &[u8]) -> Told {
+    let number = line.number;
     if codes.is_empty() {
         return told_line(
             alloc,
-            line,
+            number,
             "the answer has no code; the line of an answer is \"answer CODES\", as in \"answer 0010 3076\"",
         );
     }
-    let code = bad_code(codes);
-    if !has_field(before) {
+    if !has_line(line.before, b"field ") {
         return told_line(
             alloc,
-            line,
+            number,
             "an answer stands before the fields; the first line behind \"fints-case 1\" tells the field dialog",
         );
     }
-    Ok(Some(format!(in alloc;
-        "line {line}: code {code} of the answer isn't four digits behind one space"
-    )?))
-}
-
-fn first_text(alloc: Global) -> Told {
-    told_line(
+    let code = bad_code(codes);
+    told(
         alloc,
-        1,
-        "the first line must be \"fints-case 1\", with its line feed",
+        format_args!("line {number}: code {code} of the answer isn't four digits behind one space"),
     )
 }
 
-fn line_text(alloc: Global, fields: &[NamedField], line: u32, text: &[u8], before: &[u8]) -> Told {
-    if line <= 1 {
-        return first_text(alloc);
+fn line_text(alloc: Global, fields: &[NamedField], line: &Line<'_>) -> Told {
+    if line.number <= 1 {
+        return told_line(alloc, 1, OPENING.first);
     }
-    if let Some(rest) = after(text, b"field ") {
-        return field_text(alloc, fields, line, rest, before);
+    if let Some(rest) = after(line.text, b"field ") {
+        return field_text(alloc, fields, line, rest);
     }
-    match after(text, b"answer") {
-        Some(codes) => answer_text(alloc, line, codes, before),
+    match after(line.text, b"answer") {
+        Some(codes) => answer_text(alloc, line, codes),
         None => told_line(
             alloc,
-            line,
+            line.number,
             "a line is \"field NAME VALUE\" or \"answer CODES\", with one space between the words",
         ),
     }
 }
 
-fn ended_text(alloc: Global, line: u32, end: End) -> Told {
-    match (line, end) {
-        (0..=1, End::Missing) | (0..=1, End::Open) => first_text(alloc),
-        (2, End::Missing) => told_line(
-            alloc,
-            line,
-            "the text ends before it; \"field dialog VALUE\" must stand there",
-        ),
-        _ => told_line(alloc, line, end_text(end)),
-    }
-}
-
 fn place_text(alloc: Global, fields: &[NamedField], line: u32, text: &[u8]) -> Told {
-    let place = place_of(text, line);
-    match (end_of(&place), place.line) {
-        (End::Good, Some(bad)) => line_text(alloc, fields, line, bad, place.before),
-        (end, _) => ended_text(alloc, line, end),
+    match line_of(&OPENING, text, line) {
+        Ok(line) => line_text(alloc, fields, &line),
+        Err(why) => told_line(alloc, line, why),
     }
 }
 

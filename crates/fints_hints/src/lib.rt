@@ -6,6 +6,7 @@ mod admitted;
 mod cases;
 mod certs;
 mod labels;
+mod lines;
 mod orders;
 mod plans;
 mod runs;

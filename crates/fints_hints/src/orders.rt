@@ -2,11 +2,13 @@
 use fints_documents::document;
 use fints_documents::document::member;
 use fints_documents::entries::text_at;
-use fints_documents::tables::{is_no_integer, is_no_text, is_outside, rows_of};
+use fints_documents::tables::rows_of;
 use fints_hint_words::guessing::guess_of;
-use fints_hint_words::keys::{Wanted, missing_key, no_table, unknown_key, wrong};
-use fints_hint_words::places::{Told, row_at, row_named, text_in, told_at, told_of};
-use fints_hint_words::quoting::{Quoted, Shown};
+use fints_hint_words::keys::{
+    Form, Wanted, missing_key, must_be, no_table, unknown_key, wrong_value,
+};
+use fints_hint_words::places::{Told, row_at, row_named, text_in, told, told_at};
+use fints_hint_words::quoting::Quoted;
 use fints_hint_words::unread::why_no_toml;
 use fints_rules::TableFault;
 use fints_rules::kinds::is_plain_order;
@@ -30,61 +32,62 @@ fn is_order_kind(text: &str) -> bool {
         && Kind::parse(text.as_bytes()).is_some()
 }
 
-fn kind_slip(alloc: Global, text: &str) -> Told {
-    let shown = Quoted(text);
+// Why an order can't have the kind.
+fn bad_kind(text: &str) -> Option<&'static str> {
     if is_reserved(text) {
-        return Ok(Some(format!(in alloc;
-            ": the kind {shown} names no account, and may not stand in an order table"
-        )?));
+        return Some("names no account, and may not stand in an order table");
     }
     if !is_order_kind(text) {
-        return Ok(Some(format!(in alloc;
-            ": the kind {shown} is none of an order; one has five characters A to Z and 0 to 9, of which HK or DK are the first"
-        )?));
-    }
-    Ok(None)
-}
-
-fn form_slip(alloc: Global, text: &str) -> Told {
-    let guess = guess_of(alloc, &WORDS, text)?;
-    Ok(Some(format!(in alloc;
-        ": account is {guess}, and must be \"none\", \"national\" or \"international\""
-    )?))
-}
-
-fn wrong_key(table: &Table) -> Option<Wanted> {
-    if is_no_text(member(table, "kind")) {
-        return Some(Wanted {
-            key: "kind",
-            what: "a text",
-        });
-    }
-    let version = member(table, "version");
-    if is_no_integer(version) || is_outside(1, 999, version) {
-        return Some(Wanted {
-            key: "version",
-            what: "a number from 1 to 999, without quotes",
-        });
-    }
-    if is_no_text(member(table, "account")) {
-        return Some(Wanted {
-            key: "account",
-            what: "\"none\", \"national\" or \"international\"",
-        });
+        return Some(
+            "is none of an order; one has five characters A to Z and 0 to 9, of which HK or DK are the first",
+        );
     }
     None
 }
 
-fn wrong_value(alloc: Global, table: &Table) -> Told {
-    let wanted = wrong_key(table);
-    if wanted.is_some() {
-        return wrong(alloc, table, wanted);
+fn form_slip(alloc: Global, text: &str) -> Told {
+    let guess = guess_of(alloc, &WORDS, text)?;
+    told(
+        alloc,
+        format_args!(
+            ": account is {guess}, and must be \"none\", \"national\" or \"international\""
+        ),
+    )
+}
+
+const KEYS: [Wanted; 4] = [
+    Wanted {
+        key: "kind",
+        form: Form::Text,
+        what: "a text",
+    },
+    Wanted {
+        key: "version",
+        form: Form::Integer,
+        what: "a number from 1 to 999, without quotes",
+    },
+    Wanted {
+        key: "version",
+        form: Form::Within(1, 999),
+        what: "a number from 1 to 999, without quotes",
+    },
+    Wanted {
+        key: "account",
+        form: Form::Text,
+        what: "\"none\", \"national\" or \"international\"",
+    },
+];
+
+// What is wrong with values of the right forms.
+fn wrong_text(alloc: Global, table: &Table) -> Told {
+    let kind = text_at(table, "kind").unwrap_or("");
+    match bad_kind(kind) {
+        Some(why) => {
+            let shown = Quoted(kind);
+            told(alloc, format_args!(": the kind {shown} {why}"))
+        }
+        None => form_slip(alloc, text_at(table, "account").unwrap_or("")),
     }
-    let found = kind_slip(alloc, text_at(table, "kind").unwrap_or(""))?;
-    if found.is_some() {
-        return Ok(found);
-    }
-    form_slip(alloc, text_at(table, "account").unwrap_or(""))
 }
 
 fn table_slip(alloc: Global, table: &Table) -> Told {
@@ -97,7 +100,10 @@ fn table_slip(alloc: Global, table: &Table) -> Told {
     if found.is_some() {
         return Ok(found);
     }
-    wrong_value(alloc, table)
+    match wrong_value(alloc, table, &KEYS)? {
+        None => wrong_text(alloc, table),
+        found => Ok(found),
+    }
 }
 
 fn bad_row(alloc: Global, rows: &[Value], number: u16) -> Told {
@@ -108,8 +114,11 @@ fn bad_row(alloc: Global, rows: &[Value], number: u16) -> Told {
         Value::Table(table) => table_slip(alloc, table)?,
         _ => no_table(alloc, row)?,
     };
-    let place = row_named("order", usize::from(number), row, "kind");
-    told_of(alloc, &place, found)
+    told_at(
+        alloc,
+        row_named("order", usize::from(number), row, "kind"),
+        found,
+    )
 }
 
 fn version_in(row: &Value) -> Option<i64> {
@@ -127,34 +136,36 @@ fn two_rows(alloc: Global, rows: &[Value], number: u16) -> Told {
     let Some(row) = row_at(rows, number) else {
         return Ok(None);
     };
-    let version = version_in(row).unwrap_or(0);
+    let Some(earlier) = rows.iter().position(|other| is_same(row, other)) else {
+        return Ok(None);
+    };
     let place = row_named("order", usize::from(number), row, "kind");
-    match rows.iter().position(|other| is_same(row, other)) {
-        Some(earlier) => {
-            let earlier = earlier.saturating_add(1);
-            Ok(Some(format!(in alloc;
-                "{place}: order {earlier} has the same kind and version ({version}) already"
-            )?))
-        }
-        None => Ok(None),
-    }
+    let earlier = earlier.saturating_add(1);
+    let version = version_in(row).unwrap_or(0);
+    told(
+        alloc,
+        format_args!("{place}: order {earlier} has the same kind and version ({version}) already"),
+    )
 }
 
 fn no_rows(alloc: Global, table: &Table) -> Told {
     match member(table, "order") {
-        Some(value) => {
-            let shown = Shown(value);
-            Ok(Some(format!(in alloc;
-                "order is {shown}, and must be an array of tables: write [[order]], with two brackets"
-            )?))
-        }
+        Some(value) => must_be(
+            alloc,
+            "order",
+            value,
+            "an array of tables: write [[order]], with two brackets",
+        ),
         None => Ok(None),
     }
 }
 
 fn many_rows(alloc: Global, rows: &[Value]) -> Told {
     let count = rows.len();
-    Ok(Some(format!(in alloc; "order has {count} rows, and may have 1000")?))
+    told(
+        alloc,
+        format_args!("order has {count} rows, and may have 1000"),
+    )
 }
 
 fn rows_hint(alloc: Global, number: u16, table: &Table) -> Told {

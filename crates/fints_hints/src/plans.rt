@@ -2,13 +2,15 @@
 use crate::labels::{alphabet_name, name_text};
 use fints_field_rows::NamedField;
 use fints_fields::Field;
-use fints_hint_words::places::Told;
+use fints_hint_words::places::{Told, told, written};
 use fints_hint_words::quoting::Bare;
 use fints_rules::{AccountForm, OrderTable};
 use fints_script::{PlanFault, Script, Step};
 use fints_syntax::Memory;
 use fints_templates::{Template, TemplateItem};
 use std::alloc::Global;
+use std::fmt;
+use std::fmt::{Display, Formatter, Write};
 
 fn class_name(field: &Field) -> &'static str {
     match field {
@@ -26,33 +28,43 @@ fn items_of(template: &Template) -> &[TemplateItem] {
     }
 }
 
-fn field_text(alloc: Global, fields: &[NamedField], place: usize) -> Result<String, Memory> {
-    match fields.get(place) {
-        Some(field) => {
-            let name = name_text(&field.name);
-            let class = class_name(&field.class);
-            Ok(format!(in alloc; "${name}, a field of class {class}")?)
-        }
-        None => Ok(String::from_str(alloc, "a field")?),
-    }
+/// What leaves an element open.
+#[derive(Clone, Copy)]
+enum Open<'a> {
+    Dialog,
+    Field(&'a NamedField),
+    Unknown,
 }
 
-// What stands in the first item that is no literal.
-fn open_text(
-    alloc: Global,
-    fields: &[NamedField],
-    items: &[TemplateItem],
-) -> Result<String, Memory> {
+// The first item that is no literal.
+fn open_of<'a>(fields: &'a [NamedField], items: &[TemplateItem]) -> Open<'a> {
     for item in items {
         match item {
             TemplateItem::Literal(_) => {}
-            TemplateItem::Dialog => {
-                return Ok(String::from_str(alloc, "$dialog, the id of the dialogue")?);
+            TemplateItem::Dialog => return Open::Dialog,
+            TemplateItem::Field(place) => {
+                return match fields.get(*place) {
+                    Some(field) => Open::Field(field),
+                    None => Open::Unknown,
+                };
             }
-            TemplateItem::Field(place) => return field_text(alloc, fields, *place),
         }
     }
-    Ok(String::from_str(alloc, "a field")?)
+    Open::Unknown
+}
+
+impl Display for Open<'_> {
+    fn fmt<W: Write>(&self, f: &mut Formatter<W>) -> fmt::Result {
+        match *self {
+            Open::Dialog => f.write_str("$dialog, the id of the dialogue"),
+            Open::Field(field) => {
+                let name = name_text(&field.name);
+                let class = class_name(&field.class);
+                write!(f, "${name}, a field of class {class}")
+            }
+            Open::Unknown => f.write_str("a field"),
+        }
+    }
 }
 
 // The segment by its kind and version, and where it stands.
@@ -67,34 +79,38 @@ fn place_text(
     let name = name_text(&name);
     let kind = Bare(std::str::from_utf8(template.kind.as_bytes()).unwrap_or(""));
     let version = template.version;
-    Ok(format!(in alloc;
-        "step {number} ({name}), {kind} version {version}, entry {entry} of its segments"
-    )?)
+    written(
+        alloc,
+        format_args!(
+            "step {number} ({name}), {kind} version {version}, entry {entry} of its segments"
+        ),
+    )
 }
 
-fn form_word(form: Option<AccountForm>) -> &'static str {
-    match form {
-        Some(AccountForm::International) => "international",
-        _ => "national",
+/// What element 2 of a segment is, and what to write there.
+#[derive(Clone, Copy)]
+struct Second {
+    what: &'static str,
+    advice: &'static str,
+}
+
+const ACCOUNT_ITEMS: &str = "its items as texts, or one string $NAME of a field of class account";
+
+fn second_of(account: bool, form: Option<AccountForm>) -> Second {
+    match (account, form) {
+        (true, Some(AccountForm::International)) => Second {
+            what: "names the account (international in the order table)",
+            advice: ACCOUNT_ITEMS,
+        },
+        (true, _) => Second {
+            what: "names the account (national in the order table)",
+            advice: ACCOUNT_ITEMS,
+        },
+        (false, _) => Second {
+            what: "is the TAN process",
+            advice: "the process as a text, as in \"4\"",
+        },
     }
-}
-
-fn account_text(
-    alloc: Global,
-    place: &str,
-    open: &str,
-    form: Option<AccountForm>,
-) -> Result<String, Memory> {
-    let form = form_word(form);
-    Ok(format!(in alloc;
-        "{place}: element 2 names the account ({form} in the order table), and in it stands {open}; write its items as texts, or one string $NAME of a field of class account"
-    )?)
-}
-
-fn process_text(alloc: Global, place: &str, open: &str) -> Result<String, Memory> {
-    Ok(format!(in alloc;
-        "{place}: element 2 is the TAN process, and in it stands {open}; write the process as a text, as in \"4\""
-    )?)
 }
 
 /// What of a plan's fault is the same for accounts and processes.
@@ -118,16 +134,15 @@ fn template_text(
     let Some(template) = step.templates().get(place) else {
         return Ok(None);
     };
+    let open = open_of(script.fields(), items_of(template));
+    let form = orders.form(template.kind, template.version);
+    let Second { what, advice } = second_of(opened.account, form);
     let entry = place.saturating_add(1);
     let place = place_text(alloc, step, opened.step, entry, template)?;
-    let open = open_text(alloc, script.fields(), items_of(template))?;
-    if opened.account {
-        let form = orders.form(template.kind, template.version);
-        let text = account_text(alloc, place.as_str(), open.as_str(), form)?;
-        return Ok(Some(text));
-    }
-    let text = process_text(alloc, place.as_str(), open.as_str())?;
-    Ok(Some(text))
+    told(
+        alloc,
+        format_args!("{place}: element 2 {what}, and in it stands {open}; write {advice}"),
+    )
 }
 
 fn opened_of(fault: &PlanFault) -> Opened {

@@ -1,19 +1,33 @@
 //! Why a run has no message of a number.
 use crate::labels::name_text;
 use fints_cases::{Answer, Case};
-use fints_hint_words::places::Told;
+use fints_hint_words::places::{Told, told};
 use fints_script::{Script, Step, Target};
 use std::alloc::Global;
+use std::fmt;
+use std::fmt::{Display, Formatter, Write};
 
 /// Why nothing more is sent.
-#[derive(Clone, Copy, PartialEq, Eq)]
+#[derive(Clone, Copy)]
 enum End {
     /// There is no further answer.
     NoAnswer,
     /// The answer leads to `stop`.
     Stop,
-    /// The answer leads to `again`, and the step was sent as often as it may be in a row.
-    Repeated,
+    /// The answer leads to `again`, and the step was sent so often in a row, as often as it may be.
+    Repeated(u16),
+}
+
+impl Display for End {
+    fn fmt<W: Write>(&self, f: &mut Formatter<W>) -> fmt::Result {
+        match *self {
+            End::NoAnswer => f.write_str("the case has no answer to it"),
+            End::Stop => f.write_str("its answer leads to stop"),
+            End::Repeated(repeat) => {
+                write!(f, "its answer leads to again, and its repeat is {repeat}")
+            }
+        }
+    }
 }
 
 /// The last message of a run: its number, its step by the place from 0, and how many messages of the
@@ -38,7 +52,7 @@ fn step_after(last: &Last, target: Target, repeat: u16) -> Result<Last, End> {
             place: last.place,
             in_a_row: last.in_a_row.saturating_add(1),
         }),
-        Target::Again => Err(End::Repeated),
+        Target::Again => Err(End::Repeated(repeat)),
         Target::Stop => Err(End::Stop),
     }
 }
@@ -70,25 +84,10 @@ fn end_text(alloc: Global, last: &Last, step: &Step, end: End) -> Told {
     let number = last.number;
     let name = step.name();
     let name = name_text(&name);
-    let repeat = step.repeat();
-    let text = match end {
-        End::NoAnswer => {
-            format!(in alloc;
-                "the last message of the run is number {number}, of the step {name}; the case has no answer to it"
-            )?
-        }
-        End::Stop => {
-            format!(in alloc;
-                "the last message of the run is number {number}, of the step {name}; its answer leads to stop"
-            )?
-        }
-        End::Repeated => {
-            format!(in alloc;
-                "the last message of the run is number {number}, of the step {name}; its answer leads to again, and its repeat is {repeat}"
-            )?
-        }
-    };
-    Ok(Some(text))
+    told(
+        alloc,
+        format_args!("the last message of the run is number {number}, of the step {name}; {end}"),
+    )
 }
 
 fn run_text(alloc: Global, script: &Script, case: &Case) -> Told {
@@ -102,7 +101,7 @@ fn run_text(alloc: Global, script: &Script, case: &Case) -> Told {
 /// Which message of a case's run is the last, and why.
 pub fn run_hint(alloc: Global, number: u32, script: &[u8], text: &[u8]) -> Told {
     if number == 0 {
-        return Ok(Some(String::from_str(alloc, "the first message of a run is number 1")?));
+        return told(alloc, "the first message of a run is number 1");
     }
     let Ok(script) = Script::read(alloc, script) else {
         return Ok(None);

@@ -13,7 +13,7 @@ use fints_texts::Fault;
 use std::alloc::Global;
 
 /// The bytes of the files that a command has read; empty where it has no such file.
-#[derive(Clone, Copy, Debug)]
+#[derive(Clone, Copy)]
 pub struct Inputs<'a> {
     pub params: &'a [u8],
     pub orders: &'a [u8],

@@ -2,42 +2,63 @@
 use fints_cases::Pattern;
 use fints_documents::document::member;
 use fints_documents::entries::text_at;
-use fints_documents::tables::is_no_text;
 use fints_field_rows::{FaultKind, NamedRows};
-use fints_hint_words::guessing::{Known, guess_of};
-use fints_hint_words::keys::{Wanted, missing_key, no_table, unknown_key, wrong};
-use fints_hint_words::places::{Row, Told, names_of, told_of};
-use fints_hint_words::quoting::{Character, Quoted, Shown};
+use fints_hint_words::guessing::{Named, not_named};
+use fints_hint_words::keys::{
+    Form, Wanted, missing_key, must_be, no_table, unknown_key, wrong_value,
+};
+use fints_hint_words::places::{Told, names_of, numbered, told, told_at};
+use fints_hint_words::quoting::{Quoted, misfit_of};
 use std::alloc::Global;
 use toml::{Table, Value};
 
-fn is_word(text: &str) -> bool {
+const TARGET: &str = "a text: the name of a later step, \"again\" or \"stop\"";
+
+const KEYS: [Wanted; 2] = [
+    Wanted {
+        key: "on",
+        form: Form::Text,
+        what: "a text, as in \"0030\"",
+    },
+    Wanted {
+        key: "to",
+        form: Form::Text,
+        what: TARGET,
+    },
+];
+
+/// Whether a target of this text is no name of a step.
+pub fn is_word(text: &str) -> bool {
     text == "again" || text == "stop"
 }
 
 fn no_step(alloc: Global, steps: &NamedRows<'_>, text: &str) -> Told {
-    let mut names = names_of(alloc, steps.as_slice())?;
-    names.push("again")?;
-    names.push("stop")?;
-    let guess = guess_of(alloc, names.as_slice(), text)?;
-    if guess.near.is_some() {
-        return Ok(Some(format!(in alloc; ": no step is named {guess}")?));
-    }
-    let known = Known(names.as_slice());
-    Ok(Some(format!(in alloc; ": no step is named {guess}; {known}")?))
+    let names = names_of(alloc, steps.as_slice(), &["again", "stop"])?;
+    let named = Named {
+        what: "step",
+        names: names.as_slice(),
+        remark: "",
+    };
+    not_named(alloc, "", &named, text)
 }
 
 fn backward(alloc: Global, place: usize, row: usize, text: &str) -> Told {
     let shown = Quoted(text);
     if place == row {
-        return Ok(Some(format!(in alloc;
-            ": {shown} is this step itself; to send it once more write \"again\", and give it the key repeat"
-        )?));
+        return told(
+            alloc,
+            format_args!(
+                ": {shown} is this step itself; to send it once more write \"again\", and give it the key repeat"
+            ),
+        );
     }
     let number = place.saturating_add(1);
-    Ok(Some(format!(in alloc;
-        ": {shown} is step {number}, an earlier one; a target is a later step, \"again\" or \"stop\""
-    )?))
+    told(
+        alloc,
+        format_args!(
+            ": {shown} is step {number}, an earlier one; a target is a later step, \"again\" or \"stop\""
+        ),
+    )
 }
 
 fn name_slip(
@@ -69,57 +90,21 @@ pub fn target_slip(
 ) -> Told {
     match target {
         Some(Value::String(text)) => name_slip(alloc, kind, steps, row, text.as_str()),
-        Some(value) if kind == FaultKind::WrongKind => {
-            let shown = Shown(value);
-            Ok(Some(format!(in alloc;
-                " is {shown}, and must be a text: the name of a later step, \"again\" or \"stop\""
-            )?))
-        }
+        Some(value) if kind == FaultKind::WrongKind => must_be(alloc, "", value, TARGET),
         _ => Ok(None),
     }
-}
-
-fn is_place(ch: char) -> bool {
-    ch == '*' || ch.is_ascii_digit()
 }
 
 fn pattern_slip(alloc: Global, text: &str) -> Told {
     if Pattern::parse(text.as_bytes()).is_some() {
         return Ok(None);
     }
+    let misfit = misfit_of(text, text.chars().find(|ch| !matches!(ch, '*' | '0'..='9')));
     let shown = Quoted(text);
-    match text.chars().find(|ch| !is_place(*ch)) {
-        Some(ch) => {
-            let ch = Character(ch);
-            Ok(Some(format!(in alloc;
-                ": the pattern {shown} has the character {ch}; a pattern has four, each a digit or *"
-            )?))
-        }
-        None => {
-            let count = text.len();
-            Ok(Some(format!(in alloc;
-                ": the pattern {shown} has {count} characters; a pattern has four, each a digit or *"
-            )?))
-        }
-    }
-}
-
-fn wrong_value(alloc: Global, table: &Table) -> Told {
-    if is_no_text(member(table, "on")) {
-        let wanted = Wanted {
-            key: "on",
-            what: "a text, as in \"0030\"",
-        };
-        return wrong(alloc, table, Some(wanted));
-    }
-    if is_no_text(member(table, "to")) {
-        let wanted = Wanted {
-            key: "to",
-            what: "a text: the name of a later step, \"again\" or \"stop\"",
-        };
-        return wrong(alloc, table, Some(wanted));
-    }
-    Ok(None)
+    told(
+        alloc,
+        format_args!(": the pattern {shown} has {misfit}; a pattern has four, each a digit or *"),
+    )
 }
 
 fn table_slip(
@@ -132,7 +117,7 @@ fn table_slip(
     match kind {
         FaultKind::UnknownKey => unknown_key(alloc, table, &["on", "to"], "a branch"),
         FaultKind::Missing => missing_key(alloc, table, &["on", "to"], "a branch"),
-        FaultKind::WrongKind => wrong_value(alloc, table),
+        FaultKind::WrongKind => wrong_value(alloc, table, &KEYS),
         FaultKind::BadPattern => pattern_slip(alloc, text_at(table, "on").unwrap_or("****")),
         _ => target_slip(alloc, kind, steps, row, member(table, "to")),
     }
@@ -163,12 +148,7 @@ pub fn branches_slip(
     for (i, branch) in branches.iter().enumerate() {
         let found = branch_slip(alloc, kind, steps, row, branch)?;
         if found.is_some() {
-            let place = Row {
-                what: ", branch",
-                number: i.saturating_add(1),
-                name: None,
-            };
-            return told_of(alloc, &place, found);
+            return told_at(alloc, numbered(", branch", i.saturating_add(1)), found);
         }
     }
     Ok(None)

@@ -1,15 +1,13 @@
 //! What is wrong with a row of `field`.
 use fints_documents::document::member;
 use fints_documents::entries::text_at;
-use fints_documents::tables::{is_no_array, is_no_integer, is_no_text};
 use fints_field_rows::{FaultKind, NamedRows};
 use fints_hint_words::guessing::guess_of;
 use fints_hint_words::keys::{
-    Wanted, has_bad_name, missing_key, name_slip, no_table, unknown_key, wrong,
+    Form, Wanted, is_among, missing_key, name_taken, no_table, unknown_key, wrong_value,
 };
 use fints_hint_words::listed::values_slip;
-use fints_hint_words::places::{Told, row_at, row_named, told_of};
-use fints_hint_words::quoting::Quoted;
+use fints_hint_words::places::{Told, row_at, row_named, told, told_at};
 use std::alloc::Global;
 use toml::{Table, Value};
 
@@ -17,7 +15,7 @@ use toml::{Table, Value};
 const CLASSES: [&str; 6] = ["digits", "plain", "text", "bin", "oneof", "account"];
 
 /// What is known of the class that a row names.
-#[derive(Clone, Copy, PartialEq, Eq)]
+#[derive(Clone, Copy)]
 enum Class {
     /// With `min` and `max`.
     Bounded,
@@ -29,11 +27,41 @@ enum Class {
 
 fn class_of(table: &Table) -> Class {
     match text_at(table, "class") {
-        Some("digits") | Some("plain") | Some("text") | Some("bin") => Class::Bounded,
-        Some("oneof") | Some("account") => Class::Listed,
+        Some(text) if is_among(&["digits", "plain", "text", "bin"], text) => Class::Bounded,
+        Some(text) if is_among(&["oneof", "account"], text) => Class::Listed,
         _ => Class::Unknown,
     }
 }
+
+const NAME: Wanted = Wanted {
+    key: "name",
+    form: Form::Name,
+    what: "a text",
+};
+
+const CLASS: Wanted = Wanted {
+    key: "class",
+    form: Form::Text,
+    what: "a text",
+};
+
+const MIN: Wanted = Wanted {
+    key: "min",
+    form: Form::Integer,
+    what: "a number from 0 to 10000, without quotes",
+};
+
+const MAX: Wanted = Wanted {
+    key: "max",
+    form: Form::Integer,
+    what: "a number from 0 to 10000, without quotes",
+};
+
+const VALUES: Wanted = Wanted {
+    key: "values",
+    form: Form::Array,
+    what: "an array",
+};
 
 fn unknown(alloc: Global, table: &Table) -> Told {
     match class_of(table) {
@@ -76,76 +104,56 @@ fn missing(alloc: Global, table: &Table) -> Told {
     }
 }
 
+fn wrong_key(alloc: Global, table: &Table) -> Told {
+    match class_of(table) {
+        Class::Bounded => wrong_value(alloc, table, &[NAME, CLASS, MIN, MAX]),
+        Class::Listed => wrong_value(alloc, table, &[NAME, CLASS, VALUES]),
+        Class::Unknown => wrong_value(alloc, table, &[NAME, CLASS]),
+    }
+}
+
 fn no_class(alloc: Global, text: &str) -> Told {
     let guess = guess_of(alloc, &CLASSES, text)?;
-    Ok(Some(format!(in alloc;
-        ": there is no class {guess}; the classes are digits, plain, text, bin, oneof, account"
-    )?))
+    told(
+        alloc,
+        format_args!(
+            ": there is no class {guess}; the classes are digits, plain, text, bin, oneof, account"
+        ),
+    )
 }
 
-fn wrong_key(table: &Table) -> Option<Wanted> {
-    let number = "a number from 0 to 10000, without quotes";
-    if is_no_text(member(table, "class")) {
-        return Some(Wanted {
-            key: "class",
-            what: "a text",
-        });
-    }
-    match class_of(table) {
-        Class::Bounded if is_no_integer(member(table, "min")) => Some(Wanted {
-            key: "min",
-            what: number,
-        }),
-        Class::Bounded if is_no_integer(member(table, "max")) => Some(Wanted {
-            key: "max",
-            what: number,
-        }),
-        Class::Listed if is_no_array(member(table, "values")) => Some(Wanted {
-            key: "values",
-            what: "an array",
-        }),
-        _ => None,
-    }
-}
-
+// What is wrong with the listed values, where the class has some.
 fn values_of(alloc: Global, kind: FaultKind, table: &Table) -> Told {
-    if class_of(table) != Class::Listed {
-        return Ok(None);
-    }
-    let accounts = text_at(table, "class") == Some("account");
+    let accounts = match text_at(table, "class") {
+        Some("account") => true,
+        Some("oneof") => false,
+        _ => return Ok(None),
+    };
     values_slip(alloc, kind, accounts, member(table, "values"))
 }
 
-fn wrong_value(alloc: Global, table: &Table) -> Told {
-    if has_bad_name(table) {
-        return name_slip(alloc, table);
-    }
-    let wanted = wrong_key(table);
-    if wanted.is_some() {
-        return wrong(alloc, table, wanted);
+fn wrong_kind(alloc: Global, table: &Table) -> Told {
+    let found = wrong_key(alloc, table)?;
+    if found.is_some() {
+        return Ok(found);
     }
     match text_at(table, "class") {
-        Some(text) if class_of(table) == Class::Unknown => no_class(alloc, text),
+        Some(text) if !is_among(&CLASSES, text) => no_class(alloc, text),
         _ => values_of(alloc, FaultKind::WrongKind, table),
     }
-}
-
-fn taken(alloc: Global, number: usize, name: &str) -> Told {
-    let name = Quoted(name);
-    Ok(Some(format!(in alloc; ": the name {name} is that of field {number} already")?))
 }
 
 fn twice(alloc: Global, rows: &NamedRows<'_>, number: u16, table: &Table) -> Told {
     let name = text_at(table, "name").unwrap_or("");
     if name == "dialog" {
-        return Ok(Some(String::from_str(
+        return told(
             alloc,
             ": the name \"dialog\" is that of the built-in field, the id of the dialogue",
-        )?));
+        );
     }
     match rows.place_of(name) {
         Some(place) if place.saturating_add(1) < usize::from(number) => {
-            taken(alloc, place.saturating_add(1), name)
+            name_taken(alloc, "field", place.saturating_add(1), name)
         }
         _ => values_of(alloc, FaultKind::Duplicate, table),
     }
@@ -159,31 +167,40 @@ fn is_past(number: i64) -> bool {
     !(0..=10_000).contains(&number)
 }
 
+fn past_text(alloc: Global, key: &str, number: i64) -> Told {
+    told(
+        alloc,
+        format_args!(": {key} is {number}, and must be from 0 to 10000"),
+    )
+}
+
 fn bounds_text(alloc: Global, min: i64, max: i64) -> Told {
     if is_past(min) {
-        return Ok(Some(format!(in alloc; ": min is {min}, and must be from 0 to 10000")?));
+        return past_text(alloc, "min", min);
     }
     if is_past(max) {
-        return Ok(Some(format!(in alloc; ": max is {max}, and must be from 0 to 10000")?));
+        return past_text(alloc, "max", max);
     }
     if max < min {
-        return Ok(Some(format!(in alloc;
-            ": min is {min} and max is {max}; min may not be over max"
-        )?));
+        return told(
+            alloc,
+            format_args!(": min is {min} and max is {max}; min may not be over max"),
+        );
     }
-    Ok(Some(String::from_str(
+    told(
         alloc,
         ": min is 0, and must be at least 1 for the class bin",
-    )?))
+    )
 }
 
 fn past(alloc: Global, table: &Table) -> Told {
-    if class_of(table) != Class::Bounded {
-        return values_of(alloc, FaultKind::Limit, table);
-    }
-    match (number_at(table, "min"), number_at(table, "max")) {
-        (Some(min), Some(max)) => bounds_text(alloc, min, max),
-        _ => Ok(None),
+    match (
+        class_of(table),
+        number_at(table, "min"),
+        number_at(table, "max"),
+    ) {
+        (Class::Bounded, Some(min), Some(max)) => bounds_text(alloc, min, max),
+        _ => values_of(alloc, FaultKind::Limit, table),
     }
 }
 
@@ -197,7 +214,7 @@ fn table_slip(
     match kind {
         FaultKind::UnknownKey => unknown(alloc, table),
         FaultKind::Missing => missing(alloc, table),
-        FaultKind::WrongKind => wrong_value(alloc, table),
+        FaultKind::WrongKind => wrong_kind(alloc, table),
         FaultKind::Duplicate => twice(alloc, rows, number, table),
         FaultKind::Limit => past(alloc, table),
         _ => values_of(alloc, kind, table),
@@ -213,6 +230,9 @@ pub fn field_hint(alloc: Global, kind: FaultKind, rows: &NamedRows<'_>, number: 
         Value::Table(table) => table_slip(alloc, kind, rows, number, table)?,
         _ => no_table(alloc, row)?,
     };
-    let place = row_named("field", usize::from(number), row, "name");
-    told_of(alloc, &place, found)
+    told_at(
+        alloc,
+        row_named("field", usize::from(number), row, "name"),
+        found,
+    )
 }

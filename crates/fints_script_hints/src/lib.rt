@@ -2,6 +2,7 @@
 #![tactic(auto)]
 
 mod branches;
+mod counts;
 mod fields;
 mod scripts;
 mod segments;

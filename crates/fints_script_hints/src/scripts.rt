@@ -1,59 +1,50 @@
 //! What the refusal of a script is about.
+use crate::counts::{Most, too_many};
 use crate::fields::field_hint;
 use crate::signers::{seal_hint, signer_hint};
 use crate::steps::{Around, step_hint};
 use fints_documents::document;
 use fints_documents::document::{MAX_TEXT, member};
-use fints_documents::tables::{is_no_array, is_no_list, rows_of};
+use fints_documents::tables::rows_of;
 use fints_field_rows::{FaultKind, NamedRows, Place, ScriptFault};
-use fints_hint_words::keys::{Wanted, missing_key, unknown_key, wrong};
+use fints_hint_words::keys::{Form, Wanted, missing_key, unknown_key, wrong_value};
 use fints_hint_words::places::{Told, told_at};
 use fints_hint_words::unread::{too_long, why_no_toml};
 use std::alloc::Global;
 use toml::Table;
 
-fn wrong_key(table: &Table) -> Option<Wanted> {
-    if is_no_array(member(table, "field")) {
-        return Some(Wanted {
-            key: "field",
-            what: "an array of tables: write [[field]], with two brackets",
-        });
-    }
-    if is_no_array(member(table, "signer")) {
-        return Some(Wanted {
-            key: "signer",
-            what: "an array of tables: write [[signer]], with two brackets",
-        });
-    }
-    if is_no_list(member(table, "step")) {
-        return Some(Wanted {
-            key: "step",
-            what: "an array of at least one table: write [[step]], with two brackets",
-        });
-    }
-    None
-}
+const KEYS: [Wanted; 3] = [
+    Wanted {
+        key: "field",
+        form: Form::Array,
+        what: "an array of tables: write [[field]], with two brackets",
+    },
+    Wanted {
+        key: "signer",
+        form: Form::Array,
+        what: "an array of tables: write [[signer]], with two brackets",
+    },
+    Wanted {
+        key: "step",
+        form: Form::List,
+        what: "an array of at least one table: write [[step]], with two brackets",
+    },
+];
 
-fn many(alloc: Global, table: &Table, key: &str, most: usize) -> Told {
-    let count = rows_of(member(table, key)).len();
-    if count > most {
-        Ok(Some(format!(in alloc; ": {key} has {count} rows, and may have {most}")?))
-    } else {
-        Ok(None)
-    }
-}
-
-fn past(alloc: Global, table: &Table) -> Told {
-    let found = many(alloc, table, "field", 100)?;
-    if found.is_some() {
-        return Ok(found);
-    }
-    let found = many(alloc, table, "signer", 20)?;
-    if found.is_some() {
-        return Ok(found);
-    }
-    many(alloc, table, "step", 200)
-}
+const ROWS: [Most; 3] = [
+    Most {
+        key: "field",
+        most: 100,
+    },
+    Most {
+        key: "signer",
+        most: 20,
+    },
+    Most {
+        key: "step",
+        most: 200,
+    },
+];
 
 fn top_slip(alloc: Global, kind: FaultKind, table: &Table) -> Told {
     match kind {
@@ -64,8 +55,8 @@ fn top_slip(alloc: Global, kind: FaultKind, table: &Table) -> Told {
             "a script",
         ),
         FaultKind::Missing => missing_key(alloc, table, &["step"], "a script"),
-        FaultKind::WrongKind => wrong(alloc, table, wrong_key(table)),
-        FaultKind::Limit => past(alloc, table),
+        FaultKind::WrongKind => wrong_value(alloc, table, &KEYS),
+        FaultKind::Limit => too_many(alloc, table, "rows", &ROWS),
         _ => Ok(None),
     }
 }
@@ -75,43 +66,44 @@ fn top_hint(alloc: Global, kind: FaultKind, table: &Table) -> Told {
     told_at(alloc, "top", found)
 }
 
-fn place_hint(alloc: Global, fault: &ScriptFault, around: &Around<'_, '_>) -> Told {
-    match fault.place {
-        Place::Top => Ok(None),
-        Place::Field(row) => field_hint(alloc, fault.kind, around.fields, row),
-        Place::Signer(row) => { signer_hint(alloc, fault.kind, around.fields, around.signers, row) }
-        Place::Seal => seal_hint(alloc, fault.kind, around.fields, around.seal),
-        Place::Step(row) => step_hint(alloc, fault.kind, around, row),
-    }
-}
-
-fn around_hint<'r>(
+fn steps_hint<'r>(
     alloc: Global,
-    fault: &ScriptFault,
-    table: &Table,
+    kind: FaultKind,
     fields: &NamedRows<'r>,
-    steps: &NamedRows<'r>,
+    table: &'r Table,
+    row: u16,
 ) -> Told {
+    let steps = NamedRows::new(alloc, rows_of(member(table, "step")))?;
     let around = Around {
         fields,
         signers: rows_of(member(table, "signer")),
         seal: member(table, "seal"),
-        steps,
+        steps: &steps,
     };
-    place_hint(alloc, fault, &around)
+    step_hint(alloc, kind, &around, row)
 }
 
-fn rows_hint(alloc: Global, fault: &ScriptFault, table: &Table) -> Told {
-    let fields = NamedRows::new(alloc, rows_of(member(table, "field")))?;
-    let steps = NamedRows::new(alloc, rows_of(member(table, "step")))?;
-    around_hint(alloc, fault, table, &fields, &steps)
+fn place_hint<'r>(
+    alloc: Global,
+    fault: &ScriptFault,
+    fields: &NamedRows<'r>,
+    table: &'r Table,
+) -> Told {
+    let ScriptFault { place, kind } = *fault;
+    match place {
+        Place::Top => top_hint(alloc, kind, table),
+        Place::Field(row) => field_hint(alloc, kind, fields, row),
+        Place::Signer(row) => {
+            signer_hint(alloc, kind, fields, rows_of(member(table, "signer")), row)
+        }
+        Place::Seal => seal_hint(alloc, kind, fields, member(table, "seal")),
+        Place::Step(row) => steps_hint(alloc, kind, fields, table, row),
+    }
 }
 
 fn table_hint(alloc: Global, fault: &ScriptFault, table: &Table) -> Told {
-    match fault.place {
-        Place::Top => top_hint(alloc, fault.kind, table),
-        _ => rows_hint(alloc, fault, table),
-    }
+    let fields = NamedRows::new(alloc, rows_of(member(table, "field")))?;
+    place_hint(alloc, fault, &fields, table)
 }
 
 /// What the refusal of a script is about.

@@ -1,14 +1,12 @@
 //! What is wrong with a row of `signer`, or with the seal.
 use fints_documents::document::member;
 use fints_documents::entries::{is_named, text_at};
-use fints_documents::tables::is_no_array;
 use fints_field_rows::{FaultKind, NamedRows};
 use fints_hint_words::elements::elements_slip;
 use fints_hint_words::keys::{
-    Wanted, has_bad_name, missing_key, name_slip, no_table, unknown_key, wrong,
+    Form, Wanted, missing_key, must_be, name_taken, no_table, unknown_key, wrong_value,
 };
-use fints_hint_words::places::{Told, row_at, row_named, told_at, told_of};
-use fints_hint_words::quoting::{Quoted, Shown};
+use fints_hint_words::places::{Told, row_at, row_named, told, told_at};
 use std::alloc::Global;
 use toml::{Table, Value};
 
@@ -36,11 +34,13 @@ fn many(alloc: Global, value: Option<&Value>) -> Told {
         Some(Value::Array(values)) => item_count(values.as_slice()),
         _ => 0,
     };
-    if count > MOST {
-        Ok(Some(format!(in alloc; " has {count} items, and may have {MOST}")?))
-    } else {
-        Ok(None)
+    if count <= MOST {
+        return Ok(None);
     }
+    told(
+        alloc,
+        format_args!(" has {count} items, and may have {MOST}"),
+    )
 }
 
 // What is wrong with the elements at a place where no account field may stand.
@@ -57,51 +57,48 @@ fn list_slip(
 }
 
 fn ends_slip(alloc: Global, kind: FaultKind, fields: &NamedRows<'_>, table: &Table) -> Told {
-    let found = list_slip(alloc, kind, fields, member(table, "head"))?;
-    if found.is_some() {
-        return told_at(alloc, ", head", found);
+    match list_slip(alloc, kind, fields, member(table, "head"))? {
+        None => {
+            let found = list_slip(alloc, kind, fields, member(table, "end"))?;
+            told_at(alloc, ", end", found)
+        }
+        found => told_at(alloc, ", head", found),
     }
-    let found = list_slip(alloc, kind, fields, member(table, "end"))?;
-    told_at(alloc, ", end", found)
 }
 
-fn wrong_key(table: &Table) -> Option<Wanted> {
-    if is_no_array(member(table, "head")) {
-        return Some(Wanted {
-            key: "head",
-            what: "an array: the elements of HNSHK from element 2 on",
-        });
-    }
-    if is_no_array(member(table, "end")) {
-        return Some(Wanted {
-            key: "end",
-            what: "an array: the elements of HNSHA from element 2 on",
-        });
-    }
-    None
-}
+const KEYS: [Wanted; 3] = [
+    Wanted {
+        key: "name",
+        form: Form::Name,
+        what: "a text",
+    },
+    Wanted {
+        key: "head",
+        form: Form::Array,
+        what: "an array: the elements of HNSHK from element 2 on",
+    },
+    Wanted {
+        key: "end",
+        form: Form::Array,
+        what: "an array: the elements of HNSHA from element 2 on",
+    },
+];
 
-fn wrong_value(alloc: Global, fields: &NamedRows<'_>, table: &Table) -> Told {
-    if has_bad_name(table) {
-        return name_slip(alloc, table);
+fn wrong_kind(alloc: Global, fields: &NamedRows<'_>, table: &Table) -> Told {
+    match wrong_value(alloc, table, &KEYS)? {
+        None => ends_slip(alloc, FaultKind::WrongKind, fields, table),
+        found => Ok(found),
     }
-    let wanted = wrong_key(table);
-    if wanted.is_some() {
-        return wrong(alloc, table, wanted);
-    }
-    ends_slip(alloc, FaultKind::WrongKind, fields, table)
 }
 
 fn twice(alloc: Global, rows: &[Value], table: &Table) -> Told {
     let name = text_at(table, "name").unwrap_or("");
-    match rows.iter().position(|row| is_named(name, row)) {
-        Some(place) => {
-            let name = Quoted(name);
-            let number = place.saturating_add(1);
-            Ok(Some(format!(in alloc; ": the name {name} is that of signer {number} already")?))
+    for (i, row) in rows.iter().enumerate() {
+        if is_named(name, row) {
+            return name_taken(alloc, "signer", i.saturating_add(1), name);
         }
-        None => Ok(None),
     }
+    Ok(None)
 }
 
 fn table_slip(
@@ -114,7 +111,7 @@ fn table_slip(
     match kind {
         FaultKind::UnknownKey => unknown_key(alloc, table, &["name", "head", "end"], "a signer"),
         FaultKind::Missing => missing_key(alloc, table, &["name", "head", "end"], "a signer"),
-        FaultKind::WrongKind => wrong_value(alloc, fields, table),
+        FaultKind::WrongKind => wrong_kind(alloc, fields, table),
         FaultKind::Duplicate => twice(alloc, rows, table),
         _ => ends_slip(alloc, kind, fields, table),
     }
@@ -135,8 +132,11 @@ pub fn signer_hint(
         Value::Table(table) => table_slip(alloc, kind, fields, rows, table)?,
         _ => no_table(alloc, row)?,
     };
-    let place = row_named("signer", usize::from(number), row, "name");
-    told_of(alloc, &place, found)
+    told_at(
+        alloc,
+        row_named("signer", usize::from(number), row, "name"),
+        found,
+    )
 }
 
 /// What the fault of this kind in the seal is about.
@@ -151,12 +151,12 @@ pub fn seal_hint(
             let found = list_slip(alloc, kind, fields, value)?;
             told_at(alloc, "seal", found)
         }
-        Some(other) => {
-            let shown = Shown(other);
-            Ok(Some(format!(in alloc;
-                "seal is {shown}, and must be an array: the elements of HNVSK from element 2 on"
-            )?))
-        }
+        Some(other) => must_be(
+            alloc,
+            "seal",
+            other,
+            "an array: the elements of HNVSK from element 2 on",
+        ),
         None => Ok(None),
     }
 }

@@ -1,19 +1,18 @@
 //! What is wrong with a row of `step`.
-use crate::branches::{branches_slip, target_slip};
+use crate::branches::{branches_slip, is_word, target_slip};
+use crate::counts::{Most, too_many};
 use crate::segments::segments_slip;
 use crate::weights::{Parts, size_slip};
 use fints_documents::document::member;
-use fints_documents::entries::{has_key, some_is_named, text_at};
-use fints_documents::tables::{
-    is_no_array, is_no_flag, is_no_integer, is_no_list, is_outside, is_set, rows_of,
-};
+use fints_documents::entries::{some_is_named, text_at};
+use fints_documents::tables::{is_set, rows_of};
 use fints_field_rows::{FaultKind, NamedRows};
-use fints_hint_words::guessing::{Known, guess_of};
+use fints_hint_words::guessing::{Named, not_named};
 use fints_hint_words::keys::{
-    Wanted, has_bad_name, missing_key, name_slip, no_table, unknown_key, wrong,
+    Form, Wanted, missing_key, must_be, name_taken, no_table, unknown_key, wrong_value,
 };
-use fints_hint_words::places::{Told, names_of, row_at, row_named, told_at, told_of};
-use fints_hint_words::quoting::{Quoted, Shown};
+use fints_hint_words::places::{Told, names_of, row_at, row_named, told, told_at};
+use fints_hint_words::quoting::Quoted;
 use std::alloc::Global;
 use toml::{Table, Value};
 
@@ -27,110 +26,91 @@ pub struct Around<'a, 'r> {
 }
 
 fn missing(alloc: Global, around: &Around<'_, '_>, table: &Table) -> Told {
-    if has_key(table, "name") && has_key(table, "segments") {
-        if is_set(member(table, "sealed")) && around.seal.is_none() {
-            return Ok(Some(String::from_str(
-                alloc,
-                ": sealed is true, and the script has no key \"seal\" at its top",
-            )?));
-        }
-        return Ok(None);
+    match missing_key(alloc, table, &["name", "segments"], "a step")? {
+        None if is_set(member(table, "sealed")) && around.seal.is_none() => told(
+            alloc,
+            ": sealed is true, and the script has no key \"seal\" at its top",
+        ),
+        found => Ok(found),
     }
-    missing_key(alloc, table, &["name", "segments"], "a step")
 }
 
-fn wrong_list(table: &Table) -> Option<Wanted> {
-    if is_no_list(member(table, "segments")) {
-        return Some(Wanted {
-            key: "segments",
-            what: "an array of at least one table",
-        });
-    }
-    if is_no_array(member(table, "signers")) {
-        return Some(Wanted {
-            key: "signers",
-            what: "an array of names",
-        });
-    }
-    if is_no_array(member(table, "branches")) {
-        return Some(Wanted {
-            key: "branches",
-            what: "an array of tables",
-        });
-    }
-    None
-}
+const KEYS: [Wanted; 6] = [
+    Wanted {
+        key: "name",
+        form: Form::Name,
+        what: "a text",
+    },
+    Wanted {
+        key: "sealed",
+        form: Form::Flag,
+        what: "true or false, without quotes",
+    },
+    Wanted {
+        key: "repeat",
+        form: Form::Integer,
+        what: "a number from 1 to 99, without quotes",
+    },
+    Wanted {
+        key: "segments",
+        form: Form::List,
+        what: "an array of at least one table",
+    },
+    Wanted {
+        key: "signers",
+        form: Form::Array,
+        what: "an array of names",
+    },
+    Wanted {
+        key: "branches",
+        form: Form::Array,
+        what: "an array of tables",
+    },
+];
 
-fn wrong_key(table: &Table) -> Option<Wanted> {
-    if is_no_flag(member(table, "sealed")) {
-        return Some(Wanted {
-            key: "sealed",
-            what: "true or false, without quotes",
-        });
-    }
-    if is_no_integer(member(table, "repeat")) {
-        return Some(Wanted {
-            key: "repeat",
-            what: "a number from 1 to 99, without quotes",
-        });
-    }
-    wrong_list(table)
-}
+const REPEAT: Wanted = Wanted {
+    key: "repeat",
+    form: Form::Within(1, 99),
+    what: "from 1 to 99",
+};
 
-fn wrong_value(alloc: Global, table: &Table) -> Told {
-    if has_bad_name(table) {
-        return name_slip(alloc, table);
-    }
-    wrong(alloc, table, wrong_key(table))
+const ENTRIES: [Most; 3] = [
+    Most {
+        key: "segments",
+        most: 100,
+    },
+    Most {
+        key: "signers",
+        most: 9,
+    },
+    Most {
+        key: "branches",
+        most: 20,
+    },
+];
+
+fn no_name(alloc: Global, word: &str) -> Told {
+    let shown = Quoted(word);
+    told(
+        alloc,
+        format_args!(": no step may be named {shown}, a word that targets have"),
+    )
 }
 
 fn twice(alloc: Global, steps: &NamedRows<'_>, row: usize, table: &Table) -> Told {
     let name = text_at(table, "name").unwrap_or("");
-    let shown = Quoted(name);
-    if name == "again" || name == "stop" {
-        return Ok(Some(format!(in alloc;
-            ": no step may be named {shown}, a word that targets have"
-        )?));
-    }
     match steps.place_of(name) {
-        Some(place) if place < row => {
-            let number = place.saturating_add(1);
-            Ok(Some(format!(in alloc; ": the name {shown} is that of step {number} already")?))
-        }
+        _ if is_word(name) => no_name(alloc, name),
+        Some(place) if place < row => name_taken(alloc, "step", place.saturating_add(1), name),
         _ => Ok(None),
     }
 }
 
-fn many(alloc: Global, table: &Table, key: &str, most: usize) -> Told {
-    let count = rows_of(member(table, key)).len();
-    if count > most {
-        Ok(Some(format!(in alloc; ": {key} has {count} entries, and may have {most}")?))
-    } else {
-        Ok(None)
-    }
-}
-
-fn many_parts(alloc: Global, table: &Table) -> Told {
-    let found = many(alloc, table, "segments", 100)?;
-    if found.is_some() {
-        return Ok(found);
-    }
-    let found = many(alloc, table, "signers", 9)?;
-    if found.is_some() {
-        return Ok(found);
-    }
-    many(alloc, table, "branches", 20)
-}
-
 fn past(alloc: Global, table: &Table) -> Told {
-    if is_outside(1, 99, member(table, "repeat")) {
-        let wanted = Wanted {
-            key: "repeat",
-            what: "from 1 to 99",
-        };
-        return wrong(alloc, table, Some(wanted));
+    match wrong_value(alloc, table, &[REPEAT])? {
+        None => too_many(alloc, table, "entries", &ENTRIES),
+        found => Ok(found),
     }
-    many_parts(alloc, table)
 }
 
 // What is wrong with the step's own keys.
@@ -151,7 +131,7 @@ fn own_slip(
             "a step",
         ),
         FaultKind::Missing => missing(alloc, around, table),
-        FaultKind::WrongKind => wrong_value(alloc, table),
+        FaultKind::WrongKind => wrong_value(alloc, table, &KEYS),
         FaultKind::Duplicate => twice(alloc, around.steps, row, table),
         FaultKind::Limit => past(alloc, table),
         _ => Ok(None),
@@ -159,22 +139,18 @@ fn own_slip(
 }
 
 fn no_signer(alloc: Global, signers: &[Value], number: usize, name: &str) -> Told {
-    let names = names_of(alloc, signers)?;
-    let guess = guess_of(alloc, names.as_slice(), name)?;
-    if guess.near.is_some() {
-        return Ok(Some(format!(in alloc;
-            ", signers, entry {number}: no signer is named {guess}"
-        )?));
-    }
-    let known = Known(names.as_slice());
-    Ok(Some(format!(in alloc; ", signers, entry {number}: no signer is named {guess}; {known}")?))
-}
-
-fn no_text(alloc: Global, number: usize, value: &Value) -> Told {
-    let shown = Shown(value);
-    Ok(Some(format!(in alloc;
-        ", signers, entry {number} is {shown}, and must be a text: the name of a signer"
-    )?))
+    let names = names_of(alloc, signers, &[])?;
+    let named = Named {
+        what: "signer",
+        names: names.as_slice(),
+        remark: "",
+    };
+    not_named(
+        alloc,
+        format_args!(", signers, entry {number}"),
+        &named,
+        name,
+    )
 }
 
 fn signature_slip(
@@ -185,14 +161,16 @@ fn signature_slip(
     entry: &Value,
 ) -> Told {
     match (kind, entry) {
-        (FaultKind::NoSuchName, Value::String(name)) => {
-            if some_is_named(name.as_str(), signers) {
-                return Ok(None);
-            }
+        (FaultKind::NoSuchName, Value::String(name)) if !some_is_named(name.as_str(), signers) => {
             no_signer(alloc, signers, number, name.as_str())
         }
         (_, Value::String(_)) => Ok(None),
-        (FaultKind::WrongKind, _) => no_text(alloc, number, entry),
+        (FaultKind::WrongKind, _) => must_be(
+            alloc,
+            format_args!(", signers, entry {number}"),
+            entry,
+            "a text: the name of a signer",
+        ),
         _ => Ok(None),
     }
 }
@@ -215,13 +193,13 @@ fn ways_slip(
     row: usize,
     table: &Table,
 ) -> Told {
-    let branches = rows_of(member(table, "branches"));
-    let found = branches_slip(alloc, kind, steps, row, branches)?;
-    if found.is_some() {
-        return Ok(found);
+    match branches_slip(alloc, kind, steps, row, rows_of(member(table, "branches")))? {
+        None => {
+            let found = target_slip(alloc, kind, steps, row, member(table, "default"))?;
+            told_at(alloc, ", default", found)
+        }
+        found => Ok(found),
     }
-    let found = target_slip(alloc, kind, steps, row, member(table, "default"))?;
-    told_at(alloc, ", default", found)
 }
 
 // What is wrong with the parts of the step.
@@ -272,11 +250,10 @@ fn table_slip(
     if found.is_some() {
         return Ok(found);
     }
-    let found = parts_slip(alloc, kind, around, row, table)?;
-    if found.is_none() && kind == FaultKind::Limit {
-        return size_of(alloc, around, table);
+    match parts_slip(alloc, kind, around, row, table)? {
+        None if kind == FaultKind::Limit => size_of(alloc, around, table),
+        found => Ok(found),
     }
-    Ok(found)
 }
 
 /// What the fault of this kind in a row of `step` is about.
@@ -289,6 +266,9 @@ pub fn step_hint(alloc: Global, kind: FaultKind, around: &Around<'_, '_>, number
         Value::Table(table) => table_slip(alloc, kind, around, index, table)?,
         _ => no_table(alloc, row)?,
     };
-    let place = row_named("step", usize::from(number), row, "name");
-    told_of(alloc, &place, found)
+    told_at(
+        alloc,
+        row_named("step", usize::from(number), row, "name"),
+        found,
+    )
 }

@@ -1,9 +1,9 @@
 //! How many items the segments of a step have, and how much they weigh.
 use fints_documents::document::member;
-use fints_documents::entries::text_at;
+use fints_documents::entries::{is_named, text_at};
 use fints_documents::tables::rows_of;
 use fints_field_rows::NamedRows;
-use fints_hint_words::places::{Told, row_named, text_in};
+use fints_hint_words::places::{Told, row_named, told};
 use fints_syntax::Memory;
 use std::alloc::Global;
 use toml::{Table, Value};
@@ -202,9 +202,12 @@ fn elements_of<'a>(row: &'a Value, key: &str) -> &'a [Value] {
 
 fn many_text(alloc: Global, number: usize, row: &Value, count: u64) -> Told {
     let place = row_named(", segment", number, row, "kind");
-    Ok(Some(format!(in alloc;
-        "{place}: elements has {count} items, and may have {MOST_ITEMS}; an account field counts as its value with the most items"
-    )?))
+    told(
+        alloc,
+        format_args!(
+            "{place}: elements has {count} items, and may have {MOST_ITEMS}; an account field counts as its value with the most items"
+        ),
+    )
 }
 
 // The first segment with too many items.
@@ -246,17 +249,14 @@ fn heaviest(measured: &Measured<'_, '_>, rows: &[Value]) -> (Weight, u64) {
 }
 
 fn signer_weight(measured: &Measured<'_, '_>, signers: &[Value], name: &str) -> u64 {
-    match signers
-        .iter()
-        .find(|row| text_in(row, "name") == Some(name))
-    {
-        Some(row) => {
+    for row in signers {
+        if is_named(name, row) {
             let head = segment_figures(measured, elements_of(row, "head")).written;
             let end = segment_figures(measured, elements_of(row, "end")).written;
-            head.saturating_add(end)
+            return head.saturating_add(end);
         }
-        None => 0,
     }
+    0
 }
 
 fn signers_weight(measured: &Measured<'_, '_>, signers: &[Value], names: &[Value]) -> u64 {
@@ -292,9 +292,12 @@ fn weight_text(alloc: Global, measured: &Measured<'_, '_>, parts: &Parts<'_, '_>
         .saturating_add(signers_weight(measured, parts.signers, parts.names))
         .saturating_add(seal_weight(measured, parts.seal));
     let Weight { place, weight } = most;
-    Ok(Some(format!(in alloc;
-        ": the step weighs {total}, and may weigh 1000000: 15 for each segment, and for each item 1 and its longest length; segment {place} weighs most, {weight}"
-    )?))
+    told(
+        alloc,
+        format_args!(
+            ": the step weighs {total}, and may weigh 1000000: 15 for each segment, and for each item 1 and its longest length; segment {place} weighs most, {weight}"
+        ),
+    )
 }
 
 /// What makes a step too large, where nothing else is wrong with it.
@@ -304,9 +307,8 @@ pub fn size_slip(alloc: Global, parts: &Parts<'_, '_>) -> Told {
         fields: parts.fields,
         figures: figures.as_slice(),
     };
-    let found = many_items(alloc, &measured, parts.segments)?;
-    if found.is_some() {
-        return Ok(found);
+    match many_items(alloc, &measured, parts.segments)? {
+        None => weight_text(alloc, &measured, parts),
+        found => Ok(found),
     }
-    weight_text(alloc, &measured, parts)
 }

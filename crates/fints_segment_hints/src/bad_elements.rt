@@ -1,31 +1,51 @@
 //! Elements of a capture that can't be read.
-use fints_hint_words::places::Told;
 use fints_hint_words::quoting::Sample;
+use fints_messages::is_kind;
 use fints_params::Code;
 use fints_syntax::{ElementRef, Item, Memory, OwnedSegment, Placed, parse_number, parse_placed};
 use std::alloc::Global;
+use std::fmt;
+use std::fmt::{Display, Formatter, Write};
 
 /// A segment of a capture, with its offset; whether it stands in the data of an HNVSD.
 #[derive(Drop)]
-pub struct Spot {
+pub struct Found {
     pub offset: usize,
     pub inner: bool,
     pub segment: OwnedSegment,
 }
 
-fn is_sealed(placed: &Placed<'_>) -> bool {
-    placed.segment.id().as_bytes() == b"HNVSD".as_slice() && placed.segment.version() == 1
+/// The data of an HNVSD, and where they begin in the capture.
+#[derive(Clone, Copy)]
+pub struct Data<'a> {
+    pub bytes: &'a [u8],
+    pub base: usize,
 }
 
-fn push_spot(
+/// The data of an HNVSD version 1.
+pub fn data_of<'a>(placed: &Placed<'a>) -> Option<Data<'a>> {
+    let view = &placed.segment;
+    if !is_kind(view.id(), b"HNVSD") || view.version() != 1 {
+        return None;
+    }
+    match (view.item(2, 1), view.item_start(2, 1)) {
+        (Some(Item::Bin(bytes)), Some(start)) => Some(Data {
+            bytes,
+            base: placed.start.saturating_add(start),
+        }),
+        _ => None,
+    }
+}
+
+fn push_found(
     alloc: Global,
-    spots: &mut Vec<Spot>,
+    all: &mut Vec<Found>,
     base: usize,
     inner: bool,
     placed: &Placed<'_>,
 ) -> Result<(), Memory> {
     let segment = placed.segment.to_owned(alloc)?;
-    spots.push(Spot {
+    all.push(Found {
         offset: base.saturating_add(placed.start),
         inner,
         segment,
@@ -33,40 +53,90 @@ fn push_spot(
     Ok(())
 }
 
-// Adds the segments of data that begin at an offset of the capture; none where they can't be read.
-fn push_data(
-    alloc: Global,
-    spots: &mut Vec<Spot>,
-    base: usize,
-    bytes: &[u8],
-) -> Result<(), Memory> {
-    if let Ok(all) = parse_placed(alloc, bytes) {
-        for placed in all.iter() {
-            push_spot(alloc, spots, base, true, placed)?;
+// Adds the segments of data; none where they can't be read.
+fn push_data(alloc: Global, all: &mut Vec<Found>, data: Data<'_>) -> Result<(), Memory> {
+    if let Ok(inner) = parse_placed(alloc, data.bytes) {
+        for placed in inner.iter() {
+            push_found(alloc, all, data.base, true, placed)?;
         }
     }
     Ok(())
 }
 
-fn push_placed(alloc: Global, spots: &mut Vec<Spot>, placed: &Placed<'_>) -> Result<(), Memory> {
-    if is_sealed(placed) {
-        if let Some(Item::Bin(bytes)) = placed.segment.item(2, 1) {
-            let start = placed.segment.item_start(2, 1).unwrap_or(0);
-            return push_data(alloc, spots, placed.start.saturating_add(start), bytes);
-        }
+fn push_placed(alloc: Global, all: &mut Vec<Found>, placed: &Placed<'_>) -> Result<(), Memory> {
+    match data_of(placed) {
+        Some(data) => push_data(alloc, all, data),
+        None => push_found(alloc, all, 0, false, placed),
     }
-    push_spot(alloc, spots, 0, false, placed)
 }
 
 /// The segments of a capture, an HNVSD version 1 replaced by those of its data.
-pub fn flat(alloc: Global, capture: &[u8]) -> Result<Vec<Spot>, Memory> {
-    let mut spots = Vec::new(alloc);
-    if let Ok(all) = parse_placed(alloc, capture) {
-        for placed in all.iter() {
-            push_placed(alloc, &mut spots, placed)?;
+pub fn flat(alloc: Global, capture: &[u8]) -> Result<Vec<Found>, Memory> {
+    let mut all = Vec::new(alloc);
+    if let Ok(outer) = parse_placed(alloc, capture) {
+        for placed in outer.iter() {
+            push_placed(alloc, &mut all, placed)?;
         }
     }
-    Ok(spots)
+    Ok(all)
+}
+
+/// What must stand in an element or an item.
+#[derive(Clone, Copy)]
+enum Wanted<'a> {
+    /// What the words say.
+    Words(&'static str),
+    /// Whether orders of this kind need a TAN.
+    Flag(&'a [u8]),
+}
+
+impl Display for Wanted<'_> {
+    fn fmt<W: Write>(&self, f: &mut Formatter<W>) -> fmt::Result {
+        match *self {
+            Wanted::Words(words) => f.write_str(words),
+            Wanted::Flag(kind) => {
+                let kind = Sample(kind);
+                write!(f, "J or N: whether {kind} needs a TAN")
+            }
+        }
+    }
+}
+
+/// An element that can't be read, or an item of it: its value, and what must stand there.
+#[derive(Clone, Copy)]
+pub struct BadElement<'a> {
+    element: usize,
+    item: Option<usize>,
+    value: &'a [u8],
+    wanted: Wanted<'a>,
+}
+
+impl Display for BadElement<'_> {
+    fn fmt<W: Write>(&self, f: &mut Formatter<W>) -> fmt::Result {
+        let BadElement {
+            element,
+            item,
+            value,
+            wanted,
+        } = *self;
+        let shown = Sample(value);
+        match item {
+            Some(item) => write!(
+                f,
+                "element {element}, item {item} is {shown}, and must be {wanted}"
+            ),
+            None => write!(f, "element {element} is {shown}, and must be {wanted}"),
+        }
+    }
+}
+
+fn bad_element<'a>(element: usize, value: &'a [u8], words: &'static str) -> BadElement<'a> {
+    BadElement {
+        element,
+        item: None,
+        value,
+        wanted: Wanted::Words(words),
+    }
 }
 
 fn is_number(text: &[u8]) -> bool {
@@ -77,66 +147,45 @@ fn is_number_or_empty(text: &[u8]) -> bool {
     text.is_empty() || is_number(text)
 }
 
-fn element_text(alloc: Global, element: usize, value: &[u8], what: &str) -> Told {
-    let shown = Sample(value);
-    Ok(Some(format!(in alloc; "element {element} is {shown}, and must be {what}")?))
-}
-
-fn item_text(alloc: Global, element: usize, place: usize, value: &[u8], what: &str) -> Told {
-    let item = place.saturating_add(1);
-    let shown = Sample(value);
-    Ok(Some(format!(in alloc; "element {element}, item {item} is {shown}, and must be {what}")?))
-}
-
-fn protocols_slip(alloc: Global, items: &ElementRef<'_>) -> Told {
+fn bad_protocol<'a>(items: &ElementRef<'a>) -> Option<BadElement<'a>> {
     for i in 0..items.len() {
-        let value = items.value(i + 1);
+        let item = i + 1;
+        let value = items.value(item);
         if !is_number_or_empty(value) {
-            return item_text(
-                alloc,
-                7,
-                i,
+            return Some(BadElement {
+                element: 7,
+                item: Some(item),
                 value,
-                "a number of 1 to 9 digits, a protocol version",
-            );
+                wanted: Wanted::Words("a number of 1 to 9 digits, a protocol version"),
+            });
         }
     }
-    Ok(None)
+    None
 }
 
-fn bank_slip(alloc: Global, segment: &OwnedSegment) -> Told {
-    if !is_number(segment.value(5, 1)) {
-        return element_text(
-            alloc,
-            5,
-            segment.value(5, 1),
-            "a number of 1 to 9 digits, the most kinds of orders in a message",
-        );
+fn bad_bank(segment: &OwnedSegment) -> Option<BadElement<'_>> {
+    let (kinds, kilobytes) = (segment.value(5, 1), segment.value(8, 1));
+    if !is_number(kinds) {
+        let words = "a number of 1 to 9 digits, the most kinds of orders in a message";
+        return Some(bad_element(5, kinds, words));
     }
-    let found = protocols_slip(alloc, &segment.items(7))?;
-    if found.is_some() {
-        return Ok(found);
+    let protocol = bad_protocol(&segment.items(7));
+    if protocol.is_some() || is_number_or_empty(kilobytes) {
+        return protocol;
     }
-    if !is_number_or_empty(segment.value(8, 1)) {
-        return element_text(
-            alloc,
-            8,
-            segment.value(8, 1),
-            "a number of 1 to 9 digits or empty, the most kilobytes of a message",
-        );
-    }
-    Ok(None)
+    let words = "a number of 1 to 9 digits or empty, the most kilobytes of a message";
+    Some(bad_element(8, kilobytes, words))
 }
 
-fn usage_slip(alloc: Global, segment: &OwnedSegment) -> Told {
-    match parse_number(segment.value(4, 1)) {
-        Some(0) | Some(1) => Ok(None),
-        _ => element_text(
-            alloc,
+fn bad_usage(segment: &OwnedSegment) -> Option<BadElement<'_>> {
+    let value = segment.value(4, 1);
+    match parse_number(value) {
+        Some(0) | Some(1) => None,
+        _ => Some(bad_element(
             4,
-            segment.value(4, 1),
+            value,
             "0 or 1, whether orders that aren't listed are locked",
-        ),
+        )),
     }
 }
 
@@ -144,90 +193,92 @@ fn is_good_pair(kind: &[u8], flag: &[u8]) -> bool {
     kind.is_empty() && flag.is_empty() || flag == b"J".as_slice() || flag == b"N".as_slice()
 }
 
-fn pair_text(alloc: Global, place: usize, kind: &[u8], flag: &[u8]) -> Told {
-    let item = place.saturating_add(2);
-    let kind = Sample(kind);
-    let flag = Sample(flag);
-    Ok(Some(format!(in alloc;
-        "element 5, item {item} is {flag}, and must be J or N: whether {kind} needs a TAN"
-    )?))
-}
-
-fn pins_slip(alloc: Global, items: &ElementRef<'_>) -> Told {
+fn bad_pin<'a>(items: &ElementRef<'a>) -> Option<BadElement<'a>> {
     let mut place: usize = 5;
     for _ in 0..items.len() {
         if place >= items.len() {
-            return Ok(None);
+            return None;
         }
         let kind = items.value(place + 1);
         let flag = items.value((place + 1).saturating_add(1));
         if !is_good_pair(kind, flag) {
-            return pair_text(alloc, place, kind, flag);
+            return Some(BadElement {
+                element: 5,
+                item: Some(place.saturating_add(2)),
+                value: flag,
+                wanted: Wanted::Flag(kind),
+            });
         }
         place = place.saturating_add(2);
     }
-    Ok(None)
+    None
 }
 
 // The first element that can't be read of a segment that tells parameters.
-fn params_slip(alloc: Global, spot: &Spot) -> Told {
-    let segment = &spot.segment;
+fn bad_params(found: &Found) -> Option<BadElement<'_>> {
+    let segment = &found.segment;
     if segment.is_named(b"HIBPA", 3) {
-        return bank_slip(alloc, segment);
+        return bad_bank(segment);
     }
     if segment.is_named(b"HIUPA", 4) {
-        return usage_slip(alloc, segment);
+        return bad_usage(segment);
     }
     if segment.is_named(b"HIPINS", 1) {
-        return pins_slip(alloc, &segment.items(5));
+        return bad_pin(&segment.items(5));
     }
-    if segment.is_named(b"HNVSD", 1) && !spot.inner {
-        return element_text(
-            alloc,
-            2,
-            segment.value(2, 1),
-            "a binary item, @length@ and so many bytes",
-        );
+    if segment.is_named(b"HNVSD", 1) && !found.inner {
+        let words = "a binary item, @length@ and so many bytes";
+        return Some(bad_element(2, segment.value(2, 1), words));
     }
-    Ok(None)
+    None
+}
+
+fn is_no_code(text: &[u8]) -> bool {
+    !text.is_empty() && Code::parse(text).is_none()
 }
 
 // The first element of feedback that begins with no code.
-fn feedback_slip(alloc: Global, spot: &Spot) -> Told {
-    let segment = &spot.segment;
+fn bad_feedback(found: &Found) -> Option<BadElement<'_>> {
+    let segment = &found.segment;
     if !segment.is_named(b"HIRMG", 2) && !segment.is_named(b"HIRMS", 2) {
-        return Ok(None);
+        return None;
     }
     for i in 0..segment.elements.len() {
-        let text = segment.elements.items(i).value(1);
-        if !text.is_empty() && Code::parse(text).is_none() {
-            return item_text(alloc, i.saturating_add(2), 0, text, "a code of four digits");
+        let value = segment.elements.items(i).value(1);
+        if is_no_code(value) {
+            return Some(BadElement {
+                element: i.saturating_add(2),
+                item: Some(1),
+                value,
+                wanted: Wanted::Words("a code of four digits"),
+            });
         }
     }
-    Ok(None)
+    None
 }
 
-fn bad_feedback<'a>(
-    alloc: Global,
-    spots: &'a [Spot],
-) -> Result<Option<(&'a Spot, String)>, Memory> {
-    for spot in spots {
-        if let Some(text) = feedback_slip(alloc, spot)? {
-            return Ok(Some((spot, text)));
+/// A segment with the first of its elements that can't be read.
+#[derive(Clone, Copy)]
+pub struct BadSegment<'a> {
+    pub found: &'a Found,
+    pub element: BadElement<'a>,
+}
+
+fn first_bad_feedback(all: &[Found]) -> Option<BadSegment<'_>> {
+    for found in all {
+        if let Some(element) = bad_feedback(found) {
+            return Some(BadSegment { found, element });
         }
     }
-    Ok(None)
+    None
 }
 
 /// The first segment with an element that can't be read, as parameters, or else as feedback.
-pub fn bad_element<'a>(
-    alloc: Global,
-    spots: &'a [Spot],
-) -> Result<Option<(&'a Spot, String)>, Memory> {
-    for spot in spots {
-        if let Some(text) = params_slip(alloc, spot)? {
-            return Ok(Some((spot, text)));
+pub fn first_bad_segment(all: &[Found]) -> Option<BadSegment<'_>> {
+    for found in all {
+        if let Some(element) = bad_params(found) {
+            return Some(BadSegment { found, element });
         }
     }
-    bad_feedback(alloc, spots)
+    first_bad_feedback(all)
 }

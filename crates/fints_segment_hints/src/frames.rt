@@ -1,13 +1,14 @@
 //! Segments that can't stand at their place in a message.
 use crate::syntax::{Numbered, front_of, trouble};
+use fints_hint_words::places::{Told, told, written};
 use fints_hint_words::quoting::Sample;
 use fints_messages::is_kind;
-use fints_syntax::{Kind, Memory, OwnedSegment, SegmentView, parse_number, parse_segment};
+use fints_syntax::{Kind, Memory, SegmentView, parse_number, parse_segment};
 use std::alloc::Global;
 
 /// What a segment is within a message.
-#[derive(Clone, Copy, PartialEq, Eq)]
-pub enum Part {
+#[derive(Clone, Copy)]
+enum Part {
     Opener,
     Body,
     Ender,
@@ -15,31 +16,23 @@ pub enum Part {
 }
 
 fn frame_version(kind: Kind) -> Option<u16> {
-    if is_kind(kind, b"HNHBK") || is_kind(kind, b"HNVSK") {
-        Some(3)
-    } else if is_kind(kind, b"HNSHK") {
-        Some(4)
-    } else if is_kind(kind, b"HNSHA") {
-        Some(2)
-    } else if is_kind(kind, b"HNVSD") || is_kind(kind, b"HNHBS") {
-        Some(1)
-    } else {
-        None
+    match kind.as_bytes() {
+        b"HNHBK" | b"HNVSK" => Some(3),
+        b"HNSHK" => Some(4),
+        b"HNSHA" => Some(2),
+        b"HNVSD" | b"HNHBS" => Some(1),
+        _ => None,
     }
 }
 
-/// What the segment is.
-pub fn part_of(view: &SegmentView<'_>) -> Part {
+// What the segment is.
+fn part_of(view: &SegmentView<'_>) -> Part {
     let kind = view.id();
-    if is_kind(kind, b"HNSHK") && view.version() == 4 {
-        return Part::Opener;
-    }
-    if is_kind(kind, b"HNSHA") && view.version() == 2 {
-        return Part::Ender;
-    }
-    match frame_version(kind) {
-        Some(_) => Part::Other,
-        None => Part::Body,
+    match (kind.as_bytes(), view.version()) {
+        (b"HNSHK", 4) => Part::Opener,
+        (b"HNSHA", 2) => Part::Ender,
+        _ if frame_version(kind).is_some() => Part::Other,
+        _ => Part::Body,
     }
 }
 
@@ -107,27 +100,33 @@ pub fn walk_from(bytes: &[u8], from: usize) -> Walk {
 /// The segment by its number and identifier.
 pub fn named(view: &SegmentView<'_>) -> Numbered {
     Numbered {
-        number: view.number(),
+        number: u32::from(view.number()),
         id: view.id(),
     }
 }
 
 fn number_text(alloc: Global, view: &SegmentView<'_>, wanted: usize) -> Result<String, Memory> {
     let name = named(view);
-    Ok(format!(in alloc;
-        "{name} must have the number {wanted}: segments are numbered 1, 2, 3 and so on"
-    )?)
+    written(
+        alloc,
+        format_args!(
+            "{name} must have the number {wanted}: segments are numbered 1, 2, 3 and so on"
+        ),
+    )
 }
 
 fn order_text(alloc: Global, view: &SegmentView<'_>, why: &str) -> Result<String, Memory> {
     let name = named(view);
-    Ok(format!(in alloc; "{name} {why}")?)
+    written(alloc, format_args!("{name} {why}"))
 }
 
 fn version_text(alloc: Global, view: &SegmentView<'_>, wanted: u16) -> Result<String, Memory> {
     let name = named(view);
     let version = view.version();
-    Ok(format!(in alloc; "{name} has version {version}, and must have {wanted}")?)
+    written(
+        alloc,
+        format_args!("{name} has version {version}, and must have {wanted}"),
+    )
 }
 
 // Why a segment of the frame can't stand there.
@@ -145,14 +144,10 @@ fn frame_text(alloc: Global, view: &SegmentView<'_>) -> Result<String, Memory> {
 
 /// Why a segment can't stand between the first and the last of a message.
 pub fn order_slip(alloc: Global, view: &SegmentView<'_>, walk: &Walk) -> Result<String, Memory> {
-    let part = part_of(view);
-    if part == Part::Other {
-        return frame_text(alloc, view);
-    }
-    if usize::from(view.number()) != walk.next_number() {
-        return number_text(alloc, view, walk.next_number());
-    }
-    match part {
+    let wanted = walk.next_number();
+    match part_of(view) {
+        Part::Other => frame_text(alloc, view),
+        _ if usize::from(view.number()) != wanted => number_text(alloc, view, wanted),
         Part::Opener => order_text(
             alloc,
             view,
@@ -163,30 +158,34 @@ pub fn order_slip(alloc: Global, view: &SegmentView<'_>, walk: &Walk) -> Result<
             view,
             "is one HNSHA too many: there are as many as there are HNSHK",
         ),
-        _ => order_text(alloc, view, "can't stand behind HNSHA"),
+        Part::Body => order_text(alloc, view, "can't stand behind HNSHA"),
     }
 }
 
-/// The number of a message, as an element spells it in 1 to 9 digits.
-pub fn message_number(segment: &OwnedSegment, element: usize) -> Option<u32> {
-    if element < 2 {
-        return None;
+// What is wrong with the number of the message in HNHBS, if it isn't this one.
+fn closing_text(alloc: Global, view: &SegmentView<'_>, number: u32) -> Told {
+    let segment = view.to_owned(alloc)?;
+    let value = segment.value(2, 1);
+    if parse_number(value) == Some(number) {
+        return Ok(None);
     }
-    parse_number(segment.value(element, 1))
-}
-
-fn closing_text(alloc: Global, segment: &OwnedSegment, number: u32) -> Result<String, Memory> {
-    let shown = Sample(segment.value(2, 1));
-    Ok(format!(in alloc;
-        "element 2 of HNHBS is {shown}, and must be {number}, the number of the message in HNHBK"
-    )?)
+    let shown = Sample(value);
+    told(
+        alloc,
+        format_args!(
+            "element 2 of HNHBS is {shown}, and must be {number}, the number of the message in HNHBK"
+        ),
+    )
 }
 
 fn counts_text(alloc: Global, walk: &Walk) -> Result<String, Memory> {
     let Walk { openers, ends, .. } = *walk;
-    Ok(format!(in alloc;
-        "before HNHBS stand {openers} HNSHK and {ends} HNSHA; there must be as many of both"
-    )?)
+    written(
+        alloc,
+        format_args!(
+            "before HNHBS stand {openers} HNSHK and {ends} HNSHA; there must be as many of both"
+        ),
+    )
 }
 
 /// Why a last segment, HNHBS version 1, can't stand there.
@@ -196,46 +195,50 @@ pub fn last_slip(
     walk: &Walk,
     number: u32,
 ) -> Result<String, Memory> {
-    let segment = view.to_owned(alloc)?;
-    if message_number(&segment, 2) != Some(number) {
-        return closing_text(alloc, &segment, number);
+    let wanted = walk.next_number();
+    match closing_text(alloc, view, number)? {
+        Some(text) => Ok(text),
+        None if usize::from(view.number()) != wanted => number_text(alloc, view, wanted),
+        None => counts_text(alloc, walk),
     }
-    if usize::from(view.number()) != walk.next_number() {
-        return number_text(alloc, view, walk.next_number());
-    }
-    counts_text(alloc, walk)
 }
 
-/// Whether it is HNHBS version 1.
-pub fn is_last(view: &SegmentView<'_>) -> bool {
-    is_kind(view.id(), b"HNHBS") && view.version() == 1
+/// Whether the segment has this kind and version.
+pub fn is_named(view: &SegmentView<'_>, kind: &[u8], version: u16) -> bool {
+    is_kind(view.id(), kind) && view.version() == version
 }
 
 /// Why no segment can be read where this one must stand.
 pub fn unread_text(alloc: Global, rest: &[u8], what: &str) -> Result<String, Memory> {
     if rest.is_empty() {
-        return Ok(format!(in alloc; "the bytes end there, and {what} is missing")?);
+        return written(
+            alloc,
+            format_args!("the bytes end there, and {what} is missing"),
+        );
     }
     let text = trouble(alloc, rest)?;
     let front = Sample(front_of(rest));
-    Ok(format!(in alloc; "there must stand {what}; what begins with {front}{text}")?)
+    written(
+        alloc,
+        format_args!("there must stand {what}; what begins with {front}{text}"),
+    )
+}
+
+// Why no segment of a message can be read behind this walk.
+fn unread_slip(alloc: Global, rest: &[u8], walk: &Walk) -> Result<String, Memory> {
+    if rest.is_empty() {
+        return unread_text(alloc, rest, "HNHBS");
+    }
+    let wanted = walk.next_number();
+    let what = written(alloc, format_args!("segment {wanted}"))?;
+    unread_text(alloc, rest, what.as_str())
 }
 
 /// Why no segment of a message stands at the front of bytes behind this walk.
 pub fn slip_at(alloc: Global, rest: &[u8], walk: &Walk, number: u32) -> Result<String, Memory> {
     match parse_segment(rest) {
-        Ok((view, _)) => {
-            if is_last(&view) {
-                last_slip(alloc, &view, walk, number)
-            } else {
-                order_slip(alloc, &view, walk)
-            }
-        }
-        Err(_) if rest.is_empty() => unread_text(alloc, rest, "HNHBS"),
-        Err(_) => {
-            let wanted = walk.next_number();
-            let what = format!(in alloc; "segment {wanted}")?;
-            unread_text(alloc, rest, what.as_str())
-        }
+        Ok((view, _)) if is_named(&view, b"HNHBS", 1) => last_slip(alloc, &view, walk, number),
+        Ok((view, _)) => order_slip(alloc, &view, walk),
+        Err(_) => unread_slip(alloc, rest, walk),
     }
 }

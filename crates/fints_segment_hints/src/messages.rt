@@ -1,24 +1,16 @@
 //! Why bytes are no message.
 use crate::frames::{
-    Walk, is_last, last_slip, message_number, named, order_slip, slip_at, unread_text, walk_from,
+    Walk, is_named, last_slip, named, order_slip, slip_at, unread_text, walk_from,
 };
 use crate::syntax::{front_of, trouble};
-use fints_hint_words::places::Told;
+use fints_hint_words::places::{Told, written};
 use fints_hint_words::quoting::Sample;
-use fints_messages::{JudgeFault, is_kind};
-use fints_syntax::{Item, Memory, OwnedSegment, SegmentView, parse_segment};
+use fints_messages::JudgeFault;
+use fints_syntax::{Item, Memory, OwnedSegment, SegmentView, parse_number, parse_segment};
 use std::alloc::Global;
 
-fn is_head(view: &SegmentView<'_>) -> bool {
-    is_kind(view.id(), b"HNHBK") && view.version() == 3
-}
-
-fn is_envelope(view: &SegmentView<'_>) -> bool {
-    is_kind(view.id(), b"HNVSD") && view.version() == 1
-}
-
 fn is_key(view: &SegmentView<'_>) -> bool {
-    is_kind(view.id(), b"HNVSK") && view.version() == 3 && view.number() == 998
+    is_named(view, b"HNVSK", 3) && view.number() == 998
 }
 
 // The number that digits spell; more than twelve spell none.
@@ -37,27 +29,40 @@ fn size_of(text: &[u8]) -> Option<u64> {
 
 fn size_text(alloc: Global, size: u64, bytes: &[u8]) -> Result<String, Memory> {
     let len = bytes.len();
-    match bytes.last() {
-        Some(b'\n') => Ok(format!(in alloc;
-            "HNHBK says {size} bytes, and there are {len}, of which the last is a line feed"
-        )?),
-        _ => Ok(format!(in alloc; "HNHBK says {size} bytes, and there are {len}")?),
-    }
+    let last = match bytes.last() {
+        Some(b'\n') => ", of which the last is a line feed",
+        _ => "",
+    };
+    written(
+        alloc,
+        format_args!("HNHBK says {size} bytes, and there are {len}{last}"),
+    )
+}
+
+fn value_text(alloc: Global, element: usize, value: &[u8], what: &str) -> Result<String, Memory> {
+    let shown = Sample(value);
+    written(
+        alloc,
+        format_args!("element {element} of HNHBK is {shown}, and must be {what}"),
+    )
 }
 
 fn head_slip(alloc: Global, segment: &OwnedSegment, bytes: &[u8]) -> Result<String, Memory> {
-    let shown = Sample(segment.value(2, 1));
-    match size_of(segment.value(2, 1)) {
-        None => Ok(format!(in alloc;
-            "element 2 of HNHBK is {shown}, and must be the number of bytes of the message, in 12 digits"
-        )?),
+    let size = segment.value(2, 1);
+    match size_of(size) {
         Some(size) if size != bytes.len() as u64 => size_text(alloc, size, bytes),
-        _ => {
-            let number = Sample(segment.value(5, 1));
-            Ok(format!(in alloc;
-                "element 5 of HNHBK is {number}, and must be the number of the message, 1 to 9 digits"
-            )?)
-        }
+        Some(_) => value_text(
+            alloc,
+            5,
+            segment.value(5, 1),
+            "the number of the message, 1 to 9 digits",
+        ),
+        None => value_text(
+            alloc,
+            2,
+            size,
+            "the number of bytes of the message, in 12 digits",
+        ),
     }
 }
 
@@ -65,13 +70,16 @@ fn head_slip(alloc: Global, segment: &OwnedSegment, bytes: &[u8]) -> Result<Stri
 fn first_slip(alloc: Global, view: &SegmentView<'_>, bytes: &[u8]) -> Result<String, Memory> {
     let name = named(view);
     let version = view.version();
-    if !is_head(view) {
-        return Ok(format!(in alloc;
-            "a message begins with HNHBK version 3; these bytes begin with {name} version {version}"
-        )?);
+    if !is_named(view, b"HNHBK", 3) {
+        return written(
+            alloc,
+            format_args!(
+                "a message begins with HNHBK version 3; these bytes begin with {name} version {version}"
+            ),
+        );
     }
     if view.number() != 1 {
-        return Ok(format!(in alloc; "{name} must have the number 1")?);
+        return written(alloc, format_args!("{name} must have the number 1"));
     }
     let segment = view.to_owned(alloc)?;
     head_slip(alloc, &segment, bytes)
@@ -79,11 +87,14 @@ fn first_slip(alloc: Global, view: &SegmentView<'_>, bytes: &[u8]) -> Result<Str
 
 fn no_segment(alloc: Global, bytes: &[u8]) -> Result<String, Memory> {
     if bytes.is_empty() {
-        return Ok(String::from_str(alloc, "there are no bytes")?);
+        return written(alloc, "there are no bytes");
     }
     let text = trouble(alloc, bytes)?;
     let front = Sample(front_of(bytes));
-    Ok(format!(in alloc; "a message begins with HNHBK; what begins with {front}{text}")?)
+    written(
+        alloc,
+        format_args!("a message begins with HNHBK; what begins with {front}{text}"),
+    )
 }
 
 fn start_text(alloc: Global, bytes: &[u8]) -> Result<String, Memory> {
@@ -97,50 +108,68 @@ fn left_text(alloc: Global, bytes: &[u8], at: usize) -> Result<String, Memory> {
     let rest = bytes.get(at..).unwrap_or(&[]);
     let count = rest.len();
     let front = Sample(front_of(rest));
-    Ok(format!(in alloc;
-        "behind HNHBS, the last segment, stand {count} more bytes, which begin with {front}"
-    )?)
+    written(
+        alloc,
+        format_args!(
+            "behind HNHBS, the last segment, stand {count} more bytes, which begin with {front}"
+        ),
+    )
 }
 
-// Why the data of an HNVSD are no inner segments.
-fn data_slip(alloc: Global, data: &[u8]) -> Result<String, Memory> {
-    let walk = walk_from(data, 0);
-    let Walk { openers, ends, .. } = walk;
-    if walk.at < data.len() {
-        let text = inner_slip(alloc, data.get(walk.at..).unwrap_or(&[]), &walk)?;
-        let at = walk.at;
-        return Ok(format!(in alloc; "in the data of HNVSD, at offset {at} of them, {text}")?);
-    }
-    Ok(format!(in alloc;
-        "in the data of HNVSD stand {openers} HNSHK and {ends} HNSHA; there must be as many of both"
-    )?)
-}
-
-// Why no inner segment stands at the front of data.
-fn inner_slip(alloc: Global, rest: &[u8], walk: &Walk) -> Result<String, Memory> {
+// Why no inner segment stands behind the walk over data.
+fn inner_slip(alloc: Global, data: &[u8], walk: &Walk) -> Result<String, Memory> {
+    let rest = data.get(walk.at..).unwrap_or(&[]);
     match parse_segment(rest) {
         Ok((view, _)) => order_slip(alloc, &view, walk),
         Err(_) => unread_text(alloc, rest, "a segment"),
     }
 }
 
-// Why the segment behind HNVSK is no envelope.
+// Why the data of an HNVSD are no inner segments.
+fn data_slip(alloc: Global, data: &[u8]) -> Result<String, Memory> {
+    let walk = walk_from(data, 0);
+    let Walk {
+        at,
+        openers,
+        ends,
+        ..
+    } = walk;
+    if at >= data.len() {
+        return written(
+            alloc,
+            format_args!(
+                "in the data of HNVSD stand {openers} HNSHK and {ends} HNSHA; there must be as many of both"
+            ),
+        );
+    }
+    let text = inner_slip(alloc, data, &walk)?;
+    written(
+        alloc,
+        format_args!("in the data of HNVSD, at offset {at} of them, {text}"),
+    )
+}
+
+// Why a segment behind HNVSK is no HNVSD with inner segments.
 fn envelope_slip(alloc: Global, view: &SegmentView<'_>) -> Result<String, Memory> {
     let name = named(view);
-    if !is_envelope(view) {
-        let version = view.version();
-        return Ok(format!(in alloc;
-            "behind HNVSK must stand HNVSD version 1, and there stands {name} version {version}"
-        )?);
+    let version = view.version();
+    if !is_named(view, b"HNVSD", 1) {
+        return written(
+            alloc,
+            format_args!(
+                "behind HNVSK must stand HNVSD version 1, and there stands {name} version {version}"
+            ),
+        );
     }
     if view.number() != 999 {
-        return Ok(format!(in alloc; "{name} must have the number 999")?);
+        return written(alloc, format_args!("{name} must have the number 999"));
     }
     match view.item(2, 1) {
         Some(Item::Bin(data)) => data_slip(alloc, data),
-        _ => Ok(format!(in alloc;
-            "element 2 of HNVSD must be a binary item: @length@ and the inner segments"
-        )?),
+        _ => written(
+            alloc,
+            "element 2 of HNVSD must be a binary item: @length@ and the inner segments",
+        ),
     }
 }
 
@@ -159,14 +188,16 @@ fn behind_envelope(
     rest: &[u8],
     number: u32,
 ) -> Result<String, Memory> {
-    let walk = inner_walk(view);
     match parse_segment(rest) {
-        Ok((last, _)) if is_last(&last) => last_slip(alloc, &last, &walk, number),
+        Ok((last, _)) if is_named(&last, b"HNHBS", 1) => {
+            last_slip(alloc, &last, &inner_walk(view), number)
+        }
         Ok((other, _)) => {
             let name = named(&other);
-            Ok(format!(in alloc;
-                "behind HNVSD must stand HNHBS version 1, and there stands {name}"
-            )?)
+            written(
+                alloc,
+                format_args!("behind HNVSD must stand HNHBS version 1, and there stands {name}"),
+            )
         }
         Err(_) => unread_text(alloc, rest, "HNHBS"),
     }
@@ -218,7 +249,7 @@ fn text_at(alloc: Global, bytes: &[u8], at: usize) -> Result<String, Memory> {
     match parse_segment(bytes) {
         Ok((view, len)) if at != 0 => {
             let segment = view.to_owned(alloc)?;
-            let number = message_number(&segment, 5).unwrap_or(0);
+            let number = parse_number(segment.value(5, 1)).unwrap_or(0);
             rest_text(alloc, bytes, len, at, number)
         }
         _ => start_text(alloc, bytes),

@@ -5,7 +5,7 @@ use fints_syntax::parse_number;
 const MOST: usize = 20_000;
 
 /// Why bytes cease to be a segment.
-#[derive(Clone, Copy, PartialEq, Eq)]
+#[derive(Clone, Copy)]
 pub enum Why {
     /// They end within an item.
     Cut,

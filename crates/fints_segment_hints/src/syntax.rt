@@ -1,6 +1,6 @@
 //! Segments that can't be read.
 use crate::scanning::{Stop, Why, stop_of};
-use fints_hint_words::places::line_at;
+use fints_hint_words::places::{Told, line_at, told, written};
 use fints_hint_words::quoting::Sample;
 use fints_syntax::{Kind, Memory, SyntaxKind, parse_number, parse_segment};
 use std::alloc::Global;
@@ -76,50 +76,53 @@ fn first_word(bytes: &[u8]) -> (&[u8], &[u8]) {
     }
 }
 
-/// A segment by what its bytes begin with.
-#[derive(Clone, Copy)]
-struct Begin<'a>(&'a [u8]);
-
-impl Display for Begin<'_> {
-    fn fmt<W: Write>(&self, f: &mut Formatter<W>) -> fmt::Result {
-        let (id, rest) = first_word(self.0);
-        let (number, _) = first_word(rest);
-        let name = Sample(id);
-        match (Kind::parse(id), parse_number(number)) {
-            (Some(_), Some(number)) => {
-                write!(f, "segment {number} (")?;
-                write_kind(f, id)?;
-                f.write_str(")")
-            }
-            (Some(_), None) => write!(f, "a segment {name}"),
-            _ => {
-                let front = Sample(front_of(self.0));
-                write!(f, "what begins with {front}")
-            }
-        }
-    }
-}
-
-fn write_kind<W: Write>(f: &mut Formatter<W>, id: &[u8]) -> fmt::Result {
-    for byte in id {
-        f.write_char(char::from(*byte))?;
-    }
-    Ok(())
-}
-
 /// The number and the identifier of a segment.
 #[derive(Clone, Copy)]
 pub struct Numbered {
-    pub number: u16,
+    pub number: u32,
     pub id: Kind,
 }
 
 impl Display for Numbered {
     fn fmt<W: Write>(&self, f: &mut Formatter<W>) -> fmt::Result {
         let number = self.number;
-        write!(f, "segment {number} (")?;
-        write_kind(f, self.id.as_bytes())?;
-        f.write_str(")")
+        let id = std::str::from_utf8(self.id.as_bytes()).unwrap_or("");
+        write!(f, "segment {number} ({id})")
+    }
+}
+
+/// A segment by what its bytes begin with.
+#[derive(Clone, Copy)]
+enum Begin<'a> {
+    Numbered(Numbered),
+    /// The identifier alone can be read.
+    Id(&'a [u8]),
+    Bytes(&'a [u8]),
+}
+
+fn begin_of(bytes: &[u8]) -> Begin<'_> {
+    let (id, rest) = first_word(bytes);
+    let (number, _) = first_word(rest);
+    match (Kind::parse(id), parse_number(number)) {
+        (Some(id), Some(number)) => Begin::Numbered(Numbered { number, id }),
+        (Some(_), None) => Begin::Id(id),
+        _ => Begin::Bytes(front_of(bytes)),
+    }
+}
+
+impl Display for Begin<'_> {
+    fn fmt<W: Write>(&self, f: &mut Formatter<W>) -> fmt::Result {
+        match *self {
+            Begin::Numbered(name) => name.fmt(f),
+            Begin::Id(id) => {
+                let id = Sample(id);
+                write!(f, "a segment {id}")
+            }
+            Begin::Bytes(front) => {
+                let front = Sample(front);
+                write!(f, "what begins with {front}")
+            }
+        }
     }
 }
 
@@ -127,12 +130,16 @@ impl Display for Numbered {
 fn cut_text(alloc: Global, stop: &Stop) -> Result<String, Memory> {
     let Stop { element, item, why } = *stop;
     match why {
-        Why::CutBinary { len, there } => Ok(format!(in alloc;
-            " has no end: the bytes stop in element {element}, item {item}, a binary item of {len} bytes of which {there} are there"
-        )?),
-        _ => Ok(format!(in alloc;
-            " has no end: the bytes stop in element {element}, item {item}"
-        )?),
+        Why::CutBinary { len, there } => written(
+            alloc,
+            format_args!(
+                " has no end: the bytes stop in element {element}, item {item}, a binary item of {len} bytes of which {there} are there"
+            ),
+        ),
+        _ => written(
+            alloc,
+            format_args!(" has no end: the bytes stop in element {element}, item {item}"),
+        ),
     }
 }
 
@@ -142,20 +149,26 @@ fn binary_text(alloc: Global, stop: &Stop) -> Result<String, Memory> {
         Why::NoSeparator { len, after } => {
             let after = [after];
             let after = Sample(&after);
-            Ok(format!(in alloc;
-                ", element {element}, item {item}: behind the {len} bytes of a binary item stands {after}, and none of + : '; the length is wrong, or the bytes were changed"
-            )?)
+            written(
+                alloc,
+                format_args!(
+                    ", element {element}, item {item}: behind the {len} bytes of a binary item stands {after}, and none of + : '; the length is wrong, or the bytes were changed"
+                ),
+            )
         }
-        _ => Ok(format!(in alloc;
-            ", element {element}, item {item}: an @ begins a binary item, written @length@ and so many bytes; a text that begins with @ is written ?@"
-        )?),
+        _ => written(
+            alloc,
+            format_args!(
+                ", element {element}, item {item}: an @ begins a binary item, written @length@ and so many bytes; a text that begins with @ is written ?@"
+            ),
+        ),
     }
 }
 
 fn long_text(alloc: Global, stop: &Stop) -> Result<String, Memory> {
     match stop.why {
-        Why::Many => Ok(format!(in alloc; " has 20000 items or more")?),
-        _ => Ok(format!(in alloc; " has no end within {MOST} bytes")?),
+        Why::Many => written(alloc, " has 20000 items or more"),
+        _ => written(alloc, format_args!(" has no end within {MOST} bytes")),
     }
 }
 
@@ -208,7 +221,7 @@ fn head_text(alloc: Global, bytes: &[u8]) -> Result<String, Memory> {
     let head = head_bytes(bytes);
     let cause = head_cause(head);
     let head = Sample(front_of(head));
-    Ok(format!(in alloc; " has the head {head}: {cause}")?)
+    written(alloc, format_args!(" has the head {head}: {cause}"))
 }
 
 /// Why no segment can be read at the front of the bytes, behind what names it.
@@ -227,11 +240,11 @@ pub fn trouble(alloc: Global, bytes: &[u8]) -> Result<String, Memory> {
 }
 
 /// Why no segment can be read at a place of a region.
-pub fn trouble_at(alloc: Global, region: &Region<'_>, start: usize) -> Result<String, Memory> {
+pub fn trouble_at(alloc: Global, region: &Region<'_>, start: usize) -> Told {
     let rest = region.bytes.get(start..).unwrap_or(&[]);
     let line = line_at(region.input, region.base.saturating_add(start));
-    let begin = Begin(rest);
+    let begin = begin_of(rest);
     let within = region.within;
     let text = trouble(alloc, rest)?;
-    Ok(format!(in alloc; "{begin} in line {line}{within}{text}")?)
+    told(alloc, format_args!("{begin} in line {line}{within}{text}"))
 }
