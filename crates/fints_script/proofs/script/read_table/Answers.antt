@@ -14,7 +14,6 @@ body_in-requires-clause-signers c = (rows_kept c.top_in.result (table_view c.arg
 pub body_in-requires-clause-steps : goal.body_in-requires-clause-steps
 body_in-requires-clause-steps c = (rows_kept c.top_in.result (table_view c.args.table.now) c.top_in.ensures c.in_ok-top.top (sym c.placed.ensures ∙ c.in_ok-top.was)).2
 
-
 pub returns-clause-script : goal.returns-clause-script
 returns-clause-script c = record {
   top = seen_top c.in_ok-top.top;
