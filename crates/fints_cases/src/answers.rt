@@ -10,7 +10,7 @@ use crate::pattern::{Pattern, digits_of, size_at};
 use fints_params::Code;
 
 /// Where a branch leads.
-#[derive(Clone, Copy, Debug, PartialEq, Eq)]
+#[derive(Clone, Copy, PartialEq, Eq)]
 pub enum Target {
     /// The step of this number, from 1.
     Step(u16),

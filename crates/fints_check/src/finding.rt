@@ -3,7 +3,7 @@ use fints_rules::Rule;
 
 /// A rule that some run breaks: at which step, counted from 1, and at which segment, by its number
 /// in the message; 0 is the whole message.
-#[derive(Clone, Copy, Debug, PartialEq, Eq)]
+#[derive(Clone, Copy, PartialEq, Eq)]
 pub struct Finding {
     pub step: u16,
     pub rule: Rule,
@@ -11,7 +11,7 @@ pub struct Finding {
 }
 
 /// The greatest number and the greatest length in bytes of a step's messages.
-#[derive(Clone, Copy, Debug, PartialEq, Eq)]
+#[derive(Clone, Copy, PartialEq, Eq)]
 pub struct Reached {
     pub number: u32,
     pub size: u64,

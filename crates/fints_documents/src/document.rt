@@ -8,7 +8,7 @@ use std::alloc::Global;
 use toml::{Table, Value};
 
 /// Why bytes gave no table.
-#[derive(Clone, Copy, Debug, PartialEq, Eq)]
+#[derive(Clone, Copy, PartialEq, Eq)]
 pub enum Unread {
     NotToml,
     Memory,

@@ -16,7 +16,7 @@ use std::marker::Model;
 const MAX_NAME: usize = 40;
 
 /// A name: 1 to 40 characters of a to z, 0 to 9, `_` and `-`; a contract sees its text.
-#[derive(Clone, Copy, Debug)]
+#[derive(Clone, Copy)]
 pub struct Name {
     bytes: [u8; 40],
     len: usize,

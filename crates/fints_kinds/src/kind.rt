@@ -13,7 +13,7 @@ use std::hash::{Hash, Hasher};
 use std::marker::Model;
 
 /// The identifier of a segment, or the kind of an order: 1 to 6 characters of A to Z and 0 to 9.
-#[derive(Clone, Copy, Debug)]
+#[derive(Clone, Copy)]
 pub struct Kind {
     bytes: [u8; 6],
     len: usize,

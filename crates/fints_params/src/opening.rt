@@ -81,18 +81,20 @@ fn add_all<R: Reader>(
     Ok(())
 }
 
-// The segments of the data of an HNVSD.
+// The segments of the data of an HNVSD, whose own memory is handed back.
 fn add_sealed<R: Reader>(
     alloc: Global,
-    placed: &PlacedSegment,
+    placed: PlacedSegment,
     reader: &mut R,
-) -> Result<(), ParamFault>
-    requires { is_sealed placed.now.segment ≡ true }
-    ensures ok { IfOk result (λ _. ContinuesOver R.good reader.old reader.new placed.now) }
-    ensures stopped { IfErr result (λ f. IsMemoryOr (StopsAt R.rule R.good reader.old placed.now) f) }
+) -> Result<Elements, ParamFault>
+    requires { is_sealed placed.segment ≡ true }
+    ensures ok { IfOk result (λ _. ContinuesOver R.good reader.old reader.new placed) }
+    ensures stopped { IfErr result (λ f. IsMemoryOr (StopsAt R.rule R.good reader.old placed) f) }
 {
-    let views = open(alloc, placed)?;
-    add_all(alloc, views.as_slice(), reader)
+    let views = open(alloc, &placed)?;
+    add_all(alloc, views.as_slice(), reader)?;
+    drop(views);
+    Ok(placed.into_elements())
 }
 
 /// Reads a segment that starts at this offset of a capture, in the memory of these elements, which
@@ -114,7 +116,5 @@ pub fn add_view<R: Reader>(
         return Ok(segment.into_elements());
     }
     let place = place_of(start, view);
-    let placed = PlacedSegment { segment, place };
-    add_sealed(alloc, &placed, reader)?;
-    Ok(placed.into_elements())
+    add_sealed(alloc, PlacedSegment { segment, place }, reader)
 }

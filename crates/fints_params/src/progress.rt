@@ -1,9 +1,9 @@
 //! What a reader has read of bytes behind which more may come.
-ghost use Rattle.std.specs.Prelude.{[], IfOk, IfErr};
+ghost use Rattle.std.specs.Prelude.{◌≡◌, [], IfOk, IfErr};
 ghost use Rattle.fints_params.specs.Captures.{IsRefusedOf};
 ghost use Rattle.fints_params.specs.Faults.{IsMemoryOr};
 ghost use Rattle.fints_params.specs.Pieces.{IsPieceFault};
-ghost use Rattle.fints_params.specs.Steps.{HasRead, HasCome, HasComeIn, ReadsCapture};
+ghost use Rattle.fints_params.specs.Steps.{HasRead, HasCome, HasComeIn, IsWithin, ReadsCapture, ReadsNext, StopsNext};
 
 use crate::fault::{ParamFault, is_memory};
 use crate::opening::{Reader, add_view};
@@ -24,6 +24,20 @@ pub struct Reading<R> {
     elements: Elements,
 }
 
+impl<R: Reader + Drop> Reading<R> {
+    // Reads a segment that starts at this offset.
+    fn read(&mut self, start: usize, segment: &SegmentView<'_>) -> Result<(), ParamFault>
+        requires { IsWithin (record { start = start; segment = segment.now }) }
+        ensures kept { self.new.refused ≡ self.old.refused }
+        ensures ok { IfOk result (λ _. ReadsNext R.good self.old.reader self.new.reader (record { start = start; segment = segment.now })) }
+        ensures stopped { IfErr result (λ f. IsMemoryOr (StopsNext R.rule R.good self.old.reader (record { start = start; segment = segment.now })) f) }
+    {
+        let elements = replace(&mut self.elements, Elements::new(self.alloc));
+        self.elements = add_view(self.alloc, start, segment, elements, &mut self.reader)?;
+        Ok(())
+    }
+}
+
 impl<R: Reader + Drop> Taker for Reading<R> {
     ghost good = { λ placed reading. HasRead R.rule R.good placed reading.refused reading.reader };
 
@@ -31,17 +45,16 @@ impl<R: Reader + Drop> Taker for Reading<R> {
         if self.refused.is_some() {
             return Ok(());
         }
-        let elements = replace(&mut self.elements, Elements::new(self.alloc));
-        match add_view(self.alloc, start, segment, elements, &mut self.reader) {
-            Ok(elements) => self.elements = elements,
+        match self.read(start, segment) {
+            Ok(()) => Ok(()),
             Err(fault) => {
                 if is_memory(&fault) {
                     return Err(Memory);
                 }
                 self.refused = Some(fault);
+                Ok(())
             }
         }
-        Ok(())
     }
 }
 

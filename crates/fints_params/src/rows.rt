@@ -46,7 +46,7 @@ pub struct BankRow {
 
 /// What a bank allows of one kind and version of orders: a segment HIabcS or DIabcS speaks of the
 /// orders HKabc or DKabc of its own version.
-#[derive(Clone, Copy, Debug, PartialEq, Eq)]
+#[derive(Clone, Copy, PartialEq, Eq)]
 pub struct OrderParam {
     pub kind: Kind,
     pub version: u16,
@@ -58,14 +58,14 @@ pub struct OrderParam {
 
 /// A pair of HIPINS version 1 (Security PIN/TAN): a kind of orders, and whether a TAN is demanded
 /// for it. A kind may stand in several pairs.
-#[derive(Clone, Copy, Debug, PartialEq, Eq)]
+#[derive(Clone, Copy, PartialEq, Eq)]
 pub struct PinRow {
     pub kind: Kind,
     pub tan: bool,
 }
 
 /// A kind of orders that is allowed on an account, and the number of signatures that it needs.
-#[derive(Clone, Copy, Debug, PartialEq, Eq)]
+#[derive(Clone, Copy, PartialEq, Eq)]
 pub struct Entry {
     pub kind: Kind,
     pub signatures: u32,
@@ -121,7 +121,7 @@ pub struct AccountRow {
 }
 
 /// What holds of orders that an account doesn't list: HIUPA version 4, element 4.
-#[derive(Clone, Copy, Debug, PartialEq, Eq)]
+#[derive(Clone, Copy, PartialEq, Eq)]
 pub enum Usage {
     /// They are locked: some HIUPA says 0, or there is none.
     Locked,

@@ -21,14 +21,14 @@ pub struct OrderKey {
 
 /// How many orders of a kind a message may have, with 0 for no limit, and how many signatures it
 /// needs.
-#[derive(Clone, Copy, Debug, PartialEq, Eq)]
+#[derive(Clone, Copy, PartialEq, Eq)]
 pub struct Limits {
     pub orders: u32,
     pub signatures: u32,
 }
 
 /// Whether a kind of orders is listed in HIPINS (Security PIN/TAN), and demands a TAN.
-#[derive(Clone, Copy, Debug, PartialEq, Eq)]
+#[derive(Clone, Copy, PartialEq, Eq)]
 pub enum Demand {
     /// It isn't listed.
     Unlisted,

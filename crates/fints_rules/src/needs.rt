@@ -29,7 +29,7 @@ struct Place {
 
 /// What an entry is looked for by: its account, by its IBAN alone or by its four national items,
 /// of which the number stands in the place of the IBAN; and its kind.
-#[derive(Clone, Copy, PartialEq, Eq, PartialOrd, Ord)]
+#[derive(Clone, Copy)]
 pub struct NeedKey<'a> {
     pub by_iban: bool,
     pub account: &'a [u8],
@@ -37,6 +37,18 @@ pub struct NeedKey<'a> {
     pub country: &'a [u8],
     pub bank: &'a [u8],
     pub kind: &'a [u8],
+}
+
+// Field by field.
+fn compare_keys(a: &NeedKey<'_>, b: &NeedKey<'_>) -> Ordering
+    ensures { result ≡ key_cmp (key_in a.now) (key_in b.now) }
+{
+    let items = (a.subaccount.cmp(b.subaccount)).then(
+        a.country
+            .cmp(b.country)
+            .then(a.bank.cmp(b.bank).then(a.kind.cmp(b.kind))),
+    );
+    (a.by_iban.cmp(&b.by_iban)).then(a.account.cmp(b.account).then(items))
 }
 
 fn key_of<'a>(naming: Naming, row: &'a AccountRow, entry: &'a Entry) -> NeedKey<'a>
@@ -99,14 +111,14 @@ fn compare(rows: &[AccountRow], a: &Place, b: &Place) -> Ordering
     ensures { result ≡ seen_cmp (seen_at rows.now a.now) (seen_at rows.now b.now) }
 {
     let signatures = signatures_at(rows, a).cmp(&signatures_at(rows, b));
-    key_at(rows, a).cmp(&key_at(rows, b)).then(signatures)
+    compare_keys(&key_at(rows, a), &key_at(rows, b)).then(signatures)
 }
 
 // How an entry stands to a key.
 fn compare_key(rows: &[AccountRow], place: &Place, key: &NeedKey<'_>) -> Ordering
     ensures { result ≡ key_cmp (seen_key (seen_at rows.now place.now)) (key_in key.now) }
 {
-    key_at(rows, place).cmp(key)
+    compare_keys(&key_at(rows, place), key)
 }
 
 fn is_before(rows: &[AccountRow], place: &Place, key: &NeedKey<'_>) -> bool

@@ -21,7 +21,7 @@ use toml::{Table, Value};
 const MAX_ROWS: usize = 1000;
 
 /// How element 2 of an order names an account.
-#[derive(Clone, Copy, Debug, PartialEq, Eq)]
+#[derive(Clone, Copy, PartialEq, Eq)]
 pub enum AccountForm {
     /// It names none.
     Nameless,
@@ -32,7 +32,7 @@ pub enum AccountForm {
 }
 
 /// A row of the order table.
-#[derive(Clone, Copy, Debug, PartialEq, Eq)]
+#[derive(Clone, Copy, PartialEq, Eq)]
 pub struct OrderRow {
     pub kind: Kind,
     pub version: u16,

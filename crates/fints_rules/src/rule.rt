@@ -5,7 +5,7 @@ ghost use Rattle.fints_rules.specs.RuleNames.{rule_name};
 use std::fmt;
 
 /// A rule of the bank or of the standard; it is printed by its number and name.
-#[derive(Clone, Copy, Debug, PartialEq, Eq)]
+#[derive(Clone, Copy, PartialEq, Eq)]
 pub enum Rule {
     /// P1: the bank takes the protocol version (Formals, HNHBK and HIBPA).
     Protocol,
@@ -46,7 +46,7 @@ impl Rule {
 }
 
 /// A rule that a message breaks, and the number of the segment, or 0 for the whole message.
-#[derive(Clone, Copy, Debug, PartialEq, Eq)]
+#[derive(Clone, Copy, PartialEq, Eq)]
 pub struct Broken {
     pub rule: Rule,
     pub segment: u16,

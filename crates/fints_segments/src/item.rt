@@ -18,7 +18,7 @@ pub enum OwnedItem {
 
 /// The head of a segment, its element 1: identifier, segment number, version and reference number
 /// (FinTS 3.0, Formals, the segment head). The numbers that are read have at most three digits.
-#[derive(Clone, Copy, Debug, PartialEq, Eq)]
+#[derive(Clone, Copy, PartialEq, Eq)]
 pub struct Head {
     pub id: Kind,
     pub number: u16,

@@ -67,6 +67,26 @@ fn push_number(alloc: Global, elements: &mut Elements, number: u32) -> Result<()
     push_item(elements, &OwnedItem::Text(Bytes::new(digits)))
 }
 
+// Adds the elements of HNHBK.
+fn push_first(
+    alloc: Global,
+    elements: &mut Elements,
+    size: u64,
+    dialog: &[OwnedItem],
+    number: u32,
+) -> Result<(), Memory>
+    requires { 0 < length dialog.now }
+    ensures { OnOk result (elements.new ≡ elements.old ++ (first_segment size dialog.now number).elements) }
+{
+    push_item(
+        elements,
+        &OwnedItem::Text(Bytes::new(twelve_digits(alloc, size)?)),
+    )?;
+    push_text(alloc, elements, b"300")?;
+    elements.push(dialog)?;
+    push_number(alloc, elements, number)
+}
+
 /// HNHBK: the size of the message, the protocol version, the dialogue id and the number.
 pub fn first_segment(
     alloc: Global,
@@ -78,11 +98,7 @@ pub fn first_segment(
     ensures { IfOk result (λ s. s ≡ first_segment size dialog.now number) }
 {
     let mut elements = Elements::new(alloc);
-    let digits = twelve_digits(alloc, size)?;
-    push_item(&mut elements, &OwnedItem::Text(Bytes::new(digits)))?;
-    push_text(alloc, &mut elements, b"300")?;
-    elements.push(dialog)?;
-    push_number(alloc, &mut elements, number)?;
+    push_first(alloc, &mut elements, size, dialog, number)?;
     Ok(segment(Kind::parse(b"HNHBK").unwrap(), 1, 3, elements))
 }
 

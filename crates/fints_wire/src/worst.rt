@@ -4,10 +4,11 @@ ghost use Rattle.std.specs.Fmt.{decimal};
 ghost use Rattle.fints_syntax.specs.Kind.{IsKindText};
 ghost use Rattle.fints_segments.specs.Spelling.{written};
 ghost use Rattle.fints_script.specs.Numbered.{numbered};
+ghost use Rattle.fints_script.specs.Scripts.{ScriptValue};
 ghost use Rattle.fints_script.specs.Sound.{IsSound, IsSoundStep};
 ghost use Rattle.fints_script.specs.Steps.{StepValue};
 ghost use Rattle.fints_wire.specs.Choices.{NoneIsLonger, longest_message};
-ghost use Rattle.fints_wire.specs.Lengths.{between_len, binary_size, element_len, elements_len, head_len, item_len, longest_size, longest_sizes, message_len, segment_len, segments_len};
+ghost use Rattle.fints_wire.specs.Lengths.{between_len, binary_size, element_len, elements_len, head_len, item_len, longest_size, longest_sizes, message_len, number_len, segment_len, segments_len};
 ghost use Rattle.fints_wire.specs.Messages.{seal_of, templates_of};
 
 use crate::part::{Part, part_at, part_count};
@@ -156,6 +157,21 @@ fn middle_size<'a>(plan: &'a Plan<'a>, step: &'a Step, number: u32) -> u64
     seal_size(plan, number, envelope)
 }
 
+// The first segment and the last, but for the dialogue id.
+fn frame_size(step: &Step, number: u32) -> u64
+    requires few { length step.now.signers ≤ 9 }
+    requires templates { length step.now.templates ≤ 100 }
+    ensures is { (script : ScriptValue) → result ≡ head_len (codes "HNHBK") 1 3 + 17 + number_len number
+        + (head_len (codes "HNHBS") (2 + length (templates_of script step.now)) 1 + number_len number) }
+    ensures small { result ≤ 200 }
+{
+    let digits = digit_count(u64::from(number)) + 1;
+    let first = head_size(Kind::parse(b"HNHBK").unwrap(), 1, 3);
+    let parts = part_count(step) as u64;
+    let last = head_size(Kind::parse(b"HNHBS").unwrap(), parts + 2, 1);
+    first + last + digits + digits + 17
+}
+
 fn message_size<'a>(plan: &'a Plan<'a>, step: &'a Step, number: u32) -> u64
     requires sound { IsSound plan.now.script }
     requires step { IsSoundStep plan.now.script step.now }
@@ -164,14 +180,7 @@ fn message_size<'a>(plan: &'a Plan<'a>, step: &'a Step, number: u32) -> u64
 {
     let middle = middle_size(plan, step, number);
     let dialog = dialog_size(plan, number);
-    let digits = digit_count(u64::from(number)) + 1;
-    let first = head_size(Kind::parse(b"HNHBK").unwrap(), 1, 3);
-    let last = head_size(
-        Kind::parse(b"HNHBS").unwrap(),
-        part_count(step) as u64 + 2,
-        1,
-    );
-    first + last + digits + digits + 17 + dialog + middle
+    frame_size(step, number) + dialog + middle
 }
 
 /// The length in bytes of the longest of a step's messages of this number, and of those of a lower one; steps count from 1.

@@ -1,5 +1,7 @@
 use Rattle.std.proofs.Common.{◌≡◌, false, refl, sym, ◌∙◌}
-use Rattle.std.proofs.lemmas.Result.{err_from_is_err_and}
+use Rattle.std.proofs.lemmas.Result.{IfOk-weaker, IfErr-weaker, err_from_is_err_and}
+use Rattle.fints_params.specs.Faults.{IsMemoryOr}
+use Rattle.fints_params.specs.Steps.{ContinuesOver, ReadsNext, StopsAt, StopsNext}
 use Rattle.fints_params.specs.Sealed.{is_sealed}
 use Rattle.fints_params.specs.declared.placed.PlacedSegment.{PlacedSegment}
 use Rattle.fints_syntax.specs.declared.capture.Placed as syntax
@@ -8,11 +10,6 @@ use Rattle.fints_params.proofs.Bounds.{placed_fits}
 use Rattle.fints_params.proofs.Refusing.{single_ok, single_stop}
 use Rattle.fints_params.proofs.Viewed.{stops_next}
 use Rattle.fints_params.proofs.opening.add_view.Goals as goal
-
-pub invariant_of-placed : goal.invariant_of-placed
-invariant_of-placed g c =
-    let view : syntax.Placed = record { start = c.args.start; segment = c.args.view.now } in
-    record { in_range = placed_fits view c.in_ok-segment.segment c.place_of-place.result c.requires c.in_ok-segment.ensures c.place_of-place.ensures.place }
 
 pub returns-then-not-is_sealed-clause-ok : goal.returns-then-not-is_sealed-clause-ok
 returns-then-not-is_sealed-clause-ok g c =
@@ -33,12 +30,23 @@ returns-in_err-add-clause-stopped g c =
     let q = err_from_is_err_and c.from_residual-in_err-add.result c.from_residual-in_err-add.ensures.1 in
     rw (q.1, q.2) f
 
-pub returns-in_err-add_sealed-clause-stopped : goal.returns-in_err-add_sealed-clause-stopped
-returns-in_err-add_sealed-clause-stopped g c =
+pub invariant_of-add_sealed : goal.invariant_of-add_sealed
+invariant_of-add_sealed g c =
+    let view : syntax.Placed = record { start = c.args.start; segment = c.args.view.now } in
+    record { in_range = placed_fits view c.in_ok-segment.segment c.place_of-place.result c.requires c.in_ok-segment.ensures c.place_of-place.ensures.place }
+
+pub returns-clause-ok : goal.returns-clause-ok
+returns-clause-ok g c =
     let view : syntax.Placed = record { start = c.args.start; segment = c.args.view.now } in
     let s = c.in_ok-segment.segment in
     let place = c.place_of-place.result in
     let p : PlacedSegment = record { segment = s; place = place; in_range = placed_fits view s place c.requires c.in_ok-segment.ensures c.place_of-place.ensures.place } in
-    let f = stops_next g.R.Reader.rule g.R.Reader.good c.args.reader.now view p c.in_err-add_sealed.field-0.0 (c.in_ok-segment.ensures, c.place_of-place.ensures.place) c.in_err-add_sealed.ensures.stopped in
-    let q = err_from_is_err_and c.from_residual-in_err-add_sealed.result c.from_residual-in_err-add_sealed.ensures.1 in
-    rw (q.1, q.2) f
+    IfOk-weaker c.add_sealed.result (λ _. ContinuesOver g.R.Reader.good c.args.reader.now c.add_sealed.new.reader p) (λ _. ReadsNext g.R.Reader.good c.args.reader.now c.add_sealed.new.reader view) (λ _ h. (p, (c.in_ok-segment.ensures, c.place_of-place.ensures.place), h)) c.add_sealed.ensures.ok
+
+pub returns-clause-stopped : goal.returns-clause-stopped
+returns-clause-stopped g c =
+    let view : syntax.Placed = record { start = c.args.start; segment = c.args.view.now } in
+    let s = c.in_ok-segment.segment in
+    let place = c.place_of-place.result in
+    let p : PlacedSegment = record { segment = s; place = place; in_range = placed_fits view s place c.requires c.in_ok-segment.ensures c.place_of-place.ensures.place } in
+    IfErr-weaker c.add_sealed.result (IsMemoryOr (StopsAt g.R.Reader.rule g.R.Reader.good c.args.reader.now p)) (IsMemoryOr (StopsNext g.R.Reader.rule g.R.Reader.good c.args.reader.now view)) (λ f h. stops_next g.R.Reader.rule g.R.Reader.good c.args.reader.now view p f (c.in_ok-segment.ensures, c.place_of-place.ensures.place) h) c.add_sealed.ensures.stopped

@@ -1,4 +1,4 @@
-use Rattle.std.proofs.Common.{rules, ◌∙◌, sym, ap, subst, map, Option, Some}
+use Rattle.std.proofs.Common.{rules, ◌∙◌, sym, subst, map, Some}
 use Rattle.fints_rules.specs.Needs.{key_in, seen_at, IsLeastOf}
 use Rattle.fints_rules.proofs.NeedLemmas.{least_found, none_there, none_left}
 use Rattle.fints_rules.proofs.needs.least_in.Goals as goal

@@ -1,4 +1,4 @@
-use Rattle.std.proofs.Common.{List, []}
+use Rattle.std.proofs.Common.{[]}
 use Rattle.fints_params.specs.declared.rows.AccountRow.{AccountRow}
 use Rattle.fints_rules.proofs.NeedLemmas.{rows_more}
 use Rattle.fints_rules.proofs.needs.places_in.Goals as goal

@@ -1,4 +1,4 @@
-use Rattle.std.proofs.Common.{subst, sym}
+use Rattle.std.proofs.Common.{subst}
 use Rattle.fints_wire.specs.Runs.{AreSent}
 use Rattle.fints_wire.proofs.Running.{run_of}
 use Rattle.fints_wire.proofs.dialogue.run.Goals as goal

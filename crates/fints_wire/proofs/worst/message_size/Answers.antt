@@ -3,16 +3,13 @@ use Rattle.fints_wire.specs.Lengths.{longest_sizes}
 use Rattle.fints_wire.proofs.Weighing.{longest_within, step_short}
 use Rattle.fints_wire.proofs.worst.message_size.Goals as goal
 
-pub overflow_add-result-6 : goal.overflow_add-result-6
-overflow_add-result-6 c =
+pub overflow_add-result-2 : goal.overflow_add-result-2
+overflow_add-result-2 c =
     let script = c.args.plan.now.script in
     let short = step_short script c.args.step.now (longest_sizes script.fields c.args.number) c.args.number c.requires.step (longest_within script c.args.number c.requires.sound) c.requires.number in
     let whole = short.whole in
     let middle = c.middle_size-middle.ensures in
     let within = (longest_within script c.args.number c.requires.sound).dialog in
     let dialog = c.dialog_size-dialog.ensures in
-    let digits = c.digit_count-digits.ensures.is in
-    let few = c.digit_count-digits.ensures.small in
-    let first = c.head_size-first.ensures.small in
-    let last = c.head_size-last.ensures.small in
+    let frame = c.frame_size.ensures.small in
     omega arith

@@ -14,7 +14,7 @@ pub returns-in-Ok : goal.returns-in-Ok
 returns-in-Ok g c =
     let view : syntax.Placed = record { start = c.args.start; segment = c.args.segment.now } in
     let none : is_some c.args.self.now.refused ≡ false = sym c.is_some.ensures ∙ c.if-is_some.false in
-    read_next g.R.Reader.rule g.R.Reader.good c.args.self.now.refused c.args.self.now.reader c.add_view.new.reader view none c.in-Ok.ensures.ok
+    rw c.read.ensures.kept (read_next g.R.Reader.rule g.R.Reader.good c.args.self.now.refused c.args.self.now.reader c.read.new.self.reader view none c.in-Ok.ensures.ok)
 
 pub returns-else-is_memory : goal.returns-else-is_memory
 returns-else-is_memory g c =
