@@ -1,8 +1,8 @@
 //! What calls say of a script by a capture. The inputs are read in one place for all of them: a
 //! function that reads three inputs costs more to prove than the test that asks it.
-ghost use Rattle.std.specs.Prelude.{◌≡◌, ◌<◌, length};
+ghost use Rattle.std.specs.Prelude.{◌≡◌};
 
-use fints_certs::{certificate_of, verify};
+use fints_certs::{Certificate, certificate_of, verify};
 use fints_check::{Finding, Reached, check, confirm};
 use fints_params::Params;
 use fints_rules::{OrderTable, Permissions};
@@ -11,77 +11,80 @@ use fints_script::{Case, Plan, Script};
 use std::alloc::Global;
 use std::test::*;
 
-/// What a report must say of the last step, what it must find, and how many steps and branches it
-/// must have looked at.
+/// What is said of a script by a capture.
 #[derive(Clone, Copy)]
-pub struct Wanted<'a> {
-    pub last: Option<Reached>,
-    pub findings: &'a [Finding],
-    pub visits: u64,
-}
-
-/// What is asked of a script by a capture.
-#[derive(Clone, Copy)]
-pub enum Ask<'a> {
-    /// Whether the report is as wanted.
-    Report(Wanted<'a>),
+pub enum Said<'a> {
+    /// The report's figures of the last step, its findings, and how many steps and branches it
+    /// looked at.
+    Report(Reached, &'a [Finding], u64),
     /// The case of the first finding.
-    Case,
-    /// The certificate of the report, or `none`.
-    Certificate,
+    Case(&'a [u8]),
+    /// The certificate of the report, where it has one.
+    Certificate(Option<&'a [u8]>),
     /// Whether a case shows a finding.
-    Confirm(Finding, &'a [u8]),
+    Confirmed(Finding, &'a [u8], bool),
 }
 
 fn is_report(
     alloc: Global,
     permissions: &Permissions<'_>,
     plan: &Plan<'_>,
-    wanted: &Wanted<'_>,
+    last: Reached,
+    findings: &[Finding],
+    visits: u64,
 ) -> Result<bool, Fail>
     requires { permissions.now.orders ≡ plan.now.orders }
 {
     let report = check(alloc, permissions, plan)?;
-    let findings = report.findings();
+    let figures = (report.reached(plan.step_count()), report.visits());
     Ok(
-        report.reached(plan.step_count()) == wanted.last
-            && report.is_clean() == wanted.findings.is_empty()
-            && findings == wanted.findings
-            && report.visits() == wanted.visits,
+        figures == (Some(last), visits)
+            && (report.findings(), report.is_clean()) == (findings, findings.is_empty()),
     )
 }
 
-fn first_case(
+fn is_first_case(
     alloc: Global,
     permissions: &Permissions<'_>,
     plan: &Plan<'_>,
-) -> Result<Vec<u8>, Fail>
+    wanted: &[u8],
+) -> Result<bool, Fail>
     requires { permissions.now.orders ≡ plan.now.orders }
 {
     let report = check(alloc, permissions, plan)?;
     if report.findings().is_empty() {
-        return Err(Fail::from("nothing is found"));
+        return Ok(false);
     }
     let case = report.case(alloc, 0)?;
-    Ok(case.write(alloc)?)
+    let text = case.write(alloc)?;
+    Ok(text.as_slice() == wanted)
 }
 
-fn certificate(
+fn is_closed(
     alloc: Global,
     permissions: &Permissions<'_>,
     plan: &Plan<'_>,
-) -> Result<Vec<u8>, Fail>
+    certificate: &Certificate,
+    wanted: Option<&[u8]>,
+) -> Result<bool, Fail>
+    requires { permissions.now.orders ≡ plan.now.orders }
+{
+    let text = certificate.write(alloc)?;
+    Ok(wanted == Some(text.as_slice()) && verify(permissions, plan, certificate))
+}
+
+fn is_certified(
+    alloc: Global,
+    permissions: &Permissions<'_>,
+    plan: &Plan<'_>,
+    wanted: Option<&[u8]>,
+) -> Result<bool, Fail>
     requires { permissions.now.orders ≡ plan.now.orders }
 {
     let report = check(alloc, permissions, plan)?;
     match certificate_of(alloc, &report)? {
-        None => Ok(b"none".to_vec(alloc)?),
-        Some(certificate) => {
-            if !verify(permissions, plan, &certificate) {
-                return Err(Fail::from("not closed"));
-            }
-            Ok(certificate.write(alloc)?)
-        }
+        None => Ok(wanted.is_none()),
+        Some(certificate) => is_closed(alloc, permissions, plan, &certificate, wanted),
     }
 }
 
@@ -96,43 +99,63 @@ fn is_confirmed(
     Ok(confirm(alloc, permissions, plan, finding, &case)?)
 }
 
-fn flag(alloc: Global, flag: bool) -> Result<Vec<u8>, Fail> {
-    let word: &[u8] = if flag { b"true" } else { b"false" };
-    Ok(word.to_vec(alloc)?)
-}
-
-fn answer_by(
+fn is_true(
     alloc: Global,
     permissions: &Permissions<'_>,
     plan: &Plan<'_>,
-    ask: &Ask<'_>,
-) -> Result<Vec<u8>, Fail>
+    said: Said<'_>,
+) -> Result<bool, Fail>
     requires { permissions.now.orders ≡ plan.now.orders }
 {
-    match ask {
-        Ask::Report(wanted) => flag(alloc, is_report(alloc, permissions, plan, wanted)?),
-        Ask::Case => first_case(alloc, permissions, plan),
-        Ask::Certificate => certificate(alloc, permissions, plan),
-        Ask::Confirm(finding, case) => {
-            flag(
-                alloc,
-                is_confirmed(alloc, permissions, plan, finding, case)?,
-            )
+    match said {
+        Said::Report(last, findings, visits) => {
+            is_report(alloc, permissions, plan, last, findings, visits)
+        }
+        Said::Case(case) => is_first_case(alloc, permissions, plan, case),
+        Said::Certificate(wanted) => is_certified(alloc, permissions, plan, wanted),
+        Said::Confirmed(finding, case, wanted) => {
+            Ok(is_confirmed(alloc, permissions, plan, &finding, case)? == wanted)
         }
     }
 }
 
-/// The answer to what is asked of a script by a capture.
-pub fn answer(
+// The first of these that is not true of the plan.
+fn untrue_of(
+    alloc: Global,
+    permissions: &Permissions<'_>,
+    plan: &Plan<'_>,
+    said: &[Said<'_>],
+) -> Result<Option<usize>, Fail>
+    requires { permissions.now.orders ≡ plan.now.orders }
+{
+    for (at, one) in said.iter().enumerate() {
+        if !is_true(alloc, permissions, plan, *one)? {
+            return Ok(Some(at));
+        }
+    }
+    Ok(None)
+}
+
+fn untrue_by(
+    alloc: Global,
+    params: &Params,
+    script: &Script,
+    said: &[Said<'_>],
+) -> Result<Option<usize>, Fail> {
+    let orders = OrderTable::read(alloc, T)?;
+    let permissions = Permissions::build(alloc, params, &orders)?;
+    let plan = script.plan(&orders)?;
+    untrue_of(alloc, &permissions, &plan, said)
+}
+
+/// The first of these that is not true of a script by a capture.
+pub fn untrue(
     alloc: Global,
     capture: &[u8],
     script: &[u8],
-    ask: &Ask<'_>,
-) -> Result<Vec<u8>, Fail> {
+    said: &[Said<'_>],
+) -> Result<Option<usize>, Fail> {
     let params = Params::read(alloc, capture)?;
-    let orders = OrderTable::read(alloc, T)?;
     let script = Script::read(alloc, script)?;
-    let permissions = Permissions::build(alloc, &params, &orders)?;
-    let plan = script.plan(&orders)?;
-    answer_by(alloc, &permissions, &plan, ask)
+    untrue_by(alloc, &params, &script, said)
 }

@@ -1,27 +1,7 @@
-//! Certificates of reports, and those that are read.
-use crate::asking::{Ask, answer};
+//! Certificates that are read.
 use fints_certs::{CertFault, Certificate};
-use fints_samples::{C, C1, END, FORK, SECOND_ACCOUNT};
 use std::alloc::Global;
 use std::test::*;
-
-#[test]
-fn of_reports(rt: HostRuntime) -> Result<(), Fail> {
-    let rows: [(&[u8], &[u8], &[u8]); 3] = [
-        (C1, END, b"fints-cert 1\nstep end 1 55\n"),
-        (
-            C1,
-            FORK,
-            b"fints-cert 1\nstep one 1 55\nstep bad -\nstep done 2 173\n",
-        ),
-        (C, SECOND_ACCOUNT, b"none"),
-    ];
-    for (capture, script, wanted) in rows {
-        let found = answer(rt.alloc(), capture, script, &Ask::Certificate)?;
-        assert!(rt; found.as_slice() == wanted);
-    }
-    Ok(())
-}
 
 // The first line, and so many lines of 14 bytes, each with a name of its own.
 fn lines(alloc: Global, count: u32) -> Result<String, Fail> {

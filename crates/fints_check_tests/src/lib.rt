@@ -4,8 +4,6 @@
 #[cfg(test)]
 mod asking;
 #[cfg(test)]
-mod cases;
-#[cfg(test)]
 mod certificates;
 #[cfg(test)]
 mod hints;
@@ -13,5 +11,3 @@ mod hints;
 mod numbers;
 #[cfg(test)]
 mod reports;
-#[cfg(test)]
-mod ways;

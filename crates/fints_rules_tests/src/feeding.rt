@@ -1,26 +1,63 @@
 //! The segments of a stream, as its pieces come.
 use fints_feeder::Feeder;
 use fints_samples::C;
-use fints_syntax::{OwnedSegment, SyntaxFault, SyntaxKind};
+use fints_syntax::{OwnedSegment, SyntaxFault, SyntaxKind, write_segment};
+use std::alloc::Global;
 use std::test::*;
 
 fn fault(kind: SyntaxKind, offset: usize) -> Option<SyntaxFault> {
     Some(SyntaxFault { kind, offset })
 }
 
+fn written(alloc: Global, segments: &[OwnedSegment]) -> Result<Vec<u8>, Fail> {
+    let mut bytes = Vec::new(alloc);
+    for segment in segments {
+        write_segment(&mut bytes, segment)?;
+    }
+    Ok(bytes)
+}
+
+// A piece, the segments that are whole by it, and their places.
+type Piece = (&'static [u8], &'static [u8], &'static [usize]);
+
+const CUT: &[Piece] = &[
+    (b"HKEND:2:1+0'\r\nHKE", b"HKEND:2:1+0'", &[10]),
+    (b"ND:3:1+0'", b"HKEND:3:1+0'", &[24]),
+];
+
+const SEALED: &[Piece] = &[
+    (b"HNVSD:999:1+@5@HI", b"", &[]),
+    (b"BPA'", b"HNVSD:999:1+@5@HIBPA'", &[15]),
+    (b"", b"", &[]),
+    (
+        b"HKABC:1:1'HKEND:2:1+0'",
+        b"HKABC:1:1'HKEND:2:1+0'",
+        &[0, 41],
+    ),
+];
+
+const UNFINISHED: &[Piece] = &[(b"HNVSD:999:1+@5@HI", b"", &[])];
+
+const UNFINISHED_LINE: &[Piece] = &[(b"\nHNVSD:999:1+@5@HI", b"", &[])];
+
 #[test]
-fn cut_segment(rt: HostRuntime) -> Result<(), Fail> {
-    let mut feeder = Feeder::new(rt.alloc());
-    let first = feeder.feed(b"HKEND:2:1+0'\r\nHKE")?;
-    assert!(rt; first.len() == 1);
-    let second = feeder.feed(b"ND:3:1+0'")?;
-    let [segment] = second.as_slice() else {
-        return Err(Fail::from("one segment"));
-    };
-    assert!(rt; segment.head.id.as_bytes() == b"HKEND".as_slice());
-    assert!(rt; segment.head.number == 3);
-    assert!(rt; segment.head.version == 1);
-    assert!(rt; feeder.finish().err() == None);
+fn pieces(rt: HostRuntime) -> Result<(), Fail> {
+    let rows = [
+        (CUT, None),
+        (SEALED, None),
+        (UNFINISHED, fault(SyntaxKind::Incomplete, 0)),
+        (UNFINISHED_LINE, fault(SyntaxKind::Incomplete, 1)),
+    ];
+    for (pieces, end) in rows {
+        let mut feeder = Feeder::new(rt.alloc());
+        for (piece, segments, places) in pieces {
+            let fed = feeder.feed(piece)?;
+            let found = written(rt.alloc(), fed.as_slice())?;
+            assert!(rt; found.as_slice() == *segments);
+            assert!(rt; feeder.take_places().as_slice() == *places);
+        }
+        assert!(rt; feeder.finish().err() == end);
+    }
     Ok(())
 }
 
@@ -29,34 +66,21 @@ fn fault_is_kept(rt: HostRuntime) -> Result<(), Fail> {
     let mut feeder = Feeder::new(rt.alloc());
     let first = feeder.feed(b"HKEND:2:1+@x'").err();
     assert_eq!(rt; first, fault(SyntaxKind::BadBinary, 10));
-    assert!(rt; feeder.feed(b"").err() == fault(SyntaxKind::Failed, 10));
-    assert!(rt; feeder.take_places().len() == 0);
-    assert!(rt; feeder.finish().err() == fault(SyntaxKind::Failed, 10));
+    let (again, places) = (feeder.feed(b"").err(), feeder.take_places().len());
+    let kept = fault(SyntaxKind::Failed, 10);
+    assert!(rt; (again, places, feeder.finish().err()) == (kept, 0, kept));
     Ok(())
 }
 
-#[test]
-fn places(rt: HostRuntime) -> Result<(), Fail> {
-    let mut feeder = Feeder::new(rt.alloc());
-    assert!(rt; feeder.feed(b"HNVSD:999:1+@5@HI")?.len() == 0);
-    assert!(rt; feeder.feed(b"BPA'")?.len() == 1);
-    assert!(rt; feeder.take_places().as_slice() == [15].as_slice());
-    assert!(rt; feeder.take_places().len() == 0);
-    assert!(rt; feeder.feed(b"HKABC:1:1'HKEND:2:1+0'")?.len() == 2);
-    assert!(rt; feeder.take_places().as_slice() == [0, 41].as_slice());
-    assert!(rt; feeder.finish().err() == None);
-    Ok(())
+// Feeds a piece, and tells how many segments are whole by it.
+fn feed(feeder: &mut Feeder, piece: &[u8]) -> Result<usize, SyntaxFault> {
+    Ok(feeder.feed(piece)?.len())
 }
 
 // Feeds a piece, and feeds it again after want of memory.
-fn feed_again(feeder: &mut Feeder, piece: &[u8]) -> Result<Vec<OwnedSegment>, SyntaxFault> {
-    match feeder.feed(piece) {
-        Err(
-            SyntaxFault {
-                kind: SyntaxKind::Memory,
-                ..
-            },
-        ) => feeder.feed(piece),
+fn feed_again(feeder: &mut Feeder, piece: &[u8]) -> Result<usize, SyntaxFault> {
+    match feed(feeder, piece) {
+        Err(fault) if fault.kind == SyntaxKind::Memory => feed(feeder, piece),
         fed => fed,
     }
 }
@@ -67,22 +91,9 @@ fn fed_again(rt: HostRuntime) -> Result<(), Fail> {
     let mut feeder = Feeder::new(rt.alloc());
     let mut segments: usize = 0;
     for byte in C {
-        let fed = feed_again(&mut feeder, &[*byte])?;
-        segments = fed.len().saturating_add(segments);
+        segments = segments.saturating_add(feed_again(&mut feeder, &[*byte])?);
     }
-    assert!(rt; segments == 10);
-    assert!(rt; feeder.finish().err() == None);
-    Ok(())
-}
-
-#[test]
-fn unfinished(rt: HostRuntime) -> Result<(), Fail> {
-    let mut feeder = Feeder::new(rt.alloc());
-    assert!(rt; feeder.feed(b"\nHNVSD:999:1+@5@HI")?.len() == 0);
-    assert!(rt; feeder.finish().err() == fault(SyntaxKind::Incomplete, 1));
-    let mut first = Feeder::new(rt.alloc());
-    assert!(rt; first.feed(b"HNVSD:999:1+@5@HI")?.len() == 0);
-    assert!(rt; first.finish().err() == fault(SyntaxKind::Incomplete, 0));
+    assert!(rt; (segments, feeder.finish().err()) == (10, None));
     Ok(())
 }
 
@@ -90,7 +101,7 @@ fn unfinished(rt: HostRuntime) -> Result<(), Fail> {
 fn too_long_stream(rt: HostRuntime) -> Result<(), Fail> {
     let mut feeder = Feeder::new(rt.alloc());
     for _ in 0..1024 {
-        assert!(rt; feeder.feed(&[b'\n'; 4096])?.len() == 0);
+        assert!(rt; feed(&mut feeder, &[b'\n'; 4096])? == 0);
     }
     let limit = 4_194_304;
     let passed = feeder.feed(b"\n").err();

@@ -1,6 +1,6 @@
 //! Parameters of a capture that comes in pieces.
 use fints_params::{ParamFault, ParamReader, Params, Usage, params_and_codes};
-use fints_samples::{C, C1};
+use fints_samples::C;
 use fints_syntax::{SyntaxFault, SyntaxKind};
 use std::alloc::Global;
 use std::test::*;
@@ -11,33 +11,61 @@ fn syntax(kind: SyntaxKind, offset: usize) -> Option<ParamFault> {
 
 // The last order of C, and its last account.
 fn end_as_c(params: &Params) -> bool {
-    params.orders().last().is_some_and(|it| it.kind.as_bytes() == b"HKTAN".as_slice()
-        && it.version == 6)
-        && params
-            .accounts()
-            .last()
-            .is_some_and(|it| it.iban.as_slice() == b"DE222".as_slice())
+    match (params.orders(), params.accounts()) {
+        ([.., order], [.., account]) => {
+            (
+                order.kind.as_bytes(),
+                order.version,
+                account.iban.as_slice(),
+            ) == (b"HKTAN".as_slice(), 6, b"DE222".as_slice())
+        }
+        _ => false,
+    }
 }
 
 // The parameters of C.
 fn are_of_c(params: &Params) -> bool {
-    params.bank().code.as_slice() == b"10020030".as_slice()
-        && params.bank().kilobytes == 0
-        && params.orders().len() == 5
-        && params.pins().len() == 3
-        && params.usage() == Usage::Locked
-        && params.accounts().len() == 2
-        && params.skipped() == 0
+    let bank = params.bank();
+    (bank.code.as_slice(), bank.kilobytes) == (b"10020030".as_slice(), 0)
+        && (
+            params.orders().len(),
+            params.pins().len(),
+            params.accounts().len(),
+        ) == (5, 3, 2)
+        && (params.usage(), params.skipped()) == (Usage::Locked, 0)
         && end_as_c(params)
 }
 
-// C, cut in two.
-fn cut_at(alloc: Global, at: usize) -> Result<Params, ParamFault> {
-    let (first, second) = C.split_at(at.min(C.len()));
+// The parameters of a capture that is cut in two.
+fn cut_at(alloc: Global, capture: &[u8], at: usize) -> Result<Params, ParamFault> {
+    let (first, second) = capture.split_at(at.min(capture.len()));
     let mut reader = ParamReader::new(alloc);
-    reader.feed(first)?;
-    reader.feed(second)?;
+    for piece in [first, second] {
+        reader.feed(piece)?;
+    }
     reader.finish()
+}
+
+#[test]
+fn each_cut(rt: HostRuntime) -> Result<(), Fail> {
+    for at in 0..C.len() {
+        let params = cut_at(rt.alloc(), C, at)?;
+        assert!(rt; are_of_c(&params));
+    }
+    Ok(())
+}
+
+// The least bank as the data of an HNVSD.
+const SEALED: &[u8] =
+    b"HNVSD:999:1+@93@HIBPA:3:3+12+280:10020030+Bank+1+1+300+0'\nHIPINS:9:1+1+1+0+5:38:6:::HKSAL:N:HKKAZ:N:HKCCS:J'\n'";
+
+#[test]
+fn each_cut_of_sealed(rt: HostRuntime) -> Result<(), Fail> {
+    for at in 0..SEALED.len() {
+        let params = cut_at(rt.alloc(), SEALED, at)?;
+        assert!(rt; params.bank().code.as_slice() == b"10020030".as_slice());
+    }
+    Ok(())
 }
 
 // Feeds a piece, and feeds it again after want of memory.
@@ -48,24 +76,20 @@ fn feed_again(reader: &mut ParamReader, piece: &[u8]) -> Result<(), ParamFault> 
     }
 }
 
+// The parameters of a capture that comes byte by byte.
+fn fed_bytes(alloc: Global, capture: &[u8]) -> Result<Params, ParamFault> {
+    let mut reader = ParamReader::new(alloc);
+    for byte in capture {
+        feed_again(&mut reader, &[*byte])?;
+    }
+    reader.finish()
+}
+
 // Where a single growth is refused, the piece is fed again.
 #[test]
 fn fed_again(rt: HostRuntime) -> Result<(), Fail> {
-    let mut reader = ParamReader::new(rt.alloc());
-    for byte in C {
-        feed_again(&mut reader, &[*byte])?;
-    }
-    let params = reader.finish()?;
+    let params = fed_bytes(rt.alloc(), C)?;
     assert!(rt; are_of_c(&params));
-    Ok(())
-}
-
-#[test]
-fn each_cut(rt: HostRuntime) -> Result<(), Fail> {
-    for at in 0..C.len() {
-        let params = cut_at(rt.alloc(), at)?;
-        assert!(rt; are_of_c(&params));
-    }
     Ok(())
 }
 
@@ -74,38 +98,14 @@ fn fault_is_kept(rt: HostRuntime) -> Result<(), Fail> {
     let mut reader = ParamReader::new(rt.alloc());
     let first = reader.feed(b"HKEND:2:1+@x'").err();
     assert_eq!(rt; first, syntax(SyntaxKind::BadBinary, 10));
-    assert!(rt; reader.feed(C).err() == syntax(SyntaxKind::Failed, 10));
-    assert!(rt; reader.finish().err() == syntax(SyntaxKind::Failed, 10));
+    let kept = syntax(SyntaxKind::Failed, 10);
+    assert!(rt; (reader.feed(C).err(), reader.finish().err()) == (kept, kept));
     Ok(())
 }
 
 #[test]
 fn rows_and_codes(rt: HostRuntime) -> Result<(), Fail> {
     let told = params_and_codes(rt.alloc(), C)?;
-    assert!(rt; are_of_c(&told.params));
-    assert!(rt; told.codes.len() == 0);
-    Ok(())
-}
-
-// C1 as the data of an HNVSD.
-fn sealed(alloc: Global) -> Result<Vec<u8>, ParamFault> {
-    let mut bytes = Vec::new(alloc);
-    bytes.extend_from_slice(b"HNVSD:999:1+@93@")?;
-    bytes.extend_from_slice(C1)?;
-    bytes.push(b'\'')?;
-    Ok(bytes)
-}
-
-#[test]
-fn each_cut_of_sealed(rt: HostRuntime) -> Result<(), Fail> {
-    let bytes = sealed(rt.alloc())?;
-    for at in 0..bytes.len() {
-        let mut reader = ParamReader::new(rt.alloc());
-        let (first, second) = bytes.as_slice().split_at(at);
-        reader.feed(first)?;
-        reader.feed(second)?;
-        let params = reader.finish()?;
-        assert!(rt; params.bank().code.as_slice() == b"10020030".as_slice());
-    }
+    assert!(rt; are_of_c(&told.params) && told.codes.len() == 0);
     Ok(())
 }

@@ -2,7 +2,6 @@
 use crate::{Quirk, Shelf, Tape};
 use fints_cli::{Failure, LoadFault, Request, ScriptFiles, built_in, emit, execute, load, perform};
 use std::alloc::{AllocError, Global};
-use std::process::Abort;
 use std::test::Fail;
 
 const C1: &[u8] =
@@ -29,22 +28,26 @@ fn padded(alloc: Global, len: usize) -> Result<Vec<u8>, AllocError> {
     Ok(bytes)
 }
 
-// Runs `show` over the quirk.
-fn assert_shown(rt: &impl Abort, alloc: Global, capture: &[u8], quirk: Quirk, is_read: bool) {
-    let files = [("c", capture)];
-    let mut shelf = Shelf::new(&files, quirk);
-    let mut out = Tape::new(4096, 4096);
-    let mut err = Tape::new(4096, 4096);
+// The status of `show`, its output and its errors.
+type Shown = (u8, &'static [u8], &'static [u8]);
+
+const READ: Shown = (0, SHOWN, b"");
+
+const UNREAD: Shown = (5, b"", b"error: read --params\n");
+
+// Whether `show` answers so over the quirk.
+fn is_shown<'a>(
+    alloc: Global,
+    files: &'a [(&'a str, &'a [u8])],
+    quirk: Quirk,
+    wanted: Shown,
+) -> bool {
+    let mut shelf = Shelf::new(files, quirk);
+    let (mut out, mut err) = (Tape::new(4096, 4096), Tape::new(4096, 4096));
     let words = ["show", "--params", "c"];
     let status = execute(alloc, &words, &mut shelf, &mut out, &mut err);
-    let (want, output, errors) = if is_read {
-        (0, SHOWN, b"".as_slice())
-    } else {
-        (5, b"".as_slice(), b"error: read --params\n".as_slice())
-    };
-    assert!(rt; status == want, "{quirk:?}");
-    assert!(rt; out.bytes() == output, "{quirk:?}");
-    assert!(rt; err.bytes() == errors, "{quirk:?}");
+    let (wanted, output, errors) = wanted;
+    status == wanted && out.bytes() == output && err.bytes() == errors
 }
 
 #[test]
@@ -63,25 +66,22 @@ fn whole_output(rt: HostRuntime) {
 #[test]
 fn reads_fail(rt: HostRuntime) -> Result<(), Fail> {
     let capture = padded(rt.alloc(), 9000)?;
-    for call in 1..5 {
-        assert_shown(
-            &rt,
-            rt.alloc(),
-            capture.as_slice(),
-            Quirk::FailsAt(call),
-            false,
-        );
-    }
-    assert_shown(&rt, rt.alloc(), capture.as_slice(), Quirk::FailsAt(5), true);
-    assert_shown(&rt, rt.alloc(), capture.as_slice(), Quirk::Claims, false);
-    for size in [1, 7, 4095, 4096] {
-        assert_shown(
-            &rt,
-            rt.alloc(),
-            capture.as_slice(),
-            Quirk::Pieces(size),
-            true,
-        );
+    let files = [("c", capture.as_slice())];
+    let rows = [
+        (Quirk::FailsAt(1), UNREAD),
+        (Quirk::FailsAt(2), UNREAD),
+        (Quirk::FailsAt(3), UNREAD),
+        (Quirk::FailsAt(4), UNREAD),
+        (Quirk::FailsAt(5), READ),
+        (Quirk::Claims, UNREAD),
+        (Quirk::Pieces(1), READ),
+        (Quirk::Pieces(7), READ),
+        (Quirk::Pieces(4095), READ),
+        (Quirk::Pieces(4096), READ),
+    ];
+    for (quirk, wanted) in rows {
+        let is_shown = is_shown(rt.alloc(), &files, quirk, wanted);
+        assert!(rt; is_shown, "{quirk:?}");
     }
     Ok(())
 }
@@ -92,13 +92,11 @@ fn limits(rt: HostRuntime) {
     let files = [("f", bytes.as_slice())];
     for (limit, is_read) in [(99, false), (100, true), (101, true)] {
         let mut shelf = Shelf::new(&files, Quirk::None);
-        match load(rt.alloc(), &mut shelf, "f", limit) {
-            Ok(read) => {
-                assert!(rt; is_read, "{limit}");
-                assert!(rt; read.as_slice() == bytes.as_slice(), "{limit}");
-            }
-            Err(fault) => assert!(rt; !is_read && fault == LoadFault::TooLong, "{limit}"),
-        }
+        let is_right = match load(rt.alloc(), &mut shelf, "f", limit) {
+            Ok(read) => is_read && read.as_slice() == bytes.as_slice(),
+            Err(fault) => !is_read && fault == LoadFault::TooLong,
+        };
+        assert!(rt; is_right, "{limit}");
     }
 }
 
@@ -117,51 +115,54 @@ fn most_calls(rt: HostRuntime) -> Result<(), Fail> {
     Ok(())
 }
 
+const FILES: [(&str, &[u8]); 4] = [
+    ("c1", C1),
+    ("orders", built_in::ORDERS),
+    ("script", built_in::SCRIPT),
+    ("cert", CERTIFICATE),
+];
+
+const NAMED: ScriptFiles<'static> = ScriptFiles {
+    params: "c1",
+    orders: "orders",
+    script: "script",
+};
+
+fn is_reply(alloc: Global, request: &Request<'_>, text: &[u8]) -> bool {
+    let mut shelf = Shelf::new(&FILES, Quirk::None);
+    match perform(alloc, request, &mut shelf, false) {
+        Ok(reply) => (reply.status, reply.text.as_slice()) == (0, text),
+        Err(_) => false,
+    }
+}
+
 #[test]
 fn replies(rt: HostRuntime) {
-    let files = [
-        ("c1", C1),
-        ("orders", built_in::ORDERS),
-        ("script", built_in::SCRIPT),
-        ("cert", CERTIFICATE),
-    ];
-    let named = ScriptFiles {
-        params: "c1",
-        orders: "orders",
-        script: "script",
-    };
     let verify = Request::Verify {
-        files: named,
+        files: NAMED,
         certificate: "cert",
     };
     let rows: [(Request<'_>, &[u8]); 5] = [
         (Request::BuiltIn, REPORT),
         (Request::Show { params: "c1" }, SHOWN),
-        (Request::Check(named), REPORT),
-        (Request::Certify(named), CERTIFICATE),
+        (Request::Check(NAMED), REPORT),
+        (Request::Certify(NAMED), CERTIFICATE),
         (verify, b"valid\n"),
     ];
     for (request, text) in rows {
-        let mut shelf = Shelf::new(&files, Quirk::None);
-        match perform(rt.alloc(), &request, &mut shelf, false) {
-            Ok(reply) => {
-                assert!(rt; reply.status == 0);
-                assert!(rt; reply.text.as_slice() == text);
-            }
-            Err(refusal) => assert!(rt; false, "{}", refusal.failure),
-        }
+        assert!(rt; is_reply(rt.alloc(), &request, text), "{text:?}");
     }
+}
+
+#[test]
+fn no_file(rt: HostRuntime) {
     let mut shelf = Shelf::new(&[], Quirk::None);
-    match perform(
-        rt.alloc(),
-        &Request::Show { params: "c1" },
-        &mut shelf,
-        false,
-    ) {
-        Ok(_) => assert!(rt; false, "no file"),
+    let show = Request::Show { params: "c1" };
+    match perform(rt.alloc(), &show, &mut shelf, false) {
+        Ok(_) => assert!(rt; false),
         Err(refusal) => {
-            assert!(rt; refusal.failure.status() == 5);
-            assert!(rt; refusal.failure == Failure::Unread("params"));
+            let failure = (refusal.failure, refusal.failure.status());
+            assert!(rt; failure == (Failure::Unread("params"), 5));
         }
     }
 }

@@ -1,5 +1,6 @@
 //! The calls behind the commands.
 use fints_cli::{Fault, built_in, judge_message, run_case, show};
+use std::alloc::Global;
 use std::test::Fail;
 
 const CASE: &[u8] = b"fints-case 1\nfield dialog 44\n";
@@ -22,33 +23,24 @@ fn shown(rt: HostRuntime) -> Result<(), Fail> {
 #[test]
 fn judged(rt: HostRuntime) -> Result<(), Fail> {
     let reply = judge_message(rt.alloc(), built_in::CAPTURE, built_in::ORDERS, MESSAGE)?;
-    assert!(rt; reply.status == 0);
-    assert!(rt; reply.text.as_slice() == b"permitted\n".as_slice());
+    assert!(rt; (reply.status, reply.text.as_slice()) == (0, b"permitted\n".as_slice()));
     Ok(())
+}
+
+// What is printed of the run of the case: all messages, or the one of a number.
+fn run_of(alloc: Global, number: Option<u32>) -> Result<Vec<u8>, Fault> {
+    run_case(alloc, built_in::ORDERS, built_in::SCRIPT, CASE, number)
 }
 
 #[test]
 fn sent(rt: HostRuntime) -> Result<(), Fail> {
-    let text = run_case(rt.alloc(), built_in::ORDERS, built_in::SCRIPT, CASE, None)?;
-    assert!(rt; text.as_slice() == SENT);
-    Ok(())
-}
-
-#[test]
-fn one_message(rt: HostRuntime) -> Result<(), Fail> {
-    let alloc = rt.alloc();
-    let bytes = run_case(alloc, built_in::ORDERS, built_in::SCRIPT, CASE, Some(1))?;
-    assert!(rt; bytes.as_slice() == MESSAGE);
+    for (number, wanted) in [(None, SENT), (Some(1), MESSAGE)] {
+        let text = run_of(rt.alloc(), number)?;
+        assert!(rt; text.as_slice() == wanted);
+    }
     for number in [0, 2, u32::MAX] {
-        let run = run_case(
-            alloc,
-            built_in::ORDERS,
-            built_in::SCRIPT,
-            CASE,
-            Some(number),
-        )
-        .err();
-        assert!(rt; run == Some(Fault::NoMessage { number }));
+        let fault = run_of(rt.alloc(), Some(number)).err();
+        assert!(rt; fault == Some(Fault::NoMessage { number }));
     }
     Ok(())
 }

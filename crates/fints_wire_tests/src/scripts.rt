@@ -1,19 +1,45 @@
 //! Scripts that are read, and the first fault of those that are not.
+use fints_params::Code;
 use fints_samples::FORK;
-use fints_script::{FaultKind, Pattern, Place, Script, ScriptFault, Target};
+use fints_script::{Branch, FaultKind, Pattern, Place, Script, ScriptFault, Step, Target};
 use std::test::*;
+
+// Answers of late codes are followed by the first branch that one of these fires.
+fn are_followed(step: &Step) -> bool {
+    let (Some(late), Some(early)) = (Code::from_number(9010), Code::from_number(20)) else {
+        return false;
+    };
+    (step.choose(&[late, early]), step.choose(&[late])) == (Target::Step(3), Target::Stop)
+}
+
+// The second branch is closed by the first, and any other code takes the default.
+fn are_opened(step: &Step) -> bool {
+    step.branches().len() == 2
+        && (step.opener(1), step.opener(2), step.opener(3))
+            == (Code::from_number(0), None, Code::from_number(1000))
+}
+
+fn are_branches(branches: &[Branch]) -> bool {
+    match branches {
+        [done, bad] => {
+            (Some(done.on), done.to) == (Pattern::parse(b"0***"), Target::Step(3))
+                && (Some(bad.on), bad.to) == (Pattern::parse(b"0030"), Target::Step(2))
+        }
+        _ => false,
+    }
+}
+
+fn is_fork(script: &Script) -> bool {
+    match script.steps() {
+        [one, ..] => are_branches(one.branches()) && are_opened(one) && are_followed(one),
+        [] => false,
+    }
+}
 
 #[test]
 fn branches(rt: HostRuntime) -> Result<(), Fail> {
     let script = Script::read(rt.alloc(), FORK)?;
-    let one = script.steps().first().ok_or("a step")?;
-    let [done, bad] = one.branches() else {
-        return Err(Fail::from("two branches"));
-    };
-    assert!(rt;
-        (Some(done.on), Some(bad.on)) == (Pattern::parse(b"0***"), Pattern::parse(b"0030"))
-    );
-    assert!(rt; (done.to, bad.to) == (Target::Step(3), Target::Step(2)));
+    assert!(rt; is_fork(&script));
     Ok(())
 }
 

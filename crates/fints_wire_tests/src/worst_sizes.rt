@@ -1,7 +1,6 @@
-//! How long messages can be.
-use crate::asking::{Ask, answer};
+//! How long messages can be, and by which values.
+use crate::asking::{Said, untrue};
 use fints_samples::{BALANCE, END, FORK};
-use std::alloc::Global;
 use std::test::*;
 
 const ESCAPED_PAD: &[u8] = br#"
@@ -18,50 +17,48 @@ step = [
 ]
 "#;
 
+const SAID: [(&[u8], &[Said<'static>]); 5] = [
+    (
+        BALANCE,
+        &[
+            Said::Size(1, 1, 195),
+            Said::Least(&[(b"dialog", b"A"), (b"pin", b"00000"), (b"tan", b"")]),
+        ],
+    ),
+    (
+        END,
+        &[
+            Said::Size(1, 2, 173),
+            Said::Size(1, 9_999, 179),
+            Said::Size(1, 10_000, 181),
+        ],
+    ),
+    (
+        ESCAPED_PAD,
+        &[
+            Said::Size(1, 1, 1056),
+            Said::Worst(&[(b"dialog", &[b'?'; 30]), (b"pad", &[b'?'; 500])]),
+        ],
+    ),
+    (
+        SEALED_PAD,
+        &[Said::Size(1, 1, 1156), Said::Size(2, 1, 1158)],
+    ),
+    (
+        FORK,
+        &[
+            Said::Size(1, 1, 55),
+            Said::Size(3, 2, 173),
+            Said::Size(3, 9_999, 179),
+            Said::Size(3, 10_000, 181),
+        ],
+    ),
+];
+
 #[test]
-fn known_sizes(rt: HostRuntime) -> Result<(), Fail> {
-    let rows: [(&[u8], usize, u32, &[u8]); 11] = [
-        (BALANCE, 1, 1, b"195"),
-        (END, 1, 2, b"173"),
-        (END, 1, 9_999, b"179"),
-        (END, 1, 10_000, b"181"),
-        (ESCAPED_PAD, 1, 1, b"1056"),
-        (SEALED_PAD, 1, 1, b"1156"),
-        (SEALED_PAD, 2, 1, b"1158"),
-        (FORK, 1, 1, b"55"),
-        (FORK, 3, 2, b"173"),
-        (FORK, 3, 9_999, b"179"),
-        (FORK, 3, 10_000, b"181"),
-    ];
-    for (text, step, number, size) in rows {
-        let found = answer(rt.alloc(), text, &Ask::Size(step, number))?;
-        assert!(rt; found.as_slice() == size);
+fn greatest_and_least(rt: HostRuntime) -> Result<(), Fail> {
+    for (script, said) in SAID {
+        assert!(rt; untrue(rt.alloc(), script, said)? == None);
     }
-    Ok(())
-}
-
-// The worst values of the escaped pad, as a text.
-fn longest(alloc: Global) -> Result<Vec<u8>, Fail> {
-    let mut text = b"dialog=".to_vec(alloc)?;
-    text.extend_from_slice(&[b'?'; 30])?;
-    text.extend_from_slice(b" pad=")?;
-    text.extend_from_slice(&[b'?'; 500])?;
-    text.push(b' ')?;
-    Ok(text)
-}
-
-#[test]
-fn worst_choice(rt: HostRuntime) -> Result<(), Fail> {
-    let wanted = longest(rt.alloc())?;
-    let found = answer(rt.alloc(), ESCAPED_PAD, &Ask::Worst)?;
-    assert!(rt; found.as_slice() == wanted.as_slice());
-    Ok(())
-}
-
-#[test]
-fn least_choice(rt: HostRuntime) -> Result<(), Fail> {
-    let found = answer(rt.alloc(), BALANCE, &Ask::Least)?;
-    let wanted = b"dialog=A pin=00000 tan= ".as_slice();
-    assert!(rt; found.as_slice() == wanted);
     Ok(())
 }

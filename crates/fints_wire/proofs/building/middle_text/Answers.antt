@@ -1,8 +1,5 @@
 use Rattle.std.proofs.Common.{rules}
 use Rattle.fints_wire.proofs.building.middle_text.Goals as goal
 
-pub returns-then-sealed : goal.returns-then-sealed
-returns-then-sealed c = search rules
-
 pub returns : goal.returns
 returns c = search rules
