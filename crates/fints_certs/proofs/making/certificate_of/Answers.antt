@@ -1,4 +1,4 @@
-use Rattle.std.proofs.Common.{◌≡◌, [], List, sym, subst}
+use Rattle.std.proofs.Common.{rules, ◌≡◌, [], List, sym, subst}
 use Rattle.fints_check.specs.Findings.{AreFindings}
 use Rattle.fints_check.specs.declared.finding.Finding.{Finding}
 use Rattle.fints_script.specs.Plans.{PlanValue}
@@ -21,3 +21,9 @@ returns-clause-readable c =
     let script = c.args.report.now.plan.script in
     let sound = subst (λ (p : PlanValue). IsSound p.script) c.plan.ensures c.step_count-count.ensures.sound in
     subst IsCertificate (sym c.new.ensures) (c.greatest_are_readable.ensures script c.in_ok-lines.lines.items sound c.in_ok-lines.ensures.names c.in_ok-lines.ensures.are_names c.in_ok-lines.ensures.figures)
+
+pub returns-clause-clean : goal.returns-clause-clean
+returns-clause-clean c = search rules
+
+pub returns-clause-figures : goal.returns-clause-figures
+returns-clause-figures c = search rules
