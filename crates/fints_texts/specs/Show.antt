@@ -94,17 +94,13 @@ rows_text rows =
     bank_line rows.bank ++ flat_map order_line rows.orders ++ flat_map pin_line rows.pins
     ++ usage_line rows.usage ++ flat_map account_lines rows.accounts ++ skipped_line rows.skipped
 
--- the rows of the parameters, and the codes of feedback
-abbrev pub show_text : Rows → List ℕ → List ℕ
-show_text rows feedback = rows_text rows ++ flat_map code_line feedback
-
--- the text shows the parameters and the feedback of the capture
+-- the text shows the capture: the rows of its parameters, and the codes of its feedback
 pub record IsShowOf (capture text : List ℕ) : Type 0 where
   pub rows : Rows
   pub feedback : List ℕ
   pub rows_are : IsParamsOf capture rows
   pub feedback_is : IsCodesOf capture feedback
-  pub text_is : text ≡ show_text rows feedback
+  pub text_is : text ≡ rows_text rows ++ flat_map code_line feedback
 
 -- want of memory, or a refusal of the capture
 abbrev pub IsMemoryOrShowFault : List ℕ → Fault → Type 0
