@@ -2,6 +2,7 @@
 #![tactic(auto)]
 
 mod answers;
+mod carried;
 mod case;
 mod case_fault;
 mod case_reading;
@@ -11,6 +12,7 @@ mod pattern;
 mod values;
 
 pub use answers::{Branch, Target, choose, opener, target_of};
+pub use carried::{carries, carrying, passes};
 pub use case::{Answer, Case};
 pub use case_fault::CaseFault;
 pub use pattern::Pattern;

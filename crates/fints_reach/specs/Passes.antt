@@ -6,6 +6,7 @@ use Rattle.fints_cases.specs.declared.answers.Target.TheVariants.{Step, Again}
 use Rattle.fints_script.specs.Numbered.{numbered}
 use Rattle.fints_script.specs.Steps.{StepValue}
 use Rattle.fints_reach.specs.Closed.{Covers}
+use Rattle.fints_reach.specs.Following.{CarriesTo, IsCarriedTo}
 use Rattle.fints_reach.specs.Leading.{Leads}
 use Rattle.fints_reach.specs.Numbers.{Has}
 use Rattle.fints_reach.specs.Sources.{EndsRow}
@@ -71,3 +72,26 @@ pub record IsPassed (step : StepValue) (n : ℕ) (cell : Option ℕ) (old new be
 -- step n is passed so
 abbrev pub StepIsPassed : List StepValue → ℕ → Option ℕ → List (Option ℕ) → List (Option ℕ) → List (Option ℕ) → List (Option ℕ) → Type 0
 StepIsPassed steps n cell old new before after = (step : StepValue) → numbered steps n ≡ Some step → IsPassed step n cell old new before after
+
+-- step n was kept for each of these steps, unless one is kept for it, and for no other
+pub record AreKept (n : ℕ) (Goes : ℕ → Type 0) (old new : List (Option ℕ)) : Type 0 where
+  pub long : length new ≡ length old
+  pub kept : (k t : ℕ) → Has old k t → Has new k t
+  pub there : (s : ℕ) → Goes s → (t : ℕ) × Has new s t
+  pub each : (k t : ℕ) → Has new k t → Has old k t ⊎ ((t ≡ n) × Goes k)
+
+-- step n is asked about
+abbrev pub Asks : List Bool → ℕ → Type 0
+Asks marks n = numbered marks n ≡ Some true
+
+-- step n is asked about, and this branch of it carries the code and goes to step s
+abbrev pub BranchAsks : StepValue → List Bool → ℕ → ℕ → ℕ → ℕ → Type 0
+BranchAsks step marks n code branch s = Asks marks n × IsCarriedTo step n branch code s
+
+-- some branch does
+abbrev pub StepAsks : StepValue → List Bool → ℕ → ℕ → ℕ → Type 0
+StepAsks step marks n code s = Asks marks n × CarriesTo step n code s
+
+-- step n has a number, is asked about, and some branch does
+abbrev pub PassAsks : StepValue → Option ℕ → List Bool → ℕ → ℕ → ℕ → Type 0
+PassAsks step cell marks n code s = ((f : ℕ) × (cell ≡ Some f)) × StepAsks step marks n code s

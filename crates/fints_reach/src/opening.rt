@@ -1,27 +1,12 @@
-//! The open branches of a step: those that some answer fires.
-ghost use Rattle.std.specs.Prelude.{◌≡◌, ◌↔◌, ◌<◌, ◌≤◌, ◌-◌, length, slice_get, Some, true, IsTrue, MatchOption};
+//! What the open branches of a step lead to: those that some answer fires. Flags tell which are open,
+//! so that no branch is looked at again.
+ghost use Rattle.std.specs.Prelude.{◌≡◌, ◌↔◌, ◌≤◌, ◌-◌, length, slice_get, Some, true, IsTrue, MatchOption};
 ghost use Rattle.fints_cases.specs.declared.answers.Target.{Target};
 ghost use Rattle.fints_reach.specs.Leading.{Leads};
 ghost use Rattle.fints_reach.specs.Passes.{AreOpen, IsOpenAt, IsSpare, IsWay, IsNoWay, target_at};
 
 use fints_script::laws::open_branches_lead;
 use fints_script::{Step, Target};
-
-/// The most branches of a step, its default counted.
-pub const MAX_BRANCHES: usize = 21;
-
-/// For each branch of a step whether some answer fires it. Branches count from 0, and the default
-/// counts as the last.
-pub fn open_branches(step: &Step) -> [bool; MAX_BRANCHES]
-    requires { length step.now.branches < MAX_BRANCHES }
-    ensures { AreOpen step.now result }
-{
-    let mut flags = [false; MAX_BRANCHES];
-    for b in 0..step.branches().len() + 1 {
-        flags[b] = step.opener(b + 1).is_some();
-    }
-    flags
-}
 
 fn is_open(flags: &[bool], b: usize) -> bool
     ensures { IsTrue result ↔ (slice_get flags.now b ≡ Some true) }

@@ -1,17 +1,20 @@
 //! Steps and their size.
-ghost use Rattle.std.specs.Prelude.{◌≡◌, ◌≤◌, ◌+◌, ◌↔◌, length, option_map, IfSome, IsSome};
+ghost use Rattle.std.specs.Prelude.{◌≡◌, ◌≤◌, ◌+◌, ◌↔◌, length, option_map, IfOk, IfSome, IsSome, IsTrue};
 ghost use Rattle.fints_cases.specs.Answers.{leads, target_of, IsOpen, IsLeastOpener};
+ghost use Rattle.fints_cases.specs.Carrying.{Carries, IsCarrying};
 ghost use Rattle.fints_templates.specs.Weights.{Spends, total, segment_weight};
 ghost use Rattle.fints_script.specs.Steps.{seal_weight, signature_weight, sized_step, step_of, step_weight, has_large_segment, is_too_large};
 ghost use Rattle.fints_script.specs.Around.{seen_parts, surroundings_of};
 
 use crate::around::Around;
-use fints_cases::{Branch, Target, choose, opener, target_of};
+use fints_cases::{Answer, Branch, Target, carries, carrying, choose, opener, passes, target_of};
 use fints_field_rows::FaultKind;
 use fints_fields::Name;
 use fints_params::Code;
+use fints_syntax::Memory;
 use fints_templates::weights::{Figures, has_too_many_items, spend_segment, spend_signer};
 use fints_templates::{Signer, Template, TemplateElements};
+use std::alloc::Global;
 use std::marker::Model;
 
 /// What a step sends: its segments, and whether it is sealed and by whom it is signed.
@@ -110,6 +113,38 @@ impl Step {
         ensures least { IfSome result (IsLeastOpener self.now.branches branch) }
     {
         opener(self.branches.as_slice(), branch)
+    }
+
+    /// Whether some answer that has the code fires this branch: that is where some answer fires it, and
+    /// no earlier pattern matches the code. Branches count from 1; the default counts as the last.
+    pub fn carries(&self, branch: usize, code: Code) -> bool
+        requires from { 1 ≤ branch }
+        requires to { branch ≤ length self.now.branches + 1 }
+        ensures { IsTrue result ↔ Carries self.now.branches branch code }
+    {
+        carries(self.branches.as_slice(), branch, code)
+    }
+
+    /// Of a branch that some answer fires, whether one that has the code does: that is where no earlier
+    /// pattern matches the code. Branches count from 1; the default counts as the last.
+    pub fn passes(&self, branch: usize, code: Code) -> bool
+        requires from { 1 ≤ branch }
+        requires to { branch ≤ length self.now.branches + 1 }
+        requires fired { IsOpen self.now.branches branch }
+        ensures { IsTrue result ↔ Carries self.now.branches branch code }
+    {
+        passes(self.branches.as_slice(), branch, code)
+    }
+
+    /// An answer that has the code and fires this branch: the code alone where that fires it, else the
+    /// branch's opener and the code.
+    pub fn carrying(&self, alloc: Global, branch: usize, code: Code) -> Result<Answer, Memory>
+        requires from { 1 ≤ branch }
+        requires to { branch ≤ length self.now.branches + 1 }
+        requires carries { Carries self.now.branches branch code }
+        ensures { IfOk result (λ answer. IsCarrying self.now.branches branch code answer) }
+    {
+        carrying(alloc, self.branches.as_slice(), branch, code)
     }
 
     /// Where a branch leads, counted from 1; the default counts as the last.

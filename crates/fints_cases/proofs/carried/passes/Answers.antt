@@ -1,0 +1,7 @@
+use Rattle.std.proofs.Common.{arith}
+use Rattle.fints_cases.proofs.carried.passes.Goals as goal
+
+pub returns : goal.returns
+returns c =
+    let at = c.carried_where.ensures c.args.branches.now c.args.branch c.args.code (omega (arith, c.number-number.ensures.number, c.number-number.ensures.small)) in
+    (λ t. at.exactly.1 (c.requires.fired, c.is_passed.ensures.0 t), λ carries. c.is_passed.ensures.1 (at.exactly.0 carries).1)
