@@ -3,7 +3,7 @@ use Rattle.std.proofs.Common.{ℕ, suc, ◌+◌, ◌<◌, ◌≤◌, ◌≡◌, 
 use Rattle.std.specs.List.{All, AllPairs}
 use Rattle.std.proofs.lemmas.List.{nil_from_length, append_assoc, length-append, get_or_append_left, get_or_at}
 use Rattle.std.proofs.lemmas.List.Elements.{All-cons, All-head, All-tail, All-append, All-map}
-use Rattle.fints_lines.specs.Lines.{MAX_TEXT, text_of_lines, NoFeed, IsNextLine, HasNoNextLine, BeginsText}
+use Rattle.fints_lines.specs.Lines.{text_of_lines, NoFeed, IsNextLine, HasNoNextLine, BeginsText}
 use Rattle.fints_lines.specs.LineLaws.{split_same, plain, not_empty, text_short}
 use Rattle.fints_cases.specs.Answers.{IsAnswer}
 use Rattle.fints_cases.specs.Cases.{field_text, answer_text, case_lines, AreFields, IsNamedValue, AreCaseLines}
@@ -11,6 +11,7 @@ use Rattle.fints_cases.specs.CaseReading.{IsCaseLine, line_text, IsNext, IsBegun
 use Rattle.fints_cases.specs.declared.values.NamedValue.{NamedValue}
 use Rattle.fints_cases.specs.declared.case_reading.CaseLine.{CaseLine}
 use Rattle.fints_cases.specs.declared.case_reading.CaseLine.TheVariants.{Field, Reply}
+use Rattle.fints_lines.specs.declared.lines.TheConstants.{MAX_TEXT}
 use Rattle.fints_cases.proofs.CaseTexts.{field_once, field_without, answer_once, answer_without, field_no_answer}
 
 -- ---- one line

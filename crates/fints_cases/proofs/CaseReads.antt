@@ -9,7 +9,7 @@ use Rattle.std.proofs.lemmas.List.{append_assoc, append-nil, length-append, map-
 use Rattle.std.proofs.lemmas.List.Elements.{All-cons, All-nil, All-head, All-tail, All-push, All-weaker}
 use Rattle.std.proofs.lemmas.List.Quantifiers.{all_pairs_push}
 use Rattle.fints_fields.specs.Names.{IsNameByte}
-use Rattle.fints_lines.specs.Lines.{MAX_TEXT, text_of_lines, BeginsText}
+use Rattle.fints_lines.specs.Lines.{text_of_lines, BeginsText}
 use Rattle.fints_lines.specs.LineLaws.{text_taken, length_taken, lines_long, same_lines, refused_at}
 use Rattle.fints_cases.specs.Answers.{IsAnswer}
 use Rattle.fints_cases.specs.Cases.{field_text, answer_text, case_lines, case_text, AreFields, IsNamedValue, IsCase, IsCaseOf, OneCase, AreCaseLines, IsFirstBadLine}
@@ -18,6 +18,7 @@ use Rattle.fints_cases.specs.declared.values.NamedValue.{NamedValue}
 use Rattle.fints_cases.specs.declared.case_reading.CaseLine.{CaseLine}
 use Rattle.fints_cases.specs.declared.case_reading.CaseLine.TheVariants.{Field, Reply}
 use Rattle.fints_cases.proofs.CaseLines.{onward, line_without, lines_without, case_without, no_fields}
+use Rattle.fints_lines.specs.declared.lines.TheConstants.{MAX_TEXT}
 use Rattle.fints_cases.proofs.CaseTexts.{field_once, answer_once, field_no_answer}
 
 -- ---- a line more

@@ -2,11 +2,12 @@
 use Rattle.std.specs.Prelude.{ℕ, ◌≡◌, ◌≢◌, ◌<◌, ◌≤◌, List, [], ◌∷◌, ◌++◌, codes, length, map, slice_get}
 use Rattle.std.specs.Option.{ForSome}
 use Rattle.std.specs.List.{All, AllPairs}
-use Rattle.fints_lines.specs.Lines.{MAX_TEXT, IsNextLine}
+use Rattle.fints_lines.specs.Lines.{IsNextLine}
 use Rattle.fints_cases.specs.Answers.{IsAnswer}
 use Rattle.fints_cases.specs.Cases.{field_text, answer_text, case_text, IsNamedValue}
 use Rattle.fints_cases.specs.declared.values.NamedValue.{NamedValue}
 use Rattle.fints_cases.specs.declared.case_reading.CaseLine.{CaseLine}
+use Rattle.fints_lines.specs.declared.lines.TheConstants.{MAX_TEXT}
 use Rattle.fints_cases.specs.declared.case_reading.CaseLine.TheVariants.{Field, Reply}
 
 -- A to Z

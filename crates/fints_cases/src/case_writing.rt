@@ -1,8 +1,8 @@
 //! The texts of cases.
 ghost use Rattle.std.specs.Prelude.{◌≡◌, ◌≤◌, ◌<◌, [], ◌∷◌, ◌++◌, length, OnOk, IfOk};
 ghost use Rattle.std.specs.List.{All};
-ghost use Rattle.fints_lines.specs.Lines.{MAX_TEXT};
 ghost use Rattle.fints_cases.specs.Answers.{IsAnswer};
+ghost use Rattle.fints_lines.specs.declared.lines.TheConstants.{MAX_TEXT};
 ghost use Rattle.fints_cases.specs.Cases.{value_text, field_text, codes_text, answer_text, case_text, AreFields, IsNamedValue, IsCaseOf};
 
 use crate::case::{Answer, Case};

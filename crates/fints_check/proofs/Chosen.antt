@@ -8,7 +8,7 @@ use Rattle.fints_fields.specs.Fields.{field_accounts}
 use Rattle.fints_fields.specs.Listed.{account_text}
 use Rattle.fints_cases.specs.declared.values.NamedValue.{NamedValue}
 use Rattle.fints_field_rows.specs.declared.fields.NamedField.{NamedField}
-use Rattle.fints_rules.specs.Permits.{Granted}
+use Rattle.fints_rules_permissions.specs.Permits.{Granted}
 use Rattle.fints_rules.specs.declared.facts.MessageFacts.{MessageFacts}
 use Rattle.fints_rules.specs.declared.rule.Rule.{Rule}
 use Rattle.fints_script.specs.Steps.{StepValue}

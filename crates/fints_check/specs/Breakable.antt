@@ -1,8 +1,8 @@
--- What the message of a step can break. Words of private contracts and proofs alone stand last, under a heading.
+-- What the message of a step can break by itself. Words of private contracts and proofs alone stand last, under a heading.
 use Rattle.std.specs.Prelude.{ℕ, List}
 use Rattle.fints_cases.specs.declared.values.NamedValue.{NamedValue}
 use Rattle.fints_rules.specs.Breaks.{Breaks}
-use Rattle.fints_rules.specs.Permits.{Granted}
+use Rattle.fints_rules_permissions.specs.Permits.{Granted}
 use Rattle.fints_rules.specs.declared.rule.Rule.{Rule}
 use Rattle.fints_rules.specs.declared.rule.Rule.TheVariants as rule
 use Rattle.fints_script.specs.Plans.{Admits}
@@ -10,7 +10,7 @@ use Rattle.fints_script.specs.Scripts.{ScriptValue}
 use Rattle.fints_script.specs.Steps.{StepValue}
 use Rattle.fints_wire.specs.Views.{message_view}
 
--- a rule other than P2 and P3: it hangs on neither the message's number nor its size
+-- a rule other than P2 and P3: whether a message breaks it by itself hangs on neither its number nor its size (P11 it never does)
 abbrev pub IsOther : Rule → Type 0
 IsOther rule.Number = ⊥
 IsOther rule.Size = ⊥

@@ -100,7 +100,7 @@ pub fn respond<F: Files, O: Out, E: Out>(
     ensures unread { IsUsage asked.now → (F.reads files.new).calls ≡ (F.reads files.old).calls }
     ensures read { result ≤ 3 → NoneFailed (F.reads files.old) (F.reads files.new) }
     ensures within { result ≤ 3 → FilesAreWithin asked.now (F.holds files.old) }
-    ensures calls { (F.reads files.new).calls ≤ (F.reads files.old).calls + 4 * MAX_READS }
+    ensures calls { (F.reads files.new).calls ≤ (F.reads files.old).calls + 5 * MAX_READS }
 {
     match asked {
         Asked::Help(text) => deliver(text.as_bytes(), 0, out, err),
@@ -133,7 +133,7 @@ pub fn execute<F: Files, O: Out, E: Out>(
     ensures responds { (what : Asked) × (words.now ≡ [] → what ≡ asked.Run request.BuiltIn false)
         × IsResponse what (F.holds files.old) (F.reads files.old) (F.reads files.new)
         (O.failed_calls out.old) (O.failed_calls out.new) result (O.told out.old) (O.told out.new) }
-    ensures calls { (F.reads files.new).calls ≤ (F.reads files.old).calls + 4 * MAX_READS }
+    ensures calls { (F.reads files.new).calls ≤ (F.reads files.old).calls + 5 * MAX_READS }
 {
     let asked = read_words(alloc, words);
     respond(alloc, &asked, files, out, err)

@@ -4,17 +4,20 @@ use Rattle.fints_params.specs.Captures.{IsReadOf}
 use Rattle.fints_params.specs.Parameters.{Rows}
 use Rattle.fints_params.specs.declared.fault.ParamFault.{ParamFault}
 use Rattle.fints_texts.specs.Judge.{IsVerdictOf, IsJudgeRefusal}
+use Rattle.fints_texts.specs.JudgeAfter.{IsJudgeAfterRefusal, IsVerdictAfter}
 use Rattle.fints_reports.specs.Told.{IsRefused, IsToldOf}
 use Rattle.fints_reports.specs.declared.telling.Wanted.{Wanted}
 use Rattle.fints_reports.specs.RunText.{IsRunOf, IsRunRefusal}
 use Rattle.fints_reports.specs.Verified.{IsUnverified, IsVerifiedOf}
 use Rattle.fints_texts.specs.Show.{IsMemoryOrShowFault, IsShowOf}
+use Rattle.fints_words.specs.declared.words.EarlierFiles.{EarlierFiles}
+use Rattle.fints_words.specs.declared.words.JudgeFiles.{JudgeFiles}
 use Rattle.fints_words.specs.declared.words.RunFiles.{RunFiles}
 use Rattle.fints_words.specs.declared.words.ScriptFiles.{ScriptFiles}
 use Rattle.fints_commands.specs.declared.failing.Failure.{Failure}
 use Rattle.fints_commands.specs.declared.failing.Refusal.{Refusal}
 use Rattle.fints_commands.specs.declared.failing.Failure.TheVariants.{Input, Unread}
-use Rattle.fints_commands.specs.Commands.{failure_status, ShowsFile, IsShowFailure, FailsToShow, JudgesFile, IsJudgeFailure, FailsToJudge, TellsFiles, IsScriptFailure, FailsToTell, VerifiesFiles, IsVerifyFailure, FailsToVerify, RunsFiles, IsRunFailure, FailsToRun}
+use Rattle.fints_commands.specs.Commands.{failure_status, ShowsFile, IsShowFailure, FailsToShow, JudgesAfterFiles, JudgesFiles, IsJudgeAfterFailure, IsJudgeFailure, FailsToJudge, FailsToJudgeAfter, TellsFiles, IsScriptFailure, FailsToTell, VerifiesFiles, IsVerifyFailure, FailsToVerify, RunsFiles, IsRunFailure, FailsToRun}
 use Rattle.fints_commands.specs.Loading.{NamedFile, AreWithin}
 use Rattle.fints_files.specs.Captures.{IsReadFrom}
 use Rattle.fints_files.specs.Streams.{IsFile}
@@ -31,12 +34,29 @@ of_files P (Some a) None c x y z h i j p = tt
 of_files P (Some a) (Some b) None x y z h i j p = tt
 of_files P (Some a) (Some b) (Some c) x y z h i j p = subst (λ r. P a b r) j (subst (λ q. P a q z) i (subst (λ q. P q y z) h p))
 
-pub files_judged : (a b c : Option (List ℕ)) (params : Result Rows ParamFault) (y z : List ℕ) (status : ℕ) (text : List ℕ) → IsReadFrom a params → IsFile b y → IsFile c z → ((capture : List ℕ) → IsReadOf capture params → IsVerdictOf capture y z status text) → JudgesFile a b c status text
-files_judged a b c params y z status text (x, h, read) i j p = of_files (λ q r s. IsVerdictOf q r s status text) a b c x y z h i j (p x read)
+pub files_judged : (holds : List ℕ → Option (List ℕ)) (named : JudgeFiles) (params : Result Rows ParamFault) (y z : List ℕ) (status : ℕ) (text : List ℕ) → IsReadFrom (holds named.params.now) params → IsFile (holds named.orders.now) y → IsFile (holds named.message.now) z
+    → ((capture : List ℕ) → IsReadOf capture params → IsVerdictOf capture y z status text) → JudgesFiles holds named status text
+files_judged holds named params y z status text (x, h, read) i j p = of_files (λ q r s. IsVerdictOf q r s status text) (holds named.params.now) (holds named.orders.now) (holds named.message.now) x y z h i j (p x read)
 
-pub files_failed : (a b c : Option (List ℕ)) (params : Result Rows ParamFault) (y z : List ℕ) (f : Failure) → ((capture : List ℕ) → IsReadOf capture params → IsJudgeFailure capture y z f) → IsReadFrom a params → IsFile b y → IsFile c z → FailsToJudge a b c f
-files_failed a b c params y z (Unread named) p (x, h, read) i j = absurd (p x read)
-files_failed a b c params y z (Input f) p (x, h, read) i j = of_files (λ q r s. IsJudgeRefusal q r s f) a b c x y z h i j (p x read)
+pub files_failed : (holds : List ℕ → Option (List ℕ)) (named : JudgeFiles) (params : Result Rows ParamFault) (y z : List ℕ) (f : Failure) → ((capture : List ℕ) → IsReadOf capture params → IsJudgeFailure capture y z f) → IsReadFrom (holds named.params.now) params → IsFile (holds named.orders.now) y → IsFile (holds named.message.now) z
+    → FailsToJudge holds named f
+files_failed holds named params y z (Unread option) p (x, h, read) i j = absurd (p x read)
+files_failed holds named params y z (Input f) p (x, h, read) i j = of_files (λ q r s. IsJudgeRefusal q r s f) (holds named.params.now) (holds named.orders.now) (holds named.message.now) x y z h i j (p x read)
+
+pub files_judged_after : (holds : List ℕ → Option (List ℕ)) (named : JudgeFiles) (earlier : EarlierFiles) (params : Result Rows ParamFault) (y b a z : List ℕ) (status : ℕ) (text : List ℕ) → IsReadFrom (holds named.params.now) params → IsFile (holds named.orders.now) y → IsFile (holds earlier.before.now) b → IsFile (holds earlier.answer.now) a → IsFile (holds named.message.now) z
+    → ((capture : List ℕ) → IsReadOf capture params → IsVerdictAfter capture y b a z status text) → JudgesAfterFiles holds named earlier status text
+files_judged_after holds named earlier params y b a z status text (x, h, read) i k l j p =
+    of_files (λ q r s. IfSome (holds earlier.before.now) (λ before. IfSome (holds earlier.answer.now) (λ answer. IsVerdictAfter q r before answer s status text))) (holds named.params.now) (holds named.orders.now) (holds named.message.now) x y z h i j
+    (of_file (λ before. IfSome (holds earlier.answer.now) (λ answer. IsVerdictAfter x y before answer z status text)) (holds earlier.before.now) b k
+    (of_file (λ answer. IsVerdictAfter x y b answer z status text) (holds earlier.answer.now) a l (p x read)))
+
+pub files_not_judged_after : (holds : List ℕ → Option (List ℕ)) (named : JudgeFiles) (earlier : EarlierFiles) (params : Result Rows ParamFault) (y b a z : List ℕ) (f : Failure) → ((capture : List ℕ) → IsReadOf capture params → IsJudgeAfterFailure capture y b a z f) → IsReadFrom (holds named.params.now) params → IsFile (holds named.orders.now) y → IsFile (holds earlier.before.now) b → IsFile (holds earlier.answer.now) a → IsFile (holds named.message.now) z
+    → FailsToJudgeAfter holds named earlier f
+files_not_judged_after holds named earlier params y b a z (Unread option) p (x, h, read) i k l j = absurd (p x read)
+files_not_judged_after holds named earlier params y b a z (Input f) p (x, h, read) i k l j =
+    of_files (λ q r s. IfSome (holds earlier.before.now) (λ before. IfSome (holds earlier.answer.now) (λ answer. IsJudgeAfterRefusal q r before answer s f))) (holds named.params.now) (holds named.orders.now) (holds named.message.now) x y z h i j
+    (of_file (λ before. IfSome (holds earlier.answer.now) (λ answer. IsJudgeAfterRefusal x y before answer z f)) (holds earlier.before.now) b k
+    (of_file (λ answer. IsJudgeAfterRefusal x y b answer z f) (holds earlier.answer.now) a l (p x read)))
 
 pub files_told : (wanted : Wanted) (holds : List ℕ → Option (List ℕ)) (named : ScriptFiles) (params : Result Rows ParamFault) (y z : List ℕ) (status : ℕ) (text : List ℕ) → IsReadFrom (holds named.params.now) params → IsFile (holds named.orders.now) y → IsFile (holds named.script.now) z
     → ((capture : List ℕ) → IsReadOf capture params → IsToldOf wanted capture y z status text) → TellsFiles wanted holds named status text

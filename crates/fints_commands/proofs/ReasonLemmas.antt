@@ -9,7 +9,7 @@ use Rattle.fints_commands.specs.declared.failing.Failure.TheVariants.{Input, Unr
 use Rattle.fints_files.specs.declared.reading.LoadFault.{LoadFault}
 use Rattle.fints_files.specs.declared.reading.LoadFault.TheVariants as load_faults
 use Rattle.fints_texts.specs.declared.fault.Fault.TheVariants as texts
-use Rattle.fints_commands.specs.Commands.{IsUnreadAs, IsJudgeFailure, IsScriptFailure, IsVerifyFailure, failure_status}
+use Rattle.fints_commands.specs.Commands.{IsUnreadAs, IsJudgeAfterFailure, IsJudgeFailure, IsScriptFailure, IsVerifyFailure, failure_status}
 use Rattle.fints_commands.specs.Loading.{NamedFile, FollowsReading}
 use Rattle.fints_files.specs.Loading.{IsLoadFault, NoneFailed}
 use Rattle.fints_files.specs.Streams.{ReadCounts}
@@ -37,6 +37,11 @@ pub judge_follows : (files : List NamedFile) (holds : List ℕ → Option (List 
     → FollowsReading files holds a b f
 judge_follows files holds a b held params y z (Unread option) (x, h, read) p none = absurd (p x read)
 judge_follows files holds a b held params y z (Input f) r p none = none
+
+pub judge_after_follows : (files : List NamedFile) (holds : List ℕ → Option (List ℕ)) (a b : ReadCounts) (held : Option (List ℕ)) (params : Result Rows ParamFault) (y before answer z : List ℕ) (f : Failure) → IsReadFrom held params → ((capture : List ℕ) → IsReadOf capture params → IsJudgeAfterFailure capture y before answer z f) → NoneFailed a b
+    → FollowsReading files holds a b f
+judge_after_follows files holds a b held params y before answer z (Unread option) (x, h, read) p none = absurd (p x read)
+judge_after_follows files holds a b held params y before answer z (Input f) r p none = none
 
 pub tell_follows : (files : List NamedFile) (holds : List ℕ → Option (List ℕ)) (a b : ReadCounts) (held : Option (List ℕ)) (params : Result Rows ParamFault) (y z : List ℕ) (f : Failure) → IsReadFrom held params → ((capture : List ℕ) → IsReadOf capture params → IsScriptFailure capture y z f) → NoneFailed a b
     → FollowsReading files holds a b f

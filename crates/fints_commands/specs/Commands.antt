@@ -5,13 +5,16 @@ use Rattle.fints_commands.specs.declared.failing.Failure.{Failure}
 use Rattle.fints_commands.specs.declared.failing.Failure.TheVariants.{Input, Unread}
 use Rattle.fints_commands.specs.declared.failing.Refusal.{Refusal}
 use Rattle.fints_words.specs.declared.words.Request.{Request}
-use Rattle.fints_words.specs.declared.words.Request.TheVariants.{BuiltIn, Show, Judge, Check, Explain, Certify, Verify}
+use Rattle.fints_words.specs.declared.words.Request.TheVariants.{BuiltIn, Show, Judge, JudgeAfter, Check, Explain, Certify, Verify}
 use Rattle.fints_words.specs.declared.words.Request.TheVariants as requests
+use Rattle.fints_words.specs.declared.words.EarlierFiles.{EarlierFiles}
+use Rattle.fints_words.specs.declared.words.JudgeFiles.{JudgeFiles}
 use Rattle.fints_words.specs.declared.words.RunFiles.{RunFiles}
 use Rattle.fints_words.specs.declared.words.ScriptFiles.{ScriptFiles}
 use Rattle.fints_commands.specs.BuiltIn as built_in
 use Rattle.fints_texts.specs.Show.{IsShowOf, IsMemoryOrShowFault}
 use Rattle.fints_texts.specs.Judge.{IsVerdictOf, IsJudgeRefusal}
+use Rattle.fints_texts.specs.JudgeAfter.{IsJudgeAfterRefusal, IsVerdictAfter}
 use Rattle.fints_reports.specs.Told.{IsRefused, IsToldOf}
 use Rattle.fints_reports.specs.declared.telling.Wanted.{Wanted}
 use Rattle.fints_reports.specs.declared.telling.Wanted.TheVariants.{Report, Cases, Certificate}
@@ -34,9 +37,15 @@ abbrev pub ShowsFile : Option (List ℕ) → List ℕ → Type 0
 ShowsFile held text = IfSome held (λ capture. IsShowOf capture text)
 
 -- the status and the text judge the message, where the bytes of the files are told
-abbrev pub JudgesFile : Option (List ℕ) → Option (List ℕ) → Option (List ℕ) → ℕ → List ℕ → Type 0
-JudgesFile params orders message status text =
-    IfSome params (λ capture. IfSome orders (λ table. IfSome message (λ bytes. IsVerdictOf capture table bytes status text)))
+abbrev pub JudgesFiles : (List ℕ → Option (List ℕ)) → JudgeFiles → ℕ → List ℕ → Type 0
+JudgesFiles holds named status text =
+    IfSome (holds named.params.now) (λ capture. IfSome (holds named.orders.now) (λ table. IfSome (holds named.message.now) (λ bytes. IsVerdictOf capture table bytes status text)))
+
+-- they judge it behind the message before it and the answer to that
+abbrev pub JudgesAfterFiles : (List ℕ → Option (List ℕ)) → JudgeFiles → EarlierFiles → ℕ → List ℕ → Type 0
+JudgesAfterFiles holds named earlier status text =
+    IfSome (holds named.params.now) (λ capture. IfSome (holds named.orders.now) (λ table. IfSome (holds named.message.now) (λ bytes.
+    IfSome (holds earlier.before.now) (λ before. IfSome (holds earlier.answer.now) (λ answer. IsVerdictAfter capture table before answer bytes status text)))))
 
 -- the status and the text tell what is wanted of the script, where the bytes of the files are told
 abbrev pub TellsFiles : Wanted → (List ℕ → Option (List ℕ)) → ScriptFiles → ℕ → List ℕ → Type 0
@@ -57,7 +66,8 @@ RunsFiles holds named only text =
 abbrev pub AnswersTo : Request → (List ℕ → Option (List ℕ)) → ℕ → List ℕ → Type 0
 AnswersTo BuiltIn holds status text = IsToldOf Report built_in.capture built_in.orders built_in.script status text
 AnswersTo (Show params) holds status text = (status ≡ 0) × ShowsFile (holds params.now) text
-AnswersTo (Judge params orders message) holds status text = JudgesFile (holds params.now) (holds orders.now) (holds message.now) status text
+AnswersTo (Judge named) holds status text = JudgesFiles holds named status text
+AnswersTo (JudgeAfter named earlier) holds status text = JudgesAfterFiles holds named earlier status text
 AnswersTo (Check named) holds status text = TellsFiles Report holds named status text
 AnswersTo (Explain named) holds status text = TellsFiles Cases holds named status text
 AnswersTo (Certify named) holds status text = TellsFiles Certificate holds named status text
@@ -70,10 +80,16 @@ FailsToShow held (Unread named) = Unit {0}
 FailsToShow held (Input f) = IfSome held (λ capture. IsMemoryOrShowFault capture f)
 
 -- why a message isn't judged, where the bytes of the files are told
-abbrev pub FailsToJudge : Option (List ℕ) → Option (List ℕ) → Option (List ℕ) → Failure → Type 0
-FailsToJudge params orders message (Unread named) = Unit {0}
-FailsToJudge params orders message (Input f) =
-    IfSome params (λ capture. IfSome orders (λ table. IfSome message (λ bytes. IsJudgeRefusal capture table bytes f)))
+abbrev pub FailsToJudge : (List ℕ → Option (List ℕ)) → JudgeFiles → Failure → Type 0
+FailsToJudge holds named (Unread option) = Unit {0}
+FailsToJudge holds named (Input f) =
+    IfSome (holds named.params.now) (λ capture. IfSome (holds named.orders.now) (λ table. IfSome (holds named.message.now) (λ bytes. IsJudgeRefusal capture table bytes f)))
+
+abbrev pub FailsToJudgeAfter : (List ℕ → Option (List ℕ)) → JudgeFiles → EarlierFiles → Failure → Type 0
+FailsToJudgeAfter holds named earlier (Unread option) = Unit {0}
+FailsToJudgeAfter holds named earlier (Input f) =
+    IfSome (holds named.params.now) (λ capture. IfSome (holds named.orders.now) (λ table. IfSome (holds named.message.now) (λ bytes.
+    IfSome (holds earlier.before.now) (λ before. IfSome (holds earlier.answer.now) (λ answer. IsJudgeAfterRefusal capture table before answer bytes f)))))
 
 -- why nothing is told of loaded bytes
 abbrev pub IsScriptFailure : List ℕ → List ℕ → List ℕ → Failure → Type 0
@@ -102,7 +118,8 @@ FailsToRun holds named only (Input f) =
 abbrev pub FailsFor : Request → (List ℕ → Option (List ℕ)) → Failure → Type 0
 FailsFor BuiltIn holds failure = IsScriptFailure built_in.capture built_in.orders built_in.script failure
 FailsFor (Show params) holds failure = FailsToShow (holds params.now) failure
-FailsFor (Judge params orders message) holds failure = FailsToJudge (holds params.now) (holds orders.now) (holds message.now) failure
+FailsFor (Judge named) holds failure = FailsToJudge holds named failure
+FailsFor (JudgeAfter named earlier) holds failure = FailsToJudgeAfter holds named earlier failure
 FailsFor (Check named) holds failure = FailsToTell holds named failure
 FailsFor (Explain named) holds failure = FailsToTell holds named failure
 FailsFor (Certify named) holds failure = FailsToTell holds named failure
@@ -131,6 +148,11 @@ IsShowFailure capture (Input f) = IsMemoryOrShowFault capture f
 abbrev pub IsJudgeFailure : List ℕ → List ℕ → List ℕ → Failure → Type 0
 IsJudgeFailure params orders message (Unread named) = ⊥
 IsJudgeFailure params orders message (Input f) = IsJudgeRefusal params orders message f
+
+-- why they aren't judged behind the message before and the answer to that
+abbrev pub IsJudgeAfterFailure : List ℕ → List ℕ → List ℕ → List ℕ → List ℕ → Failure → Type 0
+IsJudgeAfterFailure params orders before answer message (Unread named) = ⊥
+IsJudgeAfterFailure params orders before answer message (Input f) = IsJudgeAfterRefusal params orders before answer message f
 
 -- why nothing is told of loaded bytes of a certificate
 abbrev pub IsVerifyFailure : List ℕ → List ℕ → List ℕ → List ℕ → Failure → Type 0

@@ -5,9 +5,13 @@ use Rattle.fints_commands.specs.declared.failing.Failure.TheVariants.{Input, Unr
 use Rattle.fints_files.specs.Streams.{ReadCounts}
 use Rattle.fints_files.specs.Loading.{HasFailed, NoneFailed, IsLonger, AreUsedUp}
 use Rattle.fints_words.specs.declared.words.Request.{Request}
-use Rattle.fints_words.specs.declared.words.Request.TheVariants.{BuiltIn, Show, Judge, Check, Explain, Certify, Verify}
+use Rattle.fints_words.specs.declared.words.Request.TheVariants.{BuiltIn, Show, Judge, JudgeAfter, Check, Explain, Certify, Verify}
 use Rattle.fints_words.specs.declared.words.Request.TheVariants as requests
+use Rattle.fints_words.specs.declared.words.EarlierFiles.{EarlierFiles}
+use Rattle.fints_words.specs.declared.words.JudgeFiles.{JudgeFiles}
 use Rattle.fints_words.specs.declared.words.RunFiles.{RunFiles}
+use Rattle.fints_lines.specs.declared.lines.TheConstants.{MAX_TEXT}
+use Rattle.fints_syntax.specs.declared.capture.TheConstants.{MAX_CAPTURE}
 use Rattle.fints_words.specs.declared.words.ScriptFiles.{ScriptFiles}
 
 -- the file of an option: its path, and how many bytes it may have
@@ -16,21 +20,26 @@ pub record NamedFile : Type 0 where
   pub path : List ℕ
   pub limit : ℕ
 
--- a capture or a message
+-- a capture, a message or an answer
 abbrev pub wire_file : List ℕ → List ℕ → NamedFile
-wire_file option path = record { option = option; path = path; limit = 4194304 }
+wire_file option path = record { option = option; path = path; limit = MAX_CAPTURE }
 
 -- an order table, a script, a case or a certificate
 abbrev pub text_file : List ℕ → List ℕ → NamedFile
-text_file option path = record { option = option; path = path; limit = 1048576 }
+text_file option path = record { option = option; path = path; limit = MAX_TEXT }
 
 abbrev pub script_files : ScriptFiles → List NamedFile
 script_files named =
     wire_file (codes "params") named.params.now ∷ text_file (codes "orders") named.orders.now ∷ text_file (codes "script") named.script.now ∷ []
 
-abbrev pub judge_files : List ℕ → List ℕ → List ℕ → List NamedFile
-judge_files params orders message =
-    wire_file (codes "params") params ∷ text_file (codes "orders") orders ∷ wire_file (codes "message") message ∷ []
+abbrev pub judge_files : JudgeFiles → List NamedFile
+judge_files named =
+    wire_file (codes "params") named.params.now ∷ text_file (codes "orders") named.orders.now ∷ wire_file (codes "message") named.message.now ∷ []
+
+abbrev pub judge_after_files : JudgeFiles → EarlierFiles → List NamedFile
+judge_after_files named earlier =
+    wire_file (codes "params") named.params.now ∷ text_file (codes "orders") named.orders.now
+    ∷ wire_file (codes "before") earlier.before.now ∷ wire_file (codes "answer") earlier.answer.now ∷ wire_file (codes "message") named.message.now ∷ []
 
 abbrev pub verify_files : ScriptFiles → List ℕ → List NamedFile
 verify_files named certificate =
@@ -45,7 +54,8 @@ run_files named =
 abbrev pub files_of : Request → List NamedFile
 files_of BuiltIn = []
 files_of (Show params) = wire_file (codes "params") params.now ∷ []
-files_of (Judge params orders message) = judge_files params.now orders.now message.now
+files_of (Judge named) = judge_files named
+files_of (JudgeAfter named earlier) = judge_after_files named earlier
 files_of (Check named) = script_files named
 files_of (Explain named) = script_files named
 files_of (Certify named) = script_files named

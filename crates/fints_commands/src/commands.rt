@@ -5,30 +5,27 @@ ghost use Rattle.fints_params.specs.Captures.{IsReadOf};
 ghost use Rattle.fints_files.specs.Captures.{IsReadFrom};
 ghost use Rattle.fints_commands.specs.BuiltIn as texts;
 ghost use Rattle.fints_texts.specs.Judge.{IsVerdictOf};
+ghost use Rattle.fints_texts.specs.JudgeAfter.{IsVerdictAfter};
 ghost use Rattle.fints_texts.specs.Show.{IsShowOf};
 ghost use Rattle.fints_reports.specs.Told.{IsToldOf};
 ghost use Rattle.fints_reports.specs.declared.telling.Wanted.TheVariants as wants;
 ghost use Rattle.fints_reports.specs.RunText.{IsRunOf};
 ghost use Rattle.fints_reports.specs.Verified.{IsVerifiedOf};
-ghost use Rattle.fints_commands.specs.Loading.{wire_file, script_files, judge_files, verify_files, run_files, files_of, AreWithin, FollowsReading};
+ghost use Rattle.fints_commands.specs.Loading.{wire_file, script_files, judge_after_files, judge_files, verify_files, run_files, files_of, AreWithin, FollowsReading};
 ghost use Rattle.fints_files.specs.Loading.{MAX_READS, NoneFailed};
-ghost use Rattle.fints_commands.specs.Commands.{failure_status, IsJudgeFailure, ShowsFile, JudgesFile, FailsToJudge, TellsFiles, IsScriptFailure, FailsToTell, IsRunFailure, RunsFiles, FailsToRun, IsVerifyFailure, VerifiesFiles, FailsToVerify, AnswersTo, IsUnloaded, IsShowFailure, FailsToShow, FailsFor, HintsIfAsked};
+ghost use Rattle.fints_commands.specs.Commands.{failure_status, IsJudgeAfterFailure, IsJudgeFailure, ShowsFile, JudgesAfterFiles, JudgesFiles, FailsToJudge, FailsToJudgeAfter, TellsFiles, IsScriptFailure, FailsToTell, IsRunFailure, RunsFiles, FailsToRun, IsVerifyFailure, VerifiesFiles, FailsToVerify, AnswersTo, IsUnloaded, IsShowFailure, FailsToShow, FailsFor, HintsIfAsked};
 
 use crate::built_in;
 use crate::failing::{Failure, Refusal, refused, unread};
 use fints_files::{Capture, Files, ReadCapture, load, load_into};
 use fints_hints::Inputs;
+use fints_lines::MAX_TEXT;
 use fints_params::{ParamFault, Params};
 use fints_reports::{Wanted, run_case, tell_read, tell_script, verify_read};
-use fints_texts::{Reply, judge_read, show};
-use fints_words::{Request, RunFiles, ScriptFiles};
+use fints_syntax::MAX_CAPTURE;
+use fints_texts::{Reply, judge_after_read, judge_read, show};
+use fints_words::{EarlierFiles, JudgeFiles, Request, RunFiles, ScriptFiles};
 use std::alloc::Global;
-
-// A capture or a message has at most this many bytes.
-const MAX_CAPTURE: usize = 4_194_304;
-
-// An order table, a script, a case or a certificate has at most this many bytes.
-const MAX_TEXT: usize = 1_048_576;
 
 // Loads the file of an option.
 fn load_option<F: Files>(
@@ -274,30 +271,26 @@ fn judge_loaded(
 }
 
 #[tactic(auto, using(crate::proofs::FileLemmas::files_judged, crate::proofs::FileLemmas::files_failed))]
-fn judge_file<F: Files>(
+fn judge_files<F: Files>(
     alloc: Global,
     files: &mut F,
-    params: &str,
-    orders: &str,
-    message: &str,
+    named: &JudgeFiles<'_>,
     hints: bool,
 ) -> Result<Reply, Refusal>
     ensures status { IfOk result (λ reply. reply.status ≤ 1) }
-    ensures judged { IfOk result (λ reply.
-        JudgesFile (F.holds files.old params.now) (F.holds files.old orders.now) (F.holds files.old message.now) reply.status reply.text.items) }
-    ensures refused { IfErr result (λ r. FailsToJudge (F.holds files.old params.now) (F.holds files.old orders.now) (F.holds files.old message.now) r.failure) }
+    ensures judged { IfOk result (λ reply. JudgesFiles (F.holds files.old) named.now reply.status reply.text.items) }
+    ensures refused { IfErr result (λ r. FailsToJudge (F.holds files.old) named.now r.failure) }
     ensures read { IfOk result (λ _. NoneFailed (F.reads files.old) (F.reads files.new)) }
-    ensures within { IfOk result (λ _. AreWithin (judge_files params.now orders.now message.now) (F.holds files.old)) }
-    ensures refused_within { IfErr result (λ r. failure_status r.failure ≤ 3 → AreWithin (judge_files params.now orders.now message.now) (F.holds files.old)) }
-    ensures reason { IfErr result (λ r.
-        FollowsReading (judge_files params.now orders.now message.now) (F.holds files.old) (F.reads files.old) (F.reads files.new) r.failure) }
+    ensures within { IfOk result (λ _. AreWithin (judge_files named.now) (F.holds files.old)) }
+    ensures refused_within { IfErr result (λ r. failure_status r.failure ≤ 3 → AreWithin (judge_files named.now) (F.holds files.old)) }
+    ensures reason { IfErr result (λ r. FollowsReading (judge_files named.now) (F.holds files.old) (F.reads files.old) (F.reads files.new) r.failure) }
     ensures calls { (F.reads files.new).calls ≤ (F.reads files.old).calls + 3 * MAX_READS }
     ensures keeps { F.holds files.new ≡ F.holds files.old }
     ensures unasked { IfErr result (λ r. HintsIfAsked hints r) }
 {
-    let capture = load_capture(alloc, files, params, hints)?;
-    let orders = load_option(alloc, files, "orders", orders, MAX_TEXT, hints)?;
-    let message = load_option(alloc, files, "message", message, MAX_CAPTURE, hints)?;
+    let capture = load_capture(alloc, files, named.params, hints)?;
+    let orders = load_option(alloc, files, "orders", named.orders, MAX_TEXT, hints)?;
+    let message = load_option(alloc, files, "message", named.message, MAX_CAPTURE, hints)?;
     let ReadCapture { params, bytes } = capture;
     let inputs = Inputs {
         params: bytes.as_slice(),
@@ -306,6 +299,69 @@ fn judge_file<F: Files>(
         ..Inputs::none()
     };
     judge_loaded(alloc, params, &inputs, hints)
+}
+
+fn judge_after_loaded(
+    alloc: Global,
+    params: Result<Params, ParamFault>,
+    inputs: &Inputs<'_>,
+    hints: bool,
+) -> Result<Reply, Refusal>
+    ensures status { IfOk result (λ reply. reply.status ≤ 1) }
+    ensures judged { IfOk result (λ reply. (capture : List ℕ) → IsReadOf capture params
+        → IsVerdictAfter capture inputs.now.orders.now inputs.now.before.now inputs.now.answer.now inputs.now.message.now reply.status reply.text.items) }
+    ensures refused { IfErr result (λ r. (capture : List ℕ) → IsReadOf capture params
+        → IsJudgeAfterFailure capture inputs.now.orders.now inputs.now.before.now inputs.now.answer.now inputs.now.message.now r.failure) }
+    ensures unasked { IfErr result (λ r. HintsIfAsked hints r) }
+{
+    match judge_after_read(
+        alloc,
+        params,
+        inputs.orders,
+        inputs.before,
+        inputs.answer,
+        inputs.message,
+    ) {
+        Ok(reply) => Ok(reply),
+        Err(fault) => Err(refused(alloc, fault, inputs, hints)),
+    }
+}
+
+#[tactic(auto, using(crate::proofs::FileLemmas::files_judged_after, crate::proofs::FileLemmas::files_not_judged_after))]
+fn judge_after_files<F: Files>(
+    alloc: Global,
+    files: &mut F,
+    named: &JudgeFiles<'_>,
+    earlier: &EarlierFiles<'_>,
+    hints: bool,
+) -> Result<Reply, Refusal>
+    ensures status { IfOk result (λ reply. reply.status ≤ 1) }
+    ensures judged { IfOk result (λ reply. JudgesAfterFiles (F.holds files.old) named.now earlier.now reply.status reply.text.items) }
+    ensures refused { IfErr result (λ r. FailsToJudgeAfter (F.holds files.old) named.now earlier.now r.failure) }
+    ensures read { IfOk result (λ _. NoneFailed (F.reads files.old) (F.reads files.new)) }
+    ensures within { IfOk result (λ _. AreWithin (judge_after_files named.now earlier.now) (F.holds files.old)) }
+    ensures refused_within { IfErr result (λ r. failure_status r.failure ≤ 3 → AreWithin (judge_after_files named.now earlier.now) (F.holds files.old)) }
+    ensures reason { IfErr result (λ r.
+        FollowsReading (judge_after_files named.now earlier.now) (F.holds files.old) (F.reads files.old) (F.reads files.new) r.failure) }
+    ensures calls { (F.reads files.new).calls ≤ (F.reads files.old).calls + 5 * MAX_READS }
+    ensures keeps { F.holds files.new ≡ F.holds files.old }
+    ensures unasked { IfErr result (λ r. HintsIfAsked hints r) }
+{
+    let capture = load_capture(alloc, files, named.params, hints)?;
+    let orders = load_option(alloc, files, "orders", named.orders, MAX_TEXT, hints)?;
+    let before = load_option(alloc, files, "before", earlier.before, MAX_CAPTURE, hints)?;
+    let answer = load_option(alloc, files, "answer", earlier.answer, MAX_CAPTURE, hints)?;
+    let message = load_option(alloc, files, "message", named.message, MAX_CAPTURE, hints)?;
+    let ReadCapture { params, bytes } = capture;
+    let inputs = Inputs {
+        params: bytes.as_slice(),
+        orders: orders.as_slice(),
+        before: before.as_slice(),
+        answer: answer.as_slice(),
+        message: message.as_slice(),
+        ..Inputs::none()
+    };
+    judge_after_loaded(alloc, params, &inputs, hints)
 }
 
 fn run_loaded(
@@ -371,18 +427,18 @@ pub fn perform<F: Files>(
     ensures within { IfOk result (λ _. AreWithin (files_of request.now) (F.holds files.old)) }
     ensures refused_within { IfErr result (λ r. failure_status r.failure ≤ 3 → AreWithin (files_of request.now) (F.holds files.old)) }
     ensures reason { IfErr result (λ r. FollowsReading (files_of request.now) (F.holds files.old) (F.reads files.old) (F.reads files.new) r.failure) }
-    ensures calls { (F.reads files.new).calls ≤ (F.reads files.old).calls + 4 * MAX_READS }
+    ensures calls { (F.reads files.new).calls ≤ (F.reads files.old).calls + 5 * MAX_READS }
     ensures keeps { F.holds files.new ≡ F.holds files.old }
     ensures unasked { IfErr result (λ r. HintsIfAsked hints r) }
 {
     match request {
         Request::BuiltIn => check_built_in(alloc),
         Request::Show { params } => show_file(alloc, files, params, hints),
-        Request::Judge {
-            params,
-            orders,
-            message,
-        } => judge_file(alloc, files, params, orders, message, hints),
+        Request::Judge(named) => judge_files(alloc, files, named, hints),
+        Request::JudgeAfter {
+            files: named,
+            earlier,
+        } => judge_after_files(alloc, files, named, earlier, hints),
         Request::Check(named) => tell_files(alloc, files, named, Wanted::Report, hints),
         Request::Explain(named) => tell_files(alloc, files, named, Wanted::Cases, hints),
         Request::Certify(named) => tell_files(alloc, files, named, Wanted::Certificate, hints),

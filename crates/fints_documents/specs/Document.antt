@@ -9,11 +9,12 @@ use Rattle.std.specs.BTreeMap.{BTreeMap}
 use Rattle.std.specs.declared.alloc.Global.{Global}
 use Rattle.fints_documents.specs.declared.document.Unread.{Unread}
 use Rattle.fints_documents.specs.declared.document.Unread.TheVariants.{NotToml, Memory}
+use Rattle.fints_lines.specs.declared.lines.TheConstants.{MAX_TEXT}
 use Rattle.toml.specs.Data.{Data, integer, Items, no_items, item, Members, no_members, member}
 
--- the table that bytes are, as toml reads them: at most 1,048,576 bytes of UTF-8
+-- the table that bytes are, as toml reads them: at most MAX_TEXT bytes of UTF-8
 unfoldable pub document : List ℕ → Option Members
-document text = if nat_le (length text) 1048576 && is_utf8 text then parse_document text else None
+document text = if nat_le (length text) MAX_TEXT && is_utf8 text then parse_document text else None
 
 -- the values of an array, in order
 abbrev pub item_list : Items → List Data

@@ -4,6 +4,7 @@ ghost use Rattle.toml.specs.Data.{get_member};
 ghost use Rattle.toml.specs.View.{view, table_view};
 ghost use Rattle.fints_documents.specs.Document.{Reads, document, is_among, only_keys, number_between};
 
+pub use fints_lines::MAX_TEXT;
 use std::alloc::Global;
 use toml::{Table, Value};
 
@@ -13,9 +14,6 @@ pub enum Unread {
     NotToml,
     Memory,
 }
-
-/// The most bytes of a text.
-pub const MAX_TEXT: usize = 1_048_576;
 
 /// The table that the bytes are.
 #[tactic(auto, using(crate::proofs::DocumentLemmas::document_some, crate::proofs::DocumentLemmas::document_long, crate::proofs::DocumentLemmas::document_none))]

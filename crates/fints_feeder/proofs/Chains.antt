@@ -2,7 +2,7 @@
 use Rattle.std.proofs.Common.{◌≡◌, ◌≢◌, ℕ, ◌+◌, ◌-◌, ◌≤◌, List, [], ◌∷◌, ◌++◌, length, map, refl, ap, ◌∙◌, sym, subst, arith, inl, inr, append_assoc, length-append, Option, Some, None}
 use Rattle.std.specs.List.{flat_map}
 use Rattle.std.proofs.lemmas.List.{append-nil, map-append}
-use Rattle.fints_syntax.specs.Capture.{IsPlacedCapture, MAX_CAPTURE, piece_bytes}
+use Rattle.fints_syntax.specs.Capture.{IsPlacedCapture, piece_bytes}
 use Rattle.fints_syntax.specs.Laws.{CutFault, CutSegments}
 use Rattle.fints_syntax.specs.Owned.{segment_of}
 use Rattle.fints_syntax.specs.Streams.{IsSplit, PieceFaultAt, moved_by, whole_len}
@@ -11,6 +11,7 @@ use Rattle.fints_syntax.specs.declared.fault.SyntaxFault.{SyntaxFault}
 use Rattle.fints_syntax.specs.declared.fault.SyntaxKind.TheVariants.{Memory}
 use Rattle.fints_segments.specs.declared.item.OwnedSegment.{OwnedSegment}
 use Rattle.fints_feeder.specs.Feeding.{Fed, IsEnded, IsGiven, IsRefused, unfed}
+use Rattle.fints_syntax.specs.declared.capture.TheConstants.{MAX_CAPTURE}
 use Rattle.fints_feeder.specs.Laws.{AreGiven, HasGiven}
 
 abbrev values : List Placed → List OwnedSegment

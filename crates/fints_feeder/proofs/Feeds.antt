@@ -2,7 +2,7 @@
 use Rattle.std.proofs.Common.{◌≡◌, ◌≢◌, ℕ, ◌+◌, ◌<◌, ◌≤◌, List, [], ◌∷◌, ◌++◌, length, map, take, drop, refl, ap, ◌∙◌, sym, subst, arith, inl, inr, Option, Some, None}
 use Rattle.std.specs.List.{AllByRecursion, count_by}
 use Rattle.std.proofs.lemmas.List.{drop_all, length-drop, length-append, take-append-drop, length-map}
-use Rattle.fints_syntax.specs.Capture.{IsBreak, MAX_CAPTURE}
+use Rattle.fints_syntax.specs.Capture.{IsBreak}
 use Rattle.fints_syntax.specs.Laws.{FewSegments, ReadIsSplit}
 use Rattle.fints_syntax.specs.Owned.{segment_of}
 use Rattle.fints_syntax.specs.Streams.{IsBegun, IsReadTo, IsStreamFault, moved_by, place_in, is_quote, IsRest, IsReady}
@@ -12,6 +12,7 @@ use Rattle.fints_syntax.specs.declared.fault.SyntaxKind.TheVariants.{Memory, Inc
 use Rattle.fints_segments.specs.declared.item.OwnedSegment.{OwnedSegment}
 use Rattle.fints_syntax.specs.declared.stream.Begun.{Begun}
 use Rattle.fints_syntax.specs.declared.stream.ReadTo.{ReadTo}
+use Rattle.fints_syntax.specs.declared.capture.TheConstants.{MAX_CAPTURE}
 use Rattle.fints_feeder.specs.Feeding.{Fed, IsGiven, IsRefused, IsCut, IsUnended, stopped}
 
 pub none_of : (o : Option ℕ) → ((x : ℕ) → o ≡ Some x → ⊥) → o ≡ None

@@ -1,12 +1,13 @@
 -- A feeder: what it keeps of a stream that comes in pieces, what each piece gives, and why a piece or the end is refused.
 use Rattle.std.specs.Prelude.{◌≡◌, ◌⊎◌, ◌+◌, ◌-◌, ◌≤◌, ℕ, List, [], ◌∷◌, ◌++◌, length, map, Option, Some, None}
 use Rattle.std.specs.List.{AllByRecursion}
-use Rattle.fints_syntax.specs.Capture.{IsBreak, MAX_CAPTURE}
+use Rattle.fints_syntax.specs.Capture.{IsBreak}
 use Rattle.fints_syntax.specs.Owned.{segment_of}
 use Rattle.fints_syntax.specs.Streams.{IsSplit, IsMemory, PieceFaultAt, moved_by, whole_len, place_in}
 use Rattle.fints_syntax.specs.declared.capture.Placed.{Placed}
 use Rattle.fints_syntax.specs.declared.fault.SyntaxFault.{SyntaxFault}
 use Rattle.fints_syntax.specs.declared.fault.SyntaxKind.TheVariants.{Incomplete, Failed}
+use Rattle.fints_syntax.specs.declared.capture.TheConstants.{MAX_CAPTURE}
 use Rattle.fints_segments.specs.declared.item.OwnedSegment.{OwnedSegment}
 
 -- What a feeder keeps: the bytes after the last whole segment, their offset in the stream, once it has met a fault the fault's offset, and the places of the segments that the last piece gave, one that was refused for want of memory not counted.

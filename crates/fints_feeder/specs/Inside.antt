@@ -1,8 +1,8 @@
 -- What a feeder shows of its fields, and what it keeps of them. The model of a feeder alone cites these words.
 use Rattle.std.specs.Prelude.{◌+◌, ◌≤◌, length, drop}
-use Rattle.fints_syntax.specs.Capture.{MAX_CAPTURE}
 use Rattle.fints_syntax.specs.Streams.{IsReady, IsBegun}
 use Rattle.fints_feeder.specs.Feeding.{Fed}
+use Rattle.fints_syntax.specs.declared.capture.TheConstants.{MAX_CAPTURE}
 use Rattle.fints_feeder.specs.declared.feeder.Feeder.TheInside.{Inside}
 
 abbrev pub fed_of : Inside → Fed

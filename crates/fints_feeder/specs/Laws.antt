@@ -1,13 +1,14 @@
 -- The laws of a stream that is fed in pieces. Each but `AreGiven` and `HasGiven`, which they speak of, is a clause of `any_cutting`.
 use Rattle.std.specs.Prelude.{◌≡◌, ◌≢◌, ◌+◌, ◌≤◌, ℕ, List, [], ◌∷◌, ◌++◌, length, map, None}
 use Rattle.std.specs.List.{flat_map}
-use Rattle.fints_syntax.specs.Capture.{IsPlacedCapture, MAX_CAPTURE}
+use Rattle.fints_syntax.specs.Capture.{IsPlacedCapture}
 use Rattle.fints_syntax.specs.Owned.{segment_of}
 use Rattle.fints_syntax.specs.Streams.{IsSplit, PieceFaultAt, whole_len}
 use Rattle.fints_syntax.specs.declared.capture.Placed.{Placed}
 use Rattle.fints_syntax.specs.declared.fault.SyntaxFault.{SyntaxFault}
 use Rattle.fints_syntax.specs.declared.fault.SyntaxKind.TheVariants.{Memory}
 use Rattle.fints_segments.specs.declared.item.OwnedSegment.{OwnedSegment}
+use Rattle.fints_syntax.specs.declared.capture.TheConstants.{MAX_CAPTURE}
 use Rattle.fints_feeder.specs.Feeding.{Fed, IsEnded, IsGiven, IsRefused, unfed}
 
 -- a feeder takes these pieces, one after the other, and they give these segments

@@ -1,4 +1,6 @@
 -- What an entry of `field` is: the name and class of a field, or the first kind of fault in it.
+use Rattle.fints_fields.specs.declared.counted.TheConstants.{MAX_LEN}
+use Rattle.fints_fields.specs.declared.listing.TheConstants.{MAX_ITEMS, MAX_VALUES}
 use Rattle.std.specs.Prelude.{codes, ℕ, nat_le, nat_lt, Bool, true, false, ◌&&◌, ◌||◌, if◌then◌else◌, List, [], ◌∷◌, length, Ok, Err}
 use Rattle.std.specs.Cmp.Lexicographic.{pointwise}
 use Rattle.std.specs.List.{list_all, list_any}
@@ -37,9 +39,9 @@ field_value field = (field.name, class_value field.class)
 
 -- ---- bounds
 
--- 0 to 10,000
+-- a length of values
 abbrev pub length_at : List ℕ → Members → Part ℕ
-length_at key ms = required key ms >>= integer_in 0 10000
+length_at key ms = required key ms >>= integer_in 0 MAX_LEN
 
 abbrev pub lengths_in : Members → Part (ℕ × ℕ)
 lengths_in ms = both (length_at (codes "min") ms) (length_at (codes "max") ms)
@@ -55,9 +57,9 @@ abbrev pub text_in : Data → Part (List ℕ)
 text_in (string s) = if is_latin1 s then Ok (latin1 s) else Err kinds.NotLatin1
 text_in _ = Err kinds.WrongKind
 
--- an account has 1 to 6 texts
+-- an account has some texts, and not too many
 abbrev pub is_item_count : ℕ → Bool
-is_item_count n = nat_lt 0 n && nat_le n 6
+is_item_count n = nat_lt 0 n && nat_le n MAX_ITEMS
 
 abbrev pub account_of : List Data → Part (List (List ℕ))
 account_of ds = if is_item_count (length ds) then each text_in ds else Err kinds.WrongKind
@@ -73,12 +75,12 @@ abbrev pub some_are_same : {X : Type 0} → (X → X → Bool) → List X → Bo
 some_are_same same [] = false
 some_are_same same (x ∷ xs) = list_any (same x) xs || some_are_same same xs
 
--- 1 to 100 values
+-- some values, and not too many
 abbrev pub is_value_count : ℕ → Bool
-is_value_count n = nat_lt 0 n && nat_le n 100
+is_value_count n = nat_lt 0 n && nat_le n MAX_VALUES
 
 abbrev pub is_short : List ℕ → Bool
-is_short s = nat_le (length s) 10000
+is_short s = nat_le (length s) MAX_LEN
 
 -- a class of these values: no two are the same, there are neither none nor too many, and each fits
 abbrev pub listing : {X : Type 0} → (X → X → Bool) → (X → Bool) → (List X → ClassValue) → List X → Part ClassValue

@@ -7,16 +7,12 @@ ghost use Rattle.fints_field_rows.specs.Parts.{Gives, each, seen};
 use crate::fault::FaultKind;
 use crate::parts::{both, entries_of, integer_in, more, required};
 use crate::text::{is_latin1, latin1};
-use fints_fields::{Account, AccountValue, Accounts, Field, OneOf, Texts, are_distinct};
+use fints_fields::{
+    Account, AccountValue, Accounts, Field, MAX_ITEMS, MAX_LEN, OneOf, Texts, are_distinct,
+};
 use fints_segments::Bytes;
 use std::alloc::Global;
 use toml::{Table, Value};
-
-/// The greatest length of a field.
-const MAX_LEN: u16 = 10_000;
-
-/// The most texts of an account.
-const MAX_ITEMS: usize = 6;
 
 // ---- bounds
 
@@ -110,7 +106,7 @@ pub fn texts_class(alloc: Global, texts: Vec<Bytes>) -> Result<Field, FaultKind>
 
 /// A field of one of these accounts, however many there are.
 pub fn accounts_class(alloc: Global, accounts: Vec<AccountValue>) -> Result<Field, FaultKind>
-    requires { All (λ account. (1 ≤ length account) × (length account ≤ 6)) accounts.items }
+    requires { All (λ account. (1 ≤ length account) × (length account ≤ MAX_ITEMS)) accounts.items }
     ensures { Gives class_value result (accounts_class accounts.items) }
 {
     let distinct = are_distinct(alloc, &accounts)?;

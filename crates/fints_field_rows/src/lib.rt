@@ -7,6 +7,7 @@ mod field_entry;
 mod field_values;
 mod fields;
 pub mod laws;
+pub mod limits;
 mod named_rows;
 pub mod names;
 pub mod parts;

@@ -1,4 +1,6 @@
 -- Values that are listed one by one.
+use Rattle.fints_fields.specs.declared.counted.TheConstants.{MAX_LEN}
+use Rattle.fints_fields.specs.declared.listing.TheConstants.{MAX_ITEMS, MAX_VALUES}
 use Rattle.std.specs.Prelude.{ℕ, ◌≡◌, ◌<◌, ◌≤◌, ◌⊎◌, max, nat_lt, if◌then◌else◌, List, [], ◌∷◌, ◌++◌, length, map, All}
 use Rattle.std.specs.Str.{bytes_eq}
 use Rattle.fints_segments.specs.declared.item.OwnedItem.{OwnedItem}
@@ -60,14 +62,14 @@ account_text account = joined (account_items account)
 abbrev pub account_len : List (List ℕ) → ℕ
 account_len account = length (account_text account)
 
--- a listed text has at most 10,000 bytes
+-- a listed text is not too long
 abbrev pub IsShort : List ℕ → Type 0
-IsShort text = length text ≤ 10000
+IsShort text = length text ≤ MAX_LEN
 
--- 1 to 6 such texts
+-- some such texts, and not too many
 pub record IsAccountList (account : List (List ℕ)) : Type 0 where
   pub some : 1 ≤ length account
-  pub few : length account ≤ 6
+  pub few : length account ≤ MAX_ITEMS
   pub short : All IsShort account
 
 -- the greatest of the numbers

@@ -2,6 +2,7 @@
 ghost use Rattle.std.specs.Prelude.{◌≡◌, ◌↔◌, ◌+◌, ◌^◌, ◌<◌, ◌≤◌, IfOk, IfSome, IsSome, IsTrue, length, refl, replicate};
 ghost use Rattle.std.specs.Fmt.{decimal};
 ghost use Rattle.std.proofs.Common.{arith};
+ghost use Rattle.fints_fields.specs.declared.counted.TheConstants.{MAX_LEN};
 ghost use Rattle.fints_fields.specs.Classes.{Counts, IsByte, IsCharacter, as_binary, as_text, longest_character, shortest_character};
 ghost use Rattle.fints_fields.specs.Lengths.{binary_len, text_len};
 ghost use Rattle.fints_fields.specs.ClassLaws.{binary_least, binary_most, counted_least, counted_most, longest_has, shortest_has, text_least, text_most};
@@ -12,10 +13,10 @@ use fints_segments::{Memory, written_binary_len, written_len};
 use std::alloc::Global;
 
 /// The most bytes of a field's value.
-const MAX_LEN: u16 = 10_000;
+pub const MAX_LEN: u16 = 10_000;
 
 fn are_bounds(min: u16, max: u16) -> bool
-    ensures { IsTrue result ↔ ((min ≤ max) × (max ≤ 10000)) }
+    ensures { IsTrue result ↔ ((min ≤ max) × (max ≤ MAX_LEN)) }
 {
     min <= max && max <= MAX_LEN
 }
@@ -41,13 +42,13 @@ pub struct Text {
     pub min: u16,
     pub max: u16,
     pub ghost ordered: { min ≤ max },
-    pub ghost short: { max ≤ 10000 },
+    pub ghost short: { max ≤ MAX_LEN },
 }
 
 impl Text {
     /// A field of `min` to `max` bytes.
     pub fn new(alphabet: Alphabet, min: u16, max: u16) -> Option<Text>
-        ensures some { IsSome result ↔ ((min ≤ max) × (max ≤ 10000)) }
+        ensures some { IsSome result ↔ ((min ≤ max) × (max ≤ MAX_LEN)) }
         ensures kept { IfSome result (λ c. (c.alphabet ≡ alphabet) × (c.min ≡ min) × (c.max ≡ max)) }
     {
         if !are_bounds(min, max) {
@@ -112,14 +113,14 @@ pub struct Bin {
     pub min: u16,
     pub max: u16,
     pub ghost ordered: { min ≤ max },
-    pub ghost short: { max ≤ 10000 },
+    pub ghost short: { max ≤ MAX_LEN },
     pub ghost some: { 1 ≤ min },
 }
 
 impl Bin {
     /// A field of `min` to `max` bytes.
     pub fn new(min: u16, max: u16) -> Option<Bin>
-        ensures some { IsSome result ↔ ((1 ≤ min) × (min ≤ max) × (max ≤ 10000)) }
+        ensures some { IsSome result ↔ ((1 ≤ min) × (min ≤ max) × (max ≤ MAX_LEN)) }
         ensures bounds { IfSome result (λ c. (c.min ≡ min) × (c.max ≡ max)) }
     {
         if min == 0 || !are_bounds(min, max) {

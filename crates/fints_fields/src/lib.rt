@@ -13,9 +13,9 @@ mod name;
 
 pub use alphabet::Alphabet;
 pub use class::FieldClass;
-pub use counted::{Bin, Text};
+pub use counted::{Bin, MAX_LEN, Text};
 pub use field::Field;
 pub use listed::{AccountValue, Listed, are_distinct};
-pub use listing::{Account, OneOf};
+pub use listing::{Account, MAX_ITEMS, MAX_VALUES, OneOf};
 pub use lists::{Accounts, Texts};
 pub use name::Name;

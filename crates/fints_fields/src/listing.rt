@@ -2,28 +2,27 @@
 ghost use Rattle.std.specs.Prelude.{◌≡◌, ◌≢◌, ◌↔◌, ◌<◌, ◌≤◌, All, IfOk, IfSome, IsSome, IsTrue, [], length, map, refl};
 ghost use Rattle.std.specs.List.{AllPairs};
 ghost use Rattle.std.proofs.Common.{arith};
+ghost use Rattle.fints_fields.specs.declared.listing.TheConstants.{MAX_VALUES};
 ghost use Rattle.fints_fields.specs.Classes.{as_text};
 ghost use Rattle.fints_fields.specs.Lengths.{text_len};
 ghost use Rattle.fints_fields.specs.Listed.{IsAccountList, IsListed, IsShort, account_items, account_len, account_text, first_longest, first_shortest, first_with, greatest};
 ghost use Rattle.fints_fields.specs.ListedLaws.{account_as_items, account_some, longest_listed, longest_most, shortest_least, shortest_listed};
 
 use crate::class::FieldClass;
+use crate::counted::MAX_LEN;
 use crate::listed::{AccountValue, Listed, are_few_distinct, is_listed, longest_of, shortest_of};
 use crate::lists::{Accounts, Texts};
 use fints_segments::{Bytes, Memory, written_len};
 use std::alloc::Global;
 
 /// The most listed values.
-const MAX_VALUES: usize = 100;
+pub const MAX_VALUES: usize = 100;
 
 /// The most items of a listed account.
-const MAX_ITEMS: usize = 6;
-
-/// The most bytes of a listed text.
-const MAX_TEXT: usize = 10_000;
+pub const MAX_ITEMS: usize = 6;
 
 fn is_count(count: usize) -> bool
-    ensures { IsTrue result ↔ ((1 ≤ count) × (count ≤ 100)) }
+    ensures { IsTrue result ↔ ((1 ≤ count) × (count ≤ MAX_VALUES)) }
 {
     count > 0 && count <= MAX_VALUES
 }
@@ -31,7 +30,7 @@ fn is_count(count: usize) -> bool
 fn is_short(text: &Bytes) -> bool
     ensures { IsTrue result ↔ IsShort text.now }
 {
-    text.as_slice().len() <= MAX_TEXT
+    text.as_slice().len() <= usize::from(MAX_LEN)
 }
 
 fn are_short(texts: &[Bytes]) -> bool
@@ -70,7 +69,7 @@ pub struct OneOf {
     pub values: Texts,
     most_written: u64,
     pub ghost some: { 1 ≤ length values },
-    pub ghost few: { length values ≤ 100 },
+    pub ghost few: { length values ≤ MAX_VALUES },
     pub ghost short: { All IsShort values },
     pub ghost distinct: { AllPairs (λ s t. s ≢ t) values },
     pub ghost most: { most_written ≡ text_len (first_longest text_len [] values) },
@@ -79,7 +78,7 @@ pub struct OneOf {
 /// A field of texts that may be listed.
 fn of_texts(values: Texts) -> OneOf
     requires some { 1 ≤ length values }
-    requires few { length values ≤ 100 }
+    requires few { length values ≤ MAX_VALUES }
     requires short { All IsShort values }
     requires distinct { AllPairs (λ s t. s ≢ t) values }
     ensures { result.values ≡ values }
@@ -94,7 +93,7 @@ fn of_texts(values: Texts) -> OneOf
 impl OneOf {
     /// A field of these values.
     pub fn new(values: Texts) -> Option<OneOf>
-        ensures some { IsSome result ↔ ((1 ≤ length values) × (length values ≤ 100) × All IsShort values × AllPairs (λ s t. s ≢ t) values) }
+        ensures some { IsSome result ↔ ((1 ≤ length values) × (length values ≤ MAX_VALUES) × All IsShort values × AllPairs (λ s t. s ≢ t) values) }
         ensures values { IfSome result (λ c. c.values ≡ values) }
     {
         let texts = values.as_slice();
@@ -159,7 +158,7 @@ pub struct Account {
     most_written: u64,
     most_items: u32,
     pub ghost some: { 1 ≤ length values },
-    pub ghost few: { length values ≤ 100 },
+    pub ghost few: { length values ≤ MAX_VALUES },
     pub ghost each: { All IsAccountList values },
     pub ghost distinct: { AllPairs (λ a b. a ≢ b) values },
     pub ghost most: { most_written ≡ account_len (first_longest account_len [] values) },
@@ -170,7 +169,7 @@ pub struct Account {
 #[tactic(auto, using(crate::proofs::Greatest::few_items))]
 fn of_accounts(values: Accounts) -> Account
     requires some { 1 ≤ length values }
-    requires few { length values ≤ 100 }
+    requires few { length values ≤ MAX_VALUES }
     requires each { All IsAccountList values }
     requires distinct { AllPairs (λ a b. a ≢ b) values }
     ensures { result.values ≡ values }
@@ -187,7 +186,7 @@ fn of_accounts(values: Accounts) -> Account
 impl Account {
     /// A field of these values.
     pub fn new(values: Accounts) -> Option<Account>
-        ensures some { IsSome result ↔ ((1 ≤ length values) × (length values ≤ 100) × All IsAccountList values × AllPairs (λ a b. a ≢ b) values) }
+        ensures some { IsSome result ↔ ((1 ≤ length values) × (length values ≤ MAX_VALUES) × All IsAccountList values × AllPairs (λ a b. a ≢ b) values) }
         ensures values { IfSome result (λ c. c.values ≡ values) }
     {
         let accounts = values.as_slice();

@@ -1,12 +1,13 @@
 -- What loading a file gives, and why it gives nothing.
 use Rattle.std.specs.Prelude.{min, ◌+◌, ◌-◌, ◌^◌, ◌≡◌, ◌≤◌, ◌<◌, ℕ, List, length, Option, IfSome}
 use Rattle.fints_files.specs.declared.reading.LoadFault.{LoadFault}
+use Rattle.fints_files.specs.declared.reading.TheConstants.{MAX_CALLS}
 use Rattle.fints_files.specs.declared.reading.LoadFault.TheVariants.{Unreadable, TooLong, TooManyCalls, Memory}
 use Rattle.fints_files.specs.Streams.{ReadCounts, one_more, IsFile}
 
 -- a file is read with at most so many calls
 abbrev pub MAX_READS : ℕ
-MAX_READS = 5000000
+MAX_READS = MAX_CALLS
 
 -- no read failed
 abbrev pub NoneFailed : ReadCounts → ReadCounts → Type 0

@@ -4,22 +4,20 @@ use crate::keys::must_be;
 use crate::places::{Told, numbered, told, told_at};
 use fints_field_rows::FaultKind;
 use fints_field_rows::text::is_latin1;
+use fints_fields::{MAX_LEN, MAX_VALUES};
 use fints_syntax::Memory;
 use std::alloc::Global;
 use std::collections::BTreeMap;
 use toml::Value;
 
-/// The most characters of a listed text.
-const MOST: usize = 10_000;
-
 fn long_text(alloc: Global, text: &str) -> Told {
     let count = text.chars().count();
-    if count <= MOST {
+    if count <= usize::from(MAX_LEN) {
         return Ok(None);
     }
     told(
         alloc,
-        format_args!(" has {count} characters, and may have {MOST}"),
+        format_args!(" has {count} characters, and may have {MAX_LEN}"),
     )
 }
 
@@ -117,10 +115,10 @@ fn twice_text(alloc: Global, values: &[Value]) -> Told {
 
 fn limit_text(alloc: Global, accounts: bool, values: &[Value]) -> Told {
     let count = values.len();
-    if count == 0 || count > 100 {
+    if count == 0 || count > MAX_VALUES {
         return told(
             alloc,
-            format_args!(": values has {count} entries, and must have 1 to 100"),
+            format_args!(": values has {count} entries, and must have 1 to {MAX_VALUES}"),
         );
     }
     first_slip(alloc, FaultKind::Limit, accounts, values)

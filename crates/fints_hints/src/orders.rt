@@ -10,8 +10,8 @@ use fints_hint_words::keys::{
 use fints_hint_words::places::{Told, row_at, row_named, text_in, told, told_at};
 use fints_hint_words::quoting::Quoted;
 use fints_hint_words::unread::why_no_toml;
-use fints_rules::TableFault;
 use fints_rules::kinds::is_plain_order;
+use fints_rules::{MAX_ROWS, TableFault};
 use fints_syntax::Kind;
 use std::alloc::Global;
 use toml::{Table, Value};
@@ -164,7 +164,7 @@ fn many_rows(alloc: Global, rows: &[Value]) -> Told {
     let count = rows.len();
     told(
         alloc,
-        format_args!("order has {count} rows, and may have 1000"),
+        format_args!("order has {count} rows, and may have {MAX_ROWS}"),
     )
 }
 
@@ -173,7 +173,7 @@ fn rows_hint(alloc: Global, number: u16, table: &Table) -> Told {
     if number == 0 {
         return no_rows(alloc, table);
     }
-    if rows.len() > 1000 {
+    if rows.len() > MAX_ROWS {
         return many_rows(alloc, rows);
     }
     bad_row(alloc, rows, number)

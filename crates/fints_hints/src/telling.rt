@@ -6,6 +6,7 @@ use crate::orders::orders_hint;
 use crate::plans::plan_hint;
 use crate::runs::run_hint;
 use fints_cases::CaseFault;
+use fints_rules::JudgeFault;
 use fints_script_hints::script_hint;
 use fints_segment_hints::{message_hint, params_hint};
 use fints_syntax::Memory;
@@ -20,6 +21,8 @@ pub struct Inputs<'a> {
     pub script: &'a [u8],
     pub case: &'a [u8],
     pub certificate: &'a [u8],
+    pub before: &'a [u8],
+    pub answer: &'a [u8],
     pub message: &'a [u8],
 }
 
@@ -32,6 +35,8 @@ impl Inputs<'_> {
             script: b"",
             case: b"",
             certificate: b"",
+            before: b"",
+            answer: b"",
             message: b"",
         }
     }
@@ -51,6 +56,11 @@ pub fn hint(alloc: Global, fault: &Fault, inputs: &Inputs<'_>) -> Result<Option<
         Fault::NotAdmitted => admitted_hint(alloc, inputs.script, inputs.case),
         Fault::NoMessage { number } => run_hint(alloc, *number, inputs.script, inputs.case),
         Fault::Certificate { line } => cert_hint(alloc, *line, inputs.certificate),
+        Fault::Before { offset } => {
+            let fault = JudgeFault::NotAMessage { offset: *offset };
+            message_hint(alloc, &fault, inputs.before)
+        }
+        Fault::Answer(fault) => params_hint(alloc, fault, inputs.answer),
         Fault::Message(fault) => message_hint(alloc, fault, inputs.message),
     }
 }

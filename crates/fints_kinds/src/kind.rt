@@ -130,6 +130,13 @@ impl Kind {
         padded_kind(text)
     }
 
+    /// Whether the identifier is spelled so.
+    pub fn is(&self, text: &[u8]) -> bool
+        ensures { result ≡ bytes_eq self.now text.now }
+    {
+        self.as_bytes() == text
+    }
+
     /// The characters of the identifier.
     pub fn as_bytes(&self) -> &[u8]
         ensures { result.now ≡ self.now }

@@ -1,6 +1,7 @@
 -- Where a text begins with no line that ends within the limit.
 use Rattle.std.proofs.Common.{ℕ, ◌-◌, ◌<◌, ◌≡◌, List, length, subst, ap, sym, ◌∙◌, arith}
-use Rattle.fints_lines.specs.Lines.{MAX_TEXT, NoFeed, IsSplit, HasNoNextLine}
+use Rattle.fints_lines.specs.Lines.{NoFeed, IsSplit, HasNoNextLine}
+use Rattle.fints_lines.specs.declared.lines.TheConstants.{MAX_TEXT}
 use Rattle.fints_lines.specs.LineLaws.{split_same, split_none}
 
 pub no_feed_no_line : (whole : ℕ) (rest : List ℕ) → NoFeed rest → HasNoNextLine whole rest

@@ -1,12 +1,9 @@
 -- Texts of lines: what lines spell, what a reader finds in a text, and which of its lines is refused first. A line stands without the line feed (10) that ends it. Words of private contracts and proofs alone stand last, under a heading.
+use Rattle.fints_lines.specs.declared.lines.TheConstants.{MAX_TEXT}
 use Rattle.std.specs.Prelude.{ℕ, ◌+◌, ◌-◌, ◌≡◌, ◌≢◌, ◌≤◌, Option, MatchOption, List, [], ◌∷◌, ◌++◌, length}
 use Rattle.std.specs.List.{All, flat_map}
 
 -- ---- lines and their text
-
--- the most bytes of a text
-abbrev pub MAX_TEXT : ℕ
-MAX_TEXT = 1048576
 
 -- lines, each with a line feed after it
 abbrev pub text_of_lines : List (List ℕ) → List ℕ

@@ -3,4 +3,4 @@
 
 mod lines;
 
-pub use lines::{after, next_line, split_once};
+pub use lines::{MAX_TEXT, after, next_line, split_once};

@@ -4,7 +4,7 @@ ghost use Rattle.std.specs.List.{All};
 ghost use Rattle.fints_lines.specs.Lines.{IsSplit, IsNextLine, HasNoNextLine};
 
 /// The most bytes of a text.
-const MAX_TEXT: usize = 1_048_576;
+pub const MAX_TEXT: usize = 1_048_576;
 
 /// What stands after these bytes.
 pub fn after<'a>(text: &'a [u8], front: &[u8]) -> Option<&'a [u8]>

@@ -13,4 +13,3 @@ mod tail;
 mod values;
 
 pub use message::{JudgeFault, Message, read_message};
-pub use part::is_kind;

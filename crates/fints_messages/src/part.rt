@@ -21,19 +21,12 @@ pub enum Part {
     Other,
 }
 
-/// Whether the kind is spelled so.
-pub fn is_kind(kind: Kind, text: &[u8]) -> bool
-    ensures { result ≡ bytes_eq kind text.now }
-{
-    kind.as_bytes() == text
-}
-
 /// Whether the segment has this kind and version.
 pub fn is_named(view: &SegmentView<'_>, kind: &[u8], version: u16) -> bool
     ensures { result ≡ is_named (segment_of view.now) kind.now version }
 {
     let head = view.head();
-    is_kind(head.id, kind) && head.version == version
+    head.id.is(kind) && head.version == version
 }
 
 /// What the segment is.

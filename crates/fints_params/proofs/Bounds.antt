@@ -4,7 +4,7 @@ use Rattle.std.specs.List.{AllByRecursion, AllZip, flat_map}
 use Rattle.std.proofs.lemmas.List.{length-append}
 use Rattle.fints_segments.specs.Spelling.{Spelled}
 use Rattle.fints_segments.specs.Segment.{segment_bytes}
-use Rattle.fints_syntax.specs.Capture.{Piece, piece_bytes, IsPiece, placed_from, IsPlacedCapture, MAX_CAPTURE}
+use Rattle.fints_syntax.specs.Capture.{Piece, piece_bytes, IsPiece, placed_from, IsPlacedCapture}
 use Rattle.fints_syntax.specs.Places.{start_of}
 use Rattle.fints_syntax.specs.PlaceLaws.{start_within}
 use Rattle.fints_syntax.specs.Owned.{segment_of}
@@ -17,6 +17,7 @@ use Rattle.fints_syntax.specs.Streams.{place_in}
 use Rattle.fints_params.specs.Opened.{Part, part, closed, ReadsAs, DataStandFor, SealedStandsFor, StandsFor, StandFor, IsPlacedValue, IsValuesOf}
 use Rattle.fints_params.specs.Steps.{IsWithin}
 use Rattle.fints_params.proofs.RowsSoFar.{skipped_more}
+use Rattle.fints_syntax.specs.declared.capture.TheConstants.{MAX_CAPTURE}
 use Rattle.fints_params.proofs.Sizes.{data_within, skipped_within}
 
 within_from : (at : ℕ) (ps : List Piece) → at + length (flat_map piece_bytes ps) ≤ MAX_CAPTURE → AllByRecursion IsWithin (placed_from at ps)

@@ -3,7 +3,7 @@ use Rattle.std.proofs.Common.{◌≡◌, ◌≢◌, ℕ, ◌+◌, ◌-◌, ◌<�
 use Rattle.std.specs.Option.{is_some}
 use Rattle.std.specs.List.{AllByRecursion, AllZip, flat_map}
 use Rattle.std.proofs.lemmas.List.{append-nil, drop-append-le, drop-drop, drop_all, take_all, length-append, length-drop, take-append-drop}
-use Rattle.fints_syntax.specs.Capture.{MAX_CAPTURE, IsBreak, ReadsPlaced, FaultsAt}
+use Rattle.fints_syntax.specs.Capture.{IsBreak, ReadsPlaced, FaultsAt}
 use Rattle.fints_syntax.specs.Laws.{BegunGoesOn, ReadIsSplit, CutSegments, CutFault, FaultLasts, PieceFaultIsCaptureFault}
 use Rattle.fints_syntax.specs.Streams.{IsBegun, IsReady, IsReadTo, IsStreamFault, PieceFaultAt, moved_by, whole_len}
 use Rattle.fints_syntax.specs.declared.capture.Placed as syntax
@@ -21,6 +21,7 @@ use Rattle.fints_params.specs.Faults.{IsMemoryOr, fault_from, fault_of}
 use Rattle.fints_params.specs.Opened.{IsValuesOf, IsPlacedValue}
 use Rattle.fints_params.specs.Pieces.{Received, unread, AreReceived, IsPieceFault, IsNotReceived, IsUnfinished}
 use Rattle.fints_params.specs.Steps.{IsWithin, ReadsNext, StopsNext, HasRead, HasCome, ReadsCapture, IsRefusedInViews}
+use Rattle.fints_syntax.specs.declared.capture.TheConstants.{MAX_CAPTURE}
 use Rattle.fints_params.proofs.Viewed.{views_none, views_push, views_stopped, views_stay}
 
 -- how many bytes the whole segments take

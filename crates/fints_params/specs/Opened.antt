@@ -2,7 +2,7 @@
 use Rattle.std.specs.Prelude.{◌≡◌, ◌≢◌, ◌⊎◌, ◌+◌, ◌≤◌, ℕ, true, false, List, [], ◌∷◌, ◌++◌, length, map, Option, Some, None}
 use Rattle.std.specs.List.{AllZip}
 use Rattle.fints_segments.specs.Spelling.{Spelled}
-use Rattle.fints_syntax.specs.Capture.{IsCapture, IsPlacedCapture, IsCaptureFault, MAX_CAPTURE}
+use Rattle.fints_syntax.specs.Capture.{IsCapture, IsPlacedCapture, IsCaptureFault}
 use Rattle.fints_syntax.specs.Owned.{segment_of, segments_of}
 use Rattle.fints_syntax.specs.Streams.{place_in}
 use Rattle.fints_syntax.specs.declared.capture.Placed as syntax
@@ -12,6 +12,7 @@ use Rattle.fints_segments.specs.declared.item.OwnedSegment.{OwnedSegment}
 use Rattle.fints_params.specs.declared.fault.ParamFault.{ParamFault}
 use Rattle.fints_params.specs.declared.fault.ParamFault.TheVariants.{Syntax, BadElement}
 use Rattle.fints_params.specs.declared.placed.PlacedSegment.{PlacedSegment}
+use Rattle.fints_syntax.specs.declared.capture.TheConstants.{MAX_CAPTURE}
 use Rattle.fints_params.specs.Sealed.{is_sealed, data_of}
 
 -- the bytes are these segments, by their values

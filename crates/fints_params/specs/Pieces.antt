@@ -1,6 +1,5 @@
 -- A reader of parameters: what it keeps of a capture that comes in pieces, and why a piece or the end is refused. Words of private contracts and proofs alone stand last, under a heading.
 use Rattle.std.specs.Prelude.{◌≡◌, ◌⊎◌, ◌≤◌, ℕ, List, [], ◌∷◌, ◌++◌, length, Option, Some, None}
-use Rattle.fints_syntax.specs.Capture.{MAX_CAPTURE}
 use Rattle.fints_syntax.specs.Streams.{IsSplit, PieceFaultAt}
 use Rattle.fints_syntax.specs.declared.capture.Placed.{Placed}
 use Rattle.fints_syntax.specs.declared.fault.SyntaxFault.{SyntaxFault}
@@ -8,6 +7,7 @@ use Rattle.fints_syntax.specs.declared.fault.SyntaxKind.TheVariants.{Failed}
 use Rattle.fints_params.specs.declared.fault.ParamFault.{ParamFault}
 use Rattle.fints_params.specs.declared.fault.ParamFault.TheVariants.{Memory, Syntax}
 use Rattle.fints_params.specs.Faults.{IsMemoryOr}
+use Rattle.fints_syntax.specs.declared.capture.TheConstants.{MAX_CAPTURE}
 use Rattle.fints_params.specs.Captures.{IsParamFault}
 
 -- What a reader keeps: the stream so far, and once it has met a fault the fault's offset alone.

@@ -2,7 +2,6 @@
 use Rattle.std.specs.Prelude.{◌≡◌, ◌+◌, ◌≤◌, ℕ, ◌∷◌, [], ◌++◌, List, length, map, Option, Some, None}
 use Rattle.std.specs.List.{AllZip}
 use Rattle.fints_segments.specs.Segment.{segment_bytes}
-use Rattle.fints_syntax.specs.Capture.{MAX_CAPTURE}
 use Rattle.fints_syntax.specs.Streams.{IsReadTo}
 use Rattle.fints_syntax.specs.declared.capture.Placed as syntax
 use Rattle.fints_syntax.specs.declared.stream.ReadTo.{ReadTo}
@@ -11,6 +10,7 @@ use Rattle.fints_params.specs.declared.fault.ParamFault.{ParamFault}
 use Rattle.fints_params.specs.declared.placed.PlacedSegment.{PlacedSegment}
 use Rattle.fints_params.specs.Sealed.{data_of}
 use Rattle.fints_params.specs.Opened.{Part, part, closed, StandsFor, SealedStandsFor, StandFor, IsPlacedValue, IsValuesOf}
+use Rattle.fints_syntax.specs.declared.capture.TheConstants.{MAX_CAPTURE}
 use Rattle.fints_params.specs.Captures.{Rule, IsRefusedAfter, IsRefusedIn}
 
 -- a state that is right for what was seen is right after these segments too

@@ -1,6 +1,6 @@
 -- Which steps the pass has kept behind others.
 use Rattle.std.proofs.Common.{ℕ, ◌+◌, ◌-◌, ◌<◌, ◌≤◌, ◌≡◌, ◌⊎◌, Bool, true, false, not, Option, Some, None, List, [], ◌∷◌, ◌++◌, length, replicate, set, refl, ap, sym, subst, ◌∙◌, arith, inl, inr}
-use Rattle.std.specs.Prelude.{is_some}
+use Rattle.std.specs.Prelude.{is_some, slice_get, IsTrue, ◌↔◌}
 use Rattle.std.proofs.lemmas.Bool.{cases_eq, cases_order, false≢true}
 use Rattle.std.proofs.lemmas.List.{length-replicate, length-set}
 use Rattle.std.proofs.lemmas.Option.{same_Some}
@@ -14,9 +14,9 @@ use Rattle.fints_script.specs.Sound.{IsOnward}
 use Rattle.fints_script.specs.Steps.{StepValue}
 use Rattle.fints_reach.specs.Following.{AreBehind, CarriesTo, GoesTo, IsCarriedTo}
 use Rattle.fints_reach.specs.Numbers.{Has}
-use Rattle.fints_reach.specs.Passes.{AreKept, Asks, BranchAsks, PassAsks, StepAsks}
+use Rattle.fints_reach.specs.Passes.{AreKept, Asks, BranchAsks, IsOpenAt, PassAsks, StepAsks}
 use Rattle.fints_reach.proofs.Blanks.{none_in_blank, none_in_nil}
-use Rattle.fints_reach.proofs.Lookups.{numbered_push_cases, numbered_push_here, numbered_push_old, numbered_set_here, numbered_set_other}
+use Rattle.fints_reach.proofs.Lookups.{numbered_push_cases, numbered_push_here, numbered_push_old, numbered_set_here, numbered_set_other, slice_get_set_here, slice_get_set_other}
 use Rattle.fints_reach.proofs.Scripts.{IsScript, lead_forward}
 
 -- ---- one step
@@ -173,3 +173,18 @@ behind_more steps numbers marks code n cell old new step next at k b = record {
         }
   ];
 }
+
+-- ---- flags
+
+-- one flag more
+pub flags_more : (step : StepValue) (flags : List Bool) (b k : ℕ) (flag : Bool) → b < length flags → k < b + 1 → IsTrue flag ↔ IsOpenAt step b → ((j : ℕ) → j < b → (slice_get flags j ≡ Some true) ↔ IsOpenAt step j)
+    → (slice_get (set flags b flag) k ≡ Some true) ↔ IsOpenAt step k
+flags_more step flags b k flag within le is each = elim (cases_eq k b) [
+  | inl same ↦
+      let here : slice_get (set flags b flag) b ≡ Some flag = slice_get_set_here flags b flag within in
+      subst (λ j. (slice_get (set flags b flag) j ≡ Some true) ↔ IsOpenAt step j) (sym same) (λ h. is.0 (same_Some flag true (sym here ∙ h)), λ h. here ∙ ap (λ x. Some x) (is.1 h))
+  | inr other ↦
+      let there : slice_get (set flags b flag) k ≡ slice_get flags k = slice_get_set_other flags b k flag other in
+      let before = each k (omega arith) in
+      (λ h. before.0 (sym there ∙ h), λ h. there ∙ before.1 h)
+]

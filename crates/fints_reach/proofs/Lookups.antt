@@ -45,12 +45,12 @@ numbered_read xs (suc k) x low high h =
 
 -- ---- a list with one element put in another's place
 
-slice_get_set_here : {X : Type 0} (xs : List X) (k : ℕ) (y : X) → k < length xs → slice_get (set xs k y) k ≡ Some y
+pub slice_get_set_here : {X : Type 0} (xs : List X) (k : ℕ) (y : X) → k < length xs → slice_get (set xs k y) k ≡ Some y
 slice_get_set_here [] k y less = absurd (omega (arith, less))
 slice_get_set_here (x ∷ xs) zero y less = refl
 slice_get_set_here (x ∷ xs) (suc k) y less = slice_get_set_here xs k y (omega (arith, less))
 
-slice_get_set_other : {X : Type 0} (xs : List X) (k j : ℕ) (y : X) → (j ≡ k → ⊥) → slice_get (set xs k y) j ≡ slice_get xs j
+pub slice_get_set_other : {X : Type 0} (xs : List X) (k j : ℕ) (y : X) → (j ≡ k → ⊥) → slice_get (set xs k y) j ≡ slice_get xs j
 slice_get_set_other [] k j y other = refl
 slice_get_set_other (x ∷ xs) zero zero y other = absurd (other refl)
 slice_get_set_other (x ∷ xs) zero (suc j) y other = refl

@@ -1,5 +1,6 @@
-//! The pass over the steps, from the first to the last, that finds their greatest numbers.
-ghost use Rattle.std.specs.Prelude.{◌≡◌, ◌<◌, ◌≤◌, ◌+◌, ◌^◌, ℕ, length, map, replicate, is_some, IfOk, IsTrue, IsFalse, Some, None, ◌↔◌};
+//! The pass over the steps, from the first to the last, that finds their greatest numbers, and for each
+//! step the first marked one that it may be sent behind.
+ghost use Rattle.std.specs.Prelude.{◌≡◌, ◌<◌, ◌≤◌, ◌+◌, ◌*◌, ◌^◌, ℕ, length, map, replicate, is_some, IfOk, IsTrue, IsFalse, Some, None, ◌↔◌};
 ghost use Rattle.fints_script.specs.Numbered.{numbered};
 ghost use Rattle.fints_cases.specs.Answers.{IsOpen};
 ghost use Rattle.fints_script.specs.Sound.{IsOnward};
@@ -9,6 +10,7 @@ ghost use Rattle.fints_reach.specs.Following.{AreBehind, CarriesTo, IsCarriedTo}
 ghost use Rattle.fints_reach.specs.Leading.{Leads};
 ghost use Rattle.fints_reach.specs.Numbers.{AreGreatest, Has, branch_count, looked_at, visits_at};
 ghost use Rattle.fints_reach.specs.Passes.{AreKept, AreOpen, AreRaised, Asks, BranchAsks, IsRaised, PassAsks, StepAsks, StepIsPassed};
+ghost use Rattle.fints_field_rows.specs.declared.limits.TheConstants.{MAX_STEPS};
 ghost use Rattle.fints_reach.specs.Sources.{AreSources};
 
 use crate::following::carried_step;
@@ -200,7 +202,7 @@ fn pass_step(
     requires long { length entries.old.items ≡ length plan.now.script.steps }
     requires wide { length sources.old.items ≡ length plan.now.script.steps }
     requires kept { length behind.old.items ≡ length plan.now.script.steps }
-    requires small { (e : ℕ) → Has entries.old.items n e → e < 100000 }
+    requires small { (e : ℕ) → Has entries.old.items n e → e < 100 * MAX_STEPS }
     ensures passed { StepIsPassed plan.now.script.steps n result entries.old.items entries.new.items sources.old.items sources.new.items }
     ensures behind { (step : StepValue) → numbered plan.now.script.steps n ≡ Some step → AreKept n (PassAsks step result asked.now.marks.now n asked.now.code) behind.old.items behind.new.items }
     ensures counted { (step : StepValue) → numbered plan.now.script.steps n ≡ Some step → visits.new ≡ visits.old + visits_at step (is_some result) }

@@ -6,7 +6,7 @@ use Rattle.fints_certs.specs.declared.certificate.Line.{Line}
 use Rattle.fints_check.specs.Figures.{AreFigures}
 use Rattle.fints_check.specs.Findings.{AreFindings}
 use Rattle.fints_check.specs.declared.finding.Finding.{Finding}
-use Rattle.fints_rules.specs.Permits.{Granted}
+use Rattle.fints_rules_permissions.specs.Permits.{Granted}
 use Rattle.fints_script.specs.Scripts.{ScriptValue}
 use Rattle.fints_reports.specs.Certified.{IsCertifiedBy}
 use Rattle.fints_reports.specs.ReportText.{report_status, IsReportBy}

@@ -5,10 +5,10 @@ use Rattle.fints_params.specs.declared.fault.ParamFault.TheVariants as params
 use Rattle.fints_params.specs.Faults.{IsMemoryOr}
 use Rattle.fints_params.specs.Parameters.{Rows}
 use Rattle.fints_params.specs.Captures.{IsParamsOf, IsParamFault}
-use Rattle.fints_rules.specs.declared.orders.OrderRow.{OrderRow}
-use Rattle.fints_rules.specs.declared.orders.TableFault.{TableFault}
-use Rattle.fints_rules.specs.declared.orders.TableFault.TheVariants as orders
-use Rattle.fints_rules.specs.Orders.{DenotesTable, IsTableFault}
+use Rattle.fints_rules_permissions.specs.declared.orders.OrderRow.{OrderRow}
+use Rattle.fints_rules_permissions.specs.declared.orders.TableFault.{TableFault}
+use Rattle.fints_rules_permissions.specs.declared.orders.TableFault.TheVariants as orders
+use Rattle.fints_rules_permissions.specs.Orders.{DenotesTable, IsTableFault}
 use Rattle.fints_cases.specs.Cases.{IsCaseOf, IsRefusal}
 use Rattle.fints_cases.specs.declared.values.NamedValue.{NamedValue}
 use Rattle.fints_cases.specs.declared.case_fault.CaseFault.{CaseFault}

@@ -4,9 +4,9 @@ use Rattle.std.specs.Prelude.{slice_get}
 use Rattle.std.proofs.lemmas.List.{append-nil}
 use Rattle.std.proofs.lemmas.Option.{same_Some}
 use Rattle.fints_params.specs.Parameters.{Rows}
-use Rattle.fints_rules.specs.Orders.{DenotesTable}
-use Rattle.fints_rules.specs.Permits.{Granted}
-use Rattle.fints_rules.specs.declared.orders.OrderRow.{OrderRow}
+use Rattle.fints_rules_permissions.specs.Orders.{DenotesTable}
+use Rattle.fints_rules_permissions.specs.Permits.{Granted}
+use Rattle.fints_rules_permissions.specs.declared.orders.OrderRow.{OrderRow}
 use Rattle.fints_script.specs.Plans.{IsClosed, PlanValue}
 use Rattle.fints_script.specs.Scripts.{Denotes, ScriptValue}
 use Rattle.fints_script.specs.Steps.{StepValue}

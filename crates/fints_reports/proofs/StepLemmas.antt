@@ -6,7 +6,7 @@ use Rattle.std.proofs.lemmas.List.Elements.{All-nil, All-cons, All-head, All-tai
 use Rattle.fints_cases.specs.declared.values.NamedValue.{NamedValue}
 use Rattle.fints_check.specs.Findings.{AreFindings, IsReal}
 use Rattle.fints_check.specs.declared.finding.Finding.{Finding}
-use Rattle.fints_rules.specs.Permits.{Granted}
+use Rattle.fints_rules_permissions.specs.Permits.{Granted}
 use Rattle.fints_script.specs.Numbered.{numbered_within}
 use Rattle.fints_script.specs.Scripts.{ScriptValue}
 use Rattle.fints_script.specs.Steps.{StepValue}

@@ -6,7 +6,7 @@ use Rattle.fints_certs.specs.declared.certificate.Line.{Line}
 use Rattle.fints_check.specs.Figures.{AreFigures}
 use Rattle.fints_check.specs.Findings.{AreFindings}
 use Rattle.fints_reports.specs.ReportText.{IsReportBy}
-use Rattle.fints_rules.specs.Permits.{Granted}
+use Rattle.fints_rules_permissions.specs.Permits.{Granted}
 use Rattle.fints_script.specs.Scripts.{ScriptValue}
 
 -- nothing is found, and the text is that of a closed certificate with the greatest figures

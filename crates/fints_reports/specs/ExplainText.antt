@@ -5,7 +5,7 @@ use Rattle.fints_cases.specs.Cases.{case_text}
 use Rattle.fints_check.specs.Figures.{AreFigures}
 use Rattle.fints_check.specs.declared.finding.Finding.{Finding}
 use Rattle.fints_check.specs.declared.finding.Reached.{Reached}
-use Rattle.fints_rules.specs.Permits.{Granted}
+use Rattle.fints_rules_permissions.specs.Permits.{Granted}
 use Rattle.fints_script.specs.Scripts.{ScriptValue}
 use Rattle.fints_script.specs.Steps.{StepValue}
 use Rattle.fints_reports.specs.Headline.{CaseValue, Headline}

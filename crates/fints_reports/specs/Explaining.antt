@@ -3,7 +3,7 @@ use Rattle.std.specs.Prelude.{◌≡◌, ℕ, List, ◌++◌, Option, Some, None
 use Rattle.fints_check.specs.Findings.{Shows}
 use Rattle.fints_check.specs.declared.finding.Finding.{Finding}
 use Rattle.fints_reach.specs.Ways.{LeadsTo}
-use Rattle.fints_rules.specs.Permits.{Granted}
+use Rattle.fints_rules_permissions.specs.Permits.{Granted}
 use Rattle.fints_script.specs.Scripts.{ScriptValue}
 use Rattle.fints_script.specs.Steps.{StepValue}
 use Rattle.fints_reports.specs.ExplainText.{cases_text, shown_case}

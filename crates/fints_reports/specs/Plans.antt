@@ -1,7 +1,7 @@
 -- The plan that the texts of an order table and of a script give together, and why they give none.
 use Rattle.std.specs.Prelude.{ℕ, List}
-use Rattle.fints_rules.specs.declared.orders.OrderRow.{OrderRow}
-use Rattle.fints_rules.specs.Orders.{DenotesTable}
+use Rattle.fints_rules_permissions.specs.declared.orders.OrderRow.{OrderRow}
+use Rattle.fints_rules_permissions.specs.Orders.{DenotesTable}
 use Rattle.fints_script.specs.Plans.{IsClosed, IsPlanFault}
 use Rattle.fints_script.specs.Scripts.{ScriptValue, Denotes, IsFirstOf}
 use Rattle.fints_script.specs.declared.opens.PlanFault.{PlanFault}

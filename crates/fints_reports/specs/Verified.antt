@@ -7,7 +7,7 @@ use Rattle.fints_params.specs.Captures.{IsParamsOf}
 use Rattle.fints_params.specs.Parameters.{Rows}
 use Rattle.fints_reports.specs.Plans.{ArePlan, IsPlanRefusal}
 use Rattle.fints_reports.specs.Told.{IsRefused}
-use Rattle.fints_rules.specs.Permits.{Granted}
+use Rattle.fints_rules_permissions.specs.Permits.{Granted}
 use Rattle.fints_script.specs.Scripts.{ScriptValue}
 use Rattle.fints_texts.specs.declared.fault.Fault.{Fault}
 use Rattle.fints_texts.specs.declared.fault.Fault.TheVariants.{Certificate, Memory}

@@ -1,6 +1,6 @@
 //! An order table and a script, read from their texts.
 ghost use Rattle.std.specs.Prelude.{IfOk, IfErr};
-ghost use Rattle.fints_rules.specs.Orders.{DenotesTable};
+ghost use Rattle.fints_rules_permissions.specs.Orders.{DenotesTable};
 ghost use Rattle.fints_script.specs.Scripts.{Denotes};
 ghost use Rattle.fints_reports.specs.Plans.{IsPlanRefusal};
 

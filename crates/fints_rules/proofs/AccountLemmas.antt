@@ -2,14 +2,14 @@
 use Rattle.std.proofs.Common.{◌≡◌, ℕ, true, false, List, Some, refl, ap, ◌∙◌, sym, subst}
 use Rattle.std.specs.Prelude.{IsTrue, ◌↔◌}
 use Rattle.fints_params.specs.Parameters.{Rows}
-use Rattle.fints_rules.specs.declared.orders.OrderRow.{OrderRow}
-use Rattle.fints_rules.specs.declared.orders.AccountForm.{AccountForm}
-use Rattle.fints_rules.specs.declared.orders.AccountForm.TheVariants.{Nameless, National, International}
+use Rattle.fints_rules_permissions.specs.declared.orders.OrderRow.{OrderRow}
+use Rattle.fints_rules_permissions.specs.declared.orders.AccountForm.{AccountForm}
+use Rattle.fints_rules_permissions.specs.declared.orders.AccountForm.TheVariants.{Nameless, National, International}
 use Rattle.fints_segments.specs.Values.{values_at}
 use Rattle.fints_segments.specs.declared.item.OwnedSegment.{OwnedSegment}
-use Rattle.fints_rules.specs.Accounts.{Account, account_of}
+use Rattle.fints_rules_permissions.specs.Accounts.{Account, account_of}
 use Rattle.fints_rules.specs.Facts.{six_items}
-use Rattle.fints_rules.specs.Permits.{AllNeedMore, IsLocked}
+use Rattle.fints_rules_permissions.specs.Permits.{AllNeedMore, IsLocked}
 use Rattle.fints_rules.specs.Rules.{NamesAccount}
 use Rattle.fints_rules.specs.SegmentFacts.{SegmentFactsValue}
 

@@ -4,9 +4,9 @@ use Rattle.std.specs.Prelude.{Any, is_some, IsTrue, ◌↔◌}
 use Rattle.std.proofs.lemmas.List.Elements.{All-contains}
 use Rattle.fints_params.specs.Parameters.{Rows}
 use Rattle.fints_params.specs.declared.rows.OrderParam.{OrderParam}
-use Rattle.fints_rules.specs.declared.limits.Limits.{Limits}
-use Rattle.fints_rules.specs.Permits.{params_of, LimitsAre, IsLimits}
-use Rattle.fints_rules.specs.Kinds.{own_version}
+use Rattle.fints_rules_permissions.specs.declared.limits.Limits.{Limits}
+use Rattle.fints_rules_permissions.specs.Permits.{params_of, LimitsAre, IsLimits}
+use Rattle.fints_rules_permissions.specs.Kinds.{own_version}
 use Rattle.fints_rules.specs.Rules.{BreaksVersion}
 use Rattle.fints_rules.specs.SegmentFacts.{SegmentFactsValue}
 

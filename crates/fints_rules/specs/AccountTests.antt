@@ -1,9 +1,9 @@
 -- Whether an order's account permits it, where the order names one. Private contracts alone cite these words.
 use Rattle.std.specs.Prelude.{ℕ, Option, Some, None}
-use Rattle.fints_rules.specs.declared.permissions.Permit.{Permit}
-use Rattle.fints_rules.specs.Accounts.{Account}
+use Rattle.fints_rules_permissions.specs.declared.permissions.Permit.{Permit}
+use Rattle.fints_rules_permissions.specs.Accounts.{Account}
 use Rattle.fints_rules.specs.Rules.{NamesAccount}
-use Rattle.fints_rules.specs.Permits.{Granted, PermitIs}
+use Rattle.fints_rules_permissions.specs.Permits.{Granted, PermitIs}
 use Rattle.fints_rules.specs.SegmentFacts.{SegmentFactsValue}
 
 abbrev pub AccountPermitIs : Granted → ℕ → SegmentFactsValue → Option Permit → Type 0

@@ -1,14 +1,4 @@
-pub mod AccountFields
-pub mod Accounts
-pub mod AccountRows
-pub mod Orders
-pub mod OrderFaults
-pub mod Laws
-pub mod Permits
-pub mod LimitMaps
-pub mod Needs
 pub mod RuleNames
-pub mod Kinds
 pub mod SegmentFacts
 pub mod Rules
 pub mod Facts

@@ -2,22 +2,15 @@
 ghost use Rattle.std.specs.Prelude.{◌≡◌};
 ghost use Rattle.fints_segments.specs.Values.{values_at};
 ghost use Rattle.fints_segments.specs.declared.item.OwnedSegment.{OwnedSegment};
-ghost use Rattle.fints_rules.specs.Accounts.{account_of};
+ghost use Rattle.fints_rules_permissions.specs.Accounts.{account_of};
 ghost use Rattle.fints_rules.specs.Facts.{six_items};
-ghost use Rattle.fints_rules.specs.Laws.{OneTable, OneTableFault, NoTableAtFault};
-ghost use Rattle.fints_rules.specs.declared.orders.AccountForm.{AccountForm};
+ghost use Rattle.fints_rules_permissions.specs.declared.orders.AccountForm.{AccountForm};
 
 pub use fints_messages::laws::{numbered_bodies, one_message, one_stop};
+pub use fints_rules_permissions::laws::one_table;
 
 /// An account is found in the first six items of an element; more change nothing.
 #[tactic(auto, using(crate::proofs::AccountLemmas::six_same))]
 pub fn six_items_name_an_account()
     ensures { (form : AccountForm) (s : OwnedSegment) → account_of form (six_items s) ≡ account_of form (values_at s 2) }
-{}
-
-/// A text denotes one order table at most and has one first refusal at most, and never both.
-pub fn one_table()
-    ensures table { OneTable }
-    ensures refusal { OneTableFault }
-    ensures not_both { NoTableAtFault }
 {}

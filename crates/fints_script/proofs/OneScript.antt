@@ -15,7 +15,8 @@ use Rattle.fints_field_rows.specs.declared.fault.FaultKind.TheVariants as kinds
 use Rattle.fints_field_rows.specs.declared.fault.Place.TheVariants as places
 use Rattle.fints_field_rows.specs.declared.fault.ScriptFault.{ScriptFault}
 use Rattle.fints_field_rows.specs.declared.fields.NamedField.{NamedField}
-use Rattle.fints_script.specs.Scripts.{DenoteFields, Denotes, IsDialogClass, IsDialogField, IsFaultOf, IsFirstOf, IsScriptOf, MAX_TEXT, ScriptValue, Top, at_top, fields_from, script_with, top_in}
+use Rattle.fints_script.specs.Scripts.{DenoteFields, Denotes, IsDialogClass, IsDialogField, IsFaultOf, IsFirstOf, IsScriptOf, ScriptValue, Top, at_top, fields_from, script_with, top_in}
+use Rattle.fints_lines.specs.declared.lines.TheConstants.{MAX_TEXT}
 use Rattle.fints_script.proofs.ReadParts.{ok_err, same_err, same_ok}
 
 -- what a text comes to: a script or a fault

@@ -23,13 +23,14 @@ use Rattle.fints_field_rows.specs.declared.fields.NamedField.{NamedField}
 use Rattle.fints_templates.specs.Elements.{elements_in}
 use Rattle.fints_templates.specs.Figures.{figures_of}
 use Rattle.fints_templates.specs.Signers.{few_items, frame_at, frame_in, frames_in, signer_in, signer_keys, signer_of, table_signer}
-use Rattle.fints_templates.specs.Weights.{total, item_count, element_count, items_in, no_figures, MAX_TEMPLATE_ITEMS}
+use Rattle.fints_templates.specs.Weights.{total, item_count, element_count, items_in, no_figures}
 use Rattle.fints_templates.specs.declared.template.Signer.{Signer}
 use Rattle.fints_templates.specs.declared.template.TemplateItem.{TemplateItem}
 use Rattle.fints_templates.specs.declared.template.TemplateItem.TheVariants as items
 use Rattle.fints_script.specs.Scripts.{seal_from}
 use Rattle.fints_script.specs.Sound.{IsInRange, IsSingle, IsFrameElement, IsSoundFrame, IsSoundSigner}
 use Rattle.fints_script.proofs.ReadParts.{failed, not_past, passed, placed_ok, same_ok, seen_ok}
+use Rattle.fints_field_rows.specs.declared.limits.TheConstants.{MAX_TEMPLATE_ITEMS}
 use Rattle.fints_script.proofs.SoundElements.{IsBehindFirst, frame_elements}
 
 -- ---- items of lists without account fields

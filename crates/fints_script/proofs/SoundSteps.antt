@@ -25,14 +25,15 @@ use Rattle.fints_field_rows.specs.declared.fields.NamedField.{NamedField}
 use Rattle.fints_templates.specs.Elements.{elements_in}
 use Rattle.fints_templates.specs.Figures.{figures_of}
 use Rattle.fints_templates.specs.Segments.{body_in, body_kind, kind_at, kind_in, segment_in, segment_keys, table_segment, template_of, version_at}
-use Rattle.fints_templates.specs.Weights.{items_in, MAX_TEMPLATE_ITEMS}
+use Rattle.fints_templates.specs.Weights.{items_in}
 use Rattle.fints_templates.specs.declared.template.Signer.{Signer}
 use Rattle.fints_templates.specs.declared.template.Template.{Template}
 use Rattle.fints_script.specs.Scripts.{ScriptValue, surroundings}
 use Rattle.fints_script.specs.Sound.{IsBodyElement, IsOnward, IsSoundStep, IsSoundTemplate, LeadsOnward}
-use Rattle.fints_script.specs.Steps.{Course, Sent, StepValue, Surroundings, branch_in, branches_at, branches_in, course_in, default_at, has_large_segment, is_taken_step, is_too_large, is_word, parts_in, place_of_signer, repeat_at, sealed_at, sealed_in, segments_at, segments_in, sent_in, signature_in, signatures_at, signatures_in, sized_step, step_in, step_keys, step_of, step_weight, table_step, target_in, with_seal, MAX_WEIGHT}
+use Rattle.fints_script.specs.Steps.{Course, Sent, StepValue, Surroundings, branch_in, branches_at, branches_in, course_in, default_at, has_large_segment, is_taken_step, is_too_large, is_word, parts_in, place_of_signer, repeat_at, sealed_at, sealed_in, segments_at, segments_in, sent_in, signature_in, signatures_at, signatures_in, sized_step, step_in, step_keys, step_of, step_weight, table_step, target_in, with_seal}
 use Rattle.fints_script.proofs.ReadParts.{at_most_ok, failed, integer_ok, list_ok, not_empty_ok, not_past, optional_ok, passed, same_ok, seen_ok}
 use Rattle.fints_script.proofs.SoundElements.{IsBehindFirst, body_elements, place_within}
+use Rattle.fints_field_rows.specs.declared.limits.TheConstants.{MAX_TEMPLATE_ITEMS, MAX_WEIGHT}
 use Rattle.fints_script.proofs.SoundTargets.{branch_onward, target_onward}
 
 -- ---- kinds

@@ -6,7 +6,8 @@ use Rattle.fints_field_rows.specs.PartLaws.{seen_both}
 use Rattle.fints_field_rows.specs.Parts.{both, seen}
 use Rattle.fints_field_rows.specs.declared.fault.FaultKind.{FaultKind}
 use Rattle.fints_field_rows.specs.declared.fault.FaultKind.TheVariants as kinds
-use Rattle.fints_script.specs.Scripts.{MAX_FIELDS, MAX_SIGNERS, rows_at, step_rows, top_in, top_keys, top_of}
+use Rattle.fints_field_rows.specs.declared.limits.TheConstants.{MAX_FIELDS, MAX_SIGNERS}
+use Rattle.fints_script.specs.Scripts.{rows_at, step_rows, top_in, top_keys, top_of}
 
 pub no_top : {V : Type 0} (see : V → List Data) (a b d : Result V FaultKind) (ms : Members) (kind : FaultKind) → only_keys top_keys ms ≡ true
     → seen see a ≡ rows_at (codes "field") MAX_FIELDS ms → seen see b ≡ rows_at (codes "signer") MAX_SIGNERS ms → seen see d ≡ step_rows ms → both (both a b) d ≡ Err kind → top_in ms ≡ Err kind

@@ -1,6 +1,6 @@
 -- The laws of a script's text: what it denotes is determined; and of closed plans. Each is the contract of a public function.
 use Rattle.std.specs.Prelude.{◌≡◌, ℕ, List, Some, slice_get}
-use Rattle.fints_rules.specs.declared.orders.OrderRow.{OrderRow}
+use Rattle.fints_rules_permissions.specs.declared.orders.OrderRow.{OrderRow}
 use Rattle.fints_script.specs.Numbered.{numbered}
 use Rattle.fints_script.specs.Plans.{IsClosed, IsClosedTemplate}
 use Rattle.fints_script.specs.Steps.{StepValue}

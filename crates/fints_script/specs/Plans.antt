@@ -2,10 +2,10 @@
 use Rattle.std.specs.Prelude.{◌≡◌, ◌⊎◌, ℕ, ◌+◌, ◌<◌, Bool, true, false, ◌&&◌, ◌||◌, not, if◌then◌else◌, codes, List, [], ◌∷◌, length, slice_get, zip, All, Option, Some, None}
 use Rattle.std.specs.List.{list_all}
 use Rattle.std.specs.Str.{bytes_eq}
-use Rattle.fints_rules.specs.Orders.{form_of}
-use Rattle.fints_rules.specs.declared.orders.OrderRow.{OrderRow}
-use Rattle.fints_rules.specs.declared.orders.AccountForm.{AccountForm}
-use Rattle.fints_rules.specs.declared.orders.AccountForm.TheVariants as forms
+use Rattle.fints_rules_permissions.specs.Orders.{form_of}
+use Rattle.fints_rules_permissions.specs.declared.orders.OrderRow.{OrderRow}
+use Rattle.fints_rules_permissions.specs.declared.orders.AccountForm.{AccountForm}
+use Rattle.fints_rules_permissions.specs.declared.orders.AccountForm.TheVariants as forms
 use Rattle.fints_fields.specs.Fields.{field_domain}
 use Rattle.fints_field_rows.specs.NamedFields.{is_account_at}
 use Rattle.fints_script.specs.Scripts.{ScriptValue}

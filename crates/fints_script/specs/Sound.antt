@@ -5,9 +5,9 @@ use Rattle.fints_templates.specs.Figures.{figures_of}
 use Rattle.fints_field_rows.specs.NamedFields.{is_account_at}
 use Rattle.fints_script.specs.Numbered.{numbered}
 use Rattle.fints_script.specs.Plans.{is_account_field}
-use Rattle.fints_script.specs.Scripts.{ScriptValue, IsDialogField, MAX_FIELDS, MAX_SIGNERS, MAX_STEPS}
-use Rattle.fints_script.specs.Steps.{StepValue, Surroundings, step_weight, MAX_WEIGHT}
-use Rattle.fints_templates.specs.Weights.{items_in, MAX_TEMPLATE_ITEMS}
+use Rattle.fints_script.specs.Scripts.{ScriptValue, IsDialogField}
+use Rattle.fints_script.specs.Steps.{StepValue, Surroundings, step_weight}
+use Rattle.fints_templates.specs.Weights.{items_in}
 use Rattle.fints_cases.specs.declared.answers.Branch.{Branch}
 use Rattle.fints_cases.specs.declared.answers.Target.{Target}
 use Rattle.fints_cases.specs.declared.answers.Target.TheVariants as targets
@@ -15,6 +15,7 @@ use Rattle.fints_field_rows.specs.declared.fields.NamedField.{NamedField}
 use Rattle.fints_templates.specs.declared.template.TemplateItem.{TemplateItem}
 use Rattle.fints_templates.specs.declared.template.TemplateItem.TheVariants.{Literal, Dialog, Field}
 use Rattle.fints_templates.specs.declared.template.Template.{Template}
+use Rattle.fints_field_rows.specs.declared.limits.TheConstants.{MAX_BRANCHES, MAX_FIELDS, MAX_REPEAT, MAX_SEGMENTS, MAX_SIGNATURES, MAX_SIGNERS, MAX_STEPS, MAX_TEMPLATE_ITEMS, MAX_WEIGHT}
 use Rattle.fints_templates.specs.declared.template.Signer.{Signer}
 
 -- a field of the script; the built-in one at 0 stands as the dialogue id alone
@@ -79,12 +80,12 @@ pub record LeadsOnward (count n : ℕ) (step : StepValue) : Type 0 where
 
 pub record IsSoundStep (s : ScriptValue) (step : StepValue) : Type 0 where
   pub signers : All (λ (place : ℕ). place < length s.signers) step.signers
-  pub few_signers : length step.signers ≤ 9
+  pub few_signers : length step.signers ≤ MAX_SIGNATURES
   pub some_templates : 1 ≤ length step.templates
-  pub few_templates : length step.templates ≤ 100
-  pub few_branches : length step.branches ≤ 20
+  pub few_templates : length step.templates ≤ MAX_SEGMENTS
+  pub few_branches : length step.branches ≤ MAX_BRANCHES
   pub once : 1 ≤ step.repeat
-  pub often : step.repeat ≤ 99
+  pub often : step.repeat ≤ MAX_REPEAT
   pub templates : All (IsSoundTemplate s.fields) step.templates
   pub seal : IsTrue step.sealed → IsSome s.seal
   pub light : step_weight (surroundings_in s) step ≤ MAX_WEIGHT

@@ -1,4 +1,5 @@
 -- What a step's row is: a step, or the first kind of fault in it.
+use Rattle.fints_field_rows.specs.declared.limits.TheConstants.{MAX_BRANCHES, MAX_REPEAT, MAX_SEGMENTS, MAX_SIGNATURES, MAX_TEMPLATE_ITEMS, MAX_WEIGHT}
 use Rattle.std.specs.Prelude.{codes, ℕ, ◌+◌, nat_le, nat_lt, Bool, true, false, ◌&&◌, ◌||◌, not, if◌then◌else◌, List, [], ◌∷◌, position, slice_get, take, Option, Some, None, is_some, Ok, Err, ok_or}
 use Rattle.std.specs.List.{list_any}
 use Rattle.std.specs.Option.{option_map_or}
@@ -10,7 +11,7 @@ use Rattle.fints_cases.specs.Patterns.{pattern_in}
 use Rattle.fints_field_rows.specs.Parts.{Part, ◌>>=◌, at_most, both, each, entries_of, flag_in, integer_in, not_empty, optional, required, seen}
 use Rattle.fints_field_rows.specs.RowNames.{row_name}
 use Rattle.fints_templates.specs.Segments.{segment_in}
-use Rattle.fints_templates.specs.Weights.{total, segment_weight, signer_weight, items_in, MAX_TEMPLATE_ITEMS}
+use Rattle.fints_templates.specs.Weights.{total, segment_weight, signer_weight, items_in}
 use Rattle.fints_field_rows.specs.declared.fault.FaultKind.TheVariants as kinds
 use Rattle.fints_field_rows.specs.declared.fields.NamedField.{NamedField}
 use Rattle.fints_cases.specs.declared.answers.Branch.{Branch}
@@ -84,9 +85,9 @@ abbrev pub branch_in : List Data → ℕ → Data → Part Branch
 branch_in rows i (table ms) = table_branch rows i ms
 branch_in rows i _ = Err kinds.WrongKind
 
--- at most 20 branches
+-- not too many branches
 abbrev pub branches_in : List Data → ℕ → Data → Part (List Branch)
-branches_in rows i d = entries_of d >>= each (branch_in rows i) >>= at_most 20
+branches_in rows i d = entries_of d >>= each (branch_in rows i) >>= at_most MAX_BRANCHES
 
 -- ---- what a step sends
 
@@ -99,13 +100,13 @@ abbrev pub signature_in : List Signer → Data → Part ℕ
 signature_in signers (string name) = ok_or (place_of_signer signers name) kinds.NoSuchName
 signature_in signers _ = Err kinds.WrongKind
 
--- 1 to 100 segments
+-- some segments, and not too many
 abbrev pub segments_in : List NamedField → Data → Part (List Template)
-segments_in fields d = entries_of d >>= not_empty >>= each (segment_in fields) >>= at_most 100
+segments_in fields d = entries_of d >>= not_empty >>= each (segment_in fields) >>= at_most MAX_SEGMENTS
 
--- at most 9 signers
+-- not too many signers
 abbrev pub signatures_in : List Signer → Data → Part (List ℕ)
-signatures_in signers d = entries_of d >>= each (signature_in signers) >>= at_most 9
+signatures_in signers d = entries_of d >>= each (signature_in signers) >>= at_most MAX_SIGNATURES
 
 -- a step is sealed only where the script has a seal
 abbrev pub with_seal : Bool → Bool → Part Bool
@@ -133,7 +134,7 @@ sent_in around ms = both (segments_at around.fields ms) (both (sealed_at (is_som
 -- ---- how often it is sent, and where its answers lead
 
 abbrev pub repeat_at : Members → Part ℕ
-repeat_at ms = optional 1 (integer_in 1 99) (get_member (codes "repeat") ms)
+repeat_at ms = optional 1 (integer_in 1 MAX_REPEAT) (get_member (codes "repeat") ms)
 
 abbrev pub branches_at : List Data → ℕ → Members → Part (List Branch)
 branches_at rows i ms = optional [] (branches_in rows i) (get_member (codes "branches") ms)
@@ -150,9 +151,6 @@ abbrev pub course_in : List Data → ℕ → Members → Part Course
 course_in rows i ms = both (repeat_at ms) (both (branches_at rows i ms) (default_at rows i ms))
 
 -- ---- its limits
-
-abbrev pub MAX_WEIGHT : ℕ
-MAX_WEIGHT = 1000000
 
 -- the weight of the signer at a place among those of the script
 abbrev pub signature_weight : List Figures → List Signer → ℕ → ℕ

@@ -6,13 +6,11 @@ ghost use Rattle.fints_script.specs.Steps.{branch_in, branches_in, is_word, on_a
 
 use fints_cases::{Branch, Pattern, Target};
 use fints_documents::document;
+use fints_field_rows::limits::MAX_BRANCHES;
 use fints_field_rows::parts::{at_most, both, entries_of, more, required};
 use fints_field_rows::{FaultKind, NamedRows};
 use std::alloc::Global;
 use toml::{Table, Value};
-
-/// The most branches of a step.
-const MAX_BRANCHES: usize = 20;
 
 /// Whether the text is `again` or `stop`, which no step may be called.
 pub fn is_word(text: &str) -> bool

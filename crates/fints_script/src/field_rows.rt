@@ -2,8 +2,9 @@
 ghost use Rattle.std.specs.Prelude.{◌≡◌, ◌≤◌, ◌⊎◌, length, map, Err, IfErr, IfOk};
 ghost use Rattle.toml.specs.View.{view};
 ghost use Rattle.fints_field_rows.specs.Rows.{no_memory};
-ghost use Rattle.fints_script.specs.Scripts.{DenoteFields, IsDialogField, MAX_FIELDS, fields_from};
+ghost use Rattle.fints_script.specs.Scripts.{DenoteFields, IsDialogField, fields_from};
 
+use fints_field_rows::limits::MAX_FIELDS;
 use fints_field_rows::names::dialog;
 use fints_field_rows::{Fields, NamedField, Place, ScriptFault, field_in, placed};
 use fints_fields::{Alphabet, Field, Text};

@@ -14,7 +14,8 @@ mod steps;
 mod top;
 
 pub use fints_cases::{Answer, Branch, Case, CaseFault, NamedValue, Pattern, Target, Values};
-pub use fints_field_rows::{FaultKind, NamedField, Place, ScriptFault};
+pub use fints_field_rows::limits::MAX_STEPS;
+pub use fints_field_rows::{FaultKind, NamedField, Place, ScriptFault, limits};
 pub use fints_fields::{
     Account, AccountValue, Accounts, Alphabet, Bin, Field, FieldClass, Name, OneOf, Text, Texts,
     class_laws,
@@ -22,5 +23,5 @@ pub use fints_fields::{
 pub use fints_templates::{Signer, Template, TemplateElements, TemplateItem};
 pub use opens::PlanFault;
 pub use plan::Plan;
-pub use script::{MAX_STEPS, Script};
+pub use script::Script;
 pub use steps::Step;

@@ -14,6 +14,7 @@ use crate::branches::{branches_in, is_word, target_in};
 use crate::steps::{Course, Sent, Step, sized_step, whole_step};
 use fints_cases::{Branch, Target};
 use fints_documents::document::{member, only_keys};
+use fints_field_rows::limits::{MAX_REPEAT, MAX_SEGMENTS, MAX_SIGNATURES};
 use fints_field_rows::names::{name_text, new_name};
 use fints_field_rows::parts::{
     at_most, both, entries_of, flag_in, integer_in, more, not_empty, required,
@@ -24,12 +25,6 @@ use fints_templates::segments::segment_in;
 use fints_templates::{Signer, Template};
 use std::alloc::Global;
 use toml::{Table, Value};
-
-/// The most segments of a step.
-const MAX_SEGMENTS: usize = 100;
-
-/// The most signers of a step.
-const MAX_SIGNATURES: usize = 9;
 
 // ---- what a step sends
 
@@ -152,7 +147,7 @@ fn repeat_at(table: &Table) -> Result<u16, FaultKind>
 {
     match member(table, "repeat") {
         None => Ok(1),
-        Some(value) => integer_in(1, 99, value),
+        Some(value) => integer_in(1, MAX_REPEAT, value),
     }
 }
 

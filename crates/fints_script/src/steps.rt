@@ -9,6 +9,7 @@ ghost use Rattle.fints_script.specs.Around.{seen_parts, surroundings_of};
 use crate::around::Around;
 use fints_cases::{Answer, Branch, Target, carries, carrying, choose, opener, passes, target_of};
 use fints_field_rows::FaultKind;
+use fints_field_rows::limits::MAX_WEIGHT;
 use fints_fields::Name;
 use fints_params::Code;
 use fints_syntax::Memory;
@@ -227,7 +228,7 @@ fn is_too_large(around: &Around<'_, '_>, step: &Step) -> bool
     ensures { result ≡ is_too_large (surroundings_of around.now) step.now }
 {
     has_large_segment(around.figures, step.templates())
-        || spend_step(1_000_000, around, step).is_none()
+        || spend_step(MAX_WEIGHT, around, step).is_none()
 }
 
 /// The step of this name and these parts.

@@ -5,17 +5,11 @@ ghost use Rattle.fints_field_rows.specs.Parts.{at_most, seen};
 ghost use Rattle.fints_script.specs.Around.{seen_top};
 ghost use Rattle.fints_script.specs.Scripts.{rows_at, step_rows, top_in};
 
-use crate::script::MAX_STEPS;
 use fints_documents::document::{member, only_keys};
 use fints_field_rows::FaultKind;
+use fints_field_rows::limits::{MAX_FIELDS, MAX_SIGNERS, MAX_STEPS};
 use fints_field_rows::parts::{both, entries_of, not_empty, required};
 use toml::{Table, Value};
-
-/// The most fields of a script, besides `dialog`.
-const MAX_FIELDS: usize = 100;
-
-/// The most signers of a script.
-const MAX_SIGNERS: usize = 20;
 
 /// The rows of a script, and its seal's value if it has one.
 #[derive(Clone, Copy)]

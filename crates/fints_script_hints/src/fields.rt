@@ -2,6 +2,7 @@
 use fints_documents::document::member;
 use fints_documents::entries::text_at;
 use fints_field_rows::{FaultKind, NamedRows};
+use fints_fields::MAX_LEN;
 use fints_hint_words::guessing::guess_of;
 use fints_hint_words::keys::{
     Form, Wanted, is_among, missing_key, name_taken, no_table, unknown_key, wrong_value,
@@ -164,13 +165,13 @@ fn number_at(table: &Table, key: &str) -> Option<i64> {
 }
 
 fn is_past(number: i64) -> bool {
-    !(0..=10_000).contains(&number)
+    !(0..=i64::from(MAX_LEN)).contains(&number)
 }
 
 fn past_text(alloc: Global, key: &str, number: i64) -> Told {
     told(
         alloc,
-        format_args!(": {key} is {number}, and must be from 0 to 10000"),
+        format_args!(": {key} is {number}, and must be from 0 to {MAX_LEN}"),
     )
 }
 

@@ -1,6 +1,7 @@
 //! What is wrong with a row of `signer`, or with the seal.
 use fints_documents::document::member;
 use fints_documents::entries::{is_named, text_at};
+use fints_field_rows::limits::MAX_TEMPLATE_ITEMS;
 use fints_field_rows::{FaultKind, NamedRows};
 use fints_hint_words::elements::elements_slip;
 use fints_hint_words::keys::{
@@ -9,9 +10,6 @@ use fints_hint_words::keys::{
 use fints_hint_words::places::{Told, row_at, row_named, told, told_at};
 use std::alloc::Global;
 use toml::{Table, Value};
-
-/// The most items of a list of elements.
-const MOST: usize = 10_000;
 
 fn items_in(value: &Value) -> usize {
     match value {
@@ -34,12 +32,12 @@ fn many(alloc: Global, value: Option<&Value>) -> Told {
         Some(Value::Array(values)) => item_count(values.as_slice()),
         _ => 0,
     };
-    if count <= MOST {
+    if count as u64 <= MAX_TEMPLATE_ITEMS {
         return Ok(None);
     }
     told(
         alloc,
-        format_args!(" has {count} items, and may have {MOST}"),
+        format_args!(" has {count} items, and may have {MAX_TEMPLATE_ITEMS}"),
     )
 }
 

@@ -6,6 +6,7 @@ use crate::weights::{Parts, size_slip};
 use fints_documents::document::member;
 use fints_documents::entries::{some_is_named, text_at};
 use fints_documents::tables::{is_set, rows_of};
+use fints_field_rows::limits::{MAX_BRANCHES, MAX_REPEAT, MAX_SEGMENTS, MAX_SIGNATURES};
 use fints_field_rows::{FaultKind, NamedRows};
 use fints_hint_words::guessing::{Named, not_named};
 use fints_hint_words::keys::{
@@ -70,22 +71,22 @@ const KEYS: [Wanted; 6] = [
 
 const REPEAT: Wanted = Wanted {
     key: "repeat",
-    form: Form::Within(1, 99),
+    form: Form::Within(1, MAX_REPEAT),
     what: "from 1 to 99",
 };
 
 const ENTRIES: [Most; 3] = [
     Most {
         key: "segments",
-        most: 100,
+        most: MAX_SEGMENTS,
     },
     Most {
         key: "signers",
-        most: 9,
+        most: MAX_SIGNATURES,
     },
     Most {
         key: "branches",
-        most: 20,
+        most: MAX_BRANCHES,
     },
 ];
 

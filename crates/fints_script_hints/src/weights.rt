@@ -3,13 +3,11 @@ use fints_documents::document::member;
 use fints_documents::entries::{is_named, text_at};
 use fints_documents::tables::rows_of;
 use fints_field_rows::NamedRows;
+use fints_field_rows::limits::{MAX_TEMPLATE_ITEMS, MAX_WEIGHT};
 use fints_hint_words::places::{Told, row_named, told};
 use fints_syntax::Memory;
 use std::alloc::Global;
 use toml::{Table, Value};
-
-/// The most items of a list of elements.
-const MOST_ITEMS: u64 = 10_000;
 
 /// How long the longest value of a field is written, and how many items it has at most.
 #[derive(Clone, Copy)]
@@ -205,7 +203,7 @@ fn many_text(alloc: Global, number: usize, row: &Value, count: u64) -> Told {
     told(
         alloc,
         format_args!(
-            "{place}: elements has {count} items, and may have {MOST_ITEMS}; an account field counts as its value with the most items"
+            "{place}: elements has {count} items, and may have {MAX_TEMPLATE_ITEMS}; an account field counts as its value with the most items"
         ),
     )
 }
@@ -214,7 +212,7 @@ fn many_text(alloc: Global, number: usize, row: &Value, count: u64) -> Told {
 fn many_items(alloc: Global, measured: &Measured<'_, '_>, rows: &[Value]) -> Told {
     for (i, row) in rows.iter().enumerate() {
         let count = segment_figures(measured, elements_of(row, "elements")).items;
-        if count > MOST_ITEMS {
+        if count > MAX_TEMPLATE_ITEMS {
             return many_text(alloc, i.saturating_add(1), row, count);
         }
     }
@@ -295,7 +293,7 @@ fn weight_text(alloc: Global, measured: &Measured<'_, '_>, parts: &Parts<'_, '_>
     told(
         alloc,
         format_args!(
-            ": the step weighs {total}, and may weigh 1000000: 15 for each segment, and for each item 1 and its longest length; segment {place} weighs most, {weight}"
+            ": the step weighs {total}, and may weigh {MAX_WEIGHT}: 15 for each segment, and for each item 1 and its longest length; segment {place} weighs most, {weight}"
         ),
     )
 }

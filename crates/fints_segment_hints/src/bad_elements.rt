@@ -1,6 +1,5 @@
 //! Elements of a capture that can't be read.
 use fints_hint_words::quoting::Sample;
-use fints_messages::is_kind;
 use fints_params::Code;
 use fints_syntax::{ElementRef, Item, Memory, OwnedSegment, Placed, parse_number, parse_placed};
 use std::alloc::Global;
@@ -25,7 +24,7 @@ pub struct Data<'a> {
 /// The data of an HNVSD version 1.
 pub fn data_of<'a>(placed: &Placed<'a>) -> Option<Data<'a>> {
     let view = &placed.segment;
-    if !is_kind(view.id(), b"HNVSD") || view.version() != 1 {
+    if !view.id().is(b"HNVSD") || view.version() != 1 {
         return None;
     }
     match (view.item(2, 1), view.item_start(2, 1)) {

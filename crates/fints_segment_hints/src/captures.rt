@@ -4,13 +4,10 @@ use crate::syntax::{IN_DATA, Numbered, Region, bad_start, trouble_at, whole};
 use fints_hint_words::places::{Told, line_at, told};
 use fints_hint_words::quoting::Sample;
 use fints_params::ParamFault;
-use fints_syntax::{Memory, Placed, SyntaxFault, SyntaxKind, parse_placed};
+use fints_syntax::{MAX_CAPTURE, Memory, Placed, SyntaxFault, SyntaxKind, parse_placed};
 use std::alloc::Global;
 use std::fmt;
 use std::fmt::{Display, Formatter, Write};
-
-/// The most bytes of a capture.
-const MAX_CAPTURE: usize = 4_194_304;
 
 // The first segment in the data of this one that can't be read.
 fn data_text(alloc: Global, capture: &[u8], placed: &Placed<'_>) -> Told {

@@ -2,7 +2,6 @@
 use crate::syntax::{Numbered, front_of, trouble};
 use fints_hint_words::places::{Told, told, written};
 use fints_hint_words::quoting::Sample;
-use fints_messages::is_kind;
 use fints_syntax::{Kind, Memory, SegmentView, parse_number, parse_segment};
 use std::alloc::Global;
 
@@ -133,7 +132,7 @@ fn version_text(alloc: Global, view: &SegmentView<'_>, wanted: u16) -> Result<St
 fn frame_text(alloc: Global, view: &SegmentView<'_>) -> Result<String, Memory> {
     match frame_version(view.id()) {
         Some(wanted) if wanted != view.version() => version_text(alloc, view, wanted),
-        _ if is_kind(view.id(), b"HNVSK") && view.number() != 998 => order_text(
+        _ if view.id().is(b"HNVSK") && view.number() != 998 => order_text(
             alloc,
             view,
             "can't stand there: HNVSK has the number 998, and stands behind HNHBK",
@@ -205,7 +204,7 @@ pub fn last_slip(
 
 /// Whether the segment has this kind and version.
 pub fn is_named(view: &SegmentView<'_>, kind: &[u8], version: u16) -> bool {
-    is_kind(view.id(), kind) && view.version() == version
+    view.id().is(kind) && view.version() == version
 }
 
 /// Why no segment can be read where this one must stand.

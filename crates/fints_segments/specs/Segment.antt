@@ -1,4 +1,5 @@
 -- The text of a segment: elements with `+` (43) between them, the items of an element with `:` (58) between them, and `'` (39) at the end.
+use Rattle.fints_segments.specs.declared.limits.TheConstants.{MAX_BYTES, MAX_ITEMS}
 use Rattle.std.specs.Prelude.{ℕ, ◌<◌, ◌≤◌, List, [], ◌∷◌, ◌++◌, length, map, Option, None, IsSome}
 use Rattle.std.specs.List.{flat_map, AllByRecursion}
 use Rattle.fints_segments.specs.declared.item.Head.{Head}
@@ -48,12 +49,6 @@ element_head items = head_from (map item_value items)
 abbrev pub head_of : List (List OwnedItem) → Option Head
 head_of [] = None
 head_of (e ∷ es) = element_head e
-
-abbrev pub MAX_BYTES : ℕ
-MAX_BYTES = 1048576
-
-abbrev pub MAX_ITEMS : ℕ
-MAX_ITEMS = 20000
 
 -- a segment but for its head
 pub record IsFramed (elements : List (List Spelled)) : Type 0 where

@@ -8,7 +8,8 @@ use Rattle.fints_segments.specs.declared.item.OwnedItem.{OwnedItem}
 use Rattle.fints_segments.specs.declared.item.OwnedItem.TheVariants.{Text}
 use Rattle.fints_segments.specs.declared.item.OwnedSegment.{OwnedSegment}
 use Rattle.fints_segments.specs.Spelling.{Spelled, written_item}
-use Rattle.fints_segments.specs.Segment.{tokens_bytes, element_tokens, segment_bytes, segment_tokens, MAX_BYTES, MAX_ITEMS}
+use Rattle.fints_segments.specs.declared.limits.TheConstants.{MAX_BYTES, MAX_ITEMS}
+use Rattle.fints_segments.specs.Segment.{tokens_bytes, element_tokens, segment_bytes, segment_tokens}
 
 -- an absent reference is left out
 abbrev pub reference_items : Option ℕ → List OwnedItem

@@ -6,6 +6,7 @@ mod element;
 mod fault;
 mod flat;
 mod item;
+mod limits;
 mod writing;
 
 pub use bytes::Bytes;
@@ -14,4 +15,5 @@ pub use fault::Memory;
 pub use fints_kinds::{Kind, is_frame_kind};
 pub use flat::{Filling, Valued};
 pub use item::{Elements, Head, OwnedItem, OwnedSegment};
+pub use limits::{MAX_BYTES, MAX_ITEMS};
 pub use writing::{decimal_len, write_item, write_segment, written_binary_len, written_len};

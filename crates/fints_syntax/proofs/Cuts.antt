@@ -7,7 +7,7 @@ use Rattle.std.proofs.lemmas.List.Concat.{flat_map-append}
 use Rattle.std.proofs.Math.Seq.{take-append-add}
 use Rattle.fints_segments.specs.Spelling.{Spelled}
 use Rattle.fints_syntax.specs.Faults.{KindAt}
-use Rattle.fints_syntax.specs.Capture.{MAX_CAPTURE, IsBreak, Piece, piece_bytes, IsPiece, placed_from, ReadsPlaced, FaultsAt, CaptureFaultAt, IsCaptureFault, IsCapture}
+use Rattle.fints_syntax.specs.Capture.{IsBreak, Piece, piece_bytes, IsPiece, placed_from, ReadsPlaced, FaultsAt, CaptureFaultAt, IsCaptureFault, IsCapture}
 use Rattle.fints_syntax.specs.Streams.{IsBegun, IsRest, IsSplit, moved_by, whole_len, PieceFaultAt, IsStreamFault, IsStop}
 use Rattle.fints_syntax.specs.declared.capture.Placed.{Placed}
 use Rattle.fints_syntax.specs.declared.fault.SyntaxFault.{SyntaxFault}
@@ -15,6 +15,7 @@ use Rattle.fints_syntax.specs.declared.fault.SyntaxKind.{SyntaxKind}
 use Rattle.fints_syntax.specs.declared.fault.SyntaxKind.TheVariants.{Memory, BadBinary, TooLong, Incomplete, BadHead, CaptureTooLong, Failed}
 use Rattle.fints_syntax.proofs.Captures.{placed-append, each-append, placed_capture}
 use Rattle.fints_syntax.proofs.OneCapture.{kind_only, no_capture_at}
+use Rattle.fints_syntax.specs.declared.capture.TheConstants.{MAX_CAPTURE}
 use Rattle.fints_syntax.proofs.OneFault.{Ends, tail_ends, fault_ends, same_places, faults_one}
 
 moved_pieces : (n at : ℕ) (ps : List Piece) → placed_from (n + at) ps ≡ moved_by n (placed_from at ps)

@@ -6,7 +6,7 @@ use Rattle.std.proofs.lemmas.Bool.{cases_lt}
 use Rattle.std.proofs.lemmas.Bool.Decides.{nat_tests}
 use Rattle.std.proofs.lemmas.List.{append-nil, length-append, drop-append-le, take-append-le, take_all}
 use Rattle.fints_segments.specs.Spelling.{Spelled, spelled_bytes, escaped, plain, text, binary, IsLength, is_separator}
-use Rattle.fints_segments.specs.Segment.{segment_bytes, tokens_bytes, IsFramed, MAX_BYTES, MAX_ITEMS}
+use Rattle.fints_segments.specs.Segment.{segment_bytes, tokens_bytes, IsFramed}
 use Rattle.fints_syntax.specs.Faults.{BeginsWithItem, IsCutBinary, IsBadBinary, Opens, IsBadAt, HasTooManyItems, IsUnfinished, BeginsFramed, BeginsWithSegment, KindAt, window_of}
 use Rattle.fints_syntax.specs.Capture.{piece_bytes, ReadsPlaced, FaultsAt}
 use Rattle.fints_syntax.specs.Streams.{IsSplit, PieceFaultAt}
@@ -14,6 +14,7 @@ use Rattle.fints_syntax.specs.declared.capture.Placed.{Placed}
 use Rattle.fints_syntax.specs.declared.fault.SyntaxKind.{SyntaxKind}
 use Rattle.fints_syntax.specs.declared.fault.SyntaxKind.TheVariants.{Memory, BadBinary, TooLong, Incomplete, BadHead, CaptureTooLong, Failed}
 use Rattle.fints_syntax.proofs.Tokens.{one_segment}
+use Rattle.fints_segments.specs.declared.limits.TheConstants.{MAX_BYTES, MAX_ITEMS}
 use Rattle.fints_syntax.proofs.Windows.{same_after, window_behind}
 
 -- of two ways to part a list, one parts it further on

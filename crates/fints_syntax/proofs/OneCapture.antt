@@ -12,11 +12,12 @@ use Rattle.fints_segments.specs.Spelling.{item_of}
 use Rattle.fints_kinds.specs.Kind.{kind_from}
 use Rattle.fints_segments.specs.Head.{head_with}
 use Rattle.fints_syntax.specs.Faults.{KindAt, BeginsWithSegment, window_of}
-use Rattle.fints_syntax.specs.Capture.{MAX_CAPTURE, IsBreak, IsClean, Piece, piece_bytes, IsPiece, IsCapture, FaultsAt, IsCaptureFault, CaptureFaultAt}
+use Rattle.fints_syntax.specs.Capture.{IsBreak, IsClean, Piece, piece_bytes, IsPiece, IsCapture, FaultsAt, IsCaptureFault, CaptureFaultAt}
 use Rattle.fints_syntax.specs.declared.fault.SyntaxFault.{SyntaxFault}
 use Rattle.fints_syntax.specs.declared.fault.SyntaxKind.{SyntaxKind}
 use Rattle.fints_syntax.specs.declared.fault.SyntaxKind.TheVariants.{Memory, BadBinary, TooLong, Incomplete, BadHead, CaptureTooLong, Failed}
 use Rattle.fints_syntax.proofs.Tokens.{one_segment}
+use Rattle.fints_syntax.specs.declared.capture.TheConstants.{MAX_CAPTURE}
 use Rattle.fints_syntax.proofs.Parsed.{bad_only, too_many_only, begins_window}
 
 -- ---- the first byte of a segment is no line break

@@ -6,7 +6,7 @@ use Rattle.std.proofs.lemmas.List.{append-nil, length-append, length-drop, take_
 use Rattle.fints_segments.specs.Spelling.{Spelled}
 use Rattle.fints_segments.specs.Segment.{Token, tokens_bytes, segment_tokens, segment_bytes, IsSegment}
 use Rattle.fints_syntax.specs.Faults.{BeginsWithItem, IsOpen, IsBadAt, HasTooManyItems, BeginsFramed, BeginsWithSegment, KindAt, IsFault, window_of}
-use Rattle.fints_syntax.specs.Capture.{MAX_CAPTURE, IsBreak, Piece, piece_bytes, IsPiece, placed_from, IsCapture, IsPlacedCapture, FaultsAt, CaptureFaultAt, IsCaptureFault}
+use Rattle.fints_syntax.specs.Capture.{IsBreak, Piece, piece_bytes, IsPiece, placed_from, IsCapture, IsPlacedCapture, FaultsAt, CaptureFaultAt, IsCaptureFault}
 use Rattle.fints_syntax.specs.declared.capture.Placed.{Placed}
 use Rattle.fints_syntax.specs.declared.fault.SyntaxFault.{SyntaxFault}
 use Rattle.fints_syntax.specs.declared.fault.SyntaxKind.{SyntaxKind}
@@ -14,6 +14,7 @@ use Rattle.fints_syntax.specs.declared.fault.SyntaxKind.TheVariants.{Memory, Bad
 use Rattle.fints_syntax.proofs.Tokens.{closed-segment}
 use Rattle.fints_syntax.proofs.Windows.{token_open, begins_token, leaves, no_frame, open_before_closed}
 use Rattle.fints_syntax.proofs.Parsed.{begins_window}
+use Rattle.fints_syntax.specs.declared.capture.TheConstants.{MAX_CAPTURE}
 use Rattle.fints_syntax.proofs.OneCapture.{same_gap, regroup, same_piece, segment_clean, segment_some, kind_only, no_capture_at}
 
 -- ---- of bytes that begin with no segment

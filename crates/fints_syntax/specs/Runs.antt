@@ -1,8 +1,9 @@
 -- The faults of bytes of any length, read as segments with line breaks between them. Private contracts alone cite these words.
 use Rattle.std.specs.Prelude.{◌≡◌, ℕ, List}
-use Rattle.fints_syntax.specs.Capture.{FaultsAt, MAX_CAPTURE}
+use Rattle.fints_syntax.specs.Capture.{FaultsAt}
 use Rattle.fints_syntax.specs.declared.fault.SyntaxFault.{SyntaxFault}
 use Rattle.fints_syntax.specs.declared.fault.SyntaxKind.{SyntaxKind}
+use Rattle.fints_syntax.specs.declared.capture.TheConstants.{MAX_CAPTURE}
 use Rattle.fints_syntax.specs.declared.fault.SyntaxKind.TheVariants.{Memory, Incomplete, CaptureTooLong}
 
 -- the fault of bytes of any length

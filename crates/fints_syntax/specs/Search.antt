@@ -2,7 +2,8 @@
 use Rattle.std.specs.Prelude.{◌≡◌, ℕ, ◌+◌, ◌<◌, List, [], ◌∷◌, ◌++◌, length, drop, cond, eqb}
 use Rattle.std.specs.List.{AllByRecursion}
 use Rattle.fints_segments.specs.Spelling.{TextUnit, text_bytes, IsUnit}
-use Rattle.fints_segments.specs.Segment.{Token, tokens_bytes, MAX_ITEMS}
+use Rattle.fints_segments.specs.Segment.{Token, tokens_bytes}
+use Rattle.fints_segments.specs.declared.limits.TheConstants.{MAX_ITEMS}
 use Rattle.fints_syntax.specs.Faults.{IsOpen}
 use Rattle.fints_syntax.specs.declared.window.Search.{Search}
 

@@ -5,12 +5,13 @@ use Rattle.std.specs.Option.{option_map, unwrap_or}
 use Rattle.fints_syntax.specs.Places.{start_of}
 use Rattle.fints_syntax.specs.Faults.{KindAt, window_of}
 use Rattle.fints_syntax.specs.Search.{IsSearched}
-use Rattle.fints_syntax.specs.Capture.{IsBreak, ReadsPlaced, FaultsAt, MAX_CAPTURE}
+use Rattle.fints_syntax.specs.Capture.{IsBreak, ReadsPlaced, FaultsAt}
 use Rattle.fints_syntax.specs.declared.capture.Placed.{Placed}
 use Rattle.fints_syntax.specs.declared.fault.SyntaxFault.{SyntaxFault}
 use Rattle.fints_syntax.specs.declared.fault.SyntaxKind.{SyntaxKind}
 use Rattle.fints_syntax.specs.declared.fault.SyntaxKind.TheVariants.{Memory, Incomplete, CaptureTooLong}
 use Rattle.fints_syntax.specs.declared.stream.Begun.{Begun}
+use Rattle.fints_syntax.specs.declared.capture.TheConstants.{MAX_CAPTURE}
 use Rattle.fints_syntax.specs.declared.stream.ReadTo.{ReadTo}
 
 -- the byte `'`, which ends a segment

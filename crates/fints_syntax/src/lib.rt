@@ -14,7 +14,7 @@ mod text;
 mod view;
 mod window;
 
-pub use capture::{Placed, parse_all, parse_placed};
+pub use capture::{MAX_CAPTURE, Placed, parse_all, parse_placed};
 pub use fault::{SyntaxFault, SyntaxKind};
 pub use fints_kinds::{Kind, is_frame_kind};
 pub use fints_segments::{

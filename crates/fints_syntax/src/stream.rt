@@ -1,9 +1,10 @@
 //! Segments in bytes that come in pieces.
 ghost use Rattle.std.specs.Prelude.{List, ◌≡◌, ◌≤◌, ◌+◌, ◌-◌, ◌++◌, ◌∷◌, [], ℕ, length, take, drop, OnOk, IfOk, IfErr, IsTrue, ◌↔◌};
 ghost use Rattle.fints_segments.specs.Segment.{segment_bytes};
-ghost use Rattle.fints_syntax.specs.Capture.{MAX_CAPTURE, IsClean};
+ghost use Rattle.fints_syntax.specs.Capture.{IsClean};
 ghost use Rattle.fints_syntax.specs.Streams.{IsReady, IsReadTo, IsStop, IsStreamFault, moved_by, place_in};
 ghost use Rattle.fints_syntax.specs.declared.capture.Placed.{Placed};
+ghost use Rattle.fints_syntax.specs.declared.capture.TheConstants.{MAX_CAPTURE};
 ghost use Rattle.fints_syntax.specs.declared.fault.SyntaxKind.TheVariants as kinds;
 
 use crate::capture::{MAX_CAPTURE, breaks_len};

@@ -7,10 +7,11 @@ use Rattle.fints_documents.specs.Entries.{is_named}
 use Rattle.fints_field_rows.specs.Parts.{Part, ◌>>=◌, both, required, seen}
 use Rattle.fints_field_rows.specs.RowNames.{row_name}
 use Rattle.fints_templates.specs.Elements.{elements_in}
-use Rattle.fints_templates.specs.Weights.{total, MAX_TEMPLATE_ITEMS}
+use Rattle.fints_templates.specs.Weights.{total}
 use Rattle.fints_field_rows.specs.declared.fault.FaultKind.TheVariants as kinds
 use Rattle.fints_field_rows.specs.declared.fields.NamedField.{NamedField}
 use Rattle.fints_templates.specs.declared.template.TemplateItem.{TemplateItem}
+use Rattle.fints_field_rows.specs.declared.limits.TheConstants.{MAX_TEMPLATE_ITEMS}
 use Rattle.fints_templates.specs.declared.template.Signer.{Signer}
 
 -- elements of not too many items; each counts once, since no account field stands there

@@ -1,4 +1,5 @@
 -- How much templates weigh, and how many items they have.
+use Rattle.fints_field_rows.specs.declared.limits.TheConstants.{MAX_TEMPLATE_ITEMS}
 use Rattle.std.specs.Prelude.{ℕ, ◌+◌, ◌-◌, ◌≤◌, List, [], ◌∷◌, length, get_or, Option, SomeIff}
 use Rattle.fints_segments.specs.Spelling.{written}
 use Rattle.fints_templates.specs.declared.template.TemplateItem.{TemplateItem}
@@ -42,10 +43,6 @@ element_count figures items = total (item_count figures) items
 
 abbrev pub items_in : List Figures → List (List TemplateItem) → ℕ
 items_in figures elements = total (element_count figures) elements
-
--- the most items of a list of elements
-abbrev pub MAX_TEMPLATE_ITEMS : ℕ
-MAX_TEMPLATE_ITEMS = 10000
 
 -- what is left of an allowance after a cost; none where it doesn't cover it
 abbrev pub Spends : ℕ → ℕ → Option ℕ → Type 0

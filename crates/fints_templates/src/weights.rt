@@ -1,11 +1,12 @@
 //! How much templates weigh, and how many items they have.
 ghost use Rattle.std.specs.Prelude.{◌≡◌, ◌↔◌, ◌+◌, ◌<◌, ◌≤◌, IsTrue, IfOk, length, map, get_or};
 ghost use Rattle.std.specs.Fmt.{decimal};
-ghost use Rattle.fints_templates.specs.Weights.{Spends, total, item_weight, element_weight, segment_weight, signer_weight, item_count, element_count, items_in, no_figures, MAX_TEMPLATE_ITEMS};
+ghost use Rattle.fints_templates.specs.Weights.{Spends, total, item_weight, element_weight, segment_weight, signer_weight, item_count, element_count, items_in, no_figures};
 ghost use Rattle.fints_templates.specs.Figures.{figures_of};
 
 use crate::template::{Signer, TemplateElements, TemplateItem};
 use fints_field_rows::NamedField;
+use fints_field_rows::limits::MAX_TEMPLATE_ITEMS;
 use fints_fields::FieldClass;
 use fints_segments::{Memory, OwnedItem, decimal_len, written_len};
 use std::alloc::Global;
@@ -141,7 +142,7 @@ fn spend_elements(allowance: u64, figures: &[Figures], elements: &TemplateElemen
 pub fn has_too_many_items(figures: &[Figures], elements: &TemplateElements) -> bool
     ensures { IsTrue result ↔ (MAX_TEMPLATE_ITEMS < items_in figures.now elements.now) }
 {
-    spend_elements(10_000, figures, elements).is_none()
+    spend_elements(MAX_TEMPLATE_ITEMS, figures, elements).is_none()
 }
 
 fn spend_entries(allowance: u64, elements: &TemplateElements) -> Option<u64>
@@ -158,5 +159,5 @@ fn spend_entries(allowance: u64, elements: &TemplateElements) -> Option<u64>
 pub fn has_many_items(elements: &TemplateElements) -> bool
     ensures { IsTrue result ↔ (MAX_TEMPLATE_ITEMS < total length elements.now) }
 {
-    spend_entries(10_000, elements).is_none()
+    spend_entries(MAX_TEMPLATE_ITEMS, elements).is_none()
 }

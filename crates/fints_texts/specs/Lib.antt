@@ -1,3 +1,4 @@
 pub mod Fault
 pub mod Judge
+pub mod JudgeAfter
 pub mod Show

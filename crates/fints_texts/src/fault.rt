@@ -1,6 +1,6 @@
 //! Why inputs have no answer.
 ghost use Rattle.std.specs.Prelude.{◌≡◌};
-ghost use Rattle.fints_texts.specs.Fault.{fault_of, order_fault_of, script_fault_of, case_fault_of, message_fault_of};
+ghost use Rattle.fints_texts.specs.Fault.{answer_fault_of, fault_of, order_fault_of, script_fault_of, case_fault_of, message_fault_of};
 ghost use Rattle.fints_texts.specs.declared.fault.Fault.TheVariants as fault;
 
 use fints_params::ParamFault;
@@ -40,6 +40,12 @@ pub enum Fault {
     /// The first line that is no line of a certificate there; lines count from 1.
     #[error("cert line {line}")]
     Certificate { line: u32 },
+    /// The bytes before a judged message are no message; the offset is that of `NotAMessage`.
+    #[error("before NotAMessage at {offset}")]
+    Before { offset: usize },
+    /// The bank's answer to the message before is refused; want of memory is no such refusal.
+    #[error("answer {0}")]
+    Answer(ParamFault),
     /// The bytes are no message; want of memory is no such refusal.
     #[error("message {0}")]
     Message(JudgeFault),
@@ -119,7 +125,18 @@ impl From<JudgeFault> for Fault {
     fn from(e: JudgeFault) -> Fault {
         match e {
             JudgeFault::Memory => Fault::Memory,
+            JudgeFault::NotAMessageBefore { offset } => Fault::Before { offset },
             _ => Fault::Message(e),
         }
+    }
+}
+
+/// The refusal of the bank's answer to a message.
+pub fn answer_fault(e: ParamFault) -> Fault
+    ensures { result ≡ answer_fault_of e }
+{
+    match e {
+        ParamFault::Memory => Fault::Memory,
+        _ => Fault::Answer(e),
     }
 }

@@ -44,8 +44,8 @@ fn verdict_status(broken: &[Broken]) -> u8
     if broken.is_empty() { 0 } else { 1 }
 }
 
-// The lines of a judged message, and 0 where it is permitted, else 1.
-fn verdict(alloc: Global, broken: &[Broken]) -> Result<Reply, AllocError>
+/// The lines of a judged message, and 0 where it is permitted, else 1.
+pub fn verdict(alloc: Global, broken: &[Broken]) -> Result<Reply, AllocError>
     ensures text { IfOk result (λ reply. reply.text.items ≡ verdict_text broken.now) }
     ensures status { IfOk result (λ reply. reply.status ≡ verdict_status broken.now) }
 {

@@ -15,6 +15,7 @@ use Rattle.fints_wire.proofs.MessageParts.{first_is, tail_of}
 use Rattle.fints_wire.proofs.ReadBack.{is_text}
 use Rattle.fints_wire.proofs.TextLemmas.{found_at}
 use Rattle.fints_wire.proofs.Weighing.{message_light}
+use Rattle.fints_wire.specs.declared.building.TheConstants.{MAX_NUMBER}
 use Rattle.fints_wire.proofs.Writables.{inner_writable, message_writable, size_small}
 
 found_within : {X : Type 0} (xs : List X) (i : ℕ) (x : X) → slice_get xs i ≡ Some x → i < length xs
@@ -26,7 +27,7 @@ sound_step : (script : ScriptValue) (i : ℕ) (step : StepValue) → IsSound scr
 sound_step script i step sound found = subst (IsSoundStep script) (found_at script.steps i step step found) (sound.steps i step (found_within script.steps i step found))
 
 module _ (spelled : WrittenIsSpelled) (has_values : WrittenHasValues) (has_head : WrittenHasHead) where
-  step_read : (script : ScriptValue) (step : StepValue) (number : ℕ) (values : List NamedValue) → IsSound script → IsSoundStep script step → number ≤ 99999 → Admits script.fields values
+  step_read : (script : ScriptValue) (step : StepValue) (number : ℕ) (values : List NamedValue) → IsSound script → IsSoundStep script step → number ≤ MAX_NUMBER → Admits script.fields values
       → IsMessage (message_bytes script step number values) (message_view script step number values)
   step_read script step number values sound h small admits =
       let filling : FillingValue = filling_of script.fields values number in

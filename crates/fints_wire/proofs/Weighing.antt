@@ -36,6 +36,7 @@ use Rattle.fints_wire.specs.Filling.{FillingValue, filling_of, items_of_fields}
 use Rattle.fints_wire.specs.Lengths.{element_len, elements_len, head_len, item_len, items_size, longest_size, longest_sizes, message_len, middle_len, segments_len, Sizes, sizes_of}
 use Rattle.fints_wire.specs.Messages.{end_template, head_template, message_bytes, message_size, no_signer, seal_of, signer_at, signers_of, templates_of}
 use Rattle.fints_wire.proofs.Counting.{IsBare, bare_len, is_bare, number_text-len, size_is, total-append}
+use Rattle.fints_wire.specs.declared.building.TheConstants.{MAX_NUMBER}
 use Rattle.fints_wire.proofs.PartLemmas.{has_parts}
 
 pub total_mono : {X : Type 0} (f g : X → ℕ) (xs : List X) → ((x : X) → f x ≤ g x) → total f xs ≤ total g xs
@@ -188,7 +189,7 @@ pub record IsShort (script : ScriptValue) (step : StepValue) (sizes : Sizes) (nu
   pub few : length (templates_of script step) ≤ 118
   pub whole : message_len script step sizes number < 1048576
 
-pub step_short : (script : ScriptValue) (step : StepValue) (sizes : Sizes) (number : ℕ) → IsSoundStep script step → IsWithin sizes (map figures_of script.fields) → number ≤ 99999 → IsShort script step sizes number
+pub step_short : (script : ScriptValue) (step : StepValue) (sizes : Sizes) (number : ℕ) → IsSoundStep script step → IsWithin sizes (map figures_of script.fields) → number ≤ MAX_NUMBER → IsShort script step sizes number
 step_short script step sizes number h w small =
     let figures : List Figures = map figures_of script.fields in
     let parts = has_parts script step in
@@ -210,7 +211,7 @@ step_short script step sizes number h w small =
       whole = omega arith;
     }
 
-pub step_light : (script : ScriptValue) (step : StepValue) (sizes : Sizes) (number : ℕ) → IsSoundStep script step → IsWithin sizes (map figures_of script.fields) → number ≤ 99999 → message_len script step sizes number < 1048576
+pub step_light : (script : ScriptValue) (step : StepValue) (sizes : Sizes) (number : ℕ) → IsSoundStep script step → IsWithin sizes (map figures_of script.fields) → number ≤ MAX_NUMBER → message_len script step sizes number < 1048576
 step_light script step sizes number h w small = (step_short script step sizes number h w small).whole
 
 -- ---- values
@@ -266,7 +267,7 @@ choice_light script values number sound admits =
     }
 
 -- the message is as long as its first segment says, and short
-pub message_light : (script : ScriptValue) (step : StepValue) (values : List NamedValue) (number : ℕ) → IsSound script → IsSoundStep script step → Admits script.fields values → number ≤ 99999
+pub message_light : (script : ScriptValue) (step : StepValue) (values : List NamedValue) (number : ℕ) → IsSound script → IsSoundStep script step → Admits script.fields values → number ≤ MAX_NUMBER
     → (length (message_bytes script step number values) ≡ message_size script step (filling_of script.fields values number) number) × (length (message_bytes script step number values) < 1048576)
 message_light script step values number sound h admits small =
     let filling : FillingValue = filling_of script.fields values number in

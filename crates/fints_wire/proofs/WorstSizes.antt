@@ -25,6 +25,7 @@ use Rattle.fints_wire.specs.Filling.{filling_of, items_of_fields}
 use Rattle.fints_wire.specs.Lengths.{element_len, elements_len, item_len, items_size, longest_size, longest_sizes, message_len, middle_len, segments_len, Sizes, sizes_of}
 use Rattle.fints_wire.specs.Messages.{message_bytes, seal_of, templates_of}
 use Rattle.fints_wire.proofs.Counting.{size_is}
+use Rattle.fints_wire.specs.declared.building.TheConstants.{MAX_NUMBER}
 use Rattle.fints_wire.proofs.Weighing.{dialog_written, items_size-joined, longest_within, step_short, total_mono}
 
 -- nothing counts for more than in b
@@ -142,7 +143,7 @@ two_at_least (f ∷ fs) some h = let sixty = dialog_written f.class h.1 in omega
 
 -- ---- messages
 
-module _ (script : ScriptValue) (step : StepValue) (number : ℕ) (sound : IsSound script) (h : IsSoundStep script step) (small : number ≤ 99999) where
+module _ (script : ScriptValue) (step : StepValue) (number : ℕ) (sound : IsSound script) (h : IsSoundStep script step) (small : number ≤ MAX_NUMBER) where
   pub size_attained : message_len script step (longest_sizes script.fields number) number ≡ length (message_bytes script step number (longest_choice script.fields))
   size_attained =
       let short = step_short script step (longest_sizes script.fields number) number h (longest_within script number sound) small in

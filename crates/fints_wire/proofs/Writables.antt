@@ -26,6 +26,7 @@ use Rattle.fints_wire.specs.Messages.{first_segment, inner_segments, last_segmen
 use Rattle.fints_wire.proofs.Counting.{inner-len}
 use Rattle.fints_wire.proofs.FilledLemmas.{dialog_some, sealed_filled, templates_filled}
 use Rattle.fints_wire.proofs.ItemCounts.{dialog_few, sealed_few, templates_few, tokens-len}
+use Rattle.fints_wire.specs.declared.building.TheConstants.{MAX_NUMBER}
 use Rattle.fints_wire.proofs.Weighing.{HNHBK_kind, HNHBS_kind, HNVSD_kind, HNVSK_kind, IsShort, IsSmall, choice_light, message_light, small_templates, step_short}
 
 abbrev HasItem : List OwnedItem → Type 0
@@ -96,7 +97,7 @@ middle_proper true seal inner some few h =
 
 -- ---- a step's message
 
-module _ (script : ScriptValue) (step : StepValue) (values : List NamedValue) (number : ℕ) (sound : IsSound script) (h : IsSoundStep script step) (admits : Admits script.fields values) (small : number ≤ 99999) where
+module _ (script : ScriptValue) (step : StepValue) (values : List NamedValue) (number : ℕ) (sound : IsSound script) (h : IsSoundStep script step) (admits : Admits script.fields values) (small : number ≤ MAX_NUMBER) where
   abbrev filling : FillingValue
   filling = filling_of script.fields values number
 

@@ -16,6 +16,10 @@ use fints_script::{Plan, Step, Values};
 use fints_syntax::{Elements, Memory, OwnedSegment, write_segment};
 use std::alloc::Global;
 
+/// The greatest number of a message that is built. Runs send none above 99 times the most steps of a
+/// script, and the weight of a step leaves room for so many digits.
+pub const MAX_NUMBER: u32 = 99_999;
+
 fn write_part(
     alloc: Global,
     out: &mut Vec<u8>,
@@ -155,7 +159,7 @@ pub fn build(
     requires from { 1 ≤ step }
     requires to { step ≤ length plan.now.script.steps }
     requires first { 1 ≤ number }
-    requires last { number ≤ 99999 }
+    requires last { number ≤ MAX_NUMBER }
     requires admits { Admits plan.now.script.fields values.now }
     ensures bytes { OfStep plan.now.script.steps step (λ s. IfOk result (λ bytes. bytes.items ≡ message_bytes plan.now.script s number values.now)) }
     ensures size { OfStep plan.now.script.steps step (λ s. IfOk result (λ bytes. length bytes.items ≡ size_under plan.now.script s number values.now)) }

@@ -4,6 +4,7 @@ ghost use Rattle.fints_cases.specs.Answers.{IsAnswer};
 ghost use Rattle.fints_script.specs.Plans.{Admits};
 ghost use Rattle.std.specs.List.{All, AllByRecursion};
 ghost use Rattle.fints_wire.specs.Views.{IsReadAs};
+ghost use Rattle.fints_wire.specs.declared.building.TheConstants.{MAX_NUMBER};
 ghost use Rattle.fints_wire.specs.Runs.{AreSent, AreVisits, Finishes, Follows, IsSent, IsWithin, Run};
 
 use crate::building::build;
@@ -33,7 +34,7 @@ pub struct Sent {
 fn follow(plan: &Plan, here: Visit, answer: &Answer) -> Option<Visit>
     requires from { 1 ≤ here.step }
     requires to { here.step ≤ length plan.now.script.steps }
-    requires number { here.number < 99999 }
+    requires number { here.number < MAX_NUMBER }
     requires times { here.times ≤ 99 }
     ensures { MatchOption result (Finishes plan.now.script.steps here answer.now) (Follows plan.now.script.steps here answer.now) }
 {

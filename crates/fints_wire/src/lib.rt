@@ -12,7 +12,7 @@ pub mod run_laws;
 mod values;
 mod worst;
 
-pub use building::build;
+pub use building::{MAX_NUMBER, build};
 pub use dialogue::{Sent, Visit, message, run, visits};
 pub use values::{least_values, worst_values};
 pub use worst::worst_size;

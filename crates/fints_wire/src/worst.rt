@@ -9,6 +9,7 @@ ghost use Rattle.fints_script.specs.Sound.{IsSound, IsSoundStep};
 ghost use Rattle.fints_script.specs.Steps.{StepValue};
 ghost use Rattle.fints_wire.specs.Choices.{NoneIsLonger, longest_message};
 ghost use Rattle.fints_wire.specs.Lengths.{between_len, binary_size, element_len, elements_len, head_len, item_len, longest_size, longest_sizes, message_len, number_len, segment_len, segments_len};
+ghost use Rattle.fints_wire.specs.declared.building.TheConstants.{MAX_NUMBER};
 ghost use Rattle.fints_wire.specs.Messages.{seal_of, templates_of};
 
 use crate::part::{Part, part_at, part_count};
@@ -112,7 +113,7 @@ fn count_part(plan: &Plan, number: u32, part: &Part, n: u64, before: u64) -> u64
 fn segments_size<'a>(plan: &'a Plan<'a>, step: &'a Step, number: u32) -> u64
     requires sound { IsSound plan.now.script }
     requires step { IsSoundStep plan.now.script step.now }
-    requires number { number ≤ 99999 }
+    requires number { number ≤ MAX_NUMBER }
     ensures { result ≡ segments_len (longest_sizes plan.now.script.fields number) 2 (templates_of plan.now.script step.now) }
 {
     let mut size = 0u64;
@@ -146,7 +147,7 @@ fn envelope_size(inner: u64) -> u64
 fn middle_size<'a>(plan: &'a Plan<'a>, step: &'a Step, number: u32) -> u64
     requires sound { IsSound plan.now.script }
     requires step { IsSoundStep plan.now.script step.now }
-    requires number { number ≤ 99999 }
+    requires number { number ≤ MAX_NUMBER }
     ensures { result ≡ between_len plan.now.script step.now (longest_sizes plan.now.script.fields number) }
 {
     let inner = segments_size(plan, step, number);
@@ -175,7 +176,7 @@ fn frame_size(step: &Step, number: u32) -> u64
 fn message_size<'a>(plan: &'a Plan<'a>, step: &'a Step, number: u32) -> u64
     requires sound { IsSound plan.now.script }
     requires step { IsSoundStep plan.now.script step.now }
-    requires number { number ≤ 99999 }
+    requires number { number ≤ MAX_NUMBER }
     ensures { result ≡ message_len plan.now.script step.now (longest_sizes plan.now.script.fields number) number }
 {
     let middle = middle_size(plan, step, number);
@@ -188,7 +189,7 @@ pub fn worst_size(plan: &Plan, step: usize, number: u32) -> u64
     requires from { 1 ≤ step }
     requires to { step ≤ length plan.now.script.steps }
     requires first { 1 ≤ number }
-    requires last { number ≤ 99999 }
+    requires last { number ≤ MAX_NUMBER }
     ensures attained { (s : StepValue) → numbered plan.now.script.steps step ≡ Some s → result ≡ length (longest_message plan.now.script s number) }
     ensures most { NoneIsLonger plan.now.script step number result }
     ensures short { result < 1048576 }

@@ -3,4 +3,4 @@
 
 mod words;
 
-pub use words::{Asked, Request, RunFiles, ScriptFiles, read_words};
+pub use words::{Asked, EarlierFiles, JudgeFiles, Request, RunFiles, ScriptFiles, read_words};

@@ -12,10 +12,11 @@ use Rattle.fints_wire.specs.Views.{MessagesAreRead, message_view}
 use Rattle.fints_wire.specs.Messages.{message_bytes}
 use Rattle.fints_check.specs.Searching.{BreaksUnder}
 use Rattle.fints_check.proofs.FigureRules.{other_rule, size_some, size_each}
+use Rattle.fints_wire.specs.declared.building.TheConstants.{MAX_NUMBER}
 use Rattle.fints_check.proofs.searching.is_broken.Goals as goal
 
 reads : (script : ScriptValue) (n : ℕ) (step : StepValue) → IsSound script → MessagesAreRead → numbered script.steps n ≡ Some step
-    → (number : ℕ) (values : List NamedValue) → 1 ≤ number → number ≤ 99999 → Admits script.fields values → IsMessage (message_bytes script step number values) (message_view script step number values)
+    → (number : ℕ) (values : List NamedValue) → 1 ≤ number → number ≤ MAX_NUMBER → Admits script.fields values → IsMessage (message_bytes script step number values) (message_view script step number values)
 reads script n step sound read at number values low high admits = read script (n - 1) step number values sound (numbered_from script.steps n step at) low high admits
 
 sound_at : (script : ScriptValue) (n : ℕ) (step : StepValue) → IsSound script → numbered script.steps n ≡ Some step → IsSoundStep script step

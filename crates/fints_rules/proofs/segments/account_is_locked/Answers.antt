@@ -1,4 +1,4 @@
-use Rattle.fints_rules.specs.Permits.{IsLocked}
+use Rattle.fints_rules_permissions.specs.Permits.{IsLocked}
 use Rattle.fints_rules.proofs.AccountLemmas.{no_name, more_unlocked}
 use Rattle.fints_rules.proofs.segments.account_is_locked.Goals as goal
 

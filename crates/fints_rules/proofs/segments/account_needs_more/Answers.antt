@@ -1,4 +1,4 @@
-use Rattle.fints_rules.specs.Permits.{AllNeedMore}
+use Rattle.fints_rules_permissions.specs.Permits.{AllNeedMore}
 use Rattle.fints_rules.proofs.AccountLemmas.{no_name, locked_fits}
 use Rattle.fints_rules.proofs.segments.account_needs_more.Goals as goal
 

@@ -1,10 +1,10 @@
 use Rattle.std.proofs.Common.{◌≡◌, ◌≢◌, Some, ◌+◌, ◌-◌, ◌≤◌, ◌++◌, ◌∙◌, [], length, drop, refl, ap, sym, subst, arith}
-use Rattle.fints_syntax.specs.Capture.{MAX_CAPTURE}
 use Rattle.fints_syntax.specs.Streams.{IsReadTo, IsStreamFault}
 use Rattle.fints_syntax.specs.declared.fault.SyntaxKind.TheVariants.{Memory}
 use Rattle.fints_feeder.specs.Feeding.{Fed, IsGiven, IsRefused}
 use Rattle.fints_feeder.specs.Inside.{fed_of}
 use Rattle.fints_feeder.proofs.Feeds.{none_of, nothing_begun, given, refused, few}
+use Rattle.fints_syntax.specs.declared.capture.TheConstants.{MAX_CAPTURE}
 use Rattle.fints_feeder.proofs.feeder.Feeder.feed.Goals as goal
 
 pub read_piece-requires-clause-ready : goal.read_piece-requires-clause-ready

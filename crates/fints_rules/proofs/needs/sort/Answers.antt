@@ -1,7 +1,0 @@
-use Rattle.std.proofs.Common.{rules}
-use Rattle.fints_rules.specs.Needs.{seen_at}
-use Rattle.fints_rules.proofs.NeedLemmas.{sorted_by}
-use Rattle.fints_rules.proofs.needs.sort.Goals as goal
-
-pub returns-clause-sorted : goal.returns-clause-sorted
-returns-clause-sorted c = sorted_by (seen_at c.args.rows.now) _ c.sort_unstable_by.ensures.sorted (λ a r f called. search rules)

@@ -1,0 +1,10 @@
+pub mod AccountFields
+pub mod Accounts
+pub mod AccountRows
+pub mod Kinds
+pub mod Orders
+pub mod OrderFaults
+pub mod Laws
+pub mod Permits
+pub mod LimitMaps
+pub mod Needs

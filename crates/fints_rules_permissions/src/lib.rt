@@ -1,0 +1,17 @@
+//! What a bank permits, by its captured parameters and an order table: the order table and the
+//! look-ups that rules ask. It knows no message and no rule.
+#![tactic(auto)]
+
+mod account;
+mod hashing;
+pub mod kinds;
+pub mod laws;
+mod limits;
+mod needs;
+mod orders;
+mod permissions;
+
+pub use account::AccountKey;
+pub use limits::{Demand, Limits, OrderKey};
+pub use orders::{AccountForm, MAX_ROWS, OrderRow, OrderTable, TableFault};
+pub use permissions::{Permissions, Permit};
