@@ -2,15 +2,19 @@
 """Compares what the built program says of all runs of small scripts with the runs themselves.
 
 For each script of tools/small_scripts.toml, each choice of its listed values and each list of its
-listed answers, `run` makes the messages and `judge` names what they break. What was seen so must be
-what `check` prints: the rules broken in each step, its greatest number and its greatest size. And
-each case that `explain` prints must be a run that breaks what it is a case of. One script more has
-10,200 messages in a row, the last 201 with numbers that P2 refuses. Of further scripts, which break
-nothing, the certificate must be valid, and with any figure one less, or none, invalid. And of scripts
-with long fields the run with the longest values must have the figures that `check` prints.
+listed answers, `run` makes the messages and `judge` names what each breaks by itself; what it breaks
+behind the message before and the answer between, P11, is found here, in their bytes and codes. What
+was seen so must be what `check` prints: the rules broken in each step, its greatest number and its
+greatest size. These figures as a certificate must be valid where nothing is broken, and else invalid.
+And each case that `explain` prints must be a run whose last message breaks what it is a case of. One
+script more has 10,200 messages in a row, the last 201 with numbers that P2 refuses. Of further
+scripts, which break nothing, the certificate must be valid, and with any figure one less, or none,
+invalid. And of scripts with long fields the run with the longest values must have the figures that
+`check` prints.
 
 The last line tells how many scripts passed and failed.
 """
+import functools
 import itertools
 import os
 import re
@@ -22,7 +26,8 @@ from concurrent.futures import ThreadPoolExecutor
 
 TOP = os.path.dirname(os.path.dirname(os.path.abspath(__file__)))
 PROGRAM = f"{TOP}/crates/fints/out/fints"
-FINDING = re.compile(r"broken (\S+) (P\d+) (\S+) segment (\d+)")
+RULES = 12
+ITEM = re.compile(rb"@(\d+)@|((?:\?.|[^+:'?])*)", re.S)
 MESSAGE = re.compile(rb"message (\d+) step (\S+) size (\d+)\n")
 
 
@@ -53,6 +58,32 @@ def value_of(word):
 def case_text(names, values, answers):
     lines = ["fints-case 1", *(f"field {name} {value.hex() or '-'}" for name, value in zip(names, values))]
     return "\n".join([*lines, *(f"answer {it.replace('+', ' ')}" for it in answers)]) + "\n"
+
+
+def segments(text):
+    """The segments of a text: elements of items, by their values."""
+    at, elements = 0, [[]]
+    while at < len(text):
+        item = ITEM.match(text, at)
+        end = item.end() + int(item[1] or 0)
+        value = text[item.end() : end] if item[1] else re.sub(rb"\?(.)", rb"\1", item[2], flags=re.S)
+        elements[-1].append(value)
+        if text[end : end + 1] == b"+":
+            elements.append([])
+        elif text[end : end + 1] == b"'":
+            yield elements
+            elements = [[]]
+        at = end + 1
+
+
+@functools.cache
+def told(message):
+    """Whether a message submits an order, and whether it sends a TAN for one or ends the dialogue."""
+    outer = list(segments(message))
+    inner = [it for data in outer if data[0][0] == b"HNVSD" for it in segments(data[1][0])]
+    kinds = {it[0][0] for it in outer + inner}
+    processes = {it[1][0] for it in outer + inner if it[0][0] == b"HKTAN" and it[1:]}
+    return b"4" in processes, b"2" in processes or b"HKEND" in kinds
 
 
 class Script:
@@ -87,6 +118,19 @@ class Script:
             self.judged[message] = {(it.split()[0], it.split()[1], int(it.split()[3])) for it in lines[:-1]}
         return self.judged[message]
 
+    def judged_run(self, case):
+        """The messages of a run, each with what it breaks: by itself, and behind the one before it
+        and the answer between them."""
+        answers = [line.split()[1:] for line in case.splitlines() if line.startswith("answer ")]
+        submitted = False
+        for (number, step, message), codes in zip(self.run(case), [[], *answers]):
+            broken = self.judge(message)
+            submits, releases = told(message)
+            if submitted and "0030" in codes and not releases:
+                broken = broken | {("P11", "release", 0)}
+            yield number, step, message, broken
+            submitted = submits
+
 
 class Seen:
     """What the messages of runs broke, and the greatest figures of each step."""
@@ -96,10 +140,17 @@ class Seen:
 
     def add(self, case):
         self.runs += 1
-        for number, step, message in self.script.run(case):
+        for number, step, message, broken in self.script.judged_run(case):
             old = self.figures.get(step, (0, 0))
             self.figures[step] = max(old[0], number), max(old[1], len(message))
-            self.findings |= {(step, *it) for it in self.script.judge(message)}
+            self.findings |= {(step, *it) for it in broken}
+
+    def certificate(self):
+        """The certificate with the greatest figures that the runs show."""
+        yield "fints-cert 2"
+        for step in self.script.steps:
+            figures = self.figures.get(step)
+            yield f"step {step} {figures[0]} {figures[1]}" if figures else f"step {step} -"
 
     def report(self):
         """The report on a script whose runs show this."""
@@ -113,17 +164,21 @@ class Seen:
 
 
 def breaks(script, head, case):
-    """Whether the run of a case breaks what stands in the case's head."""
+    """Whether the last message of a case's run breaks what stands in the case's head."""
     step, rule, name, segment = re.match(r"case \d+ (\S+) (P\d+) (\S+) segment (\d+)", head).groups()
-    return any((rule, name, int(segment)) in script.judge(it[2]) for it in script.run(case) if it[1] == step)
+    *_, (_, last, _, broken) = script.judged_run(case)
+    return last == step and (rule, name, int(segment)) in broken
 
 
 def compared(script, seen, label):
-    """Whether `check` and `explain` say what was seen."""
+    """Whether `check`, `verify` and `explain` say what was seen."""
     report = "".join(f"{line}\n" for line in seen.report())
-    told, explained = script.ask("check"), script.ask("explain")
-    if told != report:
-        print(f"all-runs: {label}: check prints\n{told}and the runs show\n{report}", file=sys.stderr)
+    checked, explained = script.ask("check"), script.ask("explain")
+    if checked != report:
+        print(f"all-runs: {label}: check prints\n{checked}and the runs show\n{report}", file=sys.stderr)
+        return False
+    if is_valid(script, seen.certificate()) == bool(seen.findings):
+        print(f"all-runs: {label}: verify says something else of the figures", file=sys.stderr)
         return False
     parts = re.split(r"^(?=case )", explained, flags=re.M)
     cases = [it.split("\n", 1) for it in parts[1:]]
@@ -174,7 +229,8 @@ def lesser(line):
 def clean(data, row, repeat, room):
     """Whether the certificate of a script that breaks nothing has the least figures."""
     steps = expanded(row["steps"].replace("@", str(repeat)), data["words"])
-    script = Script(room, data["banks"]["c1"], data["orders"], f"step = [{steps}]\n")
+    text = data["head"] + "]\nstep = [" + steps + "]\n"
+    script = Script(room, data["banks"][row.get("bank", "c1")], data["orders"], text)
     lines = script.ask("certify").splitlines()
     sent = [i for i, line in enumerate(lines) if i and not line.endswith(" -")]
     below = ([*lines[:i], it, *lines[i + 1 :]] for i in sent for it in lesser(lines[i]))
@@ -228,7 +284,7 @@ def main():
     rules = {finding[1] for _, seen in results for finding in seen.findings}
     print(f"all-runs: {sum(seen.runs for _, seen in results)} runs, {len(rules)} rules broken", file=sys.stderr)
     print(f"{sum(goods)} passed, {len(goods) - sum(goods)} failed")
-    return 0 if all(goods) and len(rules) == 10 else 1
+    return 0 if all(goods) and len(rules) == RULES else 1
 
 
 if __name__ == "__main__":

@@ -8,20 +8,22 @@ room=$(mktemp -d)
 trap 'rm -rf "$room"' EXIT
 TIMEFORMAT=%R
 
-# A script of so many steps with 20 branches each. Branch 1 leads to the next step. `open`: each
-# branch fires under codes of its own. `closed`: the first takes every code, and no other can fire.
-# `late`: the branch before the last takes all that the first ones leave, but for one code.
+# A script of so many steps with 20 branches each and one segment. Branch 1 leads to the next step.
+# `open`: each branch fires under codes of its own. `closed`: the first takes every code, and no other
+# can fire. `late`: the branch before the last takes all that the first ones leave, but for one code.
+# `carrying`: each fires under codes of its own, of which none is 0030, and so where 0030 stands beside.
 branches() {
-    awk -v steps="$1" -v kind="$2" '
+    awk -v steps="$1" -v kind="$2" -v segment="$3" '
     function on(j) {
         if (kind == "open") return sprintf("%02d**", j - 1)
+        if (kind == "carrying") return sprintf("%02d**", j)
         if (kind == "closed") return j == 1 ? "****" : sprintf("%02d**", j)
         return j < 10 ? sprintf("%d***", j - 1) : j < 19 ? sprintf("9%d**", j - 10) : sprintf("99%d*", j - 11)
     }
     BEGIN {
         print "step = ["
         for (i = 1; i <= steps; i++) {
-            printf "{name = \"s%d\", segments = [{kind = \"HKEND\", version = 1, elements = [\"$dialog\"]}], repeat = 9, branches = [", i
+            printf "{name = \"s%d\", segments = [%s], repeat = 9, branches = [", i, segment
             for (j = 1; j <= 20; j++) {
                 to = i + j <= steps ? "s" (i + j) : "again"
                 printf "{on = \"%s\", to = \"%s\"}, ", on(j), to
@@ -80,15 +82,21 @@ show() {
         "$(wc -l < "$room/told")" "$(sort -n "$room/times" | head -1)"
 }
 
+end='{kind = "HKEND", version = 1, elements = ["$dialog"]}'
+tan='{kind = "HKTAN", version = 6, elements = ["4"]}'
 order='{kind="HKCCS",version=1,elements=["$acct"]}'
 pads=$(printf '"$pad",%.0s' {1..48})
 bank 0 > "$room/few.fints"
 bank 200 > "$room/many.fints"
 bank 20000 > "$room/most.fints"
-for kind in open closed late; do
-    for count in 50 100 200; do
-        branches "$count" "$kind" > "$room/script.toml"
+for count in 200 500 1000; do
+    for kind in open closed late; do
+        branches "$count" "$kind" "$end" > "$room/script.toml"
         show "$count steps, 20 $kind branches each" "$room/few.fints"
+    done
+    for kind in open carrying; do
+        branches "$count" "$kind" "$tan" > "$room/script.toml"
+        show "$count steps that submit an order, 20 $kind branches each" "$room/few.fints"
     done
 done
 { echo 'field = ['; accounts 100; echo ']'; steps 1 100 "$order"; } > "$room/script.toml"
@@ -100,9 +108,9 @@ show "100 accounts in 20,000 orders" "$room/few.fints"
 show "100 accounts in 20,000 orders, 202 rows of accounts" "$room/many.fints"
 {
     echo 'field = [{name = "pad", class = "text", min = 0, max = 10000}]'
-    steps 200 1 "{kind = \"HKEND\", version = 1, elements = [$pads]}"
+    steps 1000 1 "{kind = \"HKEND\", version = 1, elements = [$pads]}"
 } > "$room/script.toml"
-show "200 steps near the limit of weight" "$room/few.fints"
+show "1000 steps near the limit of weight" "$room/few.fints"
 {
     echo 'field = [{name = "pad", class = "text", min = 0, max = 1000}]'
     steps 200 100 '{kind="HKEND",version=1,elements=["$pad","x"]}'

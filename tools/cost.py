@@ -119,15 +119,23 @@ def lines(count):
     return "fints-case 1\nfield dialog 41\n" + "".join(f"field {name(i).lower()} -\n" for i in range(count))
 
 
-def hostile(count):
-    """Steps with 20 branches, each of which a late code opens."""
-    on = [f"{j}***" for j in range(9)] + [f"9{j}**" for j in range(9)] + [f"99{j}*" for j in range(2)]
-    steps = []
-    for i in range(1, count + 1):
-        to = [f"s{i + j}" if i + j <= count else "again" for j in range(1, 21)]
-        ways = ", ".join(f'{{on = "{a}", to = "{b}"}}' for a, b in zip(on, to))
-        steps.append(f'[[step]]\nname = "s{i}"\nrepeat = 9\nbranches = [{ways}]\n{ENDS}\n')
-    return "".join(steps)
+def branching(on, segments):
+    """Steps with a branch for each of 20 patterns."""
+
+    def text(count):
+        steps = []
+        for i in range(1, count + 1):
+            to = [f"s{i + j}" if i + j <= count else "again" for j in range(1, 21)]
+            ways = ", ".join(f'{{on = "{a}", to = "{b}"}}' for a, b in zip(on, to))
+            steps.append(f'[[step]]\nname = "s{i}"\nrepeat = 9\nbranches = [{ways}]\n{segments}\n')
+        return "".join(steps)
+
+    return text
+
+
+# Each branch is opened by a late code; and each carries 0030 to a step that releases no order.
+hostile = branching([f"{j}***" for j in range(9)] + [f"9{j}**" for j in range(9)] + [f"99{j}*" for j in range(2)], ENDS)
+unreleased = branching([f"{j:02}**" for j in range(1, 21)], 'segments = [{kind = "HKTAN", version = 6, elements = ["4"]}]')
 
 
 def heavy(count):
@@ -156,7 +164,7 @@ def measured(room):
     judge = lambda make, file, of=ORDERS: lambda n: ["judge", "--params", room.file(make(n)), "--orders", of, "--message", file]
     run = lambda script, case: ["run", "--orders", ORDERS, "--script", script, "--case", case]
     case, end = f"{INPUTS}/no-answer.case", f"{INPUTS}/end.toml"
-    check = lambda n: ["check", "--params", C1, "--orders", ORDERS, "--script", room.file(hostile(n))]
+    on = lambda command, make: lambda n: [command, "--params", C1, "--orders", ORDERS, "--script", room.file(make(n))]
     half = MOST_CAPTURE // 2
     return [
         ("show, an ordinary capture", "bytes", m, show(ordinary)),
@@ -177,8 +185,10 @@ def measured(room):
         ("run, a oneof of many values", "values", 80 * k, lambda n: run(room.file(listed("oneof", '"%s"')(n)), case)),
         ("run, an account of many values", "values", 62_500, lambda n: run(room.file(listed("account", '["%s"]')(n)), case)),
         ("run, a case of many fields", "lines", 40 * k, lambda n: run(end, room.file(lines(n)))),
-        ("check, steps with 20 hostile branches each", "steps", 100, check),
-        ("explain, steps with 20 hostile branches each", "steps", 100, lambda n: ["explain", *check(n)[1:]]),
+        ("check, steps with 20 hostile branches each", "steps", 500, on("check", hostile)),
+        ("explain, steps with 20 hostile branches each", "steps", 500, on("explain", hostile)),
+        ("check, steps that submit orders, 20 branches each", "steps", 500, on("check", unreleased)),
+        ("explain, steps that submit orders, 20 branches each", "steps", 500, on("explain", unreleased)),
         ("run, messages of 980 kB", "messages", 198, lambda n: run(room.file(heavy(n // 99)), room.file(heavy_case(n // 99)))),
     ]
 

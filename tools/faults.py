@@ -167,7 +167,8 @@ def later(call, *words, **named):
 
 
 def in_all_commands(lab):
-    """The runs in which each growth is refused, each command on each of five inputs, by labels."""
+    """The runs in which each growth is refused, by labels: each command on each of five inputs, and
+    those that tell of P11 on a sixth."""
     ended = row("check/end-of-a-dialogue")
     fork = row("check/fork")
     second = row("run/fork").want.out.split(b"message 2 step done size 55\n")[1][:-1]
@@ -201,6 +202,10 @@ def in_all_commands(lab):
             *(row(f"{it}/repeated-nine-times") for it in "check certify verify".split()),
             row("explain/repeated-ten-times"),
             row("certify/forty-steps-of-many-ways"),
+        ],
+        "release": [
+            *(row(f"explain/{it}") for it in ("order-without-its-release", "release-before-procedure")),
+            *(row(f"{it}/order-and-end") for it in ("certify", "verify")),
         ],
         "dialogue": [
             *(row(f"dialogue/{it}") for it in "show judge-transfer run run-message-4 check".split()),
@@ -482,7 +487,7 @@ def families(lab):
     names += [f"dialogue/{it}" for it in sorted(os.listdir(f"{ROWS}/dialogue")) if it.startswith("check")]
     told = [it for it in names if row(it).want.status <= 1]
     lab.note(len(told) >= 30, f"only {len(told)} rows of check have a report", ROWS, ["ls", "check", "dialogue"])
-    jobs = [later(padded, lab, m) for m in range(1201)] + [later(many_ways, lab, n) for n in range(1, 201)]
+    jobs = [later(padded, lab, m) for m in range(1201)] + [later(many_ways, lab, n) for n in (*range(1, 201), 500, 999, 1000)]
     lab.each(jobs + [later(other_names, lab, it) for it in told])
 
 

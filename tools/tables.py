@@ -15,12 +15,13 @@ PROGRAM = TOP / "crates" / "fints" / "out" / "fints"
 
 def repeated(piece):
     """So many copies of a piece, in each of which `#` is the copy's number."""
-    return "".join(piece[2].replace("#", str(i)) for i in range(1, int(piece[1]) + 1))
+    first, last = int(piece[1] or 1), int(piece[2])
+    return "".join(piece[3].replace("#", str(i)) for i in range(first, last + 1))
 
 
 def text_of(part):
     """The text that a row's part stands for."""
-    return re.sub(r"⟨(\d+) (.*?)⟩", repeated, part).replace("⏎", "\n")
+    return re.sub(r"⟨(?:(\d+)-)?(\d+) (.*?)⟩", repeated, part).replace("⏎", "\n")
 
 
 def is_told(wanted, run):
@@ -30,7 +31,10 @@ def is_told(wanted, run):
         return run.returncode in (0, 1) and not err
     if wanted.startswith("error: "):
         return (run.returncode, out, err) == (3, "", f"{wanted}\n")
-    return (run.returncode, out, err) == (int(wanted == "invalid"), f"{wanted}\n", "")
+    text = wanted.removeprefix(".. ").replace("⏎", "\n") + "\n"
+    good = out.endswith(f"\n{text}") if wanted.startswith(".. ") else out == text
+    status = int(text.splitlines()[-1].startswith(("invalid", "findings ")))
+    return good and (run.returncode, err) == (status, "")
 
 
 def run_row(room, words, text, wanted):
