@@ -177,7 +177,6 @@ fn verify_loaded(
     }
 }
 
-#[tactic(auto, using(crate::proofs::FileLemmas::files_verified, crate::proofs::FileLemmas::files_not_verified))]
 fn verify_files<F: Files>(
     alloc: Global,
     files: &mut F,
@@ -327,7 +326,6 @@ fn judge_after_loaded(
     }
 }
 
-#[tactic(auto, using(crate::proofs::FileLemmas::files_judged_after, crate::proofs::FileLemmas::files_not_judged_after))]
 fn judge_after_files<F: Files>(
     alloc: Global,
     files: &mut F,

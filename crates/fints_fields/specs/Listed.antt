@@ -1,6 +1,6 @@
 -- Values that are listed one by one.
 use Rattle.fints_fields.specs.declared.counted.TheConstants.{MAX_LEN}
-use Rattle.fints_fields.specs.declared.listing.TheConstants.{MAX_ITEMS, MAX_VALUES}
+use Rattle.fints_fields.specs.declared.listing.TheConstants.{MAX_ITEMS}
 use Rattle.std.specs.Prelude.{ℕ, ◌≡◌, ◌<◌, ◌≤◌, ◌⊎◌, max, nat_lt, if◌then◌else◌, List, [], ◌∷◌, ◌++◌, length, map, All}
 use Rattle.std.specs.Str.{bytes_eq}
 use Rattle.fints_segments.specs.declared.item.OwnedItem.{OwnedItem}

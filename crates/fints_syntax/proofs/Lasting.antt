@@ -1,16 +1,14 @@
 -- A fault of bytes lasts where more bytes follow.
-use Rattle.std.proofs.Common.{◌≡◌, ◌≢◌, ◌⊎◌, ℕ, ◌+◌, ◌-◌, ◌<◌, ◌≤◌, true, List, [], ◌∷◌, ◌++◌, length, take, drop, refl, ap, ◌∙◌, sym, subst, arith, inl, inr, append_assoc}
-use Rattle.std.specs.List.{AllByRecursion, flat_map}
+use Rattle.std.proofs.Common.{◌≡◌, ◌≢◌, ◌⊎◌, ℕ, ◌-◌, ◌≤◌, true, List, [], ◌∷◌, ◌++◌, length, take, drop, refl, ap, ◌∙◌, sym, subst, arith, inl, inr, append_assoc}
+use Rattle.std.specs.List.{flat_map}
 use Rattle.std.specs.Str.Parse.{AllDigits, digits_value}
-use Rattle.std.proofs.lemmas.Bool.{cases_lt}
 use Rattle.std.proofs.lemmas.Bool.Decides.{nat_tests}
-use Rattle.std.proofs.lemmas.List.{append-nil, length-append, drop-append-le, take-append-le, take_all}
-use Rattle.fints_segments.specs.Spelling.{Spelled, spelled_bytes, escaped, plain, text, binary, IsLength, is_separator}
-use Rattle.fints_segments.specs.Segment.{segment_bytes, tokens_bytes, IsFramed}
+use Rattle.std.proofs.lemmas.List.{append-nil, length-append, drop-append-le, take-append-le}
+use Rattle.fints_segments.specs.Spelling.{Spelled, escaped, plain, text, binary, IsLength, is_separator}
+use Rattle.fints_segments.specs.Segment.{segment_bytes, tokens_bytes}
 use Rattle.fints_syntax.specs.Faults.{BeginsWithItem, IsCutBinary, IsBadBinary, Opens, IsBadAt, HasTooManyItems, IsUnfinished, BeginsFramed, BeginsWithSegment, KindAt, window_of}
-use Rattle.fints_syntax.specs.Capture.{piece_bytes, ReadsPlaced, FaultsAt}
+use Rattle.fints_syntax.specs.Capture.{piece_bytes, FaultsAt}
 use Rattle.fints_syntax.specs.Streams.{IsSplit, PieceFaultAt}
-use Rattle.fints_syntax.specs.declared.capture.Placed.{Placed}
 use Rattle.fints_syntax.specs.declared.fault.SyntaxKind.{SyntaxKind}
 use Rattle.fints_syntax.specs.declared.fault.SyntaxKind.TheVariants.{Memory, BadBinary, TooLong, Incomplete, BadHead, CaptureTooLong, Failed}
 use Rattle.fints_syntax.proofs.Tokens.{one_segment}

@@ -1,5 +1,5 @@
 -- What a signer's row and the seal are, or the first kind of fault in them.
-use Rattle.std.specs.Prelude.{codes, ℕ, nat_lt, Bool, false, if◌then◌else◌, List, [], ◌∷◌, length, Ok, Err}
+use Rattle.std.specs.Prelude.{codes, ℕ, nat_lt, false, if◌then◌else◌, List, [], ◌∷◌, length, Ok, Err}
 use Rattle.std.specs.List.{list_any}
 use Rattle.toml.specs.Data.{Data, table, Members}
 use Rattle.fints_documents.specs.Document.{only_keys}

@@ -1,5 +1,4 @@
 -- How much templates weigh, and how many items they have.
-use Rattle.fints_field_rows.specs.declared.limits.TheConstants.{MAX_TEMPLATE_ITEMS}
 use Rattle.std.specs.Prelude.{ℕ, ◌+◌, ◌-◌, ◌≤◌, List, [], ◌∷◌, length, get_or, Option, SomeIff}
 use Rattle.fints_segments.specs.Spelling.{written}
 use Rattle.fints_templates.specs.declared.template.TemplateItem.{TemplateItem}

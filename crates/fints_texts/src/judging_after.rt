@@ -37,9 +37,26 @@ fn read_answer(alloc: Global, answer: &[u8]) -> Result<Vec<Code>, Fault>
     }
 }
 
-// The verdict on a message behind another one and the answer to that, by good parameters and a good
-// order table.
-#[tactic(auto, using(crate::proofs::JudgeLemmas::answer_refused))]
+// The verdict on a message behind another one and the answer to that.
+#[tactic(auto, using(crate::proofs::JudgeLemmas::answer_refused, crate::proofs::JudgeLemmas::judged_refused))]
+fn judge_behind(
+    alloc: Global,
+    permissions: &Permissions<'_>,
+    before: &[u8],
+    answer: &[u8],
+    message: &[u8],
+) -> Result<Reply, Fault>
+    ensures judged { IfOk result (λ reply. IsVerdictAfterBy permissions.now.rows permissions.now.orders before.now answer.now message.now reply.status reply.text.items) }
+    ensures refused { IfErr result (λ f. IsRefusalOfThree before.now answer.now message.now f) }
+{
+    let _earlier = read_before(alloc, before)?;
+    let codes = read_answer(alloc, answer)?;
+    let broken = judge_after(alloc, permissions, before, codes.as_slice(), message)?;
+    let reply = verdict(alloc, broken.as_slice())?;
+    Ok(reply)
+}
+
+// The same, by good parameters and a good order table.
 fn judge_after_with(
     alloc: Global,
     params: &Params,
@@ -52,10 +69,7 @@ fn judge_after_with(
     ensures refused { IfErr result (λ f. IsRefusalOfThree before.now answer.now message.now f) }
 {
     let permissions = Permissions::build(alloc, params, orders)?;
-    let _earlier = read_before(alloc, before)?;
-    let codes = read_answer(alloc, answer)?;
-    let broken = judge_after(alloc, &permissions, before, codes.as_slice(), message)?;
-    let reply = verdict(alloc, broken.as_slice())?;
+    let reply = judge_behind(alloc, &permissions, before, answer, message)?;
     Ok(reply)
 }
 

@@ -1,7 +1,9 @@
 //! Scripts that are read, and the first fault of those that are not.
 use fints_params::Code;
 use fints_samples::FORK;
-use fints_script::{Branch, FaultKind, Pattern, Place, Script, ScriptFault, Step, Target};
+use fints_script::{Answer, Branch, FaultKind, Pattern, Place, Script, ScriptFault, Step, Target};
+use fints_syntax::Memory;
+use std::alloc::Global;
 use std::test::*;
 
 // Answers of late codes are followed by the first branch that one of these fires.
@@ -40,6 +42,52 @@ fn is_fork(script: &Script) -> bool {
 fn branches(rt: HostRuntime) -> Result<(), Fail> {
     let script = Script::read(rt.alloc(), FORK)?;
     assert!(rt; is_fork(&script));
+    Ok(())
+}
+
+// An answer that has a code and fires the branch, where some answer does both.
+fn answer_of(
+    alloc: Global,
+    step: &Step,
+    branch: usize,
+    code: Code,
+) -> Result<Option<Answer>, Memory> {
+    if branch == 0 || branch > step.branches().len() + 1 || !step.carries(branch, code) {
+        return Ok(None);
+    }
+    Ok(Some(step.carrying(alloc, branch, code)?))
+}
+
+fn are_codes(answer: &Option<Answer>, wanted: &[u16]) -> bool {
+    match answer {
+        Some(answer) => answer
+            .codes()
+            .iter()
+            .map(|code| code.number())
+            .eq(wanted.iter().copied()),
+        None => wanted.is_empty(),
+    }
+}
+
+// The first branch takes each code that begins with 0, the second none, and the default the others;
+// beside what opens a branch stands any code that no pattern before it matches.
+const CARRIED: [(usize, u16, &[u16]); 5] = [
+    (1, 30, &[30]),
+    (1, 9010, &[0, 9010]),
+    (2, 30, &[]),
+    (3, 30, &[]),
+    (3, 9010, &[9010]),
+];
+
+#[test]
+fn carried_codes(rt: HostRuntime) -> Result<(), Fail> {
+    let script = Script::read(rt.alloc(), FORK)?;
+    let step = script.steps().first().ok_or("step")?;
+    for (branch, number, wanted) in CARRIED {
+        let code = Code::from_number(number).ok_or("code")?;
+        let answer = answer_of(rt.alloc(), step, branch, code)?;
+        assert!(rt; are_codes(&answer, wanted));
+    }
     Ok(())
 }
 

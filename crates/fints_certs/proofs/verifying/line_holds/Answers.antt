@@ -6,7 +6,7 @@ pub returns : goal.returns
 returns c = (
   λ t. record {
     least = elim (cases_lt 0 c.args.reached.number) [ inl above ↦ above | inr under ↦ absurd (c.if-reached-eq0.false (omega (arith, under))) ];
-    most = c.if-reached-gt-MAX_NUMBER.false;
+    most = omega (arith, c.if-from-gt-LAST_NUMBER.false, c.from.ensures);
     size = subst (λ (k : ℕ). k ≤ c.args.reached.size) (c.worst_size.ensures.attained c.args.step.now c.requires.at) c.if-worst_size-reached.false;
     fits = c.fits.ensures.0 c.if-not-fits.false;
     clean = c.is_clean.ensures.0 t;

@@ -1,9 +1,13 @@
 use Rattle.std.proofs.Common.{rules, ◌∙◌}
-use Rattle.std.proofs.lemmas.Result.{IfErr-weaker}
+use Rattle.std.proofs.lemmas.Result.{IfErr-weaker, IfOk-weaker}
 use Rattle.fints_commands.specs.Loading.{AreWithin, judge_after_files}
-use Rattle.fints_commands.proofs.FileLemmas.{later_within, of_answer, of_refusal, files_not_judged_after}
+use Rattle.fints_commands.proofs.FileLemmas.{later_within, of_answer, of_refusal, files_judged_after, files_not_judged_after}
 use Rattle.fints_commands.proofs.ReasonLemmas.{judge_after_follows}
 use Rattle.fints_commands.proofs.commands.judge_after_files.Goals as goal
+
+pub returns-clause-judged : goal.returns-clause-judged
+returns-clause-judged g c =
+    IfOk-weaker c.judge_after_loaded.result _ _ (λ reply h. files_judged_after (g.F.Files.holds c.args.files.now) c.args.named.now c.args.earlier.now _ _ _ _ _ reply.status reply.text.items c.in_ok-capture.ensures.exact (search rules) (search rules) (search rules) (search rules) h) c.judge_after_loaded.ensures.judged
 
 pub returns-clause-refused : goal.returns-clause-refused
 returns-clause-refused g c =

@@ -1,9 +1,13 @@
 use Rattle.std.proofs.Common.{rules, ◌∙◌}
-use Rattle.std.proofs.lemmas.Result.{IfErr-weaker}
+use Rattle.std.proofs.lemmas.Result.{IfErr-weaker, IfOk-weaker}
 use Rattle.fints_commands.specs.Loading.{AreWithin, verify_files}
-use Rattle.fints_commands.proofs.FileLemmas.{later_within, of_answer, of_refusal, files_not_verified}
+use Rattle.fints_commands.proofs.FileLemmas.{later_within, of_answer, of_refusal, files_not_verified, files_verified}
 use Rattle.fints_commands.proofs.ReasonLemmas.{verify_follows}
 use Rattle.fints_commands.proofs.commands.verify_files.Goals as goal
+
+pub returns-clause-told : goal.returns-clause-told
+returns-clause-told g c =
+    IfOk-weaker c.verify_loaded.result _ _ (λ reply h. files_verified (g.F.Files.holds c.args.files.now) c.args.named.now c.args.certificate.now _ _ _ _ reply.status reply.text.items c.in_ok-capture.ensures.exact (search rules) (search rules) (search rules) h) c.verify_loaded.ensures.told
 
 pub returns-clause-refused : goal.returns-clause-refused
 returns-clause-refused g c =

@@ -1,4 +1,4 @@
-use Rattle.std.proofs.Common.{ap, cond, ◌∙◌, ◌≡◌, ◌<◌, ◌+◌, arith, sym, Some, None, get_or, length, true, false, refl}
+use Rattle.std.proofs.Common.{ap, cond, ◌∙◌, ◌≡◌, ◌<◌, ◌+◌, arith, sym, Some, None, get_or, length, true, false}
 use Rattle.std.specs.Prelude.{Any, is_some}
 use Rattle.indexmap.specs.IndexMap.{get}
 use Rattle.fints_rules_permissions.specs.LimitMaps.{key_eq, key_of}
