@@ -1,14 +1,17 @@
 #!/usr/bin/env python3
 """Prints what the built program takes for large inputs: processor time and memory at its peak, at n
-and at 2n, the least of three runs (of one, where it takes over two seconds). No part of the gate.
+and at 2n, the least of three runs or of as many as are asked for (of one, where it takes over two
+seconds). No part of the gate.
 
-A run is given 150 seconds of processor time and 4 GiB of addresses. The last two tables tell how a
-run ends that can't have the memory it asks for, and which stack deep texts of TOML need.
+A run is given 150 seconds of processor time and 4 GiB of addresses. The second table is of maps whose
+keys collide. The last two tell how a run ends that can't have the memory it asks for, and which stack
+deep texts of TOML need.
 
-Usage: tools/cost.py [--program PATH] [WORD..]     only the lines with one of these words
+Usage: tools/cost.py [--program PATH] [--runs N] [WORD..]     only the lines with one of these words
 """
 import argparse
 import os
+import random
 import subprocess
 import sys
 import tempfile
@@ -29,8 +32,12 @@ class Room:
 
     def __init__(self, program, folder):
         self.program, self.folder, self.made = program, folder, 0
-        self.used = f"{folder}/used"
-        subprocess.run([os.environ.get("CC", "cc"), "-O2", "-o", self.used, f"{TOP}/tools/used.c"], check=True)
+        self.used, self.collide = map(self.built, ("used", "collide"))
+
+    def built(self, name):
+        path = f"{self.folder}/{name}"
+        subprocess.run([os.environ.get("CC", "cc"), "-O2", "-o", path, f"{TOP}/tools/{name}.c"], check=True)
+        return path
 
     def file(self, text):
         self.made += 1
@@ -45,6 +52,14 @@ class Room:
         ran = subprocess.run(command, capture_output=True, check=True)
         lines = ran.stderr.decode(errors="replace").splitlines()
         return *map(int, ran.stdout.split()), lines[0] if lines else ""
+
+    def printed(self, words):
+        return subprocess.run([self.program, *words], capture_output=True, check=True).stdout.decode("latin-1")
+
+    def colliding(self, *what):
+        """Keys that collide (tools/collide.c)."""
+        ran = subprocess.run([self.collide, *map(str, what)], capture_output=True, check=True, text=True)
+        return ran.stdout.splitlines()
 
 
 # Captures. Each gives about so many bytes.
@@ -69,12 +84,24 @@ def name(number, count=4, of=36):
     return "".join(characters[number // of**i % of] for i in range(count))
 
 
+PINS, PAIRS = "HIPINS:9:1+1+1+0+5:38:6::", 9_980  # so many pairs in a segment, which has 20,000 items at most
+
+
+def pins(kinds):
+    """HIPINS with these kinds."""
+    pairs = lambda at: "".join(f":{it}:N" for it in kinds[at : at + PAIRS])
+    return HEAD + "".join(f"{PINS}{pairs(at)}'\n" for at in range(0, len(kinds), PAIRS))
+
+
 def kinds(size):
     """HIPINS with kinds that all differ."""
-    head, each = "HIPINS:9:1+1+1+0+5:38:6::", 9_980
-    segments = (size - len(HEAD)) // (len(head) + each * len(":HK0000:N") + 2)
-    pairs = lambda at: "".join(f":HK{name(n)}:N" for n in range(at, at + each))
-    return HEAD + "".join(f"{head}{pairs(i * each)}'\n" for i in range(segments))
+    segments = (size - len(HEAD)) // (len(PINS) + PAIRS * len(":HK0000:N") + 2)
+    return pins([f"HK{name(n)}" for n in range(segments * PAIRS)])
+
+
+def limits(rows):
+    """A parameter segment for each kind and version; HIPINS is none."""
+    return HEAD + "".join(f"{it[0]}I{it[2:]}S:9:{version}+1+1'" for it, version in rows if it[2:] != "PIN")
 
 
 def accounts(size):
@@ -97,11 +124,13 @@ def orders(count):
     return message([("HKSAL", "5+9999999+N")] * count)
 
 
-def other_kinds(count):
-    """Orders of as many kinds, and the table in which they stand."""
-    each = [f"HK{name(i, 3)}" for i in range(count)]
-    row = '[[order]]\nkind = "%s"\nversion = 5\naccount = "national"\n'
-    return message([(it, "5+9999999+N") for it in each]), "".join(row % it for it in each)
+def orders_of(rows):
+    """Orders of these kinds and versions: of 996 at most, from all over."""
+    return message([(it, f"{version}+9999999+N") for it, version in rows[:: max(1, len(rows) // 996)][:996]])
+
+
+def table(rows, account="none"):
+    return "".join(f'[[order]]\nkind = "{it}"\nversion = {version}\naccount = "{account}"\n' for it, version in rows)
 
 
 # Scripts and cases.
@@ -119,22 +148,22 @@ def lines(count):
     return "fints-case 1\nfield dialog 41\n" + "".join(f"field {name(i).lower()} -\n" for i in range(count))
 
 
-def branching(on, segments):
-    """Steps with a branch for each of 20 patterns."""
+def branching(on, segments, named=lambda count: [f"s{i + 1}" for i in range(count)]):
+    """Steps with a branch for each of 20 patterns, or with none."""
 
     def text(count):
-        steps = []
-        for i in range(1, count + 1):
-            to = [f"s{i + j}" if i + j <= count else "again" for j in range(1, 21)]
-            ways = ", ".join(f'{{on = "{a}", to = "{b}"}}' for a, b in zip(on, to))
-            steps.append(f'[[step]]\nname = "s{i}"\nrepeat = 9\nbranches = [{ways}]\n{segments}\n')
+        steps, names = [], named(count) + ["again"] * 20
+        for i in range(count):
+            ways = ", ".join(f'{{on = "{a}", to = "{b}"}}' for a, b in zip(on, names[i + 1 : i + 21]))
+            steps.append(f'[[step]]\nname = "{names[i]}"\nrepeat = 9\nbranches = [{ways}]\n{segments}\n')
         return "".join(steps)
 
     return text
 
 
 # Each branch is opened by a late code; and each carries 0030 to a step that releases no order.
-hostile = branching([f"{j}***" for j in range(9)] + [f"9{j}**" for j in range(9)] + [f"99{j}*" for j in range(2)], ENDS)
+LATE = [f"{j}***" for j in range(9)] + [f"9{j}**" for j in range(9)] + [f"99{j}*" for j in range(2)]
+hostile = branching(LATE, ENDS)
 unreleased = branching([f"{j:02}**" for j in range(1, 21)], 'segments = [{kind = "HKTAN", version = 6, elements = ["4"]}]')
 
 
@@ -155,17 +184,78 @@ def heavy_case(count):
     return "fints-case 1\nfield dialog 41\nfield pad " + "41" * 10_000 + "\n" + answers
 
 
+def ordering(row):
+    """As many orders of this kind and version, in steps of 100."""
+
+    def text(count):
+        orders = ",".join(['{kind="%s",version=%s}' % row] * 100)
+        return "".join(f'[[step]]\nname = "s{i}"\nsegments = [{orders}]\n' for i in range(count // 100))
+
+    return text
+
+
+def filled(names):
+    """A step with as many places for the last of the fields that have these names."""
+
+    def text(count):
+        elements = ",".join([f'"${names[-1]}"'] * 10_000)
+        segments = ",".join([f'{{kind = "HKEND", version = 1, elements = [{elements}]}}'] * (count // 10_000))
+        fields = "".join(f'[[field]]\nname = "{it}"\nclass = "digits"\nmin = 1\nmax = 1\n' for it in names)
+        return f'{fields}[[step]]\nname = "end"\nsegments = [{segments}]\n'
+
+    return text
+
+
+def too_many(names):
+    """A script with fields of these names, far more than it may have."""
+    fields = ",".join(f'{{name="{it}"}}' for it in names)
+    return f'field = [{fields}]\n[[step]]\nname = "end"\n{ENDS}\n'
+
+
+# Keys of maps, drawn by lot, but the same ones each time.
+
+
+def drawn(count, of):
+    return random.Random(1).sample(range(of), count)
+
+
+def any_kinds(count):
+    return [name(it, 6) for it in drawn(count, 36**6)]
+
+
+def any_names(count, length=6):
+    return [name(it, length).lower() for it in drawn(count, 36**length)]
+
+
+def any_rows(count):
+    """Kinds and versions of orders."""
+    each = [(f"{'DH'[it % 2]}K{name(it // 2, 3)}", it // 2 // 36**3 + 1) for it in drawn(2 * count, 2 * 36**3 * 999)]
+    return [it for it in each if it[0] not in ("HKIDN", "HKVVB", "HKSYN", "HKEND", "HKTAN")][:count]
+
+
+def alike(count):
+    """Kinds of which each has one character other than the one before, by one."""
+    digit = lambda n, i: n // 36**i % 36 if n // 36 ** (i + 1) % 2 == 0 else 35 - n // 36**i % 36
+    return ["HK" + "".join(name(digit(n, i), 1) for i in (3, 2, 1, 0)) for n in range(count)]
+
+
 def measured(room):
     """What is measured: its label, n, what n counts, and the words of the run at a number."""
     m, k = 1_000_000, 1_000
     small, many = room.file(orders(1)), room.file(orders(996))
-    unlike, table = map(room.file, other_kinds(996))
+    others = [(f"HK{name(i, 3)}", 5) for i in range(996)]
+    unlike, their_table = room.file(orders_of(others)), room.file(table(others, "national"))
     show = lambda make: lambda n: ["show", "--params", room.file(make(n))]
     judge = lambda make, file, of=ORDERS: lambda n: ["judge", "--params", room.file(make(n)), "--orders", of, "--message", file]
     run = lambda script, case: ["run", "--orders", ORDERS, "--script", script, "--case", case]
     case, end = f"{INPUTS}/no-answer.case", f"{INPUTS}/end.toml"
     on = lambda command, make: lambda n: [command, "--params", C1, "--orders", ORDERS, "--script", room.file(make(n))]
     half = MOST_CAPTURE // 2
+
+    def verify(n):
+        words = on("certify", hostile)(n)
+        return ["verify", *words[1:], "--cert", room.file(room.printed(words))]
+
     return [
         ("show, an ordinary capture", "bytes", m, show(ordinary)),
         ("judge, an ordinary capture and a message of 1 order", "bytes", m, judge(ordinary, small)),
@@ -177,10 +267,10 @@ def measured(room):
         ("show, HIPINS of different kinds", "bytes", half, show(kinds)),
         ("judge, HIPINS of different kinds, 1 order", "bytes", half, judge(kinds, small)),
         ("judge, HIPINS of different kinds, 996 orders", "bytes", half, judge(kinds, many)),
-        ("judge, HIPINS of different kinds, 996 orders of 996 kinds", "bytes", half, judge(kinds, unlike, table)),
+        ("judge, HIPINS of different kinds, 996 orders of 996 kinds", "bytes", half, judge(kinds, unlike, their_table)),
         ("judge, rows of HIUPD, 1 order", "bytes", half, judge(accounts, small)),
         ("judge, rows of HIUPD, 996 orders", "bytes", half, judge(accounts, many)),
-        ("judge, rows of HIUPD, 996 orders of 996 kinds", "bytes", half, judge(accounts, unlike, table)),
+        ("judge, rows of HIUPD, 996 orders of 996 kinds", "bytes", half, judge(accounts, unlike, their_table)),
         ("judge, a message of orders", "orders", 498, lambda n: judge(lambda _: HEAD, room.file(orders(n)))(0)),
         ("run, a oneof of many values", "values", 80 * k, lambda n: run(room.file(listed("oneof", '"%s"')(n)), case)),
         ("run, an account of many values", "values", 62_500, lambda n: run(room.file(listed("account", '["%s"]')(n)), case)),
@@ -189,24 +279,81 @@ def measured(room):
         ("explain, steps with 20 hostile branches each", "steps", 500, on("explain", hostile)),
         ("check, steps that submit orders, 20 branches each", "steps", 500, on("check", unreleased)),
         ("explain, steps that submit orders, 20 branches each", "steps", 500, on("explain", unreleased)),
+        ("certify, steps with 20 hostile branches each", "steps", 500, on("certify", hostile)),
+        ("verify, steps with 20 hostile branches each", "steps", 500, verify),
         ("run, messages of 980 kB", "messages", 198, lambda n: run(room.file(heavy(n // 99)), room.file(heavy_case(n // 99)))),
     ]
 
 
-def least(room, words):
-    """The least of three runs: status, milliseconds, KiB, the line on standard error."""
+def keyed(room, which, rows, names, fields):
+    """The same for maps, with keys of one sort: the last three give so many of them."""
+    k = 1_000
+    check = lambda text, orders=ORDERS: ["check", "--params", C1, "--orders", orders, "--script", room.file(text)]
+    steps = lambda on: lambda n: check(branching(on, ENDS, names)(n))
+
+    def judge(n, capture=lambda _: HEAD, orders=lambda _: open(ORDERS).read(), asked=orders_of):
+        each = rows(n)
+        files = [room.file(it(each)) for it in (capture, orders, asked)]
+        return ["judge", "--params", files[0], "--orders", files[1], "--message", files[2]]
+
+    return [
+        (f"judge, an order table of {which} rows, 1 order", "rows", 500, lambda n: judge(n, orders=table, asked=lambda _: orders(1))),
+        (f"judge, an order table of {which} rows, 996 orders", "rows", 500, lambda n: judge(n, orders=table)),
+        (f"check, orders of the last of 1,000 {which} rows", "orders", 18 * k, lambda n: check(ordering(rows(k)[-1])(n), room.file(table(rows(k))))),
+        (f"check, steps of {which} names, no branches", "steps", 500, steps([])),
+        (f"check, steps of {which} names, 20 branches each", "steps", 500, steps(LATE)),
+        (f"check, places for the last of 100 {which} fields", "places", 60 * k, lambda n: check(filled(fields(100))(n))),
+        (f"check --hints, too many fields of {which} names", "fields", 30 * k, lambda n: [*check(too_many(names(n))), "--hints"]),
+        (f"judge, limits of {which} kinds and versions, 996 orders", "rows", 120 * k, lambda n: judge(n, capture=limits)),
+    ]
+
+
+def listing(room, which, most, kinds):
+    """The same for HIPINS with kinds of one sort."""
+
+    def judge(n):
+        each = kinds(n)
+        message = orders_of([(it, 5) for it in each])
+        return ["judge", "--params", room.file(pins(each)), "--orders", ORDERS, "--message", room.file(message)]
+
+    return f"judge, HIPINS of {which}, 996 orders", "kinds", most // 2, judge
+
+
+def measured_keys(room):
+    """The same for maps, with keys that are drawn by lot and with such as collide."""
+    rows = lambda count: [tuple(it.split()) for it in room.colliding("rows", count)]
+    names, fields = (lambda count, of=of: room.colliding(of, count) for of in ("names", "fields"))
+    both = zip(
+        keyed(room, "random", any_rows, any_names, lambda count: any_names(count, 4)),
+        keyed(room, "colliding", rows, names, fields),
+    )
+    most = 460_000
+    return [it for pair in both for it in pair] + [
+        listing(room, "random kinds", most, any_kinds),
+        listing(room, "sorted kinds", most, lambda count: sorted(any_kinds(count))),
+        listing(room, "kinds in reverse order", most, lambda count: sorted(any_kinds(count), reverse=True)),
+        listing(room, "kinds alike but for one place", most, alike),
+        listing(room, "kinds of 4 characters", 596_000, lambda count: [name(it) for it in range(count)]),
+        listing(room, "colliding kinds", most, lambda count: room.colliding("kinds", count)),
+        listing(room, "kinds that SipHash 0 0 joins", most, lambda count: room.colliding("kinds", count, 0, 0)),
+        listing(room, "kinds that SipHash 1 2 joins", most, lambda count: room.colliding("kinds", count, 1, 2)),
+    ]
+
+
+def least(room, words, runs):
+    """The least of so many runs: status, milliseconds, KiB, the line on standard error."""
     first = room.run(words)
-    return first if first[1] > 2000 else min((first, room.run(words), room.run(words)), key=lambda it: it[1])
+    more = runs - 1 if first[1] <= 2000 else 0
+    return min([first] + [room.run(words) for _ in range(more)], key=lambda it: it[1])
 
 
-def time_table(room, wanted):
-    print(f"{'What':58} {'n':>15} {'status':>6} {'s':>8} {'MiB':>7}")
-    for label, unit, n, words in measured(room):
-        if not wanted(label):
-            continue
+def time_table(room, title, lines, runs):
+    if lines:
+        print(f"\n{title:58} {'n':>15} {'status':>6} {'s':>8} {'MiB':>7}")
+    for label, unit, n, words in lines:
         for count in (n, 2 * n):
-            status, milliseconds, peak, said = least(room, words(count))
-            took = f"over {SECONDS}" if status == 137 else f"{milliseconds / 1000:.2f}"
+            status, milliseconds, peak, said = least(room, words(count), runs)
+            took = f"over {SECONDS}" if status == 137 else f"{milliseconds / 1000:.3f}"
             print(f"{label:58} {f'{count:,} {unit}':>15} {status:6} {took:>8} {peak / 1024:7.1f}  {said if status > 1 else ''}".rstrip(), flush=True)
 
 
@@ -300,14 +447,16 @@ def dialogue():
 def main():
     words = argparse.ArgumentParser(description="Prints what the built program takes for large inputs.")
     words.add_argument("--program", default=os.environ.get("FINTS", f"{TOP}/crates/fints/out/fints"))
-    words.add_argument("word", nargs="*", help="only the lines with one of these words; `deep` is the table of stacks")
+    words.add_argument("--runs", type=int, default=3, help="of which the least time is printed")
+    words.add_argument("word", nargs="*", help="only the lines with one of these words; `keys` is the table of maps, `deep` that of stacks")
     asked = words.parse_args()
     if not os.access(asked.program, os.X_OK):
         sys.exit(f"cost: {asked.program} isn't built")
     wanted = lambda label: not asked.word or any(it in label for it in asked.word)
     with tempfile.TemporaryDirectory(prefix="cost-") as folder:
         room = Room(os.path.abspath(asked.program), folder)
-        time_table(room, wanted)
+        time_table(room, "What", [it for it in measured(room) if wanted(it[0])], asked.runs)
+        time_table(room, "Maps by their keys", [it for it in measured_keys(room) if wanted("keys") or wanted(it[0])], asked.runs)
         memory_table(room, wanted)
         stack_table(room, wanted)
 

@@ -1,6 +1,8 @@
 #!/usr/bin/env bash
 # Runs the built program on the examples of README.md: of each fenced block that begins with
-# '$ fints ..', the further lines are what the command must print (on either stream).
+# '$ fints ..', the further lines are what the command must print (on either stream). Then it looks
+# that each file that docs/library.md shows whole is that file: of a line 'PATH, whole:' in backquotes
+# and the fenced block behind it.
 set -uo pipefail
 cd "$(dirname "$0")/.."
 program=crates/fints/out/fints
@@ -59,5 +61,34 @@ if [ "$blocks" -eq 0 ]; then
     echo "examples: README.md shows no run of fints" >&2
     exit 1
 fi
-echo "examples: $blocks run, $failed failed"
+
+# The listings of docs/library.md.
+shown=0
+file=
+fenced=0
+while IFS= read -r line || [ -n "$line" ]; do
+    if [ "$fenced" -eq 1 ]; then
+        if [ "$line" = '```' ]; then
+            fenced=0
+            shown=$((shown + 1))
+            if [ "$text" != "$(cat "$file")" ]; then
+                failed=$((failed + 1))
+                echo "examples: docs/library.md shows $file otherwise than it is" >&2
+            fi
+            file=
+        else
+            text+=${text:+$'\n'}$line
+        fi
+    elif [[ $line =~ ^\`(crates/[^\`]+)\`,\ whole: ]]; then
+        file=${BASH_REMATCH[1]}
+    elif [ -n "$file" ] && [[ $line == '```'* ]]; then
+        fenced=1
+        text=
+    fi
+done < docs/library.md
+if [ "$shown" -eq 0 ]; then
+    echo "examples: docs/library.md shows no file" >&2
+    exit 1
+fi
+echo "examples: $blocks run, $shown files shown, $failed failed"
 [ "$failed" -eq 0 ]

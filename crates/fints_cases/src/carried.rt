@@ -7,7 +7,6 @@ ghost use Rattle.fints_cases.specs.Patterns.{matches};
 
 use crate::answers::{Branch, opener};
 use crate::case::Answer;
-use crate::laws::carried_where;
 use fints_params::Code;
 use fints_syntax::Memory;
 use std::alloc::Global;
@@ -43,8 +42,7 @@ pub fn passes(branches: &[Branch], branch: usize, code: Code) -> bool
     requires fired { IsOpen branches.now branch }
     ensures { IsTrue result ↔ Carries branches.now branch code }
 {
-    carried_where();
-    let _number = code.number();
+    code.keeps();
     is_passed(branches, branch, code)
 }
 
@@ -56,8 +54,7 @@ pub fn carries(branches: &[Branch], branch: usize, code: Code) -> bool
     requires to { branch ≤ length branches.now + 1 }
     ensures { IsTrue result ↔ Carries branches.now branch code }
 {
-    carried_where();
-    let _number = code.number();
+    code.keeps();
     is_passed(branches, branch, code) && opener(branches, branch).is_some()
 }
 
@@ -74,8 +71,7 @@ pub fn carrying(
     requires carries { Carries branches.now branch code }
     ensures { IfOk result (λ answer. IsCarrying branches.now branch code answer) }
 {
-    carried_where();
-    let _number = code.number();
+    code.keeps();
     if matches_own(branches, branch, code) {
         return Answer::single(alloc, code);
     }

@@ -15,5 +15,6 @@ pub use answers::{Branch, Target, choose, opener, target_of};
 pub use carried::{carries, carrying, passes};
 pub use case::{Answer, Case};
 pub use case_fault::CaseFault;
+pub use fints_syntax::Memory;
 pub use pattern::Pattern;
 pub use values::{NamedValue, Values};

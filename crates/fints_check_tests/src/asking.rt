@@ -2,8 +2,7 @@
 //! function that reads three inputs costs more to prove than the test that asks it.
 ghost use Rattle.std.specs.Prelude.{◌≡◌};
 
-use fints_certs::{Certificate, certificate_of, verify};
-use fints_check::{Finding, Reached, check, confirm};
+use fints_check::{Certificate, Certified, Finding, Reached, check, confirm, verify};
 use fints_params::Params;
 use fints_rules::{OrderTable, Permissions};
 use fints_samples::T;
@@ -82,7 +81,7 @@ fn is_certified(
     requires { permissions.now.orders ≡ plan.now.orders }
 {
     let report = check(alloc, permissions, plan)?;
-    match certificate_of(alloc, &report)? {
+    match report.certificate(alloc)? {
         None => Ok(wanted.is_none()),
         Some(certificate) => is_closed(alloc, permissions, plan, &certificate, wanted),
     }

@@ -73,7 +73,7 @@ fn are_named(fields: &[NamedField])
     ensures { AreNamed fields.now }
 {
     for field in fields {
-        let _text = field.name.as_bytes();
+        field.name.keeps();
     }
 }
 

@@ -7,3 +7,4 @@ pub mod FirstOf
 pub mod Telling
 pub mod Domains
 pub mod OneClass
+pub mod ClassLawLemmas

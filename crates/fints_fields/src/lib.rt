@@ -2,6 +2,7 @@
 #![tactic(auto)]
 
 mod alphabet;
+mod characters;
 mod class;
 pub mod class_laws;
 mod counted;
@@ -12,9 +13,11 @@ mod lists;
 mod name;
 
 pub use alphabet::Alphabet;
+pub use characters::{Digits, Plain};
 pub use class::FieldClass;
 pub use counted::{Bin, MAX_LEN, Text};
 pub use field::Field;
+pub use fints_segments::Memory;
 pub use listed::{AccountValue, Listed, are_distinct};
 pub use listing::{Account, MAX_ITEMS, MAX_VALUES, OneOf};
 pub use lists::{Accounts, Texts};

@@ -9,6 +9,7 @@ ghost use Rattle.std.specs.Str.{bytes_eq};
 ghost use Rattle.fints_fields.specs.Names.{IsName, IsNameByte};
 
 use std::cmp::Ordering;
+use std::fmt;
 use std::hash::{Hash, Hasher};
 use std::marker::Model;
 
@@ -98,6 +99,15 @@ fn is_name(text: &[u8]) -> bool
     !text.is_empty() && text.len() <= MAX_NAME && text.iter().all(|b| is_name_byte(*b))
 }
 
+impl fmt::Display for Name {
+    fn fmt<W: fmt::Write>(&self, f: &mut fmt::Formatter<W>) -> fmt::Result {
+        for b in self.as_bytes() {
+            f.write_char(char::from(*b))?;
+        }
+        Ok(())
+    }
+}
+
 impl Name {
     /// The name that the bytes are, if they are one.
     pub fn parse(text: &[u8]) -> Option<Name>
@@ -112,6 +122,13 @@ impl Name {
             bytes,
             len: text.len(),
         })
+    }
+
+    /// What each name keeps.
+    pub fn keeps(&self)
+        ensures { IsName self.now }
+    {
+        let _ = &self.len;
     }
 
     /// The characters of the name.

@@ -4,7 +4,6 @@ ghost use Rattle.fints_params.specs.Captures.{IsReadOf};
 ghost use Rattle.fints_files.specs.Captures.{AreKept, HoldsCapture, kept_after};
 
 use crate::reading::Sink;
-use fints_params::laws::any_cutting;
 use fints_params::{ParamFault, ParamReader, Params};
 use fints_syntax::Memory;
 use std::alloc::Global;
@@ -54,7 +53,6 @@ impl Capture {
         ensures read { (bytes : List ℕ) → HoldsCapture bytes self → IsReadOf bytes result.params }
         ensures kept { (bytes : List ℕ) → HoldsCapture bytes self → AreKept self.keeps bytes result.bytes.items }
     {
-        any_cutting();
         let Capture {
             reader,
             fault,

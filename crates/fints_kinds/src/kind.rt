@@ -9,6 +9,7 @@ ghost use Rattle.std.specs.Str.{bytes_eq};
 ghost use Rattle.fints_kinds.specs.Kind.{IsKindText, IsKindByte, kind_from, is_frame_kind};
 
 use std::cmp::Ordering;
+use std::fmt;
 use std::hash::{Hash, Hasher};
 use std::marker::Model;
 
@@ -119,6 +120,15 @@ pub fn is_frame_kind(text: &[u8]) -> bool
         || text == b"HNSHK".as_slice()
         || text == b"HNSHA".as_slice()
         || text == b"HNHBS".as_slice()
+}
+
+impl fmt::Display for Kind {
+    fn fmt<W: fmt::Write>(&self, f: &mut fmt::Formatter<W>) -> fmt::Result {
+        for b in self.as_bytes() {
+            f.write_char(char::from(*b))?;
+        }
+        Ok(())
+    }
 }
 
 impl Kind {

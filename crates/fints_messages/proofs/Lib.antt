@@ -9,3 +9,4 @@ pub mod Uniques
 pub mod Wholes
 pub mod Numbers
 pub mod OneStop
+pub mod LawLemmas

@@ -5,7 +5,6 @@ ghost use Rattle.fints_messages.specs.Front.{IsNext, HasNoNext, CanStand, IsFron
 
 use crate::front::Inner;
 use crate::part::{Part, part_of};
-use fints_syntax::laws::{one_segment_text, segment_is_read};
 use fints_syntax::{SegmentView, parse_segment};
 use std::alloc::{AllocError, Global};
 
@@ -14,8 +13,6 @@ pub fn next_segment(bytes: &[u8]) -> Option<(SegmentView<'_>, usize)>
     ensures some { IfSome result (λ r. IsNext bytes.now r.0 r.1) }
     ensures none { IfNone result (HasNoNext bytes.now) }
 {
-    one_segment_text();
-    segment_is_read();
     match parse_segment(bytes) {
         Ok((view, len)) => Some((view, len)),
         Err(_) => None,

@@ -3,14 +3,10 @@ ghost use Rattle.std.specs.Prelude.{◌≡◌, ◌+◌, ℕ, List, length};
 ghost use Rattle.fints_messages.specs.Messages.{MessageView, IsMessage, IsNumbered};
 ghost use Rattle.fints_messages.specs.Laws.{OneStop, NoStopInMessage, OneRefusal};
 
-use fints_syntax::laws::one_segment_text;
-
 /// The bytes determine what the message holds.
 pub fn one_message()
     ensures { (bytes : List ℕ) (m n : MessageView) → IsMessage bytes m → IsMessage bytes n → m ≡ n }
-{
-    one_segment_text();
-}
+{}
 
 /// Bytes cease to be a message at one place at most and have one refusal at most; a message ceases
 /// nowhere to be one.
@@ -18,9 +14,7 @@ pub fn one_stop()
     ensures place { OneStop }
     ensures not_both { NoStopInMessage }
     ensures refusal { OneRefusal }
-{
-    one_segment_text();
-}
+{}
 
 /// The segments of a body are numbered on from the one behind the message's HNSHK.
 pub fn numbered_bodies()

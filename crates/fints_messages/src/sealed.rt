@@ -11,7 +11,6 @@ use crate::part::is_named;
 use crate::tail::Tail;
 use crate::values::data_at;
 use fints_syntax::SegmentView;
-use fints_syntax::laws::one_segment_text;
 use std::alloc::{AllocError, Global};
 
 /// The inner segments that an envelope holds, if it is one.
@@ -19,7 +18,6 @@ fn open_envelope<'a>(alloc: Global, view: &SegmentView<'a>) -> Result<Option<Inn
     ensures envelope { IfOk result (λ o. EnvelopeIs o (segment_of view.now)) }
     ensures few { IfOk result (λ o. IfSome o (λ i. i.openers + (length i.body.items + length i.ends.items) < 2 ^ 16)) }
 {
-    one_segment_text();
     if !is_named(view, b"HNVSD", 1) {
         return Ok(None);
     }
@@ -47,7 +45,6 @@ fn read_rest<'a>(alloc: Global, rest: &'a [u8], number: u64) -> Result<Tail<'a>,
     ensures rest { IfOk result (λ r. TailIs (IsSealedRest number) rest.now r) }
     ensures within { IfOk result (λ r. IsWithin r (length rest.now)) }
 {
-    one_segment_text();
     match next_segment(rest) {
         None => Ok(Tail::Stop(0)),
         Some((view, len)) => match open_envelope(alloc, &view)? {

@@ -4,7 +4,6 @@ use Rattle.std.specs.Option.{is_some}
 use Rattle.std.specs.List.{AllByRecursion, AllZip, flat_map}
 use Rattle.std.proofs.lemmas.List.{append-nil, drop-append-le, drop-drop, drop_all, take_all, length-append, length-drop, take-append-drop}
 use Rattle.fints_syntax.specs.Capture.{IsBreak, ReadsPlaced, FaultsAt}
-use Rattle.fints_syntax.specs.Laws.{BegunGoesOn, ReadIsSplit, CutSegments, CutFault, FaultLasts, PieceFaultIsCaptureFault}
 use Rattle.fints_syntax.specs.Streams.{IsBegun, IsReady, IsReadTo, IsStreamFault, PieceFaultAt, moved_by, whole_len}
 use Rattle.fints_syntax.specs.declared.capture.Placed as syntax
 use Rattle.fints_syntax.specs.declared.fault.SyntaxFault.{SyntaxFault}
@@ -16,26 +15,28 @@ use Rattle.fints_syntax.specs.declared.stream.ReadTo.{ReadTo}
 use Rattle.fints_params.specs.declared.fault.ParamFault.{ParamFault}
 use Rattle.fints_params.specs.declared.fault.ParamFault.TheVariants.{Memory, Syntax}
 use Rattle.fints_params.specs.declared.placed.PlacedSegment.{PlacedSegment}
-use Rattle.fints_params.specs.Captures.{Rule, IsSyntaxFault, IsParamFault, IsRefusedOf}
+use Rattle.fints_params.specs.Captures.{Rule, IsSyntaxFault, IsRefusedOf}
 use Rattle.fints_params.specs.Faults.{IsMemoryOr, fault_from, fault_of}
 use Rattle.fints_params.specs.Opened.{IsValuesOf, IsPlacedValue}
-use Rattle.fints_params.specs.Pieces.{Received, unread, AreReceived, IsPieceFault, IsNotReceived, IsUnfinished}
+use Rattle.fints_params.specs.Pieces.{IsPieceFault}
 use Rattle.fints_params.specs.Steps.{IsWithin, ReadsNext, StopsNext, HasRead, HasCome, ReadsCapture, IsRefusedInViews}
 use Rattle.fints_syntax.specs.declared.capture.TheConstants.{MAX_CAPTURE}
+use Rattle.fints_syntax.proofs.Cuts.{cut_fault, cut_segments, piece_fault_is_capture_fault}
+use Rattle.fints_syntax.proofs.Streams.{begun_goes_on, read_splits}
 use Rattle.fints_params.proofs.Viewed.{views_none, views_push, views_stopped, views_stay}
 
 -- how many bytes the whole segments take
 whole_is : (bytes : List ℕ) (placed : List syntax.Placed) (to : ReadTo) → IsReadTo bytes placed to → whole_len bytes (drop to.whole bytes) ≡ to.whole
 whole_is bytes placed to h = omega (arith, h.within, length-drop to.whole bytes)
 
-pub read_on : (cut : CutSegments) (split : ReadIsSplit) (front more : List ℕ) (placed next : List syntax.Placed) (to read : ReadTo) → IsReadTo front placed to → IsReadTo (drop to.whole (front ++ more)) next read
+pub read_on : (front more : List ℕ) (placed next : List syntax.Placed) (to read : ReadTo) → IsReadTo front placed to → IsReadTo (drop to.whole (front ++ more)) next read
     → IsReadTo (front ++ more) (placed ++ moved_by to.whole next) (record { whole = to.whole + read.whole; rest = read.rest })
-read_on cut split front more placed next to read h g =
+read_on front more placed next to read h g =
     let bytes = front ++ more in
     let rest = drop to.whole front in
     let e : drop to.whole bytes ≡ rest ++ more = drop-append-le to.whole front more h.within in
     let k : IsReadTo (rest ++ more) next read = subst (λ (xs : List ℕ). IsReadTo xs next read) e g in
-    let both = cut front more placed next rest (drop read.whole (rest ++ more)) (split front placed to h) (split (rest ++ more) next read k) in
+    let both = cut_segments front more placed next rest (drop read.whole (rest ++ more)) (read_splits front placed to h) (read_splits (rest ++ more) next read k) in
     let left : drop read.whole (rest ++ more) ≡ drop (to.whole + read.whole) bytes = ap (drop read.whole) (sym e) ∙ drop-drop read.whole to.whole bytes in
     let here = subst (λ (n : ℕ). ReadsPlaced bytes (placed ++ moved_by n next) (drop read.whole (rest ++ more))) (whole_is front placed to h) both.reads in
     record {
@@ -45,7 +46,7 @@ read_on cut split front more placed next to read h g =
       unended = subst (λ (xs : List ℕ). IsBegun (drop read.rest.gap xs)) left k.unended;
     }
 
-syntax_from : (kind : SyntaxKind) (o : ℕ) → kind ≢ kinds.Memory → fault_from kind o ≡ Syntax (record { kind = kind; offset = o })
+pub syntax_from : (kind : SyntaxKind) (o : ℕ) → kind ≢ kinds.Memory → fault_from kind o ≡ Syntax (record { kind = kind; offset = o })
 syntax_from kinds.Memory o n = absurd (n refl)
 syntax_from kinds.BadBinary o n = refl
 syntax_from kinds.TooLong o n = refl
@@ -58,9 +59,9 @@ rest_is : (front more bytes rest : List ℕ) (to : ReadTo) (placed : List syntax
 rest_is front more bytes rest to placed e back h = back ∙ ap (drop to.whole) e ∙ drop-append-le to.whole front more h.within
 
 -- what is looked at of the rest
-pub ready_at : (goes : BegunGoesOn) (front more bytes rest : List ℕ) (to : ReadTo) (placed : List syntax.Placed) → bytes ≡ front ++ more → rest ≡ drop to.whole bytes → length front ≤ MAX_CAPTURE → IsReadTo front placed to → IsReady (take (MAX_CAPTURE - to.whole) rest) to.rest
-ready_at goes front more bytes rest to placed e back short h =
-    let own = goes (drop to.whole front) more (MAX_CAPTURE - to.whole) to.rest h.ready (omega (arith, short, length-drop to.whole front)) in
+pub ready_at : (front more bytes rest : List ℕ) (to : ReadTo) (placed : List syntax.Placed) → bytes ≡ front ++ more → rest ≡ drop to.whole bytes → length front ≤ MAX_CAPTURE → IsReadTo front placed to → IsReady (take (MAX_CAPTURE - to.whole) rest) to.rest
+ready_at front more bytes rest to placed e back short h =
+    let own = begun_goes_on (drop to.whole front) more (MAX_CAPTURE - to.whole) to.rest h.ready (omega (arith, short, length-drop to.whole front)) in
     subst (λ (xs : List ℕ). IsReady (take (MAX_CAPTURE - to.whole) xs) to.rest) (sym (rest_is front more bytes rest to placed e back h)) own
 
 -- no byte is read
@@ -75,12 +76,12 @@ come_none rule Good state b fresh g =
     }
 
 -- more of them are
-pub come_on : {S : Type 0} (rule : Rule) (Good : List OwnedSegment → S → Type 0) (cut : CutSegments) (split : ReadIsSplit) (front more bytes rest : List ℕ) (to read : ReadTo) (before after : Option ParamFault) (a b : S) (next : List syntax.Placed)
+pub come_on : {S : Type 0} (rule : Rule) (Good : List OwnedSegment → S → Type 0) (front more bytes rest : List ℕ) (to read : ReadTo) (before after : Option ParamFault) (a b : S) (next : List syntax.Placed)
     → bytes ≡ front ++ more → rest ≡ drop to.whole bytes → HasCome rule Good front to before a → IsReadTo rest next read → to.whole + length rest ≤ MAX_CAPTURE
     → ((seen : List syntax.Placed) → HasRead rule Good seen before a → HasRead rule Good (seen ++ moved_by to.whole next) after b) → HasCome rule Good bytes (record { whole = to.whole + read.whole; rest = read.rest }) after b
-come_on rule Good cut split front more bytes rest to read before after a b next e back h k le goes =
+come_on rule Good front more bytes rest to read before after a b next e back h k le goes =
     let own : IsReadTo (drop to.whole (front ++ more)) next read = subst (λ (xs : List ℕ). IsReadTo xs next read) (back ∙ ap (drop to.whole) e) k in
-    let all = read_on cut split front more h.placed next to read h.read own in
+    let all = read_on front more h.placed next to read h.read own in
     record {
       short = omega (arith, le, ap length back, length-drop to.whole bytes);
       placed = h.placed ++ moved_by to.whole next;
@@ -88,30 +89,35 @@ come_on rule Good cut split front more bytes rest to read before after a b next 
       segments = goes h.placed h.segments;
     }
 
-pub stream_fault : (cut : CutFault) (split : ReadIsSplit) (law : PieceFaultIsCaptureFault) (front more : List ℕ) (placed : List syntax.Placed) (to : ReadTo) (f : SyntaxFault) → length front ≤ MAX_CAPTURE → IsReadTo front placed to
-    → IsStreamFault to.whole (drop to.whole (front ++ more)) f → IsMemoryOr (IsPieceFault (front ++ more)) (fault_of f)
-stream_fault cut split law front more placed to f short h (inl m) = inl (ap fault_of m)
-stream_fault cut split law front more placed to f short h (inr (o, is, p)) =
-    let bytes = front ++ more in
+-- a fault of the rest with more bytes is the stream's
+pub piece_fault : (front more : List ℕ) (placed : List syntax.Placed) (to : ReadTo) (f : SyntaxFault) (o : ℕ) → length front ≤ MAX_CAPTURE → IsReadTo front placed to → f.offset ≡ to.whole + o
+    → PieceFaultAt (MAX_CAPTURE - to.whole) f.kind o (drop to.whole (front ++ more)) → PieceFaultAt MAX_CAPTURE f.kind f.offset (front ++ more)
+piece_fault front more placed to f o short h is p =
     let rest = drop to.whole front in
-    let e : drop to.whole bytes ≡ rest ++ more = drop-append-le to.whole front more h.within in
+    let e : drop to.whole (front ++ more) ≡ rest ++ more = drop-append-le to.whole front more h.within in
     let own : PieceFaultAt (MAX_CAPTURE - to.whole) f.kind o (rest ++ more) = subst (λ (xs : List ℕ). PieceFaultAt (MAX_CAPTURE - to.whole) f.kind o xs) e p in
-    let all = cut front more placed rest (MAX_CAPTURE - to.whole) o f.kind (split front placed to h) own in
+    let all = cut_fault front more placed rest (MAX_CAPTURE - to.whole) o f.kind (read_splits front placed to h) own in
     let n = whole_is front placed to h in
     let limit : whole_len front rest + (MAX_CAPTURE - to.whole) ≡ MAX_CAPTURE = omega (arith, n, h.within, short) in
     let at : whole_len front rest + o ≡ f.offset = omega (arith, n, is) in
-    let here = subst (λ (k : ℕ). PieceFaultAt MAX_CAPTURE f.kind k bytes) at (subst (λ (k : ℕ). PieceFaultAt k f.kind (whole_len front rest + o) bytes) limit all) in
-    inr (f, here, syntax_from f.kind f.offset (law bytes f here).1)
+    subst (λ (k : ℕ). PieceFaultAt MAX_CAPTURE f.kind k (front ++ more)) at (subst (λ (k : ℕ). PieceFaultAt k f.kind (whole_len front rest + o) (front ++ more)) limit all)
 
-pub come_fault : {S : Type 0} (rule : Rule) (Good : List OwnedSegment → S → Type 0) (cut : CutFault) (split : ReadIsSplit) (law : PieceFaultIsCaptureFault) (front more bytes rest : List ℕ) (to : ReadTo) (before : Option ParamFault) (a : S) (f : SyntaxFault)
+pub stream_fault : (front more : List ℕ) (placed : List syntax.Placed) (to : ReadTo) (f : SyntaxFault) → length front ≤ MAX_CAPTURE → IsReadTo front placed to
+    → IsStreamFault to.whole (drop to.whole (front ++ more)) f → IsMemoryOr (IsPieceFault (front ++ more)) (fault_of f)
+stream_fault front more placed to f short h (inl m) = inl (ap fault_of m)
+stream_fault front more placed to f short h (inr (o, is, p)) =
+    let here = piece_fault front more placed to f o short h is p in
+    inr (f, here, syntax_from f.kind f.offset (piece_fault_is_capture_fault (front ++ more) f here).1)
+
+pub come_fault : {S : Type 0} (rule : Rule) (Good : List OwnedSegment → S → Type 0) (front more bytes rest : List ℕ) (to : ReadTo) (before : Option ParamFault) (a : S) (f : SyntaxFault)
     → bytes ≡ front ++ more → rest ≡ drop to.whole bytes → HasCome rule Good front to before a → IsStreamFault to.whole rest f → IsMemoryOr (IsPieceFault bytes) (fault_of f)
-come_fault rule Good cut split law front more bytes rest to before a f e back h k =
+come_fault rule Good front more bytes rest to before a f e back h k =
     let own : IsStreamFault to.whole (drop to.whole (front ++ more)) f = subst (λ (xs : List ℕ). IsStreamFault to.whole xs f) (back ∙ ap (drop to.whole) e) k in
-    subst (λ (xs : List ℕ). IsMemoryOr (IsPieceFault xs) (fault_of f)) (sym e) (stream_fault cut split law front more h.placed to f h.short h.read own)
+    subst (λ (xs : List ℕ). IsMemoryOr (IsPieceFault xs) (fault_of f)) (sym e) (stream_fault front more h.placed to f h.short h.read own)
 
 -- the fault of a stream is that of a capture
-pub syntax_fault : (law : PieceFaultIsCaptureFault) (bytes : List ℕ) (f : ParamFault) → IsPieceFault bytes f → IsSyntaxFault bytes f
-syntax_fault law bytes f (fault, h, e) = let l = law bytes fault h in (fault, (l.0, l.1), e)
+pub syntax_fault : (bytes : List ℕ) (f : ParamFault) → IsPieceFault bytes f → IsSyntaxFault bytes f
+syntax_fault bytes f (fault, h, e) = let l = piece_fault_is_capture_fault bytes fault h in (fault, (l.0, l.1), e)
 
 -- ---- where the bytes are all
 
@@ -167,38 +173,3 @@ pub read_stop : {S : Type 0} (rule : Rule) (Good : List OwnedSegment → S → T
 read_stop rule Good (Some g) a view f e n k = absurd cc
 read_stop rule Good None a view f e n (inl m) = absurd (n m)
 read_stop rule Good None a view f e n (inr k) = λ seen h. views_stopped rule Good a seen view f h k
-
--- ---- a piece that is refused
-
-pub none_of : (o : Option ℕ) → ((x : ℕ) → o ≡ Some x → ⊥) → o ≡ None
-none_of None h = refl
-none_of (Some x) h = absurd (h x refl)
-
-pub not_received : (failed : Option ℕ) (old : Received) (piece bytes : List ℕ) (fault : SyntaxFault) (f : ParamFault) (new : Received) → failed ≡ None → f ≡ Syntax fault → bytes ≡ old.bytes ++ piece → IsMemoryOr (IsPieceFault bytes) f
-    → new.bytes ≡ [] → new.failed ≡ Some fault.offset → IsNotReceived failed old piece f new
-not_received (Some o) old piece bytes fault f new none is e h empty at = absurd cc
-not_received None old piece bytes fault f new none is e (inl m) empty at = absurd cc
-not_received None old piece bytes fault f new none is e (inr (g, h, own)) empty at =
-    let same : g ≡ fault = cc in
-    let here : PieceFaultAt MAX_CAPTURE g.kind g.offset (old.bytes ++ piece) = subst (λ (xs : List ℕ). PieceFaultAt MAX_CAPTURE g.kind g.offset xs) e h in
-    inr (fault, subst (λ (x : SyntaxFault). PieceFaultAt MAX_CAPTURE x.kind x.offset (old.bytes ++ piece)) same here, is, λ i. record { bytes = empty i; failed = at i })
-
--- why there are no parameters at the end
-pub unfinished : (failed : Option ℕ) (r : Received) (bytes : List ℕ) (f : ParamFault) → failed ≡ None → bytes ≡ r.bytes → IsMemoryOr (IsParamFault bytes) f → IsUnfinished failed r f
-unfinished (Some o) r bytes f none e h = absurd cc
-unfinished None r bytes f none e h = subst (λ (xs : List ℕ). IsMemoryOr (IsParamFault xs) f) e h
-
--- ---- all pieces
-
-received_all : (old : Received) (pieces : List (List ℕ)) (new : Received) → old.failed ≡ None → AreReceived old pieces new → new ≡ record { bytes = old.bytes ++ flat_map (λ p. p) pieces; failed = None }
-received_all old [] new sound e = e ∙ λ i. record { bytes = sym (append-nil old.bytes) i; failed = sound i }
-received_all old (p ∷ ps) new sound (next, h, more) =
-    let failed : next.failed ≡ None = ap (λ (r : Received). r.failed) h.kept in
-    let bytes : next.bytes ++ flat_map (λ p. p) ps ≡ old.bytes ++ (p ++ flat_map (λ p. p) ps) = ap (λ (r : Received). r.bytes ++ flat_map (λ p. p) ps) h.kept ∙ append_assoc old.bytes p (flat_map (λ p. p) ps) in
-    received_all next ps new failed more ∙ λ i. record { bytes = bytes i; failed = None }
-
-pub any_cutting : (pieces : List (List ℕ)) (new : Received) → AreReceived unread pieces new → new ≡ record { bytes = flat_map (λ p. p) pieces; failed = None }
-any_cutting pieces new h = received_all unread pieces new refl h
-
-pub param_fault_of : (law : PieceFaultIsCaptureFault) (lasts : FaultLasts) (stream more : List ℕ) (f : ParamFault) → IsPieceFault stream f → IsParamFault (stream ++ more) f
-param_fault_of law lasts stream more f (fault, h, e) = inl (syntax_fault law (stream ++ more) f (fault, lasts stream more MAX_CAPTURE fault.offset fault.kind h, e))

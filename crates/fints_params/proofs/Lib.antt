@@ -9,5 +9,6 @@ pub mod Sizes
 pub mod Bounds
 pub mod Viewed
 pub mod GoingOn
+pub mod Receiving
 pub mod OneMeaning
 pub mod BothRead

@@ -1,18 +1,10 @@
--- The laws of what captures tell: their bytes have one meaning at most. Each but `SyntaxLaws` is the contract of a public function.
+-- The laws of what captures tell: their bytes have one meaning at most. Each is the contract of a public function.
 use Rattle.std.specs.Prelude.{◌≡◌, ◌++◌, ℕ, List, None}
 use Rattle.std.specs.List.{flat_map}
-use Rattle.fints_syntax.specs.Laws.{OneCapture, NoCaptureAtFault, OnePlacedCapture, OneCaptureFault}
 use Rattle.fints_params.specs.declared.fault.ParamFault.{ParamFault}
 use Rattle.fints_params.specs.Parameters.{Rows}
 use Rattle.fints_params.specs.Pieces.{Received, unread, AreReceived, IsPieceFault}
 use Rattle.fints_params.specs.Captures.{IsParamsOf, IsParamFault, IsCodesOf, IsCodeFault}
-
--- what captures are, as the syntax has proved it
-pub record SyntaxLaws : Type 0 where
-  pub capture : OneCapture
-  pub placed : OnePlacedCapture
-  pub fault : OneCaptureFault
-  pub not_both : NoCaptureAtFault
 
 -- a capture has one set of rows at most
 abbrev pub OneParams : Type 0

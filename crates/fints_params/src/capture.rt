@@ -7,7 +7,6 @@ ghost use Rattle.fints_params.specs.Steps.{HasComeIn, ReadsCapture};
 use crate::fault::ParamFault;
 use crate::opening::Reader;
 use crate::progress::Progress;
-use fints_syntax::laws::one_split;
 use std::alloc::Global;
 
 /// Reads a capture to its end, of whose front so much was read before. Its syntax fault comes before
@@ -17,7 +16,6 @@ pub fn read_to_end<R: Reader + Drop>(progress: Progress<R>, capture: &[u8]) -> R
     ensures ok { IfOk result (λ reader. ReadsCapture R.good capture.now reader) }
     ensures refused { IfErr result (λ f. IsMemoryOr (IsRefusedOf R.rule capture.now) f) }
 {
-    one_split();
     let progress = progress.go_on(capture)?;
     progress.end(capture)
 }

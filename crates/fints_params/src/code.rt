@@ -56,6 +56,13 @@ impl Code {
         }
     }
 
+    /// What each code keeps.
+    pub fn keeps(&self)
+        ensures { self.now < 10000 }
+    {
+        let _ = &self.number;
+    }
+
     /// The number of the code.
     pub fn number(&self) -> u16
         ensures number { result ≡ self.now }

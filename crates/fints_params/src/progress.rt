@@ -7,7 +7,6 @@ ghost use Rattle.fints_params.specs.Steps.{HasRead, HasCome, HasComeIn, IsWithin
 
 use crate::fault::{ParamFault, is_memory};
 use crate::opening::{Reader, add_view};
-use fints_syntax::laws::{begun_goes_on, cuts, one_split};
 use fints_syntax::{
     Begun, Elements, Memory, ReadTo, SegmentView, SyntaxFault, SyntaxKind, Taker, read_piece,
 };
@@ -25,6 +24,19 @@ pub struct Reading<R> {
 }
 
 impl<R: Reader + Drop> Reading<R> {
+    /// Nothing is read into the reader.
+    pub fn new(alloc: Global, reader: R) -> Reading<R>
+        ensures reader { result.reader ≡ reader }
+        ensures none { result.refused ≡ None }
+    {
+        Reading {
+            reader,
+            refused: None,
+            alloc,
+            elements: Elements::new(alloc),
+        }
+    }
+
     // Reads a segment that starts at this offset.
     fn read(&mut self, start: usize, segment: &SegmentView<'_>) -> Result<(), ParamFault>
         requires { IsWithin (record { start = start; segment = segment.now }) }
@@ -76,12 +88,7 @@ impl<R: Reader + Drop> Progress<R> {
                 whole: 0,
                 rest: Begun::new(),
             },
-            reading: Reading {
-                reader,
-                refused: None,
-                alloc,
-                elements: Elements::new(alloc),
-            },
+            reading: Reading::new(alloc, reader),
         }
     }
 
@@ -91,9 +98,6 @@ impl<R: Reader + Drop> Progress<R> {
         ensures read { IfOk result (λ p. HasCome R.rule R.good bytes.now p.to p.reading.refused p.reading.reader) }
         ensures fault { IfErr result (λ f. IsMemoryOr (IsPieceFault bytes.now) f) }
     {
-        begun_goes_on();
-        cuts();
-        one_split();
         let Progress { to, mut reading } = self;
         let (_, rest) = bytes.split_at(to.whole);
         match read_piece(rest, to.whole, to.rest, &mut reading) {

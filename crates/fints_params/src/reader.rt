@@ -1,15 +1,14 @@
 //! Parameters of a capture that comes in pieces.
-ghost use Rattle.std.specs.Prelude.{◌≡◌, OnOk, IfOk, IfErr};
+ghost use Rattle.std.specs.Prelude.{◌≡◌, None, OnOk, IfOk, IfErr};
 ghost use Rattle.fints_params.specs.Captures.{IsParamsOf};
-ghost use Rattle.fints_params.specs.Inside.{MayGoOn};
-ghost use Rattle.fints_params.specs.Pieces.{unread, failed_at, IsReceived, IsNotReceived, IsUnfinished};
+ghost use Rattle.fints_params.specs.Pieces.{unread, IsReceived, IsNotReceived, IsUnfinished};
 
 use crate::fault::ParamFault;
 use crate::gathered::Gathered;
 use crate::gathering::no_rows;
 use crate::params::{Params, params_in};
-use crate::progress::Progress;
-use fints_syntax::{SyntaxFault, SyntaxKind};
+use crate::progress::{Progress, Reading};
+use fints_syntax::StreamBuffer;
 use std::alloc::Global;
 use std::marker::Model;
 
@@ -18,9 +17,9 @@ use std::marker::Model;
 /// reader is as before; what was read of them is read once more then.
 #[derive(Drop)]
 pub struct ParamReader {
-    bytes: Vec<u8>,
-    failed: Option<usize>,
-    progress: Option<Progress<Gathered>>,
+    buffer: StreamBuffer,
+    reading: Reading<Gathered>,
+    alloc: Global,
 }
 
 impl Model for ParamReader {
@@ -35,34 +34,15 @@ impl Model for ParamReader {
     ghost invariant = { IsParamReader };
 }
 
-fn failed_at(offset: usize) -> ParamFault
-    ensures { result ≡ failed_at offset }
-{
-    ParamFault::Syntax(SyntaxFault {
-        kind: SyntaxKind::Failed,
-        offset,
-    })
-}
-
-// What was read before, or else nothing.
-fn resumed(alloc: Global, progress: Option<Progress<Gathered>>) -> Progress<Gathered>
-    ensures { MayGoOn progress result }
-{
-    match progress {
-        Some(progress) => progress,
-        None => Progress::new(alloc, no_rows(alloc)),
-    }
-}
-
 impl ParamReader {
     /// A reader at the start of a capture. It takes no memory before the first piece.
     pub fn new(alloc: Global) -> ParamReader
         ensures { result ≡ unread }
     {
         ParamReader {
-            bytes: Vec::new(alloc),
-            failed: None,
-            progress: None,
+            buffer: StreamBuffer::new(alloc),
+            reading: Reading::new(alloc, no_rows(alloc)),
+            alloc,
         }
     }
 
@@ -74,25 +54,12 @@ impl ParamReader {
         ensures received { OnOk result (IsReceived self.old piece.now self.new) }
         ensures refused { IfErr result (λ f. IsNotReceived self.old.failed self.old piece.now f self.new) }
     {
-        if let Some(offset) = self.failed {
-            return Err(failed_at(offset));
-        }
-        let alloc = *self.bytes.allocator();
-        let kept = self.bytes.len();
-        self.bytes.extend_from_slice(piece)?;
-        match resumed(alloc, self.progress.take()).go_on(self.bytes.as_slice()) {
-            Ok(progress) => {
-                self.progress = Some(progress);
-                Ok(())
-            }
-            Err(ParamFault::Syntax(fault)) => {
-                self.bytes = Vec::new(alloc);
-                self.failed = Some(fault.offset);
-                Err(ParamFault::Syntax(fault))
-            }
+        match self.buffer.feed(piece, &mut self.reading) {
+            Ok(()) => Ok(()),
             Err(fault) => {
-                self.bytes.truncate(kept);
-                Err(fault)
+                self.buffer.read_anew();
+                self.reading = Reading::new(self.alloc, no_rows(self.alloc));
+                Err(ParamFault::from(fault))
             }
         }
     }
@@ -103,14 +70,15 @@ impl ParamReader {
         ensures rows { IfOk result (λ p. (self.failed ≡ None) × IsParamsOf self.bytes p) }
         ensures refused { IfErr result (λ f. IsUnfinished self.failed self f) }
     {
-        if let Some(offset) = self.failed {
-            return Err(failed_at(offset));
+        if let Some(fault) = self.buffer.failure() {
+            return Err(ParamFault::Syntax(fault));
         }
         let ParamReader {
-            bytes,
-            progress,
+            buffer,
+            reading,
             ..
         } = self;
-        params_in(resumed(*bytes.allocator(), progress), bytes.as_slice())
+        let to = buffer.read_to();
+        params_in(Progress { to, reading }, buffer.as_bytes())
     }
 }

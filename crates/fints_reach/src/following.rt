@@ -12,10 +12,8 @@ ghost use Rattle.fints_reach.specs.Walking.{LeadsToward};
 use crate::passing::Numbers;
 use crate::way::{longest_way, way_into};
 use fints_params::Code;
-use fints_script::laws::carrying_leads;
 use fints_script::{Answer, Plan, Step, Target};
 use fints_syntax::Memory;
-use fints_wire::run_laws::routes_grow;
 use std::alloc::Global;
 
 // Whether a target has step s sent next behind a message of step t.
@@ -123,7 +121,6 @@ pub fn way_behind(
     requires carries { (step : StepValue) → numbered plan.now.script.steps t ≡ Some step → CarriesTo step t code s }
     ensures { IfOk result (λ answers. LeadsBehind plan.now.script.steps t code s answers.items) }
 {
-    carrying_leads();
     let step = plan.step(t);
     let branch = branch_to(step, t, code, s).unwrap();
     let mut answers = way_toward(alloc, plan, numbers, t, step.target(branch))?;

@@ -5,7 +5,6 @@ ghost use Rattle.fints_cases.specs.declared.answers.Target.{Target};
 ghost use Rattle.fints_reach.specs.Leading.{Leads};
 ghost use Rattle.fints_reach.specs.Passes.{AreOpen, IsOpenAt, IsSpare, IsWay, IsNoWay, target_at};
 
-use fints_script::laws::open_branches_lead;
 use fints_script::{Step, Target};
 
 fn is_open(flags: &[bool], b: usize) -> bool
@@ -59,7 +58,6 @@ pub fn spare(step: &Step, flags: &[bool]) -> u32
     requires once { 1 ≤ step.now.repeat }
     ensures { IsSpare step.now result }
 {
-    open_branches_lead();
     for b in 0..step.branches().len() + 1 {
         if is_again(step, flags, b) {
             return step.repeat() as u32 - 1;

@@ -16,10 +16,8 @@ ghost use Rattle.fints_reach.specs.Sources.{AreSources};
 use crate::following::carried_step;
 use crate::opening::{later_step, spare};
 use fints_params::Code;
-use fints_script::laws::{carrying_leads, open_branches_lead};
 use fints_script::{Plan, Step};
 use fints_syntax::Memory;
-use fints_wire::run_laws::{runs_by_steps, visits_are_within};
 use std::alloc::Global;
 
 /// The greatest number of each step's messages over all runs, in order of steps, or none for a step
@@ -112,7 +110,6 @@ fn raise_targets(
     requires wide { length sources.old.items ≡ length entries.old.items }
     ensures { AreRaised step.now entries.old.items entries.new.items sources.old.items sources.new.items number n }
 {
-    open_branches_lead();
     for b in 0..step.branches().len() + 1 {
         match later_step(step, flags, b) {
             None => {}
@@ -190,6 +187,7 @@ fn look_at_branches(
 fn pass_step(
     plan: &Plan,
     n: usize,
+    step: &Step,
     asked: &Asked<'_>,
     entries: &mut Vec<Option<u32>>,
     sources: &mut Vec<Option<u16>>,
@@ -198,6 +196,7 @@ fn pass_step(
 ) -> Option<u32>
     requires from { 1 ≤ n }
     requires to { n ≤ length plan.now.script.steps }
+    requires at { numbered plan.now.script.steps n ≡ Some step.now }
     requires room { visits.old < 2 ^ 61 }
     requires long { length entries.old.items ≡ length plan.now.script.steps }
     requires wide { length sources.old.items ≡ length plan.now.script.steps }
@@ -207,13 +206,11 @@ fn pass_step(
     ensures behind { (step : StepValue) → numbered plan.now.script.steps n ≡ Some step → AreKept n (PassAsks step result asked.now.marks.now n asked.now.code) behind.old.items behind.new.items }
     ensures counted { (step : StepValue) → numbered plan.now.script.steps n ≡ Some step → visits.new ≡ visits.old + visits_at step (is_some result) }
 {
-    carrying_leads();
-    let _count = plan.step_count();
+    plan.keeps();
     *visits += 1;
     match entries[n - 1] {
         None => None,
         Some(entry) => {
-            let step = plan.step(n);
             let flags = look_at_branches(step, n as u16, asked, behind, visits);
             let number = entry + spare(step, &flags);
             raise_targets(step, &flags, n as u16, number + 1, entries, sources);
@@ -249,8 +246,6 @@ pub fn greatest_numbers(
     ensures behind { IfOk result (λ numbers. AreBehind plan.now.script.steps numbers.greatest.items marks.now code numbers.behind.items) }
     ensures visits { IfOk result (λ numbers. numbers.visits ≡ looked_at plan.now.script.steps (map is_some numbers.greatest.items)) }
 {
-    runs_by_steps();
-    visits_are_within();
     let count = plan.step_count();
     let mut entries = blank(alloc, count)?;
     let mut sources = blank(alloc, count)?;
@@ -260,10 +255,11 @@ pub fn greatest_numbers(
     let asked = Asked { marks, code };
     entries[0] = Some(1);
     for i in 0..count {
-        let _step = plan.step(i + 1);
+        let step = plan.step(i + 1);
         let number = pass_step(
             plan,
             i + 1,
+            step,
             &asked,
             &mut entries,
             &mut sources,

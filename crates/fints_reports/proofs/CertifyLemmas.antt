@@ -1,11 +1,11 @@
 -- What `certify` tells.
 use Rattle.std.proofs.Common.{◌≡◌, ◌∙◌, ℕ, List, [], ◌∷◌, refl, subst, inl, inr}
-use Rattle.fints_certs.specs.Certificates.{line_figures, IsClosedCertificate}
-use Rattle.fints_certs.specs.CertTexts.{cert_text}
-use Rattle.fints_certs.specs.declared.certificate.Line.{Line}
-use Rattle.fints_check.specs.Figures.{AreFigures}
-use Rattle.fints_check.specs.Findings.{AreFindings}
-use Rattle.fints_check.specs.declared.finding.Finding.{Finding}
+use Rattle.fints_check.specs.Certificates.{line_figures, IsClosedCertificate}
+use Rattle.fints_check.specs.CertTexts.{cert_text}
+use Rattle.fints_check.specs.declared.certificate.Line.{Line}
+use Rattle.fints_findings.specs.Figures.{AreFigures}
+use Rattle.fints_findings.specs.Findings.{AreFindings}
+use Rattle.fints_findings.specs.declared.finding.Finding.{Finding}
 use Rattle.fints_rules_permissions.specs.Permits.{Granted}
 use Rattle.fints_script.specs.Scripts.{ScriptValue}
 use Rattle.fints_reports.specs.Certified.{IsCertifiedBy}

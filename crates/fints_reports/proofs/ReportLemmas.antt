@@ -10,7 +10,7 @@ use Rattle.fints_rules_permissions.specs.declared.orders.OrderRow.{OrderRow}
 use Rattle.fints_script.specs.Plans.{IsClosed, PlanValue}
 use Rattle.fints_script.specs.Scripts.{Denotes, ScriptValue}
 use Rattle.fints_script.specs.Steps.{StepValue}
-use Rattle.fints_check.specs.declared.finding.Reached.{Reached}
+use Rattle.fints_findings.specs.declared.finding.Reached.{Reached}
 use Rattle.fints_reports.specs.Plans.{ArePlan}
 use Rattle.fints_reports.specs.ReportText.{step_line, step_lines}
 use Rattle.fints_reports.specs.Told.{IsToldBy, IsToldOn}

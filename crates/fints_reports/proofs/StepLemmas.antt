@@ -4,8 +4,8 @@ use Rattle.std.specs.Prelude.{slice_get, Contains}
 use Rattle.std.specs.Option.{option_map_or}
 use Rattle.std.proofs.lemmas.List.Elements.{All-nil, All-cons, All-head, All-tail}
 use Rattle.fints_cases.specs.declared.values.NamedValue.{NamedValue}
-use Rattle.fints_check.specs.Findings.{AreFindings, IsReal}
-use Rattle.fints_check.specs.declared.finding.Finding.{Finding}
+use Rattle.fints_findings.specs.Findings.{AreFindings, IsReal}
+use Rattle.fints_findings.specs.declared.finding.Finding.{Finding}
 use Rattle.fints_rules_permissions.specs.Permits.{Granted}
 use Rattle.fints_script.specs.Numbered.{numbered_within}
 use Rattle.fints_script.specs.Scripts.{ScriptValue}

@@ -1,10 +1,10 @@
 -- What `certify` tells of a script: its certificate, or else the report.
 use Rattle.std.specs.Prelude.{◌≡◌, ◌⊎◌, ℕ, List, []}
-use Rattle.fints_certs.specs.Certificates.{line_figures, IsClosedCertificate}
-use Rattle.fints_certs.specs.CertTexts.{cert_text}
-use Rattle.fints_certs.specs.declared.certificate.Line.{Line}
-use Rattle.fints_check.specs.Figures.{AreFigures}
-use Rattle.fints_check.specs.Findings.{AreFindings}
+use Rattle.fints_check.specs.Certificates.{line_figures, IsClosedCertificate}
+use Rattle.fints_check.specs.CertTexts.{cert_text}
+use Rattle.fints_check.specs.declared.certificate.Line.{Line}
+use Rattle.fints_findings.specs.Figures.{AreFigures}
+use Rattle.fints_findings.specs.Findings.{AreFindings}
 use Rattle.fints_reports.specs.ReportText.{IsReportBy}
 use Rattle.fints_rules_permissions.specs.Permits.{Granted}
 use Rattle.fints_script.specs.Scripts.{ScriptValue}

@@ -2,9 +2,9 @@
 use Rattle.std.specs.Prelude.{◌≡◌, ℕ, ◌+◌, List, [], ◌∷◌, ◌++◌, codes, Option}
 use Rattle.std.specs.Fmt.{decimal}
 use Rattle.fints_cases.specs.Cases.{case_text}
-use Rattle.fints_check.specs.Figures.{AreFigures}
-use Rattle.fints_check.specs.declared.finding.Finding.{Finding}
-use Rattle.fints_check.specs.declared.finding.Reached.{Reached}
+use Rattle.fints_findings.specs.Figures.{AreFigures}
+use Rattle.fints_findings.specs.declared.finding.Finding.{Finding}
+use Rattle.fints_findings.specs.declared.finding.Reached.{Reached}
 use Rattle.fints_rules_permissions.specs.Permits.{Granted}
 use Rattle.fints_script.specs.Scripts.{ScriptValue}
 use Rattle.fints_script.specs.Steps.{StepValue}

@@ -1,7 +1,7 @@
 -- How far cases are written. Private contracts alone cite these words.
 use Rattle.std.specs.Prelude.{◌≡◌, ℕ, List, ◌++◌, Option, Some, None}
-use Rattle.fints_check.specs.Findings.{Shows}
-use Rattle.fints_check.specs.declared.finding.Finding.{Finding}
+use Rattle.fints_findings.specs.Findings.{Shows}
+use Rattle.fints_findings.specs.declared.finding.Finding.{Finding}
 use Rattle.fints_reach.specs.Ways.{LeadsTo}
 use Rattle.fints_rules_permissions.specs.Permits.{Granted}
 use Rattle.fints_script.specs.Scripts.{ScriptValue}

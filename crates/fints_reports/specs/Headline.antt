@@ -2,8 +2,8 @@
 use Rattle.std.specs.Prelude.{◌≡◌, ◌↔◌, ℕ, List, [], AllPairs, Contains}
 use Rattle.std.specs.List.{AllZip}
 use Rattle.fints_cases.specs.declared.values.NamedValue.{NamedValue}
-use Rattle.fints_check.specs.Findings.{EachIsPermitted, IsBefore, IsReal, Shows}
-use Rattle.fints_check.specs.declared.finding.Finding.{Finding}
+use Rattle.fints_findings.specs.Findings.{EachIsPermitted, IsBefore, IsReal, Shows}
+use Rattle.fints_findings.specs.declared.finding.Finding.{Finding}
 use Rattle.fints_rules_permissions.specs.Permits.{Granted}
 use Rattle.fints_script.specs.Scripts.{ScriptValue}
 

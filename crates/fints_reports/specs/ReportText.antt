@@ -6,10 +6,10 @@ use Rattle.fints_rules_permissions.specs.Permits.{Granted}
 use Rattle.fints_rules.specs.RuleNames.{rule_name}
 use Rattle.fints_script.specs.Scripts.{ScriptValue}
 use Rattle.fints_script.specs.Steps.{StepValue}
-use Rattle.fints_check.specs.Figures.{AreFigures}
-use Rattle.fints_check.specs.Findings.{AreFindings}
-use Rattle.fints_check.specs.declared.finding.Finding.{Finding}
-use Rattle.fints_check.specs.declared.finding.Reached.{Reached}
+use Rattle.fints_findings.specs.Figures.{AreFigures}
+use Rattle.fints_findings.specs.Findings.{AreFindings}
+use Rattle.fints_findings.specs.declared.finding.Finding.{Finding}
+use Rattle.fints_findings.specs.declared.finding.Reached.{Reached}
 use Rattle.fints_reports.specs.StepNames.{step_name}
 
 -- ---- the text

@@ -3,7 +3,7 @@ use Rattle.std.specs.Prelude.{◌≤◌, ℕ, List, [], length}
 use Rattle.std.specs.Option.{option_map_or}
 use Rattle.fints_script.specs.Numbered.{numbered}
 use Rattle.fints_script.specs.Steps.{StepValue}
-use Rattle.fints_check.specs.declared.finding.Finding.{Finding}
+use Rattle.fints_findings.specs.declared.finding.Finding.{Finding}
 use Rattle.fints_wire.specs.declared.dialogue.Sent.{Sent}
 
 -- the name of step n

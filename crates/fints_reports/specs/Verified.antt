@@ -1,8 +1,8 @@
 -- What `verify` tells of a certificate, and why nothing is. Words of private contracts and proofs alone stand last, under a heading.
 use Rattle.std.specs.Prelude.{◌≡◌, ◌↔◌, ℕ, Bool, true, false, IsTrue, List, codes}
-use Rattle.fints_certs.specs.Certificates.{IsClosedCertificate}
-use Rattle.fints_certs.specs.CertTexts.{IsCertificateOf, IsFirstBadLine}
-use Rattle.fints_certs.specs.declared.certificate.Line.{Line}
+use Rattle.fints_check.specs.Certificates.{IsClosedCertificate}
+use Rattle.fints_check.specs.CertTexts.{IsCertificateOf, IsFirstBadLine}
+use Rattle.fints_check.specs.declared.certificate.Line.{Line}
 use Rattle.fints_params.specs.Captures.{IsParamsOf}
 use Rattle.fints_params.specs.Parameters.{Rows}
 use Rattle.fints_reports.specs.Plans.{ArePlan, IsPlanRefusal}

@@ -1,12 +1,11 @@
 //! The certificate of a script without findings.
 ghost use Rattle.std.specs.Prelude.{◌≡◌, IfOk};
-ghost use Rattle.fints_check.specs.Figures.{AreFigures};
+ghost use Rattle.fints_findings.specs.Figures.{AreFigures};
 ghost use Rattle.fints_reports.specs.Certified.{IsCertifiedBy};
-ghost use Rattle.fints_certs.specs.CertTexts.{cert_text};
+ghost use Rattle.fints_check.specs.CertTexts.{cert_text};
 
 use crate::writing::reply;
-use fints_certs::{Certificate, certificate_of};
-use fints_check::Report;
+use fints_check::{Certificate, Certified, Report};
 use fints_script::Plan;
 use fints_syntax::Memory;
 use fints_texts::Reply;
@@ -26,8 +25,8 @@ pub fn certify(alloc: Global, plan: &Plan<'_>, report: &Report<'_>) -> Result<Re
     requires figures { AreFigures plan.now.script report.now.figures }
     ensures { IfOk result (λ reply. IsCertifiedBy report.now.granted plan.now.script reply.status reply.text.items) }
 {
-    let _findings = report.findings();
-    match certificate_of(alloc, report)? {
+    report.keeps();
+    match report.certificate(alloc)? {
         Some(certificate) => certificate_reply(alloc, &certificate),
         None => reply(alloc, plan, report),
     }

@@ -1,11 +1,11 @@
 //! Whether a certificate is closed, from the texts of its inputs.
 ghost use Rattle.std.specs.Prelude.{◌≡◌, ◌≤◌, ◌↔◌, ℕ, List, IsTrue, IfOk, IfErr};
-ghost use Rattle.fints_certs.specs.CertTexts.{IsCertificateOf};
+ghost use Rattle.fints_check.specs.CertTexts.{IsCertificateOf};
 ghost use Rattle.fints_params.specs.Captures.{IsReadOf};
 ghost use Rattle.fints_reports.specs.Verified.{IsCertificateRefusal, IsUnverified, IsVerifiedBy, IsVerifiedOf, IsVerifiedOn, IsVerifyRefusal, TellsWhether};
 
 use crate::inputs::read_inputs;
-use fints_certs::{CertFault, Certificate, verify};
+use fints_check::{CertFault, Certificate, verify};
 use fints_params::{ParamFault, Params};
 use fints_rules::Permissions;
 use fints_script::Plan;

@@ -1,7 +1,7 @@
 //! The lines of a report.
 ghost use Rattle.std.specs.Prelude.{◌≡◌, ◌++◌, IfOk, OnOk};
 ghost use Rattle.std.specs.List.{All, flat_map};
-ghost use Rattle.fints_check.specs.Figures.{AreFigures};
+ghost use Rattle.fints_findings.specs.Figures.{AreFigures};
 ghost use Rattle.fints_reports.specs.StepNames.{IsFindingOf};
 ghost use Rattle.fints_reports.specs.ReportText.{broken_line, figures_text, finding_line, finding_text, last_line, report_status, report_text, step_line, step_lines, IsReportBy};
 

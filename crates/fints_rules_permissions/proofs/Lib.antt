@@ -6,3 +6,4 @@ pub mod PermitLemmas
 pub mod ListedLemmas
 pub mod FormLemmas
 pub mod OneTable
+pub mod LawLemmas

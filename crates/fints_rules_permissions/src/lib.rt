@@ -12,6 +12,7 @@ mod orders;
 mod permissions;
 
 pub use account::AccountKey;
+pub use fints_syntax::Memory;
 pub use limits::{Demand, Limits, OrderKey};
 pub use orders::{AccountForm, MAX_ROWS, OrderRow, OrderTable, TableFault};
 pub use permissions::{Permissions, Permit};

@@ -1,7 +1,6 @@
 //! The segments of a stream, as its pieces come.
-use fints_feeder::Feeder;
 use fints_samples::C;
-use fints_syntax::{OwnedSegment, SyntaxFault, SyntaxKind, write_segment};
+use fints_syntax::{Feeder, OwnedSegment, SyntaxFault, SyntaxKind, write_segment};
 use std::alloc::Global;
 use std::test::*;
 

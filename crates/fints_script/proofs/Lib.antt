@@ -13,3 +13,4 @@ pub mod SoundSteps
 pub mod SoundScripts
 pub mod ClosedSegments
 pub mod OneScript
+pub mod LawLemmas

@@ -17,9 +17,10 @@ pub use fints_cases::{Answer, Branch, Case, CaseFault, NamedValue, Pattern, Targ
 pub use fints_field_rows::limits::MAX_STEPS;
 pub use fints_field_rows::{FaultKind, NamedField, Place, ScriptFault, limits};
 pub use fints_fields::{
-    Account, AccountValue, Accounts, Alphabet, Bin, Field, FieldClass, Name, OneOf, Text, Texts,
-    class_laws,
+    Account, AccountValue, Accounts, Alphabet, Bin, Digits, Field, FieldClass, Name, OneOf, Plain,
+    Text, Texts, class_laws,
 };
+pub use fints_syntax::Memory;
 pub use fints_templates::{Signer, Template, TemplateElements, TemplateItem};
 pub use opens::PlanFault;
 pub use plan::Plan;

@@ -121,6 +121,16 @@ impl<'a> Plan<'a> {
         self.orders
     }
 
+    /// What each plan keeps: its script was read, and with its order table it leaves no account and no
+    /// TAN process open.
+    pub fn keeps(&self)
+        ensures read { IsRead self.now.script }
+        ensures sound { IsSound self.now.script }
+        ensures closed { IsClosed self.now.script self.now.orders }
+    {
+        let _ = self.script.steps();
+    }
+
     /// Whether the values are exactly the fields' in order, `dialog` first, each of its domain.
     pub fn admits(&self, values: &Values) -> bool
         ensures { IsTrue result ↔ Admits self.now.script.fields values.now }

@@ -1,21 +1,27 @@
-//! The segment syntax: items, elements and segments, read. It passes on what writes them.
+//! The segment syntax: items, elements and segments, read, whole and in pieces. It passes on what
+//! writes them.
 #![tactic(auto)]
 
+mod buffer;
 mod capture;
 mod cursor;
 mod fault;
+mod feeder;
 mod head;
 pub mod laws;
 mod locate;
 mod owning;
 mod scan;
 mod stream;
+mod taken;
 mod text;
 mod view;
 mod window;
 
+pub use buffer::StreamBuffer;
 pub use capture::{MAX_CAPTURE, Placed, parse_all, parse_placed};
 pub use fault::{SyntaxFault, SyntaxKind};
+pub use feeder::Feeder;
 pub use fints_kinds::{Kind, is_frame_kind};
 pub use fints_segments::{
     Bytes, ElementRef, Elements, Head, ItemRef, Memory, OwnedItem, OwnedSegment, decimal_len,

@@ -8,4 +8,5 @@ pub mod signers;
 mod template;
 pub mod weights;
 
+pub use fints_segments::Memory;
 pub use template::{Signer, Template, TemplateElements, TemplateItem};

@@ -10,7 +10,6 @@ ghost use Rattle.fints_wire.specs.Views.{message_view};
 
 use crate::filling::{Filling, filled_elements};
 use crate::frame::{data_segment, first_segment, last_segment, seal_segment, segment};
-use crate::laws::messages_are_read;
 use crate::part::{Part, part_at, part_count};
 use fints_script::{Plan, Step, Values};
 use fints_syntax::{Elements, Memory, OwnedSegment, write_segment};
@@ -166,7 +165,6 @@ pub fn build(
     ensures short { IfOk result (λ bytes. length bytes.items < 1048576) }
     ensures view { OfStep plan.now.script.steps step (λ s. IfOk result (λ bytes. IsMessage bytes.items (message_view plan.now.script s number values.now))) }
 {
-    messages_are_read();
     let step = plan.step(step);
     let filling = Filling::new(alloc, plan.fields(), values.pairs(), number)?;
     let later = later_text(alloc, plan, step, &filling, number)?;

@@ -8,7 +8,6 @@ ghost use Rattle.fints_wire.specs.declared.building.TheConstants.{MAX_NUMBER};
 ghost use Rattle.fints_wire.specs.Runs.{AreSent, AreVisits, Finishes, Follows, IsSent, IsWithin, Run};
 
 use crate::building::build;
-use crate::run_laws::sent_are_read;
 use fints_script::{Answer, Plan, Target, Values};
 use fints_syntax::{Bytes, Memory};
 use std::alloc::Global;
@@ -66,7 +65,7 @@ pub fn message(alloc: Global, plan: &Plan, values: &Values, visit: Visit) -> Res
     requires admits { Admits plan.now.script.fields values.now }
     ensures { IfOk result (IsSent plan.now.script values.now visit) }
 {
-    let _count = plan.step_count();
+    plan.keeps();
     let bytes = build(alloc, plan, usize::from(visit.step), visit.number, values)?;
     Ok(Sent {
         step: visit.step,
@@ -81,7 +80,7 @@ pub fn visits(alloc: Global, plan: &Plan, answers: &[Answer]) -> Result<Vec<Visi
     ensures visits { IfOk result (λ visits. AreVisits plan.now.script.steps answers.now visits.items) }
     ensures within { IfOk result (λ visits. All (IsWithin plan.now.script.steps) visits.items) }
 {
-    let _count = plan.step_count();
+    plan.keeps();
     let mut visits = Vec::new(alloc);
     let mut here = Visit {
         step: 1,
@@ -130,8 +129,7 @@ pub fn run(
     ensures run { IfOk result (λ sent. Run plan.now.script values.now answers.now sent.items) }
     ensures messages { IfOk result (λ sent. AllByRecursion (IsReadAs plan.now.script values.now) sent.items) }
 {
-    sent_are_read();
-    let _count = plan.step_count();
+    plan.keeps();
     let visits = visits(alloc, plan, answers)?;
     let sent = messages(alloc, plan, values, visits.as_slice())?;
     Ok(sent)

@@ -6,16 +6,11 @@ ghost use Rattle.fints_wire.specs.Choices.{longest_choice, shortest_choice};
 ghost use Rattle.fints_wire.specs.Laws.{AccountsArePutIn, BodyHasNoOthers, BodyIsTemplates, DialogIsOneItem, EachSignerEnds, ElementsAreFilled, FieldsArePutIn, LiteralsStand, LongestValuesAreMost, MessagesAreShort, OnlyItsItemsAreSet, SetValueIsAdmitted};
 ghost use Rattle.fints_wire.specs.Views.{MessagesAreRead};
 
-use fints_script::class_laws::account_values_are_listed;
-use fints_syntax::laws::written_is_spelled;
-
 /// The bytes of a step's message are a message, and what is read in it is what the step says, with
 /// the choice put in.
 pub fn messages_are_read()
     ensures { MessagesAreRead }
-{
-    written_is_spelled();
-}
+{}
 
 /// The body of a step's message, place by place: the templates filled, numbered on behind HNHBK and
 /// the signers' HNSHK; and as many HNSHA as signers.
@@ -46,9 +41,7 @@ pub fn fields_are_put_in()
 /// An element that is one account field has the items of the listed account whose text is chosen.
 pub fn accounts_are_put_in()
     ensures { AccountsArePutIn }
-{
-    account_values_are_listed();
-}
+{}
 
 /// The dialogue id stands as one item, which is never empty: `0` in message 1, and afterwards 1 to
 /// 30 bytes.

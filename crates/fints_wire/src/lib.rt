@@ -14,5 +14,6 @@ mod worst;
 
 pub use building::{MAX_NUMBER, build};
 pub use dialogue::{Sent, Visit, message, run, visits};
+pub use fints_syntax::Memory;
 pub use values::{least_values, worst_values};
 pub use worst::worst_size;

@@ -8,7 +8,7 @@ use Rattle.fints_field_rows.proofs.fields.are_named.Goals as goal
 pub loop-field-preserved : goal.loop-field-preserved
 loop-field-preserved c =
     let here : c.loop-field.field-index < length c.args.fields.now = omega arith in
-    named_more c.args.fields.now c.loop-field.field-index c.field-item.result here c.loop-field.invariant (subst (λ field. IsName field.name) c.field-item.is c.as_bytes-text.ensures.name)
+    named_more c.args.fields.now c.loop-field.field-index c.field-item.result here c.loop-field.invariant (subst (λ field. IsName field.name) c.field-item.is c.keeps.ensures)
 
 pub returns : goal.returns
 returns c = subst AreNamed (take_all c.loop-field.field-index c.args.fields.now c.loop-field-test.false) c.loop-field.invariant

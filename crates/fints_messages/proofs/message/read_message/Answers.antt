@@ -2,18 +2,19 @@ use Rattle.std.proofs.Common.{subst}
 use Rattle.fints_messages.specs.Messages.{IsTail, Stops}
 use Rattle.fints_messages.specs.Front.{BeginsBy, IsWholeBy, IsReadBy, TailIs}
 use Rattle.fints_messages.proofs.Wholes.{refused_first, refused_head, refused_tail, is_message}
+use Rattle.fints_syntax.proofs.LawLemmas.{one_segment_text}
 use Rattle.fints_messages.proofs.message.read_message.Goals as goal
 
 pub returns-in-None-clause-refusal : goal.returns-in-None-clause-refusal
-returns-in-None-clause-refusal c = refused_first c.one_segment_text.ensures c.args.bytes.now c.in-None.ensures.none
+returns-in-None-clause-refusal c = refused_first one_segment_text c.args.bytes.now c.in-None.ensures.none
 
 pub returns-in-None-read_first-clause-refusal : goal.returns-in-None-read_first-clause-refusal
-returns-in-None-read_first-clause-refusal c = refused_head c.one_segment_text.ensures c.args.bytes.now c.in-Some.first c.in-Some.len c.in-Some.ensures.some c.in-None-read_first.ensures.none
+returns-in-None-read_first-clause-refusal c = refused_head one_segment_text c.args.bytes.now c.in-Some.first c.in-Some.len c.in-Some.ensures.some c.in-None-read_first.ensures.none
 
 pub returns-in-Stop-clause-refusal : goal.returns-in-Stop-clause-refusal
 returns-in-Stop-clause-refusal c =
     let n = c.in-Some-read_first.number in
-    refused_tail c.one_segment_text.ensures c.args.bytes.now c.in-Some.len c.in-Stop.at n c.in-Some.first c.in-Some.ensures.some c.in-Some-read_first.ensures.some
+    refused_tail one_segment_text c.args.bytes.now c.in-Some.len c.in-Stop.at n c.in-Some.first c.in-Some.ensures.some c.in-Some-read_first.ensures.some
     (subst (λ z. Stops (BeginsBy (IsTail n)) (IsWholeBy (IsTail n)) z c.in-Stop.at) c.split_at.ensures.back (subst (TailIs (IsTail n) c.split_at.result.1.now) c.in-Stop.is c.in_ok-at-in-Some-read_first.ensures.tail))
 
 pub returns-in_ok-with_segments-in-Whole-clause-message : goal.returns-in_ok-with_segments-in-Whole-clause-message

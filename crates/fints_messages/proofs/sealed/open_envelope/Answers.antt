@@ -1,17 +1,18 @@
 use Rattle.std.proofs.Common.{arith, sym, ap, ◌∙◌, Some}
 use Rattle.fints_messages.proofs.Seals.{data_inner, envelope_text, opened, head_number}
+use Rattle.fints_syntax.proofs.LawLemmas.{one_segment_text}
 use Rattle.fints_messages.proofs.sealed.open_envelope.Goals as goal
 
 pub returns-then-inner-data-clause-envelope : goal.returns-then-inner-data-clause-envelope
 returns-then-inner-data-clause-envelope c = λ inner b e is g n.
     let i = c.in_ok-inner-in-Some.inner in
-    let all = data_inner c.one_segment_text.ensures c.in-Some.data.now i.at i.openers i.body.items i.ends.items inner b e c.in_ok-inner-in-Some.ensures.front c.in_ok-inner-in-Some.ensures.stopped (envelope_text inner _ c.in-Some.data.now c.in-Some.ensures.some is) g n in
+    let all = data_inner one_segment_text c.in-Some.data.now i.at i.openers i.body.items i.ends.items inner b e c.in_ok-inner-in-Some.ensures.front c.in_ok-inner-in-Some.ensures.stopped (envelope_text inner _ c.in-Some.data.now c.in-Some.ensures.some is) g n in
     omega (arith, all.all, c.if-inner-data.true)
 
 pub returns-then-len-inner-clause-envelope : goal.returns-then-len-inner-clause-envelope
 returns-then-len-inner-clause-envelope c = λ inner b e is g n.
     let i = c.in_ok-inner-in-Some.inner in
-    let all = data_inner c.one_segment_text.ensures c.in-Some.data.now i.at i.openers i.body.items i.ends.items inner b e c.in_ok-inner-in-Some.ensures.front c.in_ok-inner-in-Some.ensures.stopped (envelope_text inner _ c.in-Some.data.now c.in-Some.ensures.some is) g n in
+    let all = data_inner one_segment_text c.in-Some.data.now i.at i.openers i.body.items i.ends.items inner b e c.in_ok-inner-in-Some.ensures.front c.in_ok-inner-in-Some.ensures.stopped (envelope_text inner _ c.in-Some.data.now c.in-Some.ensures.some is) g n in
     omega (arith, all.as_many, c.if-len-inner.true, c.len.ensures)
 
 pub returns-else-len-inner-clause-envelope : goal.returns-else-len-inner-clause-envelope

@@ -14,7 +14,7 @@ returns-in_err-progress-clause-refused g c =
     let f = c.in_err-progress.field-0.0 in
     let told : IsMemoryOr (IsRefusedOf g.R.Reader.rule c.args.capture.now) f = elim c.in_err-progress.ensures.fault [
       | inl m ↦ inl m
-      | inr p ↦ inr (inl (syntax_fault c.one_split.ensures.capture c.args.capture.now f p))
+      | inr p ↦ inr (inl (syntax_fault c.args.capture.now f p))
     ] in
     let q = err_from_is_err_and c.from_residual.result c.from_residual.ensures.1 in
     rw (q.1, q.2) told

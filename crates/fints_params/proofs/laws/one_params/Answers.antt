@@ -2,10 +2,10 @@ use Rattle.fints_params.proofs.OneMeaning.{one_params, one_param_fault, no_param
 use Rattle.fints_params.proofs.laws.one_params.Goals as goal
 
 pub returns-clause-rows : goal.returns-clause-rows
-returns-clause-rows c = one_params c.syntax_laws.ensures
+returns-clause-rows c = one_params
 
 pub returns-clause-refusal : goal.returns-clause-refusal
-returns-clause-refusal c = one_param_fault c.syntax_laws.ensures
+returns-clause-refusal c = one_param_fault
 
 pub returns-clause-not_both : goal.returns-clause-not_both
-returns-clause-not_both c = no_params_at_fault c.syntax_laws.ensures
+returns-clause-not_both c = no_params_at_fault

@@ -11,6 +11,7 @@ use Rattle.fints_reach.proofs.Keeping.{behind_more, behind_none}
 use Rattle.fints_reach.proofs.Blanks.{first_alone, first_there}
 use Rattle.fints_reach.proofs.Scripts.{script_of}
 use Rattle.fints_reach.proofs.Visits.{few_visits, looked_at_push, none_looked_at}
+use Rattle.fints_wire.proofs.RunLawLemmas.{runs_by_steps, visits_are_within}
 use Rattle.fints_reach.proofs.passing.greatest_numbers.Goals as goal
 
 pub loop-i-init : goal.loop-i-init
@@ -32,7 +33,7 @@ loop-i-init c =
     }
 
 pub pass_step-number-requires-clause-small : goal.pass_step-number-requires-clause-small
-pass_step-number-requires-clause-small c e h = entered_small c.args.plan.now.script c.loop-i.entries.items c.loop-i.sources.items c.loop-i.greatest.items c.loop-i.i (c.loop-i.i + 1) e c.step_count-count.ensures.sound (c.runs_by_steps.ensures c.args.plan.now.script.steps) (λ v. c.visits_are_within.ensures c.args.plan.now.script v c.step_count-count.ensures.sound) c.loop-i.invariant.pass h
+pass_step-number-requires-clause-small c e h = entered_small c.args.plan.now.script c.loop-i.entries.items c.loop-i.sources.items c.loop-i.greatest.items c.loop-i.i (c.loop-i.i + 1) e c.step_count-count.ensures.sound (runs_by_steps c.args.plan.now.script.steps) (λ v. visits_are_within c.args.plan.now.script v c.step_count-count.ensures.sound) c.loop-i.invariant.pass h
 
 pub pass_step-number-requires-clause-room : goal.pass_step-number-requires-clause-room
 pass_step-number-requires-clause-room c =
@@ -63,7 +64,7 @@ loop-i-preserved c =
 pub returns-clause-greatest : goal.returns-clause-greatest
 returns-clause-greatest c =
     let last : c.loop-i.i ≡ length c.args.plan.now.script.steps = omega (arith, c.step_count-count.ensures.count) in
-    pass_greatest c.args.plan.now.script.steps c.loop-i.entries.items c.loop-i.sources.items c.loop-i.greatest.items (c.runs_by_steps.ensures c.args.plan.now.script.steps) (script_of c.args.plan.now.script c.step_count-count.ensures.sound)
+    pass_greatest c.args.plan.now.script.steps c.loop-i.entries.items c.loop-i.sources.items c.loop-i.greatest.items (runs_by_steps c.args.plan.now.script.steps) (script_of c.args.plan.now.script c.step_count-count.ensures.sound)
     (subst (λ i. Pass c.args.plan.now.script.steps c.loop-i.entries.items c.loop-i.sources.items c.loop-i.greatest.items i) last c.loop-i.invariant.pass)
 
 pub returns-clause-sources : goal.returns-clause-sources

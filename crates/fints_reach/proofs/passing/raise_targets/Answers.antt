@@ -6,13 +6,14 @@ use Rattle.std.specs.Prelude.{Vec}
 use Rattle.std.specs.declared.alloc.Global.{Global}
 use Rattle.fints_reach.specs.Passes.{IsWay}
 use Rattle.fints_reach.proofs.Scripts.{leads_by_branches}
+use Rattle.fints_cases.proofs.LawLemmas.{open_branches_lead}
 use Rattle.fints_reach.proofs.passing.raise_targets.Goals as goal
 use Rattle.fints_reach.proofs.passing.raise_targets.Goals.{in-Some, in-None}
 
 pub raise-requires : goal.raise-requires
 raise-requires c =
     let way : IsWay c.args.step.now c.loop-b.b c.in-Some.to = c.in-Some.ensures in
-    let can = (leads_by_branches c.open_branches_lead.ensures c.args.step.now (Step c.in-Some.to)).1 (c.loop-b.b, omega (arith, ap length c.branches.ensures), way.way, way.leads_to) in
+    let can = (leads_by_branches open_branches_lead c.args.step.now (Step c.in-Some.to)).1 (c.loop-b.b, omega (arith, ap length c.branches.ensures), way.way, way.leads_to) in
     let forward : IsOnward (length c.args.entries.now.items) c.args.n (Step c.in-Some.to) = c.requires.onward (Step c.in-Some.to) can in
     let low = forward.0 in
     let high = forward.1 in
@@ -31,7 +32,7 @@ loop-b-preserved c =
     elim c.match-later_step.branch [
       | in-Some w ↦
           let way : IsWay step c.loop-b.b w.in-Some.to = w.in-Some.ensures in
-          let can = (leads_by_branches c.open_branches_lead.ensures step (Step w.in-Some.to)).1 (c.loop-b.b, omega (arith, ap length c.branches.ensures), way.way, way.leads_to) in
+          let can = (leads_by_branches open_branches_lead step (Step w.in-Some.to)).1 (c.loop-b.b, omega (arith, ap length c.branches.ensures), way.way, way.leads_to) in
           subst Q (sym w.entries-is) (subst (P w.raise.new.entries) (sym w.sources-is)
           (so_far_raised step old c.loop-b.entries.items w.raise.new.entries.items before c.loop-b.sources.items w.raise.new.sources.items c.loop-b.b c.args.number c.args.n w.in-Some.to can way.leads_to w.raise.ensures c.loop-b.invariant))
       | in-None w ↦
@@ -42,5 +43,5 @@ loop-b-preserved c =
 pub returns : goal.returns
 returns c =
     let last : c.loop-b.b ≡ length c.args.step.now.branches + 1 = omega (arith, ap length c.branches.ensures) in
-    so_far_all c.args.step.now c.args.entries.now.items c.loop-b.entries.items c.args.sources.now.items c.loop-b.sources.items c.args.number c.args.n (λ to. (leads_by_branches c.open_branches_lead.ensures c.args.step.now to).0)
+    so_far_all c.args.step.now c.args.entries.now.items c.loop-b.entries.items c.args.sources.now.items c.loop-b.sources.items c.args.number c.args.n (λ to. (leads_by_branches open_branches_lead c.args.step.now to).0)
     (subst (λ b. SoFar c.args.step.now c.args.entries.now.items c.loop-b.entries.items c.args.sources.now.items c.loop-b.sources.items b c.args.number c.args.n) last c.loop-b.invariant)

@@ -1,5 +1,5 @@
 use Rattle.std.proofs.Common.{◌∙◌, ◌++◌, List, ℕ, ap, subst}
-use Rattle.fints_check.specs.Findings.{AreFindings}
+use Rattle.fints_findings.specs.Findings.{AreFindings}
 use Rattle.fints_script.specs.Plans.{PlanValue}
 use Rattle.fints_reports.specs.ExplainText.{cases_text}
 use Rattle.fints_reports.specs.ReportText.{report_status, report_text}

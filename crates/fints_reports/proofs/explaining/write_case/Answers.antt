@@ -1,7 +1,7 @@
 use Rattle.std.proofs.Common.{◌≡◌, ◌∙◌, ◌++◌, [], ap, sym, subst}
 use Rattle.std.specs.Option.{option_map_or}
 use Rattle.fints_cases.specs.Cases.{case_text}
-use Rattle.fints_check.specs.Findings.{Shows}
+use Rattle.fints_findings.specs.Findings.{Shows}
 use Rattle.fints_script.specs.Plans.{PlanValue}
 use Rattle.fints_reports.specs.Explaining.{IsCaseWritten}
 use Rattle.fints_script.specs.Steps.{StepValue}

@@ -1,5 +1,5 @@
 use Rattle.std.proofs.Common.{sym, subst}
-use Rattle.fints_check.specs.Findings.{EachIsPermitted}
+use Rattle.fints_findings.specs.Findings.{EachIsPermitted}
 use Rattle.fints_rules_permissions.specs.Permits.{Granted}
 use Rattle.fints_reports.proofs.telling.tell_plan.Goals as goal
 

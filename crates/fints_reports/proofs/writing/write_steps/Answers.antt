@@ -2,7 +2,7 @@ use Rattle.std.proofs.Common.{◌≡◌, ◌∙◌, ◌+◌, ◌-◌, ◌++◌, 
 use Rattle.std.specs.Prelude.{slice_get}
 use Rattle.fints_script.specs.Numbered.{numbered_from}
 use Rattle.fints_script.specs.Steps.{StepValue}
-use Rattle.fints_check.specs.declared.finding.Reached.{Reached}
+use Rattle.fints_findings.specs.declared.finding.Reached.{Reached}
 use Rattle.fints_reports.specs.ReportText.{step_line, step_lines}
 use Rattle.fints_reports.proofs.ReportLemmas.{line_more}
 use Rattle.fints_reports.proofs.writing.write_steps.Goals as goal

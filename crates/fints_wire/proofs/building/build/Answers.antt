@@ -10,6 +10,7 @@ use Rattle.fints_wire.specs.Views.{message_view}
 use Rattle.fints_wire.proofs.FilledLemmas.{dialog_some, filling_is, sealed_filled, templates_filled}
 use Rattle.fints_wire.proofs.TextLemmas.{found_at, message_is}
 use Rattle.fints_wire.proofs.Weighing.{message_light}
+use Rattle.fints_wire.proofs.LawLemmas.{messages_are_read}
 use Rattle.fints_wire.proofs.building.build.Goals as goal
 
 pub later_text-requires-clause-filled : goal.later_text-requires-clause-filled
@@ -81,5 +82,5 @@ returns-clause-view c s found =
     let i : ℕ = c.args.step - 1 in
     let number = c.args.number in
     let values = c.args.values.now in
-    let law = c.messages_are_read.ensures script i s number values c.step-step.ensures.sound found c.requires.first c.requires.last c.requires.admits in
+    let law = messages_are_read script i s number values c.step-step.ensures.sound found c.requires.first c.requires.last c.requires.admits in
     subst (λ (bytes : List ℕ). IsMessage bytes (message_view script s number values)) (sym (returns-clause-bytes c s found)) law

@@ -1,25 +1,46 @@
-use Rattle.std.proofs.Common.{◌≡◌, ◌∙◌, ◌++◌, refl, subst, Some}
-use Rattle.fints_params.specs.declared.fault.ParamFault.TheVariants.{Syntax}
-use Rattle.fints_params.specs.Faults.{IsMemoryOr}
-use Rattle.fints_params.specs.Inside.{received_of, HasComeTo}
-use Rattle.fints_params.specs.Pieces.{Received, IsPieceFault, IsNotReceived}
-use Rattle.fints_params.proofs.GoingOn.{none_of, not_received}
+use Rattle.std.proofs.Common.{◌≡◌, ◌∙◌, ◌++◌, [], ap, refl, sym, subst, None}
+use Rattle.std.proofs.lemmas.List.{append-nil}
+use Rattle.fints_syntax.specs.Buffered.{Buffered}
+use Rattle.fints_params.specs.declared.fault.ParamFault.{ParamFault}
+use Rattle.fints_params.specs.Faults.{fault_of}
+use Rattle.fints_params.specs.Inside.{received_of}
+use Rattle.fints_params.specs.Parameters.{fault_after}
+use Rattle.fints_params.specs.Pieces.{Received, IsReceived, IsNotReceived}
+use Rattle.fints_params.specs.Taken.{SoFar}
+use Rattle.fints_params.proofs.Receiving.{come_anew, come_with, come_all, start_stays, received, received_by, not_received}
 use Rattle.fints_params.proofs.reader.ParamReader.feed.Goals as goal
 
-pub go_on-requires : goal.go_on-requires
-go_on-requires c =
+pub invariant_of-self : goal.invariant_of-self
+invariant_of-self c =
     let i = c.self.inside in
-    let all : c.as_slice.result.now ≡ i.bytes.items ++ c.args.piece.now = c.as_slice.ensures.value ∙ c.in_ok-extend_from_slice.ensures.items in
-    let before : HasComeTo i.bytes.items c.take.result = rw c.take.ensures.value c.self.invariant in
-    rw all (c.resumed.ensures i.bytes.items c.args.piece.now before)
+    let (next, h, goes) = c.in-Ok.ensures.fed in
+    let come = come_with fault_after SoFar i.buffer c.args.piece.now next c.feed.new.self i.reading.refused c.feed.new.taker.refused i.reading.reader c.feed.new.taker.reader c.self.invariant.start c.self.invariant.come h goes in
+    record {
+      start = ap (λ (b : Buffered). b.at) h.new_is ∙ c.self.invariant.start;
+      come = come_all fault_after SoFar i.buffer c.args.piece.now next c.feed.new.self c.feed.new.taker.refused c.feed.new.taker.reader h come;
+    }
 
-pub returns-in-Err-Syntax-clause-refused : goal.returns-in-Err-Syntax-clause-refused
-returns-in-Err-Syntax-clause-refused c =
+pub invariant_of-self-in-Err : goal.invariant_of-self-in-Err
+invariant_of-self-in-Err c =
     let i = c.self.inside in
-    let fault = c.in-Err-Syntax.fault in
-    let all : c.as_slice.result.now ≡ i.bytes.items ++ c.args.piece.now = c.as_slice.ensures.value ∙ c.in_ok-extend_from_slice.ensures.items in
-    let none = none_of i.failed c.in_default.not-Some in
-    let new : Received = record { bytes = c.new.result.items; failed = Some fault.offset } in
-    let known = subst (IsMemoryOr (IsPieceFault c.as_slice.result.now)) c.in-Err-Syntax.field-0-is c.in-Err-Syntax.ensures.fault in
-    let made = not_received i.failed (received_of i) c.args.piece.now c.as_slice.result.now fault (Syntax fault) new none refl all known c.new.ensures.items refl in
-    subst (λ (r : Received). IsNotReceived r.failed r c.args.piece.now (Syntax fault) new) c.self.view_is made
+    record {
+      start = c.read_anew.ensures.kept.1 ∙ start_stays i.buffer.failed i.buffer c.args.piece.now c.in-Err.fault c.feed.new.self c.in-Err.ensures.refused ∙ c.self.invariant.start;
+      come = rw (c.new.ensures.reader, c.new.ensures.none) (come_anew fault_after SoFar c.read_anew.new.self.bytes c.read_anew.new.self.to c.no_rows.result c.read_anew.ensures.unread c.no_rows.ensures);
+    }
+
+pub returns-in-Ok-clause-received : goal.returns-in-Ok-clause-received
+returns-in-Ok-clause-received c =
+    let i = c.self.inside in
+    let (next, h, goes) = c.in-Ok.ensures.fed in
+    let come = come_with fault_after SoFar i.buffer c.args.piece.now next c.feed.new.self i.reading.refused c.feed.new.taker.refused i.reading.reader c.feed.new.taker.reader c.self.invariant.start c.self.invariant.come h goes in
+    let made = received fault_after SoFar i.buffer c.args.piece.now next c.feed.new.self c.feed.new.taker.refused c.feed.new.taker.reader h come in
+    subst (λ (r : Received). IsReceived r c.args.piece.now (received_by c.feed.new.self)) c.self.view_is made
+
+pub returns-in-Err-clause-refused : goal.returns-in-Err-clause-refused
+returns-in-Err-clause-refused c =
+    let i = c.self.inside in
+    let made = not_received fault_after SoFar i.buffer c.args.piece.now c.in-Err.fault c.feed.new.self i.reading.refused i.reading.reader c.self.invariant.start c.self.invariant.come c.in-Err.ensures.refused in
+    let kept : received_by c.feed.new.self ≡ received_by c.read_anew.new.self = λ n. record { bytes = sym c.read_anew.ensures.kept.0 n; failed = sym c.read_anew.ensures.kept.2 n } in
+    let here = subst (λ (new : Received). IsNotReceived i.buffer.failed (received_of i) c.args.piece.now (fault_of c.in-Err.fault) new) kept made in
+    let told = subst (λ (f : ParamFault). IsNotReceived i.buffer.failed (received_of i) c.args.piece.now f (received_by c.read_anew.new.self)) (sym c.from.ensures) here in
+    subst (λ (r : Received). IsNotReceived r.failed r c.args.piece.now c.from.result (received_by c.read_anew.new.self)) c.self.view_is told

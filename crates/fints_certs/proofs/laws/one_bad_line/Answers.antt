@@ -1,7 +1,0 @@
-use Rattle.fints_lines.specs.LineLaws as texts
-use Rattle.fints_certs.specs.CertTexts.{AreCertLines}
-use Rattle.fints_certs.proofs.CertLines.{cert_without}
-use Rattle.fints_certs.proofs.laws.one_bad_line.Goals as goal
-
-pub returns : goal.returns
-returns c = texts.one_bad_line AreCertLines cert_without

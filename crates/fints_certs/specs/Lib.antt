@@ -1,5 +1,0 @@
-pub mod Certificates
-pub mod CertTexts
-pub mod CertReading
-pub mod Laws
-pub mod Verifying

@@ -1,0 +1,222 @@
+-- The greatest figures of all steps are a closed certificate where nothing is found.
+use Rattle.std.proofs.Common.{ℕ, suc, zero, ◌+◌, ◌-◌, ◌*◌, ◌≤◌, ◌≡◌, Option, Some, None, List, [], ◌∷◌, length, refl, ap, sym, subst, ◌∙◌, arith, inl, inr}
+use Rattle.std.specs.Prelude.{◌↔◌}
+use Rattle.std.proofs.lemmas.Bool.{cases_lt}
+use Rattle.std.proofs.lemmas.Option.{same_Some}
+use Rattle.fints_cases.specs.Answers.{IsOpenTo, target_of}
+use Rattle.fints_cases.specs.declared.answers.Target.{Target}
+use Rattle.fints_cases.specs.declared.answers.Target.TheVariants.{Step, Again, Stop}
+use Rattle.fints_cases.specs.declared.values.NamedValue.{NamedValue}
+use Rattle.fints_findings.specs.Figures.{AreFigures, AreGreatestFigures, FiguresAre, IsSentOf}
+use Rattle.fints_findings.specs.Findings.{AreFindings, BreaksBehind, IsReal, SentStepsAreClean, SentStepsAreReleased}
+use Rattle.fints_findings.specs.declared.finding.Finding.{Finding}
+use Rattle.fints_findings.specs.declared.finding.Reached.{Reached}
+use Rattle.fints_messages.specs.Messages.{IsMessage}
+use Rattle.fints_rules.specs.Breaks.{Breaks, BytesBreak}
+use Rattle.fints_rules_permissions.specs.Permits.{Granted}
+use Rattle.fints_rules.specs.declared.rule.Rule.{Rule}
+use Rattle.fints_rules.specs.declared.rule.Rule.TheVariants.{Number, Size}
+use Rattle.fints_script.specs.Numbered.{numbered, numbered_at, numbered_from, numbered_holds}
+use Rattle.fints_script.specs.Plans.{Admits}
+use Rattle.fints_script.specs.Scripts.{ScriptValue}
+use Rattle.fints_script.specs.Sound.{IsSound, IsSoundStep}
+use Rattle.fints_script.specs.Steps.{StepValue}
+use Rattle.fints_wire.specs.Choices.{longest_choice}
+use Rattle.fints_wire.specs.Messages.{message_bytes}
+use Rattle.fints_wire.specs.Runs.{Arrives, Before, IsSent, IsWithin, Reach, SendsLast, at_first, behind, came_after}
+use Rattle.fints_wire.specs.Runs.Reach.{first}
+use Rattle.fints_wire.specs.Views.{MessagesAreRead, message_view}
+use Rattle.fints_wire.specs.declared.dialogue.Sent.{Sent}
+use Rattle.fints_wire.specs.declared.dialogue.Visit.{Visit}
+use Rattle.fints_check.specs.Certificates.{IsEntered, GoesOn, LineHolds, IsClosedCertificate, Names, line_figures, line_names, step_names, worst_len}
+use Rattle.fints_check.specs.declared.certificate.Line.{Line}
+use Rattle.fints_check.proofs.Bounds.{OpenBranchesLead}
+use Rattle.fints_wire.specs.declared.building.TheConstants.{MAX_NUMBER}
+use Rattle.fints_check.proofs.Reaching.{reach_step, reach_repeated}
+
+-- ---- lines and their figures
+
+-- what is named stands among the figures
+named_figures : (lines : List Line) (n : ℕ) (figures : Reached) → Names lines n figures → numbered (line_figures lines) n ≡ Some (Some figures)
+named_figures lines zero figures h = absurd cc
+named_figures [] (suc n) figures h = absurd cc
+named_figures (l ∷ lines) (suc zero) figures h = ap (λ (x : Option Reached). Some x) h
+named_figures (l ∷ lines) (suc (suc n)) figures h = named_figures lines (suc n) figures h
+
+-- and the other way
+figures_named : (lines : List Line) (n : ℕ) (figures : Reached) → numbered (line_figures lines) n ≡ Some (Some figures) → Names lines n figures
+figures_named lines zero figures h = absurd cc
+figures_named [] (suc n) figures h = absurd cc
+figures_named (l ∷ lines) (suc zero) figures h = same_Some l.reached (Some figures) h
+figures_named (l ∷ lines) (suc (suc n)) figures h = figures_named lines (suc n) figures h
+
+nothing_real : (granted : Granted) (script : ScriptValue) → AreFindings granted script [] → (f : Finding) → IsReal granted script f → ⊥
+nothing_real granted script none f real = let has = (none.exactly f).1 real in let lt = has.1 in omega arith
+
+-- what is broken by itself is broken behind anything
+itself : (granted : Granted) (before : Before) (m : Sent) (r : Rule) (place : ℕ) → BytesBreak granted m.bytes r place → BreaksBehind granted before m r place
+itself granted at_first m r place b = b
+itself granted (behind x codes) m r place b = inl b
+
+-- the step of a visit has figures, and the visit's number is within them
+record Kept (script : ScriptValue) (lines : List Line) (v : Visit) : Type 0 where
+  pub step : StepValue
+  pub at : numbered script.steps v.step ≡ Some step
+  pub figures : Reached
+  pub named : Names lines v.step figures
+  pub number : v.number ≤ figures.number
+
+-- some run ends with a message of the step that has both figures
+record Peak (script : ScriptValue) (n : ℕ) (step : StepValue) (f : Reached) : Type 0 where
+  pub visit : Visit
+  pub arrives : Arrives script.steps visit
+  pub here : visit.step ≡ n
+  pub number : visit.number ≡ f.number
+  pub low : 1 ≤ visit.number
+  pub high : visit.number ≤ MAX_NUMBER
+  pub message : Sent
+  pub sent : IsSentOf script n message
+  pub bytes : message.bytes ≡ message_bytes script step visit.number sent.values
+  pub size : length message.bytes ≡ f.size
+  pub most : (m : Sent) → IsSentOf script n m → length m.bytes ≤ f.size
+
+module _ (open_lead : OpenBranchesLead) (read : MessagesAreRead) (granted : Granted) (script : ScriptValue) (lines : List Line) (sound : IsSound script)
+    (longest : Admits script.fields (longest_choice script.fields))
+    (last : (values : List NamedValue) (m : Sent) → SendsLast script values m ↔ ((v : Visit) × Arrives script.steps v × IsSent script values v m))
+    (runs : (v : Visit) → Arrives script.steps v ↔ Reach script.steps v)
+    (within : (v : Visit) → Arrives script.steps v → IsWithin script.steps v)
+    (figures : AreFigures script (line_figures lines)) where
+  -- a visit's message with the longest values
+  sent_at : (v : Visit) (step : StepValue) → numbered script.steps v.step ≡ Some step → Arrives script.steps v → IsSentOf script v.step (record { step = v.step; number = v.number; bytes = message_bytes script step v.number (longest_choice script.fields) })
+  sent_at v step at arrives = record {
+    values = longest_choice script.fields;
+    admitted = longest;
+    sends = (last (longest_choice script.fields) (record { step = v.step; number = v.number; bytes = message_bytes script step v.number (longest_choice script.fields) })).1 (v, arrives, record { at = step; of = at; is = refl });
+    of = refl;
+  }
+
+  kept : (v : Visit) → Arrives script.steps v → Kept script lines v
+  kept v arrives =
+      let w = within v arrives in
+      let from = w.from in
+      let to = w.to in
+      let long : length (line_figures lines) ≡ length script.steps = figures.long in
+      let step = numbered_at script.steps v.step from to in
+      let cell = numbered_at (line_figures lines) v.step from (omega arith) in
+      by step.0 step.1 cell.0 cell.1 (figures.each v.step cell.0 cell.1)
+    where
+      by : (step : StepValue) → numbered script.steps v.step ≡ Some step → (cell : Option Reached) → numbered (line_figures lines) v.step ≡ Some cell → FiguresAre script v.step cell → Kept script lines v
+      by step at None there are = absurd (are (record { step = v.step; number = v.number; bytes = message_bytes script step v.number (longest_choice script.fields) }) (sent_at v step at arrives))
+      by step at (Some f) there are = record {
+        step = step;
+        at = at;
+        figures = f;
+        named = figures_named lines v.step f there;
+        number = (are.most (record { step = v.step; number = v.number; bytes = message_bytes script step v.number (longest_choice script.fields) }) (sent_at v step at arrives)).0;
+      }
+
+  -- where runs enter a step, its number is enough
+  entered : (n e : ℕ) → Reach script.steps (record { step = n; number = e; times = 1 }) → IsEntered script.steps lines n e
+  entered n e r =
+      let k = kept (record { step = n; number = e; times = 1 }) ((runs (record { step = n; number = e; times = 1 })).1 r) in
+      let once = (numbered_holds (IsSoundStep script) script.steps n k.step sound.steps k.at).once in
+      record {
+        step = k.step;
+        at = k.at;
+        figures = k.figures;
+        named = k.named;
+        covers = record {
+          once = k.number;
+          often = λ again.
+              let repeated = reach_repeated open_lead script.steps n e k.step (k.step.repeat - 1) k.at again (omega arith) r in
+              let w : Visit = record { step = n; number = e + (k.step.repeat - 1); times = 1 + (k.step.repeat - 1) } in
+              let h = kept w ((runs w).1 repeated) in
+              let same : h.figures ≡ k.figures = same_Some h.figures k.figures (sym h.named ∙ k.named) in
+              subst (λ (f : Reached). e + (k.step.repeat - 1) ≤ f.number) same h.number;
+        };
+      }
+
+  peak : (n : ℕ) (step : StepValue) (f : Reached) → numbered script.steps n ≡ Some step → Names lines n f → Peak script n step f
+  peak n step f at named =
+      let g : AreGreatestFigures script n f = figures.each n (Some f) (named_figures lines n f named) in
+      let way = (last g.sent.values g.message).0 g.sent.sends in
+      let is = way.2 in
+      let here : way.0.step ≡ n = sym (ap (λ (x : Sent). x.step) is.is) ∙ g.sent.of in
+      let same : is.at ≡ step = same_Some is.at step (sym is.of ∙ (ap (numbered script.steps) here ∙ at)) in
+      let w = within way.0 way.1 in
+      let to = w.to in
+      let high = w.last in
+      let few = sound.few_steps in
+      record {
+        visit = way.0;
+        arrives = way.1;
+        here = here;
+        number = sym (ap (λ (x : Sent). x.number) is.is) ∙ g.number;
+        low = w.first;
+        high = omega arith;
+        message = g.message;
+        sent = g.sent;
+        bytes = ap (λ (x : Sent). x.bytes) is.is ∙ ap (λ (s : StepValue). message_bytes script s way.0.number g.sent.values) same;
+        size = g.size;
+        most = λ m s. (g.most m s).1;
+      }
+
+  module _ (none : (f : Finding) → IsReal granted script f → ⊥) (clean : SentStepsAreClean granted script) (n : ℕ) (step : StepValue) (f : Reached) (at : numbered script.steps n ≡ Some step) (p : Peak script n step f) where
+    view_is : IsMessage (message_bytes script step p.visit.number p.sent.values) (message_view script step p.visit.number p.sent.values)
+    view_is = read script (n - 1) step p.visit.number p.sent.values sound (numbered_from script.steps n step at) p.low p.high p.sent.admitted
+
+    -- the message that has both figures breaks no rule
+    never : (r : Rule) → Breaks granted (message_view script step p.visit.number p.sent.values) r 0 → ⊥
+    never r b =
+        let s = p.sent.sends in
+        none (record { step = n; rule = r; segment = 0 }) (record {
+          values = p.sent.values;
+          answers = s.answers;
+          shown = record {
+            admitted = p.sent.admitted;
+            message = p.message;
+            ends = record { each = s.each; sent = s.sent; run = s.run; last = s.last };
+            of = p.sent.of;
+            breaks = itself granted (came_after at_first s.sent s.answers) p.message r 0 (record {
+              message = message_view script step p.visit.number p.sent.values;
+              is = subst (λ (t : List ℕ). IsMessage t (message_view script step p.visit.number p.sent.values)) (sym p.bytes) view_is;
+              breaks = b;
+            });
+          };
+        })
+
+    goes_on : (to : Target) → IsOpenTo step.branches step.otherwise to → GoesOn script.steps lines f.number to
+    goes_on (Step to) can =
+        let there : numbered script.steps p.visit.step ≡ Some step = ap (numbered script.steps) p.here ∙ at in
+        let next = reach_step open_lead script.steps p.visit step to there can ((runs p.visit).0 p.arrives) in
+        subst (λ (k : ℕ). IsEntered script.steps lines to (k + 1)) p.number (entered to (p.visit.number + 1) next)
+    goes_on Again can = tt
+    goes_on Stop can = tt
+
+    holds : LineHolds granted script lines step f
+    holds =
+        let low = p.low in
+        let number = p.number in
+        let here : numbered script.steps p.visit.step ≡ Some step = ap (numbered script.steps) p.here ∙ at in
+        let worst = p.most (record { step = p.visit.step; number = p.visit.number; bytes = message_bytes script step p.visit.number (longest_choice script.fields) })
+        (subst (λ (k : ℕ). IsSentOf script k (record { step = p.visit.step; number = p.visit.number; bytes = message_bytes script step p.visit.number (longest_choice script.fields) })) p.here (sent_at p.visit step here p.arrives)) in
+        let is : length (message_bytes script step p.visit.number p.sent.values) ≡ f.size = sym (ap length p.bytes) ∙ p.size in
+        let whole = view_is.size in
+        record {
+          least = omega arith;
+          most = elim (cases_lt 9999 f.number) [ inl past ↦ absurd (never Number (inl (refl, inr (omega (arith, past, number))))) | inr under ↦ under ];
+          size = subst (λ (k : ℕ). worst_len script step k ≤ f.size) number worst;
+          fits = λ limit. elim (cases_lt (1024 * granted.rows.bank.kilobytes) f.size) [ inl past ↦ absurd (never Size (inl (refl, (limit, omega (arith, past, is, whole))))) | inr under ↦ under ];
+          clean = clean n step p.message at p.sent;
+          onward = λ branch is_open. goes_on (target_of step.branches step.otherwise branch) (record { branch = branch; is_open = is_open; to = refl });
+        }
+
+  pub closes : line_names lines ≡ step_names script.steps → AreFindings granted script [] → SentStepsAreClean granted script → SentStepsAreReleased script → IsClosedCertificate granted script lines
+  closes names none clean released = record {
+    names = names;
+    first = entered 1 1 first;
+    each = λ n step f at named. holds (nothing_real granted script none) clean n step f at (peak n step f at named);
+    released = λ t s f named u.
+        let g : AreGreatestFigures script t f = figures.each t (Some f) (named_figures lines t f named) in
+        released t s g.message g.sent u;
+  }

@@ -1,0 +1,125 @@
+-- A closed certificate keeps its promise.
+use Rattle.std.proofs.Common.{ℕ, ◌-◌, ◌≤◌, ◌≡◌, List, [], ◌∷◌, length, refl, sym, subst, arith, inl, inr}
+use Rattle.std.specs.Prelude.{◌↔◌}
+use Rattle.std.specs.List.{AllByRecursion}
+use Rattle.fints_cases.specs.Answers.{IsAnswer}
+use Rattle.fints_cases.specs.declared.values.NamedValue.{NamedValue}
+use Rattle.fints_findings.specs.Findings.{BreaksBehind, EachIsPermitted, IsPermittedBehind, IsReal}
+use Rattle.fints_findings.specs.Releases.{IsUnreleased}
+use Rattle.fints_findings.specs.declared.finding.Finding.{Finding}
+use Rattle.fints_findings.specs.declared.finding.Reached.{Reached}
+use Rattle.fints_rules.specs.Breaks.{Breaks, BytesBreakRelease, Permitted}
+use Rattle.fints_rules_permissions.specs.Permits.{Granted}
+use Rattle.fints_rules.specs.declared.rule.Rule.{Rule}
+use Rattle.fints_rules.specs.declared.rule.Rule.TheVariants.{Protocol, Number, Size, Kinds, Version, Orders, Listed, Signatures, Account, Tan, Release, Procedure}
+use Rattle.fints_script.specs.Numbered.{numbered_from, numbered_holds}
+use Rattle.fints_script.specs.Plans.{Admits}
+use Rattle.fints_script.specs.Scripts.{ScriptValue}
+use Rattle.fints_script.specs.Sound.{IsSound, IsSoundStep}
+use Rattle.fints_script.specs.Steps.{StepValue}
+use Rattle.fints_wire.specs.Messages.{message_bytes}
+use Rattle.fints_wire.specs.Runs.{Arrives, Before, EachAfter, Reach, IsWithin, IsSent, Run, SendsAfter, SendsLast, at_first, behind}
+use Rattle.fints_wire.specs.Views.{message_view, MessagesAreRead}
+use Rattle.fints_wire.specs.declared.dialogue.Sent.{Sent}
+use Rattle.fints_wire.specs.declared.dialogue.Visit.{Visit}
+use Rattle.fints_check.specs.Certificates.{worst_len, LineHolds, IsClosedCertificate, StaysWithin, KeepsPromise}
+use Rattle.fints_check.specs.declared.certificate.Line.{Line}
+use Rattle.fints_wire.specs.declared.building.TheConstants.{MAX_NUMBER}
+use Rattle.fints_check.proofs.Bounds.{OpenBranchesLead, reach_bounded}
+
+-- a message of a number and a size within a line's figures breaks no rule
+permitted_view : (granted : Granted) (script : ScriptValue) (lines : List Line) (step : StepValue) (figures : Reached) (number : ℕ) (values : List NamedValue) → LineHolds granted script lines step figures → 1 ≤ number → number ≤ figures.number → (message_view script step number values).size ≤ figures.size → Admits script.fields values
+    → (r : Rule) (place : ℕ) → Breaks granted (message_view script step number values) r place → ⊥
+permitted_view granted script lines step figures number values holds low high size admits Number place b = elim b [
+  | inl whole ↦ let top = holds.most in elim whole.1 [ inl none ↦ omega (arith, none) | inr over ↦ omega (arith, over) ]
+  | inr part ↦ part.4.1
+]
+permitted_view granted script lines step figures number values holds low high size admits Size place b = elim b [
+  | inl whole ↦ let room = holds.fits whole.1.0 in let over = whole.1.1 in omega arith
+  | inr part ↦ part.4.1
+]
+permitted_view granted script lines step figures number values holds low high size admits Protocol place b = holds.clean Protocol tt number values place admits b
+permitted_view granted script lines step figures number values holds low high size admits Kinds place b = holds.clean Kinds tt number values place admits b
+permitted_view granted script lines step figures number values holds low high size admits Version place b = holds.clean Version tt number values place admits b
+permitted_view granted script lines step figures number values holds low high size admits Orders place b = holds.clean Orders tt number values place admits b
+permitted_view granted script lines step figures number values holds low high size admits Listed place b = holds.clean Listed tt number values place admits b
+permitted_view granted script lines step figures number values holds low high size admits Signatures place b = holds.clean Signatures tt number values place admits b
+permitted_view granted script lines step figures number values holds low high size admits Account place b = holds.clean Account tt number values place admits b
+permitted_view granted script lines step figures number values holds low high size admits Tan place b = holds.clean Tan tt number values place admits b
+permitted_view granted script lines step figures number values holds low high size admits Release place b = holds.clean Release tt number values place admits b
+permitted_view granted script lines step figures number values holds low high size admits Procedure place b = holds.clean Procedure tt number values place admits b
+
+-- no choice makes a message longer than the longest values
+abbrev pub NoneIsLonger : Type 0
+NoneIsLonger =
+    (script : ScriptValue) (step : StepValue) (values : List NamedValue) (lower number : ℕ) → IsSound script → IsSoundStep script step → Admits script.fields values → 1 ≤ lower → lower ≤ number → number ≤ MAX_NUMBER
+    → length (message_bytes script step lower values) ≤ worst_len script step number
+
+module _ (open_lead : OpenBranchesLead) (longest : NoneIsLonger) (read : MessagesAreRead)
+    (last : (script : ScriptValue) (values : List NamedValue) (m : Sent) → IsSound script → (SendsLast script values m ↔ ((v : Visit) × Arrives script.steps v × IsSent script values v m)))
+    (runs : (steps : List StepValue) (v : Visit) → Arrives steps v ↔ Reach steps v)
+    (within : (script : ScriptValue) (v : Visit) → IsSound script → Arrives script.steps v → IsWithin script.steps v)
+    (each : (script : ScriptValue) (values : List NamedValue) (answers : List (List ℕ)) (sent : List Sent) → IsSound script → AllByRecursion IsAnswer answers → Run script values answers sent → AllByRecursion (SendsLast script values) sent)
+    (each_after : (script : ScriptValue) (values : List NamedValue) (answers : List (List ℕ)) (sent : List Sent) → IsSound script → AllByRecursion IsAnswer answers → Run script values answers sent → EachAfter (SendsAfter script values) at_first sent answers)
+    (left : (granted : Granted) (script : ScriptValue) (f : Finding) → IsSound script → f.rule ≡ Release → IsReal granted script f → (f.segment ≡ 0) × ((v : Visit) × Arrives script.steps v × IsUnreleased script v.step f.step))
+    (granted : Granted) (script : ScriptValue) (lines : List Line) (sound : IsSound script) (closed : IsClosedCertificate granted script lines) where
+  -- the last message of a run
+  kept : (values : List NamedValue) (m : Sent) → Admits script.fields values → SendsLast script values m → StaysWithin lines m × Permitted granted m.bytes
+  kept values m admits sends =
+      let way = (last script values m sound).0 sends in
+      let v = way.0 in
+      let is = way.2 in
+      let b = reach_bounded script.steps lines v open_lead closed.first (λ n step figures at named. (closed.each n step figures at named).onward) ((runs script.steps v).0 way.1) in
+      let holds = closed.each v.step is.at b.figures is.of b.named in
+      let low = (within script v sound way.1).first in
+      let high = b.stays.now in
+      let most = holds.most in
+      let worst = longest script is.at values v.number b.figures.number sound (numbered_holds (IsSoundStep script) script.steps v.step is.at sound.steps is.of) admits low high (omega arith) in
+      let top = holds.size in
+      let size : length (message_bytes script is.at v.number values) ≤ b.figures.size = omega arith in
+      let view = read script (v.step - 1) is.at v.number values sound (numbered_from script.steps v.step is.at is.of) low (omega arith) admits in
+      let same = view.size in
+      let message : Sent = record { step = v.step; number = v.number; bytes = message_bytes script is.at v.number values } in
+      let stays : StaysWithin lines message = record { figures = b.figures; named = b.named; number = high; size = size } in
+      let permitted : Permitted granted message.bytes = record {
+        message = message_view script is.at v.number values;
+        is = view;
+        none = permitted_view granted script lines is.at b.figures v.number values holds low high (omega arith) admits;
+      } in
+      subst (λ (x : Sent). StaysWithin lines x × Permitted granted x.bytes) (sym is.is) (stays, permitted)
+
+  pub promise : KeepsPromise script lines
+  promise values answers sent admits good run = all sent (each script values answers sent sound good run)
+    where
+      all : (sent : List Sent) → AllByRecursion (SendsLast script values) sent → AllByRecursion (StaysWithin lines) sent
+      all [] h = tt
+      all (m ∷ ms) h = ((kept values m admits h.0).0, all ms h.1)
+
+  last_of_run : (values : List NamedValue) (before : Before) (m : Sent) → SendsAfter script values before m → SendsLast script values m
+  last_of_run values before m s = record { answers = s.0; each = s.1.ends.each; sent = s.1.ends.sent; run = s.1.ends.run; last = s.1.ends.last }
+
+  -- behind the message before it no message leaves an order unreleased
+  none_left : (values : List NamedValue) (b : Sent) (codes : List ℕ) (m : Sent) → Admits script.fields values → SendsAfter script values (behind b codes) m → BytesBreakRelease b.bytes codes m.bytes → ⊥
+  none_left values b codes m admits s breaks =
+      let f : Finding = record { step = m.step; rule = Release; segment = 0 } in
+      let real : IsReal granted script f = record {
+        values = values;
+        answers = s.0;
+        shown = record { admitted = admits; message = m; ends = s.1.ends; of = refl; breaks = subst (λ (x : Before). BreaksBehind granted x m Release 0) (sym s.1.after) (inr (refl, refl, breaks)) };
+      } in
+      let l = (left granted script f sound refl real).1 in
+      let stays = reach_bounded script.steps lines l.0 open_lead closed.first (λ n step figures at named. (closed.each n step figures at named).onward) ((runs script.steps l.0).0 l.1) in
+      closed.released l.0.step m.step stays.figures stays.named l.2
+
+  kept_behind : (values : List NamedValue) (before : Before) (m : Sent) → Admits script.fields values → SendsAfter script values before m → IsPermittedBehind granted before m
+  kept_behind values at_first m admits s = (kept values m admits (last_of_run values at_first m s)).1
+  kept_behind values (behind b codes) m admits s = record { alone = (kept values m admits (last_of_run values (behind b codes) m s)).1; released = none_left values b codes m admits s }
+
+  pub permits : EachIsPermitted granted script
+  permits values answers sent admits good run = all at_first sent answers (each_after script values answers sent sound good run)
+    where
+      all : (before : Before) (sent : List Sent) (answers : List (List ℕ)) → EachAfter (SendsAfter script values) before sent answers → EachAfter (IsPermittedBehind granted) before sent answers
+      all before [] answers h = tt
+      all before (m ∷ []) answers h = kept_behind values before m admits h
+      all before (m ∷ n ∷ ns) [] h = absurd h
+      all before (m ∷ n ∷ ns) (codes ∷ answers) h = (kept_behind values before m admits h.0, all (behind m codes) (n ∷ ns) answers h.1)

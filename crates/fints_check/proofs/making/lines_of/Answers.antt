@@ -1,0 +1,27 @@
+use Rattle.std.proofs.Common.{ℕ, ◌≡◌, ◌+◌, ◌-◌, List, [], ◌∷◌, Some, take, sym, subst, arith}
+use Rattle.std.specs.List.{All, slice_get}
+use Rattle.std.proofs.lemmas.List.Elements.{All-append, All-cons}
+use Rattle.fints_fields.specs.Names.{IsName}
+use Rattle.fints_script.specs.Plans.{PlanValue}
+use Rattle.fints_script.specs.Steps.{StepValue}
+use Rattle.fints_check.specs.Certificates.{line_names, step_names}
+use Rattle.fints_check.specs.declared.certificate.Line.{Line}
+use Rattle.fints_check.proofs.LinesMade.{AreFiguresTo, figures_more}
+use Rattle.fints_check.proofs.Numbered.{names_more}
+use Rattle.fints_check.proofs.making.lines_of.Goals as goal
+
+pub loop-i-preserved : goal.loop-i-preserved
+loop-i-preserved c =
+    let script = c.args.report.now.plan.script in
+    let steps = script.steps in
+    let i : ℕ = c.loop-i.i in
+    let old = c.loop-i.lines.items in
+    let line : Line = record { name = c.name-name.result; reached = c.reached.result } in
+    let back : i + 1 - 1 ≡ i = omega arith in
+    let at : slice_get steps (i + 1 - 1) ≡ Some c.step.result.now = subst (λ (p : PlanValue). slice_get p.script.steps (i + 1 - 1) ≡ Some c.step.result.now) c.plan-plan.ensures c.step.ensures.step in
+    let there : slice_get steps i ≡ Some c.step.result.now = subst (λ (k : ℕ). slice_get steps k ≡ Some c.step.result.now) back at in
+    record {
+      names = subst (λ (lines : List Line). line_names lines ≡ step_names (take (i + 1) steps)) (sym c.in_ok-push.ensures.items) (names_more (λ (x : Line). x.name) (λ (s : StepValue). s.name) old steps i line c.step.result.now there c.name-name.ensures c.loop-i.invariant.names);
+      figures = subst (AreFiguresTo script (i + 1)) (sym c.in_ok-push.ensures.items) (figures_more script i old line c.reached.ensures.greatest c.loop-i.invariant.figures);
+      are_names = subst (All (λ (x : Line). IsName x.name)) (sym c.in_ok-push.ensures.items) (All-append (λ (x : Line). IsName x.name) old (line ∷ []) c.loop-i.invariant.are_names (All-cons (λ (x : Line). IsName x.name) line [] c.keeps.ensures (λ k d h. absurd (omega (arith, h)))));
+    }

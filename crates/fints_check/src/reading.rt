@@ -1,0 +1,179 @@
+//! Certificates from their texts.
+ghost use Rattle.std.specs.Prelude.{◌≡◌, ◌≢◌, ◌≤◌, ◌<◌, ◌↔◌, [], ◌∷◌, ◌++◌, length, get_or, IsTrue, IfOk, IfErr, IfSome, MatchOption};
+ghost use Rattle.std.specs.Fmt.{decimal};
+ghost use Rattle.fints_findings.specs.declared.finding.Reached.{Reached as ReachedValue};
+ghost use Rattle.fints_fields.specs.NameSets.{HoldsNames};
+ghost use Rattle.fints_lines.specs.Lines.{IsReadAs};
+ghost use Rattle.fints_check.specs.Certificates.{line_names};
+ghost use Rattle.fints_check.specs.CertTexts.{figures_text, step_text, IsFigure, AreShown, IsStepLine, IsCertificateOf, IsRefusal};
+ghost use Rattle.fints_check.specs.CertReading.{IsNew, IsLineTaken, HasNoLine};
+
+use crate::cert_fault::CertFault;
+use crate::certificate::{Certificate, Line};
+use fints_fields::Name;
+use fints_findings::Reached;
+use fints_lines::{after, next_line, split_once};
+use fints_syntax::Memory;
+use std::alloc::Global;
+use std::collections::BTreeSet;
+
+// The number of these 1 to 9 digits, the first no zero.
+fn parse_digits(digits: &str) -> Option<u32>
+    requires some { 0 < length digits.now }
+    requires short { length digits.now ≤ 9 }
+    requires first { 49 ≤ get_or digits.now 0 0 }
+    ensures { IsReadAs IsFigure decimal digits.now result }
+{
+    match digits.parse::<u32>() {
+        Ok(number) => Some(number),
+        Err(_) => None,
+    }
+}
+
+// A number of 1 to 9 digits without leading zeros, at least 1.
+fn parse_figure(text: &[u8]) -> Option<u32>
+    ensures { IsReadAs IsFigure decimal text.now result }
+{
+    if text.is_empty() {
+        return None;
+    }
+    if text.len() > 9 {
+        return None;
+    }
+    if text[0] < b'1' {
+        return None;
+    }
+    match str::from_utf8(text) {
+        Ok(digits) => parse_digits(digits),
+        Err(_) => None,
+    }
+}
+
+// Number and size, with a space between.
+fn parse_reached(text: &[u8]) -> Option<Reached>
+    ensures { MatchOption result
+        ((r : ReachedValue) → AreShown (Some r) → text.now ≢ figures_text (Some r))
+        (λ r. AreShown (Some r) × (text.now ≡ figures_text (Some r))) }
+{
+    let Some((number, size)) = split_once(text, b' ') else {
+        return None;
+    };
+    let Some(number) = parse_figure(number) else {
+        return None;
+    };
+    let Some(size) = parse_figure(size) else {
+        return None;
+    };
+    Some(Reached {
+        number,
+        size: size as u64,
+    })
+}
+
+// What a step's line tells of it: `-`, or its figures.
+fn parse_figures(text: &[u8]) -> Option<Option<Reached>>
+    ensures { IsReadAs AreShown figures_text text.now result }
+{
+    if text == b"-".as_slice() {
+        return Some(None);
+    }
+    match parse_reached(text) {
+        Some(reached) => Some(Some(reached)),
+        None => None,
+    }
+}
+
+fn parse_line(text: &[u8]) -> Option<Line>
+    ensures { IsReadAs IsStepLine step_text text.now result }
+{
+    let Some(rest) = after(text, b"step ") else {
+        return None;
+    };
+    let Some((name, figures)) = split_once(rest, b' ') else {
+        return None;
+    };
+    let Some(name) = Name::parse(name) else {
+        return None;
+    };
+    match parse_figures(figures) {
+        Some(reached) => Some(Line { name, reached }),
+        None => None,
+    }
+}
+
+/// The lines so far, and their names, in which one is looked up without a walk over the lines.
+#[derive(Drop)]
+pub struct Taken {
+    lines: Vec<Line>,
+    names: BTreeSet<Name>,
+}
+
+// Adds the line, if no earlier one has its name.
+fn add(taken: &mut Taken, line: Line) -> Result<bool, Memory>
+    requires names { HoldsNames (line_names taken.old.lines.items) taken.old.names }
+    ensures added { IfOk result (λ added. IsTrue added ↔ IsNew taken.old.lines.items line) }
+    ensures lines { IfOk result (λ added. IsTrue added → taken.new.lines.items ≡ taken.old.lines.items ++ line ∷ []) }
+    ensures names { IfOk result (λ added. IsTrue added → HoldsNames (line_names taken.new.lines.items) taken.new.names) }
+{
+    let fresh = taken.names.insert(line.name)?;
+    if !fresh {
+        return Ok(false);
+    }
+    taken.lines.push(line)?;
+    Ok(true)
+}
+
+// Adds the line that the rest begins with, and gives what stands after it; none where that is no good
+// line of a text of so many bytes.
+fn take_line<'a>(
+    taken: &mut Taken,
+    whole: usize,
+    rest: &'a [u8],
+) -> Result<Option<&'a [u8]>, Memory>
+    requires rest { length rest.now ≤ whole }
+    requires names { HoldsNames (line_names taken.old.lines.items) taken.old.names }
+    ensures line { IfOk result (λ found. MatchOption found
+        (HasNoLine whole rest.now taken.old.lines.items)
+        (λ more. IsLineTaken whole rest.now more.now taken.old.lines.items taken.new.lines.items)) }
+    ensures names { IfOk result (λ found. IfSome found (λ _. HoldsNames (line_names taken.new.lines.items) taken.new.names)) }
+{
+    let Some((text, more)) = next_line(whole, rest) else {
+        return Ok(None);
+    };
+    let Some(line) = parse_line(text) else {
+        return Ok(None);
+    };
+    let added = add(taken, line)?;
+    if !added {
+        return Ok(None);
+    }
+    Ok(Some(more))
+}
+
+impl Certificate {
+    /// The certificate that the text stands for. Each name is looked up in an ordered set.
+    pub fn read(alloc: Global, text: &[u8]) -> Result<Certificate, CertFault>
+        ensures certificate { IfOk result (λ certificate. IsCertificateOf text.now certificate) }
+        ensures refusal { IfErr result (IsRefusal text.now) }
+    {
+        let Some(mut rest) = after(text, b"fints-cert 2\n") else {
+            return Err(CertFault::Bad { line: 1 });
+        };
+        let mut taken = Taken {
+            lines: Vec::new(alloc),
+            names: BTreeSet::new(alloc),
+        };
+        let mut line = 2;
+        while !rest.is_empty() {
+            match take_line(&mut taken, text.len(), rest)? {
+                Some(more) => rest = more,
+                None => return Err(CertFault::Bad { line }),
+            }
+            line += 1;
+        }
+        if taken.lines.is_empty() {
+            return Err(CertFault::Bad { line });
+        }
+        Ok(Certificate::new(taken.lines))
+    }
+}

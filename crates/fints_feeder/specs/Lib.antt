@@ -1,4 +1,0 @@
-pub mod Feeding
-pub mod Inside
-pub mod Laws
-pub mod Taken

@@ -1,0 +1,187 @@
+//! The checker: findings and their cases, figures and certificates.
+ghost use Rattle.std.specs.Prelude.{◌≡◌};
+
+use crate::samples::{C, C1, FORK, SECOND_ACCOUNT, SHOWN, T};
+use fints_check::{
+    CertFault, Certificate, Certified, Finding, Memory, Reached, Report, check, confirm, verify,
+};
+use fints_params::Params;
+use fints_rules::{OrderTable, Permissions, Rule};
+use fints_script::{Case, Plan, Script};
+use std::alloc::Global;
+use std::test::*;
+
+/// What is asked of a script by a capture.
+#[derive(Clone, Copy)]
+enum Row<'a> {
+    /// Whether the report is that of row `fork`.
+    Fork,
+    /// Whether it has the certificate of that row.
+    Certified,
+    /// Whether this certificate holds.
+    Verified(&'a [u8]),
+    /// Whether the report is that of row `second-account`.
+    SecondAccount,
+    /// Whether this case shows what is found there.
+    Confirmed(&'a [u8]),
+}
+
+const FIRST: Option<Reached> = Some(Reached {
+    number: 1,
+    size: 55,
+});
+
+const LAST: Option<Reached> = Some(Reached {
+    number: 2,
+    size: 173,
+});
+
+fn are_figures(report: &Report<'_>) -> bool {
+    report.plan().step_count() == 3
+        && (report.reached(1), report.reached(2), report.reached(3)) == (FIRST, None, LAST)
+        && matches!(report.visits(), 6..=8)
+}
+
+fn is_fork(alloc: Global, permissions: &Permissions<'_>, plan: &Plan<'_>) -> Result<bool, Memory>
+    requires { permissions.now.orders ≡ plan.now.orders }
+{
+    let report = check(alloc, permissions, plan)?;
+    Ok(report.is_clean() && report.findings().is_empty() && are_figures(&report))
+}
+
+const CERTIFICATE: &[u8] = b"fints-cert 2\nstep one 1 55\nstep bad -\nstep done 2 173\n";
+
+// A looser one, and one that isn't closed.
+const LOOSER: &[u8] = b"fints-cert 2\nstep one 1 55\nstep bad -\nstep done 9999 179\n";
+
+const TOO_SHORT: &[u8] = b"fints-cert 2\nstep one 1 55\nstep bad -\nstep done 9999 178\n";
+
+fn is_verified(
+    alloc: Global,
+    permissions: &Permissions<'_>,
+    plan: &Plan<'_>,
+    text: &[u8],
+) -> Result<bool, CertFault>
+    requires { permissions.now.orders ≡ plan.now.orders }
+{
+    let certificate = Certificate::read(alloc, text)?;
+    Ok(verify(permissions, plan, &certificate))
+}
+
+fn is_written(alloc: Global, certificate: &Certificate) -> Result<bool, Memory> {
+    let text = certificate.write(alloc)?;
+    Ok(text.as_slice() == CERTIFICATE)
+}
+
+// Whether the report has the certificate of the row, which holds.
+fn is_certified(
+    alloc: Global,
+    permissions: &Permissions<'_>,
+    plan: &Plan<'_>,
+) -> Result<bool, Memory>
+    requires { permissions.now.orders ≡ plan.now.orders }
+{
+    let report = check(alloc, permissions, plan)?;
+    match report.certificate(alloc)? {
+        Some(certificate) => {
+            Ok(verify(permissions, plan, &certificate) && is_written(alloc, &certificate)?)
+        }
+        None => Ok(false),
+    }
+}
+
+const FOUND: Finding = Finding {
+    step: 1,
+    rule: Rule::Signatures,
+    segment: 3,
+};
+
+// Whether the case of the one finding is that of the row.
+fn is_shown(alloc: Global, report: &Report<'_>) -> Result<bool, Memory> {
+    if report.findings() != [FOUND].as_slice() {
+        return Ok(false);
+    }
+    let case = report.case(alloc, 0)?;
+    let text = case.write(alloc)?;
+    Ok(text.as_slice() == SHOWN)
+}
+
+fn is_second_account(
+    alloc: Global,
+    permissions: &Permissions<'_>,
+    plan: &Plan<'_>,
+) -> Result<bool, Memory>
+    requires { permissions.now.orders ≡ plan.now.orders }
+{
+    let report = check(alloc, permissions, plan)?;
+    Ok(!report.is_clean() && is_shown(alloc, &report)?)
+}
+
+const FIRST_ACCOUNT: &[u8] =
+    b"fints-case 1\nfield dialog 41\nfield pin 3030303030\nfield tan -\nfield acct 4445313131\n";
+
+fn is_confirmed(
+    alloc: Global,
+    permissions: &Permissions<'_>,
+    plan: &Plan<'_>,
+    text: &[u8],
+) -> Result<bool, Fail> {
+    let case = Case::read(alloc, text)?;
+    Ok(confirm(alloc, permissions, plan, &FOUND, &case)?)
+}
+
+fn is_row(
+    alloc: Global,
+    permissions: &Permissions<'_>,
+    plan: &Plan<'_>,
+    row: Row<'_>,
+) -> Result<bool, Fail>
+    requires { permissions.now.orders ≡ plan.now.orders }
+{
+    match row {
+        Row::Fork => Ok(is_fork(alloc, permissions, plan)?),
+        Row::Certified => Ok(is_certified(alloc, permissions, plan)?),
+        Row::Verified(text) => Ok(is_verified(alloc, permissions, plan, text)?),
+        Row::SecondAccount => Ok(is_second_account(alloc, permissions, plan)?),
+        Row::Confirmed(text) => is_confirmed(alloc, permissions, plan, text),
+    }
+}
+
+fn is_row_by(alloc: Global, params: &Params, script: &Script, row: Row<'_>) -> Result<bool, Fail> {
+    let orders = OrderTable::read(alloc, T)?;
+    let permissions = Permissions::build(alloc, params, &orders)?;
+    let plan = script.plan(&orders)?;
+    is_row(alloc, &permissions, &plan, row)
+}
+
+// Whether the script by the capture does what stands in the row.
+fn is_row_of(alloc: Global, capture: &[u8], script: &[u8], row: Row<'_>) -> Result<bool, Fail> {
+    let params = Params::read(alloc, capture)?;
+    let script = Script::read(alloc, script)?;
+    is_row_by(alloc, &params, &script, row)
+}
+
+#[test]
+fn reports(rt: HostRuntime) -> Result<(), Fail> {
+    let alloc = rt.alloc();
+    assert!(rt; is_row_of(alloc, C1, FORK, Row::Fork)?);
+    assert!(rt; is_row_of(alloc, C, SECOND_ACCOUNT, Row::SecondAccount)?);
+    Ok(())
+}
+
+#[test]
+fn certificates(rt: HostRuntime) -> Result<(), Fail> {
+    let alloc = rt.alloc();
+    assert!(rt; is_row_of(alloc, C1, FORK, Row::Certified)?);
+    assert!(rt; is_row_of(alloc, C1, FORK, Row::Verified(LOOSER))?);
+    assert!(rt; !is_row_of(alloc, C1, FORK, Row::Verified(TOO_SHORT))?);
+    Ok(())
+}
+
+#[test]
+fn confirmed(rt: HostRuntime) -> Result<(), Fail> {
+    let alloc = rt.alloc();
+    assert!(rt; is_row_of(alloc, C, SECOND_ACCOUNT, Row::Confirmed(SHOWN))?);
+    assert!(rt; !is_row_of(alloc, C, SECOND_ACCOUNT, Row::Confirmed(FIRST_ACCOUNT))?);
+    Ok(())
+}

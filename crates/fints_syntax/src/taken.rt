@@ -1,0 +1,38 @@
+//! The segments that a piece gives.
+ghost use Rattle.std.specs.Prelude.{[]};
+ghost use Rattle.fints_syntax.specs.Taken.{AreTaken};
+
+use crate::stream::{Taker, place_of};
+use crate::view::SegmentView;
+use fints_segments::{Memory, OwnedSegment};
+use std::alloc::Global;
+
+/// Segments by their values, and the place of each.
+#[derive(Drop)]
+pub struct Taken {
+    pub segments: Vec<OwnedSegment>,
+    pub places: Vec<usize>,
+}
+
+impl Taken {
+    /// No segment.
+    pub fn new(alloc: Global) -> Taken
+        ensures { AreTaken [] result }
+    {
+        Taken {
+            segments: Vec::new(alloc),
+            places: Vec::new(alloc),
+        }
+    }
+}
+
+impl Taker for Taken {
+    ghost good = { AreTaken };
+
+    fn take(&mut self, start: usize, segment: &SegmentView<'_>) -> Result<(), Memory> {
+        let alloc = *self.segments.allocator();
+        self.segments.push(segment.to_owned(alloc)?)?;
+        self.places.push(place_of(start, segment))?;
+        Ok(())
+    }
+}
