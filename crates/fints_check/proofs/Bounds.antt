@@ -2,11 +2,11 @@
 use Rattle.std.proofs.Common.{ℕ, ◌+◌, ◌-◌, ◌≤◌, ◌≡◌, Some, List, refl, sym, subst, ◌∙◌, arith}
 use Rattle.std.specs.Prelude.{◌↔◌}
 use Rattle.std.proofs.lemmas.Option.{same_Some}
-use Rattle.fints_cases.specs.Answers.{CanLead, IsAnswer, IsOpen, IsOpenTo, target_of}
-use Rattle.fints_cases.specs.declared.answers.Branch.{Branch}
-use Rattle.fints_cases.specs.declared.answers.Target.{Target}
-use Rattle.fints_cases.specs.declared.answers.Target.TheVariants.{Step, Again, Stop}
-use Rattle.fints_findings.specs.declared.finding.Reached.{Reached}
+use Rattle.fints_script_cases.specs.Answers.{CanLead, IsAnswer, IsOpen, IsOpenTo, target_of}
+use Rattle.fints_script_cases.specs.declared.answers.Branch.{Branch}
+use Rattle.fints_script_cases.specs.declared.answers.Target.{Target}
+use Rattle.fints_script_cases.specs.declared.answers.Target.TheVariants.{Step, Again, Stop}
+use Rattle.fints_check_findings.specs.declared.finding.Reached.{Reached}
 use Rattle.fints_script.specs.Numbered.{numbered}
 use Rattle.fints_script.specs.Steps.{StepValue}
 use Rattle.fints_wire.specs.Runs.{answered, Enters, Reach}

@@ -3,14 +3,14 @@ use Rattle.std.proofs.Common.{ℕ, suc, ◌+◌, ◌≤◌, ◌≡◌, ◌≢◌
 use Rattle.std.specs.List.{All, AllPairs}
 use Rattle.std.proofs.lemmas.List.{append_cancel_left, append_assoc, length-append, get_or_append_left, get_or_at, nil_from_length}
 use Rattle.std.proofs.lemmas.List.Elements.{All-cons, All-head, All-tail, All-append, All-map, All-weaker}
-use Rattle.fints_fields.specs.Names.{IsName, IsNameByte}
-use Rattle.fints_lines.specs.Lines.{text_of_lines, NoFeed, IsSplit, IsNextLine, HasNoNextLine, BeginsText}
-use Rattle.fints_lines.specs.LineLaws.{split_same, split_none, plain, not_empty, text_short}
-use Rattle.fints_findings.specs.declared.finding.Reached.{Reached}
+use Rattle.fints_script_fields.specs.Names.{IsName, IsNameByte}
+use Rattle.fints_syntax_lines.specs.Lines.{text_of_lines, NoFeed, IsSplit, IsNextLine, HasNoNextLine, BeginsText}
+use Rattle.fints_syntax_lines.specs.LineLaws.{split_same, split_none, plain, not_empty, text_short}
+use Rattle.fints_check_findings.specs.declared.finding.Reached.{Reached}
 use Rattle.fints_check.specs.CertTexts.{figures_text, step_text, cert_lines, AreShown, IsStepLine, AreCertLines}
 use Rattle.fints_check.specs.CertReading.{IsNew, IsBegun, HasNoLine}
 use Rattle.fints_check.specs.declared.certificate.Line.{Line}
-use Rattle.fints_lines.specs.declared.lines.TheConstants.{MAX_TEXT}
+use Rattle.fints_syntax_lines.specs.declared.lines.TheConstants.{MAX_TEXT}
 use Rattle.fints_check.proofs.FigureTexts.{figures_without, figures_once}
 
 -- ---- names

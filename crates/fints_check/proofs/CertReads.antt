@@ -4,13 +4,13 @@ use Rattle.std.specs.List.{All}
 use Rattle.std.proofs.lemmas.List.{append-nil, length-append, map-append}
 use Rattle.std.proofs.lemmas.List.Elements.{All-cons, All-nil, All-push}
 use Rattle.std.proofs.lemmas.List.Quantifiers.{all_pairs_push}
-use Rattle.fints_fields.specs.Names.{IsNameByte}
-use Rattle.fints_lines.specs.Lines.{text_of_lines, BeginsText}
-use Rattle.fints_lines.specs.LineLaws.{text_taken, length_taken, lines_long, same_lines, refused_at}
+use Rattle.fints_script_fields.specs.Names.{IsNameByte}
+use Rattle.fints_syntax_lines.specs.Lines.{text_of_lines, BeginsText}
+use Rattle.fints_syntax_lines.specs.LineLaws.{text_taken, length_taken, lines_long, same_lines, refused_at}
 use Rattle.fints_check.specs.CertTexts.{step_text, cert_lines, cert_text, IsStepLine, IsCertificate, IsCertificateOf, OneCertificate, AreCertLines, IsFirstBadLine}
 use Rattle.fints_check.specs.CertReading.{IsNew, IsBegun, IsLineTaken, HasNoLine}
 use Rattle.fints_check.specs.declared.certificate.Line.{Line}
-use Rattle.fints_lines.specs.declared.lines.TheConstants.{MAX_TEXT}
+use Rattle.fints_syntax_lines.specs.declared.lines.TheConstants.{MAX_TEXT}
 use Rattle.fints_check.proofs.CertLines.{onward, line_without, cert_without, lines_once}
 
 -- ---- a line more

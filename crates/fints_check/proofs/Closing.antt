@@ -3,15 +3,15 @@ use Rattle.std.proofs.Common.{ℕ, suc, zero, ◌+◌, ◌-◌, ◌*◌, ◌≤�
 use Rattle.std.specs.Prelude.{◌↔◌}
 use Rattle.std.proofs.lemmas.Bool.{cases_lt}
 use Rattle.std.proofs.lemmas.Option.{same_Some}
-use Rattle.fints_cases.specs.Answers.{IsOpenTo, target_of}
-use Rattle.fints_cases.specs.declared.answers.Target.{Target}
-use Rattle.fints_cases.specs.declared.answers.Target.TheVariants.{Step, Again, Stop}
-use Rattle.fints_cases.specs.declared.values.NamedValue.{NamedValue}
-use Rattle.fints_findings.specs.Figures.{AreFigures, AreGreatestFigures, FiguresAre, IsSentOf}
-use Rattle.fints_findings.specs.Findings.{AreFindings, BreaksBehind, IsReal, SentStepsAreClean, SentStepsAreReleased}
-use Rattle.fints_findings.specs.declared.finding.Finding.{Finding}
-use Rattle.fints_findings.specs.declared.finding.Reached.{Reached}
-use Rattle.fints_messages.specs.Messages.{IsMessage}
+use Rattle.fints_script_cases.specs.Answers.{IsOpenTo, target_of}
+use Rattle.fints_script_cases.specs.declared.answers.Target.{Target}
+use Rattle.fints_script_cases.specs.declared.answers.Target.TheVariants.{Step, Again, Stop}
+use Rattle.fints_script_cases.specs.declared.values.NamedValue.{NamedValue}
+use Rattle.fints_check_findings.specs.Figures.{AreFigures, AreGreatestFigures, FiguresAre, IsSentOf}
+use Rattle.fints_check_findings.specs.Findings.{AreFindings, BreaksBehind, IsReal, SentStepsAreClean, SentStepsAreReleased}
+use Rattle.fints_check_findings.specs.declared.finding.Finding.{Finding}
+use Rattle.fints_check_findings.specs.declared.finding.Reached.{Reached}
+use Rattle.fints_rules_messages.specs.Messages.{IsMessage}
 use Rattle.fints_rules.specs.Breaks.{Breaks, BytesBreak}
 use Rattle.fints_rules_permissions.specs.Permits.{Granted}
 use Rattle.fints_rules.specs.declared.rule.Rule.{Rule}

@@ -2,14 +2,14 @@
 use Rattle.std.specs.Prelude.{◌≡◌, ℕ, List}
 use Rattle.fints_check.specs.CertTexts.{OneCertificate, IsFirstBadLine, AreCertLines}
 use Rattle.fints_check.specs.Laws.{ClosedIsPermitted, ClosedKeepsPromise, GreatestIsClosed, GreatestIsReadable}
-use Rattle.fints_lines.specs.LineLaws as texts
+use Rattle.fints_syntax_lines.specs.LineLaws as texts
 use Rattle.fints_check.proofs.CertLines.{cert_without}
 use Rattle.fints_check.proofs.Promising as promising
 use Rattle.fints_check.proofs.Closing.{closes}
 use Rattle.fints_check.proofs.Readable.{greatest_readable}
 use Rattle.fints_check.proofs.CertReads as reads
-use Rattle.fints_cases.proofs.LawLemmas.{open_branches_lead}
-use Rattle.fints_findings.proofs.LawLemmas.{release_is_left}
+use Rattle.fints_script_cases.proofs.LawLemmas.{open_branches_lead}
+use Rattle.fints_check_findings.proofs.LawLemmas.{release_is_left}
 use Rattle.fints_wire.proofs.LawLemmas.{extremes_are_admitted_longest, messages_are_read, none_is_longer_most, none_is_longer_short}
 use Rattle.fints_wire.proofs.RunLawLemmas.{each_is_last, each_is_last_after, last_messages, runs_by_steps, visits_are_within}
 

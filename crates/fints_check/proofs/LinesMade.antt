@@ -3,8 +3,8 @@ use Rattle.std.proofs.Common.{ℕ, suc, zero, ◌+◌, ◌≡◌, ◌⊎◌, Opt
 use Rattle.std.specs.List.{slice_get}
 use Rattle.std.proofs.lemmas.List.{length-append, length-map}
 use Rattle.std.proofs.lemmas.Option.{same_Some}
-use Rattle.fints_findings.specs.Figures.{AreFigures, FiguresAre}
-use Rattle.fints_findings.specs.declared.finding.Reached.{Reached}
+use Rattle.fints_check_findings.specs.Figures.{AreFigures, FiguresAre}
+use Rattle.fints_check_findings.specs.declared.finding.Reached.{Reached}
 use Rattle.fints_script.specs.Numbered.{numbered}
 use Rattle.fints_script.specs.Scripts.{ScriptValue}
 use Rattle.fints_check.specs.Certificates.{line_figures}

@@ -2,12 +2,12 @@
 use Rattle.std.proofs.Common.{ℕ, ◌-◌, ◌≤◌, ◌≡◌, List, [], ◌∷◌, length, refl, sym, subst, arith, inl, inr}
 use Rattle.std.specs.Prelude.{◌↔◌}
 use Rattle.std.specs.List.{AllByRecursion}
-use Rattle.fints_cases.specs.Answers.{IsAnswer}
-use Rattle.fints_cases.specs.declared.values.NamedValue.{NamedValue}
-use Rattle.fints_findings.specs.Findings.{BreaksBehind, EachIsPermitted, IsPermittedBehind, IsReal}
-use Rattle.fints_findings.specs.Releases.{IsUnreleased}
-use Rattle.fints_findings.specs.declared.finding.Finding.{Finding}
-use Rattle.fints_findings.specs.declared.finding.Reached.{Reached}
+use Rattle.fints_script_cases.specs.Answers.{IsAnswer}
+use Rattle.fints_script_cases.specs.declared.values.NamedValue.{NamedValue}
+use Rattle.fints_check_findings.specs.Findings.{BreaksBehind, EachIsPermitted, IsPermittedBehind, IsReal}
+use Rattle.fints_check_findings.specs.Releases.{IsUnreleased}
+use Rattle.fints_check_findings.specs.declared.finding.Finding.{Finding}
+use Rattle.fints_check_findings.specs.declared.finding.Reached.{Reached}
 use Rattle.fints_rules.specs.Breaks.{Breaks, BytesBreakRelease, Permitted}
 use Rattle.fints_rules_permissions.specs.Permits.{Granted}
 use Rattle.fints_rules.specs.declared.rule.Rule.{Rule}

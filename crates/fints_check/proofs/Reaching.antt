@@ -1,8 +1,8 @@
 -- Which messages runs send: how a step is entered, and how often it is repeated.
 use Rattle.std.proofs.Common.{ℕ, suc, zero, ◌+◌, ◌<◌, ◌≡◌, Some, List, refl, sym, subst, arith}
-use Rattle.fints_cases.specs.Answers.{CanLead, IsOpenTo}
-use Rattle.fints_cases.specs.declared.answers.Target.{Target}
-use Rattle.fints_cases.specs.declared.answers.Target.TheVariants.{Step, Again}
+use Rattle.fints_script_cases.specs.Answers.{CanLead, IsOpenTo}
+use Rattle.fints_script_cases.specs.declared.answers.Target.{Target}
+use Rattle.fints_script_cases.specs.declared.answers.Target.TheVariants.{Step, Again}
 use Rattle.fints_script.specs.Numbered.{numbered}
 use Rattle.fints_script.specs.Steps.{StepValue}
 use Rattle.fints_wire.specs.Runs.{Enters, Reach}

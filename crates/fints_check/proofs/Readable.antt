@@ -6,9 +6,9 @@ use Rattle.std.specs.List.{All, AllPairs, slice_get}
 use Rattle.std.specs.Option.{option_map}
 use Rattle.std.proofs.lemmas.List.{length-append, length-map}
 use Rattle.std.proofs.lemmas.Option.{get_or_from_slice_get, slice_get-get_or, slice_get-map}
-use Rattle.fints_cases.specs.declared.values.NamedValue.{NamedValue}
-use Rattle.fints_fields.specs.Names.{IsName}
-use Rattle.fints_lines.specs.Lines.{text_of_lines}
+use Rattle.fints_script_cases.specs.declared.values.NamedValue.{NamedValue}
+use Rattle.fints_script_fields.specs.Names.{IsName}
+use Rattle.fints_syntax_lines.specs.Lines.{text_of_lines}
 use Rattle.fints_script.specs.Plans.{Admits}
 use Rattle.fints_script.specs.Scripts.{ScriptValue}
 use Rattle.fints_script.specs.Sound.{IsSound, IsSoundStep}
@@ -17,15 +17,15 @@ use Rattle.fints_wire.specs.Messages.{message_bytes}
 use Rattle.fints_wire.specs.Runs.{Arrives, IsSent, IsWithin, SendsLast}
 use Rattle.fints_wire.specs.declared.dialogue.Sent.{Sent}
 use Rattle.fints_wire.specs.declared.dialogue.Visit.{Visit}
-use Rattle.fints_findings.specs.Figures.{AreFigures, FiguresAre}
-use Rattle.fints_findings.specs.declared.finding.Reached.{Reached}
+use Rattle.fints_check_findings.specs.Figures.{AreFigures, FiguresAre}
+use Rattle.fints_check_findings.specs.declared.finding.Reached.{Reached}
 use Rattle.fints_check.specs.Certificates.{line_figures, line_names, step_names}
 use Rattle.fints_check.specs.CertTexts.{cert_text, figures_text, step_text, AreShown, IsCertificate, IsStepLine}
 use Rattle.fints_check.specs.declared.certificate.Line.{Line}
 use Rattle.fints_script.specs.Numbered.{numbered_holds}
 use Rattle.fints_check.proofs.FigureTexts.{figure_short}
-use Rattle.fints_lines.specs.declared.lines.TheConstants.{MAX_TEXT}
-use Rattle.fints_field_rows.specs.declared.limits.TheConstants.{MAX_STEPS}
+use Rattle.fints_syntax_lines.specs.declared.lines.TheConstants.{MAX_TEXT}
+use Rattle.fints_script_rows.specs.declared.limits.TheConstants.{MAX_STEPS}
 use Rattle.fints_wire.specs.declared.building.TheConstants.{MAX_NUMBER}
 use Rattle.fints_check.proofs.Numbered.{same_at}
 

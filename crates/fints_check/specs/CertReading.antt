@@ -1,9 +1,9 @@
 -- What the reader of certificates knows on its way through a text. Private contracts alone cite these words.
 use Rattle.std.specs.Prelude.{ℕ, ◌≡◌, ◌≢◌, ◌≤◌, List, [], ◌∷◌, ◌++◌, length}
 use Rattle.std.specs.List.{All, AllPairs}
-use Rattle.fints_lines.specs.Lines.{IsNextLine}
+use Rattle.fints_syntax_lines.specs.Lines.{IsNextLine}
 use Rattle.fints_check.specs.CertTexts.{step_text, cert_text, IsStepLine}
-use Rattle.fints_lines.specs.declared.lines.TheConstants.{MAX_TEXT}
+use Rattle.fints_syntax_lines.specs.declared.lines.TheConstants.{MAX_TEXT}
 use Rattle.fints_check.specs.declared.certificate.Line.{Line}
 
 -- no line has the name yet

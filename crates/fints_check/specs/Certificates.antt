@@ -2,10 +2,10 @@
 use Rattle.std.specs.Prelude.{ℕ, ◌≡◌, ◌≢◌, ◌≤◌, ◌+◌, ◌-◌, ◌*◌, Option, Some, List, length, map}
 use Rattle.std.specs.List.{AllByRecursion}
 use Rattle.std.specs.Option.{option_and_then}
-use Rattle.fints_cases.specs.Answers.{IsAnswer, IsOpen, IsOpenTo, target_of}
-use Rattle.fints_cases.specs.declared.answers.Target.{Target}
-use Rattle.fints_cases.specs.declared.answers.Target.TheVariants as targets
-use Rattle.fints_cases.specs.declared.values.NamedValue.{NamedValue}
+use Rattle.fints_script_cases.specs.Answers.{IsAnswer, IsOpen, IsOpenTo, target_of}
+use Rattle.fints_script_cases.specs.declared.answers.Target.{Target}
+use Rattle.fints_script_cases.specs.declared.answers.Target.TheVariants as targets
+use Rattle.fints_script_cases.specs.declared.values.NamedValue.{NamedValue}
 use Rattle.fints_rules_permissions.specs.Permits.{Granted}
 use Rattle.fints_script.specs.Numbered.{numbered}
 use Rattle.fints_script.specs.Plans.{Admits}
@@ -15,9 +15,9 @@ use Rattle.fints_wire.specs.Choices.{longest_choice}
 use Rattle.fints_wire.specs.Messages.{message_bytes}
 use Rattle.fints_wire.specs.Runs.{Run}
 use Rattle.fints_wire.specs.declared.dialogue.Sent.{Sent}
-use Rattle.fints_findings.specs.Breakable.{IsCleanStep}
-use Rattle.fints_findings.specs.Releases.{IsUnreleased}
-use Rattle.fints_findings.specs.declared.finding.Reached.{Reached}
+use Rattle.fints_check_findings.specs.Breakable.{IsCleanStep}
+use Rattle.fints_check_findings.specs.Releases.{IsUnreleased}
+use Rattle.fints_check_findings.specs.declared.finding.Reached.{Reached}
 use Rattle.fints_rules.specs.declared.whole.TheConstants.{LAST_NUMBER}
 use Rattle.fints_check.specs.declared.certificate.Line.{Line}
 

@@ -1,13 +1,13 @@
 -- What `verify` knows on its way. Private contracts alone cite these words.
 use Rattle.std.specs.Prelude.{ℕ, ◌≡◌, ◌↔◌, ◌≤◌, Bool, true, Some, List, length, IsTrue}
-use Rattle.fints_cases.specs.Answers.{IsOpenTo}
-use Rattle.fints_cases.specs.declared.answers.Target.TheVariants as targets
+use Rattle.fints_script_cases.specs.Answers.{IsOpenTo}
+use Rattle.fints_script_cases.specs.declared.answers.Target.TheVariants as targets
 use Rattle.fints_rules_permissions.specs.Permits.{Granted}
 use Rattle.fints_script.specs.Numbered.{numbered}
 use Rattle.fints_script.specs.Scripts.{ScriptValue}
 use Rattle.fints_script.specs.Steps.{StepValue}
-use Rattle.fints_findings.specs.declared.finding.Reached.{Reached}
-use Rattle.fints_findings.specs.Releases.{IsUnreleased}
+use Rattle.fints_check_findings.specs.declared.finding.Reached.{Reached}
+use Rattle.fints_check_findings.specs.Releases.{IsUnreleased}
 use Rattle.fints_check.specs.Certificates.{LineHolds, Names}
 use Rattle.fints_check.specs.declared.certificate.Line.{Line}
 

@@ -1,8 +1,8 @@
 //! Certificates: what is said of each step of a script.
 ghost use Rattle.std.specs.Prelude.{◌≡◌};
 
-use fints_fields::Name;
-use fints_findings::Reached;
+use fints_check_findings::Reached;
+use fints_script_fields::Name;
 use std::marker::Model;
 
 /// What a certificate says of a step: bounds of the number and the length of its messages, or that no

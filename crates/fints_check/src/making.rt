@@ -1,14 +1,14 @@
 //! The certificate of a report without findings.
 ghost use Rattle.std.specs.Prelude.{◌≡◌, ◌↔◌, [], IfOk, IfSome, IsSome};
 ghost use Rattle.std.specs.List.{All};
-ghost use Rattle.fints_findings.specs.Figures.{AreFigures};
+ghost use Rattle.fints_check_findings.specs.Figures.{AreFigures};
 ghost use Rattle.fints_check.specs.Certificates.{line_figures, line_names, step_names, IsClosedCertificate};
 ghost use Rattle.fints_check.specs.CertTexts.{IsCertificate};
 ghost use Rattle.fints_check.specs.declared.certificate.Line.{Line as LineValue};
-ghost use Rattle.fints_fields.specs.Names.{IsName};
+ghost use Rattle.fints_script_fields.specs.Names.{IsName};
 
 use crate::certificate::{Certificate, Line};
-use fints_findings::Report;
+use fints_check_findings::Report;
 use fints_syntax::Memory;
 use std::alloc::Global;
 

@@ -1,19 +1,19 @@
 //! Certificates from their texts.
 ghost use Rattle.std.specs.Prelude.{◌≡◌, ◌≢◌, ◌≤◌, ◌<◌, ◌↔◌, [], ◌∷◌, ◌++◌, length, get_or, IsTrue, IfOk, IfErr, IfSome, MatchOption};
 ghost use Rattle.std.specs.Fmt.{decimal};
-ghost use Rattle.fints_findings.specs.declared.finding.Reached.{Reached as ReachedValue};
-ghost use Rattle.fints_fields.specs.NameSets.{HoldsNames};
-ghost use Rattle.fints_lines.specs.Lines.{IsReadAs};
+ghost use Rattle.fints_check_findings.specs.declared.finding.Reached.{Reached as ReachedValue};
+ghost use Rattle.fints_script_fields.specs.NameSets.{HoldsNames};
+ghost use Rattle.fints_syntax_lines.specs.Lines.{IsReadAs};
 ghost use Rattle.fints_check.specs.Certificates.{line_names};
 ghost use Rattle.fints_check.specs.CertTexts.{figures_text, step_text, IsFigure, AreShown, IsStepLine, IsCertificateOf, IsRefusal};
 ghost use Rattle.fints_check.specs.CertReading.{IsNew, IsLineTaken, HasNoLine};
 
 use crate::cert_fault::CertFault;
 use crate::certificate::{Certificate, Line};
-use fints_fields::Name;
-use fints_findings::Reached;
-use fints_lines::{after, next_line, split_once};
+use fints_check_findings::Reached;
+use fints_script_fields::Name;
 use fints_syntax::Memory;
+use fints_syntax_lines::{after, next_line, split_once};
 use std::alloc::Global;
 use std::collections::BTreeSet;
 

@@ -1,14 +1,14 @@
 //! Whether a certificate is closed, whoever wrote it.
 ghost use Rattle.std.specs.Prelude.{◌≡◌, ◌≢◌, ◌↔◌, ◌≤◌, ◌+◌, ◌*◌, ◌<◌, ◌^◌, ℕ, Some, true, length, IsTrue};
-ghost use Rattle.fints_cases.specs.Answers.{IsOpen, IsOpenTo, target_of};
-ghost use Rattle.fints_findings.specs.Breakable.{IsCleanStep};
-ghost use Rattle.fints_findings.specs.Findings.{EachIsPermitted};
+ghost use Rattle.fints_script_cases.specs.Answers.{IsOpen, IsOpenTo, target_of};
+ghost use Rattle.fints_check_findings.specs.Breakable.{IsCleanStep};
+ghost use Rattle.fints_check_findings.specs.Findings.{EachIsPermitted};
 ghost use Rattle.fints_script.specs.Numbered.{numbered};
 ghost use Rattle.fints_check.specs.Certificates.{figures_at, line_names, step_names, AreLinesTrue, AreReleased, BranchGoesOn, Covers, IsClosedCertificate, IsEntered, KeepsPromise, LineHolds};
 ghost use Rattle.fints_check.specs.Verifying.{AreRepeats, TellsLine, TellsReleased};
 
 use crate::certificate::{Certificate, Line};
-use fints_findings::{Reached, is_clean_step, is_released_step};
+use fints_check_findings::{Reached, is_clean_step, is_released_step};
 use fints_rules::{LAST_NUMBER, Permissions};
 use fints_script::{MAX_STEPS, Plan, Step, Target};
 use fints_wire::worst_size;

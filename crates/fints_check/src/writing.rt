@@ -4,7 +4,7 @@ ghost use Rattle.std.specs.Fmt.{decimal};
 ghost use Rattle.fints_check.specs.CertTexts.{figures_text, step_text, cert_text, IsCertificate, IsCertificateOf};
 
 use crate::certificate::{Certificate, Line};
-use fints_findings::Reached;
+use fints_check_findings::Reached;
 use fints_syntax::Memory;
 use itoa::Buffer;
 use std::alloc::Global;

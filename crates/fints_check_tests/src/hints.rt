@@ -1,9 +1,9 @@
 //! Hints of inputs that are refused for their length.
-use fints_hints::{Inputs, hint};
+use fints_cli_hints::{Inputs, hint};
+use fints_cli_texts::Fault;
 use fints_params::ParamFault;
 use fints_script::{FaultKind, Place, ScriptFault};
 use fints_syntax::{SyntaxFault, SyntaxKind};
-use fints_texts::Fault;
 use std::alloc::{AllocError, Global};
 use std::test::*;
 

@@ -2,7 +2,7 @@
 use Rattle.std.proofs.Common.{◌≡◌, ◌∙◌, sym, ap, subst, ℕ, ◌+◌, ◌-◌, List, ◌++◌, length, take, drop, Option, Some, None, append_assoc}
 use Rattle.std.proofs.lemmas.List.{take_rest}
 use Rattle.std.proofs.Math.Seq.{take-add}
-use Rattle.fints_files.specs.Streams.{Gets, GetsPrefix}
+use Rattle.fints_cli_files.specs.Streams.{Gets, GetsPrefix}
 
 -- the text from a place on, as a slice to its end has it
 abbrev pub rest_from : ℕ → List ℕ → List ℕ

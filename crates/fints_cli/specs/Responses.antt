@@ -1,12 +1,12 @@
 -- The status and the output of the words that were given.
 use Rattle.std.specs.Prelude.{◌≡◌, ◌≤◌, ◌⊎◌, ℕ, List, Option, string_bytes}
-use Rattle.fints_files.specs.Streams.{ReadCounts, Gets, GetsNothing, GetsPrefix, one_more}
-use Rattle.fints_files.specs.Loading.{NoneFailed}
-use Rattle.fints_words.specs.declared.words.Asked.{Asked}
-use Rattle.fints_words.specs.declared.words.Asked.TheVariants.{Help, Usage, NoMemory, Run}
-use Rattle.fints_commands.specs.declared.failing.Failure.{Failure}
-use Rattle.fints_commands.specs.Loading.{files_of, AreWithin, FollowsReading}
-use Rattle.fints_commands.specs.Commands.{failure_status, AnswersTo, FailsFor}
+use Rattle.fints_cli_files.specs.Streams.{ReadCounts, Gets, GetsNothing, GetsPrefix, one_more}
+use Rattle.fints_cli_files.specs.Loading.{NoneFailed}
+use Rattle.fints_cli_words.specs.declared.words.Asked.{Asked}
+use Rattle.fints_cli_words.specs.declared.words.Asked.TheVariants.{Help, Usage, NoMemory, Run}
+use Rattle.fints_cli_commands.specs.declared.failing.Failure.{Failure}
+use Rattle.fints_cli_commands.specs.Loading.{files_of, AreWithin, FollowsReading}
+use Rattle.fints_cli_commands.specs.Commands.{failure_status, AnswersTo, FailsFor}
 
 -- the status and the text are what was asked for: the help, or the request's answer, for which no file is longer than its limit
 abbrev pub IsTextFor : Asked → (List ℕ → Option (List ℕ)) → ℕ → List ℕ → Type 0

@@ -1,12 +1,12 @@
 //! The report on a script, as a text alone.
 ghost use Rattle.std.specs.Prelude.{ℕ, IfOk, IfErr};
-ghost use Rattle.fints_reports.specs.Plans.{IsPlanRefusal};
-ghost use Rattle.fints_reports.specs.Told.{IsRefused, IsToldOf, IsToldOn};
-ghost use Rattle.fints_reports.specs.declared.telling.Wanted.TheVariants as wanted_is;
+ghost use Rattle.fints_cli_reports.specs.Plans.{IsPlanRefusal};
+ghost use Rattle.fints_cli_reports.specs.Told.{IsRefused, IsToldOf, IsToldOn};
+ghost use Rattle.fints_cli_reports.specs.declared.telling.Wanted.TheVariants as wanted_is;
 
+use fints_cli_reports::{Wanted, tell, tell_script};
+use fints_cli_texts::Fault;
 use fints_params::Params;
-use fints_reports::{Wanted, tell, tell_script};
-use fints_texts::Fault;
 use std::alloc::Global;
 
 /// The text of the report on a script by good parameters. Of the refusals that of the order table

@@ -1,17 +1,17 @@
 //! From words to a status: the answer of a command on the output, and what it says on the errors.
 ghost use Rattle.std.specs.Prelude.{◌≡◌, ◌≤◌, ◌<◌, ◌+◌, ◌*◌, ◌⊎◌, [], false};
-ghost use Rattle.fints_files.specs.Streams.{Gets, GetsNothing, GetsPrefix, one_more};
-ghost use Rattle.fints_files.specs.Loading.{MAX_READS, NoneFailed};
-ghost use Rattle.fints_words.specs.declared.words.Request.TheVariants as request;
-ghost use Rattle.fints_words.specs.declared.words.Asked.{Asked};
-ghost use Rattle.fints_words.specs.declared.words.Asked.TheVariants as asked;
-ghost use Rattle.fints_commands.specs.Commands.{failure_status};
+ghost use Rattle.fints_cli_files.specs.Streams.{Gets, GetsNothing, GetsPrefix, one_more};
+ghost use Rattle.fints_cli_files.specs.Loading.{MAX_READS, NoneFailed};
+ghost use Rattle.fints_cli_words.specs.declared.words.Request.TheVariants as request;
+ghost use Rattle.fints_cli_words.specs.declared.words.Asked.{Asked};
+ghost use Rattle.fints_cli_words.specs.declared.words.Asked.TheVariants as asked;
+ghost use Rattle.fints_cli_commands.specs.Commands.{failure_status};
 ghost use Rattle.fints_cli.specs.Responses.{IsAnswered, IsCutOff, IsResponse, IsUsage, FailsToRead, FailsWith, FilesAreWithin};
 
 use crate::emitting::emit;
-use fints_commands::{Failure, Refusal, perform};
-use fints_files::{Files, Out};
-use fints_words::{Asked, read_words};
+use fints_cli_commands::{Failure, Refusal, perform};
+use fints_cli_files::{Files, Out};
+use fints_cli_words::{Asked, read_words};
 use std::alloc::Global;
 
 // Writes a line to the errors; a fault there changes nothing.

@@ -2,14 +2,14 @@
 use Rattle.std.proofs.Common.{◌≡◌, ℕ, ◌+◌, ◌<◌, ◌≤◌, ◌^◌, List, [], ◌∷◌, ◌++◌, length, map, refl, ap, ◌∙◌, sym, subst, arith, inl, inr, Option, Some, None}
 use Rattle.std.specs.List.{AllByRecursion, AllZip, flat_map}
 use Rattle.std.proofs.lemmas.List.{length-append}
-use Rattle.fints_segments.specs.Spelling.{Spelled}
-use Rattle.fints_segments.specs.Segment.{segment_bytes}
+use Rattle.fints_syntax_segments.specs.Spelling.{Spelled}
+use Rattle.fints_syntax_segments.specs.Segment.{segment_bytes}
 use Rattle.fints_syntax.specs.Capture.{Piece, piece_bytes, IsPiece, placed_from, IsPlacedCapture}
 use Rattle.fints_syntax.specs.Places.{start_of}
 use Rattle.fints_syntax.specs.PlaceLaws.{start_within}
 use Rattle.fints_syntax.specs.Owned.{segment_of}
 use Rattle.fints_syntax.specs.declared.capture.Placed as syntax
-use Rattle.fints_segments.specs.declared.item.OwnedSegment.{OwnedSegment}
+use Rattle.fints_syntax_segments.specs.declared.item.OwnedSegment.{OwnedSegment}
 use Rattle.fints_params.specs.declared.placed.PlacedSegment.{PlacedSegment}
 use Rattle.fints_params.specs.Sealed.{data_of, data_len}
 use Rattle.fints_params.specs.Parameters.{skipped_in}

@@ -5,7 +5,7 @@ use Rattle.fints_syntax.specs.Faults.{KindAt}
 use Rattle.fints_syntax.specs.Capture.{FaultsAt, CaptureFaultAt}
 use Rattle.fints_syntax.specs.declared.fault.SyntaxKind.{SyntaxKind}
 use Rattle.fints_syntax.specs.declared.fault.SyntaxKind.TheVariants.{Memory, BadBinary, TooLong, Incomplete, BadHead, CaptureTooLong, Failed}
-use Rattle.fints_segments.specs.declared.item.OwnedSegment.{OwnedSegment}
+use Rattle.fints_syntax_segments.specs.declared.item.OwnedSegment.{OwnedSegment}
 use Rattle.fints_params.specs.Sealed.{data_of, data_len}
 
 kind_within : (kind : SyntaxKind) (o : ℕ) (input : List ℕ) → KindAt kind o input → o ≤ length input

@@ -12,7 +12,7 @@ use Rattle.fints_syntax.specs.declared.capture.TheConstants.{MAX_CAPTURE}
 use Rattle.fints_syntax.proofs.Cuts.{piece_fault_is_capture_fault}
 use Rattle.fints_syntax.proofs.Lasting.{fault_lasts}
 use Rattle.fints_syntax.proofs.Streams.{read_splits}
-use Rattle.fints_segments.specs.declared.item.OwnedSegment.{OwnedSegment}
+use Rattle.fints_syntax_segments.specs.declared.item.OwnedSegment.{OwnedSegment}
 use Rattle.fints_params.specs.declared.fault.ParamFault.{ParamFault}
 use Rattle.fints_params.specs.declared.fault.ParamFault.TheVariants.{Syntax}
 use Rattle.fints_params.specs.Captures.{Rule, IsParamFault}

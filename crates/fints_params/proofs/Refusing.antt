@@ -1,7 +1,7 @@
 -- What is read so far, and where a reader stops.
 use Rattle.std.proofs.Common.{◌≡◌, ℕ, ◌+◌, ◌<◌, ◌≤◌, List, [], ◌∷◌, ◌++◌, length, take, drop, map, get_or, refl, ap, ◌∙◌, sym, subst, arith, inl, inr, append_assoc, true, false, Some, None}
 use Rattle.std.proofs.lemmas.List.{append-nil, map-append, length-append, take_all}
-use Rattle.fints_segments.specs.declared.item.OwnedSegment.{OwnedSegment}
+use Rattle.fints_syntax_segments.specs.declared.item.OwnedSegment.{OwnedSegment}
 use Rattle.fints_params.specs.declared.fault.ParamFault.{ParamFault}
 use Rattle.fints_params.specs.declared.placed.PlacedSegment.{PlacedSegment}
 use Rattle.fints_syntax.specs.declared.fault.SyntaxKind.{SyntaxKind}

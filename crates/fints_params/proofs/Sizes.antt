@@ -5,13 +5,13 @@ use Rattle.std.specs.List.{AllByRecursion, filter, flat_map}
 use Rattle.std.specs.Option.{option_and_then}
 use Rattle.std.proofs.lemmas.List.{length-append, length-drop, length-map}
 use Rattle.std.proofs.lemmas.List.Sums.{sum_by-cons, count_by-le-length}
-use Rattle.fints_segments.specs.Spelling.{Spelled, text, binary, item_of}
-use Rattle.fints_segments.specs.Segment.{segment_bytes, values_of, IsSegment}
+use Rattle.fints_syntax_segments.specs.Spelling.{Spelled, text, binary, item_of}
+use Rattle.fints_syntax_segments.specs.Segment.{segment_bytes, values_of, IsSegment}
 use Rattle.fints_syntax.specs.Places.{item_size, items_size, elements_size}
 use Rattle.fints_syntax.specs.PlaceLaws.{segment_size}
 use Rattle.fints_syntax.specs.Owned.{segment_of}
-use Rattle.fints_segments.specs.declared.item.OwnedItem.{OwnedItem}
-use Rattle.fints_segments.specs.declared.item.OwnedSegment.{OwnedSegment}
+use Rattle.fints_syntax_segments.specs.declared.item.OwnedItem.{OwnedItem}
+use Rattle.fints_syntax_segments.specs.declared.item.OwnedSegment.{OwnedSegment}
 use Rattle.fints_params.specs.Sealed.{binary_bytes, data_of}
 use Rattle.fints_params.specs.Orders.{is_odd_order}
 use Rattle.fints_params.specs.Accounts.{is_account, entry_elements, is_odd_element}

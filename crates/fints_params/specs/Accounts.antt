@@ -2,15 +2,15 @@
 use Rattle.std.specs.Prelude.{ℕ, ◌==◌, ◌||◌, ◌&&◌, Bool, false, not, List, [], ◌∷◌, length, get_or, map, drop, codes, if◌then◌else◌, Option, Some, None}
 use Rattle.std.specs.List.{filter_map}
 use Rattle.std.specs.Option.{is_some, option_map, option_and_then, option_map_or}
-use Rattle.fints_segments.specs.declared.item.OwnedItem.{OwnedItem}
-use Rattle.fints_segments.specs.declared.item.OwnedItem.TheVariants.{Text}
-use Rattle.fints_segments.specs.declared.item.OwnedSegment.{OwnedSegment}
-use Rattle.fints_segments.specs.Segment.{item_value}
+use Rattle.fints_syntax_segments.specs.declared.item.OwnedItem.{OwnedItem}
+use Rattle.fints_syntax_segments.specs.declared.item.OwnedItem.TheVariants.{Text}
+use Rattle.fints_syntax_segments.specs.declared.item.OwnedSegment.{OwnedSegment}
+use Rattle.fints_syntax_segments.specs.Segment.{item_value}
 use Rattle.fints_syntax.specs.Kind.{kind_from}
 use Rattle.fints_params.specs.declared.rows.Entry.{Entry}
 use Rattle.fints_params.specs.declared.rows.AccountRow.{AccountRow}
-use Rattle.fints_segments.specs.Values.{is_named, value_at}
-use Rattle.fints_segments.specs.Number.{number_of}
+use Rattle.fints_syntax_segments.specs.Values.{is_named, value_at}
+use Rattle.fints_syntax_segments.specs.Number.{number_of}
 use Rattle.fints_params.specs.Reading.{number_or_zero, is_empty}
 
 abbrev pub is_usage : OwnedSegment → Bool

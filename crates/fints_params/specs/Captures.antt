@@ -1,7 +1,7 @@
 -- The first refusal in a capture, and what it gives where there is none. A rule says why a segment is refused after those before it.
 use Rattle.std.specs.Prelude.{◌≡◌, ◌⊎◌, ℕ, List, [], ◌∷◌, ◌++◌, map, Option, Some, None, Result, Ok, Err}
 use Rattle.fints_syntax.specs.declared.fault.SyntaxFault.{SyntaxFault}
-use Rattle.fints_segments.specs.declared.item.OwnedSegment.{OwnedSegment}
+use Rattle.fints_syntax_segments.specs.declared.item.OwnedSegment.{OwnedSegment}
 use Rattle.fints_params.specs.declared.fault.ParamFault.{ParamFault}
 use Rattle.fints_params.specs.declared.fault.ParamFault.TheVariants.{Syntax}
 use Rattle.fints_params.specs.declared.placed.PlacedSegment.{PlacedSegment}

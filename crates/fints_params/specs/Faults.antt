@@ -3,7 +3,7 @@ use Rattle.std.specs.Prelude.{◌≡◌, ◌⊎◌, ℕ, Option, Some}
 use Rattle.fints_syntax.specs.declared.fault.SyntaxFault.{SyntaxFault}
 use Rattle.fints_syntax.specs.declared.fault.SyntaxKind.{SyntaxKind}
 use Rattle.fints_syntax.specs.declared.fault.SyntaxKind.TheVariants as kinds
-use Rattle.fints_segments.specs.declared.item.OwnedSegment.{OwnedSegment}
+use Rattle.fints_syntax_segments.specs.declared.item.OwnedSegment.{OwnedSegment}
 use Rattle.fints_params.specs.declared.fault.ParamFault.{ParamFault}
 use Rattle.fints_params.specs.declared.fault.ParamFault.TheVariants.{Memory, Syntax, BadElement}
 

@@ -2,13 +2,13 @@
 use Rattle.std.specs.Prelude.{ℕ, ◌+◌, ◌&&◌, ◌||◌, Bool, not, if◌then◌else◌, List, [], map, get_or, codes, Option, None, position}
 use Rattle.std.specs.List.{filter, filter_map, flat_map}
 use Rattle.std.specs.Option.{is_some, option_map}
-use Rattle.fints_segments.specs.Number.{number_in}
-use Rattle.fints_segments.specs.declared.item.OwnedItem.{OwnedItem}
-use Rattle.fints_segments.specs.declared.item.OwnedSegment.{OwnedSegment}
-use Rattle.fints_segments.specs.Segment.{item_value}
+use Rattle.fints_syntax_segments.specs.Number.{number_in}
+use Rattle.fints_syntax_segments.specs.declared.item.OwnedItem.{OwnedItem}
+use Rattle.fints_syntax_segments.specs.declared.item.OwnedSegment.{OwnedSegment}
+use Rattle.fints_syntax_segments.specs.Segment.{item_value}
 use Rattle.fints_params.specs.declared.fault.ParamFault.{ParamFault}
 use Rattle.fints_params.specs.declared.fault.ParamFault.TheVariants.{BadElement}
-use Rattle.fints_segments.specs.Values.{is_named}
+use Rattle.fints_syntax_segments.specs.Values.{is_named}
 use Rattle.fints_params.specs.Reading.{is_empty}
 
 -- the number that exactly four digits spell

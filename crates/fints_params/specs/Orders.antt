@@ -2,11 +2,11 @@
 use Rattle.std.specs.Prelude.{ℕ, ◌==◌, ◌||◌, ◌&&◌, Bool, not, List, [], ◌∷◌, length, get_or, codes, if◌then◌else◌, Option, None}
 use Rattle.std.specs.Option.{is_some, option_and_then, option_map}
 use Rattle.std.specs.Str.{bytes_eq}
-use Rattle.fints_segments.specs.declared.item.OwnedSegment.{OwnedSegment}
+use Rattle.fints_syntax_segments.specs.declared.item.OwnedSegment.{OwnedSegment}
 use Rattle.fints_syntax.specs.Kind.{kind_from}
 use Rattle.fints_params.specs.declared.rows.OrderParam.{OrderParam}
-use Rattle.fints_segments.specs.Values.{value_at}
-use Rattle.fints_segments.specs.Number.{number_of}
+use Rattle.fints_syntax_segments.specs.Values.{value_at}
+use Rattle.fints_syntax_segments.specs.Number.{number_of}
 
 -- the byte at a place of the identifier is this letter; places count from 0
 abbrev pub has_letter : List ℕ → ℕ → List ℕ → Bool

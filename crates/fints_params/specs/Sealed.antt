@@ -1,10 +1,10 @@
 -- HNVSD 1: item 1 of its element 2 is binary, and its data are segments. Words of private contracts and proofs alone stand last, under a heading.
 use Rattle.std.specs.Prelude.{ℕ, Bool, List, length, slice_get, codes, Option, Some, None}
 use Rattle.std.specs.Option.{option_and_then, option_map_or}
-use Rattle.fints_segments.specs.declared.item.OwnedItem.{OwnedItem}
-use Rattle.fints_segments.specs.declared.item.OwnedItem.TheVariants.{Text, Bin}
-use Rattle.fints_segments.specs.declared.item.OwnedSegment.{OwnedSegment}
-use Rattle.fints_segments.specs.Values.{is_named, items_in}
+use Rattle.fints_syntax_segments.specs.declared.item.OwnedItem.{OwnedItem}
+use Rattle.fints_syntax_segments.specs.declared.item.OwnedItem.TheVariants.{Text, Bin}
+use Rattle.fints_syntax_segments.specs.declared.item.OwnedSegment.{OwnedSegment}
+use Rattle.fints_syntax_segments.specs.Values.{is_named, items_in}
 
 abbrev pub is_sealed : OwnedSegment → Bool
 is_sealed s = is_named s (codes "HNVSD") 1

@@ -1,11 +1,11 @@
 -- What a reader that goes from segment to segment has read so far, and where it stops. Private contracts and, by `Inside`, the invariant of `ParamReader` alone cite these words.
 use Rattle.std.specs.Prelude.{◌≡◌, ◌+◌, ◌≤◌, ℕ, ◌∷◌, [], ◌++◌, List, length, map, Option, Some, None}
 use Rattle.std.specs.List.{AllZip}
-use Rattle.fints_segments.specs.Segment.{segment_bytes}
+use Rattle.fints_syntax_segments.specs.Segment.{segment_bytes}
 use Rattle.fints_syntax.specs.Streams.{IsReadTo}
 use Rattle.fints_syntax.specs.declared.capture.Placed as syntax
 use Rattle.fints_syntax.specs.declared.stream.ReadTo.{ReadTo}
-use Rattle.fints_segments.specs.declared.item.OwnedSegment.{OwnedSegment}
+use Rattle.fints_syntax_segments.specs.declared.item.OwnedSegment.{OwnedSegment}
 use Rattle.fints_params.specs.declared.fault.ParamFault.{ParamFault}
 use Rattle.fints_params.specs.declared.placed.PlacedSegment.{PlacedSegment}
 use Rattle.fints_params.specs.Sealed.{data_of}

@@ -2,7 +2,7 @@
 ghost use Rattle.std.specs.Prelude.{◌≡◌, ◌≤◌, ◌∷◌, List, ℕ, map, drop, IfOk, IfErr, Some, None};
 ghost use Rattle.fints_params.specs.Bank.{bank_row, bank_fault, protocols_of, size_of};
 ghost use Rattle.fints_params.specs.Faults.{IsBad};
-ghost use Rattle.fints_segments.specs.Segment.{item_value};
+ghost use Rattle.fints_syntax_segments.specs.Segment.{item_value};
 
 use crate::fault::{ParamFault, bad_element};
 use crate::rows::{BankRow, Numbers};

@@ -1,6 +1,6 @@
 //! Segments one after the other, an HNVSD version 1 replaced once by the segments of its data.
 ghost use Rattle.std.specs.Prelude.{◌≡◌, true, [], ◌∷◌, List, map, option_copied, IfOk, IfErr};
-ghost use Rattle.fints_segments.specs.declared.item.OwnedSegment.{OwnedSegment};
+ghost use Rattle.fints_syntax_segments.specs.declared.item.OwnedSegment.{OwnedSegment};
 ghost use Rattle.fints_params.specs.Sealed.{is_sealed, data_of};
 ghost use Rattle.fints_params.specs.Faults.{IsMemoryOr};
 ghost use Rattle.fints_syntax.specs.Owned.{segments_of};

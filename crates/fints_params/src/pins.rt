@@ -1,7 +1,7 @@
 //! HIPINS.
 ghost use Rattle.std.specs.Prelude.{◌≡◌, ◌++◌, ◌≤◌, [], ℕ, List, map, drop, length, IfOk, IfErr, IfSome, Some, None};
 ghost use Rattle.std.specs.List.{filter_map, list_all, cons_option};
-ghost use Rattle.fints_segments.specs.Segment.{item_value};
+ghost use Rattle.fints_syntax_segments.specs.Segment.{item_value};
 ghost use Rattle.fints_params.specs.Pins.{Pair, pairs, pin_pairs, is_good_pair, pins_fault, pin_row, pin_rows};
 ghost use Rattle.fints_params.specs.Faults.{IsBad};
 

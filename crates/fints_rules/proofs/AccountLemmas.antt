@@ -5,8 +5,8 @@ use Rattle.fints_params.specs.Parameters.{Rows}
 use Rattle.fints_rules_permissions.specs.declared.orders.OrderRow.{OrderRow}
 use Rattle.fints_rules_permissions.specs.declared.orders.AccountForm.{AccountForm}
 use Rattle.fints_rules_permissions.specs.declared.orders.AccountForm.TheVariants.{Nameless, National, International}
-use Rattle.fints_segments.specs.Values.{values_at}
-use Rattle.fints_segments.specs.declared.item.OwnedSegment.{OwnedSegment}
+use Rattle.fints_syntax_segments.specs.Values.{values_at}
+use Rattle.fints_syntax_segments.specs.declared.item.OwnedSegment.{OwnedSegment}
 use Rattle.fints_rules_permissions.specs.Accounts.{Account, account_of}
 use Rattle.fints_rules.specs.Facts.{six_items}
 use Rattle.fints_rules_permissions.specs.Permits.{AllNeedMore, IsLocked}

@@ -1,7 +1,7 @@
 -- The numbers of a message's body rise.
 use Rattle.std.proofs.Common.{◌≡◌, ℕ, zero, suc, ◌+◌, ◌<◌, List, [], ◌∷◌, length, get_or, ◌∙◌, arith}
-use Rattle.fints_segments.specs.declared.item.OwnedSegment.{OwnedSegment}
-use Rattle.fints_messages.specs.Messages.{IsNumbered}
+use Rattle.fints_syntax_segments.specs.declared.item.OwnedSegment.{OwnedSegment}
+use Rattle.fints_rules_messages.specs.Messages.{IsNumbered}
 use Rattle.fints_rules.specs.Judging.{IsRising}
 
 number_of_place : (n : ℕ) (ss : List OwnedSegment) (k : ℕ) (d : OwnedSegment) → IsNumbered n ss → k < length ss → (get_or ss k d).head.number ≡ n + k

@@ -1,12 +1,12 @@
 //! Laws of messages and rules: each function's contract is one.
 ghost use Rattle.std.specs.Prelude.{◌≡◌};
-ghost use Rattle.fints_segments.specs.Values.{values_at};
-ghost use Rattle.fints_segments.specs.declared.item.OwnedSegment.{OwnedSegment};
+ghost use Rattle.fints_syntax_segments.specs.Values.{values_at};
+ghost use Rattle.fints_syntax_segments.specs.declared.item.OwnedSegment.{OwnedSegment};
 ghost use Rattle.fints_rules_permissions.specs.Accounts.{account_of};
 ghost use Rattle.fints_rules.specs.Facts.{six_items};
 ghost use Rattle.fints_rules_permissions.specs.declared.orders.AccountForm.{AccountForm};
 
-pub use fints_messages::laws::{numbered_bodies, one_message, one_stop};
+pub use fints_rules_messages::laws::{numbered_bodies, one_message, one_stop};
 pub use fints_rules_permissions::laws::one_table;
 
 /// An account is found in the first six items of an element; more change nothing.

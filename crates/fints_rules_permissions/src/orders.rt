@@ -11,9 +11,9 @@ ghost use Rattle.fints_rules_permissions.specs.OrderFaults.{IsRowFault, IsFaultA
 
 use crate::kinds::is_plain_order;
 use crate::limits::OrderKey;
-use fints_documents::document;
-use fints_documents::document::Unread;
 use fints_syntax::{Kind, Memory};
+use fints_syntax_toml::document;
+use fints_syntax_toml::document::Unread;
 use indexmap::IndexMap;
 use std::alloc::{AllocFailed, Global};
 use std::marker::Model;

@@ -6,13 +6,13 @@ use Rattle.std.proofs.lemmas.Bool.{or_cases}
 use Rattle.std.proofs.lemmas.Option.{none-some, slice_get_within}
 use Rattle.fints_rules_permissions.specs.Orders.{form_of}
 use Rattle.fints_rules_permissions.specs.declared.orders.OrderRow.{OrderRow}
-use Rattle.fints_field_rows.specs.declared.fields.NamedField.{NamedField}
+use Rattle.fints_script_rows.specs.declared.fields.NamedField.{NamedField}
 use Rattle.fints_script.specs.Numbered.{numbered}
 use Rattle.fints_script.specs.Plans.{IsClosed, IsClosedTemplate, is_literal, is_account_field, element_two, names_account, open_of}
 use Rattle.fints_script.specs.Scripts.{ScriptValue}
 use Rattle.fints_script.specs.Steps.{StepValue}
 use Rattle.fints_script.specs.declared.opens.Open.TheVariants as opens
-use Rattle.fints_templates.specs.declared.template.Template.{Template}
+use Rattle.fints_script_templates.specs.declared.template.Template.{Template}
 
 -- where nothing is left open, neither test of it holds
 neither_open : (account process : Bool) → (if account then Some opens.Account else if process then Some opens.Process else None) ≡ None → (account ≡ false) × (process ≡ false)

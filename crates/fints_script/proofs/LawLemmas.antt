@@ -2,8 +2,8 @@
 use Rattle.fints_script.specs.Laws.{ClosedSegments, NoScriptAtFault, OneScript, OneTextFault}
 use Rattle.fints_script.proofs.OneScript.{no_script, one_fault, one_script}
 use Rattle.fints_script.proofs.ClosedSegments.{closed_segment}
-use Rattle.fints_field_rows.proofs.LawLemmas.{one_field}
-use Rattle.fints_fields.proofs.ClassLawLemmas.{one_class_text}
+use Rattle.fints_script_rows.proofs.LawLemmas.{one_field}
+use Rattle.fints_script_fields.proofs.ClassLawLemmas.{one_class_text}
 
 pub one_script_one : OneScript
 one_script_one = one_script one_class_text one_field

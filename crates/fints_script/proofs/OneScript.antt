@@ -4,19 +4,19 @@ use Rattle.std.proofs.lemmas.Bool.{cases_Bool}
 use Rattle.std.proofs.lemmas.Bool.Decides.{nat_tests}
 use Rattle.std.proofs.lemmas.Option.{none-some, same_Some}
 use Rattle.toml.specs.Data.{Data, Members}
-use Rattle.fints_documents.specs.Document.{document}
-use Rattle.fints_fields.specs.declared.counted.Text.{Text}
-use Rattle.fints_fields.specs.declared.field.Field.{Field}
-use Rattle.fints_fields.specs.declared.field.Field.TheVariants as classes
-use Rattle.fints_field_rows.specs.Fields.{field_value}
-use Rattle.fints_field_rows.specs.Laws.{OneField}
-use Rattle.fints_field_rows.specs.Rows.{part_at}
-use Rattle.fints_field_rows.specs.declared.fault.FaultKind.TheVariants as kinds
-use Rattle.fints_field_rows.specs.declared.fault.Place.TheVariants as places
-use Rattle.fints_field_rows.specs.declared.fault.ScriptFault.{ScriptFault}
-use Rattle.fints_field_rows.specs.declared.fields.NamedField.{NamedField}
+use Rattle.fints_syntax_toml.specs.Document.{document}
+use Rattle.fints_script_fields.specs.declared.counted.Text.{Text}
+use Rattle.fints_script_fields.specs.declared.field.Field.{Field}
+use Rattle.fints_script_fields.specs.declared.field.Field.TheVariants as classes
+use Rattle.fints_script_rows.specs.Fields.{field_value}
+use Rattle.fints_script_rows.specs.Laws.{OneField}
+use Rattle.fints_script_rows.specs.Rows.{part_at}
+use Rattle.fints_script_rows.specs.declared.fault.FaultKind.TheVariants as kinds
+use Rattle.fints_script_rows.specs.declared.fault.Place.TheVariants as places
+use Rattle.fints_script_rows.specs.declared.fault.ScriptFault.{ScriptFault}
+use Rattle.fints_script_rows.specs.declared.fields.NamedField.{NamedField}
 use Rattle.fints_script.specs.Scripts.{DenoteFields, Denotes, IsDialogClass, IsDialogField, IsFaultOf, IsFirstOf, IsScriptOf, ScriptValue, Top, at_top, fields_from, script_with, top_in}
-use Rattle.fints_lines.specs.declared.lines.TheConstants.{MAX_TEXT}
+use Rattle.fints_syntax_lines.specs.declared.lines.TheConstants.{MAX_TEXT}
 use Rattle.fints_script.proofs.ReadParts.{ok_err, same_err, same_ok}
 
 -- what a text comes to: a script or a fault

@@ -5,12 +5,12 @@ use Rattle.std.proofs.lemmas.Bool.{and_parts, cases_Bool}
 use Rattle.std.proofs.lemmas.Bool.Decides.{nat_tests}
 use Rattle.std.proofs.lemmas.Option.{none-some, same_Some, slice_get_within, slice_get-get_or}
 use Rattle.toml.specs.Data.{Data, integer}
-use Rattle.fints_documents.specs.Document.{number_between}
-use Rattle.fints_field_rows.specs.PartLaws.{bind_ok, each_all, or_ok, rows_at, rows_length}
-use Rattle.fints_field_rows.specs.Parts.{Part, ◌>>=◌, at_most, each, entries_of, integer_in, not_empty, optional, seen}
-use Rattle.fints_field_rows.specs.Rows.{part_at, rows_from}
-use Rattle.fints_field_rows.specs.declared.fault.FaultKind.TheVariants as kinds
-use Rattle.fints_field_rows.specs.declared.fault.Place.{Place}
+use Rattle.fints_syntax_toml.specs.Document.{number_between}
+use Rattle.fints_script_rows.specs.PartLaws.{bind_ok, each_all, or_ok, rows_at, rows_length}
+use Rattle.fints_script_rows.specs.Parts.{Part, ◌>>=◌, at_most, each, entries_of, integer_in, not_empty, optional, seen}
+use Rattle.fints_script_rows.specs.Rows.{part_at, rows_from}
+use Rattle.fints_script_rows.specs.declared.fault.FaultKind.TheVariants as kinds
+use Rattle.fints_script_rows.specs.declared.fault.Place.{Place}
 use Rattle.fints_script.specs.Numbered.{numbered_at}
 
 -- ---- values and faults

@@ -7,12 +7,12 @@ use Rattle.std.proofs.lemmas.Option.{slice_get-map, slice_get-get_or}
 use Rattle.toml.specs.declared.value.Value.{Value}
 use Rattle.toml.specs.Data.{Data}
 use Rattle.toml.specs.View.{view}
-use Rattle.fints_field_rows.specs.PartLaws.{placed_finds, rows_more, rows_stop}
-use Rattle.fints_field_rows.specs.Parts.{Gives, Part}
-use Rattle.fints_field_rows.specs.Rows.{Finds, fault_at, no_memory, part_at, placed, rows_from}
-use Rattle.fints_field_rows.specs.declared.fault.FaultKind.{FaultKind}
-use Rattle.fints_field_rows.specs.declared.fault.Place.{Place}
-use Rattle.fints_field_rows.specs.declared.fault.ScriptFault.{ScriptFault}
+use Rattle.fints_script_rows.specs.PartLaws.{placed_finds, rows_more, rows_stop}
+use Rattle.fints_script_rows.specs.Parts.{Gives, Part}
+use Rattle.fints_script_rows.specs.Rows.{Finds, fault_at, no_memory, part_at, placed, rows_from}
+use Rattle.fints_script_rows.specs.declared.fault.FaultKind.{FaultKind}
+use Rattle.fints_script_rows.specs.declared.fault.Place.{Place}
+use Rattle.fints_script_rows.specs.declared.fault.ScriptFault.{ScriptFault}
 
 -- the row at i
 row_at : (vs : List Value) (i : ℕ) (v : Value) → i < length vs → v ≡ get_or vs i v → slice_get (map view vs) i ≡ Some (view v)

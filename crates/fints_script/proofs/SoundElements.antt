@@ -7,18 +7,18 @@ use Rattle.std.proofs.lemmas.Bool.{cases_Bool, false≢true}
 use Rattle.std.proofs.lemmas.Bool.Decides.{nat_tests}
 use Rattle.std.proofs.lemmas.List.Elements.{All-cons, All-nil}
 use Rattle.toml.specs.Data.{Data, string, array}
-use Rattle.fints_segments.specs.declared.item.OwnedItem.TheVariants.{Text, Bin}
-use Rattle.fints_documents.specs.Document.{item_list}
-use Rattle.fints_field_rows.specs.NamedFields.{is_account_at, is_field_named, place_of_field}
-use Rattle.fints_field_rows.specs.PartLaws.{bind_ok, choice_ok, each_all, each_length}
-use Rattle.fints_field_rows.specs.Parts.{each, entries_of, not_empty}
-use Rattle.fints_field_rows.specs.Texts.{is_latin1, latin1}
-use Rattle.fints_field_rows.specs.declared.fault.FaultKind.TheVariants as kinds
-use Rattle.fints_field_rows.specs.declared.fields.NamedField.{NamedField}
-use Rattle.fints_templates.specs.ItemTexts.{Reading, reference, hex, literal, reading_of}
-use Rattle.fints_templates.specs.Elements.{array_in, bin_of, element_in, elements_in, field_at, item_in, literal_in, reading_in, reference_in}
-use Rattle.fints_templates.specs.declared.template.TemplateItem.{TemplateItem}
-use Rattle.fints_templates.specs.declared.template.TemplateItem.TheVariants.{Literal, Dialog, Field}
+use Rattle.fints_syntax_segments.specs.declared.item.OwnedItem.TheVariants.{Text, Bin}
+use Rattle.fints_syntax_toml.specs.Document.{item_list}
+use Rattle.fints_script_rows.specs.NamedFields.{is_account_at, is_field_named, place_of_field}
+use Rattle.fints_script_rows.specs.PartLaws.{bind_ok, choice_ok, each_all, each_length}
+use Rattle.fints_script_rows.specs.Parts.{each, entries_of, not_empty}
+use Rattle.fints_script_rows.specs.Texts.{is_latin1, latin1}
+use Rattle.fints_script_rows.specs.declared.fault.FaultKind.TheVariants as kinds
+use Rattle.fints_script_rows.specs.declared.fields.NamedField.{NamedField}
+use Rattle.fints_script_templates.specs.ItemTexts.{Reading, reference, hex, literal, reading_of}
+use Rattle.fints_script_templates.specs.Elements.{array_in, bin_of, element_in, elements_in, field_at, item_in, literal_in, reading_in, reference_in}
+use Rattle.fints_script_templates.specs.declared.template.TemplateItem.{TemplateItem}
+use Rattle.fints_script_templates.specs.declared.template.TemplateItem.TheVariants.{Literal, Dialog, Field}
 use Rattle.fints_script.specs.Plans.{is_account_field}
 use Rattle.fints_script.specs.Sound.{IsInRange, IsSingle, IsFrameElement, IsBodyElement}
 use Rattle.fints_script.proofs.ReadParts.{failed, not_empty_ok, passed, same_ok}

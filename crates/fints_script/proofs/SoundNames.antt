@@ -7,11 +7,11 @@ use Rattle.std.proofs.lemmas.List.Kept.{AllPairs-cons}
 use Rattle.std.proofs.lemmas.Option.{same_Some, slice_get-get_or, slice_get-map}
 use Rattle.std.proofs.lemmas.Slice.Eq.{bytes_eq-Decides}
 use Rattle.toml.specs.Data.{Data, string, table, get_member, as_str}
-use Rattle.fints_documents.specs.Entries.{holds_text, is_named, name_in}
-use Rattle.fints_field_rows.specs.FieldParts.{is_field}
-use Rattle.fints_field_rows.specs.Fields.{class_value, field_in, field_value}
-use Rattle.fints_field_rows.specs.declared.fault.Place.TheVariants as places
-use Rattle.fints_field_rows.specs.declared.fields.NamedField.{NamedField}
+use Rattle.fints_syntax_toml.specs.Entries.{holds_text, is_named, name_in}
+use Rattle.fints_script_rows.specs.FieldParts.{is_field}
+use Rattle.fints_script_rows.specs.Fields.{class_value, field_in, field_value}
+use Rattle.fints_script_rows.specs.declared.fault.Place.TheVariants as places
+use Rattle.fints_script_rows.specs.declared.fields.NamedField.{NamedField}
 use Rattle.fints_script.specs.Scripts.{IsDialogField, fields_from, steps_from}
 use Rattle.fints_script.specs.Sound.{FieldsAreApart, StepsAreApart}
 use Rattle.fints_script.specs.Steps.{StepValue, Surroundings, step_in}

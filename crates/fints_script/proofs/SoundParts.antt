@@ -7,30 +7,30 @@ use Rattle.std.proofs.lemmas.List.{get_or-map}
 use Rattle.std.proofs.lemmas.List.Elements.{All-head, All-tail}
 use Rattle.std.proofs.lemmas.Option.{slice_get-get_or}
 use Rattle.toml.specs.Data.{Data, table, Members}
-use Rattle.fints_documents.specs.Document.{only_keys}
-use Rattle.fints_documents.specs.Entries.{is_named}
-use Rattle.fints_fields.specs.Fields.{field_most_items}
-use Rattle.fints_fields.specs.declared.field.Field.{Field}
-use Rattle.fints_fields.specs.declared.field.Field.TheVariants as classes
-use Rattle.fints_field_rows.specs.NamedFields.{is_account, is_account_at}
-use Rattle.fints_field_rows.specs.PartLaws.{bind_ok, both_ok}
-use Rattle.fints_field_rows.specs.Parts.{both, required, seen}
-use Rattle.fints_field_rows.specs.RowNames.{row_name}
-use Rattle.fints_field_rows.specs.Rows.{part_at}
-use Rattle.fints_field_rows.specs.declared.fault.FaultKind.TheVariants as kinds
-use Rattle.fints_field_rows.specs.declared.fault.Place.TheVariants as places
-use Rattle.fints_field_rows.specs.declared.fields.NamedField.{NamedField}
-use Rattle.fints_templates.specs.Elements.{elements_in}
-use Rattle.fints_templates.specs.Figures.{figures_of}
-use Rattle.fints_templates.specs.Signers.{few_items, frame_at, frame_in, frames_in, signer_in, signer_keys, signer_of, table_signer}
-use Rattle.fints_templates.specs.Weights.{total, item_count, element_count, items_in, no_figures}
-use Rattle.fints_templates.specs.declared.template.Signer.{Signer}
-use Rattle.fints_templates.specs.declared.template.TemplateItem.{TemplateItem}
-use Rattle.fints_templates.specs.declared.template.TemplateItem.TheVariants as items
+use Rattle.fints_syntax_toml.specs.Document.{only_keys}
+use Rattle.fints_syntax_toml.specs.Entries.{is_named}
+use Rattle.fints_script_fields.specs.Fields.{field_most_items}
+use Rattle.fints_script_fields.specs.declared.field.Field.{Field}
+use Rattle.fints_script_fields.specs.declared.field.Field.TheVariants as classes
+use Rattle.fints_script_rows.specs.NamedFields.{is_account, is_account_at}
+use Rattle.fints_script_rows.specs.PartLaws.{bind_ok, both_ok}
+use Rattle.fints_script_rows.specs.Parts.{both, required, seen}
+use Rattle.fints_script_rows.specs.RowNames.{row_name}
+use Rattle.fints_script_rows.specs.Rows.{part_at}
+use Rattle.fints_script_rows.specs.declared.fault.FaultKind.TheVariants as kinds
+use Rattle.fints_script_rows.specs.declared.fault.Place.TheVariants as places
+use Rattle.fints_script_rows.specs.declared.fields.NamedField.{NamedField}
+use Rattle.fints_script_templates.specs.Elements.{elements_in}
+use Rattle.fints_script_templates.specs.Figures.{figures_of}
+use Rattle.fints_script_templates.specs.Signers.{few_items, frame_at, frame_in, frames_in, signer_in, signer_keys, signer_of, table_signer}
+use Rattle.fints_script_templates.specs.Weights.{total, item_count, element_count, items_in, no_figures}
+use Rattle.fints_script_templates.specs.declared.template.Signer.{Signer}
+use Rattle.fints_script_templates.specs.declared.template.TemplateItem.{TemplateItem}
+use Rattle.fints_script_templates.specs.declared.template.TemplateItem.TheVariants as items
 use Rattle.fints_script.specs.Scripts.{seal_from}
 use Rattle.fints_script.specs.Sound.{IsInRange, IsSingle, IsFrameElement, IsSoundFrame, IsSoundSigner}
 use Rattle.fints_script.proofs.ReadParts.{failed, not_past, passed, placed_ok, same_ok, seen_ok}
-use Rattle.fints_field_rows.specs.declared.limits.TheConstants.{MAX_TEMPLATE_ITEMS}
+use Rattle.fints_script_rows.specs.declared.limits.TheConstants.{MAX_TEMPLATE_ITEMS}
 use Rattle.fints_script.proofs.SoundElements.{IsBehindFirst, frame_elements}
 
 -- ---- items of lists without account fields

@@ -12,28 +12,28 @@ use Rattle.std.proofs.lemmas.List.Elements.{All-cons, All-nil}
 use Rattle.std.proofs.lemmas.List.Sums.{AllPass-from_list_all}
 use Rattle.toml.specs.Data.{Data, string, table, Members, get_member}
 use Rattle.fints_syntax.specs.Kind.{IsKindText, IsKindByte, kind_from, frame_kinds, is_frame_kind}
-use Rattle.fints_documents.specs.Document.{only_keys}
-use Rattle.fints_documents.specs.Entries.{is_named, name_in}
-use Rattle.fints_cases.specs.declared.answers.Branch.{Branch}
-use Rattle.fints_cases.specs.declared.answers.Target.TheVariants as targets
-use Rattle.fints_field_rows.specs.FieldParts.{row_named}
-use Rattle.fints_field_rows.specs.PartLaws.{bind_ok, both_ok, each_all, each_length, or_ok}
-use Rattle.fints_field_rows.specs.Parts.{◌>>=◌, at_most, both, each, entries_of, flag_in, integer_in, not_empty, required, seen}
-use Rattle.fints_field_rows.specs.RowNames.{row_name}
-use Rattle.fints_field_rows.specs.declared.fault.FaultKind.TheVariants as kinds
-use Rattle.fints_field_rows.specs.declared.fields.NamedField.{NamedField}
-use Rattle.fints_templates.specs.Elements.{elements_in}
-use Rattle.fints_templates.specs.Figures.{figures_of}
-use Rattle.fints_templates.specs.Segments.{body_in, body_kind, kind_at, kind_in, segment_in, segment_keys, table_segment, template_of, version_at}
-use Rattle.fints_templates.specs.Weights.{items_in}
-use Rattle.fints_templates.specs.declared.template.Signer.{Signer}
-use Rattle.fints_templates.specs.declared.template.Template.{Template}
+use Rattle.fints_syntax_toml.specs.Document.{only_keys}
+use Rattle.fints_syntax_toml.specs.Entries.{is_named, name_in}
+use Rattle.fints_script_cases.specs.declared.answers.Branch.{Branch}
+use Rattle.fints_script_cases.specs.declared.answers.Target.TheVariants as targets
+use Rattle.fints_script_rows.specs.FieldParts.{row_named}
+use Rattle.fints_script_rows.specs.PartLaws.{bind_ok, both_ok, each_all, each_length, or_ok}
+use Rattle.fints_script_rows.specs.Parts.{◌>>=◌, at_most, both, each, entries_of, flag_in, integer_in, not_empty, required, seen}
+use Rattle.fints_script_rows.specs.RowNames.{row_name}
+use Rattle.fints_script_rows.specs.declared.fault.FaultKind.TheVariants as kinds
+use Rattle.fints_script_rows.specs.declared.fields.NamedField.{NamedField}
+use Rattle.fints_script_templates.specs.Elements.{elements_in}
+use Rattle.fints_script_templates.specs.Figures.{figures_of}
+use Rattle.fints_script_templates.specs.Segments.{body_in, body_kind, kind_at, kind_in, segment_in, segment_keys, table_segment, template_of, version_at}
+use Rattle.fints_script_templates.specs.Weights.{items_in}
+use Rattle.fints_script_templates.specs.declared.template.Signer.{Signer}
+use Rattle.fints_script_templates.specs.declared.template.Template.{Template}
 use Rattle.fints_script.specs.Scripts.{ScriptValue, surroundings}
 use Rattle.fints_script.specs.Sound.{IsBodyElement, IsOnward, IsSoundStep, IsSoundTemplate, LeadsOnward}
 use Rattle.fints_script.specs.Steps.{Course, Sent, StepValue, Surroundings, branch_in, branches_at, branches_in, course_in, default_at, has_large_segment, is_taken_step, is_too_large, is_word, parts_in, place_of_signer, repeat_at, sealed_at, sealed_in, segments_at, segments_in, sent_in, signature_in, signatures_at, signatures_in, sized_step, step_in, step_keys, step_of, step_weight, table_step, target_in, with_seal}
 use Rattle.fints_script.proofs.ReadParts.{at_most_ok, failed, integer_ok, list_ok, not_empty_ok, not_past, optional_ok, passed, same_ok, seen_ok}
 use Rattle.fints_script.proofs.SoundElements.{IsBehindFirst, body_elements, place_within}
-use Rattle.fints_field_rows.specs.declared.limits.TheConstants.{MAX_TEMPLATE_ITEMS, MAX_WEIGHT}
+use Rattle.fints_script_rows.specs.declared.limits.TheConstants.{MAX_TEMPLATE_ITEMS, MAX_WEIGHT}
 use Rattle.fints_script.proofs.SoundTargets.{branch_onward, target_onward}
 
 -- ---- kinds

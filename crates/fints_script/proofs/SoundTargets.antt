@@ -4,14 +4,14 @@ use Rattle.std.specs.Prelude.{nat_le, position}
 use Rattle.std.specs.Str.{bytes_eq}
 use Rattle.std.proofs.lemmas.Bool.Decides.{nat_tests}
 use Rattle.toml.specs.Data.{Data, string, table, Members}
-use Rattle.fints_cases.specs.declared.answers.Branch.{Branch}
-use Rattle.fints_cases.specs.declared.answers.Target.{Target}
-use Rattle.fints_cases.specs.declared.answers.Target.TheVariants as targets
-use Rattle.fints_documents.specs.Document.{only_keys}
-use Rattle.fints_documents.specs.Entries.{is_named}
-use Rattle.fints_field_rows.specs.PartLaws.{bind_ok, both_ok, choice_ok}
-use Rattle.fints_field_rows.specs.Parts.{both, required, seen}
-use Rattle.fints_field_rows.specs.declared.fault.FaultKind.TheVariants as kinds
+use Rattle.fints_script_cases.specs.declared.answers.Branch.{Branch}
+use Rattle.fints_script_cases.specs.declared.answers.Target.{Target}
+use Rattle.fints_script_cases.specs.declared.answers.Target.TheVariants as targets
+use Rattle.fints_syntax_toml.specs.Document.{only_keys}
+use Rattle.fints_syntax_toml.specs.Entries.{is_named}
+use Rattle.fints_script_rows.specs.PartLaws.{bind_ok, both_ok, choice_ok}
+use Rattle.fints_script_rows.specs.Parts.{both, required, seen}
+use Rattle.fints_script_rows.specs.declared.fault.FaultKind.TheVariants as kinds
 use Rattle.fints_script.specs.Steps.{branch_in, branch_keys, branch_of, later_step, on_at, table_branch, target_at, target_in, target_named}
 use Rattle.fints_script.specs.Sound.{IsOnward}
 use Rattle.fints_script.proofs.ReadParts.{failed, passed, same_ok, seen_ok}

@@ -1,12 +1,12 @@
 -- A top with a fault.
 use Rattle.std.proofs.Common.{◌≡◌, ◌∙◌, List, codes, cond, true, Err, Result, ap, sym}
 use Rattle.toml.specs.Data.{Data, Members, get_member}
-use Rattle.fints_documents.specs.Document.{only_keys}
-use Rattle.fints_field_rows.specs.PartLaws.{seen_both}
-use Rattle.fints_field_rows.specs.Parts.{both, seen}
-use Rattle.fints_field_rows.specs.declared.fault.FaultKind.{FaultKind}
-use Rattle.fints_field_rows.specs.declared.fault.FaultKind.TheVariants as kinds
-use Rattle.fints_field_rows.specs.declared.limits.TheConstants.{MAX_FIELDS, MAX_SIGNERS}
+use Rattle.fints_syntax_toml.specs.Document.{only_keys}
+use Rattle.fints_script_rows.specs.PartLaws.{seen_both}
+use Rattle.fints_script_rows.specs.Parts.{both, seen}
+use Rattle.fints_script_rows.specs.declared.fault.FaultKind.{FaultKind}
+use Rattle.fints_script_rows.specs.declared.fault.FaultKind.TheVariants as kinds
+use Rattle.fints_script_rows.specs.declared.limits.TheConstants.{MAX_FIELDS, MAX_SIGNERS}
 use Rattle.fints_script.specs.Scripts.{rows_at, step_rows, top_in, top_keys, top_of}
 
 pub no_top : {V : Type 0} (see : V → List Data) (a b d : Result V FaultKind) (ms : Members) (kind : FaultKind) → only_keys top_keys ms ≡ true

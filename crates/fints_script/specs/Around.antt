@@ -3,15 +3,15 @@ use Rattle.std.specs.Prelude.{ℕ, Bool, List, map, option_map}
 use Rattle.std.specs.declared.alloc.Global.{Global}
 use Rattle.std.specs.Prelude.{Vec}
 use Rattle.toml.specs.View.{view}
-use Rattle.fints_cases.specs.declared.answers.Branch.{Branch}
-use Rattle.fints_cases.specs.declared.answers.Target.{Target}
+use Rattle.fints_script_cases.specs.declared.answers.Branch.{Branch}
+use Rattle.fints_script_cases.specs.declared.answers.Target.{Target}
 use Rattle.fints_script.specs.Scripts.{ScriptValue, Top as TopValue}
 use Rattle.fints_script.specs.Steps.{Course, Sent, Surroundings}
 use Rattle.fints_script.specs.declared.script.Body.{Body}
 use Rattle.fints_script.specs.declared.top.Top.{Top}
-use Rattle.fints_field_rows.specs.declared.fields.NamedField.{NamedField}
+use Rattle.fints_script_rows.specs.declared.fields.NamedField.{NamedField}
 use Rattle.fints_script.specs.declared.around.Around.{Around}
-use Rattle.fints_templates.specs.declared.template.Template.{Template}
+use Rattle.fints_script_templates.specs.declared.template.Template.{Template}
 
 abbrev pub surroundings_of : Around → Surroundings
 surroundings_of a = record { fields = a.fields.now; figures = a.figures.now; signers = a.signers.now; seal = option_map (λ s. s.now) a.seal; rows = map view a.rows.now }

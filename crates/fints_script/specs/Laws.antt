@@ -4,8 +4,8 @@ use Rattle.fints_rules_permissions.specs.declared.orders.OrderRow.{OrderRow}
 use Rattle.fints_script.specs.Numbered.{numbered}
 use Rattle.fints_script.specs.Plans.{IsClosed, IsClosedTemplate}
 use Rattle.fints_script.specs.Steps.{StepValue}
-use Rattle.fints_templates.specs.declared.template.Template.{Template}
-use Rattle.fints_field_rows.specs.declared.fault.ScriptFault.{ScriptFault}
+use Rattle.fints_script_templates.specs.declared.template.Template.{Template}
+use Rattle.fints_script_rows.specs.declared.fault.ScriptFault.{ScriptFault}
 use Rattle.fints_script.specs.Scripts.{Denotes, IsFirstOf, ScriptValue}
 
 -- a text denotes one script at most

@@ -6,19 +6,19 @@ use Rattle.fints_rules_permissions.specs.Orders.{form_of}
 use Rattle.fints_rules_permissions.specs.declared.orders.OrderRow.{OrderRow}
 use Rattle.fints_rules_permissions.specs.declared.orders.AccountForm.{AccountForm}
 use Rattle.fints_rules_permissions.specs.declared.orders.AccountForm.TheVariants as forms
-use Rattle.fints_fields.specs.Fields.{field_domain}
-use Rattle.fints_field_rows.specs.NamedFields.{is_account_at}
+use Rattle.fints_script_fields.specs.Fields.{field_domain}
+use Rattle.fints_script_rows.specs.NamedFields.{is_account_at}
 use Rattle.fints_script.specs.Scripts.{ScriptValue}
 use Rattle.fints_script.specs.Steps.{StepValue}
-use Rattle.fints_field_rows.specs.declared.fields.NamedField.{NamedField}
+use Rattle.fints_script_rows.specs.declared.fields.NamedField.{NamedField}
 use Rattle.fints_script.specs.declared.opens.Open.{Open}
 use Rattle.fints_script.specs.declared.opens.Open.TheVariants as opens
 use Rattle.fints_script.specs.declared.opens.PlanFault.{PlanFault}
 use Rattle.fints_script.specs.declared.opens.PlanFault.TheVariants as faults
-use Rattle.fints_templates.specs.declared.template.TemplateItem.{TemplateItem}
-use Rattle.fints_templates.specs.declared.template.TemplateItem.TheVariants as items
-use Rattle.fints_templates.specs.declared.template.Template.{Template}
-use Rattle.fints_cases.specs.declared.values.NamedValue.{NamedValue}
+use Rattle.fints_script_templates.specs.declared.template.TemplateItem.{TemplateItem}
+use Rattle.fints_script_templates.specs.declared.template.TemplateItem.TheVariants as items
+use Rattle.fints_script_templates.specs.declared.template.Template.{Template}
+use Rattle.fints_script_cases.specs.declared.values.NamedValue.{NamedValue}
 
 -- what a contract sees of a plan: the script and the rows of the order table
 pub record PlanValue : Type 0 where

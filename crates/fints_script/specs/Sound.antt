@@ -1,22 +1,22 @@
 -- What holds of every script that was read.
 use Rattle.std.specs.Prelude.{◌≡◌, ◌≢◌, ℕ, ◌+◌, ◌<◌, ◌≤◌, ◌⊎◌, false, IsTrue, List, length, map, slice_get, Some, All, AllPairs, [], IfSome, IsSome}
 use Rattle.fints_syntax.specs.Kind.{IsKindText, frame_kinds}
-use Rattle.fints_templates.specs.Figures.{figures_of}
-use Rattle.fints_field_rows.specs.NamedFields.{is_account_at}
+use Rattle.fints_script_templates.specs.Figures.{figures_of}
+use Rattle.fints_script_rows.specs.NamedFields.{is_account_at}
 use Rattle.fints_script.specs.Numbered.{numbered}
 use Rattle.fints_script.specs.Plans.{is_account_field}
 use Rattle.fints_script.specs.Scripts.{ScriptValue, IsDialogField}
 use Rattle.fints_script.specs.Steps.{StepValue, Surroundings, step_weight}
-use Rattle.fints_templates.specs.Weights.{items_in}
-use Rattle.fints_cases.specs.declared.answers.Branch.{Branch}
-use Rattle.fints_cases.specs.declared.answers.Target.{Target}
-use Rattle.fints_cases.specs.declared.answers.Target.TheVariants as targets
-use Rattle.fints_field_rows.specs.declared.fields.NamedField.{NamedField}
-use Rattle.fints_templates.specs.declared.template.TemplateItem.{TemplateItem}
-use Rattle.fints_templates.specs.declared.template.TemplateItem.TheVariants.{Literal, Dialog, Field}
-use Rattle.fints_templates.specs.declared.template.Template.{Template}
-use Rattle.fints_field_rows.specs.declared.limits.TheConstants.{MAX_BRANCHES, MAX_FIELDS, MAX_REPEAT, MAX_SEGMENTS, MAX_SIGNATURES, MAX_SIGNERS, MAX_STEPS, MAX_TEMPLATE_ITEMS, MAX_WEIGHT}
-use Rattle.fints_templates.specs.declared.template.Signer.{Signer}
+use Rattle.fints_script_templates.specs.Weights.{items_in}
+use Rattle.fints_script_cases.specs.declared.answers.Branch.{Branch}
+use Rattle.fints_script_cases.specs.declared.answers.Target.{Target}
+use Rattle.fints_script_cases.specs.declared.answers.Target.TheVariants as targets
+use Rattle.fints_script_rows.specs.declared.fields.NamedField.{NamedField}
+use Rattle.fints_script_templates.specs.declared.template.TemplateItem.{TemplateItem}
+use Rattle.fints_script_templates.specs.declared.template.TemplateItem.TheVariants.{Literal, Dialog, Field}
+use Rattle.fints_script_templates.specs.declared.template.Template.{Template}
+use Rattle.fints_script_rows.specs.declared.limits.TheConstants.{MAX_BRANCHES, MAX_FIELDS, MAX_REPEAT, MAX_SEGMENTS, MAX_SIGNATURES, MAX_SIGNERS, MAX_STEPS, MAX_TEMPLATE_ITEMS, MAX_WEIGHT}
+use Rattle.fints_script_templates.specs.declared.template.Signer.{Signer}
 
 -- a field of the script; the built-in one at 0 stands as the dialogue id alone
 abbrev pub IsInRange : List NamedField → TemplateItem → Type 0

@@ -1,26 +1,26 @@
 -- What a step's row is: a step, or the first kind of fault in it.
-use Rattle.fints_field_rows.specs.declared.limits.TheConstants.{MAX_BRANCHES, MAX_REPEAT, MAX_SEGMENTS, MAX_SIGNATURES, MAX_TEMPLATE_ITEMS, MAX_WEIGHT}
+use Rattle.fints_script_rows.specs.declared.limits.TheConstants.{MAX_BRANCHES, MAX_REPEAT, MAX_SEGMENTS, MAX_SIGNATURES, MAX_TEMPLATE_ITEMS, MAX_WEIGHT}
 use Rattle.std.specs.Prelude.{codes, ℕ, ◌+◌, nat_le, nat_lt, Bool, true, false, ◌&&◌, ◌||◌, not, if◌then◌else◌, List, [], ◌∷◌, position, slice_get, take, Option, Some, None, is_some, Ok, Err, ok_or}
 use Rattle.std.specs.List.{list_any}
 use Rattle.std.specs.Option.{option_map_or}
 use Rattle.std.specs.Str.{bytes_eq}
 use Rattle.toml.specs.Data.{Data, string, table, Members, get_member}
-use Rattle.fints_documents.specs.Document.{only_keys}
-use Rattle.fints_documents.specs.Entries.{is_named}
-use Rattle.fints_cases.specs.Patterns.{pattern_in}
-use Rattle.fints_field_rows.specs.Parts.{Part, ◌>>=◌, at_most, both, each, entries_of, flag_in, integer_in, not_empty, optional, required, seen}
-use Rattle.fints_field_rows.specs.RowNames.{row_name}
-use Rattle.fints_templates.specs.Segments.{segment_in}
-use Rattle.fints_templates.specs.Weights.{total, segment_weight, signer_weight, items_in}
-use Rattle.fints_field_rows.specs.declared.fault.FaultKind.TheVariants as kinds
-use Rattle.fints_field_rows.specs.declared.fields.NamedField.{NamedField}
-use Rattle.fints_cases.specs.declared.answers.Branch.{Branch}
-use Rattle.fints_cases.specs.declared.answers.Target.{Target}
-use Rattle.fints_cases.specs.declared.answers.Target.TheVariants as targets
-use Rattle.fints_templates.specs.declared.template.TemplateItem.{TemplateItem}
-use Rattle.fints_templates.specs.declared.template.Template.{Template}
-use Rattle.fints_templates.specs.declared.template.Signer.{Signer}
-use Rattle.fints_templates.specs.declared.weights.Figures.{Figures}
+use Rattle.fints_syntax_toml.specs.Document.{only_keys}
+use Rattle.fints_syntax_toml.specs.Entries.{is_named}
+use Rattle.fints_script_cases.specs.Patterns.{pattern_in}
+use Rattle.fints_script_rows.specs.Parts.{Part, ◌>>=◌, at_most, both, each, entries_of, flag_in, integer_in, not_empty, optional, required, seen}
+use Rattle.fints_script_rows.specs.RowNames.{row_name}
+use Rattle.fints_script_templates.specs.Segments.{segment_in}
+use Rattle.fints_script_templates.specs.Weights.{total, segment_weight, signer_weight, items_in}
+use Rattle.fints_script_rows.specs.declared.fault.FaultKind.TheVariants as kinds
+use Rattle.fints_script_rows.specs.declared.fields.NamedField.{NamedField}
+use Rattle.fints_script_cases.specs.declared.answers.Branch.{Branch}
+use Rattle.fints_script_cases.specs.declared.answers.Target.{Target}
+use Rattle.fints_script_cases.specs.declared.answers.Target.TheVariants as targets
+use Rattle.fints_script_templates.specs.declared.template.TemplateItem.{TemplateItem}
+use Rattle.fints_script_templates.specs.declared.template.Template.{Template}
+use Rattle.fints_script_templates.specs.declared.template.Signer.{Signer}
+use Rattle.fints_script_templates.specs.declared.weights.Figures.{Figures}
 
 -- what a contract sees of a step; signers count from 0 among those of the script
 pub record StepValue : Type 0 where

@@ -1,7 +1,7 @@
 //! What a step rests on.
-use fints_field_rows::{Fields, NamedRows};
-use fints_templates::weights::Figures;
-use fints_templates::{Signer, TemplateElements};
+use fints_script_rows::{Fields, NamedRows};
+use fints_script_templates::weights::Figures;
+use fints_script_templates::{Signer, TemplateElements};
 
 /// What a step rests on: the fields of the script with their figures, its signers, its seal if any,
 /// and all rows of `step`.

@@ -1,14 +1,14 @@
 //! Branches of steps, and where they lead.
 ghost use Rattle.std.specs.Prelude.{◌≡◌, ◌<◌, length, map};
 ghost use Rattle.toml.specs.View.{view, table_view};
-ghost use Rattle.fints_field_rows.specs.Parts.{Gives, each};
+ghost use Rattle.fints_script_rows.specs.Parts.{Gives, each};
 ghost use Rattle.fints_script.specs.Steps.{branch_in, branches_in, is_word, on_at, on_in, table_branch, target_at, target_in, target_named};
 
-use fints_cases::{Branch, Pattern, Target};
-use fints_documents::document;
-use fints_field_rows::limits::MAX_BRANCHES;
-use fints_field_rows::parts::{at_most, both, entries_of, more, required};
-use fints_field_rows::{FaultKind, NamedRows};
+use fints_script_cases::{Branch, Pattern, Target};
+use fints_script_rows::limits::MAX_BRANCHES;
+use fints_script_rows::parts::{at_most, both, entries_of, more, required};
+use fints_script_rows::{FaultKind, NamedRows};
+use fints_syntax_toml::document;
 use std::alloc::Global;
 use toml::{Table, Value};
 

@@ -1,13 +1,13 @@
 //! The fields of a script, read row by row.
 ghost use Rattle.std.specs.Prelude.{◌≡◌, ◌≤◌, ◌⊎◌, length, map, Err, IfErr, IfOk};
 ghost use Rattle.toml.specs.View.{view};
-ghost use Rattle.fints_field_rows.specs.Rows.{no_memory};
+ghost use Rattle.fints_script_rows.specs.Rows.{no_memory};
 ghost use Rattle.fints_script.specs.Scripts.{DenoteFields, IsDialogField, fields_from};
 
-use fints_field_rows::limits::MAX_FIELDS;
-use fints_field_rows::names::dialog;
-use fints_field_rows::{Fields, NamedField, Place, ScriptFault, field_in, placed};
-use fints_fields::{Alphabet, Field, Text};
+use fints_script_fields::{Alphabet, Field, Text};
+use fints_script_rows::limits::MAX_FIELDS;
+use fints_script_rows::names::dialog;
+use fints_script_rows::{Fields, NamedField, Place, ScriptFault, field_in, placed};
 use std::alloc::Global;
 use toml::Value;
 

@@ -2,12 +2,12 @@
 ghost use Rattle.std.specs.Prelude.{◌≡◌, ◌<◌, ◌^◌, length, slice_get, IfSome, IfNone};
 ghost use Rattle.std.specs.List.{list_all};
 ghost use Rattle.fints_script.specs.Plans.{is_literal, is_account_field, element_two, names_account, is_open_account, is_open_process, open_of, AreClosed, IsFirstOpen, open_fault, StepsAreClosed, IsFirstOpenStep};
-ghost use Rattle.fints_field_rows.specs.NamedFields.{is_account_at};
+ghost use Rattle.fints_script_rows.specs.NamedFields.{is_account_at};
 
 use crate::steps::Step;
-use fints_field_rows::{NamedField, is_account};
 use fints_rules::{AccountForm, OrderTable};
-use fints_templates::{Template, TemplateItem};
+use fints_script_rows::{NamedField, is_account};
+use fints_script_templates::{Template, TemplateItem};
 use thiserror::Error;
 
 /// What a segment leaves open.

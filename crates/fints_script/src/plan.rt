@@ -8,11 +8,11 @@ ghost use Rattle.fints_script.specs.Sound.{IsSound, IsSoundStep};
 use crate::opens::{PlanFault, first_fault};
 use crate::script::Script;
 use crate::steps::Step;
-use fints_cases::{NamedValue, Values};
-use fints_field_rows::NamedField;
-use fints_fields::FieldClass;
 use fints_rules::OrderTable;
-use fints_templates::{Signer, TemplateElements};
+use fints_script_cases::{NamedValue, Values};
+use fints_script_fields::FieldClass;
+use fints_script_rows::NamedField;
+use fints_script_templates::{Signer, TemplateElements};
 use std::marker::Model;
 
 /// A script with an order table: every order that names an account has a literal one or one from a

@@ -1,17 +1,17 @@
 //! The signers and the steps of a script, read row by row.
 ghost use Rattle.std.specs.Prelude.{◌≤◌, length, map};
 ghost use Rattle.toml.specs.View.{view};
-ghost use Rattle.fints_field_rows.specs.Rows.{Finds};
+ghost use Rattle.fints_script_rows.specs.Rows.{Finds};
 ghost use Rattle.fints_script.specs.Around.{surroundings_of};
 ghost use Rattle.fints_script.specs.Scripts.{signers_from, steps_from};
 
 use crate::around::Around;
 use crate::step_reading::step_in;
 use crate::steps::Step;
-use fints_field_rows::limits::{MAX_SIGNERS, MAX_STEPS};
-use fints_field_rows::{Fields, Place, ScriptFault, placed};
-use fints_templates::Signer;
-use fints_templates::signers::signer_in;
+use fints_script_rows::limits::{MAX_SIGNERS, MAX_STEPS};
+use fints_script_rows::{Fields, Place, ScriptFault, placed};
+use fints_script_templates::Signer;
+use fints_script_templates::signers::signer_in;
 use std::alloc::Global;
 use toml::Value;
 

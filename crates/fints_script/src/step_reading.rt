@@ -2,27 +2,27 @@
 ghost use Rattle.std.specs.Prelude.{◌≡◌, ◌<◌, length, map};
 ghost use Rattle.std.specs.Str.{bytes_eq};
 ghost use Rattle.toml.specs.View.{view, table_view};
-ghost use Rattle.fints_documents.specs.Document.{only_keys};
-ghost use Rattle.fints_field_rows.specs.Parts.{Gives, each};
-ghost use Rattle.fints_field_rows.specs.RowNames.{row_name};
-ghost use Rattle.fints_templates.specs.Segments.{segment_in};
+ghost use Rattle.fints_syntax_toml.specs.Document.{only_keys};
+ghost use Rattle.fints_script_rows.specs.Parts.{Gives, each};
+ghost use Rattle.fints_script_rows.specs.RowNames.{row_name};
+ghost use Rattle.fints_script_templates.specs.Segments.{segment_in};
 ghost use Rattle.fints_script.specs.Steps.{branches_at, course_in, default_at, is_taken_step, parts_in, place_of_signer, repeat_at, sealed_at, sealed_in, segments_at, segments_in, sent_in, signature_in, signatures_at, signatures_in, step_in, step_keys, table_step, with_seal};
 ghost use Rattle.fints_script.specs.Around.{seen_course, seen_parts, seen_sent, surroundings_of};
 
 use crate::around::Around;
 use crate::branches::{branches_in, is_word, target_in};
 use crate::steps::{Course, Sent, Step, sized_step, whole_step};
-use fints_cases::{Branch, Target};
-use fints_documents::document::{member, only_keys};
-use fints_field_rows::limits::{MAX_REPEAT, MAX_SEGMENTS, MAX_SIGNATURES};
-use fints_field_rows::names::{name_text, new_name};
-use fints_field_rows::parts::{
+use fints_script_cases::{Branch, Target};
+use fints_script_fields::Name;
+use fints_script_rows::limits::{MAX_REPEAT, MAX_SEGMENTS, MAX_SIGNATURES};
+use fints_script_rows::names::{name_text, new_name};
+use fints_script_rows::parts::{
     at_most, both, entries_of, flag_in, integer_in, more, not_empty, required,
 };
-use fints_field_rows::{FaultKind, Fields, NamedRows};
-use fints_fields::Name;
-use fints_templates::segments::segment_in;
-use fints_templates::{Signer, Template};
+use fints_script_rows::{FaultKind, Fields, NamedRows};
+use fints_script_templates::segments::segment_in;
+use fints_script_templates::{Signer, Template};
+use fints_syntax_toml::document::{member, only_keys};
 use std::alloc::Global;
 use toml::{Table, Value};
 

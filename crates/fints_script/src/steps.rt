@@ -1,20 +1,22 @@
 //! Steps and their size.
 ghost use Rattle.std.specs.Prelude.{◌≡◌, ◌≤◌, ◌+◌, ◌↔◌, length, option_map, IfOk, IfSome, IsSome, IsTrue};
-ghost use Rattle.fints_cases.specs.Answers.{leads, target_of, IsOpen, IsLeastOpener};
-ghost use Rattle.fints_cases.specs.Carrying.{Carries, IsCarrying};
-ghost use Rattle.fints_templates.specs.Weights.{Spends, total, segment_weight};
+ghost use Rattle.fints_script_cases.specs.Answers.{leads, target_of, IsOpen, IsLeastOpener};
+ghost use Rattle.fints_script_cases.specs.Carrying.{Carries, IsCarrying};
+ghost use Rattle.fints_script_templates.specs.Weights.{Spends, total, segment_weight};
 ghost use Rattle.fints_script.specs.Steps.{seal_weight, signature_weight, sized_step, step_of, step_weight, has_large_segment, is_too_large};
 ghost use Rattle.fints_script.specs.Around.{seen_parts, surroundings_of};
 
 use crate::around::Around;
-use fints_cases::{Answer, Branch, Target, carries, carrying, choose, opener, passes, target_of};
-use fints_field_rows::FaultKind;
-use fints_field_rows::limits::MAX_WEIGHT;
-use fints_fields::Name;
 use fints_params::Code;
+use fints_script_cases::{
+    Answer, Branch, Target, carries, carrying, choose, opener, passes, target_of,
+};
+use fints_script_fields::Name;
+use fints_script_rows::FaultKind;
+use fints_script_rows::limits::MAX_WEIGHT;
+use fints_script_templates::weights::{Figures, has_too_many_items, spend_segment, spend_signer};
+use fints_script_templates::{Signer, Template, TemplateElements};
 use fints_syntax::Memory;
-use fints_templates::weights::{Figures, has_too_many_items, spend_segment, spend_signer};
-use fints_templates::{Signer, Template, TemplateElements};
 use std::alloc::Global;
 use std::marker::Model;
 

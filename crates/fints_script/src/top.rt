@@ -1,14 +1,14 @@
 //! The top of a script's table: its rows, and its seal's value.
 ghost use Rattle.std.specs.Prelude.{◌≡◌, map};
 ghost use Rattle.toml.specs.View.{view, table_view};
-ghost use Rattle.fints_field_rows.specs.Parts.{at_most, seen};
+ghost use Rattle.fints_script_rows.specs.Parts.{at_most, seen};
 ghost use Rattle.fints_script.specs.Around.{seen_top};
 ghost use Rattle.fints_script.specs.Scripts.{rows_at, step_rows, top_in};
 
-use fints_documents::document::{member, only_keys};
-use fints_field_rows::FaultKind;
-use fints_field_rows::limits::{MAX_FIELDS, MAX_SIGNERS, MAX_STEPS};
-use fints_field_rows::parts::{both, entries_of, not_empty, required};
+use fints_script_rows::FaultKind;
+use fints_script_rows::limits::{MAX_FIELDS, MAX_SIGNERS, MAX_STEPS};
+use fints_script_rows::parts::{both, entries_of, not_empty, required};
+use fints_syntax_toml::document::{member, only_keys};
 use toml::{Table, Value};
 
 /// The rows of a script, and its seal's value if it has one.

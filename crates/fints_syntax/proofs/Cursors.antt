@@ -1,14 +1,14 @@
 -- A cursor over the items of a segment.
 use Rattle.std.proofs.Common.{◌≡◌, ℕ, zero, suc, ◌+◌, ◌<◌, List, [], ◌∷◌, length, take, drop, refl, ap, ◌∙◌, sym, subst, arith, append_assoc}
 use Rattle.std.proofs.lemmas.List.{append-nil}
-use Rattle.fints_segments.specs.Segment.{Token, tokens_bytes, segment_tokens}
+use Rattle.fints_syntax_segments.specs.Segment.{Token, tokens_bytes, segment_tokens}
 use Rattle.fints_syntax.specs.Reader.{tokens_in, segment_in}
 use Rattle.fints_syntax.specs.Faults.{BeginsWithItem}
 use Rattle.fints_syntax.specs.Window.{IsFrameText}
 use Rattle.fints_syntax.specs.Scan.{IsWhole}
 use Rattle.fints_syntax.specs.Items.{IsSpelledText}
 use Rattle.fints_syntax.specs.Cursor.{IsRun}
-use Rattle.fints_segments.specs.Spelling.{spelled_bytes}
+use Rattle.fints_syntax_segments.specs.Spelling.{spelled_bytes}
 use Rattle.fints_syntax.specs.Reader.{item_in}
 use Rattle.fints_syntax.proofs.Tokens.{IsClosed, closed-segment, tokens_in-closed, tokens-short}
 use Rattle.fints_syntax.proofs.Windows.{token_closed}

@@ -5,7 +5,7 @@ use Rattle.std.specs.List.{AllByRecursion, flat_map}
 use Rattle.std.proofs.lemmas.List.{append-nil, length-append, take_all}
 use Rattle.std.proofs.lemmas.List.Concat.{flat_map-append}
 use Rattle.std.proofs.Math.Seq.{take-append-add}
-use Rattle.fints_segments.specs.Spelling.{Spelled}
+use Rattle.fints_syntax_segments.specs.Spelling.{Spelled}
 use Rattle.fints_syntax.specs.Faults.{KindAt}
 use Rattle.fints_syntax.specs.Capture.{IsBreak, Piece, piece_bytes, IsPiece, placed_from, ReadsPlaced, FaultsAt, CaptureFaultAt, IsCaptureFault, IsCapture}
 use Rattle.fints_syntax.specs.Streams.{IsBegun, IsRest, IsSplit, moved_by, whole_len, PieceFaultAt, IsStreamFault, IsStop}

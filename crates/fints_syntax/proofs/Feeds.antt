@@ -10,7 +10,7 @@ use Rattle.fints_syntax.specs.Streams.{IsBegun, IsMemory, IsReadTo, PieceFaultAt
 use Rattle.fints_syntax.specs.declared.capture.Placed.{Placed}
 use Rattle.fints_syntax.specs.declared.fault.SyntaxFault.{SyntaxFault}
 use Rattle.fints_syntax.specs.declared.fault.SyntaxKind.TheVariants.{Incomplete}
-use Rattle.fints_segments.specs.declared.item.OwnedSegment.{OwnedSegment}
+use Rattle.fints_syntax_segments.specs.declared.item.OwnedSegment.{OwnedSegment}
 use Rattle.fints_syntax.specs.declared.stream.Begun.{Begun}
 use Rattle.fints_syntax.specs.declared.stream.ReadTo.{ReadTo}
 use Rattle.fints_syntax.specs.declared.capture.TheConstants.{MAX_CAPTURE}

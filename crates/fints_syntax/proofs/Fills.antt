@@ -2,14 +2,14 @@
 use Rattle.std.proofs.Common.{◌≡◌, ◌≢◌, ℕ, ◌<◌, false, eqb, List, [], ◌∷◌, ◌++◌, length, drop, refl, ap, ◌∙◌, sym, subst, arith, ◌⊎◌, inl, inr, append_assoc}
 use Rattle.std.specs.List.{AllByRecursion}
 use Rattle.std.proofs.lemmas.List.{append-nil}
-use Rattle.fints_segments.specs.Spelling.{Spelled, item_of, IsSpelled}
-use Rattle.fints_segments.specs.Segment.{Token, element_tokens, segment_tokens, values_of}
+use Rattle.fints_syntax_segments.specs.Spelling.{Spelled, item_of, IsSpelled}
+use Rattle.fints_syntax_segments.specs.Segment.{Token, element_tokens, segment_tokens, values_of}
 use Rattle.fints_syntax.specs.Reader.{segment_in, elements_in}
 use Rattle.fints_syntax.specs.Owned.{owned_item_of}
 use Rattle.fints_syntax.specs.Window.{IsFrameText}
 use Rattle.fints_syntax.specs.Cursor.{IsTaken, after_element}
 use Rattle.fints_syntax.specs.declared.cursor.Found.{Found}
-use Rattle.fints_segments.specs.declared.item.OwnedItem.{OwnedItem}
+use Rattle.fints_syntax_segments.specs.declared.item.OwnedItem.{OwnedItem}
 use Rattle.fints_syntax.proofs.Tokens.{IsClosed, closed-segment, elements_in-tokens}
 use Rattle.fints_syntax.proofs.TakenItems.{owned_is, alone, with_items, none_read, first_read, element_read, colon_in, other_in, closed_colon, closed_other, none_of}
 

@@ -3,9 +3,9 @@ use Rattle.std.proofs.Common.{◌≡◌, ◌≢◌, ℕ, ◌<◌, true, false, e
 use Rattle.std.specs.List.{AllByRecursion}
 use Rattle.std.proofs.lemmas.Bool.{ne_eqb, eq-eqb}
 use Rattle.std.proofs.lemmas.List.{append-nil}
-use Rattle.fints_segments.specs.Spelling.{Spelled, item_of}
-use Rattle.fints_segments.specs.Head.{head_from}
-use Rattle.fints_segments.specs.Segment.{Token, element_tokens, segment_tokens, values_of, head_of, item_value}
+use Rattle.fints_syntax_segments.specs.Spelling.{Spelled, item_of}
+use Rattle.fints_syntax_segments.specs.Head.{head_from}
+use Rattle.fints_syntax_segments.specs.Segment.{Token, element_tokens, segment_tokens, values_of, head_of, item_value}
 use Rattle.fints_syntax.specs.Reader.{segment_in}
 use Rattle.fints_syntax.specs.Window.{IsFrameText}
 use Rattle.fints_syntax.specs.ItemIs.{value_of_item}

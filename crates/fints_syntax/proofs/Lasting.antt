@@ -4,15 +4,15 @@ use Rattle.std.specs.List.{flat_map}
 use Rattle.std.specs.Str.Parse.{AllDigits, digits_value}
 use Rattle.std.proofs.lemmas.Bool.Decides.{nat_tests}
 use Rattle.std.proofs.lemmas.List.{append-nil, length-append, drop-append-le, take-append-le}
-use Rattle.fints_segments.specs.Spelling.{Spelled, escaped, plain, text, binary, IsLength, is_separator}
-use Rattle.fints_segments.specs.Segment.{segment_bytes, tokens_bytes}
+use Rattle.fints_syntax_segments.specs.Spelling.{Spelled, escaped, plain, text, binary, IsLength, is_separator}
+use Rattle.fints_syntax_segments.specs.Segment.{segment_bytes, tokens_bytes}
 use Rattle.fints_syntax.specs.Faults.{BeginsWithItem, IsCutBinary, IsBadBinary, Opens, IsBadAt, HasTooManyItems, IsUnfinished, BeginsFramed, BeginsWithSegment, KindAt, window_of}
 use Rattle.fints_syntax.specs.Capture.{piece_bytes, FaultsAt}
 use Rattle.fints_syntax.specs.Streams.{IsSplit, PieceFaultAt}
 use Rattle.fints_syntax.specs.declared.fault.SyntaxKind.{SyntaxKind}
 use Rattle.fints_syntax.specs.declared.fault.SyntaxKind.TheVariants.{Memory, BadBinary, TooLong, Incomplete, BadHead, CaptureTooLong, Failed}
 use Rattle.fints_syntax.proofs.Tokens.{one_segment}
-use Rattle.fints_segments.specs.declared.limits.TheConstants.{MAX_BYTES, MAX_ITEMS}
+use Rattle.fints_syntax_segments.specs.declared.limits.TheConstants.{MAX_BYTES, MAX_ITEMS}
 use Rattle.fints_syntax.proofs.Windows.{same_after, window_behind}
 
 -- of two ways to part a list, one parts it further on

@@ -3,7 +3,7 @@ use Rattle.fints_syntax.specs.Laws.{OneSegmentText, SegmentIsRead, WrittenIsSpel
 use Rattle.fints_syntax.specs.FeedingLaws.{AnyCutting, FaultIsOfStream, EndedIsCapture}
 use Rattle.fints_syntax.proofs.Tokens.{one_segment}
 use Rattle.fints_syntax.proofs.Parsed.{segment_read, written_read, written_only}
-use Rattle.fints_segments.specs.Written.{segment_values}
+use Rattle.fints_syntax_segments.specs.Written.{segment_values}
 use Rattle.fints_syntax.proofs.WrittenLaws.{values_of-written}
 use Rattle.fints_syntax.proofs.HeadLaws.{written_head, written_spelled}
 use Rattle.fints_syntax.proofs.Readings.{read_back, one_reading as one_reading_of}

@@ -6,11 +6,11 @@ use Rattle.std.specs.List.{AllByRecursion, flat_map}
 use Rattle.std.proofs.lemmas.Bool.{and_parts}
 use Rattle.std.proofs.lemmas.Bool.Decides.{nat_tests}
 use Rattle.std.proofs.lemmas.List.{take_all, append-nil, append_cancel_left}
-use Rattle.fints_segments.specs.Spelling.{Spelled, text, binary, escaped, plain, spelled_bytes, text_value}
-use Rattle.fints_segments.specs.Segment.{tokens_bytes, element_tokens, segment_tokens, segment_bytes, item_value, element_head, IsSegment}
-use Rattle.fints_segments.specs.Spelling.{item_of}
-use Rattle.fints_kinds.specs.Kind.{kind_from}
-use Rattle.fints_segments.specs.Head.{head_with}
+use Rattle.fints_syntax_segments.specs.Spelling.{Spelled, text, binary, escaped, plain, spelled_bytes, text_value}
+use Rattle.fints_syntax_segments.specs.Segment.{tokens_bytes, element_tokens, segment_tokens, segment_bytes, item_value, element_head, IsSegment}
+use Rattle.fints_syntax_segments.specs.Spelling.{item_of}
+use Rattle.fints_syntax_kinds.specs.Kind.{kind_from}
+use Rattle.fints_syntax_segments.specs.Head.{head_with}
 use Rattle.fints_syntax.specs.Faults.{KindAt, BeginsWithSegment, window_of}
 use Rattle.fints_syntax.specs.Capture.{IsBreak, IsClean, Piece, piece_bytes, IsPiece, IsCapture, FaultsAt, IsCaptureFault, CaptureFaultAt}
 use Rattle.fints_syntax.specs.declared.fault.SyntaxFault.{SyntaxFault}

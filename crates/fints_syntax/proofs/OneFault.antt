@@ -3,8 +3,8 @@ use Rattle.std.proofs.Common.{◌≡◌, ◌≢◌, ◌⊎◌, ℕ, ◌+◌, ◌
 use Rattle.std.specs.List.{AllByRecursion, flat_map}
 use Rattle.std.proofs.lemmas.Bool.{cases_lt}
 use Rattle.std.proofs.lemmas.List.{append-nil, length-append, length-drop, take_all}
-use Rattle.fints_segments.specs.Spelling.{Spelled}
-use Rattle.fints_segments.specs.Segment.{Token, tokens_bytes, segment_tokens, segment_bytes, IsSegment}
+use Rattle.fints_syntax_segments.specs.Spelling.{Spelled}
+use Rattle.fints_syntax_segments.specs.Segment.{Token, tokens_bytes, segment_tokens, segment_bytes, IsSegment}
 use Rattle.fints_syntax.specs.Faults.{BeginsWithItem, IsOpen, IsBadAt, HasTooManyItems, BeginsFramed, BeginsWithSegment, KindAt, IsFault, window_of}
 use Rattle.fints_syntax.specs.Capture.{IsBreak, Piece, piece_bytes, IsPiece, placed_from, IsCapture, IsPlacedCapture, FaultsAt, CaptureFaultAt, IsCaptureFault}
 use Rattle.fints_syntax.specs.declared.capture.Placed.{Placed}

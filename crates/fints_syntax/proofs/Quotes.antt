@@ -4,8 +4,8 @@ use Rattle.std.specs.List.{AllByRecursion, count_by, flat_map}
 use Rattle.std.proofs.lemmas.Bool.{cases_lt}
 use Rattle.std.proofs.lemmas.List.{append-nil, length-append}
 use Rattle.std.proofs.lemmas.List.Sums.{sum_by-append}
-use Rattle.fints_segments.specs.Spelling.{spelled_bytes}
-use Rattle.fints_segments.specs.Segment.{Token, token_bytes, tokens_bytes, segment_tokens, segment_bytes}
+use Rattle.fints_syntax_segments.specs.Spelling.{spelled_bytes}
+use Rattle.fints_syntax_segments.specs.Segment.{Token, token_bytes, tokens_bytes, segment_tokens, segment_bytes}
 use Rattle.fints_syntax.specs.Capture.{Piece, piece_bytes, IsPiece, placed_from}
 use Rattle.fints_syntax.specs.Streams.{is_quote, IsRest, IsSplit}
 use Rattle.fints_syntax.specs.declared.capture.Placed.{Placed}

@@ -2,13 +2,13 @@
 use Rattle.std.proofs.Common.{◌≡◌, ℕ, ◌+◌, ◌<◌, List, [], ◌∷◌, ◌++◌, length, get_or, take, drop, refl, ap, ◌∙◌, sym, subst, arith, length-append, Option, Some, unwrap_or}
 use Rattle.std.specs.Prelude.{◌↔◌}
 use Rattle.std.proofs.lemmas.List.{take_at, take-append-drop, length-take-le, map-append, take_more}
-use Rattle.fints_segments.specs.Spelling.{Spelled}
-use Rattle.fints_segments.specs.Segment.{segment_bytes, values_of, head_of}
+use Rattle.fints_syntax_segments.specs.Spelling.{Spelled}
+use Rattle.fints_syntax_segments.specs.Segment.{segment_bytes, values_of, head_of}
 use Rattle.fints_syntax.specs.Owned.{no_head, segment_of, segments_of}
-use Rattle.fints_segments.specs.Written.{segment_values, written_tree, written_segment, IsWritable}
+use Rattle.fints_syntax_segments.specs.Written.{segment_values, written_tree, written_segment, IsWritable}
 use Rattle.fints_syntax.specs.Laws.{BeginsWithText}
-use Rattle.fints_segments.specs.declared.item.OwnedSegment.{OwnedSegment}
-use Rattle.fints_segments.specs.declared.item.Head.{Head}
+use Rattle.fints_syntax_segments.specs.declared.item.OwnedSegment.{OwnedSegment}
+use Rattle.fints_syntax_segments.specs.declared.item.Head.{Head}
 use Rattle.fints_syntax.proofs.Tokens.{one_segment}
 use Rattle.fints_syntax.proofs.WrittenLaws.{values_of-written}
 use Rattle.fints_syntax.proofs.HeadLaws.{written_head, written_spelled}

@@ -1,7 +1,7 @@
 -- Where the text or the data of an item starts.
 use Rattle.std.proofs.Common.{◌≡◌, ℕ, suc, ◌+◌, List, ◌∷◌, ◌++◌, length, drop, refl, ap, ◌∙◌, sym, arith, append_assoc, Some, add-zero, Bor}
 use Rattle.std.proofs.lemmas.List.{drop_at, drop-drop, length-append}
-use Rattle.fints_segments.specs.Spelling.{TextUnit, Spelled, text, binary, spelled_bytes}
+use Rattle.fints_syntax_segments.specs.Spelling.{TextUnit, Spelled, text, binary, spelled_bytes}
 use Rattle.fints_syntax.specs.Reader.{segment_in}
 use Rattle.fints_syntax.specs.Window.{IsFrameText}
 use Rattle.fints_syntax.specs.Places.{start_at, spelled_at, data_offset, source_bytes, StandsAt}

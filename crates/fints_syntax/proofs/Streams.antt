@@ -3,8 +3,8 @@ use Rattle.std.proofs.Common.{◌≡◌, ◌⊎◌, ℕ, ◌+◌, ◌-◌, ◌<�
 use Rattle.std.specs.List.{AllByRecursion, flat_map}
 use Rattle.std.proofs.lemmas.List.{drop_at, take_at, drop-drop, drop-append-le, drop-take, take-take, take-append-le, append-nil, map-append, length-append, length-drop, take-append-drop}
 use Rattle.std.proofs.Math.Seq.{take-append-add}
-use Rattle.fints_segments.specs.Spelling.{Spelled}
-use Rattle.fints_segments.specs.Segment.{segment_bytes, IsSegment}
+use Rattle.fints_syntax_segments.specs.Spelling.{Spelled}
+use Rattle.fints_syntax_segments.specs.Segment.{segment_bytes, IsSegment}
 use Rattle.fints_syntax.specs.Faults.{KindAt, window_of}
 use Rattle.fints_syntax.specs.Search.{IsSearched}
 use Rattle.fints_syntax.specs.Capture.{IsBreak, IsClean, piece_bytes, FaultsAt}

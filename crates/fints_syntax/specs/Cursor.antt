@@ -1,7 +1,7 @@
 -- What a cursor over a segment's text has left: items, each with the byte after it. Private contracts alone cite these words.
 use Rattle.std.specs.Prelude.{◌≡◌, ◌==◌, if◌then◌else◌, List, [], ◌∷◌, length}
-use Rattle.fints_segments.specs.Spelling.{IsSpelled}
-use Rattle.fints_segments.specs.Segment.{Token, tokens_bytes}
+use Rattle.fints_syntax_segments.specs.Spelling.{IsSpelled}
+use Rattle.fints_syntax_segments.specs.Segment.{Token, tokens_bytes}
 use Rattle.fints_syntax.specs.Reader.{tokens_in}
 use Rattle.fints_syntax.specs.Faults.{IsOpen}
 use Rattle.fints_syntax.specs.ItemIs.{IsItem}

@@ -1,13 +1,13 @@
 -- The laws of segment texts. Each is the contract of a public function, which a proof in a crate above calls for it.
 use Rattle.std.specs.Prelude.{◌≡◌, ◌≢◌, ◌≤◌, ◌↔◌, ◌+◌, ◌++◌, ℕ, List, length, take, drop, Some}
 use Rattle.std.specs.List.{count_by}
-use Rattle.fints_segments.specs.Spelling.{Spelled}
-use Rattle.fints_segments.specs.Segment.{segment_bytes, values_of, head_of, IsFramed, IsSegment}
+use Rattle.fints_syntax_segments.specs.Spelling.{Spelled}
+use Rattle.fints_syntax_segments.specs.Segment.{segment_bytes, values_of, head_of, IsFramed, IsSegment}
 use Rattle.fints_syntax.specs.Owned.{segment_of}
 use Rattle.fints_syntax.specs.Faults.{BeginsWithSegment, IsFault, window_of}
 use Rattle.fints_syntax.specs.Streams.{is_quote, IsRest, IsSplit, moved_by, whole_len, IsReady, IsReadTo, PieceFaultAt}
 use Rattle.fints_syntax.specs.Capture.{IsCapture, IsPlacedCapture, IsCaptureFault, FaultsAt}
-use Rattle.fints_segments.specs.Written.{segment_values, written_tree, written_segment, IsWritable}
+use Rattle.fints_syntax_segments.specs.Written.{segment_values, written_tree, written_segment, IsWritable}
 use Rattle.fints_syntax.specs.declared.capture.Placed.{Placed}
 use Rattle.fints_syntax.specs.declared.stream.Begun.{Begun}
 use Rattle.fints_syntax.specs.declared.stream.ReadTo.{ReadTo}
@@ -15,7 +15,7 @@ use Rattle.fints_syntax.specs.declared.fault.SyntaxKind.{SyntaxKind}
 use Rattle.fints_syntax.specs.declared.fault.SyntaxFault.{SyntaxFault}
 use Rattle.fints_syntax.specs.declared.fault.SyntaxKind.TheVariants.{Memory, Incomplete}
 use Rattle.fints_syntax.specs.declared.capture.TheConstants.{MAX_CAPTURE}
-use Rattle.fints_segments.specs.declared.item.OwnedSegment.{OwnedSegment}
+use Rattle.fints_syntax_segments.specs.declared.item.OwnedSegment.{OwnedSegment}
 
 -- a byte list begins with at most one segment text, and that is the text of one segment
 abbrev pub OneSegmentText : Type 0

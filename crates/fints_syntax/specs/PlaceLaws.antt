@@ -3,8 +3,8 @@ use Rattle.std.proofs.Common.{◌≡◌, ℕ, ◌+◌, ◌≤◌, List, [], ◌�
 use Rattle.std.proofs.lemmas.List.{length-append}
 use Rattle.std.proofs.lemmas.List.Concat.{flat_map-append}
 use Rattle.std.proofs.lemmas.List.Sums.{sum_by-cons}
-use Rattle.fints_segments.specs.Spelling.{Spelled, text, binary, spelled_bytes}
-use Rattle.fints_segments.specs.Segment.{token_bytes, tokens_bytes, element_tokens, segment_tokens, segment_bytes}
+use Rattle.fints_syntax_segments.specs.Spelling.{Spelled, text, binary, spelled_bytes}
+use Rattle.fints_syntax_segments.specs.Segment.{token_bytes, tokens_bytes, element_tokens, segment_tokens, segment_bytes}
 use Rattle.fints_syntax.specs.Places.{item_size, items_size, elements_size, data_offset, start_of}
 
 element_size : (end : ℕ) (items : List Spelled) → length (tokens_bytes (element_tokens end items)) ≡ items_size items

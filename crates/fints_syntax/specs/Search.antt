@@ -1,9 +1,9 @@
 -- How far a look for the end of a segment has come: what it says of bytes stays true where more of them follow.
 use Rattle.std.specs.Prelude.{◌≡◌, ℕ, ◌+◌, ◌<◌, List, [], ◌∷◌, ◌++◌, length, drop, cond, eqb}
 use Rattle.std.specs.List.{AllByRecursion}
-use Rattle.fints_segments.specs.Spelling.{TextUnit, text_bytes, IsUnit}
-use Rattle.fints_segments.specs.Segment.{Token, tokens_bytes}
-use Rattle.fints_segments.specs.declared.limits.TheConstants.{MAX_ITEMS}
+use Rattle.fints_syntax_segments.specs.Spelling.{TextUnit, text_bytes, IsUnit}
+use Rattle.fints_syntax_segments.specs.Segment.{Token, tokens_bytes}
+use Rattle.fints_syntax_segments.specs.declared.limits.TheConstants.{MAX_ITEMS}
 use Rattle.fints_syntax.specs.Faults.{IsOpen}
 use Rattle.fints_syntax.specs.declared.window.Search.{Search}
 

@@ -1,6 +1,6 @@
 //! The items of a segment one after the other.
 ghost use Rattle.std.specs.Prelude.{◌≡◌, [], IfNone, IfSome};
-ghost use Rattle.fints_segments.specs.Segment.{segment_tokens};
+ghost use Rattle.fints_syntax_segments.specs.Segment.{segment_tokens};
 ghost use Rattle.fints_syntax.specs.Reader.{segment_in};
 ghost use Rattle.fints_syntax.specs.Window.{IsFrameText};
 ghost use Rattle.fints_syntax.specs.Cursor.{IsTaken};
@@ -24,7 +24,7 @@ pub struct Cursor<'a> {
 
 impl<'a> Model for Cursor<'a> {
     ghost use Rattle.std.specs.Prelude.{List};
-    ghost use Rattle.fints_segments.specs.Segment.{Token};
+    ghost use Rattle.fints_syntax_segments.specs.Segment.{Token};
 
     ghost Value = { List Token };
 

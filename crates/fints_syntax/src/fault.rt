@@ -2,7 +2,7 @@
 ghost use Rattle.std.specs.Prelude.{◌≡◌};
 ghost use Rattle.fints_syntax.specs.declared.fault.SyntaxKind.TheVariants as kind;
 
-use fints_segments::Memory;
+use fints_syntax_segments::Memory;
 use std::alloc::{AllocError, AllocFailed};
 use thiserror::Error;
 

@@ -7,7 +7,7 @@ ghost use Rattle.fints_syntax.specs.Feeding.{unfed, IsGiven, IsRefused, IsEnded,
 use crate::buffer::StreamBuffer;
 use crate::fault::{SyntaxFault, SyntaxKind};
 use crate::taken::Taken;
-use fints_segments::OwnedSegment;
+use fints_syntax_segments::OwnedSegment;
 use std::alloc::Global;
 use std::marker::Model;
 use std::mem::replace;

@@ -22,8 +22,8 @@ pub use buffer::StreamBuffer;
 pub use capture::{MAX_CAPTURE, Placed, parse_all, parse_placed};
 pub use fault::{SyntaxFault, SyntaxKind};
 pub use feeder::Feeder;
-pub use fints_kinds::{Kind, is_frame_kind};
-pub use fints_segments::{
+pub use fints_syntax_kinds::{Kind, is_frame_kind};
+pub use fints_syntax_segments::{
     Bytes, ElementRef, Elements, Head, ItemRef, Memory, OwnedItem, OwnedSegment, decimal_len,
     write_item, write_segment, written_binary_len, written_len,
 };

@@ -1,9 +1,9 @@
 //! Items and elements by their values, read in one pass.
 ghost use Rattle.std.specs.Prelude.{◌≡◌, ◌++◌, [], OnOk, OnErr, drop};
 ghost use Rattle.std.specs.Bool.{OnFalse};
-ghost use Rattle.fints_segments.specs.Segment.{values_of};
-ghost use Rattle.fints_segments.specs.Spelling.{text_value};
-ghost use Rattle.fints_segments.specs.Written.{KeepsFront};
+ghost use Rattle.fints_syntax_segments.specs.Segment.{values_of};
+ghost use Rattle.fints_syntax_segments.specs.Spelling.{text_value};
+ghost use Rattle.fints_syntax_segments.specs.Written.{KeepsFront};
 ghost use Rattle.fints_syntax.specs.Owned.{owned_item_of};
 ghost use Rattle.fints_syntax.specs.Items.{HasNoEscape};
 ghost use Rattle.fints_syntax.specs.Reader.{segment_in};
@@ -12,7 +12,7 @@ ghost use Rattle.fints_syntax.specs.Cursor.{after_element};
 
 use crate::cursor::{Cursor, cursor_over};
 use crate::text::{Item, RawText};
-use fints_segments::{Filling, Memory, Valued};
+use fints_syntax_segments::{Filling, Memory, Valued};
 use std::alloc::AllocError;
 
 #[inline(always)]

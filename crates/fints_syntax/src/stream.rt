@@ -1,6 +1,6 @@
 //! Segments in bytes that come in pieces.
 ghost use Rattle.std.specs.Prelude.{List, ◌≡◌, ◌≤◌, ◌+◌, ◌-◌, ◌++◌, ◌∷◌, [], ℕ, length, take, drop, OnOk, IfOk, IfErr, IsTrue, ◌↔◌};
-ghost use Rattle.fints_segments.specs.Segment.{segment_bytes};
+ghost use Rattle.fints_syntax_segments.specs.Segment.{segment_bytes};
 ghost use Rattle.fints_syntax.specs.Capture.{IsClean};
 ghost use Rattle.fints_syntax.specs.Streams.{IsReady, IsReadTo, IsStop, IsStreamFault, moved_by, place_in};
 ghost use Rattle.fints_syntax.specs.declared.capture.Placed.{Placed};
@@ -11,7 +11,7 @@ use crate::capture::{MAX_CAPTURE, breaks_len};
 use crate::fault::{SyntaxFault, SyntaxKind};
 use crate::view::{SegmentView, parse_on};
 use crate::window::Search;
-use fints_segments::Memory;
+use fints_syntax_segments::Memory;
 
 /// How far bytes that hold no whole segment are looked at. When more bytes follow, the look goes on
 /// from there.

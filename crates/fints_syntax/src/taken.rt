@@ -4,7 +4,7 @@ ghost use Rattle.fints_syntax.specs.Taken.{AreTaken};
 
 use crate::stream::{Taker, place_of};
 use crate::view::SegmentView;
-use fints_segments::{Memory, OwnedSegment};
+use fints_syntax_segments::{Memory, OwnedSegment};
 use std::alloc::Global;
 
 /// Segments by their values, and the place of each.

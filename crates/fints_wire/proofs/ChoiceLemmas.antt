@@ -3,10 +3,10 @@ use Rattle.std.proofs.Common.{List, [], ◌∷◌, map, refl}
 use Rattle.std.specs.List.{All, zip}
 use Rattle.std.proofs.lemmas.List.{length-map}
 use Rattle.std.proofs.lemmas.List.Elements.{All-cons, All-nil}
-use Rattle.fints_fields.specs.FieldLaws.{longest_is_admitted, shortest_is_admitted}
+use Rattle.fints_script_fields.specs.FieldLaws.{longest_is_admitted, shortest_is_admitted}
 use Rattle.fints_script.specs.Plans.{Admits, IsChosen}
-use Rattle.fints_field_rows.specs.declared.fields.NamedField.{NamedField}
-use Rattle.fints_cases.specs.declared.values.NamedValue.{NamedValue}
+use Rattle.fints_script_rows.specs.declared.fields.NamedField.{NamedField}
+use Rattle.fints_script_cases.specs.declared.values.NamedValue.{NamedValue}
 use Rattle.fints_wire.specs.Choices.{longest_choice, shortest_choice, with_longest, with_shortest}
 
 abbrev IsPair : NamedField × NamedValue → Type 0

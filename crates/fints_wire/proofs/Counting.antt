@@ -9,19 +9,19 @@ use Rattle.std.proofs.lemmas.List.Elements.{All-append, All-from_get_or, All-hea
 use Rattle.std.proofs.lemmas.Bool.Decides.{nat_tests}
 use Rattle.std.proofs.lemmas.Fmt.{length-decimal-le, decimal_is_IsNumeral}
 use Rattle.std.proofs.lemmas.Str.Parse.{digit_at}
-use Rattle.fints_segments.specs.declared.item.OwnedItem.{OwnedItem}
-use Rattle.fints_segments.specs.declared.item.OwnedItem.TheVariants.{Bin}
-use Rattle.fints_segments.specs.declared.item.OwnedSegment.{OwnedSegment}
-use Rattle.fints_segments.specs.Segment.{token_bytes, element_tokens, segment_tokens}
-use Rattle.fints_segments.specs.Spelling.{is_separator, text_bytes, unit_bytes, written, written_item, written_unit}
-use Rattle.fints_segments.specs.Written.{element_text, elements_text, head_items, segment_values, written_elements, written_segment}
-use Rattle.fints_fields.specs.Lengths.{text_len}
+use Rattle.fints_syntax_segments.specs.declared.item.OwnedItem.{OwnedItem}
+use Rattle.fints_syntax_segments.specs.declared.item.OwnedItem.TheVariants.{Bin}
+use Rattle.fints_syntax_segments.specs.declared.item.OwnedSegment.{OwnedSegment}
+use Rattle.fints_syntax_segments.specs.Segment.{token_bytes, element_tokens, segment_tokens}
+use Rattle.fints_syntax_segments.specs.Spelling.{is_separator, text_bytes, unit_bytes, written, written_item, written_unit}
+use Rattle.fints_syntax_segments.specs.Written.{element_text, elements_text, head_items, segment_values, written_elements, written_segment}
+use Rattle.fints_script_fields.specs.Lengths.{text_len}
 use Rattle.fints_script.specs.Scripts.{ScriptValue}
 use Rattle.fints_script.specs.Steps.{StepValue}
-use Rattle.fints_templates.specs.Weights.{total}
-use Rattle.fints_templates.specs.declared.template.Template.{Template}
-use Rattle.fints_templates.specs.declared.template.TemplateItem.{TemplateItem}
-use Rattle.fints_templates.specs.declared.template.TemplateItem.TheVariants.{Literal, Dialog, Field}
+use Rattle.fints_script_templates.specs.Weights.{total}
+use Rattle.fints_script_templates.specs.declared.template.Template.{Template}
+use Rattle.fints_script_templates.specs.declared.template.TemplateItem.{TemplateItem}
+use Rattle.fints_script_templates.specs.declared.template.TemplateItem.TheVariants.{Literal, Dialog, Field}
 use Rattle.fints_wire.specs.Filling.{FillingValue, filled_element, filled_elements, filled_item, filled_segments}
 use Rattle.fints_wire.specs.Lengths.{binary_size, element_len, elements_len, head_len, item_len, item_size, items_size, message_len, middle_len, segments_len, sizes_of}
 use Rattle.fints_wire.specs.Messages.{inner_segments, last_segment, message_size, message_with, middle_segments, seal_of, segments_text, templates_of, twelve_digits}

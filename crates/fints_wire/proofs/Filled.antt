@@ -6,24 +6,24 @@ use Rattle.std.proofs.lemmas.Bool.{cases_Bool, false≢true}
 use Rattle.std.proofs.lemmas.List.{append-nil}
 use Rattle.std.proofs.lemmas.List.Elements.{All-cons, All-head, All-tail}
 use Rattle.std.proofs.lemmas.Option.{same_Some}
-use Rattle.fints_segments.specs.Segment.{item_value}
-use Rattle.fints_segments.specs.Values.{values_at}
-use Rattle.fints_segments.specs.declared.item.OwnedItem.{OwnedItem}
-use Rattle.fints_segments.specs.declared.item.OwnedItem.TheVariants.{Text as TextItem}
-use Rattle.fints_fields.specs.Fields.{IsListedAt, field_domain, field_items}
-use Rattle.fints_fields.specs.Listed.{account_items}
-use Rattle.fints_fields.specs.declared.field.Field.{Field as Class}
-use Rattle.fints_fields.specs.declared.field.Field.TheVariants as classes
-use Rattle.fints_fields.specs.declared.listing.Account.{Account as AccountClass}
-use Rattle.fints_field_rows.specs.NamedFields.{is_account}
-use Rattle.fints_field_rows.specs.declared.fields.NamedField.{NamedField}
-use Rattle.fints_cases.specs.declared.values.NamedValue.{NamedValue}
+use Rattle.fints_syntax_segments.specs.Segment.{item_value}
+use Rattle.fints_syntax_segments.specs.Values.{values_at}
+use Rattle.fints_syntax_segments.specs.declared.item.OwnedItem.{OwnedItem}
+use Rattle.fints_syntax_segments.specs.declared.item.OwnedItem.TheVariants.{Text as TextItem}
+use Rattle.fints_script_fields.specs.Fields.{IsListedAt, field_domain, field_items}
+use Rattle.fints_script_fields.specs.Listed.{account_items}
+use Rattle.fints_script_fields.specs.declared.field.Field.{Field as Class}
+use Rattle.fints_script_fields.specs.declared.field.Field.TheVariants as classes
+use Rattle.fints_script_fields.specs.declared.listing.Account.{Account as AccountClass}
+use Rattle.fints_script_rows.specs.NamedFields.{is_account}
+use Rattle.fints_script_rows.specs.declared.fields.NamedField.{NamedField}
+use Rattle.fints_script_cases.specs.declared.values.NamedValue.{NamedValue}
 use Rattle.fints_script.specs.Plans.{Admits, IsChosen, is_literal}
 use Rattle.fints_script.specs.Scripts.{ScriptValue, IsDialogClass}
 use Rattle.fints_script.specs.Sound.{HasDialog, IsSound}
-use Rattle.fints_templates.specs.declared.template.Template.{Template}
-use Rattle.fints_templates.specs.declared.template.TemplateItem.{TemplateItem}
-use Rattle.fints_templates.specs.declared.template.TemplateItem.TheVariants.{Literal, Dialog, Field}
+use Rattle.fints_script_templates.specs.declared.template.Template.{Template}
+use Rattle.fints_script_templates.specs.declared.template.TemplateItem.{TemplateItem}
+use Rattle.fints_script_templates.specs.declared.template.TemplateItem.TheVariants.{Literal, Dialog, Field}
 use Rattle.fints_wire.specs.Choices.{value_of, with_value}
 use Rattle.fints_wire.specs.Filling.{FillingValue, IsPutIn, element_at, filled_element, filled_elements, filled_segment, filling_of, items_of_fields}
 

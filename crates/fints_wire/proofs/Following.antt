@@ -1,9 +1,9 @@
 -- Each message of a run is what an answer fires from the one before it.
 use Rattle.std.proofs.Common.{ℕ, suc, zero, ◌+◌, ◌≡◌, Some, List, [], ◌∷◌, refl, ap, sym, subst, arith, slice_get}
 use Rattle.fints_script.specs.Scripts.{ScriptValue}
-use Rattle.fints_cases.specs.declared.answers.Target.{Target}
-use Rattle.fints_cases.specs.declared.answers.Target.TheVariants.{Step, Again, Stop}
-use Rattle.fints_cases.specs.declared.values.NamedValue.{NamedValue}
+use Rattle.fints_script_cases.specs.declared.answers.Target.{Target}
+use Rattle.fints_script_cases.specs.declared.answers.Target.TheVariants.{Step, Again, Stop}
+use Rattle.fints_script_cases.specs.declared.values.NamedValue.{NamedValue}
 use Rattle.fints_wire.specs.Messages.{message_bytes}
 use Rattle.fints_wire.specs.Runs.{start, answered, After, Follows, Enters, IsSent, AreSent, Run, IsTarget, IsNext}
 use Rattle.fints_wire.specs.declared.dialogue.Visit.{Visit}

@@ -5,27 +5,27 @@ use Rattle.std.specs.Option.{IfSome}
 use Rattle.std.proofs.lemmas.Bool.{cases_Bool}
 use Rattle.std.proofs.lemmas.List.{length-append, length-map}
 use Rattle.std.proofs.lemmas.List.Elements.{All-append, All-head, All-map, All-tail}
-use Rattle.fints_segments.specs.declared.item.OwnedItem.{OwnedItem}
-use Rattle.fints_segments.specs.declared.item.OwnedSegment.{OwnedSegment}
-use Rattle.fints_segments.specs.Segment.{element_tokens, segment_tokens}
-use Rattle.fints_segments.specs.Spelling.{Spelled, written_item}
-use Rattle.fints_segments.specs.Written.{head_items, segment_values, written_elements, written_tree}
-use Rattle.fints_fields.specs.FieldLaws.{has_few_items}
-use Rattle.fints_fields.specs.Fields.{field_most_items}
-use Rattle.fints_templates.specs.Figures.{figures_of}
+use Rattle.fints_syntax_segments.specs.declared.item.OwnedItem.{OwnedItem}
+use Rattle.fints_syntax_segments.specs.declared.item.OwnedSegment.{OwnedSegment}
+use Rattle.fints_syntax_segments.specs.Segment.{element_tokens, segment_tokens}
+use Rattle.fints_syntax_segments.specs.Spelling.{Spelled, written_item}
+use Rattle.fints_syntax_segments.specs.Written.{head_items, segment_values, written_elements, written_tree}
+use Rattle.fints_script_fields.specs.FieldLaws.{has_few_items}
+use Rattle.fints_script_fields.specs.Fields.{field_most_items}
+use Rattle.fints_script_templates.specs.Figures.{figures_of}
 use Rattle.fints_script.specs.Plans.{Admits, IsChosen}
 use Rattle.fints_script.specs.Scripts.{ScriptValue, IsDialogClass}
 use Rattle.fints_script.specs.Sound.{HasDialog, IsSound, IsSoundFrame, IsSoundStep}
 use Rattle.fints_script.specs.Steps.{StepValue}
-use Rattle.fints_templates.specs.Weights.{element_count, item_count, items_in, no_figures, total}
-use Rattle.fints_fields.specs.declared.field.Field.{Field}
-use Rattle.fints_fields.specs.declared.field.Field.TheVariants as classes
-use Rattle.fints_field_rows.specs.declared.fields.NamedField.{NamedField}
-use Rattle.fints_templates.specs.declared.template.Template.{Template}
-use Rattle.fints_templates.specs.declared.template.TemplateItem.{TemplateItem}
-use Rattle.fints_templates.specs.declared.template.TemplateItem.TheVariants as items
-use Rattle.fints_cases.specs.declared.values.NamedValue.{NamedValue}
-use Rattle.fints_templates.specs.declared.weights.Figures.{Figures}
+use Rattle.fints_script_templates.specs.Weights.{element_count, item_count, items_in, no_figures, total}
+use Rattle.fints_script_fields.specs.declared.field.Field.{Field}
+use Rattle.fints_script_fields.specs.declared.field.Field.TheVariants as classes
+use Rattle.fints_script_rows.specs.declared.fields.NamedField.{NamedField}
+use Rattle.fints_script_templates.specs.declared.template.Template.{Template}
+use Rattle.fints_script_templates.specs.declared.template.TemplateItem.{TemplateItem}
+use Rattle.fints_script_templates.specs.declared.template.TemplateItem.TheVariants as items
+use Rattle.fints_script_cases.specs.declared.values.NamedValue.{NamedValue}
+use Rattle.fints_script_templates.specs.declared.weights.Figures.{Figures}
 use Rattle.fints_wire.specs.Filling.{FillingValue, filled_element, filled_elements, filled_item, filling_of, items_of_fields}
 use Rattle.fints_wire.specs.Messages.{end_template, head_template, no_signer, seal_of, signer_at, signers_of, templates_of}
 

@@ -1,6 +1,6 @@
 -- The laws, each with its proof, for the proofs of the crates above.
 use Rattle.std.specs.Prelude.{List}
-use Rattle.fints_field_rows.specs.declared.fields.NamedField.{NamedField}
+use Rattle.fints_script_rows.specs.declared.fields.NamedField.{NamedField}
 use Rattle.fints_script.specs.Plans.{Admits}
 use Rattle.fints_wire.specs.Choices.{longest_choice, shortest_choice}
 use Rattle.fints_wire.specs.Laws.{AccountsArePutIn, BodyHasNoOthers, BodyIsTemplates, DialogIsOneItem, EachSignerEnds, ElementsAreFilled, FieldsArePutIn, LiteralsStand, LongestValuesAreMost, MessagesAreShort, OnlyItsItemsAreSet, SetValueIsAdmitted}
@@ -11,7 +11,7 @@ use Rattle.fints_wire.proofs.ChoiceLemmas.{longest_admitted, shortest_admitted}
 use Rattle.fints_wire.proofs.Filled.{values_filled, literals_stay, put_in, account_stands, dialog_stands, set_admitted, set_items}
 use Rattle.fints_wire.proofs.WorstSizes.{longest_is_most}
 use Rattle.fints_wire.proofs.Weighing.{message_light}
-use Rattle.fints_fields.proofs.ClassLawLemmas.{account_values_are_listed}
+use Rattle.fints_script_fields.proofs.ClassLawLemmas.{account_values_are_listed}
 use Rattle.fints_syntax.proofs.LawLemmas.{written_is_spelled_head, written_is_spelled_segment, written_is_spelled_values}
 
 pub messages_are_read : MessagesAreRead

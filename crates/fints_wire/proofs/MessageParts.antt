@@ -6,20 +6,20 @@ use Rattle.std.proofs.lemmas.Bool.{cases_Bool}
 use Rattle.std.proofs.lemmas.List.{length-map}
 use Rattle.std.proofs.lemmas.List.Elements.{All-head, All-tail}
 use Rattle.std.proofs.lemmas.Slice.Eq.{bytes_eq-Decides}
-use Rattle.fints_segments.specs.declared.item.OwnedItem.{OwnedItem}
-use Rattle.fints_segments.specs.declared.item.OwnedItem.TheVariants.{Bin}
-use Rattle.fints_segments.specs.declared.item.OwnedSegment.{OwnedSegment}
-use Rattle.fints_messages.specs.Messages.{IsFirst, IsInner, IsLast, IsNumbered, IsTail}
-use Rattle.fints_messages.specs.Parts.{part_of}
-use Rattle.fints_messages.specs.Segments.{IsText}
-use Rattle.fints_messages.specs.declared.part.Part.{Part}
-use Rattle.fints_messages.specs.declared.part.Part.TheVariants.{Opener, Body, Ender}
+use Rattle.fints_syntax_segments.specs.declared.item.OwnedItem.{OwnedItem}
+use Rattle.fints_syntax_segments.specs.declared.item.OwnedItem.TheVariants.{Bin}
+use Rattle.fints_syntax_segments.specs.declared.item.OwnedSegment.{OwnedSegment}
+use Rattle.fints_rules_messages.specs.Messages.{IsFirst, IsInner, IsLast, IsNumbered, IsTail}
+use Rattle.fints_rules_messages.specs.Parts.{part_of}
+use Rattle.fints_rules_messages.specs.Segments.{IsText}
+use Rattle.fints_rules_messages.specs.declared.part.Part.{Part}
+use Rattle.fints_rules_messages.specs.declared.part.Part.TheVariants.{Opener, Body, Ender}
 use Rattle.fints_script.specs.Scripts.{ScriptValue}
 use Rattle.fints_script.specs.Sound.{IsSoundStep}
 use Rattle.fints_script.specs.Steps.{StepValue}
 use Rattle.fints_syntax.specs.Kind.{frame_kinds}
-use Rattle.fints_templates.specs.declared.template.Signer.{Signer}
-use Rattle.fints_templates.specs.declared.template.Template.{Template}
+use Rattle.fints_script_templates.specs.declared.template.Signer.{Signer}
+use Rattle.fints_script_templates.specs.declared.template.Template.{Template}
 use Rattle.fints_wire.specs.Filling.{FillingValue, filled_segment, filled_segments, make_segment}
 use Rattle.fints_wire.specs.Messages.{end_template, first_segment, head_template, inner_segments, last_segment, middle_segments, segments_text, signers_of, signer_at, templates_of}
 use Rattle.fints_wire.proofs.ReadBack.{number_read, size_read}

@@ -3,13 +3,13 @@ use Rattle.std.proofs.Common.{ℕ, ◌≡◌, Bool, true, false, cond, Option, S
 use Rattle.std.proofs.lemmas.List.Elements.{All-head, All-tail}
 use Rattle.std.specs.List.{All, find}
 use Rattle.std.specs.Option.{option_map_or}
-use Rattle.fints_cases.specs.Answers.{matches_some}
+use Rattle.fints_script_cases.specs.Answers.{matches_some}
 use Rattle.fints_script.specs.Scripts.{ScriptValue}
 use Rattle.fints_script.specs.Sound.{IsSound, IsOnward}
 use Rattle.fints_script.specs.Numbered.{numbered}
 use Rattle.fints_script.specs.Steps.{StepValue}
-use Rattle.fints_cases.specs.declared.answers.Branch.{Branch}
-use Rattle.fints_cases.specs.declared.answers.Target.{Target}
+use Rattle.fints_script_cases.specs.declared.answers.Branch.{Branch}
+use Rattle.fints_script_cases.specs.declared.answers.Target.{Target}
 use Rattle.fints_wire.specs.Runs.{answered}
 
 one_target : (P : Target → Type 0) (b : Bool) (x : Branch) (found : Option Branch) (otherwise : Target) → P x.to → P (option_map_or (λ (branch : Branch). branch.to) found otherwise) → P (option_map_or (λ (branch : Branch). branch.to) (cond b (Some x) found) otherwise)

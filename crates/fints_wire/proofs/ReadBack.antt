@@ -8,13 +8,13 @@ use Rattle.std.proofs.lemmas.Bool.{le-leb}
 use Rattle.std.proofs.lemmas.Fmt.{decimal_nonempty, digits_decimal, digits_value-decimal, length-decimal-le}
 use Rattle.std.proofs.lemmas.Str.Parse.{IsNumeralModel, numerals_by_value, tells_all_ascii_digits}
 use Rattle.fints_syntax.specs.Laws.{WrittenIsSpelled, WrittenHasValues, WrittenHasHead}
-use Rattle.fints_segments.specs.Number.{number_in}
-use Rattle.fints_segments.specs.Segment.{values_of, head_of, IsSegment}
-use Rattle.fints_segments.specs.Written.{written_segment, written_tree, IsWritable}
-use Rattle.fints_segments.specs.declared.item.OwnedSegment.{OwnedSegment}
-use Rattle.fints_segments.specs.Number.{number_of}
+use Rattle.fints_syntax_segments.specs.Number.{number_in}
+use Rattle.fints_syntax_segments.specs.Segment.{values_of, head_of, IsSegment}
+use Rattle.fints_syntax_segments.specs.Written.{written_segment, written_tree, IsWritable}
+use Rattle.fints_syntax_segments.specs.declared.item.OwnedSegment.{OwnedSegment}
+use Rattle.fints_syntax_segments.specs.Number.{number_of}
 use Rattle.fints_syntax.specs.Owned.{no_head, segment_of, segments_of}
-use Rattle.fints_messages.specs.Segments.{text_of, IsText}
+use Rattle.fints_rules_messages.specs.Segments.{text_of, IsText}
 use Rattle.fints_wire.specs.Messages.{segments_text, twelve_digits}
 use Rattle.fints_wire.proofs.Counting.{twelve_digits-len}
 

@@ -3,9 +3,9 @@ use Rattle.std.proofs.Common.{◌≡◌, ℕ, ◌+◌, ◌≤◌, List, length, 
 use Rattle.std.specs.Prelude.{◌⊎◌}
 use Rattle.std.proofs.lemmas.Bool.{cases_lt}
 use Rattle.std.proofs.lemmas.Option.{same_Some}
-use Rattle.fints_cases.specs.Answers.{IsAnswer}
-use Rattle.fints_cases.specs.declared.answers.Target.{Target}
-use Rattle.fints_cases.specs.declared.answers.Target.TheVariants as targets
+use Rattle.fints_script_cases.specs.Answers.{IsAnswer}
+use Rattle.fints_script_cases.specs.declared.answers.Target.{Target}
+use Rattle.fints_script_cases.specs.declared.answers.Target.TheVariants as targets
 use Rattle.fints_script.specs.Numbered.{numbered, numbered_at}
 use Rattle.fints_script.specs.Scripts.{ScriptValue}
 use Rattle.fints_script.specs.Sound.{IsSound, IsOnward}

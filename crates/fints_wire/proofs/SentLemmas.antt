@@ -5,9 +5,9 @@ use Rattle.std.proofs.lemmas.Bool.Decides.{nat_tests}
 use Rattle.fints_script.specs.Plans.{Admits}
 use Rattle.fints_script.specs.Scripts.{ScriptValue}
 use Rattle.fints_script.specs.Sound.{IsSound, IsOnward}
-use Rattle.fints_cases.specs.declared.answers.Target.{Target}
-use Rattle.fints_cases.specs.declared.answers.Target.TheVariants.{Step, Again, Stop}
-use Rattle.fints_cases.specs.declared.values.NamedValue.{NamedValue}
+use Rattle.fints_script_cases.specs.declared.answers.Target.{Target}
+use Rattle.fints_script_cases.specs.declared.answers.Target.TheVariants.{Step, Again, Stop}
+use Rattle.fints_script_cases.specs.declared.values.NamedValue.{NamedValue}
 use Rattle.fints_wire.specs.Runs.{start, answered, After, Enters, last_of, sent_of, Arrives, Reach, IsWithin, IsSent, AreSent, Run}
 use Rattle.fints_wire.specs.Runs.Reach.{first, onward}
 use Rattle.fints_wire.specs.Views.{MessagesAreRead, IsReadAs}

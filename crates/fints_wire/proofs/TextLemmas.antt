@@ -2,10 +2,10 @@
 use Rattle.std.proofs.Common.{◌≡◌, ℕ, zero, suc, ◌+◌, ◌<◌, List, [], ◌∷◌, ◌++◌, length, get_or, drop, Some, ap, sym, ◌∙◌, arith, append_assoc}
 use Rattle.std.specs.List.{slice_get}
 use Rattle.std.proofs.lemmas.List.{drop_more, length-append}
-use Rattle.fints_segments.specs.Written.{written_segment}
+use Rattle.fints_syntax_segments.specs.Written.{written_segment}
 use Rattle.fints_script.specs.Scripts.{ScriptValue}
 use Rattle.fints_script.specs.Steps.{StepValue}
-use Rattle.fints_templates.specs.declared.template.Template.{Template}
+use Rattle.fints_script_templates.specs.declared.template.Template.{Template}
 use Rattle.fints_wire.specs.Filling.{FillingValue, filled_segment, filled_segments}
 use Rattle.fints_wire.specs.Messages.{first_segment, later_segments, message_size, message_with, segments_text}
 

@@ -2,12 +2,12 @@
 use Rattle.std.proofs.Common.{◌≡◌, ℕ, zero, suc, ◌<◌, ◌≤◌, List, [], ◌∷◌, length, Some, refl, sym, subst, arith}
 use Rattle.std.specs.List.{slice_get}
 use Rattle.fints_syntax.specs.Laws.{WrittenIsSpelled, WrittenHasValues, WrittenHasHead}
-use Rattle.fints_messages.specs.Messages.{IsForm, IsMessage}
+use Rattle.fints_rules_messages.specs.Messages.{IsForm, IsMessage}
 use Rattle.fints_script.specs.Plans.{Admits}
 use Rattle.fints_script.specs.Scripts.{ScriptValue}
 use Rattle.fints_script.specs.Sound.{IsSound, IsSoundStep}
 use Rattle.fints_script.specs.Steps.{StepValue}
-use Rattle.fints_cases.specs.declared.values.NamedValue.{NamedValue}
+use Rattle.fints_script_cases.specs.declared.values.NamedValue.{NamedValue}
 use Rattle.fints_wire.specs.Filling.{FillingValue, filled_elements, filling_of}
 use Rattle.fints_wire.specs.Messages.{first_segment, inner_segments, later_segments, message_bytes, message_segments, message_size, seal_of}
 use Rattle.fints_wire.specs.Views.{MessagesAreRead, message_view}

@@ -8,30 +8,30 @@ use Rattle.std.proofs.lemmas.Fmt.{length-decimal-le}
 use Rattle.std.proofs.lemmas.List.{drop_all, drop_more, length-append}
 use Rattle.std.proofs.lemmas.List.Elements.{All-append, All-from_recursion, All-head, All-map, All-tail}
 use Rattle.fints_syntax.specs.Kind.{IsKindByte, IsKindText}
-use Rattle.fints_segments.specs.Spelling.{written}
-use Rattle.fints_segments.specs.declared.item.OwnedItem.{OwnedItem}
-use Rattle.fints_fields.specs.ClassLaws.{text_len_marks}
-use Rattle.fints_fields.specs.Classes.{longest_character}
-use Rattle.fints_fields.specs.Fields.{field_items, field_longest, field_written}
-use Rattle.fints_fields.specs.FieldLaws.{has_some_item, is_written_as_items, none_is_longer}
-use Rattle.fints_templates.specs.Figures.{figures_of}
-use Rattle.fints_fields.specs.Joined.{joined}
-use Rattle.fints_fields.specs.Lengths.{text_len}
+use Rattle.fints_syntax_segments.specs.Spelling.{written}
+use Rattle.fints_syntax_segments.specs.declared.item.OwnedItem.{OwnedItem}
+use Rattle.fints_script_fields.specs.ClassLaws.{text_len_marks}
+use Rattle.fints_script_fields.specs.Classes.{longest_character}
+use Rattle.fints_script_fields.specs.Fields.{field_items, field_longest, field_written}
+use Rattle.fints_script_fields.specs.FieldLaws.{has_some_item, is_written_as_items, none_is_longer}
+use Rattle.fints_script_templates.specs.Figures.{figures_of}
+use Rattle.fints_script_fields.specs.Joined.{joined}
+use Rattle.fints_script_fields.specs.Lengths.{text_len}
 use Rattle.fints_script.specs.Plans.{Admits, IsChosen}
 use Rattle.fints_script.specs.Scripts.{ScriptValue, IsDialogClass}
 use Rattle.fints_script.specs.Sound.{HasDialog, IsSound, IsSoundStep}
 use Rattle.fints_script.specs.Steps.{StepValue, seal_weight, signature_weight}
-use Rattle.fints_templates.specs.Weights.{element_weight, item_weight, no_figures, segment_weight, signer_weight, total}
-use Rattle.fints_fields.specs.declared.alphabet.Alphabet.{Alphabet}
-use Rattle.fints_fields.specs.declared.field.Field.{Field}
-use Rattle.fints_fields.specs.declared.field.Field.TheVariants as classes
-use Rattle.fints_field_rows.specs.declared.fields.NamedField.{NamedField}
-use Rattle.fints_templates.specs.declared.template.Signer.{Signer}
-use Rattle.fints_templates.specs.declared.template.Template.{Template}
-use Rattle.fints_templates.specs.declared.template.TemplateItem.{TemplateItem}
-use Rattle.fints_templates.specs.declared.template.TemplateItem.TheVariants as items
-use Rattle.fints_cases.specs.declared.values.NamedValue.{NamedValue}
-use Rattle.fints_templates.specs.declared.weights.Figures.{Figures}
+use Rattle.fints_script_templates.specs.Weights.{element_weight, item_weight, no_figures, segment_weight, signer_weight, total}
+use Rattle.fints_script_fields.specs.declared.alphabet.Alphabet.{Alphabet}
+use Rattle.fints_script_fields.specs.declared.field.Field.{Field}
+use Rattle.fints_script_fields.specs.declared.field.Field.TheVariants as classes
+use Rattle.fints_script_rows.specs.declared.fields.NamedField.{NamedField}
+use Rattle.fints_script_templates.specs.declared.template.Signer.{Signer}
+use Rattle.fints_script_templates.specs.declared.template.Template.{Template}
+use Rattle.fints_script_templates.specs.declared.template.TemplateItem.{TemplateItem}
+use Rattle.fints_script_templates.specs.declared.template.TemplateItem.TheVariants as items
+use Rattle.fints_script_cases.specs.declared.values.NamedValue.{NamedValue}
+use Rattle.fints_script_templates.specs.declared.weights.Figures.{Figures}
 use Rattle.fints_wire.specs.Filling.{FillingValue, filling_of, items_of_fields}
 use Rattle.fints_wire.specs.Lengths.{element_len, elements_len, head_len, item_len, items_size, longest_size, longest_sizes, message_len, middle_len, segments_len, Sizes, sizes_of}
 use Rattle.fints_wire.specs.Messages.{end_template, head_template, message_bytes, message_size, no_signer, seal_of, signer_at, signers_of, templates_of}

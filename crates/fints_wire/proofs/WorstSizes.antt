@@ -8,18 +8,18 @@ use Rattle.std.proofs.lemmas.Bool.Decides.{nat_tests}
 use Rattle.std.proofs.lemmas.Fmt.{decimal_is_IsNumeral, decimal_nonempty, length-decimal-le}
 use Rattle.std.proofs.lemmas.Int.Digits.{digits_value-lt}
 use Rattle.std.proofs.lemmas.List.Elements.{All-head, All-tail}
-use Rattle.fints_segments.specs.declared.item.OwnedItem.{OwnedItem}
-use Rattle.fints_fields.specs.Fields.{field_items, field_longest}
-use Rattle.fints_fields.specs.FieldLaws.{has_some_item, is_written_as_items, longest_is_admitted, none_is_longer}
+use Rattle.fints_syntax_segments.specs.declared.item.OwnedItem.{OwnedItem}
+use Rattle.fints_script_fields.specs.Fields.{field_items, field_longest}
+use Rattle.fints_script_fields.specs.FieldLaws.{has_some_item, is_written_as_items, longest_is_admitted, none_is_longer}
 use Rattle.fints_script.specs.Plans.{Admits, IsChosen}
 use Rattle.fints_script.specs.Scripts.{ScriptValue}
 use Rattle.fints_script.specs.Sound.{HasDialog, IsSound, IsSoundStep}
 use Rattle.fints_script.specs.Steps.{StepValue}
-use Rattle.fints_field_rows.specs.declared.fields.NamedField.{NamedField}
-use Rattle.fints_templates.specs.declared.template.Template.{Template}
-use Rattle.fints_templates.specs.declared.template.TemplateItem.{TemplateItem}
-use Rattle.fints_templates.specs.declared.template.TemplateItem.TheVariants as items
-use Rattle.fints_cases.specs.declared.values.NamedValue.{NamedValue}
+use Rattle.fints_script_rows.specs.declared.fields.NamedField.{NamedField}
+use Rattle.fints_script_templates.specs.declared.template.Template.{Template}
+use Rattle.fints_script_templates.specs.declared.template.TemplateItem.{TemplateItem}
+use Rattle.fints_script_templates.specs.declared.template.TemplateItem.TheVariants as items
+use Rattle.fints_script_cases.specs.declared.values.NamedValue.{NamedValue}
 use Rattle.fints_wire.specs.Choices.{longest_choice}
 use Rattle.fints_wire.specs.Filling.{filling_of, items_of_fields}
 use Rattle.fints_wire.specs.Lengths.{element_len, elements_len, item_len, items_size, longest_size, longest_sizes, message_len, middle_len, segments_len, Sizes, sizes_of}

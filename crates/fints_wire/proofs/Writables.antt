@@ -6,20 +6,20 @@ use Rattle.std.specs.Fmt.{decimal}
 use Rattle.std.proofs.lemmas.List.{length-append}
 use Rattle.std.proofs.lemmas.List.Elements.{All-head, All-map, All-tail, recursion_from_All}
 use Rattle.fints_syntax.specs.Kind.{IsKindText}
-use Rattle.fints_segments.specs.Segment.{segment_tokens}
-use Rattle.fints_segments.specs.Written.{written_segment, written_tree, IsWritable}
-use Rattle.fints_segments.specs.declared.item.OwnedItem.{OwnedItem}
-use Rattle.fints_segments.specs.declared.item.OwnedItem.TheVariants.{Text, Bin}
-use Rattle.fints_segments.specs.declared.item.OwnedSegment.{OwnedSegment}
-use Rattle.fints_templates.specs.Figures.{figures_of}
+use Rattle.fints_syntax_segments.specs.Segment.{segment_tokens}
+use Rattle.fints_syntax_segments.specs.Written.{written_segment, written_tree, IsWritable}
+use Rattle.fints_syntax_segments.specs.declared.item.OwnedItem.{OwnedItem}
+use Rattle.fints_syntax_segments.specs.declared.item.OwnedItem.TheVariants.{Text, Bin}
+use Rattle.fints_syntax_segments.specs.declared.item.OwnedSegment.{OwnedSegment}
+use Rattle.fints_script_templates.specs.Figures.{figures_of}
 use Rattle.fints_script.specs.Plans.{Admits}
 use Rattle.fints_script.specs.Scripts.{ScriptValue}
 use Rattle.fints_script.specs.Sound.{IsSound, IsSoundStep}
 use Rattle.fints_script.specs.Steps.{StepValue}
-use Rattle.fints_templates.specs.Weights.{total}
-use Rattle.fints_templates.specs.declared.template.Template.{Template}
-use Rattle.fints_templates.specs.declared.template.TemplateItem.{TemplateItem}
-use Rattle.fints_cases.specs.declared.values.NamedValue.{NamedValue}
+use Rattle.fints_script_templates.specs.Weights.{total}
+use Rattle.fints_script_templates.specs.declared.template.Template.{Template}
+use Rattle.fints_script_templates.specs.declared.template.TemplateItem.{TemplateItem}
+use Rattle.fints_script_cases.specs.declared.values.NamedValue.{NamedValue}
 use Rattle.fints_wire.specs.Filling.{AreFilled, FillingValue, filled_element, filled_elements, filled_segments, filling_of, make_segment}
 use Rattle.fints_wire.specs.Lengths.{sizes_of}
 use Rattle.fints_wire.specs.Messages.{first_segment, inner_segments, last_segment, message_segments, message_size, message_with, middle_segments, seal_of, segments_text, templates_of, twelve_digits}

@@ -1,16 +1,16 @@
 -- Templates with the items of a choice put in. Words of private contracts and proofs alone stand last, under a heading.
 use Rattle.std.specs.Prelude.{◌≡◌, ℕ, ◌==◌, ◌+◌, ◌-◌, ◌<◌, if◌then◌else◌, codes, List, [], ◌∷◌, map, get_or, zip, length, slice_get, All, None, Some}
 use Rattle.std.specs.List.{flat_map}
-use Rattle.fints_segments.specs.declared.item.OwnedItem.{OwnedItem}
-use Rattle.fints_segments.specs.declared.item.OwnedItem.TheVariants.{Text}
-use Rattle.fints_segments.specs.declared.item.OwnedSegment.{OwnedSegment}
-use Rattle.fints_fields.specs.Fields.{field_items}
-use Rattle.fints_field_rows.specs.declared.fields.NamedField.{NamedField}
-use Rattle.fints_cases.specs.declared.values.NamedValue.{NamedValue}
+use Rattle.fints_syntax_segments.specs.declared.item.OwnedItem.{OwnedItem}
+use Rattle.fints_syntax_segments.specs.declared.item.OwnedItem.TheVariants.{Text}
+use Rattle.fints_syntax_segments.specs.declared.item.OwnedSegment.{OwnedSegment}
+use Rattle.fints_script_fields.specs.Fields.{field_items}
+use Rattle.fints_script_rows.specs.declared.fields.NamedField.{NamedField}
+use Rattle.fints_script_cases.specs.declared.values.NamedValue.{NamedValue}
 use Rattle.fints_script.specs.Plans.{IsChosen}
-use Rattle.fints_templates.specs.declared.template.TemplateItem.{TemplateItem}
-use Rattle.fints_templates.specs.declared.template.TemplateItem.TheVariants.{Literal, Dialog, Field}
-use Rattle.fints_templates.specs.declared.template.Template.{Template}
+use Rattle.fints_script_templates.specs.declared.template.TemplateItem.{TemplateItem}
+use Rattle.fints_script_templates.specs.declared.template.TemplateItem.TheVariants.{Literal, Dialog, Field}
+use Rattle.fints_script_templates.specs.declared.template.Template.{Template}
 
 -- what stands in a message for the dialogue id, and for each field in order
 pub record FillingValue : Type 0 where

@@ -1,17 +1,17 @@
 -- How long a message is: each item counts with the byte after it. Private contracts alone cite these words.
 use Rattle.std.specs.Prelude.{ℕ, ◌+◌, ◌==◌, if◌then◌else◌, codes, List, [], ◌∷◌, length, map, get_or, Bool, true, false}
 use Rattle.std.specs.Fmt.{decimal}
-use Rattle.fints_segments.specs.declared.item.OwnedItem.{OwnedItem}
-use Rattle.fints_segments.specs.Spelling.{written}
-use Rattle.fints_segments.specs.Written.{head_items}
-use Rattle.fints_fields.specs.Fields.{field_longest, field_written}
-use Rattle.fints_field_rows.specs.declared.fields.NamedField.{NamedField}
+use Rattle.fints_syntax_segments.specs.declared.item.OwnedItem.{OwnedItem}
+use Rattle.fints_syntax_segments.specs.Spelling.{written}
+use Rattle.fints_syntax_segments.specs.Written.{head_items}
+use Rattle.fints_script_fields.specs.Fields.{field_longest, field_written}
+use Rattle.fints_script_rows.specs.declared.fields.NamedField.{NamedField}
 use Rattle.fints_script.specs.Scripts.{ScriptValue}
 use Rattle.fints_script.specs.Steps.{StepValue}
-use Rattle.fints_templates.specs.Weights.{total}
-use Rattle.fints_templates.specs.declared.template.TemplateItem.{TemplateItem}
-use Rattle.fints_templates.specs.declared.template.TemplateItem.TheVariants.{Literal, Dialog, Field}
-use Rattle.fints_templates.specs.declared.template.Template.{Template}
+use Rattle.fints_script_templates.specs.Weights.{total}
+use Rattle.fints_script_templates.specs.declared.template.TemplateItem.{TemplateItem}
+use Rattle.fints_script_templates.specs.declared.template.TemplateItem.TheVariants.{Literal, Dialog, Field}
+use Rattle.fints_script_templates.specs.declared.template.Template.{Template}
 use Rattle.fints_wire.specs.Filling.{FillingValue, make_segment}
 use Rattle.fints_wire.specs.Messages.{seal_of, templates_of}
 

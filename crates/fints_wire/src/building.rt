@@ -1,7 +1,7 @@
 //! The bytes of a step's message.
 ghost use Rattle.std.specs.Prelude.{◌≡◌, ◌<◌, ◌≤◌, ◌++◌, length, All, IfOk, OnOk};
-ghost use Rattle.fints_segments.specs.Written.{written_segment};
-ghost use Rattle.fints_messages.specs.Messages.{IsMessage};
+ghost use Rattle.fints_syntax_segments.specs.Written.{written_segment};
+ghost use Rattle.fints_rules_messages.specs.Messages.{IsMessage};
 ghost use Rattle.fints_script.specs.Plans.{Admits};
 ghost use Rattle.fints_script.specs.Sound.{IsSoundStep};
 ghost use Rattle.fints_wire.specs.Filling.{AreFilled, TemplatesAreFilled, filled_elements, filled_segment};

@@ -1,6 +1,6 @@
 //! Runs: the messages that a client sends under a list of answers.
 ghost use Rattle.std.specs.Prelude.{◌≡◌, ◌<◌, ◌≤◌, length, MatchOption, IfOk};
-ghost use Rattle.fints_cases.specs.Answers.{IsAnswer};
+ghost use Rattle.fints_script_cases.specs.Answers.{IsAnswer};
 ghost use Rattle.fints_script.specs.Plans.{Admits};
 ghost use Rattle.std.specs.List.{All, AllByRecursion};
 ghost use Rattle.fints_wire.specs.Views.{IsReadAs};

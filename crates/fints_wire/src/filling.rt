@@ -1,8 +1,8 @@
 //! What stands in a message for the dialogue id and for the fields.
 ghost use Rattle.std.specs.Prelude.{◌≡◌, ◌++◌, ◌∷◌, [], get_or, map, length, IfOk, OnOk};
-ghost use Rattle.fints_segments.specs.declared.item.OwnedItem.TheVariants.{Text};
-ghost use Rattle.fints_fields.specs.Fields.{field_items};
-ghost use Rattle.fints_fields.specs.Listed.{account_items, account_text, first_with};
+ghost use Rattle.fints_syntax_segments.specs.declared.item.OwnedItem.TheVariants.{Text};
+ghost use Rattle.fints_script_fields.specs.Fields.{field_items};
+ghost use Rattle.fints_script_fields.specs.Listed.{account_items, account_text, first_with};
 ghost use Rattle.fints_wire.specs.Filling.{AreFilled, dialog_items, items_of_fields, filling_of, filled_item, filled_element, filled_elements};
 
 use crate::copies::{copy_item, copy_items, push_copies};

@@ -1,7 +1,7 @@
 //! The segments around those of a step.
 ghost use Rattle.std.specs.Prelude.{◌≡◌, ◌-◌, ◌<◌, ◌++◌, ◌∷◌, [], codes, length, map, replicate, IfOk, OnOk, IsSome};
 ghost use Rattle.std.specs.Fmt.{decimal};
-ghost use Rattle.fints_segments.specs.declared.item.OwnedItem.TheVariants.{Bin, Text};
+ghost use Rattle.fints_syntax_segments.specs.declared.item.OwnedItem.TheVariants.{Bin, Text};
 ghost use Rattle.fints_syntax.specs.Kind.{kind_from};
 ghost use Rattle.fints_wire.specs.Filling.{make_segment};
 ghost use Rattle.fints_wire.specs.Messages.{twelve_digits, first_segment, last_segment};

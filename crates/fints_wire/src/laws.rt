@@ -1,6 +1,6 @@
 //! Laws of the messages of steps: each function's contract is one.
 ghost use Rattle.std.specs.Prelude.{List};
-ghost use Rattle.fints_field_rows.specs.declared.fields.NamedField.{NamedField};
+ghost use Rattle.fints_script_rows.specs.declared.fields.NamedField.{NamedField};
 ghost use Rattle.fints_script.specs.Plans.{Admits};
 ghost use Rattle.fints_wire.specs.Choices.{longest_choice, shortest_choice};
 ghost use Rattle.fints_wire.specs.Laws.{AccountsArePutIn, BodyHasNoOthers, BodyIsTemplates, DialogIsOneItem, EachSignerEnds, ElementsAreFilled, FieldsArePutIn, LiteralsStand, LongestValuesAreMost, MessagesAreShort, OnlyItsItemsAreSet, SetValueIsAdmitted};

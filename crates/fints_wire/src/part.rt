@@ -1,6 +1,6 @@
 //! The segments of a step before they are filled.
 ghost use Rattle.std.specs.Prelude.{◌≡◌, ◌<◌, ◌≤◌, ◌+◌, codes, get_or, length, All};
-ghost use Rattle.fints_templates.specs.declared.template.Template.{Template};
+ghost use Rattle.fints_script_templates.specs.declared.template.Template.{Template};
 ghost use Rattle.fints_script.specs.Scripts.{ScriptValue};
 ghost use Rattle.fints_wire.specs.Messages.{templates_of, signer_at, head_template, end_template};
 
@@ -17,7 +17,7 @@ pub struct Part<'a> {
 }
 
 impl<'a> Model for Part<'a> {
-    ghost use Rattle.fints_templates.specs.declared.template.Template.{Template};
+    ghost use Rattle.fints_script_templates.specs.declared.template.Template.{Template};
 
     ghost Value = { Template };
 

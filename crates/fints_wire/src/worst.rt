@@ -2,7 +2,7 @@
 ghost use Rattle.std.specs.Prelude.{codes, ◌≡◌, ◌<◌, ◌≤◌, ◌+◌, ◌^◌, Some, get_or, length, map};
 ghost use Rattle.std.specs.Fmt.{decimal};
 ghost use Rattle.fints_syntax.specs.Kind.{IsKindText};
-ghost use Rattle.fints_segments.specs.Spelling.{written};
+ghost use Rattle.fints_syntax_segments.specs.Spelling.{written};
 ghost use Rattle.fints_script.specs.Numbered.{numbered};
 ghost use Rattle.fints_script.specs.Scripts.{ScriptValue};
 ghost use Rattle.fints_script.specs.Sound.{IsSound, IsSoundStep};

@@ -1,6 +1,6 @@
 use Rattle.fints_check.proofs.Promising as promising
-use Rattle.fints_cases.proofs.LawLemmas.{open_branches_lead}
-use Rattle.fints_findings.proofs.LawLemmas.{release_is_left}
+use Rattle.fints_script_cases.proofs.LawLemmas.{open_branches_lead}
+use Rattle.fints_check_findings.proofs.LawLemmas.{release_is_left}
 use Rattle.fints_wire.proofs.LawLemmas.{messages_are_read, none_is_longer_most}
 use Rattle.fints_wire.proofs.RunLawLemmas.{each_is_last, each_is_last_after, last_messages, runs_by_steps, visits_are_within}
 use Rattle.fints_check.proofs.laws.closed_promises.Goals as goal

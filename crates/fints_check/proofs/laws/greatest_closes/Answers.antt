@@ -1,5 +1,5 @@
 use Rattle.fints_check.proofs.Closing.{closes}
-use Rattle.fints_cases.proofs.LawLemmas.{open_branches_lead}
+use Rattle.fints_script_cases.proofs.LawLemmas.{open_branches_lead}
 use Rattle.fints_wire.proofs.LawLemmas.{extremes_are_admitted_longest, messages_are_read}
 use Rattle.fints_wire.proofs.RunLawLemmas.{last_messages, runs_by_steps, visits_are_within}
 use Rattle.fints_check.proofs.laws.greatest_closes.Goals as goal

@@ -1,7 +1,7 @@
 use Rattle.std.proofs.Common.{ℕ, ◌≡◌, ◌+◌, ◌-◌, List, [], ◌∷◌, Some, take, sym, subst, arith}
 use Rattle.std.specs.List.{All, slice_get}
 use Rattle.std.proofs.lemmas.List.Elements.{All-append, All-cons}
-use Rattle.fints_fields.specs.Names.{IsName}
+use Rattle.fints_script_fields.specs.Names.{IsName}
 use Rattle.fints_script.specs.Plans.{PlanValue}
 use Rattle.fints_script.specs.Steps.{StepValue}
 use Rattle.fints_check.specs.Certificates.{line_names, step_names}

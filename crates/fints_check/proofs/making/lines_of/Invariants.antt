@@ -1,6 +1,6 @@
 use Rattle.std.proofs.Common.{◌≡◌, take}
 use Rattle.std.specs.List.{All}
-use Rattle.fints_fields.specs.Names.{IsName}
+use Rattle.fints_script_fields.specs.Names.{IsName}
 use Rattle.fints_check.specs.Certificates.{line_names, step_names}
 use Rattle.fints_check.specs.declared.certificate.Line.{Line}
 use Rattle.fints_check.proofs.LinesMade.{AreFiguresTo}

@@ -1,8 +1,8 @@
 use Rattle.std.proofs.Common.{◌∷◌, [], ap, refl, sym, subst, ◌∙◌}
 use Rattle.std.proofs.lemmas.Bool.{false≢true}
 use Rattle.std.proofs.lemmas.List.{map-append}
-use Rattle.fints_fields.specs.NameSets.{HoldsNames}
-use Rattle.fints_fields.specs.NameSetLaws.{lacked_is_new, names_more}
+use Rattle.fints_script_fields.specs.NameSets.{HoldsNames}
+use Rattle.fints_script_fields.specs.NameSetLaws.{lacked_is_new, names_more}
 use Rattle.fints_check.specs.Certificates.{line_names}
 use Rattle.fints_check.specs.declared.certificate.Line.{Line}
 use Rattle.fints_check.proofs.reading.add.Goals as goal

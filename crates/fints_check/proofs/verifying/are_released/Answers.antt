@@ -1,6 +1,6 @@
 use Rattle.std.proofs.Common.{ℕ, ◌≡◌, refl, subst, arith, inl, inr}
 use Rattle.std.proofs.lemmas.Bool.{both_ways, cases_lt}
-use Rattle.fints_findings.specs.Releases.{IsUnreleased}
+use Rattle.fints_check_findings.specs.Releases.{IsUnreleased}
 use Rattle.fints_script.specs.Numbered.{numbered_within}
 use Rattle.fints_check.specs.Certificates.{Names}
 use Rattle.fints_check.proofs.verifying.are_released.Goals as goal

@@ -1,6 +1,6 @@
 use Rattle.std.proofs.Common.{ℕ, ◌<◌}
-use Rattle.fints_findings.specs.Releases.{IsUnreleased}
-use Rattle.fints_findings.specs.declared.finding.Reached.{Reached}
+use Rattle.fints_check_findings.specs.Releases.{IsUnreleased}
+use Rattle.fints_check_findings.specs.declared.finding.Reached.{Reached}
 use Rattle.fints_check.specs.Certificates.{Names}
 use Rattle.fints_check.proofs.verifying.are_released.Given as goal
 

@@ -1,5 +1,5 @@
 use Rattle.std.proofs.Common.{ℕ, ◌<◌, ◌≤◌}
-use Rattle.fints_cases.specs.Answers.{IsOpen, target_of}
+use Rattle.fints_script_cases.specs.Answers.{IsOpen, target_of}
 use Rattle.fints_check.specs.Certificates.{GoesOn}
 use Rattle.fints_check.proofs.verifying.goes_on.Given as goal
 

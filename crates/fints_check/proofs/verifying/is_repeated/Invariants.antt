@@ -1,6 +1,6 @@
 use Rattle.std.proofs.Common.{ℕ, ◌≡◌, ◌<◌, ◌≤◌}
-use Rattle.fints_cases.specs.Answers.{IsOpen, target_of}
-use Rattle.fints_cases.specs.declared.answers.Target.TheVariants.{Again}
+use Rattle.fints_script_cases.specs.Answers.{IsOpen, target_of}
+use Rattle.fints_script_cases.specs.declared.answers.Target.TheVariants.{Again}
 use Rattle.fints_check.proofs.verifying.is_repeated.Given as goal
 
 -- no branch so far is open and leads back

@@ -3,9 +3,9 @@ use Rattle.std.proofs.lemmas.Bool.{cases_lt}
 use Rattle.std.proofs.lemmas.List.{length-set}
 use Rattle.std.proofs.lemmas.Option.{same_Some}
 use Rattle.fints_script.specs.Steps.{StepValue}
-use Rattle.fints_cases.specs.declared.answers.Target.TheVariants.{Again}
+use Rattle.fints_script_cases.specs.declared.answers.Target.TheVariants.{Again}
 use Rattle.fints_script.specs.Numbered.{numbered_from, numbered_within}
-use Rattle.fints_cases.specs.Answers.{IsOpenTo}
+use Rattle.fints_script_cases.specs.Answers.{IsOpenTo}
 use Rattle.fints_check.proofs.Numbered.{numbered_is, set_here, set_other}
 use Rattle.fints_check.proofs.verifying.repeats.Goals as goal
 

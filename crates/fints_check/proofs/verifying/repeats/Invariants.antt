@@ -1,8 +1,8 @@
 use Rattle.std.proofs.Common.{ℕ, ◌≡◌, ◌↔◌, ◌<◌, length, true, Some, slice_get}
 use Rattle.fints_script.specs.Steps.{StepValue}
-use Rattle.fints_cases.specs.declared.answers.Target.TheVariants.{Again}
-use Rattle.fints_cases.specs.Answers.{IsOpenTo}
-use Rattle.fints_field_rows.specs.declared.limits.TheConstants.{MAX_STEPS}
+use Rattle.fints_script_cases.specs.declared.answers.Target.TheVariants.{Again}
+use Rattle.fints_script_cases.specs.Answers.{IsOpenTo}
+use Rattle.fints_script_rows.specs.declared.limits.TheConstants.{MAX_STEPS}
 use Rattle.fints_check.proofs.verifying.repeats.Given as goal
 
 -- the flags so far

@@ -3,7 +3,7 @@ use Rattle.std.proofs.lemmas.Option.{same_Some}
 use Rattle.fints_script.specs.Numbered.{numbered_of}
 use Rattle.fints_script.specs.Steps.{StepValue}
 use Rattle.fints_check.specs.Certificates.{LineHolds}
-use Rattle.fints_findings.specs.declared.finding.Reached.{Reached}
+use Rattle.fints_check_findings.specs.declared.finding.Reached.{Reached}
 use Rattle.fints_check.proofs.verifying.step_holds.Goals as goal
 
 pub returns-in-Some : goal.returns-in-Some

@@ -1,6 +1,6 @@
 use Rattle.std.proofs.Common.{subst, refl, inr}
 use Rattle.std.specs.Prelude.{string_bytes}
-use Rattle.fints_files.specs.Streams.{GetsPrefix}
+use Rattle.fints_cli_files.specs.Streams.{GetsPrefix}
 use Rattle.fints_cli.proofs.CutAnswers.{cut_answer}
 use Rattle.fints_cli.proofs.responding.respond.Goals as goal
 

@@ -1,7 +1,7 @@
 use Rattle.std.proofs.Common.{◌≡◌, ◌∙◌, ◌<◌, true, false, List, ℕ, length, map, ap, sym, subst, arith, drop, refl}
 use Rattle.std.proofs.lemmas.List.{length-map}
-use Rattle.fints_segments.specs.Segment.{item_value}
-use Rattle.fints_segments.specs.Values.{values_at}
+use Rattle.fints_syntax_segments.specs.Segment.{item_value}
+use Rattle.fints_syntax_segments.specs.Values.{values_at}
 use Rattle.fints_params.specs.Pins.{is_good_pair, pin_row}
 use Rattle.fints_params.proofs.Pairs.{good_in, pair_at, pair_is, left_more, left_bad}
 use Rattle.fints_params.proofs.pins.read_pins.Goals as goal

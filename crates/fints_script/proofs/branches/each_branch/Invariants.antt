@@ -1,6 +1,6 @@
 use Rattle.std.proofs.Common.{map, take}
 use Rattle.toml.specs.View.{view}
-use Rattle.fints_field_rows.specs.Parts.{Gives, each}
+use Rattle.fints_script_rows.specs.Parts.{Gives, each}
 use Rattle.fints_script.specs.Steps.{branch_in}
 use Rattle.fints_script.proofs.branches.each_branch.Given as goal
 

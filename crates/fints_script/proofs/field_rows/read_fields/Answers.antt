@@ -4,11 +4,11 @@ use Rattle.std.proofs.lemmas.Result.{err_from_is_err_and}
 use Rattle.toml.specs.declared.value.Value.{Value}
 use Rattle.toml.specs.Data.{Data}
 use Rattle.toml.specs.View.{view}
-use Rattle.fints_field_rows.specs.Fields.{field_in, field_value}
-use Rattle.fints_field_rows.specs.Parts.{Gives}
-use Rattle.fints_field_rows.specs.declared.fault.FaultKind.{FaultKind}
-use Rattle.fints_field_rows.specs.declared.fault.Place.TheVariants as places
-use Rattle.fints_field_rows.specs.declared.fields.NamedField.{NamedField}
+use Rattle.fints_script_rows.specs.Fields.{field_in, field_value}
+use Rattle.fints_script_rows.specs.Parts.{Gives}
+use Rattle.fints_script_rows.specs.declared.fault.FaultKind.{FaultKind}
+use Rattle.fints_script_rows.specs.declared.fault.Place.TheVariants as places
+use Rattle.fints_script_rows.specs.declared.fields.NamedField.{NamedField}
 use Rattle.fints_script.proofs.RowLemmas.{read_all, read_more, read_stop}
 use Rattle.fints_script.proofs.field_rows.read_fields.Goals as goal
 

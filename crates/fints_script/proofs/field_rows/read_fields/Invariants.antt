@@ -1,9 +1,9 @@
 use Rattle.std.proofs.Common.{◌≡◌, ◌∷◌, List, map, take, Ok}
 use Rattle.toml.specs.View.{view}
-use Rattle.fints_field_rows.specs.Fields.{field_in, field_value}
-use Rattle.fints_field_rows.specs.Rows.{rows_from}
-use Rattle.fints_field_rows.specs.declared.fault.Place.TheVariants as places
-use Rattle.fints_field_rows.specs.declared.fields.NamedField.{NamedField}
+use Rattle.fints_script_rows.specs.Fields.{field_in, field_value}
+use Rattle.fints_script_rows.specs.Rows.{rows_from}
+use Rattle.fints_script_rows.specs.declared.fault.Place.TheVariants as places
+use Rattle.fints_script_rows.specs.declared.fields.NamedField.{NamedField}
 use Rattle.fints_script.specs.Scripts.{IsDialogField}
 use Rattle.fints_script.proofs.field_rows.read_fields.Given as goal
 

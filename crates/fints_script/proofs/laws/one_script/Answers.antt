@@ -1,6 +1,6 @@
 use Rattle.fints_script.proofs.OneScript.{no_script, one_fault, one_script}
-use Rattle.fints_field_rows.proofs.LawLemmas.{one_field}
-use Rattle.fints_fields.proofs.ClassLawLemmas.{one_class_text}
+use Rattle.fints_script_rows.proofs.LawLemmas.{one_field}
+use Rattle.fints_script_fields.proofs.ClassLawLemmas.{one_class_text}
 use Rattle.fints_script.proofs.laws.one_script.Goals as goal
 
 pub returns-clause-one : goal.returns-clause-one

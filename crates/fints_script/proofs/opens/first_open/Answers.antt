@@ -1,5 +1,5 @@
 use Rattle.std.proofs.Common.{◌≡◌, ◌<◌, length, None, sym, ◌∙◌, subst, arith}
-use Rattle.fints_templates.specs.declared.template.Template.{Template}
+use Rattle.fints_script_templates.specs.declared.template.Template.{Template}
 use Rattle.fints_script.specs.Plans.{open_of}
 use Rattle.fints_script.proofs.PlanLemmas.{each_more}
 use Rattle.fints_script.proofs.opens.first_open.Goals as goal

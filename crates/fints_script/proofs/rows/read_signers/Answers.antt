@@ -4,12 +4,12 @@ use Rattle.std.proofs.lemmas.Result.{err_from_is_err_and}
 use Rattle.toml.specs.declared.value.Value.{Value}
 use Rattle.toml.specs.Data.{Data}
 use Rattle.toml.specs.View.{view}
-use Rattle.fints_field_rows.specs.Parts.{Gives}
-use Rattle.fints_field_rows.specs.declared.fault.FaultKind.{FaultKind}
-use Rattle.fints_field_rows.specs.declared.fault.Place.TheVariants as places
-use Rattle.fints_field_rows.specs.declared.fields.NamedField.{NamedField}
-use Rattle.fints_templates.specs.Signers.{signer_in}
-use Rattle.fints_templates.specs.declared.template.Signer.{Signer}
+use Rattle.fints_script_rows.specs.Parts.{Gives}
+use Rattle.fints_script_rows.specs.declared.fault.FaultKind.{FaultKind}
+use Rattle.fints_script_rows.specs.declared.fault.Place.TheVariants as places
+use Rattle.fints_script_rows.specs.declared.fields.NamedField.{NamedField}
+use Rattle.fints_script_templates.specs.Signers.{signer_in}
+use Rattle.fints_script_templates.specs.declared.template.Signer.{Signer}
 use Rattle.fints_script.proofs.RowLemmas.{read_more, read_stop}
 use Rattle.fints_script.proofs.rows.read_signers.Goals as goal
 

@@ -1,8 +1,8 @@
 use Rattle.std.proofs.Common.{◌≡◌, map, take, Ok}
 use Rattle.toml.specs.View.{view}
-use Rattle.fints_field_rows.specs.Rows.{rows_from}
-use Rattle.fints_field_rows.specs.declared.fault.Place.TheVariants as places
-use Rattle.fints_templates.specs.Signers.{signer_in}
+use Rattle.fints_script_rows.specs.Rows.{rows_from}
+use Rattle.fints_script_rows.specs.declared.fault.Place.TheVariants as places
+use Rattle.fints_script_templates.specs.Signers.{signer_in}
 use Rattle.fints_script.proofs.rows.read_signers.Given as goal
 
 abbrev pub invariant-loop-i : goal.invariant-loop-i

@@ -1,8 +1,8 @@
 use Rattle.std.proofs.Common.{◌≡◌, ◌⊎◌, ◌∙◌, ◌<◌, ap, arith, Err, length, map, Ok, subst, sym}
 use Rattle.std.proofs.lemmas.Result.{err_from_is_err_and}
 use Rattle.toml.specs.View.{view}
-use Rattle.fints_field_rows.specs.Rows.{no_memory, rows_from}
-use Rattle.fints_field_rows.specs.declared.fault.Place.TheVariants as places
+use Rattle.fints_script_rows.specs.Rows.{no_memory, rows_from}
+use Rattle.fints_script_rows.specs.declared.fault.Place.TheVariants as places
 use Rattle.fints_script.specs.Around.{surroundings_of}
 use Rattle.fints_script.specs.Steps.{step_in}
 use Rattle.fints_script.proofs.RowLemmas.{read_more, read_stop}

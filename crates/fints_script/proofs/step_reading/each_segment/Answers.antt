@@ -1,5 +1,5 @@
-use Rattle.fints_field_rows.specs.PartLaws.{each_step}
-use Rattle.fints_templates.specs.Segments.{segment_in}
+use Rattle.fints_script_rows.specs.PartLaws.{each_step}
+use Rattle.fints_script_templates.specs.Segments.{segment_in}
 use Rattle.fints_script.proofs.step_reading.each_segment.Goals as goal
 
 pub loop-row-preserved : goal.loop-row-preserved

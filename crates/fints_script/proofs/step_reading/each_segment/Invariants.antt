@@ -1,7 +1,7 @@
 use Rattle.std.proofs.Common.{map, take}
 use Rattle.toml.specs.View.{view}
-use Rattle.fints_field_rows.specs.Parts.{Gives, each}
-use Rattle.fints_templates.specs.Segments.{segment_in}
+use Rattle.fints_script_rows.specs.Parts.{Gives, each}
+use Rattle.fints_script_templates.specs.Segments.{segment_in}
 use Rattle.fints_script.proofs.step_reading.each_segment.Given as goal
 
 abbrev pub invariant-loop-row : goal.invariant-loop-row

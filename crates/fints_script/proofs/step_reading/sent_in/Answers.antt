@@ -1,8 +1,8 @@
 use Rattle.std.proofs.Common.{◌≡◌, ◌∙◌, ap, rules, subst, sym}
 use Rattle.std.specs.Prelude.{is_some}
 use Rattle.toml.specs.View.{table_view}
-use Rattle.fints_field_rows.specs.PartLaws.{both_gives}
-use Rattle.fints_field_rows.specs.Parts.{Gives, both}
+use Rattle.fints_script_rows.specs.PartLaws.{both_gives}
+use Rattle.fints_script_rows.specs.Parts.{Gives, both}
 use Rattle.fints_script.specs.Around.{seen_sent, surroundings_of}
 use Rattle.fints_script.specs.Steps.{sealed_at, segments_at, sent_in, signatures_at}
 use Rattle.fints_script.proofs.RowLemmas.{exact_gives}

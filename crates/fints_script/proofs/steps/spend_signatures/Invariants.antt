@@ -1,5 +1,5 @@
 use Rattle.std.proofs.Common.{◌≡◌, ◌+◌, drop}
-use Rattle.fints_templates.specs.Weights.{total}
+use Rattle.fints_script_templates.specs.Weights.{total}
 use Rattle.fints_script.specs.Steps.{signature_weight}
 use Rattle.fints_script.proofs.steps.spend_signatures.Given as goal
 

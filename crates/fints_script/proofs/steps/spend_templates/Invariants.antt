@@ -1,5 +1,5 @@
 use Rattle.std.proofs.Common.{◌≡◌, ◌+◌, drop}
-use Rattle.fints_templates.specs.Weights.{total, segment_weight}
+use Rattle.fints_script_templates.specs.Weights.{total, segment_weight}
 use Rattle.fints_script.proofs.steps.spend_templates.Given as goal
 
 abbrev pub invariant-loop-template : goal.invariant-loop-template

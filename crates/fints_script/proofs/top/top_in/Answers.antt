@@ -1,7 +1,7 @@
 use Rattle.std.proofs.Common.{◌∙◌, ap, map, sym}
 use Rattle.std.proofs.lemmas.Result.{err_from_is_err_and}
 use Rattle.toml.specs.View.{view, table_view}
-use Rattle.fints_field_rows.specs.Parts.{both}
+use Rattle.fints_script_rows.specs.Parts.{both}
 use Rattle.fints_script.proofs.TopErrors.{no_top}
 use Rattle.fints_script.proofs.top.top_in.Goals as goal
 

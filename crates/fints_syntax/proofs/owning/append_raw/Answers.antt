@@ -1,5 +1,5 @@
 use Rattle.std.proofs.Common.{◌≡◌, ◌∙◌, subst, rules, arith}
-use Rattle.fints_segments.specs.Spelling.{text_bytes, text_value}
+use Rattle.fints_syntax_segments.specs.Spelling.{text_bytes, text_value}
 use Rattle.fints_syntax.specs.Items.{HasNoEscape}
 use Rattle.fints_syntax.proofs.Values.{no_escape_value}
 use Rattle.fints_syntax.proofs.owning.append_raw.Goals as goal

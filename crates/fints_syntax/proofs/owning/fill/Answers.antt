@@ -1,9 +1,9 @@
 use Rattle.std.proofs.Common.{◌∙◌, ap, List, drop}
-use Rattle.fints_segments.specs.Segment.{values_of}
+use Rattle.fints_syntax_segments.specs.Segment.{values_of}
 use Rattle.fints_syntax.specs.Reader.{segment_in}
 use Rattle.fints_syntax.specs.Cursor.{after_element}
-use Rattle.fints_segments.specs.Flat as flat
-use Rattle.fints_segments.specs.declared.item.OwnedItem.{OwnedItem}
+use Rattle.fints_syntax_segments.specs.Flat as flat
+use Rattle.fints_syntax_segments.specs.declared.item.OwnedItem.{OwnedItem}
 use Rattle.fints_syntax.proofs.Fills.{filled_start, filled_colon, filled_other, filled_end}
 use Rattle.fints_syntax.proofs.owning.fill.Goals as goal
 

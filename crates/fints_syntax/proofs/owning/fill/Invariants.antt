@@ -1,5 +1,5 @@
 use Rattle.std.proofs.Common.{length, drop}
-use Rattle.fints_segments.specs.Segment.{values_of}
+use Rattle.fints_syntax_segments.specs.Segment.{values_of}
 use Rattle.fints_syntax.specs.Reader.{segment_in}
 use Rattle.fints_syntax.proofs.Fills.{Filled}
 use Rattle.fints_syntax.proofs.owning.fill.Given as goal

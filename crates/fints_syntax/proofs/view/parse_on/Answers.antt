@@ -1,6 +1,6 @@
 use Rattle.std.proofs.Common.{◌≡◌, ◌≤◌, ◌∙◌, length, take, Some, None, sym, ap, subst, inr, refl, arith}
 use Rattle.std.proofs.lemmas.List.{length-take}
-use Rattle.fints_segments.specs.Segment.{values_of, head_of}
+use Rattle.fints_syntax_segments.specs.Segment.{values_of, head_of}
 use Rattle.fints_syntax.specs.Reader.{segment_in}
 use Rattle.fints_syntax.specs.Window.{IsFrameOf}
 use Rattle.fints_syntax.specs.Faults.{IsUnfinished, BeginsWithSegment, BeginsFramed, window_of}

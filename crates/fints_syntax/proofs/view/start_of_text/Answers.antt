@@ -1,5 +1,5 @@
 use Rattle.std.proofs.Common.{◌≡◌, ◌∙◌, ◌+◌, ◌-◌, length, take, ap, sym, subst, arith}
-use Rattle.fints_segments.specs.Spelling.{spelled_bytes}
+use Rattle.fints_syntax_segments.specs.Spelling.{spelled_bytes}
 use Rattle.fints_syntax.specs.declared.text.Item.TheVariants.{Text, Bin}
 use Rattle.fints_syntax.specs.ItemIs.{IsItem}
 use Rattle.fints_syntax.specs.Locate.{IsPlace, found_in}

@@ -1,6 +1,6 @@
 use Rattle.std.proofs.Common.{◌≡◌, ◌-◌, ◌<◌, List, ℕ, length, Some, ap, subst, sym, ◌∙◌, arith}
 use Rattle.std.specs.List.{slice_get}
-use Rattle.fints_messages.specs.Messages.{IsMessage}
+use Rattle.fints_rules_messages.specs.Messages.{IsMessage}
 use Rattle.fints_script.specs.Scripts.{ScriptValue}
 use Rattle.fints_script.specs.Sound.{IsSound, IsSoundStep}
 use Rattle.fints_script.specs.Steps.{StepValue}

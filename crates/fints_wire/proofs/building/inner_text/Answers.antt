@@ -1,6 +1,6 @@
 use Rattle.std.proofs.Common.{◌≡◌, ◌+◌, ◌++◌, ◌<◌, get_or, drop, length, ap, subst, sym, ◌∙◌, arith}
-use Rattle.fints_segments.specs.Written.{written_segment}
-use Rattle.fints_templates.specs.declared.template.Template.{Template}
+use Rattle.fints_syntax_segments.specs.Written.{written_segment}
+use Rattle.fints_script_templates.specs.declared.template.Template.{Template}
 use Rattle.fints_wire.specs.Filling.{AreFilled, filled_segment, filled_segments}
 use Rattle.fints_wire.specs.Messages.{inner_segments, segments_text, templates_of}
 use Rattle.fints_wire.proofs.TextLemmas.{moves, segments_more}

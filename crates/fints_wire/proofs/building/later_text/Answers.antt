@@ -1,6 +1,6 @@
 use Rattle.std.proofs.Common.{◌≡◌, ◌++◌, ◌+◌, [], ap, ◌∙◌, arith, length}
 use Rattle.std.proofs.lemmas.List.{flat_map_more}
-use Rattle.fints_segments.specs.Written.{written_segment}
+use Rattle.fints_syntax_segments.specs.Written.{written_segment}
 use Rattle.fints_wire.specs.Messages.{between_segments, last_segment, segments_text, templates_of}
 use Rattle.fints_wire.proofs.building.later_text.Goals as goal
 

@@ -1,5 +1,5 @@
 use Rattle.std.proofs.Common.{◌≡◌, [], drop}
-use Rattle.fints_fields.specs.Listed.{account_text, first_with}
+use Rattle.fints_script_fields.specs.Listed.{account_text, first_with}
 use Rattle.fints_wire.proofs.filling.account_items.Given as goal
 
 abbrev pub invariant-loop-account : goal.invariant-loop-account

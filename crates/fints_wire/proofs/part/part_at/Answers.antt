@@ -1,6 +1,6 @@
 use Rattle.std.proofs.Common.{◌≡◌, ◌+◌, ◌-◌, ◌<◌, ℕ, List, get_or, length, ap, sym, ◌∙◌, arith}
 use Rattle.fints_wire.specs.Messages.{signer_at, head_template, end_template}
-use Rattle.fints_templates.specs.declared.template.Signer.{Signer}
+use Rattle.fints_script_templates.specs.declared.template.Signer.{Signer}
 use Rattle.fints_wire.proofs.PartLemmas.{part_head, part_end, has_parts}
 use Rattle.fints_wire.proofs.part.part_at.Goals as goal
 

@@ -1,7 +1,7 @@
 use Rattle.std.proofs.Common.{List, ap, subst, sym, ◌∙◌}
 use Rattle.fints_script.specs.Plans.{Admits}
-use Rattle.fints_field_rows.specs.declared.fields.NamedField.{NamedField}
-use Rattle.fints_cases.specs.declared.values.NamedValue.{NamedValue}
+use Rattle.fints_script_rows.specs.declared.fields.NamedField.{NamedField}
+use Rattle.fints_script_cases.specs.declared.values.NamedValue.{NamedValue}
 use Rattle.fints_wire.specs.Choices.{shortest_choice}
 use Rattle.fints_wire.proofs.ChoiceLemmas.{shortest_admitted}
 use Rattle.fints_wire.proofs.values.least_values.Goals as goal

@@ -1,5 +1,5 @@
 use Rattle.std.proofs.Common.{◌≡◌, ap, ◌∙◌, arith}
-use Rattle.fints_fields.specs.Lengths.{text_len}
+use Rattle.fints_script_fields.specs.Lengths.{text_len}
 use Rattle.fints_wire.proofs.Counting.{number_text-len}
 use Rattle.fints_wire.proofs.Weighing.{kind_len}
 use Rattle.fints_wire.proofs.worst.head_size.Goals as goal

@@ -1,7 +1,7 @@
 use Rattle.std.proofs.Common.{◌≡◌, ◌+◌, ◌<◌, ◌≤◌, ℕ, map, length, get_or, drop, ap, sym, subst, arith}
 use Rattle.fints_syntax.specs.Kind.{IsKindText}
-use Rattle.fints_templates.specs.Figures.{figures_of}
-use Rattle.fints_templates.specs.declared.template.Template.{Template}
+use Rattle.fints_script_templates.specs.Figures.{figures_of}
+use Rattle.fints_script_templates.specs.declared.template.Template.{Template}
 use Rattle.fints_wire.specs.Lengths.{elements_len, head_len, longest_sizes, segments_len}
 use Rattle.fints_wire.specs.Messages.{templates_of}
 use Rattle.fints_wire.proofs.Weighing.{longest_within, segments-drop, segments-end, small_templates, step_short}

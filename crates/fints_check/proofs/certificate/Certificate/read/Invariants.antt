@@ -1,5 +1,5 @@
 use Rattle.std.proofs.Common.{length}
-use Rattle.fints_fields.specs.NameSets.{HoldsNames}
+use Rattle.fints_script_fields.specs.NameSets.{HoldsNames}
 use Rattle.fints_check.specs.Certificates.{line_names}
 use Rattle.fints_check.proofs.CertReads.{Read}
 use Rattle.fints_check.proofs.certificate.Certificate.read.Given as goal

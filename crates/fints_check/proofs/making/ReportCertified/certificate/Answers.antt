@@ -1,6 +1,6 @@
 use Rattle.std.proofs.Common.{rules, ◌≡◌, [], List, sym, subst}
-use Rattle.fints_findings.specs.Findings.{AreFindings}
-use Rattle.fints_findings.specs.declared.finding.Finding.{Finding}
+use Rattle.fints_check_findings.specs.Findings.{AreFindings}
+use Rattle.fints_check_findings.specs.declared.finding.Finding.{Finding}
 use Rattle.fints_script.specs.Plans.{PlanValue}
 use Rattle.fints_script.specs.Sound.{IsSound}
 use Rattle.fints_check.specs.Certificates.{IsClosedCertificate}

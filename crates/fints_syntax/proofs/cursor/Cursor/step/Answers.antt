@@ -1,5 +1,5 @@
 use Rattle.std.proofs.Common.{◌≡◌, ◌<◌, ◌∷◌, ◌∙◌, List, length, sym, ap, subst, arith}
-use Rattle.fints_segments.specs.Segment.{Token}
+use Rattle.fints_syntax_segments.specs.Segment.{Token}
 use Rattle.fints_syntax.specs.Reader.{tokens_in, item_in}
 use Rattle.fints_syntax.specs.Items.{IsSpelledText}
 use Rattle.fints_syntax.specs.ItemIs.{IsItem}

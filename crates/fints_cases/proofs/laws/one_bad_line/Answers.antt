@@ -1,7 +1,0 @@
-use Rattle.fints_lines.specs.LineLaws as texts
-use Rattle.fints_cases.specs.Cases.{AreCaseLines}
-use Rattle.fints_cases.proofs.CaseLines.{case_without}
-use Rattle.fints_cases.proofs.laws.one_bad_line.Goals as goal
-
-pub returns : goal.returns
-returns c = texts.one_bad_line AreCaseLines case_without

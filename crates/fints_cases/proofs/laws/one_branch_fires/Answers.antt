@@ -1,5 +1,0 @@
-use Rattle.fints_cases.proofs.Firing.{one_branch}
-use Rattle.fints_cases.proofs.laws.one_branch_fires.Goals as goal
-
-pub returns : goal.returns
-returns c = one_branch

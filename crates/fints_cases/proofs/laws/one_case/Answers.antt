@@ -1,5 +1,0 @@
-use Rattle.fints_cases.proofs.CaseReads as reads
-use Rattle.fints_cases.proofs.laws.one_case.Goals as goal
-
-pub returns : goal.returns
-returns c = reads.one_case

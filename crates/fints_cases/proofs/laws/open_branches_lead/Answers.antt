@@ -1,5 +1,0 @@
-use Rattle.fints_cases.proofs.Firing.{open_leads}
-use Rattle.fints_cases.proofs.laws.open_branches_lead.Goals as goal
-
-pub returns : goal.returns
-returns c = open_leads

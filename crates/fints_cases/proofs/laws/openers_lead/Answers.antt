@@ -1,5 +1,0 @@
-use Rattle.fints_cases.proofs.Firing.{opener_leads}
-use Rattle.fints_cases.proofs.laws.openers_lead.Goals as goal
-
-pub returns : goal.returns
-returns c = opener_leads

@@ -1,0 +1,34 @@
+use Rattle.std.proofs.Common.{ℕ, ◌≡◌, ◌∙◌, List, Some, slice_get, sym, subst}
+use Rattle.std.proofs.lemmas.Option.{same_Some}
+use Rattle.fints_script_rows.specs.declared.fields.NamedField.{NamedField}
+use Rattle.fints_rules.specs.Breaks.{Breaks}
+use Rattle.fints_rules_permissions.specs.declared.orders.OrderRow.{OrderRow}
+use Rattle.fints_script.specs.Plans.{Admits, IsClosedTemplate}
+use Rattle.fints_script.specs.Steps.{StepValue}
+use Rattle.fints_script_templates.specs.declared.template.Template.{Template}
+use Rattle.fints_wire.specs.Views.{message_view}
+use Rattle.fints_check_findings.specs.Choosing.{BreaksWith}
+use Rattle.fints_check_findings.specs.Elements.{wants_tan}
+use Rattle.fints_check_findings.specs.StepFacts.{Decides, StepBreaks, message_for}
+use Rattle.fints_check_findings.proofs.Deciding.{message_is}
+use Rattle.fints_check_findings.proofs.LawLemmas.{templates_decide}
+use Rattle.fints_script.proofs.LawLemmas.{closed_segments}
+use Rattle.fints_check_findings.proofs.casing.choice_of.Goals as goal
+
+pub step_choice-requires : goal.step_choice-requires
+step_choice-requires c = (c.step_facts-facts.ensures c.step-step.result.now c.step-step.ensures.numbered).counts
+
+pub returns : goal.returns
+returns c step other values lower at plain admits h is =
+    let script = c.args.plan.now.script in
+    let granted = c.args.permissions.now in
+    let s = c.step-step.result.now in
+    let r = c.args.rule in
+    let f = message_for c.step_facts-facts.result (wants_tan r) in
+    let closed = λ (i : ℕ) (t : Template) (there : slice_get s.templates i ≡ Some t).
+    subst (λ (table : List OrderRow). IsClosedTemplate script.fields table t) (sym c.requires.orders) (closed_segments script c.args.plan.now.orders c.keeps.ensures.closed c.args.n i s t c.step-step.ensures.numbered there) in
+    let d : Decides granted script s r f = templates_decide script granted s r f c.step-step.ensures.sound c.step-step.ensures.sound_step closed plain (message_is granted script s c.step_facts-facts.result (c.step_facts-facts.ensures s c.step-step.ensures.numbered) (wants_tan r)) in
+    let same : s ≡ step = same_Some s step (sym c.step-step.ensures.numbered ∙ at) in
+    let chosen = subst (λ (fields : List NamedField). StepBreaks granted fields s f c.args.rule c.args.place → BreaksWith granted fields s f c.args.rule c.args.place c.step_choice.result) c.fields.ensures c.step_choice.ensures in
+    let b = chosen (d.each lower other c.args.place admits (subst (λ (x : StepValue). Breaks granted (message_view script x lower other) c.args.rule c.args.place) (sym same) h)) in
+    subst (λ (x : StepValue). Admits script.fields values × ((number : ℕ) → Breaks granted (message_view script x number values) c.args.rule c.args.place)) same (d.chosen c.args.place c.step_choice.result values b is)

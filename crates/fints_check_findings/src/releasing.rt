@@ -1,0 +1,187 @@
+//! The release rule: which steps leave an order unreleased, and of which step.
+ghost use Rattle.std.specs.Prelude.{◌≡◌, ◌↔◌, ◌<◌, ◌≤◌, ◌+◌, ℕ, length, Some, None, cond, IfOk, IsTrue, MatchOption};
+ghost use Rattle.fints_script_cases.specs.Answers.{target_of};
+ghost use Rattle.fints_script_cases.specs.Carrying.{Carries};
+ghost use Rattle.fints_check_reach.specs.Following.{AreBehind, GoesTo};
+ghost use Rattle.fints_check_reach.specs.Numbers.{Has};
+ghost use Rattle.fints_script.specs.Numbered.{numbered};
+ghost use Rattle.fints_rules.specs.declared.release.TheConstants.{RELEASE};
+ghost use Rattle.fints_check_findings.specs.Releases.{AreHolders, AreSubmittingTo, IsHeld, IsUnreleased, IsUnreleasedAt, releases, submits};
+
+use crate::kinds::some_ends;
+use crate::tans::some_has_process;
+use fints_check_reach::Numbers;
+use fints_params::Code;
+use fints_rules::RELEASE;
+use fints_script::{Plan, Step, Target};
+use fints_syntax::Memory;
+use std::alloc::Global;
+
+/// The code of an answer that has an order wait for its TAN.
+pub fn release_code() -> Code
+    ensures { result ≡ RELEASE }
+{
+    Code::from_number(RELEASE).unwrap()
+}
+
+// Whether an HKTAN of process 4 submits an order.
+fn submits(step: &Step) -> bool
+    ensures { result ≡ submits step.now }
+{
+    some_has_process(step.templates(), b"4")
+}
+
+// Whether an HKTAN of process 2 sends a TAN, or an HKEND ends the dialogue.
+fn releases(step: &Step) -> bool
+    ensures { result ≡ releases step.now }
+{
+    some_has_process(step.templates(), b"2") || some_ends(step.templates())
+}
+
+// The step whose message a branch of step t may have sent next.
+fn next_step(step: &Step, t: usize, branch: usize) -> Option<usize>
+    requires from { 1 ≤ branch }
+    requires to { branch ≤ length step.now.branches + 1 }
+    ensures { MatchOption result
+        ((s : ℕ) → GoesTo step.now t (target_of step.now.branches step.now.otherwise branch) s → ⊥)
+        (GoesTo step.now t (target_of step.now.branches step.now.otherwise branch)) }
+{
+    match step.target(branch) {
+        Target::Step(to) => Some(to as usize),
+        Target::Again => { if step.repeat() >= 2 { Some(t) } else { None } }
+        Target::Stop => None,
+    }
+}
+
+// Whether some answer with 0030 fires the branch.
+fn carries_release(step: &Step, branch: usize) -> bool
+    requires from { 1 ≤ branch }
+    requires to { branch ≤ length step.now.branches + 1 }
+    ensures { IsTrue result ↔ Carries step.now.branches branch RELEASE }
+{
+    step.carries(branch, release_code())
+}
+
+// The step that a branch of step t leads to behind 0030, where it releases nothing. What costs most
+// is asked last.
+fn unreleased_at(plan: &Plan<'_>, t: usize, step: &Step, branch: usize) -> Option<usize>
+    requires at { numbered plan.now.script.steps t ≡ Some step.now }
+    requires from { 1 ≤ branch }
+    requires to { branch ≤ length step.now.branches + 1 }
+    ensures { MatchOption result ((s : ℕ) → IsUnreleasedAt plan.now.script.steps t step.now branch s → ⊥) (IsUnreleasedAt plan.now.script.steps t step.now branch) }
+{
+    plan.keeps();
+    match next_step(step, t, branch) {
+        None => None,
+        Some(s) => {
+            if releases(plan.step(s)) {
+                return None;
+            }
+            if !carries_release(step, branch) {
+                return None;
+            }
+            Some(s)
+        }
+    }
+}
+
+/// For each step whether it submits an order.
+pub fn submitting(alloc: Global, plan: &Plan<'_>) -> Result<Vec<bool>, Memory>
+    ensures { IfOk result (λ marks. AreSubmittingTo plan.now.script.steps (length plan.now.script.steps) marks.items) }
+{
+    let count = plan.step_count();
+    let mut marks = Vec::with_capacity(alloc, count)?;
+    for i in 0..count {
+        marks.push(submits(plan.step(i + 1)))?;
+    }
+    Ok(marks)
+}
+
+// The step that is kept beside this one, unless it releases what that submits.
+fn holder(step: &Step, kept: Option<u16>) -> Option<u16>
+    ensures { result ≡ cond (releases step.now) None kept }
+{
+    if releases(step) { None } else { kept }
+}
+
+/// Beside each step the first step that some run sends and of which it leaves an order unreleased, if
+/// there is one: the one that the pass has kept behind it, unless it releases something.
+pub fn holders(
+    alloc: Global,
+    plan: &Plan<'_>,
+    marks: &[bool],
+    numbers: &Numbers,
+) -> Result<Vec<Option<u16>>, Memory>
+    requires marks { AreSubmittingTo plan.now.script.steps (length plan.now.script.steps) marks.now }
+    requires behind { AreBehind plan.now.script.steps numbers.now.greatest.items marks.now RELEASE numbers.now.behind.items }
+    ensures { IfOk result (λ holders. AreHolders plan.now.script.steps numbers.now.greatest.items holders.items) }
+{
+    let count = plan.step_count();
+    let mut holders = Vec::with_capacity(alloc, count)?;
+    for i in 0..count {
+        holders.push(holder(plan.step(i + 1), numbers.behind[i]))?;
+    }
+    Ok(holders)
+}
+
+// What stands beside step s.
+fn cell_of(holders: &[Option<u16>], s: usize) -> Option<u16>
+    requires from { 1 ≤ s }
+    requires to { s ≤ length holders.now }
+    ensures { numbered holders.now s ≡ Some result }
+{
+    holders[s - 1]
+}
+
+/// The step that is kept beside step s.
+pub fn holder_of(holders: &[Option<u16>], s: usize) -> u16
+    requires from { 1 ≤ s }
+    requires to { s ≤ length holders.now }
+    requires noted { (t : ℕ) × Has holders.now s t }
+    ensures { Has holders.now s result }
+{
+    match cell_of(holders, s) {
+        Some(t) => t,
+        None => 0,
+    }
+}
+
+fn is_unreleased_at(plan: &Plan<'_>, t: usize, step: &Step, branch: usize) -> bool
+    requires at { numbered plan.now.script.steps t ≡ Some step.now }
+    requires from { 1 ≤ branch }
+    requires to { branch ≤ length step.now.branches + 1 }
+    ensures { IsTrue result ↔ ((s : ℕ) × IsUnreleasedAt plan.now.script.steps t step.now branch s) }
+{
+    match unreleased_at(plan, t, step, branch) {
+        None => false,
+        Some(_) => true,
+    }
+}
+
+// Whether no step leaves an order of step t unreleased, by heads and literals.
+fn is_never_held(plan: &Plan<'_>, t: usize) -> bool
+    requires from { 1 ≤ t }
+    requires to { t ≤ length plan.now.script.steps }
+    ensures { IsTrue result ↔ ((s : ℕ) → IsHeld plan.now.script.steps t s → ⊥) }
+{
+    let step = plan.step(t);
+    if !submits(step) {
+        return true;
+    }
+    for branch in 1..step.branches().len() + 2 {
+        if is_unreleased_at(plan, t, step, branch) {
+            return false;
+        }
+    }
+    true
+}
+
+/// Whether no step leaves an order of step t unreleased. It takes no memory.
+pub fn is_released_step(plan: &Plan<'_>, t: usize) -> bool
+    requires from { 1 ≤ t }
+    requires to { t ≤ length plan.now.script.steps }
+    ensures { IsTrue result ↔ ((s : ℕ) → IsUnreleased plan.now.script t s → ⊥) }
+{
+    plan.keeps();
+    is_never_held(plan, t)
+}

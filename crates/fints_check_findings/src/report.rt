@@ -1,0 +1,238 @@
+//! Reports: what the runs of a plan break, and the greatest figures of its steps.
+ghost use Rattle.std.specs.Prelude.{◌≡◌, ◌↔◌, ◌<◌, ◌≤◌, [], length, map, is_some, Some, AllPairs, Contains, IfOk, IsTrue};
+ghost use Rattle.fints_check_reach.specs.Numbers.{all_visits, looked_at, reached_visits};
+ghost use Rattle.fints_script.specs.Numbered.{numbered};
+ghost use Rattle.fints_script.specs.Steps.{StepValue};
+ghost use Rattle.fints_check_findings.specs.Figures.{AreFigures, FiguresAre};
+ghost use Rattle.fints_check_findings.specs.Findings.{AreFindings, EachIsPermitted, IsBefore, IsReal, SentStepsAreClean, SentStepsAreReleased};
+ghost use Rattle.fints_check_findings.specs.Releases.{LeadsUnreleased};
+ghost use Rattle.fints_check_findings.specs.Reports.{AreValuesOf, IsWayOf, ShowsFindingAt};
+ghost use Rattle.fints_check_findings.specs.Searching.{AreFiguresAt, IsGreatestAt};
+ghost use Rattle.fints_check_findings.specs.declared.finding.Finding.{Finding as FindingValue};
+ghost use Rattle.fints_wire.specs.declared.building.TheConstants.{MAX_NUMBER};
+ghost use Rattle.fints_rules.specs.declared.rule.Rule.TheVariants.{Release};
+
+use crate::casing::case_values;
+use crate::finding::{Finding, Reached};
+use crate::releasing::{holder_of, holders, release_code, submitting};
+use crate::searching::search_step;
+use fints_check_reach::{Numbers, greatest_numbers, longest_way, way_behind};
+use fints_rules::{Permissions, Rule};
+use fints_script::{Answer, Case, Plan, Values};
+use fints_syntax::Memory;
+use fints_wire::worst_size;
+use std::alloc::Global;
+use std::marker::Model;
+
+/// What a check of a plan found.
+#[derive(Drop)]
+pub struct Report<'a> {
+    permissions: &'a Permissions<'a>,
+    plan: &'a Plan<'a>,
+    figures: Vec<Option<Reached>>,
+    findings: Vec<Finding>,
+    numbers: Numbers,
+    holders: Vec<Option<u16>>,
+}
+
+impl<'a> Model for Report<'a> {
+    ghost use Rattle.std.specs.Prelude.{◌≡◌, is_some, map};
+    ghost use Rattle.fints_check_reach.specs.Numbers.{AreGreatest, looked_at};
+    ghost use Rattle.fints_check_reach.specs.Sources.{AreSources};
+    ghost use Rattle.fints_check_findings.specs.Figures.{AreFigures};
+    ghost use Rattle.fints_check_findings.specs.Findings.{AreFindings};
+    ghost use Rattle.fints_check_findings.specs.Releases.{AreHolders};
+    ghost use Rattle.fints_check_findings.specs.Reports.{ReportValue};
+
+    ghost Value = { ReportValue };
+
+    ghost view = { λ r. record {
+      plan = r.plan.now;
+      granted = r.permissions.now;
+      figures = r.figures.items;
+      findings = r.findings.items;
+      numbers = r.numbers.greatest.items;
+      visits = r.numbers.visits;
+    } };
+
+    ghost invariant = { λ r. (r.permissions.now.orders ≡ r.plan.now.orders)
+        × AreFindings r.permissions.now r.plan.now.script r.findings.items
+        × AreFigures r.plan.now.script r.figures.items
+        × (r.numbers.visits ≡ looked_at r.plan.now.script.steps (map is_some r.figures.items))
+        × AreGreatest r.plan.now.script.steps r.numbers.greatest.items
+        × AreSources r.plan.now.script.steps r.numbers.greatest.items r.numbers.sources.items
+        × AreHolders r.plan.now.script.steps r.numbers.greatest.items r.holders.items };
+}
+
+impl<'a> Report<'a> {
+    /// The plan that was checked.
+    pub fn plan(&self) -> &Plan<'a>
+        ensures { result.now ≡ self.now.plan }
+    {
+        self.plan
+    }
+
+    /// The findings in order of step, rule and segment.
+    pub fn findings(&self) -> &[Finding]
+        ensures findings { result.now ≡ self.now.findings }
+        ensures exactly { AreFindings self.now.granted self.now.plan.script self.now.findings }
+        ensures clean { self.now.findings ≡ [] → SentStepsAreClean self.now.granted self.now.plan.script }
+        ensures released { self.now.findings ≡ [] → SentStepsAreReleased self.now.plan.script }
+    {
+        self.keeps();
+        self.findings.as_slice()
+    }
+
+    /// What each report keeps: its findings are exactly the real ones, and without any no step that runs
+    /// send can break a rule other than P2 and P3, at any number, or leaves an order of another that
+    /// runs send unreleased.
+    pub fn keeps(&self)
+        ensures exactly { AreFindings self.now.granted self.now.plan.script self.now.findings }
+        ensures clean { self.now.findings ≡ [] → SentStepsAreClean self.now.granted self.now.plan.script }
+        ensures released { self.now.findings ≡ [] → SentStepsAreReleased self.now.plan.script }
+    {
+        self.plan.keeps();
+    }
+
+    /// Whether nothing was found.
+    pub fn is_clean(&self) -> bool
+        ensures { IsTrue result ↔ (self.now.findings ≡ []) }
+    {
+        self.findings.is_empty()
+    }
+
+    /// The greatest number and length of a step's messages over all runs and all values, or none
+    /// where no run sends it; steps count from 1.
+    pub fn reached(&self, n: usize) -> Option<Reached>
+        requires from { 1 ≤ n }
+        requires to { n ≤ length self.now.plan.script.steps }
+        ensures told { numbered self.now.figures n ≡ Some result }
+        ensures greatest { FiguresAre self.now.plan.script n result }
+    {
+        self.figures[n - 1]
+    }
+
+    /// How many steps and branches were looked at for the figures: each step once, and each branch of
+    /// a step that some run sends once; a default is a branch.
+    pub fn visits(&self) -> u64
+        ensures visits { result ≡ self.now.visits }
+        ensures most { result ≤ all_visits self.now.plan.script.steps }
+        ensures least { reached_visits self.now.plan.script.steps (map is_some self.now.figures) ≤ result }
+    {
+        self.numbers.visits
+    }
+
+    // Answers after which a run ends with a message of the finding's step that leaves an order
+    // unreleased.
+    fn unreleased_way(&self, alloc: Global, finding: Finding) -> Result<Vec<Answer>, Memory>
+        requires release { finding.rule ≡ Release }
+        requires real { IsReal self.now.granted self.now.plan.script finding }
+        ensures { IfOk result (λ answers. LeadsUnreleased self.now.plan.script finding.step answers.items) }
+    {
+        self.plan.keeps();
+        let s = finding.step as usize;
+        let t = holder_of(self.holders.as_slice(), s) as usize;
+        way_behind(alloc, self.plan, &self.numbers, t, release_code(), s)
+    }
+
+    /// Answers after which a run ends with a message of a finding's step that has the step's greatest
+    /// number; where P11 is found, with one that leaves an order unreleased. Findings count from 0. It
+    /// is the same for all findings of a step but that of P11.
+    pub fn way(&self, alloc: Global, i: usize) -> Result<Vec<Answer>, Memory>
+        requires { i < length self.now.findings }
+        ensures { IfOk result (λ answers. IsWayOf self.now i answers.items) }
+    {
+        self.plan.keeps();
+        let finding = self.findings[i];
+        match finding.rule {
+            Rule::Release => self.unreleased_way(alloc, finding),
+            _ => longest_way(alloc, self.plan, &self.numbers, finding.step as usize),
+        }
+    }
+
+    /// The values of a finding's case, for any answers that lead as its way does; findings count from 0.
+    pub fn values(&self, alloc: Global, i: usize) -> Result<Values, Memory>
+        requires { i < length self.now.findings }
+        ensures { IfOk result (λ values. AreValuesOf self.now i values) }
+    {
+        self.plan.keeps();
+        let finding = self.findings[i];
+        case_values(alloc, self.permissions, self.plan, finding)
+    }
+
+    /// A run that a finding speaks of: it ends with the step's message of greatest number, for P11 with
+    /// one behind an order that it leaves unreleased. The values are the worst ones for P3 and P12, and
+    /// else the least, of which at most one is another listed account. Findings count from 0.
+    pub fn case(&self, alloc: Global, i: usize) -> Result<Case, Memory>
+        requires { i < length self.now.findings }
+        ensures { IfOk result (λ case. ShowsFindingAt self.now i case.values case.answers.items) }
+    {
+        let answers = self.way(alloc, i)?;
+        let values = self.values(alloc, i)?;
+        Ok(Case { values, answers })
+    }
+}
+
+// The figures of a step of this greatest number.
+fn figures_at(plan: &Plan<'_>, n: usize, number: u32) -> Reached
+    requires from { 1 ≤ n }
+    requires to { n ≤ length plan.now.script.steps }
+    requires least { 1 ≤ number }
+    requires most { number ≤ MAX_NUMBER }
+    ensures number { result.number ≡ number }
+    ensures figures { (step : StepValue) → numbered plan.now.script.steps n ≡ Some step → AreFiguresAt plan.now.script step result }
+{
+    let size = worst_size(plan, n, number);
+    Reached { number, size }
+}
+
+/// What runs of the plan break under these permissions, over all values that the plan admits and all
+/// answers of the bank. Both were made with order tables of the same rows.
+pub fn check<'a>(
+    alloc: Global,
+    permissions: &'a Permissions<'a>,
+    plan: &'a Plan<'a>,
+) -> Result<Report<'a>, Memory>
+    requires { permissions.now.orders ≡ plan.now.orders }
+    ensures plan { IfOk result (λ report. report.plan ≡ plan.now) }
+    ensures granted { IfOk result (λ report. report.granted ≡ permissions.now) }
+    ensures exactly { IfOk result (λ report. (f : FindingValue) → Contains report.findings f ↔ IsReal permissions.now plan.now.script f) }
+    ensures in_order { IfOk result (λ report. AllPairs IsBefore report.findings) }
+    ensures figures { IfOk result (λ report. AreFigures plan.now.script report.figures) }
+    ensures visits { IfOk result (λ report. report.visits ≡ looked_at plan.now.script.steps (map is_some report.figures)) }
+    ensures permitted { IfOk result (λ report. report.findings ≡ [] → EachIsPermitted permissions.now plan.now.script) }
+{
+    plan.keeps();
+    let count = plan.step_count();
+    let marks = submitting(alloc, plan)?;
+    let numbers = greatest_numbers(alloc, plan, marks.as_slice(), release_code())?;
+    let holders = holders(alloc, plan, marks.as_slice(), &numbers)?;
+    let mut findings = Vec::new(alloc);
+    let mut figures = Vec::with_capacity(alloc, count)?;
+    for i in 0..count {
+        let cell = match numbers.greatest[i] {
+            None => None,
+            Some(number) => {
+                let reached = figures_at(plan, i + 1, number);
+                search_step(
+                    permissions,
+                    plan,
+                    i + 1,
+                    reached,
+                    holders[i].is_some(),
+                    &mut findings,
+                )?;
+                Some(reached)
+            }
+        };
+        figures.push(cell)?;
+    }
+    Ok(Report {
+        permissions,
+        plan,
+        figures,
+        findings,
+        numbers,
+        holders,
+    })
+}

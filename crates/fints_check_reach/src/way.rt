@@ -1,0 +1,161 @@
+//! Ways: answers of the bank after which a run ends with a step's message of greatest number.
+ghost use Rattle.std.specs.Prelude.{◌≡◌, ◌↔◌, ◌<◌, ◌≤◌, ◌+◌, ◌∷◌, ◌++◌, [], ℕ, length, Some, IsTrue, MatchOption, IfOk, OnOk};
+ghost use Rattle.fints_script_cases.specs.declared.answers.Target.{Target};
+ghost use Rattle.fints_script.specs.Numbered.{numbered};
+ghost use Rattle.fints_script.specs.Steps.{StepValue};
+ghost use Rattle.fints_check_reach.specs.Leading.{Leads};
+ghost use Rattle.fints_check_reach.specs.Numbers.{Has};
+ghost use Rattle.fints_check_reach.specs.Passes.{IsOpenAt, target_at};
+ghost use Rattle.fints_check_reach.specs.Sources.{AreSources};
+ghost use Rattle.fints_check_reach.specs.Walking.{EndsTheRow, EntersTo, HasWay, IsCodeTo, IsWayBack, LeadsOn};
+ghost use Rattle.fints_check_reach.specs.Ways.{LeadsTo};
+
+use crate::passing::Numbers;
+use fints_params::Code;
+use fints_script::{Answer, Plan, Step, Target};
+use fints_syntax::Memory;
+use std::alloc::Global;
+
+fn is_same(a: Target, b: Target) -> bool
+    ensures { IsTrue result ↔ (a ≡ b) }
+{
+    a == b
+}
+
+// The code that fires a branch by itself, if the branch is open and leads to the target. Branches
+// count from 1, and the default counts as the last.
+fn code_at(step: &Step, branch: usize, to: Target) -> Option<Code>
+    requires from { 1 ≤ branch }
+    requires to { branch ≤ length step.now.branches + 1 }
+    ensures { MatchOption result ((b : ℕ) → branch ≡ b + 1 → IsOpenAt step.now b → target_at step.now b ≡ to → ⊥) (IsCodeTo step.now to) }
+{
+    if !is_same(step.target(branch), to) {
+        return None;
+    }
+    match step.opener(branch) {
+        Some(code) => Some(code),
+        None => None,
+    }
+}
+
+// The code that fires the first open branch to the target.
+fn code_to(step: &Step, to: Target) -> Option<Code>
+    ensures { MatchOption result (Leads step.now to → ⊥) (IsCodeTo step.now to) }
+{
+    for b in 0..step.branches().len() + 1 {
+        if let Some(code) = code_at(step, b + 1, to) {
+            return Some(code);
+        }
+    }
+    None
+}
+
+fn push_code(alloc: Global, answers: &mut Vec<Answer>, code: Code) -> Result<(), Memory>
+    ensures { OnOk result (answers.new.items ≡ answers.old.items ++ (code ∷ []) ∷ []) }
+{
+    let answer = Answer::single(alloc, code)?;
+    answers.push(answer)?;
+    Ok(())
+}
+
+// Adds the answers that have step n sent as often as it may be.
+fn push_row(alloc: Global, plan: &Plan, n: usize, answers: &mut Vec<Answer>) -> Result<(), Memory>
+    requires from { 1 ≤ n }
+    requires to { n ≤ length plan.now.script.steps }
+    ensures { OnOk result (EndsTheRow plan.now.script.steps n answers.old.items answers.new.items) }
+{
+    let step = plan.step(n);
+    if let Some(code) = code_to(step, Target::Again) {
+        for _k in 0..step.repeat() - 1 {
+            push_code(alloc, answers, code)?;
+        }
+    }
+    Ok(())
+}
+
+#[tactic(auto, using(fints_wire::proofs::RunLawLemmas::routes_grow_more))]
+// Adds the answer that leads from step n to a later one.
+fn push_onward(
+    alloc: Global,
+    plan: &Plan,
+    n: usize,
+    to: u16,
+    answers: &mut Vec<Answer>,
+) -> Result<(), Memory>
+    requires from { 1 ≤ n }
+    requires last { n ≤ length plan.now.script.steps }
+    requires leads { (step : StepValue) → numbered plan.now.script.steps n ≡ Some step → Leads step (Target.Step to) }
+    ensures { OnOk result (LeadsOn plan.now.script.steps n to answers.old.items answers.new.items) }
+{
+    let code = code_to(plan.step(n), Target::Step(to)).unwrap();
+    push_code(alloc, answers, code)
+}
+
+// The source that is kept for step n.
+fn source_at(sources: &[Option<u16>], n: u16) -> Option<u16>
+    requires from { 1 ≤ n }
+    requires to { n ≤ length sources.now }
+    ensures { numbered sources.now n ≡ Some result }
+{
+    sources[n as usize - 1]
+}
+
+// The steps of the way to step n that stand after step 1, from the last to the first.
+fn way_back(alloc: Global, sources: &[Option<u16>], n: u16) -> Result<Vec<u16>, Memory>
+    requires { HasWay sources.now n }
+    ensures { IfOk result (λ later. IsWayBack sources.now n later.items 1) }
+{
+    let mut later = Vec::new(alloc);
+    let mut at = n;
+    while let Some(source) = source_at(sources, at) {
+        later.push(at)?;
+        at = source;
+    }
+    Ok(later)
+}
+
+/// Answers that lead to the first message of a row of step n that ends with its greatest number; steps
+/// count from 1. Each step on the way before it is repeated as often as it may be.
+pub fn way_into(
+    alloc: Global,
+    plan: &Plan,
+    numbers: &Numbers,
+    n: usize,
+) -> Result<Vec<Answer>, Memory>
+    requires from { 1 ≤ n }
+    requires to { n ≤ length plan.now.script.steps }
+    requires sources { AreSources plan.now.script.steps numbers.now.greatest.items numbers.now.sources.items }
+    requires reached { (number : ℕ) × Has numbers.now.greatest.items n number }
+    ensures { IfOk result (λ answers. EntersTo plan.now.script.steps numbers.now.greatest.items n answers.items) }
+{
+    plan.keeps();
+    let mut later = way_back(alloc, numbers.sources.as_slice(), n as u16)?;
+    let mut answers = Vec::new(alloc);
+    let mut at = 1;
+    while let Some(next) = later.pop() {
+        push_row(alloc, plan, at, &mut answers)?;
+        push_onward(alloc, plan, at, next, &mut answers)?;
+        at = next as usize;
+    }
+    Ok(answers)
+}
+
+/// Answers after which a run ends with a message of step n that has its greatest number; steps count
+/// from 1. Each step on the way is repeated as often as it may be. An answer is one code: the least
+/// that fires, by itself, the first open branch that leads on.
+pub fn longest_way(
+    alloc: Global,
+    plan: &Plan,
+    numbers: &Numbers,
+    n: usize,
+) -> Result<Vec<Answer>, Memory>
+    requires from { 1 ≤ n }
+    requires to { n ≤ length plan.now.script.steps }
+    requires sources { AreSources plan.now.script.steps numbers.now.greatest.items numbers.now.sources.items }
+    requires reached { (number : ℕ) × Has numbers.now.greatest.items n number }
+    ensures { IfOk result (λ answers. LeadsTo plan.now.script.steps numbers.now.greatest.items n answers.items) }
+{
+    let mut answers = way_into(alloc, plan, numbers, n)?;
+    push_row(alloc, plan, n, &mut answers)?;
+    Ok(answers)
+}

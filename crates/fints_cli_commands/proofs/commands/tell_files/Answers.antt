@@ -1,0 +1,31 @@
+use Rattle.std.proofs.Common.{rules, ◌∙◌}
+use Rattle.std.proofs.lemmas.Result.{IfErr-weaker}
+use Rattle.fints_cli_commands.specs.Loading.{AreWithin, script_files}
+use Rattle.fints_cli_commands.proofs.FileLemmas.{later_within, of_answer, of_refusal, files_not_told}
+use Rattle.fints_cli_commands.proofs.ReasonLemmas.{tell_follows}
+use Rattle.fints_cli_commands.proofs.commands.tell_files.Goals as goal
+
+pub returns-clause-refused : goal.returns-clause-refused
+returns-clause-refused g c =
+    IfErr-weaker c.tell_loaded.result _ _ (λ r h. files_not_told (g.F.Files.holds c.args.files.now) c.args.named.now _ _ _ r.failure h c.in_ok-capture.ensures.exact (search rules) (search rules)) c.tell_loaded.ensures.refused
+
+pub returns-clause-reason : goal.returns-clause-reason
+returns-clause-reason g c =
+    let read = c.in_ok-script.ensures.fine ∙ c.in_ok-orders.ensures.fine ∙ c.in_ok-capture.ensures.fine in
+    IfErr-weaker c.tell_loaded.result _ _ (λ r h. tell_follows (script_files c.args.named.now) (g.F.Files.holds c.args.files.now) (g.F.Files.reads c.args.files.now) (g.F.Files.reads c.load_option-2.new.files) _ _ _ _ r.failure c.in_ok-capture.ensures.exact h read) c.tell_loaded.ensures.refused
+
+pub returns-clause-within : goal.returns-clause-within
+returns-clause-within g c =
+    let holds = g.F.Files.holds c.args.files.now in
+    let kept = c.load_capture.ensures.keeps in
+    let kept-2 = c.load_option.ensures.keeps ∙ kept in
+    of_answer c.tell_loaded.result (AreWithin (script_files c.args.named.now) holds)
+    (c.in_ok-capture.ensures.within.0, (later_within holds (g.F.Files.holds c.load_capture.new.files) c.args.named.now.orders.now 1048576 kept c.in_ok-orders.ensures.within.0, (later_within holds (g.F.Files.holds c.load_option.new.files) c.args.named.now.script.now 1048576 kept-2 c.in_ok-script.ensures.within.0, tt)))
+
+pub returns-clause-refused_within : goal.returns-clause-refused_within
+returns-clause-refused_within g c =
+    let holds = g.F.Files.holds c.args.files.now in
+    let kept = c.load_capture.ensures.keeps in
+    let kept-2 = c.load_option.ensures.keeps ∙ kept in
+    of_refusal c.tell_loaded.result (AreWithin (script_files c.args.named.now) holds)
+    (c.in_ok-capture.ensures.within.0, (later_within holds (g.F.Files.holds c.load_capture.new.files) c.args.named.now.orders.now 1048576 kept c.in_ok-orders.ensures.within.0, (later_within holds (g.F.Files.holds c.load_option.new.files) c.args.named.now.script.now 1048576 kept-2 c.in_ok-script.ensures.within.0, tt)))

@@ -1,0 +1,104 @@
+//! Why a command has no answer.
+ghost use Rattle.std.specs.Prelude.{◌≡◌, ◌≢◌, ◌≤◌};
+ghost use Rattle.fints_cli_commands.specs.Commands.{failure_status, HintsIfAsked, IsUnloaded, IsUnreadAs};
+ghost use Rattle.fints_cli_commands.specs.declared.failing.Failure.TheVariants as failure;
+ghost use Rattle.fints_cli_files.specs.declared.reading.LoadFault.TheVariants as load_fault;
+ghost use Rattle.fints_cli_texts.specs.declared.fault.Fault.TheVariants as texts;
+
+use fints_cli_files::LoadFault;
+use fints_cli_hints::{Inputs, hint};
+use fints_cli_texts::Fault;
+use std::alloc::{AllocError, Global};
+use thiserror::Error;
+
+/// Why a command has no answer.
+#[derive(Clone, Copy, Debug, PartialEq, Eq, Error)]
+pub enum Failure {
+    /// An input is refused, or memory ran out.
+    #[error("{0}")]
+    Input(Fault),
+    /// The file of an option couldn't be read.
+    #[error("read --{0}")]
+    Unread(&'static str),
+}
+
+impl Failure {
+    /// The status of a command that ends so: 2 for a message that a run doesn't reach, 3 for a
+    /// refused input, 4 for want of memory, and 5 for a file that couldn't be read.
+    pub fn status(&self) -> u8
+        ensures { result ≡ failure_status self.now }
+    {
+        match self {
+            Failure::Input(Fault::Memory) => 4,
+            Failure::Input(Fault::NoMessage { .. }) => 2,
+            Failure::Input(_) => 3,
+            Failure::Unread(_) => 5,
+        }
+    }
+}
+
+/// Why a command has no answer, and what to look at where that was asked for and can be told.
+#[derive(Drop)]
+pub struct Refusal {
+    pub failure: Failure,
+    pub hint: Option<String>,
+}
+
+/// The refusal of inputs, with a hint where that is asked for.
+pub fn refused(alloc: Global, fault: Fault, inputs: &Inputs<'_>, hints: bool) -> Refusal
+    ensures failure { result.failure ≡ failure.Input fault }
+    ensures unasked { HintsIfAsked hints result }
+{
+    let hint = if hints {
+        hint(alloc, &fault, inputs).unwrap_or(None)
+    } else {
+        None
+    };
+    Refusal {
+        failure: Failure::Input(fault),
+        hint,
+    }
+}
+
+// What keeps a file from being read.
+fn file_hint(
+    alloc: Global,
+    path: &str,
+    fault: LoadFault,
+    limit: usize,
+) -> Result<Option<String>, AllocError> {
+    let line = match fault {
+        LoadFault::Memory => return Ok(None),
+        LoadFault::TooLong => format!(in alloc; "{path:?} is longer than {limit} bytes")?,
+        LoadFault::TooManyCalls => format!(in alloc; "{path:?} comes in too many pieces")?,
+        LoadFault::Unreadable(cause) => format!(in alloc; "{path:?}: {cause}")?,
+    };
+    Ok(Some(line))
+}
+
+/// The refusal of a file that wasn't loaded, with a hint where that is asked for.
+pub fn unread(
+    alloc: Global,
+    option: &'static str,
+    path: &str,
+    fault: LoadFault,
+    limit: usize,
+    hints: bool,
+) -> Refusal
+    ensures told { IsUnloaded option.now result.failure }
+    ensures file { fault ≢ load_fault.Memory → IsUnreadAs option.now result.failure }
+    ensures memory { fault ≡ load_fault.Memory → result.failure ≡ failure.Input texts.Memory }
+    ensures status { 4 ≤ failure_status result.failure }
+    ensures unasked { HintsIfAsked hints result }
+{
+    let failure = match fault {
+        LoadFault::Memory => Failure::Input(Fault::Memory),
+        _ => Failure::Unread(option),
+    };
+    let hint = if hints {
+        file_hint(alloc, path, fault, limit).unwrap_or(None)
+    } else {
+        None
+    };
+    Refusal { failure, hint }
+}

@@ -1,0 +1,102 @@
+//! A capture that is read while its file comes.
+ghost use Rattle.std.specs.Prelude.{◌≡◌, ℕ, List, [], OnOk};
+ghost use Rattle.fints_params.specs.Captures.{IsReadOf};
+ghost use Rattle.fints_cli_files.specs.Captures.{AreKept, HoldsCapture, kept_after};
+
+use crate::reading::Sink;
+use fints_params::{ParamFault, ParamReader, Params};
+use fints_syntax::Memory;
+use std::alloc::Global;
+use std::marker::Model;
+
+/// What the pieces of a capture gave so far; a contract sees it. A syntax fault is kept, so that the
+/// file is read to its end. So are the bytes, where a hint may need them.
+#[derive(Drop)]
+pub struct Capture {
+    reader: ParamReader,
+    fault: Option<ParamFault>,
+    keeps: bool,
+    bytes: Vec<u8>,
+}
+
+impl Model for Capture {
+    ghost use Rattle.fints_cli_files.specs.Captures.{Fed};
+
+    ghost Value = { Fed };
+
+    ghost view = { λ c. record { reader = c.reader; fault = c.fault; keeps = c.keeps; kept = c.bytes.items } };
+}
+
+/// What a whole capture gave, and its bytes, where they were kept.
+#[derive(Drop)]
+pub struct ReadCapture {
+    pub params: Result<Params, ParamFault>,
+    pub bytes: Vec<u8>,
+}
+
+impl Capture {
+    /// Nothing of a capture.
+    pub fn new(alloc: Global, keeps: bool) -> Capture
+        ensures nothing { HoldsCapture [] result }
+        ensures keeps { result.keeps ≡ keeps }
+    {
+        Capture {
+            reader: ParamReader::new(alloc),
+            fault: None,
+            keeps,
+            bytes: Vec::new(alloc),
+        }
+    }
+
+    /// The parameters of the capture, which ends here, or its first refusal.
+    pub fn end(self) -> ReadCapture
+        ensures read { (bytes : List ℕ) → HoldsCapture bytes self → IsReadOf bytes result.params }
+        ensures kept { (bytes : List ℕ) → HoldsCapture bytes self → AreKept self.keeps bytes result.bytes.items }
+    {
+        let Capture {
+            reader,
+            fault,
+            bytes,
+            ..
+        } = self;
+        match fault {
+            Some(fault) => ReadCapture {
+                params: Err(fault),
+                bytes,
+            },
+            None => ReadCapture {
+                params: reader.finish(),
+                bytes,
+            },
+        }
+    }
+
+    // Keeps the bytes, where a hint may need them.
+    fn keep(&mut self, piece: &[u8]) -> Result<(), Memory>
+        ensures { OnOk result (self.new ≡ record self.old { kept = kept_after self.old.keeps self.old.kept piece.now }) }
+    {
+        if self.keeps {
+            self.bytes.extend_from_slice(piece)?;
+        }
+        Ok(())
+    }
+}
+
+impl Sink for Capture {
+    ghost holds = { HoldsCapture };
+
+    fn take(&mut self, piece: &[u8]) -> Result<(), Memory> {
+        self.keep(piece)?;
+        if self.fault.is_some() {
+            return Ok(());
+        }
+        match self.reader.feed(piece) {
+            Ok(()) => Ok(()),
+            Err(ParamFault::Syntax(fault)) => {
+                self.fault = Some(ParamFault::Syntax(fault));
+                Ok(())
+            }
+            Err(_) => Err(Memory),
+        }
+    }
+}

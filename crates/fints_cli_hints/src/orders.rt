@@ -1,0 +1,203 @@
+//! What the refusal of an order table is about.
+use fints_cli_hints_words::guessing::guess_of;
+use fints_cli_hints_words::keys::{
+    Form, Wanted, missing_key, must_be, no_table, unknown_key, wrong_value,
+};
+use fints_cli_hints_words::places::{Told, row_at, row_named, text_in, told, told_at};
+use fints_cli_hints_words::quoting::Quoted;
+use fints_cli_hints_words::unread::why_no_toml;
+use fints_rules::kinds::is_plain_order;
+use fints_rules::{MAX_ROWS, TableFault};
+use fints_syntax::Kind;
+use fints_syntax_toml::document;
+use fints_syntax_toml::document::member;
+use fints_syntax_toml::entries::text_at;
+use fints_syntax_toml::tables::rows_of;
+use std::alloc::Global;
+use toml::{Table, Value};
+
+const WORDS: [&str; 3] = ["none", "national", "international"];
+
+// Whether it is the kind of an administrative segment, or HKTAN.
+fn is_reserved(text: &str) -> bool {
+    match Kind::parse(text.as_bytes()) {
+        Some(kind) => !is_plain_order(kind),
+        None => false,
+    }
+}
+
+fn is_order_kind(text: &str) -> bool {
+    text.len() == 5
+        && (text.starts_with("HK") || text.starts_with("DK"))
+        && Kind::parse(text.as_bytes()).is_some()
+}
+
+// Why an order can't have the kind.
+fn bad_kind(text: &str) -> Option<&'static str> {
+    if is_reserved(text) {
+        return Some("names no account, and may not stand in an order table");
+    }
+    if !is_order_kind(text) {
+        return Some(
+            "is none of an order; one has five characters A to Z and 0 to 9, of which HK or DK are the first",
+        );
+    }
+    None
+}
+
+fn form_slip(alloc: Global, text: &str) -> Told {
+    let guess = guess_of(alloc, &WORDS, text)?;
+    told(
+        alloc,
+        format_args!(
+            ": account is {guess}, and must be \"none\", \"national\" or \"international\""
+        ),
+    )
+}
+
+const KEYS: [Wanted; 4] = [
+    Wanted {
+        key: "kind",
+        form: Form::Text,
+        what: "a text",
+    },
+    Wanted {
+        key: "version",
+        form: Form::Integer,
+        what: "a number from 1 to 999, without quotes",
+    },
+    Wanted {
+        key: "version",
+        form: Form::Within(1, 999),
+        what: "a number from 1 to 999, without quotes",
+    },
+    Wanted {
+        key: "account",
+        form: Form::Text,
+        what: "\"none\", \"national\" or \"international\"",
+    },
+];
+
+// What is wrong with values of the right forms.
+fn wrong_text(alloc: Global, table: &Table) -> Told {
+    let kind = text_at(table, "kind").unwrap_or("");
+    match bad_kind(kind) {
+        Some(why) => {
+            let shown = Quoted(kind);
+            told(alloc, format_args!(": the kind {shown} {why}"))
+        }
+        None => form_slip(alloc, text_at(table, "account").unwrap_or("")),
+    }
+}
+
+fn table_slip(alloc: Global, table: &Table) -> Told {
+    let keys = ["kind", "version", "account"];
+    let found = unknown_key(alloc, table, &keys, "an order")?;
+    if found.is_some() {
+        return Ok(found);
+    }
+    let found = missing_key(alloc, table, &keys, "an order")?;
+    if found.is_some() {
+        return Ok(found);
+    }
+    match wrong_value(alloc, table, &KEYS)? {
+        None => wrong_text(alloc, table),
+        found => Ok(found),
+    }
+}
+
+fn bad_row(alloc: Global, rows: &[Value], number: u16) -> Told {
+    let Some(row) = row_at(rows, number) else {
+        return Ok(None);
+    };
+    let found = match row {
+        Value::Table(table) => table_slip(alloc, table)?,
+        _ => no_table(alloc, row)?,
+    };
+    told_at(
+        alloc,
+        row_named("order", usize::from(number), row, "kind"),
+        found,
+    )
+}
+
+fn version_in(row: &Value) -> Option<i64> {
+    match row {
+        Value::Table(table) => member(table, "version")?.as_integer(),
+        _ => None,
+    }
+}
+
+fn is_same(a: &Value, b: &Value) -> bool {
+    text_in(a, "kind") == text_in(b, "kind") && version_in(a) == version_in(b)
+}
+
+fn two_rows(alloc: Global, rows: &[Value], number: u16) -> Told {
+    let Some(row) = row_at(rows, number) else {
+        return Ok(None);
+    };
+    let Some(earlier) = rows.iter().position(|other| is_same(row, other)) else {
+        return Ok(None);
+    };
+    let place = row_named("order", usize::from(number), row, "kind");
+    let earlier = earlier.saturating_add(1);
+    let version = version_in(row).unwrap_or(0);
+    told(
+        alloc,
+        format_args!("{place}: order {earlier} has the same kind and version ({version}) already"),
+    )
+}
+
+fn no_rows(alloc: Global, table: &Table) -> Told {
+    match member(table, "order") {
+        Some(value) => must_be(
+            alloc,
+            "order",
+            value,
+            "an array of tables: write [[order]], with two brackets",
+        ),
+        None => Ok(None),
+    }
+}
+
+fn many_rows(alloc: Global, rows: &[Value]) -> Told {
+    let count = rows.len();
+    told(
+        alloc,
+        format_args!("order has {count} rows, and may have {MAX_ROWS}"),
+    )
+}
+
+fn rows_hint(alloc: Global, number: u16, table: &Table) -> Told {
+    let rows = rows_of(member(table, "order"));
+    if number == 0 {
+        return no_rows(alloc, table);
+    }
+    if rows.len() > MAX_ROWS {
+        return many_rows(alloc, rows);
+    }
+    bad_row(alloc, rows, number)
+}
+
+fn table_hint(alloc: Global, fault: &TableFault, table: &Table) -> Told {
+    match fault {
+        TableFault::UnknownKey => {
+            let found = unknown_key(alloc, table, &["order"], "an order table")?;
+            told_at(alloc, "top", found)
+        }
+        TableFault::BadRow { row } => rows_hint(alloc, *row, table),
+        TableFault::TwoRows { row } => { two_rows(alloc, rows_of(member(table, "order")), *row) }
+        _ => Ok(None),
+    }
+}
+
+/// What the refusal of an order table is about.
+pub fn orders_hint(alloc: Global, fault: &TableFault, text: &[u8]) -> Told {
+    if *fault == TableFault::NotToml {
+        return why_no_toml(alloc, text);
+    }
+    match document::read(alloc, text) {
+        Ok(table) => table_hint(alloc, fault, &table),
+        Err(_) => Ok(None),
+    }
+}

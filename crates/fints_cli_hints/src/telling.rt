@@ -1,0 +1,66 @@
+//! The hint of a refusal, whatever its input.
+use crate::admitted::admitted_hint;
+use crate::cases::case_hint;
+use crate::certs::cert_hint;
+use crate::orders::orders_hint;
+use crate::plans::plan_hint;
+use crate::runs::run_hint;
+use fints_cli_hints_scripts::script_hint;
+use fints_cli_hints_segments::{message_hint, params_hint};
+use fints_cli_texts::Fault;
+use fints_rules::JudgeFault;
+use fints_script_cases::CaseFault;
+use fints_syntax::Memory;
+use std::alloc::Global;
+
+/// The bytes of the files that a command has read; empty where it has no such file.
+#[derive(Clone, Copy)]
+pub struct Inputs<'a> {
+    pub params: &'a [u8],
+    pub orders: &'a [u8],
+    pub script: &'a [u8],
+    pub case: &'a [u8],
+    pub certificate: &'a [u8],
+    pub before: &'a [u8],
+    pub answer: &'a [u8],
+    pub message: &'a [u8],
+}
+
+impl Inputs<'_> {
+    /// No files.
+    pub fn none<'a>() -> Inputs<'a> {
+        Inputs {
+            params: b"",
+            orders: b"",
+            script: b"",
+            case: b"",
+            certificate: b"",
+            before: b"",
+            answer: b"",
+            message: b"",
+        }
+    }
+}
+
+/// What to look at, for a refusal of these inputs: a line without LF. None where there is no more to
+/// say, as for want of memory.
+pub fn hint(alloc: Global, fault: &Fault, inputs: &Inputs<'_>) -> Result<Option<String>, Memory> {
+    match fault {
+        Fault::Memory => Ok(None),
+        Fault::Params(fault) => params_hint(alloc, fault, inputs.params),
+        Fault::Orders(fault) => orders_hint(alloc, fault, inputs.orders),
+        Fault::Script(fault) => script_hint(alloc, fault, inputs.script),
+        Fault::Plan(fault) => plan_hint(alloc, fault, inputs.orders, inputs.script),
+        Fault::Case(CaseFault::Bad { line }) => case_hint(alloc, *line, inputs.script, inputs.case),
+        Fault::Case(CaseFault::Memory) => Ok(None),
+        Fault::NotAdmitted => admitted_hint(alloc, inputs.script, inputs.case),
+        Fault::NoMessage { number } => run_hint(alloc, *number, inputs.script, inputs.case),
+        Fault::Certificate { line } => cert_hint(alloc, *line, inputs.certificate),
+        Fault::Before { offset } => {
+            let fault = JudgeFault::NotAMessage { offset: *offset };
+            message_hint(alloc, &fault, inputs.before)
+        }
+        Fault::Answer(fault) => params_hint(alloc, fault, inputs.answer),
+        Fault::Message(fault) => message_hint(alloc, fault, inputs.message),
+    }
+}

@@ -1,0 +1,250 @@
+//! Segments that can't be read.
+use crate::scanning::{Stop, Why, stop_of};
+use fints_cli_hints_words::places::{Told, line_at, told, written};
+use fints_cli_hints_words::quoting::Sample;
+use fints_syntax::{Kind, Memory, SyntaxKind, parse_number, parse_segment};
+use std::alloc::Global;
+use std::fmt;
+use std::fmt::{Display, Formatter, Write};
+
+/// The most bytes of a segment.
+const MOST: usize = 1_048_576;
+
+/// Bytes of an input: where they begin in it, and in what they stand.
+#[derive(Clone, Copy)]
+pub struct Region<'a> {
+    pub input: &'a [u8],
+    pub bytes: &'a [u8],
+    pub base: usize,
+    /// Empty, or a remark that the bytes are the data of an HNVSD.
+    pub within: &'static str,
+}
+
+/// The whole of an input.
+pub fn whole(input: &[u8]) -> Region<'_> {
+    Region {
+        input,
+        bytes: input,
+        base: 0,
+        within: "",
+    }
+}
+
+/// The remark on segments in the data of an HNVSD.
+pub const IN_DATA: &str = " (in the data of HNVSD)";
+
+// How many line breaks stand at the front.
+fn breaks_len(bytes: &[u8]) -> usize {
+    match bytes.iter().position(|b| *b != b'\r' && *b != b'\n') {
+        Some(len) => len,
+        None => bytes.len(),
+    }
+}
+
+// Where the next segment starts, at the place or behind line breaks.
+fn skip_breaks(bytes: &[u8], at: usize) -> usize {
+    at.saturating_add(breaks_len(bytes.get(at..).unwrap_or(&[])))
+}
+
+/// Where the first segment starts that can't be read.
+pub fn bad_start(bytes: &[u8]) -> Option<usize> {
+    let mut start = skip_breaks(bytes, 0);
+    for _ in 0..bytes.len() {
+        if start >= bytes.len() {
+            return None;
+        }
+        match parse_segment(bytes.get(start..)?) {
+            Ok((_, len)) => start = skip_breaks(bytes, start.saturating_add(len)),
+            Err(_) => return Some(start),
+        }
+    }
+    None
+}
+
+fn is_mark(byte: u8) -> bool {
+    matches!(byte, b':' | b'+' | b'\'')
+}
+
+// The bytes to the first mark, and those behind it.
+fn first_word(bytes: &[u8]) -> (&[u8], &[u8]) {
+    match bytes.iter().position(|b| is_mark(*b)) {
+        Some(end) => (
+            bytes.get(..end).unwrap_or(&[]),
+            bytes.get(end.saturating_add(1)..).unwrap_or(&[]),
+        ),
+        None => (bytes, &[]),
+    }
+}
+
+/// The number and the identifier of a segment.
+#[derive(Clone, Copy)]
+pub struct Numbered {
+    pub number: u32,
+    pub id: Kind,
+}
+
+impl Display for Numbered {
+    fn fmt<W: Write>(&self, f: &mut Formatter<W>) -> fmt::Result {
+        let number = self.number;
+        let id = std::str::from_utf8(self.id.as_bytes()).unwrap_or("");
+        write!(f, "segment {number} ({id})")
+    }
+}
+
+/// A segment by what its bytes begin with.
+#[derive(Clone, Copy)]
+enum Begin<'a> {
+    Numbered(Numbered),
+    /// The identifier alone can be read.
+    Id(&'a [u8]),
+    Bytes(&'a [u8]),
+}
+
+fn begin_of(bytes: &[u8]) -> Begin<'_> {
+    let (id, rest) = first_word(bytes);
+    let (number, _) = first_word(rest);
+    match (Kind::parse(id), parse_number(number)) {
+        (Some(id), Some(number)) => Begin::Numbered(Numbered { number, id }),
+        (Some(_), None) => Begin::Id(id),
+        _ => Begin::Bytes(front_of(bytes)),
+    }
+}
+
+impl Display for Begin<'_> {
+    fn fmt<W: Write>(&self, f: &mut Formatter<W>) -> fmt::Result {
+        match *self {
+            Begin::Numbered(name) => name.fmt(f),
+            Begin::Id(id) => {
+                let id = Sample(id);
+                write!(f, "a segment {id}")
+            }
+            Begin::Bytes(front) => {
+                let front = Sample(front);
+                write!(f, "what begins with {front}")
+            }
+        }
+    }
+}
+
+// What stands in an item where the bytes end.
+fn cut_text(alloc: Global, stop: &Stop) -> Result<String, Memory> {
+    let Stop { element, item, why } = *stop;
+    match why {
+        Why::CutBinary { len, there } => written(
+            alloc,
+            format_args!(
+                " has no end: the bytes stop in element {element}, item {item}, a binary item of {len} bytes of which {there} are there"
+            ),
+        ),
+        _ => written(
+            alloc,
+            format_args!(" has no end: the bytes stop in element {element}, item {item}"),
+        ),
+    }
+}
+
+fn binary_text(alloc: Global, stop: &Stop) -> Result<String, Memory> {
+    let Stop { element, item, why } = *stop;
+    match why {
+        Why::NoSeparator { len, after } => {
+            let after = [after];
+            let after = Sample(&after);
+            written(
+                alloc,
+                format_args!(
+                    ", element {element}, item {item}: behind the {len} bytes of a binary item stands {after}, and none of + : '; the length is wrong, or the bytes were changed"
+                ),
+            )
+        }
+        _ => written(
+            alloc,
+            format_args!(
+                ", element {element}, item {item}: an @ begins a binary item, written @length@ and so many bytes; a text that begins with @ is written ?@"
+            ),
+        ),
+    }
+}
+
+fn long_text(alloc: Global, stop: &Stop) -> Result<String, Memory> {
+    match stop.why {
+        Why::Many => written(alloc, " has 20000 items or more"),
+        _ => written(alloc, format_args!(" has no end within {MOST} bytes")),
+    }
+}
+
+// The bytes of a head: all before the second element.
+fn head_bytes(bytes: &[u8]) -> &[u8] {
+    match bytes.iter().position(|b| *b == b'+' || *b == b'\'') {
+        Some(end) => bytes.get(..end).unwrap_or(&[]),
+        None => bytes,
+    }
+}
+
+/// The first bytes, at most 20 and none behind a head: what follows may be a PIN or a TAN.
+pub fn front_of(bytes: &[u8]) -> &[u8] {
+    let head = head_bytes(bytes);
+    head.get(..20).unwrap_or(head)
+}
+
+fn is_number(text: &[u8]) -> bool {
+    text.len() <= 3 && parse_number(text).is_some()
+}
+
+fn parts_cause(id: &[u8], number: &[u8], version: &[u8]) -> &'static str {
+    if Kind::parse(id).is_none() {
+        return "its identifier must have 1 to 6 characters A to Z and 0 to 9";
+    }
+    if !is_number(number) {
+        return "its number must have 1 to 3 digits";
+    }
+    if !is_number(version) {
+        return "its version must have 1 to 3 digits";
+    }
+    "behind the version may stand a reference of 1 to 3 digits, and nothing else"
+}
+
+fn head_cause(head: &[u8]) -> &'static str {
+    if head.contains(&b'?') || head.contains(&b'@') {
+        return "it must be identifier:number:version, or with :reference behind";
+    }
+    let colons = head.iter().filter(|b| **b == b':').count();
+    if colons < 2 {
+        return "it must have an identifier, a number and a version, with : between";
+    }
+    let (id, rest) = first_word(head);
+    let (number, rest) = first_word(rest);
+    let (version, _) = first_word(rest);
+    parts_cause(id, number, version)
+}
+
+fn head_text(alloc: Global, bytes: &[u8]) -> Result<String, Memory> {
+    let head = head_bytes(bytes);
+    let cause = head_cause(head);
+    let head = Sample(front_of(head));
+    written(alloc, format_args!(" has the head {head}: {cause}"))
+}
+
+/// Why no segment can be read at the front of the bytes, behind what names it.
+pub fn trouble(alloc: Global, bytes: &[u8]) -> Result<String, Memory> {
+    let window = bytes.get(..MOST).unwrap_or(bytes);
+    let stop = stop_of(window);
+    match parse_segment(bytes) {
+        Ok(_) => Ok(String::new(alloc)),
+        Err(fault) => match fault.kind {
+            SyntaxKind::BadBinary => binary_text(alloc, &stop),
+            SyntaxKind::TooLong => long_text(alloc, &stop),
+            SyntaxKind::BadHead => head_text(alloc, window),
+            _ => cut_text(alloc, &stop),
+        },
+    }
+}
+
+/// Why no segment can be read at a place of a region.
+pub fn trouble_at(alloc: Global, region: &Region<'_>, start: usize) -> Told {
+    let rest = region.bytes.get(start..).unwrap_or(&[]);
+    let line = line_at(region.input, region.base.saturating_add(start));
+    let begin = begin_of(rest);
+    let within = region.within;
+    let text = trouble(alloc, rest)?;
+    told(alloc, format_args!("{begin} in line {line}{within}{text}"))
+}

@@ -1,0 +1,105 @@
+//! Why bytes are no TOML.
+use crate::places::{Told, column_at, line_at, told};
+use crate::quoting::Quoted;
+use fints_syntax_toml::document::MAX_TEXT;
+use std::alloc::Global;
+use std::fmt;
+use std::fmt::{Display, Formatter, Write};
+use toml::de::Error;
+
+/// That a text is too long.
+pub fn too_long(alloc: Global, text: &[u8]) -> Told {
+    let len = text.len();
+    told(
+        alloc,
+        format_args!("longer than {MAX_TEXT} bytes: it has {len}"),
+    )
+}
+
+fn not_utf8(alloc: Global, text: &[u8], offset: usize) -> Told {
+    let line = line_at(text, offset);
+    told(
+        alloc,
+        format_args!("not UTF-8: the first bad byte is at offset {offset}, in line {line}"),
+    )
+}
+
+// What stands at an offset, to the end of its line.
+fn rest_of_line(text: &str, offset: usize) -> Option<&str> {
+    let rest = text.get(offset..)?;
+    let line = rest.lines().next()?;
+    if line.is_empty() { None } else { Some(line) }
+}
+
+// What stands before an offset, from the start of its line.
+fn before(text: &str, offset: usize) -> &str {
+    let front = text.get(..offset).unwrap_or("");
+    front.rsplit('\n').next().unwrap_or("")
+}
+
+/// What stands at an offset: words, and a text behind them, if any.
+#[derive(Clone, Copy)]
+struct There<'a> {
+    words: &'static str,
+    text: &'a str,
+}
+
+fn there_at(text: &str, offset: usize) -> There<'_> {
+    match (rest_of_line(text, offset), before(text, offset)) {
+        (Some(rest), _) => There {
+            words: "there stands",
+            text: rest,
+        },
+        (None, "") => There {
+            words: "there the line ends",
+            text: "",
+        },
+        (None, line) => There {
+            words: "there ends the line",
+            text: line,
+        },
+    }
+}
+
+impl Display for There<'_> {
+    fn fmt<W: Write>(&self, f: &mut Formatter<W>) -> fmt::Result {
+        let There { words, text } = *self;
+        if text.is_empty() {
+            return f.write_str(words);
+        }
+        let text = Quoted(text);
+        write!(f, "{words} {text}")
+    }
+}
+
+fn refusal(alloc: Global, text: &str, error: &Error) -> Told {
+    let Some(span) = error.span() else {
+        return Ok(None);
+    };
+    let line = line_at(text.as_bytes(), span.start);
+    let column = column_at(text.as_bytes(), span.start);
+    let why = error.message();
+    let there = there_at(text, span.start);
+    told(
+        alloc,
+        format_args!("line {line}, column {column}: {why}; {there}"),
+    )
+}
+
+fn no_toml(alloc: Global, text: &str) -> Told {
+    match toml::table_from_str(alloc, text) {
+        Ok(_) => Ok(None),
+        Err(error) => refusal(alloc, text, &error),
+    }
+}
+
+/// Why bytes are no TOML: where they stop, and for what cause.
+pub fn why_no_toml(alloc: Global, text: &[u8]) -> Told {
+    if text.len() > MAX_TEXT {
+        return too_long(alloc, text);
+    }
+    match std::str::from_utf8(text) {
+        Ok(text) => no_toml(alloc, text),
+        Err(error) => not_utf8(alloc, text, error.valid_up_to()),
+    }
+}

@@ -1,0 +1,36 @@
+-- The text of `explain`: the report, and then for each finding a line that counts it from 1, and the text of its case.
+use Rattle.std.specs.Prelude.{◌≡◌, ℕ, ◌+◌, List, [], ◌∷◌, ◌++◌, codes, Option}
+use Rattle.std.specs.Fmt.{decimal}
+use Rattle.fints_script_cases.specs.Cases.{case_text}
+use Rattle.fints_check_findings.specs.Figures.{AreFigures}
+use Rattle.fints_check_findings.specs.declared.finding.Finding.{Finding}
+use Rattle.fints_check_findings.specs.declared.finding.Reached.{Reached}
+use Rattle.fints_rules_permissions.specs.Permits.{Granted}
+use Rattle.fints_script.specs.Scripts.{ScriptValue}
+use Rattle.fints_script.specs.Steps.{StepValue}
+use Rattle.fints_cli_reports.specs.Headline.{CaseValue, Headline}
+use Rattle.fints_cli_reports.specs.ReportText.{finding_text, report_status, report_text}
+use Rattle.fints_cli_reports.specs.StepNames.{step_name}
+
+-- the line of finding i, of a step of this name
+unfoldable pub case_line : ℕ → List ℕ → Finding → List ℕ
+case_line i name f = codes "case " ++ decimal i ++ codes " " ++ finding_text name f
+
+-- the line and the case
+abbrev pub shown_case : List StepValue → ℕ → Finding → CaseValue → List ℕ
+shown_case steps i f c = case_line i (step_name steps f.step) f ++ case_text c.values c.answers
+
+-- those of all findings, from number i on
+abbrev pub cases_text : List StepValue → ℕ → List Finding → List CaseValue → List ℕ
+cases_text steps i (f ∷ fs) (c ∷ cs) = shown_case steps i f c ++ cases_text steps (i + 1) fs cs
+cases_text steps i _ _ = []
+
+-- the text and the status tell the greatest figures of the steps, what the runs break, and a case of each finding
+pub record IsExplainedBy (granted : Granted) (script : ScriptValue) (status : ℕ) (text : List ℕ) : Type 0 where
+  pub figures : List (Option Reached)
+  pub findings : List Finding
+  pub cases : List CaseValue
+  pub figures_are : AreFigures script figures
+  pub headline : Headline granted script findings cases
+  pub text_is : text ≡ report_text script.steps figures findings ++ cases_text script.steps 1 findings cases
+  pub status_is : status ≡ report_status findings

@@ -1,0 +1,110 @@
+//! The text of `judge`: the rules that a message breaks.
+ghost use Rattle.std.specs.Prelude.{◌≡◌, ◌≤◌, ◌++◌, ℕ, List, OnOk, IfOk, IfErr, string_bytes};
+ghost use Rattle.fints_params.specs.Captures.{IsReadOf};
+ghost use Rattle.std.specs.List.{flat_map};
+ghost use Rattle.fints_cli_texts.specs.Judge.{broken_line, last_line, verdict_text, verdict_status, IsVerdictBy, IsVerdictOf, IsMessageRefusal, IsJudgeRefusal};
+
+use crate::fault::Fault;
+use crate::reply::Reply;
+use fints_params::{ParamFault, Params};
+use fints_rules::{Broken, OrderTable, Permissions, judge};
+use std::alloc::{AllocError, Global};
+
+fn write_broken(text: &mut String, broken: &Broken) -> Result<(), AllocError>
+    ensures { OnOk result (string_bytes text.new ≡ string_bytes text.old ++ broken_line broken.now) }
+{
+    let Broken { rule, segment } = broken;
+    writeln!(text, "{rule} segment {segment}")
+}
+
+fn write_all(text: &mut String, broken: &[Broken]) -> Result<(), AllocError>
+    ensures { OnOk result (string_bytes text.new
+        ≡ string_bytes text.old ++ flat_map broken_line broken.now) }
+{
+    for one in broken {
+        write_broken(text, one)?;
+    }
+    Ok(())
+}
+
+fn write_last(text: &mut String, broken: &[Broken]) -> Result<(), AllocError>
+    ensures { OnOk result (string_bytes text.new ≡ string_bytes text.old ++ last_line broken.now) }
+{
+    if broken.is_empty() {
+        writeln!(text, "permitted")
+    } else {
+        let count = broken.len();
+        writeln!(text, "broken {count}")
+    }
+}
+
+fn verdict_status(broken: &[Broken]) -> u8
+    ensures { result ≡ verdict_status broken.now }
+{
+    if broken.is_empty() { 0 } else { 1 }
+}
+
+/// The lines of a judged message, and 0 where it is permitted, else 1.
+pub fn verdict(alloc: Global, broken: &[Broken]) -> Result<Reply, AllocError>
+    ensures text { IfOk result (λ reply. reply.text.items ≡ verdict_text broken.now) }
+    ensures status { IfOk result (λ reply. reply.status ≡ verdict_status broken.now) }
+{
+    let mut text = String::new(alloc);
+    write_all(&mut text, broken)?;
+    write_last(&mut text, broken)?;
+    Ok(Reply {
+        status: verdict_status(broken),
+        text: text.into_bytes(),
+    })
+}
+
+// The verdict on a message, by good parameters and a good order table.
+fn judge_with(
+    alloc: Global,
+    params: &Params,
+    orders: &OrderTable,
+    message: &[u8],
+) -> Result<Reply, Fault>
+    ensures judged { IfOk result (λ reply. IsVerdictBy params.now orders.now message.now reply.status reply.text.items) }
+    ensures refused { IfErr result (λ f. IsMessageRefusal message.now f) }
+{
+    let permissions = Permissions::build(alloc, params, orders)?;
+    let broken = judge(alloc, &permissions, message)?;
+    let reply = verdict(alloc, broken.as_slice())?;
+    Ok(reply)
+}
+
+/// The rules that a message breaks, by what was read of a capture and an order table. Of the refusals
+/// that of the capture comes first, and then that of the order table.
+pub fn judge_read(
+    alloc: Global,
+    params: Result<Params, ParamFault>,
+    orders: &[u8],
+    message: &[u8],
+) -> Result<Reply, Fault>
+    ensures status { IfOk result (λ reply. reply.status ≤ 1) }
+    ensures judged { IfOk result (λ reply. (capture : List ℕ) → IsReadOf capture params
+        → IsVerdictOf capture orders.now message.now reply.status reply.text.items) }
+    ensures refused { IfErr result (λ f. (capture : List ℕ) → IsReadOf capture params → IsJudgeRefusal capture orders.now message.now f) }
+{
+    let params = match params {
+        Ok(params) => params,
+        Err(fault) => return Err(Fault::from(fault)),
+    };
+    let orders = OrderTable::read(alloc, orders)?;
+    let reply = judge_with(alloc, &params, &orders, message)?;
+    Ok(reply)
+}
+
+/// The rules that a message breaks, by a capture and an order table, with the same refusals.
+pub fn judge_message(
+    alloc: Global,
+    params: &[u8],
+    orders: &[u8],
+    message: &[u8],
+) -> Result<Reply, Fault>
+    ensures judged { IfOk result (λ reply. IsVerdictOf params.now orders.now message.now reply.status reply.text.items) }
+    ensures refused { IfErr result (λ f. IsJudgeRefusal params.now orders.now message.now f) }
+{
+    judge_read(alloc, Params::read(alloc, params), orders, message)
+}

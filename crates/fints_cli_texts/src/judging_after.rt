@@ -1,0 +1,101 @@
+//! The text of `judge` for a message behind another one and the bank's answer to that.
+ghost use Rattle.std.specs.Prelude.{◌≡◌, ◌≤◌, ℕ, List, IfOk, IfErr};
+ghost use Rattle.fints_rules_messages.specs.Messages.{IsMessage};
+ghost use Rattle.fints_params.specs.Captures.{IsCodesOf, IsReadOf};
+ghost use Rattle.fints_cli_texts.specs.JudgeAfter.{IsAnswerRefusal, IsBeforeRefusal, IsJudgeAfterRefusal, IsRefusalOfThree, IsVerdictAfter, IsVerdictAfterBy};
+
+use crate::fault::{Fault, answer_fault};
+use crate::judging::verdict;
+use crate::reply::Reply;
+use fints_params::{Code, ParamFault, Params, feedback_codes};
+use fints_rules::{OrderTable, Permissions, judge_after};
+use fints_rules_messages::{JudgeFault, Message, read_message};
+use std::alloc::Global;
+
+// The message before the judged one.
+fn read_before(alloc: Global, before: &[u8]) -> Result<Message, Fault>
+    ensures message { IfOk result (λ m. IsMessage before.now m) }
+    ensures refused { IfErr result (λ f. IsBeforeRefusal before.now f) }
+{
+    match read_message(alloc, before) {
+        Ok(message) => Ok(message),
+        Err(fault) => match fault {
+            JudgeFault::NotAMessage { offset } => Err(Fault::Before { offset }),
+            _ => Err(Fault::Memory),
+        },
+    }
+}
+
+// The codes of the bank's answer to that message.
+fn read_answer(alloc: Global, answer: &[u8]) -> Result<Vec<Code>, Fault>
+    ensures codes { IfOk result (λ codes. IsCodesOf answer.now codes.items) }
+    ensures refused { IfErr result (λ f. IsAnswerRefusal answer.now f) }
+{
+    match feedback_codes(alloc, answer) {
+        Ok(codes) => Ok(codes),
+        Err(fault) => Err(answer_fault(fault)),
+    }
+}
+
+// The verdict on a message behind another one and the answer to that.
+#[tactic(auto, using(crate::proofs::JudgeLemmas::answer_refused, crate::proofs::JudgeLemmas::judged_refused))]
+fn judge_behind(
+    alloc: Global,
+    permissions: &Permissions<'_>,
+    before: &[u8],
+    answer: &[u8],
+    message: &[u8],
+) -> Result<Reply, Fault>
+    ensures judged { IfOk result (λ reply. IsVerdictAfterBy permissions.now.rows permissions.now.orders before.now answer.now message.now reply.status reply.text.items) }
+    ensures refused { IfErr result (λ f. IsRefusalOfThree before.now answer.now message.now f) }
+{
+    read_before(alloc, before)?;
+    let codes = read_answer(alloc, answer)?;
+    let broken = judge_after(alloc, permissions, before, codes.as_slice(), message)?;
+    let reply = verdict(alloc, broken.as_slice())?;
+    Ok(reply)
+}
+
+// The same, by good parameters and a good order table.
+fn judge_after_with(
+    alloc: Global,
+    params: &Params,
+    orders: &OrderTable,
+    before: &[u8],
+    answer: &[u8],
+    message: &[u8],
+) -> Result<Reply, Fault>
+    ensures judged { IfOk result (λ reply. IsVerdictAfterBy params.now orders.now before.now answer.now message.now reply.status reply.text.items) }
+    ensures refused { IfErr result (λ f. IsRefusalOfThree before.now answer.now message.now f) }
+{
+    let permissions = Permissions::build(alloc, params, orders)?;
+    let reply = judge_behind(alloc, &permissions, before, answer, message)?;
+    Ok(reply)
+}
+
+/// The rules that a message breaks behind the message before it and the bank's answer to that, by
+/// what was read of a capture and an order table. The refusals come in this order: of the capture, of
+/// the order table, of the message before, of the answer, of the message. The codes of the answer are
+/// those of `feedback_codes`.
+pub fn judge_after_read(
+    alloc: Global,
+    params: Result<Params, ParamFault>,
+    orders: &[u8],
+    before: &[u8],
+    answer: &[u8],
+    message: &[u8],
+) -> Result<Reply, Fault>
+    ensures status { IfOk result (λ reply. reply.status ≤ 1) }
+    ensures judged { IfOk result (λ reply. (capture : List ℕ) → IsReadOf capture params
+        → IsVerdictAfter capture orders.now before.now answer.now message.now reply.status reply.text.items) }
+    ensures refused { IfErr result (λ f. (capture : List ℕ) → IsReadOf capture params
+        → IsJudgeAfterRefusal capture orders.now before.now answer.now message.now f) }
+{
+    let params = match params {
+        Ok(params) => params,
+        Err(fault) => return Err(Fault::from(fault)),
+    };
+    let orders = OrderTable::read(alloc, orders)?;
+    let reply = judge_after_with(alloc, &params, &orders, before, answer, message)?;
+    Ok(reply)
+}

@@ -1,0 +1,380 @@
+//! What the words of the command line ask for.
+ghost use Rattle.std.specs.Prelude.{◌≡◌, [], false};
+ghost use Rattle.fints_cli_words.specs.declared.words.Asked.TheVariants as asked;
+ghost use Rattle.fints_cli_words.specs.declared.words.Request.TheVariants as request;
+
+use clap::error::ErrorKind;
+use clap::{Arg, ArgAction, ArgMatches, Command, Error, value_parser};
+use std::alloc::{AllocError, Global};
+
+// What stands after the options of `fints --help`.
+const ABOUT_FILES: &str = "Without words: the report on a built-in script.
+
+Statuses:
+  0  clean, shown, permitted, valid or run; a certificate or this help
+  1  a rule is broken, or a certificate isn't valid
+  2  usage error
+  3  an input is refused
+  4  out of memory
+  5  a file couldn't be read, or the output failed
+
+Files:
+  capture      what the bank sent: segments up to ', as bytes; HIBPA 3 and HIPINS 1 among them
+  order table  TOML: for each order [[order]] with kind, version, account
+  script       TOML: seal = [..] first, then [[field]], [[signer]] and the steps, [[step]]
+  case         lines: 'fints-case 1', 'field NAME HEX' for each field, 'answer CODE CODE ..'
+  certificate  lines: 'fints-cert 2', 'step NAME NUMBER SIZE' or 'step NAME -' for each step
+  message      the segments of one message, HNHBK to HNHBS, as bytes
+  answer       the bank's answer to a message, as bytes: its feedback is read, HIRMG and HIRMS";
+
+// What stands after the options of a command's help.
+const SEE_HELP: &str = "The statuses and the files: fints --help";
+
+/// The files of a command that reads a script.
+#[derive(Clone, Copy)]
+pub struct ScriptFiles<'a> {
+    pub params: &'a str,
+    pub orders: &'a str,
+    pub script: &'a str,
+}
+
+/// The files of a command that judges a message.
+#[derive(Clone, Copy)]
+pub struct JudgeFiles<'a> {
+    pub params: &'a str,
+    pub orders: &'a str,
+    pub message: &'a str,
+}
+
+/// The files of what a judged message comes after: the message before it, and the bank's answer to
+/// that.
+#[derive(Clone, Copy)]
+pub struct EarlierFiles<'a> {
+    pub before: &'a str,
+    pub answer: &'a str,
+}
+
+/// The files of a command that sends the messages of a case.
+#[derive(Clone, Copy)]
+pub struct RunFiles<'a> {
+    pub orders: &'a str,
+    pub script: &'a str,
+    pub case: &'a str,
+}
+
+/// A command with its files.
+#[derive(Drop)]
+pub enum Request<'a> {
+    /// The report of the built-in texts.
+    BuiltIn,
+    /// What a capture says.
+    Show {
+        params: &'a str,
+    },
+    /// The rules that a message breaks, by a capture and an order table.
+    Judge(JudgeFiles<'a>),
+    /// Those that it breaks behind the message before it and the bank's answer to that.
+    JudgeAfter {
+        files: JudgeFiles<'a>,
+        earlier: EarlierFiles<'a>,
+    },
+    /// What the runs of a script break, by a capture and an order table.
+    Check(ScriptFiles<'a>),
+    /// What the runs of a script break, and a case of each finding.
+    Explain(ScriptFiles<'a>),
+    /// The certificate of a script whose runs break nothing, or else what they break.
+    Certify(ScriptFiles<'a>),
+    /// Whether a certificate of a script is closed.
+    Verify {
+        files: ScriptFiles<'a>,
+        certificate: &'a str,
+    },
+    /// The messages that a client sends under a case, by an order table and a script, or the one
+    /// message of a number.
+    Run {
+        files: RunFiles<'a>,
+        message: Option<u32>,
+    },
+}
+
+/// What the words ask for.
+#[derive(Drop)]
+pub enum Asked<'a> {
+    /// Help, which goes to the output.
+    Help(String),
+    /// A usage fault, which goes to the errors.
+    Usage(String),
+    /// There was no memory to tell.
+    NoMemory,
+    /// A command, and whether a refusal is to be explained by a hint.
+    Run { request: Request<'a>, hints: bool },
+}
+
+// An option of a command.
+enum Choice {
+    // A file: the name of the option, and what the command's help says of it.
+    File(&'static str, &'static str),
+    // A file that goes with that of another option, so that both are given or neither.
+    Beside(&'static str, &'static str, &'static str),
+    // The number of a message.
+    Number,
+}
+
+const PARAMS: Choice = Choice::File("params", "The capture");
+
+const ORDERS: Choice = Choice::File("orders", "The order table");
+
+const SCRIPT: Choice = Choice::File("script", "The script");
+
+const CASE: Choice = Choice::File("case", "The case");
+
+const CERTIFICATE: Choice = Choice::File("cert", "The certificate");
+
+const BEFORE: Choice = Choice::Beside("before", "The message before it, with --answer", "answer");
+
+const ANSWER: Choice = Choice::Beside(
+    "answer",
+    "The bank's answer to that, with --before",
+    "before",
+);
+
+const MESSAGE: Choice = Choice::File("message", "The message");
+
+// A command: its name, what its help says of it, and its options.
+struct Described {
+    name: &'static str,
+    about: &'static str,
+    options: &'static [Choice],
+}
+
+const COMMANDS: [Described; 7] = [
+    Described {
+        name: "show",
+        about: "Shows what a capture says of the bank and the user",
+        options: &[PARAMS],
+    },
+    Described {
+        name: "judge",
+        about: "Names the rules that a message breaks",
+        options: &[PARAMS, ORDERS, BEFORE, ANSWER, MESSAGE],
+    },
+    Described {
+        name: "check",
+        about: "Names the rules that some run of a script breaks",
+        options: &[PARAMS, ORDERS, SCRIPT],
+    },
+    Described {
+        name: "explain",
+        about: "Names the rules that some run of a script breaks, each with a case",
+        options: &[PARAMS, ORDERS, SCRIPT],
+    },
+    Described {
+        name: "certify",
+        about: "Prints the certificate of a script whose runs break no rule",
+        options: &[PARAMS, ORDERS, SCRIPT],
+    },
+    Described {
+        name: "verify",
+        about: "Tells whether a certificate of a script is closed",
+        options: &[PARAMS, ORDERS, SCRIPT, CERTIFICATE],
+    },
+    Described {
+        name: "run",
+        about: "Prints the messages that a client sends under a case",
+        options: &[ORDERS, SCRIPT, CASE, Choice::Number],
+    },
+];
+
+fn file_option<'a>(alloc: Global, name: &'a str, help: &'a str) -> Arg<'a> {
+    Arg::new(alloc, name)
+        .long(name)
+        .value_name("FILE")
+        .help(help)
+        .required(true)
+        .action(ArgAction::Set)
+}
+
+fn beside_option<'a>(
+    alloc: Global,
+    name: &'a str,
+    help: &'a str,
+    other: &'a str,
+) -> Result<Arg<'a>, AllocError> {
+    Arg::new(alloc, name)
+        .long(name)
+        .value_name("FILE")
+        .help(help)
+        .action(ArgAction::Set)
+        .requires_arg(other)
+}
+
+fn number_option<'a>(alloc: Global) -> Arg<'a> {
+    Arg::new(alloc, "message")
+        .long("message")
+        .value_name("N")
+        .help("Only the bytes of message N")
+        .value_parser(value_parser!(u32))
+        .action(ArgAction::Set)
+}
+
+fn option<'a>(alloc: Global, choice: &Choice) -> Result<Arg<'a>, AllocError> {
+    match choice {
+        Choice::File(name, help) => Ok(file_option(alloc, name, help)),
+        Choice::Beside(name, help, other) => beside_option(alloc, name, help, other),
+        Choice::Number => Ok(number_option(alloc)),
+    }
+}
+
+// A command with its options.
+fn command<'a>(alloc: Global, described: &Described) -> Result<Command<'a>, AllocError> {
+    let mut command = Command::new(alloc, described.name)
+        .about(described.about)
+        .after_help(SEE_HELP);
+    for choice in described.options {
+        command = command.arg(option(alloc, choice)?)?;
+    }
+    Ok(command)
+}
+
+// The option that each command has.
+fn hints_option<'a>(alloc: Global) -> Arg<'a> {
+    Arg::new(alloc, "hints")
+        .long("hints")
+        .help("Adds to a refusal a line that names what to look at")
+        .global(true)
+        .action(ArgAction::SetTrue)
+}
+
+// The program, but for its commands.
+fn program<'a>(alloc: Global) -> Result<Command<'a>, AllocError> {
+    Command::new(alloc, "fints")
+        .bin_name("fints")?
+        .version("0.1.0")
+        .about("Checks FinTS 3.0 dialogue scripts")
+        .after_help(ABOUT_FILES)
+        .no_binary_name(true)
+        .subcommand_required(true)
+        .arg(hints_option(alloc))
+}
+
+fn command_line<'a>(alloc: Global) -> Result<Command<'a>, AllocError> {
+    let mut program = program(alloc)?;
+    for described in &COMMANDS {
+        program = program.subcommand(command(alloc, described)?)?;
+    }
+    Ok(program)
+}
+
+// What is told in place of a command.
+fn told<'a>(alloc: Global, error: &Error) -> Asked<'a> {
+    if error.kind() == ErrorKind::OutOfMemory {
+        return Asked::NoMemory;
+    }
+    match error.to_string(alloc) {
+        Ok(text) if error.use_stderr() => Asked::Usage(text),
+        Ok(text) => Asked::Help(text),
+        Err(_) => Asked::NoMemory,
+    }
+}
+
+/// What the words after the program's name ask for: with no words, the report of the built-in
+/// texts.
+pub fn read_words<'a>(alloc: Global, words: &'a [&'a str]) -> Asked<'a>
+    ensures { words.now ≡ [] → result ≡ asked.Run request.BuiltIn false }
+{
+    if words.is_empty() {
+        return Asked::Run {
+            request: Request::BuiltIn,
+            hints: false,
+        };
+    }
+    let Ok(command) = command_line(alloc) else {
+        return Asked::NoMemory;
+    };
+    let matches = match command.try_get_matches_from(words) {
+        Ok(matches) => matches,
+        Err(error) => return told(alloc, &error),
+    };
+    let Some((name, options)) = matches.subcommand() else {
+        return Asked::NoMemory;
+    };
+    match named_request(name, options) {
+        Some(request) => Asked::Run {
+            request,
+            hints: options.get_flag("hints"),
+        },
+        None => Asked::NoMemory,
+    }
+}
+
+fn script_files<'a>(options: &ArgMatches<'a>) -> Option<ScriptFiles<'a>> {
+    Some(ScriptFiles {
+        params: options.get_str("params")?,
+        orders: options.get_str("orders")?,
+        script: options.get_str("script")?,
+    })
+}
+
+fn run_files<'a>(options: &ArgMatches<'a>) -> Option<RunFiles<'a>> {
+    Some(RunFiles {
+        orders: options.get_str("orders")?,
+        script: options.get_str("script")?,
+        case: options.get_str("case")?,
+    })
+}
+
+fn show_request<'a>(options: &ArgMatches<'a>) -> Option<Request<'a>> {
+    let params = options.get_str("params")?;
+    Some(Request::Show { params })
+}
+
+fn judge_files<'a>(options: &ArgMatches<'a>) -> Option<JudgeFiles<'a>> {
+    Some(JudgeFiles {
+        params: options.get_str("params")?,
+        orders: options.get_str("orders")?,
+        message: options.get_str("message")?,
+    })
+}
+
+fn earlier_files<'a>(options: &ArgMatches<'a>) -> Option<EarlierFiles<'a>> {
+    Some(EarlierFiles {
+        before: options.get_str("before")?,
+        answer: options.get_str("answer")?,
+    })
+}
+
+fn judge_request<'a>(options: &ArgMatches<'a>) -> Option<Request<'a>> {
+    let files = judge_files(options)?;
+    match earlier_files(options) {
+        Some(earlier) => Some(Request::JudgeAfter { files, earlier }),
+        None => Some(Request::Judge(files)),
+    }
+}
+
+fn verify_request<'a>(options: &ArgMatches<'a>) -> Option<Request<'a>> {
+    Some(Request::Verify {
+        files: script_files(options)?,
+        certificate: options.get_str("cert")?,
+    })
+}
+
+fn run_request<'a>(options: &ArgMatches<'a>) -> Option<Request<'a>> {
+    Some(Request::Run {
+        files: run_files(options)?,
+        message: options.get_one::<u32>("message"),
+    })
+}
+
+// The command with its options, each of which the command line requires.
+fn named_request<'a>(name: &str, options: &ArgMatches<'a>) -> Option<Request<'a>> {
+    match name {
+        "show" => show_request(options),
+        "judge" => judge_request(options),
+        "check" => Some(Request::Check(script_files(options)?)),
+        "explain" => Some(Request::Explain(script_files(options)?)),
+        "certify" => Some(Request::Certify(script_files(options)?)),
+        "verify" => verify_request(options),
+        "run" => run_request(options),
+        _ => None,
+    }
+}

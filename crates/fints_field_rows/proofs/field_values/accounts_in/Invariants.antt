@@ -1,8 +1,0 @@
-use Rattle.std.proofs.Common.{map, take}
-use Rattle.toml.specs.View.{view}
-use Rattle.fints_field_rows.specs.Fields.{account_in}
-use Rattle.fints_field_rows.specs.Parts.{Gives, each}
-use Rattle.fints_field_rows.proofs.field_values.accounts_in.Given as goal
-
-abbrev pub invariant-loop-value : goal.invariant-loop-value
-invariant-loop-value l = Gives (λ v. v.items) l.accounts (each account_in (map view (take l.value-index l.values)))

@@ -1,5 +1,0 @@
-use Rattle.fints_fields.proofs.Domains.{one_item}
-use Rattle.fints_fields.proofs.class_laws.others_are_one_item.Goals as goal
-
-pub returns : goal.returns
-returns c = one_item

@@ -1,9 +1,0 @@
-use Rattle.std.proofs.Common.{◌≡◌, ◌≤◌, take}
-use Rattle.fints_findings.specs.Kinds.{demanding_count}
-use Rattle.fints_findings.proofs.kinds.count_demanding.Given as goal
-
-abbrev pub invariant-loop-template : goal.invariant-loop-template
-invariant-loop-template l = record {
-  count : l.count ≡ demanding_count l.permissions.rows.pins (take l.template-index l.templates);
-  few : l.count ≤ l.template-index;
-}

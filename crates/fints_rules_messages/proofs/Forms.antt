@@ -1,0 +1,248 @@
+-- What can follow what, in a message.
+use Rattle.std.proofs.Common.{codes, ◌≡◌, ℕ, zero, suc, ◌+◌, ◌-◌, true, false, ◌==◌, List, [], ◌∷◌, ◌++◌, length, refl, ap, ◌∙◌, sym, subst, arith, inl, inr, append_assoc, length-append, Some, None}
+use Rattle.std.specs.Prelude.{IsTrue}
+use Rattle.std.specs.List.{AllByRecursion}
+use Rattle.std.specs.Str.{bytes_eq}
+use Rattle.std.proofs.lemmas.Bool.{and_parts}
+use Rattle.std.proofs.lemmas.Slice.Eq.{bytes_eq-Decides}
+use Rattle.fints_syntax_segments.specs.declared.item.OwnedItem.TheVariants.{Text}
+use Rattle.fints_syntax_segments.specs.declared.item.OwnedSegment.{OwnedSegment}
+use Rattle.fints_syntax_segments.specs.Number.{number_of}
+use Rattle.fints_syntax_segments.specs.Values.{is_named}
+use Rattle.fints_rules_messages.specs.Parts.{part_of}
+use Rattle.fints_rules_messages.specs.Messages.{IsNumbered, IsInner, IsLast, IsKey, IsPlainTail, IsSealedTail, IsTail}
+use Rattle.fints_rules_messages.specs.Front.{IsHalf, Follows, CanStand, BeginsBy, IsNumber}
+use Rattle.fints_rules_messages.specs.declared.part.Part.{Part}
+use Rattle.fints_rules_messages.specs.declared.part.Part.TheVariants.{Opener, Body, Ender, Other}
+use Rattle.fints_rules_messages.proofs.Ranks.{IsRanked, Fits, fits, balanced, none_3}
+use Rattle.fints_rules_messages.proofs.Texts.{all_append}
+use Rattle.fints_rules_messages.proofs.Fronts.{numbered-append, length-half}
+
+-- ---- ranks of parts
+
+abbrev pub rank : Part → ℕ
+rank Opener = 0
+rank Body = 1
+rank Ender = 2
+rank Other = 3
+
+abbrev pub rank_of : OwnedSegment → ℕ
+rank_of s = rank (part_of s)
+
+all_ranks : (p : Part) (c : ℕ) (ss : List OwnedSegment) → rank p ≡ c → AllByRecursion (λ s. part_of s ≡ p) ss → AllByRecursion (λ s. rank_of s ≡ c) ss
+all_ranks p c [] e h = tt
+all_ranks p c (s ∷ ss) e h = (ap rank h.0 ∙ e, all_ranks p c ss e h.1)
+
+follows : (p : Part) (k b e : ℕ) → Fits (rank p) k b e → Follows p k b e
+follows Opener k b e f = f.at_0 refl
+follows Body k b e f = f.at_1 refl
+follows Ender k b e f = f.at_2 refl
+follows Other k b e f = f.at_3 refl
+
+half_ranked : (ss body ends : List OwnedSegment) (k : ℕ) (h : IsHalf ss body ends k) → IsRanked rank_of h.opened body ends
+half_ranked ss body ends k h = record { first = all_ranks Opener 0 h.opened refl h.openers_are; second = all_ranks Body 1 body refl h.body_is; third = all_ranks Ender 2 ends refl h.ends_are }
+
+pub inner_ranked : (ss body ends : List OwnedSegment) (h : IsInner ss body ends) → IsRanked rank_of h.openers body ends
+inner_ranked ss body ends h = record { first = all_ranks Opener 0 h.openers refl h.openers_are; second = all_ranks Body 1 body refl h.body_is; third = all_ranks Ender 2 ends refl h.ends_are }
+
+-- ---- numbers
+
+pub number_at : (n : ℕ) (xs : List OwnedSegment) (s : OwnedSegment) (more : List OwnedSegment) → IsNumbered n (xs ++ s ∷ more) → s.head.number ≡ n + length xs
+number_at n [] s more h = omega (arith, h.0)
+number_at n (x ∷ xs) s more h = omega (arith, number_at (n + 1) xs s more h.1)
+
+-- ---- an inner segment that follows
+
+pub stands : (ss body ends : List OwnedSegment) (k : ℕ) (s : OwnedSegment) (more b e : List OwnedSegment) → IsHalf ss body ends k → IsInner (ss ++ s ∷ more) b e → IsNumbered 2 (ss ++ s ∷ more) → CanStand s k (length body) (length ends)
+stands ss body ends k s more b e h g n =
+    let flat : (h.opened ++ (body ++ ends)) ++ s ∷ more ≡ h.opened ++ (body ++ (ends ++ s ∷ more)) = append_assoc h.opened (body ++ ends) (s ∷ more) ∙ ap (λ z. h.opened ++ z) (append_assoc body ends (s ∷ more)) in
+    let joined : g.openers ++ (b ++ e) ≡ h.opened ++ (body ++ (ends ++ s ∷ more)) = sym g.together ∙ ap (λ z. z ++ s ∷ more) h.together ∙ flat in
+    let f = fits rank_of h.opened body ends g.openers b e s more (half_ranked ss body ends k h) (inner_ranked (ss ++ s ∷ more) b e g) g.as_many joined in (
+      omega (arith, number_at 2 ss s more n, length-half ss body ends k h),
+      follows (part_of s) k (length body) (length ends) (subst (λ z. Fits (rank_of s) z (length body) (length ends)) h.count f),
+    )
+
+pub ends_all : (ss body ends : List OwnedSegment) (k : ℕ) (b e : List OwnedSegment) → IsHalf ss body ends k → IsInner ss b e → length ends ≡ k
+ends_all ss body ends k b e h g =
+    omega (arith, h.count, balanced rank_of h.opened body ends g.openers b e (half_ranked ss body ends k h) (inner_ranked ss b e g) g.as_many (sym g.together ∙ h.together))
+
+pub inner_half : (ss body ends : List OwnedSegment) (k : ℕ) → IsHalf ss body ends k → length ends ≡ k → IsInner ss body ends
+inner_half ss body ends k h n = record { openers = h.opened; openers_are = h.openers_are; body_is = h.body_is; ends_are = h.ends_are; as_many = omega (arith, h.count, n); together = h.together }
+
+-- ---- segments of the frame are no inner ones
+
+abbrev part_by : List ℕ → ℕ → Part
+part_by id version = part_of (record { head = record { id = id; number = 0; version = version; reference = None }; elements = [] })
+
+kind_is : (kind : List ℕ) (version : ℕ) (s : OwnedSegment) → IsTrue (is_named s kind version) → s.head.id ≡ kind
+kind_is kind version s h = (bytes_eq-Decides s.head.id kind).0 (and_parts (bytes_eq s.head.id kind) (s.head.version == version) h).0
+
+pub key_other : (s : OwnedSegment) → IsKey s → part_of s ≡ Other
+key_other s h = ap (λ id. part_by id s.head.version) (kind_is (codes "HNVSK") 3 s h.kind)
+
+pub last_other : (number : ℕ) (s : OwnedSegment) → IsLast number s → part_of s ≡ Other
+last_other number s h = ap (λ id. part_by id s.head.version) (kind_is (codes "HNHBS") 1 s h.kind)
+
+pub key_not_last : (number : ℕ) (s : OwnedSegment) → IsKey s → IsLast number s → ⊥
+key_not_last number s h g =
+    let e : codes "HNVSK" ≡ codes "HNHBS" = sym (kind_is (codes "HNVSK") 3 s h.kind) ∙ kind_is (codes "HNHBS") 1 s g.kind in
+    let f : false ≡ true = ap (λ id. bytes_eq id (codes "HNHBS")) e in cc
+
+half_no_other : (ss body ends : List OwnedSegment) (k : ℕ) (front : List OwnedSegment) (s : OwnedSegment) (more : List OwnedSegment) → IsHalf ss body ends k → ss ≡ front ++ s ∷ more → part_of s ≡ Other → ⊥
+half_no_other ss body ends k front s more h e p = none_3 rank_of h.opened body ends front s more (half_ranked ss body ends k h) (sym e ∙ h.together) (ap rank p)
+
+pub half_not_tail : (number : ℕ) (ss body ends : List OwnedSegment) (k : ℕ) (b e : List OwnedSegment) → IsHalf ss body ends k → IsTail number ss b e → ⊥
+half_not_tail number ss body ends k b e h t =
+    elim t [
+      | inl p ↦ half_no_other ss body ends k p.inner p.last [] h p.together (last_other number p.last p.is_last)
+      | inr q ↦ half_no_other ss body ends k [] q.key (q.envelope ∷ q.last ∷ []) h q.together (key_other q.key q.is_key)
+    ]
+
+-- ---- what follows some inner segments
+
+-- where two lists are one, and one ends with l
+pub data Split {X : Type 0} (xs : List X) (s : X) (more ys : List X) (l : X) : Type 0 where
+  at_end : more ≡ [] → s ≡ l → xs ≡ ys → Split xs s more ys l
+  inside : (zs : List X) → ys ≡ xs ++ s ∷ zs → Split xs s more ys l
+
+pub split : {X : Type 0} (xs : List X) (s : X) (more ys : List X) (l : X) → xs ++ s ∷ more ≡ ys ++ l ∷ [] → Split xs s more ys l
+split [] s more [] l e = at_end (cc) (cc) refl
+split [] s more (y ∷ ys) l e = inside ys (ap (λ z. z ∷ ys) (cc))
+split (x ∷ xs) s more [] l e = absurd (omega (arith, ap length e, length-append xs (s ∷ more)))
+split (x ∷ xs) s more (y ∷ ys) l e =
+    let head : x ≡ y = cc in
+    elim (split xs s more ys l (cc)) [
+      | at_end a b c ↦ at_end a b (ap (λ z. z ∷ xs) head ∙ ap (λ zs. y ∷ zs) c)
+      | inside zs c ↦ inside zs (ap (λ z. z ∷ ys) (sym head) ∙ ap (λ zs. x ∷ zs) c)
+    ]
+
+-- it is the last
+pub record IsEnd (number : ℕ) (s : OwnedSegment) (before ends k : ℕ) (more : List OwnedSegment) : Type 0 where
+  pub last : IsLast number s
+  pub place : s.head.number ≡ 2 + before
+  pub all : ends ≡ k
+  pub none : more ≡ []
+
+pub data Next (number : ℕ) (ss body ends : List OwnedSegment) (k : ℕ) (s : OwnedSegment) (more : List OwnedSegment) : Type 0 where
+  inner : CanStand s k (length body) (length ends) → Next number ss body ends k s more
+  end : IsEnd number s (length ss) (length ends) k more → Next number ss body ends k s more
+  key : ss ≡ [] → IsKey s → Next number ss body ends k s more
+
+pub numbered_front : (n : ℕ) (xs ys : List OwnedSegment) → IsNumbered n (xs ++ ys) → IsNumbered n xs
+numbered_front n [] ys h = tt
+numbered_front n (x ∷ xs) ys h = (h.0, numbered_front (n + 1) xs ys h.1)
+
+plain_next : (number : ℕ) (ss body ends : List OwnedSegment) (k : ℕ) (s : OwnedSegment) (more b e : List OwnedSegment) → IsHalf ss body ends k → IsPlainTail number (ss ++ s ∷ more) b e → Next number ss body ends k s more
+plain_next number ss body ends k s more b e h p =
+    elim (split ss s more p.inner p.last p.together) [
+      | at_end none is same ↦
+          let numbered : IsNumbered 2 (ss ++ s ∷ []) = subst (λ x. IsNumbered 2 (ss ++ x ∷ [])) (sym is) (subst (λ xs. IsNumbered 2 (xs ++ p.last ∷ [])) (sym same) p.numbered) in
+          end (record { last = subst (IsLast number) (sym is) p.is_last; place = number_at 2 ss s [] numbered; all = ends_all ss body ends k b e h (subst (λ xs. IsInner xs b e) (sym same) p.is_inner); none = none })
+      | inside zs same ↦
+          let g : IsInner (ss ++ s ∷ zs) b e = subst (λ xs. IsInner xs b e) same p.is_inner in
+          inner (stands ss body ends k s zs b e h g (numbered_front 2 (ss ++ s ∷ zs) (p.last ∷ []) (subst (λ xs. IsNumbered 2 (xs ++ p.last ∷ [])) same p.numbered)))
+    ]
+
+sealed_next : (number : ℕ) (ss body ends : List OwnedSegment) (k : ℕ) (s : OwnedSegment) (more b e : List OwnedSegment) → IsHalf ss body ends k → IsSealedTail number (ss ++ s ∷ more) b e → Next number ss body ends k s more
+sealed_next number [] body ends k s more b e h q = let e : s ≡ q.key = let t = q.together in cc in key refl (subst IsKey (sym e) q.is_key)
+sealed_next number (x ∷ ss) body ends k s more b e h q =
+    let e : x ≡ q.key = let t = q.together in cc in
+    absurd (half_no_other (x ∷ ss) body ends k [] x ss h refl (ap part_of e ∙ key_other q.key q.is_key))
+
+pub next : (number : ℕ) (ss body ends : List OwnedSegment) (k : ℕ) (s : OwnedSegment) (more b e : List OwnedSegment) → IsHalf ss body ends k → IsTail number (ss ++ s ∷ more) b e → Next number ss body ends k s more
+next number ss body ends k s more b e h t =
+    elim t [
+      | inl p ↦ plain_next number ss body ends k s more b e h p
+      | inr q ↦ sealed_next number ss body ends k s more b e h q
+    ]
+
+-- ---- more segments that make it whole
+
+ender : ℕ → OwnedSegment
+ender n = record { head = record { id = codes "HNSHA"; number = n; version = 2; reference = None }; elements = [] }
+
+enders : ℕ → ℕ → List OwnedSegment
+enders n zero = []
+enders n (suc j) = ender n ∷ enders (n + 1) j
+
+enders_numbered : (n j : ℕ) → IsNumbered n (enders n j)
+unfolding enders ender
+enders_numbered n zero = tt
+enders_numbered n (suc j) = (refl, enders_numbered (n + 1) j)
+
+enders_parts : (n j : ℕ) → AllByRecursion (λ s. part_of s ≡ Ender) (enders n j)
+unfolding enders ender
+enders_parts n zero = tt
+enders_parts n (suc j) = (refl, enders_parts (n + 1) j)
+
+length-enders : (n j : ℕ) → length (enders n j) ≡ j
+unfolding enders
+length-enders n zero = refl
+length-enders n (suc j) = omega (arith, length-enders (n + 1) j)
+
+pub last_of : ℕ → List ℕ → OwnedSegment
+last_of n value = record { head = record { id = codes "HNHBS"; number = n; version = 1; reference = None }; elements = (Text value ∷ []) ∷ [] }
+
+pub last_is : (number n : ℕ) (value : List ℕ) → number_of value ≡ Some number → IsLast number (last_of n value)
+unfolding last_of
+last_is number n value h = record { kind = refl; number_is = h }
+
+pub last_number : (n : ℕ) (value : List ℕ) → (last_of n value).head.number ≡ n
+unfolding last_of
+last_number n value = refl
+
+pub begins_half : (number : ℕ) (ss body ends : List OwnedSegment) (k : ℕ) → IsNumber number → IsHalf ss body ends k → IsNumbered 2 ss → BeginsBy (IsTail number) ss
+begins_half number ss body ends k v h n =
+    let j : ℕ = k - length ends in
+    let fill : List OwnedSegment = enders (2 + length ss) j in
+    let last : OwnedSegment = last_of (2 + length ss + j) v.value in
+    let place : last.head.number ≡ 2 + length (ss ++ fill) = omega (arith, last_number (2 + length ss + j) v.value, length-append ss fill, length-enders (2 + length ss) j) in
+    let filled : IsNumbered 2 (ss ++ fill) = numbered-append 2 ss fill n (enders_numbered (2 + length ss) j) in (
+      fill ++ last ∷ [],
+      body,
+      ends ++ fill,
+      inl (record {
+        inner = ss ++ fill;
+        last = last;
+        is_inner = record {
+          openers = h.opened;
+          openers_are = h.openers_are;
+          body_is = h.body_is;
+          ends_are = all_append (λ s. part_of s ≡ Ender) ends fill h.ends_are (enders_parts (2 + length ss) j);
+          as_many = omega (arith, h.count, h.at_most, length-append ends fill, length-enders (2 + length ss) j);
+          together = ap (λ z. z ++ fill) h.together ∙ append_assoc h.opened (body ++ ends) fill ∙ ap (λ z. h.opened ++ z) (append_assoc body ends fill);
+        };
+        is_last = last_is number (2 + length ss + j) v.value v.is;
+        numbered = numbered-append 2 (ss ++ fill) (last ∷ []) filled (place, tt);
+        together = sym (append_assoc ss fill (last ∷ []));
+      }),
+    )
+
+pub tail_whole : (number : ℕ) (ss body ends : List OwnedSegment) (k : ℕ) (s : OwnedSegment) → IsHalf ss body ends k → IsNumbered 2 ss → length ends ≡ k → IsLast number s → s.head.number ≡ 2 + length ss → IsTail number (ss ++ s ∷ []) body ends
+tail_whole number ss body ends k s h n all last place = inl (record {
+  inner = ss;
+  last = s;
+  is_inner = inner_half ss body ends k h all;
+  is_last = last;
+  numbered = numbered-append 2 ss (s ∷ []) n (place, tt);
+  together = refl;
+})
+
+-- nothing follows HNHBS
+pub none_after : (number : ℕ) (ss body ends : List OwnedSegment) (k : ℕ) (s t : OwnedSegment) (more b e : List OwnedSegment) → IsHalf ss body ends k → IsLast number s → IsTail number (ss ++ s ∷ t ∷ more) b e → ⊥
+none_after number ss body ends k s t more b e h last tail =
+    elim (next number ss body ends k s (t ∷ more) b e h tail) [
+      | inner stand ↦ subst (λ p. Follows p k (length body) (length ends)) (last_other number s last) stand.1
+      | end q ↦ let none = q.none in cc
+      | key none is ↦ key_not_last number s is last
+    ]
+
+inner_no_other : (ss body ends : List OwnedSegment) (s : OwnedSegment) (more : List OwnedSegment) → IsInner ss body ends → ss ≡ s ∷ more → part_of s ≡ Other → ⊥
+inner_no_other ss body ends s more h e p = none_3 rank_of h.openers body ends [] s more (inner_ranked ss body ends h) (sym e ∙ h.together) (ap rank p)
+
+key_first : (number : ℕ) (s : OwnedSegment) (ss inner b e : List OwnedSegment) (last : OwnedSegment) → IsKey s → IsInner inner b e → IsLast number last → s ∷ ss ≡ inner ++ last ∷ [] → ⊥
+key_first number s ss [] b e last h i l q = let same : s ≡ last = cc in key_not_last number s h (subst (IsLast number) (sym same) l)
+key_first number s ss (x ∷ xs) b e last h i l q = let same : x ≡ s = cc in inner_no_other (x ∷ xs) b e x xs i refl (ap part_of same ∙ key_other s h)
+
+pub key_not_plain : (number : ℕ) (s : OwnedSegment) (ss b e : List OwnedSegment) → IsKey s → IsPlainTail number (s ∷ ss) b e → ⊥
+key_not_plain number s ss b e h p = key_first number s ss p.inner b e p.last h p.is_inner p.is_last p.together

@@ -1,0 +1,241 @@
+-- The sealed form.
+use Rattle.std.proofs.Common.{codes, ◌≡◌, ℕ, ◌+◌, ◌<◌, ◌≤◌, List, [], ◌∷◌, ◌++◌, length, drop, refl, ap, ◌∙◌, sym, subst, arith, inl, inr, append_assoc, length-append, Option, Some, None}
+use Rattle.std.specs.Prelude.{IsTrue, option_map, unwrap_or}
+use Rattle.fints_syntax_segments.specs.declared.item.Head.{Head}
+use Rattle.std.specs.List.{AllByRecursion}
+use Rattle.std.proofs.lemmas.List.{append-nil, length-map, length-drop, drop-drop, drop_all, map-append}
+use Rattle.fints_syntax_segments.specs.Spelling.{Spelled}
+use Rattle.fints_syntax_segments.specs.Segment.{segment_bytes, IsSegment}
+use Rattle.fints_syntax_segments.specs.declared.item.OwnedItem.TheVariants.{Bin}
+use Rattle.fints_syntax_segments.specs.declared.item.OwnedSegment.{OwnedSegment}
+use Rattle.fints_syntax.specs.Laws.{OneSegmentText}
+use Rattle.fints_syntax.specs.Owned.{no_head, segment_of, segments_of}
+use Rattle.fints_rules_messages.specs.Segments.{text_of, IsText}
+use Rattle.fints_syntax_segments.specs.Values.{item_at}
+use Rattle.fints_syntax_segments.specs.Values.{is_named}
+use Rattle.fints_rules_messages.specs.Messages.{IsInner, IsTail, IsKey, IsEnvelope, IsLast, IsNumbered, Stops}
+use Rattle.fints_rules_messages.specs.Front.{IsFront, IsNext, HasNoNext, NoneStands, CanStand, IsNumber, IsEndOf, BeginsBy, IsWholeBy, IsReadBy, IsSealedRest, IsOpened}
+use Rattle.fints_rules_messages.proofs.Texts.{segment_positive, rest_of}
+use Rattle.fints_rules_messages.proofs.Fronts.{length-half, numbered-append}
+use Rattle.fints_rules_messages.proofs.Forms.{stands, ends_all, inner_half, number_at, last_of, last_is, last_number, key_not_plain, numbered_front}
+
+-- ---- one list for a text
+
+no_text : (ts : List (List (List Spelled))) → AllByRecursion IsSegment ts → [] ≡ text_of ts → ts ≡ []
+no_text [] h e = refl
+no_text (t ∷ ts) h e = absurd (omega (arith, segment_positive t h.0, ap length e, length-append (segment_bytes t) (text_of ts)))
+
+pub text_one : OneSegmentText → (bytes : List ℕ) (xs ys : List OwnedSegment) → IsText bytes xs → IsText bytes ys → xs ≡ ys
+text_one law bytes xs ys h g =
+    let r = rest_of law h.trees g.trees [] h.each g.each (append-nil (text_of h.trees) ∙ sym h.text ∙ g.text) in
+    let same : g.trees ≡ h.trees = r.together ∙ ap (λ z. h.trees ++ z) (no_text r.more r.each r.text) ∙ append-nil h.trees in
+    sym h.values ∙ ap segments_of (sym same) ∙ g.values
+
+-- ---- the bytes of an envelope
+
+pub record IsAll (bytes : List ℕ) (at ends k : ℕ) : Type 0 where
+  pub all : length bytes ≤ at
+  pub as_many : ends ≡ k
+
+data_all : (bytes : List ℕ) (at k : ℕ) (body ends : List (List (List Spelled))) (more : List (List (List Spelled))) (b e : List OwnedSegment) (f : IsFront bytes at k body ends) → NoneStands (drop at bytes) k (length body) (length ends)
+    → AllByRecursion IsSegment more → drop at bytes ≡ text_of more → IsInner (segments_of f.trees ++ segments_of more) b e → IsNumbered 2 (segments_of f.trees ++ segments_of more) → IsAll bytes at (length ends) k
+data_all bytes at k body ends [] b e f none each text g n = record {
+  all = omega (arith, ap length text, length-drop at bytes);
+  as_many = omega (arith, length-map ends segment_of, ends_all (segments_of f.trees) (segments_of body) (segments_of ends) k b e f.half (subst (λ z. IsInner z b e) (append-nil (segments_of f.trees)) g));
+}
+data_all bytes at k body ends (t ∷ ts) b e f none each text g n =
+    let s : CanStand (segment_of t) k (length (segments_of body)) (length (segments_of ends)) = stands (segments_of f.trees) (segments_of body) (segments_of ends) k (segment_of t) (segments_of ts) b e f.half g n in
+    absurd (none t (text_of ts) each.0 text (subst (λ x. CanStand (segment_of t) k (length body) x) (length-map ends segment_of) (subst (λ x. CanStand (segment_of t) k x (length (segments_of ends))) (length-map body segment_of) s)))
+
+pub data_inner : OneSegmentText → (bytes : List ℕ) (at k : ℕ) (body ends : List (List (List Spelled))) (inner b e : List OwnedSegment) → IsFront bytes at k body ends → NoneStands (drop at bytes) k (length body) (length ends)
+    → IsText bytes inner → IsInner inner b e → IsNumbered 2 inner → IsAll bytes at (length ends) k
+data_inner law bytes at k body ends inner b e f none t g n =
+    let r = rest_of law f.trees t.trees (drop at bytes) f.each t.each (sym f.text ∙ t.text) in
+    let same : inner ≡ segments_of f.trees ++ segments_of r.more = sym t.values ∙ ap segments_of r.together ∙ map-append segment_of f.trees r.more in
+    data_all bytes at k body ends r.more b e f none r.each r.text (subst (λ z. IsInner z b e) same g) (subst (IsNumbered 2) same n)
+
+-- the data that the envelope has
+pub envelope_text : (inner : List OwnedSegment) (s : OwnedSegment) (bytes : List ℕ) → item_at s 2 1 ≡ Bin bytes → IsEnvelope inner s → IsText bytes inner
+envelope_text inner s bytes e h = let same : h.bytes ≡ bytes = let j = h.item in cc in subst (λ z. IsText z inner) same h.holds
+
+pub opened : (s : OwnedSegment) (bytes : List ℕ) (at k : ℕ) (body ends : List (List (List Spelled))) → IsTrue (is_named s (codes "HNVSD") 1) → s.head.number ≡ 999 → item_at s 2 1 ≡ Bin bytes → IsFront bytes at k body ends
+    → length bytes ≤ at → length ends ≡ k → IsOpened s k (segments_of body) (segments_of ends)
+opened s bytes at k body ends kind place item f le n = record {
+  inner = segments_of f.trees;
+  is_envelope = record { kind = kind; place = place; bytes = bytes; item = item; holds = record { trees = f.trees; each = f.each; text = f.text ∙ ap (λ z. text_of f.trees ++ z) (drop_all at bytes le) ∙ append-nil (text_of f.trees); values = refl } };
+  is_inner = inner_half (segments_of f.trees) (segments_of body) (segments_of ends) k f.half (omega (arith, n, length-map ends segment_of));
+  numbered = f.numbered;
+  count = length-half (segments_of f.trees) (segments_of body) (segments_of ends) k f.half;
+  as_many = omega (arith, n, length-map ends segment_of);
+}
+
+-- ---- what follows HNVSK
+
+no_data : OwnedSegment
+no_data = record { head = record { id = codes "HNVSD"; number = 999; version = 1; reference = None }; elements = (Bin [] ∷ []) ∷ [] }
+
+no_data_is : IsEnvelope [] no_data
+unfolding no_data
+no_data_is = record { kind = refl; place = refl; bytes = []; item = refl; holds = record { trees = []; each = tt; text = refl; values = refl } }
+
+pub stop_start : (rest : List ℕ) (number : ℕ) → IsNumber number
+    → ((t : List (List Spelled)) (more : List ℕ) → IsSegment t → rest ≡ segment_bytes t ++ more → (inner b e : List OwnedSegment) → IsEnvelope inner (segment_of t) → IsInner inner b e → IsNumbered 2 inner → ⊥)
+    → Stops (BeginsBy (IsSealedRest number)) (IsWholeBy (IsSealedRest number)) rest 0
+stop_start rest number v none = record {
+  front = [];
+  rest = rest;
+  each = tt;
+  text = refl;
+  offset_is = refl;
+  begins = (
+    no_data ∷ last_of 2 v.value ∷ [],
+    [],
+    [],
+    record {
+      envelope = no_data;
+      inner = [];
+      last = last_of 2 v.value;
+      is_envelope = no_data_is;
+      is_inner = record { openers = []; openers_are = tt; body_is = tt; ends_are = tt; as_many = refl; together = refl };
+      is_last = last_is number 2 v.value v.is;
+      numbered = (last_number 2 v.value, tt);
+      together = refl;
+    },
+  );
+  no_next = λ t more is e (after, b, c, w).
+      let same : w.envelope ≡ segment_of t = let q = w.together in cc in
+      none t more is e w.inner b c (subst (IsEnvelope w.inner) same w.is_envelope) w.is_inner (numbered_front 2 w.inner (w.last ∷ []) w.numbered);
+  unfinished = λ _ (b, c, w). let q = w.together in cc;
+}
+
+-- the inner segments are those that were read
+rest_inner : OneSegmentText → (number : ℕ) (s : OwnedSegment) (k : ℕ) (body ends : List OwnedSegment) (last : OwnedSegment) (more b e : List OwnedSegment) → IsOpened s k body ends → IsSealedRest number (s ∷ last ∷ more) b e
+    → IsLast number last × (last.head.number ≡ 2 + (k + (length body + length ends))) × (more ≡ [])
+rest_inner law number s k body ends last more b e o w =
+    let q = w.together in
+    let env : w.envelope ≡ s = cc in
+    let end : w.last ≡ last = cc in
+    let none : more ≡ [] = cc in
+    let h : IsEnvelope w.inner s = subst (IsEnvelope w.inner) env w.is_envelope in
+    let same : w.inner ≡ o.inner = text_one law o.is_envelope.bytes w.inner o.inner (envelope_text w.inner s o.is_envelope.bytes o.is_envelope.item h) o.is_envelope.holds in
+    let place : w.last.head.number ≡ 2 + length w.inner = number_at 2 w.inner w.last [] w.numbered in (
+      subst (IsLast number) end w.is_last,
+      ap (λ (x : OwnedSegment). x.head.number) (sym end) ∙ omega (arith, place, ap length same, o.count),
+      none,
+    )
+
+sealed_rest : (number : ℕ) (s : OwnedSegment) (k : ℕ) (body ends : List OwnedSegment) (last : OwnedSegment) → IsOpened s k body ends → IsLast number last → last.head.number ≡ 2 + (k + (length body + length ends)) → IsSealedRest number (s ∷ last ∷ []) body ends
+sealed_rest number s k body ends last o l place = record {
+  envelope = s;
+  inner = o.inner;
+  last = last;
+  is_envelope = o.is_envelope;
+  is_inner = o.is_inner;
+  is_last = l;
+  numbered = numbered-append 2 o.inner (last ∷ []) o.numbered (omega (arith, place, o.count), tt);
+  together = refl;
+}
+
+pub stop_envelope : OneSegmentText → (rest : List ℕ) (n k number : ℕ) (body ends : List (List (List Spelled))) (t : List (List Spelled)) → IsNumber number → IsNext rest t n → IsOpened (segment_of t) k (segments_of body) (segments_of ends)
+    → ((u : List (List Spelled)) (more : List ℕ) → IsSegment u → drop n rest ≡ segment_bytes u ++ more → IsEndOf number (segment_of u) k (length body) (length ends) → ⊥)
+    → Stops (BeginsBy (IsSealedRest number)) (IsWholeBy (IsSealedRest number)) rest n
+stop_envelope law rest n k number body ends t v is_next o none = record {
+  front = t ∷ [];
+  rest = drop n rest;
+  each = (is_next.segment, tt);
+  text = is_next.text ∙ ap (λ z. z ++ drop n rest) (sym (append-nil (segment_bytes t)));
+  offset_is = omega (arith, is_next.len_is, length-append (segment_bytes t) []);
+  begins = (
+    last_of (2 + (k + (length (segments_of body) + length (segments_of ends)))) v.value ∷ [],
+    segments_of body,
+    segments_of ends,
+    sealed_rest number (segment_of t) k (segments_of body) (segments_of ends) _ o (last_is number (2 + (k + (length (segments_of body) + length (segments_of ends)))) v.value v.is) (last_number (2 + (k + (length (segments_of body) + length (segments_of ends)))) v.value),
+  );
+  no_next = λ u more is e (after, b, c, w).
+      let r = rest_inner law number (segment_of t) k (segments_of body) (segments_of ends) (segment_of u) after b c o w in
+      none u more is e (record { last = r.0; place = omega (arith, r.1, length-map body segment_of, length-map ends segment_of); all = omega (arith, o.as_many, length-map ends segment_of) });
+  unfinished = λ _ (b, c, w). let q = w.together in cc;
+}
+
+after_text : (rest : List ℕ) (n m : ℕ) (t u : List (List Spelled)) → IsNext rest t n → IsNext (drop n rest) u m → rest ≡ text_of (t ∷ u ∷ []) ++ drop (n + m) rest
+after_text rest n m t u h g =
+    h.text ∙ ap (λ z. segment_bytes t ++ z) (g.text ∙ ap (λ z. segment_bytes u ++ z) (drop-drop m n rest))
+    ∙ sym (append_assoc (segment_bytes t) (segment_bytes u) (drop (n + m) rest)) ∙ ap (λ z. (segment_bytes t ++ z) ++ drop (n + m) rest) (sym (append-nil (segment_bytes u)))
+
+pub stop_last : OneSegmentText → (rest : List ℕ) (n m k number : ℕ) (body ends : List (List (List Spelled))) (t u : List (List Spelled)) → IsNext rest t n → IsOpened (segment_of t) k (segments_of body) (segments_of ends)
+    → IsNext (drop n rest) u m → IsEndOf number (segment_of u) k (length body) (length ends) → n + m < length rest
+    → Stops (BeginsBy (IsSealedRest number)) (IsWholeBy (IsSealedRest number)) rest (n + m)
+stop_last law rest n m k number body ends t u h o g q lt = record {
+  front = t ∷ u ∷ [];
+  rest = drop (n + m) rest;
+  each = (h.segment, (g.segment, tt));
+  text = after_text rest n m t u h g;
+  offset_is = omega (arith, h.len_is, g.len_is, length-append (segment_bytes t) (segment_bytes u ++ []), length-append (segment_bytes u) []);
+  begins = ([], segments_of body, segments_of ends, sealed_rest number (segment_of t) k (segments_of body) (segments_of ends) (segment_of u) o q.last (omega (arith, q.place, length-map body segment_of, length-map ends segment_of)));
+  no_next = λ x more is e (after, b, c, w).
+      let r = rest_inner law number (segment_of t) k (segments_of body) (segments_of ends) (segment_of u) (segment_of x ∷ after) b c o w in let none = r.2 in cc;
+  unfinished = λ e _. omega (arith, lt, ap length e, length-drop (n + m) rest);
+}
+
+pub whole_rest : (rest : List ℕ) (n m k number : ℕ) (body ends : List (List (List Spelled))) (t u : List (List Spelled)) → IsNext rest t n → IsOpened (segment_of t) k (segments_of body) (segments_of ends)
+    → IsNext (drop n rest) u m → IsEndOf number (segment_of u) k (length body) (length ends) → length rest ≤ n + m → IsReadBy (IsSealedRest number) rest body ends
+whole_rest rest n m k number body ends t u h o g q le = record {
+  trees = t ∷ u ∷ [];
+  each = (h.segment, (g.segment, tt));
+  text = after_text rest n m t u h g ∙ ap (λ z. text_of (t ∷ u ∷ []) ++ z) (drop_all (n + m) rest le) ∙ append-nil (text_of (t ∷ u ∷ []));
+  is = sealed_rest number (segment_of t) k (segments_of body) (segments_of ends) (segment_of u) o q.last (omega (arith, q.place, length-map body segment_of, length-map ends segment_of));
+}
+
+-- ---- with HNVSK before it
+
+with_key : (number : ℕ) (s : OwnedSegment) (ss b e : List OwnedSegment) → IsKey s → IsSealedRest number ss b e → IsTail number (s ∷ ss) b e
+with_key number s ss b e h w = inr (record { key = s; envelope = w.envelope; inner = w.inner; last = w.last; is_key = h; is_envelope = w.is_envelope; is_inner = w.is_inner; is_last = w.is_last; numbered = w.numbered; together = ap (λ z. s ∷ z) w.together })
+
+without_key : (number : ℕ) (s : OwnedSegment) (ss b e : List OwnedSegment) → IsKey s → IsTail number (s ∷ ss) b e → IsSealedRest number ss b e
+without_key number s ss b e h t =
+    elim t [
+      | inl p ↦ absurd (key_not_plain number s ss b e h p)
+      | inr q ↦ record { envelope = q.envelope; inner = q.inner; last = q.last; is_envelope = q.is_envelope; is_inner = q.is_inner; is_last = q.is_last; numbered = q.numbered; together = let j = q.together in cc }
+    ]
+
+pub stops_key : (tail : List ℕ) (n at number : ℕ) (t : List (List Spelled)) → IsNext tail t n → IsKey (segment_of t) → Stops (BeginsBy (IsSealedRest number)) (IsWholeBy (IsSealedRest number)) (drop n tail) at
+    → Stops (BeginsBy (IsTail number)) (IsWholeBy (IsTail number)) tail (n + at)
+stops_key tail n at number t h key s = record {
+  front = t ∷ s.front;
+  rest = s.rest;
+  each = (h.segment, s.each);
+  text = h.text ∙ ap (λ z. segment_bytes t ++ z) s.text ∙ sym (append_assoc (segment_bytes t) (text_of s.front) s.rest);
+  offset_is = omega (arith, h.len_is, s.offset_is, length-append (segment_bytes t) (text_of s.front));
+  begins = (s.begins.0, s.begins.1, s.begins.2, with_key number (segment_of t) (segments_of s.front ++ s.begins.0) s.begins.1 s.begins.2 key s.begins.3);
+  no_next = λ u more is e (after, b, c, w). s.no_next u more is e (after, b, c, without_key number (segment_of t) (segments_of (s.front ++ u ∷ []) ++ after) b c key w);
+  unfinished = λ e (b, c, w). s.unfinished e (b, c, without_key number (segment_of t) (segments_of s.front) b c key w);
+}
+
+pub whole_key : (tail : List ℕ) (n number : ℕ) (body ends : List (List (List Spelled))) (t : List (List Spelled)) → IsNext tail t n → IsKey (segment_of t) → IsReadBy (IsSealedRest number) (drop n tail) body ends → IsReadBy (IsTail number) tail body ends
+whole_key tail n number body ends t h key r = record {
+  trees = t ∷ r.trees;
+  each = (h.segment, r.each);
+  text = h.text ∙ ap (λ z. segment_bytes t ++ z) r.text;
+  is = with_key number (segment_of t) (segments_of r.trees) (segments_of body) (segments_of ends) key r.is;
+}
+
+-- ---- as the code meets it
+
+pub head_number : (o : Option Head) (n : ℕ) → option_map (λ (h : Head). h.number) o ≡ Some n → (unwrap_or o no_head).number ≡ n
+head_number None n e = cc
+head_number (Some h) n e = cc
+
+pub stop_first : (rest : List ℕ) (number : ℕ) → IsNumber number → HasNoNext rest → Stops (BeginsBy (IsSealedRest number)) (IsWholeBy (IsSealedRest number)) rest 0
+stop_first rest number v none = stop_start rest number v (λ t more is e _ _ _ _ _ _. none t more is e)
+
+pub stop_closed : (rest : List ℕ) (n number : ℕ) (t : List (List Spelled)) → IsNumber number → IsNext rest t n → ((inner b e : List OwnedSegment) → IsEnvelope inner (segment_of t) → IsInner inner b e → IsNumbered 2 inner → ⊥)
+    → Stops (BeginsBy (IsSealedRest number)) (IsWholeBy (IsSealedRest number)) rest 0
+stop_closed rest n number t v h none = stop_start rest number v (λ u more is e inner b c env g num.
+    let same : t ≡ u = h.only u more is e in
+    none inner b c (subst (λ z. IsEnvelope inner (segment_of z)) (sym same) env) g num)
+
+pub stop_other : OneSegmentText → (rest : List ℕ) (n m k number : ℕ) (body ends : List (List (List Spelled))) (t u : List (List Spelled)) → IsNumber number → IsNext rest t n → IsOpened (segment_of t) k (segments_of body) (segments_of ends)
+    → IsNext (drop n rest) u m → (IsEndOf number (segment_of u) k (length body) (length ends) → ⊥) → Stops (BeginsBy (IsSealedRest number)) (IsWholeBy (IsSealedRest number)) rest n
+stop_other law rest n m k number body ends t u v h o g not_end = stop_envelope law rest n k number body ends t v h o (λ x more is e end.
+    let same : u ≡ x = g.only x more is e in
+    not_end (subst (λ z. IsEndOf number (segment_of z) k (length body) (length ends)) (sym same) end))

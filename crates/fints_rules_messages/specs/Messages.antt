@@ -1,0 +1,128 @@
+-- Which bytes are a message, and where bytes cease to be one.
+use Rattle.std.specs.Prelude.{codes, ◌≡◌, ◌⊎◌, ℕ, ◌+◌, List, [], ◌∷◌, ◌++◌, length, Option, Some, IsTrue}
+use Rattle.std.specs.List.{AllByRecursion}
+use Rattle.fints_syntax_segments.specs.Spelling.{Spelled}
+use Rattle.fints_syntax_segments.specs.Segment.{segment_bytes, IsSegment}
+use Rattle.fints_syntax_segments.specs.declared.item.OwnedItem.TheVariants.{Bin}
+use Rattle.fints_syntax_segments.specs.declared.item.OwnedSegment.{OwnedSegment}
+use Rattle.fints_syntax_segments.specs.Number.{number_of}
+use Rattle.fints_syntax.specs.Owned.{segments_of}
+use Rattle.fints_rules_messages.specs.Segments.{text_of, IsText}
+use Rattle.fints_syntax_segments.specs.Values.{item_at, value_at}
+use Rattle.fints_syntax_segments.specs.Number.{number_in}
+use Rattle.fints_syntax_segments.specs.Values.{is_named}
+use Rattle.fints_rules_messages.specs.Parts.{part_of}
+use Rattle.fints_rules_messages.specs.declared.part.Part.TheVariants.{Opener, Body, Ender}
+
+-- What a message holds. The number of its signatures is that of `ends`.
+pub record MessageView : Type 0 where
+  pub size : ℕ
+  pub protocol : Option ℕ
+  pub number : ℕ
+  pub body : List OwnedSegment
+  pub ends : List OwnedSegment
+
+-- the segments are numbered on from n
+abbrev pub IsNumbered : ℕ → List OwnedSegment → Type 0
+IsNumbered n [] = Unit {0}
+IsNumbered n (s ∷ ss) = (s.head.number ≡ n) × IsNumbered (n + 1) ss
+
+-- some HNSHK, the body, and as many HNSHA
+pub record IsInner (segments body ends : List OwnedSegment) : Type 0 where
+  pub openers : List OwnedSegment
+  pub openers_are : AllByRecursion (λ s. part_of s ≡ Opener) openers
+  pub body_is : AllByRecursion (λ s. part_of s ≡ Body) body
+  pub ends_are : AllByRecursion (λ s. part_of s ≡ Ender) ends
+  pub as_many : length openers ≡ length ends
+  pub together : segments ≡ openers ++ (body ++ ends)
+
+-- HNHBK, with the length of the whole message in 12 digits, and the number of the message
+pub record IsFirst (size number : ℕ) (s : OwnedSegment) : Type 0 where
+  pub kind : IsTrue (is_named s (codes "HNHBK") 3)
+  pub place : s.head.number ≡ 1
+  pub size_is : number_in 12 12 (value_at s 2 1) ≡ Some size
+  pub number_is : number_of (value_at s 5 1) ≡ Some number
+
+-- HNHBS, with the number of the message
+pub record IsLast (number : ℕ) (s : OwnedSegment) : Type 0 where
+  pub kind : IsTrue (is_named s (codes "HNHBS") 1)
+  pub number_is : number_of (value_at s 2 1) ≡ Some number
+
+-- HNVSK, numbered 998
+pub record IsKey (s : OwnedSegment) : Type 0 where
+  pub kind : IsTrue (is_named s (codes "HNVSK") 3)
+  pub place : s.head.number ≡ 998
+
+-- HNVSD, numbered 999, with the inner segments as the data of its item
+pub record IsEnvelope (inner : List OwnedSegment) (s : OwnedSegment) : Type 0 where
+  pub kind : IsTrue (is_named s (codes "HNVSD") 1)
+  pub place : s.head.number ≡ 999
+  pub bytes : List ℕ
+  pub item : item_at s 2 1 ≡ Bin bytes
+  pub holds : IsText bytes inner
+
+-- What follows HNHBK in the plain form: the inner segments and HNHBS, numbered on from 2.
+pub record IsPlainTail (number : ℕ) (segments body ends : List OwnedSegment) : Type 0 where
+  pub inner : List OwnedSegment
+  pub last : OwnedSegment
+  pub is_inner : IsInner inner body ends
+  pub is_last : IsLast number last
+  pub numbered : IsNumbered 2 (inner ++ last ∷ [])
+  pub together : segments ≡ inner ++ last ∷ []
+
+-- What follows it in the sealed form: the inner segments stand in the envelope.
+pub record IsSealedTail (number : ℕ) (segments body ends : List OwnedSegment) : Type 0 where
+  pub key : OwnedSegment
+  pub envelope : OwnedSegment
+  pub inner : List OwnedSegment
+  pub last : OwnedSegment
+  pub is_key : IsKey key
+  pub is_envelope : IsEnvelope inner envelope
+  pub is_inner : IsInner inner body ends
+  pub is_last : IsLast number last
+  pub numbered : IsNumbered 2 (inner ++ last ∷ [])
+  pub together : segments ≡ key ∷ envelope ∷ last ∷ []
+
+abbrev pub IsTail : ℕ → List OwnedSegment → List OwnedSegment → List OwnedSegment → Type 0
+IsTail number segments body ends = IsPlainTail number segments body ends ⊎ IsSealedTail number segments body ends
+
+-- the segments are a message of one of the two forms
+pub record IsForm (segments : List OwnedSegment) (m : MessageView) : Type 0 where
+  pub first : OwnedSegment
+  pub tail : List OwnedSegment
+  pub is_first : IsFirst m.size m.number first
+  pub protocol : number_of (value_at first 3 1) ≡ m.protocol
+  pub is_tail : IsTail m.number tail m.body m.ends
+  pub together : segments ≡ first ∷ tail
+
+-- the bytes are a message
+pub record IsMessage (bytes : List ℕ) (m : MessageView) : Type 0 where
+  pub segments : List OwnedSegment
+  pub text : IsText bytes segments
+  pub form : IsForm segments m
+  pub size : m.size ≡ length bytes
+
+-- the segments are a message of this size: the size in HNHBK, whatever the length of their texts
+abbrev pub IsWhole : ℕ → List OwnedSegment → Type 0
+IsWhole size segments = (m : MessageView) × IsForm segments m × (m.size ≡ size)
+
+-- There are no segments yet, or more of them make it a message of this size. The segments to come are values, so that a number may pass 999.
+abbrev pub Begins : ℕ → List OwnedSegment → Type 0
+Begins size segments = (segments ≡ []) ⊎ ((more : List OwnedSegment) × IsWhole size (segments ++ more))
+
+-- The bytes begin with the texts of segments that begin a whole, and the offset is their end.
+-- No segment's text stands there, or that segment can't follow; and where the bytes end there, the whole isn't reached.
+pub record Stops (BeginsOne IsOne : List OwnedSegment → Type 0) (bytes : List ℕ) (offset : ℕ) : Type 0 where
+  pub front : List (List (List Spelled))
+  pub rest : List ℕ
+  pub each : AllByRecursion IsSegment front
+  pub text : bytes ≡ text_of front ++ rest
+  pub offset_is : offset ≡ length (text_of front)
+  pub begins : BeginsOne (segments_of front)
+  pub no_next : (t : List (List Spelled)) (more : List ℕ) → IsSegment t → rest ≡ segment_bytes t ++ more → BeginsOne (segments_of (front ++ t ∷ [])) → ⊥
+  pub unfinished : rest ≡ [] → IsOne (segments_of front) → ⊥
+
+-- the bytes are no message, and the offset is where they cease to be one
+pub record IsNoMessage (bytes : List ℕ) (offset : ℕ) : Type 0 where
+  pub none : (m : MessageView) → IsMessage bytes m → ⊥
+  pub stops : Stops (Begins (length bytes)) (IsWhole (length bytes)) bytes offset

@@ -1,0 +1,195 @@
+//! Messages, as they are read.
+ghost use Rattle.std.specs.Prelude.{◌≡◌, ◌<◌, ◌≤◌, ◌^◌, ℕ, List, length, map, Option, Some, IfOk, IfErr, IfSome, IfNone};
+ghost use Rattle.fints_syntax_segments.specs.Number.{number_of};
+ghost use Rattle.fints_syntax.specs.Owned.{segment_of, segments_of};
+ghost use Rattle.fints_syntax_segments.specs.Values.{value_at};
+ghost use Rattle.fints_rules_messages.specs.Messages.{IsMessage, IsFirst};
+ghost use Rattle.fints_rules_messages.specs.Front.{IsNumber};
+ghost use Rattle.fints_rules_messages.specs.Read.{IsRefusal};
+
+use crate::inner::next_segment;
+use crate::part::is_named;
+use crate::plain::read_tail;
+use crate::tail::Tail;
+use crate::values::number_at;
+use fints_syntax::{Memory, OwnedSegment, SegmentView, owned_segments};
+use std::alloc::{AllocError, Global};
+use std::marker::Model;
+use thiserror::Error;
+
+/// A message; a contract sees its values.
+#[derive(Drop)]
+pub struct Message {
+    size: usize,
+    protocol: Option<u64>,
+    number: u64,
+    body: Vec<OwnedSegment>,
+    ends: Vec<OwnedSegment>,
+}
+
+impl Model for Message {
+    ghost use Rattle.fints_rules_messages.specs.Messages.{MessageView};
+
+    ghost Value = { MessageView };
+
+    ghost view = { λ m. record { size = m.size; protocol = m.protocol; number = m.number; body = m.body.items; ends = m.ends.items } };
+}
+
+impl Message {
+    /// The length of the whole message in bytes.
+    pub fn size(&self) -> usize
+        ensures { result ≡ self.now.size }
+    {
+        self.size
+    }
+
+    /// The protocol version of HNHBK, where it is a number.
+    pub fn protocol(&self) -> Option<u64>
+        ensures { result ≡ self.now.protocol }
+    {
+        self.protocol
+    }
+
+    /// The message number of HNHBK and HNHBS.
+    pub fn number(&self) -> u64
+        ensures { result ≡ self.now.number }
+    {
+        self.number
+    }
+
+    /// The segments of the body, in order.
+    pub fn body(&self) -> &[OwnedSegment]
+        ensures { result.now ≡ self.now.body }
+    {
+        self.body.as_slice()
+    }
+
+    /// The HNSHA, one for each signature.
+    pub fn ends(&self) -> &[OwnedSegment]
+        ensures { result.now ≡ self.now.ends }
+    {
+        self.ends.as_slice()
+    }
+}
+
+/// Why bytes could not be judged.
+#[derive(Clone, Copy, Debug, PartialEq, Eq, Error)]
+pub enum JudgeFault {
+    #[error("memory")]
+    Memory,
+    /// The bytes are no message. The offset, from 0, is that of the first outer segment that isn't
+    /// read or can't stand at its place, or the end of the last one that can.
+    #[error("NotAMessage at {offset}")]
+    NotAMessage { offset: usize },
+    /// Of two messages, the bytes of the one before are none; the offset is that of `NotAMessage`.
+    #[error("NotAMessageBefore at {offset}")]
+    NotAMessageBefore { offset: usize },
+}
+
+impl From<Memory> for JudgeFault {
+    ghost use Rattle.fints_rules_messages.specs.declared.message.JudgeFault.TheVariants.{Memory};
+
+    ghost from_gives = { λ _ f. f ≡ Memory };
+
+    fn from(_e: Memory) -> JudgeFault {
+        JudgeFault::Memory
+    }
+}
+
+impl From<AllocError> for JudgeFault {
+    ghost use Rattle.fints_rules_messages.specs.declared.message.JudgeFault.TheVariants.{Memory};
+
+    ghost from_gives = { λ _ f. f ≡ Memory };
+
+    fn from(_e: AllocError) -> JudgeFault {
+        JudgeFault::Memory
+    }
+}
+
+// What HNHBK says of a message.
+struct Frame {
+    size: usize,
+    protocol: Option<u64>,
+    number: u64,
+}
+
+// The message with these segments.
+fn with_segments(
+    alloc: Global,
+    frame: Frame,
+    body: &[SegmentView<'_>],
+    ends: &[SegmentView<'_>],
+) -> Result<Message, Memory>
+    ensures { IfOk result (λ m. m ≡ record {
+      size = frame.size;
+      protocol = frame.protocol;
+      number = frame.number;
+      body = segments_of body.now;
+      ends = segments_of ends.now;
+    }) }
+{
+    let Frame {
+        size,
+        protocol,
+        number,
+    } = frame;
+    let body = owned_segments(alloc, body)?;
+    let ends = owned_segments(alloc, ends)?;
+    Ok(Message {
+        size,
+        protocol,
+        number,
+        body,
+        ends,
+    })
+}
+
+// The number of the message, where the segment is a good HNHBK.
+fn read_first(view: &SegmentView<'_>, size: usize) -> Option<u64>
+    ensures some { IfSome result (λ n. IsFirst size n (segment_of view.now)) }
+    ensures none { IfNone result ((n : ℕ) → IsFirst size n (segment_of view.now) → ⊥) }
+{
+    if !is_named(view, b"HNHBK", 3) {
+        return None;
+    }
+    if view.number() != 1 {
+        return None;
+    }
+    match number_at(view, 2, 1, 12, 12) {
+        None => None,
+        Some(found) => {
+            if found != size as u64 {
+                return None;
+            }
+            number_at(view, 5, 1, 1, 9)
+        }
+    }
+}
+
+/// The message that the bytes are.
+pub fn read_message(alloc: Global, bytes: &[u8]) -> Result<Message, JudgeFault>
+    ensures message { IfOk result (λ m. IsMessage bytes.now m) }
+    ensures refusal { IfErr result (λ f. IsRefusal bytes.now f) }
+{
+    match next_segment(bytes) {
+        None => Err(JudgeFault::NotAMessage { offset: 0 }),
+        Some((first, len)) => match read_first(&first, bytes.len()) {
+            None => Err(JudgeFault::NotAMessage { offset: 0 }),
+            Some(number) => {
+                let (_, rest) = bytes.split_at(len);
+                match read_tail(alloc, rest, number)? {
+                    Tail::Stop(at) => Err(JudgeFault::NotAMessage { offset: len + at }),
+                    Tail::Whole(body, ends) => {
+                        let protocol = number_at(&first, 3, 1, 1, 9);
+                        let frame = Frame {
+                            size: bytes.len(),
+                            protocol,
+                            number,
+                        };
+                        Ok(with_segments(alloc, frame, body.as_slice(), ends.as_slice())?)
+                    }
+                }
+            }
+        },
+    }
+}

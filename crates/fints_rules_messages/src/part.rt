@@ -1,0 +1,45 @@
+//! What a segment is within a message.
+ghost use Rattle.std.specs.Prelude.{◌≡◌, ◌<◌, ◌≤◌};
+ghost use Rattle.std.specs.Str.{bytes_eq};
+ghost use Rattle.fints_syntax.specs.Owned.{segment_of};
+ghost use Rattle.fints_syntax_segments.specs.Values.{is_named, value_at};
+ghost use Rattle.fints_syntax_segments.specs.Number.{number_in};
+ghost use Rattle.fints_rules_messages.specs.Parts.{part_of};
+
+use fints_syntax::{Item, Kind, SegmentView, is_frame_kind};
+
+/// A segment between the first and the last of a message.
+#[derive(Clone, Copy, PartialEq, Eq)]
+pub enum Part {
+    /// HNSHK.
+    Opener,
+    /// A segment of the body.
+    Body,
+    /// HNSHA.
+    Ender,
+    /// No segment that can stand there.
+    Other,
+}
+
+/// Whether the segment has this kind and version.
+pub fn is_named(view: &SegmentView<'_>, kind: &[u8], version: u16) -> bool
+    ensures { result ≡ is_named (segment_of view.now) kind.now version }
+{
+    let head = view.head();
+    head.id.is(kind) && head.version == version
+}
+
+/// What the segment is.
+pub fn part_of(view: &SegmentView<'_>) -> Part
+    ensures { result ≡ part_of (segment_of view.now) }
+{
+    if is_named(view, b"HNSHK", 4) {
+        Part::Opener
+    } else if is_named(view, b"HNSHA", 2) {
+        Part::Ender
+    } else if is_frame_kind(view.id().as_bytes()) {
+        Part::Other
+    } else {
+        Part::Body
+    }
+}

@@ -1,0 +1,50 @@
+//! The plain form of a message.
+ghost use Rattle.std.specs.Prelude.{◌≡◌, ◌↔◌, ◌+◌, ◌^◌, ◌<◌, ◌≤◌, IsTrue, IfOk, length, drop};
+ghost use Rattle.fints_syntax.specs.Owned.{segment_of};
+ghost use Rattle.fints_rules_messages.specs.Messages.{IsTail, IsKey};
+ghost use Rattle.fints_rules_messages.specs.Front.{IsNumber, TailIs, IsWithin};
+
+use crate::frame::{is_end, is_key};
+use crate::inner::{next_segment, read_inner};
+use crate::sealed::read_sealed;
+use crate::tail::Tail;
+use fints_syntax::SegmentView;
+use std::alloc::{AllocError, Global};
+
+/// Whether it is HNVSK, at the start.
+fn is_key_at(view: &SegmentView<'_>, at: usize) -> bool
+    ensures { IsTrue result ↔ ((at ≡ 0) × IsKey (segment_of view.now)) }
+{
+    at == 0 && is_key(view)
+}
+
+/// What follows HNHBK, of either form.
+pub fn read_tail<'a>(alloc: Global, tail: &'a [u8], number: u64) -> Result<Tail<'a>, AllocError>
+    requires { IsNumber number }
+    ensures tail { IfOk result (λ r. TailIs (IsTail number) tail.now r) }
+    ensures within { IfOk result (λ r. IsWithin r (length tail.now)) }
+{
+    let inner = read_inner(alloc, tail)?;
+    let (_, rest) = tail.split_at(inner.at);
+    match next_segment(rest) {
+        None => Ok(Tail::Stop(inner.at)),
+        Some((view, len)) => {
+            if is_key_at(&view, inner.at) {
+                return read_sealed(alloc, tail, len, number);
+            }
+            if !is_end(
+                &view,
+                number,
+                inner.openers,
+                inner.body.len(),
+                inner.ends.len(),
+            ) {
+                return Ok(Tail::Stop(inner.at));
+            }
+            if inner.at + len < tail.len() {
+                return Ok(Tail::Stop(inner.at + len));
+            }
+            Ok(Tail::Whole(inner.body, inner.ends))
+        }
+    }
+}

@@ -1,0 +1,5 @@
+use Rattle.fints_script_cases.proofs.Firing.{one_branch}
+use Rattle.fints_script_cases.proofs.laws.one_branch_fires.Goals as goal
+
+pub returns : goal.returns
+returns c = one_branch

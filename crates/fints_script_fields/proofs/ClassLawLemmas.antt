@@ -1,0 +1,68 @@
+-- The laws, each with its proof, for the proofs of the crates above.
+use Rattle.std.specs.Prelude.{◌≡◌, ℕ, List, [], ◌∷◌, length, map}
+use Rattle.fints_script_fields.specs.AccountLaws.{IsListedSomewhere, ListedAreAdmitted, ListedStandAsItems, TextIsOneAccount}
+use Rattle.fints_script_fields.specs.Fields.{field_accounts, field_domain, field_items, field_longest, field_shortest, field_written}
+use Rattle.fints_script_fields.specs.Joined.{joined}
+use Rattle.fints_syntax_segments.specs.Segment.{item_value}
+use Rattle.fints_syntax_segments.specs.declared.item.OwnedItem.{OwnedItem}
+use Rattle.fints_script_fields.specs.declared.field.Field.{Field}
+use Rattle.fints_script_fields.specs.Lengths.{text_len}
+use Rattle.fints_script_fields.specs.Listed.{IsFirstOfGreatest, IsFirstOfLeast, account_text, account_len, first_longest, first_shortest}
+use Rattle.fints_script_fields.specs.declared.field.Field.TheVariants as fields
+use Rattle.fints_script_fields.specs.declared.counted.Bin.{Bin}
+use Rattle.fints_script_fields.specs.declared.counted.Text.{Text}
+use Rattle.fints_script_fields.specs.declared.listing.Account.{Account}
+use Rattle.fints_script_fields.specs.declared.listing.OneOf.{OneOf}
+use Rattle.std.proofs.Common.{[], length}
+use Rattle.fints_script_fields.proofs.FirstOf.{greatest_text, longest_is_first, least_text, shortest_is_first}
+use Rattle.fints_script_fields.proofs.Telling.{found_is}
+use Rattle.fints_script_fields.proofs.Domains.{value_listed, listed_admitted, listed_items, one_item, empty_shortest, longest_alone, longest_empty}
+use Rattle.fints_script_fields.proofs.OneClass.{one_account, one_bin, one_oneof, one_text}
+
+pub longest_is_first_texts : (c : OneOf) → IsFirstOfGreatest text_len c.values (field_longest (fields.OneOf c))
+longest_is_first_texts f = longest_is_first text_len [] f.values f.some
+
+pub longest_is_first_accounts : (c : Account) → IsFirstOfGreatest length (map account_text c.values) (field_longest (fields.Account c))
+longest_is_first_accounts f = greatest_text account_text length f.values (first_longest account_len [] f.values) (longest_is_first account_len [] f.values f.some)
+
+pub shortest_is_first_texts : (c : OneOf) → IsFirstOfLeast text_len c.values (field_shortest (fields.OneOf c))
+shortest_is_first_texts f = shortest_is_first text_len [] f.values f.some
+
+pub shortest_is_first_accounts : (c : Account) → IsFirstOfLeast length (map account_text c.values) (field_shortest (fields.Account c))
+shortest_is_first_accounts f = least_text account_text length f.values (first_shortest account_len [] f.values) (shortest_is_first account_len [] f.values f.some)
+
+pub text_is_one_account : TextIsOneAccount
+text_is_one_account f j a at = found_is f.values j a f.each at
+
+pub account_values_are_listed : (c : Account) (v : List ℕ) → field_domain (fields.Account c) v → IsListedSomewhere (fields.Account c) v
+account_values_are_listed = value_listed
+
+pub listed_accounts_are_values_admitted : ListedAreAdmitted
+listed_accounts_are_values_admitted = listed_admitted
+
+pub listed_accounts_are_values_items : ListedStandAsItems
+listed_accounts_are_values_items = listed_items
+
+pub others_are_one_item : (f : Field) (v : List ℕ) → field_accounts f ≡ [] → (item : OwnedItem) × (field_items f v ≡ item ∷ []) × (item_value item ≡ v)
+others_are_one_item = one_item
+
+pub empty_is_shortest : (f : Field) → field_domain f [] → field_shortest f ≡ []
+empty_is_shortest = empty_shortest
+
+pub longest_is_empty_alone_alone : (f : Field) (v : List ℕ) → field_domain f v → field_written f (field_longest f) ≡ 0 → v ≡ []
+longest_is_empty_alone_alone = longest_alone
+
+pub longest_is_empty_alone_empty : (f : Field) → field_longest f ≡ [] → field_written f (field_longest f) ≡ 0
+longest_is_empty_alone_empty = longest_empty
+
+pub one_class_text : (c d : Text) → c.alphabet ≡ d.alphabet → c.min ≡ d.min → c.max ≡ d.max → c ≡ d
+one_class_text = one_text
+
+pub one_class_bin : (c d : Bin) → c.min ≡ d.min → c.max ≡ d.max → c ≡ d
+one_class_bin = one_bin
+
+pub one_class_oneof : (c d : OneOf) → c.values ≡ d.values → c ≡ d
+one_class_oneof = one_oneof
+
+pub one_class_account : (c d : Account) → c.values ≡ d.values → c ≡ d
+one_class_account = one_account

@@ -1,0 +1,117 @@
+//! The fields of a script by their names.
+ghost use Rattle.std.specs.Prelude.{◌≡◌, ℕ, List, IfOk, OnOk};
+ghost use Rattle.indexmap.specs.IndexMap.{get};
+ghost use Rattle.std.specs.Str.{bytes_eq};
+ghost use Rattle.fints_script_rows.specs.NamedFields.{place_of_field, is_field_named, is_account_named, is_account, AreNamed};
+ghost use Rattle.fints_script_rows.specs.Places.{first_place, HoldsPlaces};
+
+use fints_script_fields::{Field, Name};
+use fints_syntax_segments::Memory;
+use indexmap::IndexMap;
+use std::alloc::Global;
+use std::marker::Model;
+
+/// A field with its name.
+#[derive(Drop)]
+pub struct NamedField {
+    pub name: Name,
+    pub class: Field,
+}
+
+/// Whether the field is one of listed accounts.
+pub fn is_account(class: &Field) -> bool
+    ensures { result ≡ is_account class.now }
+{
+    matches!(class, Field::Account(_))
+}
+
+/// Fields in order, with a map from each name to the place of the first field that has it; a
+/// contract sees the fields.
+#[derive(Drop)]
+pub struct Fields {
+    list: Vec<NamedField>,
+    places: IndexMap<Name, usize>,
+}
+
+impl Model for Fields {
+    ghost use Rattle.std.specs.Prelude.{List};
+    ghost use Rattle.std.specs.Str.{bytes_eq};
+    ghost use Rattle.indexmap.specs.IndexMap.{get};
+    ghost use Rattle.fints_script_rows.specs.NamedFields.{is_field_named, AreNamed};
+    ghost use Rattle.fints_script_rows.specs.Places.{HoldsPlaces};
+    ghost use Rattle.fints_script_rows.specs.declared.fields.NamedField.{NamedField};
+
+    ghost Value = { List NamedField };
+
+    ghost view = { λ f. f.list.items };
+
+    ghost invariant = { λ f. HoldsPlaces is_field_named f.list.items (get bytes_eq f.places) × AreNamed f.list.items };
+}
+
+// Notes the place of a name, unless one is there.
+fn note(places: &mut IndexMap<Name, usize>, name: Name, place: usize) -> Result<(), Memory>
+    ensures { OnOk result ((q : List ℕ) → get bytes_eq places.new q ≡ first_place (get bytes_eq places.old q) (bytes_eq q name) place) }
+{
+    if !places.contains_key(&name) {
+        places.insert(name, place)?;
+    }
+    Ok(())
+}
+
+fn places_of(alloc: Global, fields: &[NamedField]) -> Result<IndexMap<Name, usize>, Memory>
+    ensures { IfOk result (λ m. HoldsPlaces is_field_named fields.now (get bytes_eq m)) }
+{
+    let mut places = IndexMap::new(alloc);
+    for i in 0..fields.len() {
+        note(&mut places, fields[i].name, i)?;
+    }
+    Ok(places)
+}
+
+// A name is a name, as its type says: so a text that is none is no field's.
+fn are_named(fields: &[NamedField])
+    ensures { AreNamed fields.now }
+{
+    for field in fields {
+        field.name.keeps();
+    }
+}
+
+impl Fields {
+    /// The fields of a list.
+    pub fn new(alloc: Global, list: Vec<NamedField>) -> Result<Fields, Memory>
+        ensures { IfOk result (λ f. f ≡ list.items) }
+    {
+        are_named(list.as_slice());
+        let places = places_of(alloc, list.as_slice())?;
+        Ok(Fields { list, places })
+    }
+
+    /// The fields in order.
+    pub fn as_slice(&self) -> &[NamedField]
+        ensures { result.now ≡ self.now }
+    {
+        self.list.as_slice()
+    }
+
+    /// The place of the first field of this name, counted from 0.
+    pub fn place_of(&self, name: &str) -> Option<usize>
+        ensures { result ≡ place_of_field self.now name.now }
+    {
+        let places = &self.places;
+        match Name::parse(name.as_bytes()) {
+            Some(name) => places.get(&name).copied(),
+            None => None,
+        }
+    }
+
+    /// Whether the first field of this name is one of listed accounts.
+    pub fn has_account(&self, name: &str) -> bool
+        ensures { result ≡ is_account_named self.now name.now }
+    {
+        match self.place_of(name) {
+            Some(place) => is_account(&self.list[place].class),
+            None => false,
+        }
+    }
+}

@@ -1,0 +1,116 @@
+//! The rows of the steps by their names.
+ghost use Rattle.std.specs.Prelude.{◌≡◌, ℕ, List, length, map, option_map, position, take, IfOk, OnOk};
+ghost use Rattle.std.specs.List.{list_any};
+ghost use Rattle.std.specs.Str.{bytes_eq};
+ghost use Rattle.toml.specs.View.{view};
+ghost use Rattle.fints_syntax_toml.specs.Entries.{is_named, name_in};
+ghost use Rattle.fints_script_rows.specs.Places.{first_place, HoldsPlaces, place_in};
+
+use fints_syntax_segments::Memory;
+use fints_syntax_toml::entries::text_at;
+use indexmap::IndexMap;
+use std::alloc::Global;
+use std::marker::Model;
+use toml::Value;
+
+/// Rows in order, with a map from each name to the place of the first row that has it; a contract
+/// sees the rows.
+#[derive(Drop)]
+pub struct NamedRows<'a> {
+    rows: &'a [Value],
+    places: IndexMap<&'a str, usize>,
+}
+
+impl<'a> Model for NamedRows<'a> {
+    ghost use Rattle.std.specs.Prelude.{List, map};
+    ghost use Rattle.toml.specs.declared.value.Value.{Value as Row};
+    ghost use Rattle.toml.specs.View.{view as data_of};
+    ghost use Rattle.fints_syntax_toml.specs.Entries.{is_named};
+    ghost use Rattle.fints_script_rows.specs.Places.{HoldsPlaces, place_in};
+    ghost use Rattle.std.specs.Coded.{codes};
+    ghost use Rattle.toml.specs.contracts.value.Value as value;
+
+    ghost Value = { List Row };
+
+    ghost coded = { Prim.hlevel (codes, value.the_row.coded) };
+
+    ghost view = { λ r. r.rows.now };
+
+    ghost invariant = { λ r. HoldsPlaces is_named (map data_of r.rows.now) (place_in r.places) };
+}
+
+fn name_in<'a>(row: &'a Value) -> Option<&'a str>
+    ensures { option_map (λ name. name.now) result ≡ name_in (view row.now) }
+{
+    match row {
+        Value::Table(table) => text_at(table, "name"),
+        _ => None,
+    }
+}
+
+// Notes the place of a name, unless one is there.
+fn note<'a>(
+    places: &mut IndexMap<&'a str, usize>,
+    name: &'a str,
+    place: usize,
+) -> Result<(), Memory>
+    ensures { OnOk result ((q : List ℕ) → place_in places.new q ≡ first_place (place_in places.old q) (bytes_eq q name.now) place) }
+{
+    if !places.contains_key(name) {
+        places.insert(name, place)?;
+    }
+    Ok(())
+}
+
+fn places_of<'a>(alloc: Global, rows: &'a [Value]) -> Result<IndexMap<&'a str, usize>, Memory>
+    ensures { IfOk result (λ m. HoldsPlaces is_named (map view rows.now) (place_in m)) }
+{
+    let mut places = IndexMap::new(alloc);
+    for i in 0..rows.len() {
+        if let Some(name) = name_in(&rows[i]) {
+            note(&mut places, name, i)?;
+        }
+    }
+    Ok(places)
+}
+
+impl<'a> NamedRows<'a> {
+    /// The rows of a list.
+    pub fn new(alloc: Global, rows: &'a [Value]) -> Result<NamedRows<'a>, Memory>
+        ensures { IfOk result (λ r. r ≡ rows.now) }
+    {
+        let places = places_of(alloc, rows)?;
+        Ok(NamedRows { rows, places })
+    }
+
+    /// The rows in order.
+    pub fn as_slice(&self) -> &'a [Value]
+        ensures { result.now ≡ self.now }
+    {
+        self.rows
+    }
+
+    /// The place of the first row of this name, counted from 0.
+    pub fn place_of(&self, name: &str) -> Option<usize>
+        ensures { result ≡ position (is_named name.now) (map view self.now) }
+    {
+        self.places.get(name).copied()
+    }
+
+    /// Whether some row has this name.
+    pub fn has(&self, name: &str) -> bool
+        ensures { result ≡ list_any (is_named name.now) (map view self.now) }
+    {
+        self.place_of(name).is_some()
+    }
+
+    /// Whether one of the first rows, so many of them, has this name.
+    pub fn has_before(&self, name: &str, end: usize) -> bool
+        ensures { result ≡ list_any (is_named name.now) (take end (map view self.now)) }
+    {
+        match self.place_of(name) {
+            Some(place) => place < end,
+            None => false,
+        }
+    }
+}

@@ -1,0 +1,156 @@
+//! Identifiers of segments and kinds of orders (FinTS 3.0, Formals, the segment head).
+ghost use Rattle.std.specs.Prelude.{◌≡◌, ◌↔◌, ℕ, List, length, refl, Some, SomeIff, IsTrue};
+ghost use Rattle.std.proofs.Common.{rules};
+ghost use Rattle.std.specs.Cmp.Lexicographic.{nat_list_cmp_total, slice_cmp, texts_po, texts_ties};
+ghost use Rattle.std.specs.Cmp.Rules.{comparing, hashing};
+ghost use Rattle.std.specs.Ordering.{nat_cmp};
+ghost use Rattle.std.specs.Hash as fed;
+ghost use Rattle.std.specs.Str.{bytes_eq};
+ghost use Rattle.fints_syntax_kinds.specs.Kind.{IsKindText, IsKindByte, kind_from, is_frame_kind};
+
+use std::cmp::Ordering;
+use std::fmt;
+use std::hash::{Hash, Hasher};
+use std::marker::Model;
+
+/// The identifier of a segment, or the kind of an order: 1 to 6 characters of A to Z and 0 to 9.
+#[derive(Clone, Copy)]
+pub struct Kind {
+    bytes: [u8; 6],
+    len: usize,
+}
+
+impl Model for Kind {
+    ghost use Rattle.std.specs.Prelude.{ℕ, List};
+
+    ghost Value = { List ℕ };
+
+    ghost use Rattle.fints_syntax_kinds.specs.KindFields.{text_of, IsPadded, fields_of, fields_of-text_of};
+
+    ghost view = { text_of };
+
+    ghost invariant = { IsPadded };
+
+    ghost inverse = { fields_of };
+
+    ghost inverse_ok = { fields_of-text_of };
+}
+
+impl PartialEq for Kind {
+    ghost eq = { bytes_eq };
+
+    ghost laws = { Prim.search (comparing, rules) };
+
+    fn eq(&self, other: &Kind) -> bool {
+        self.as_bytes() == other.as_bytes()
+    }
+}
+
+impl Eq for Kind {
+    ghost laws = { Prim.search (comparing, rules) };
+}
+
+impl PartialOrd for Kind {
+    ghost partial_cmp = { λ x y. Some (slice_cmp nat_cmp x y) };
+
+    ghost laws = { texts_po };
+
+    fn partial_cmp(&self, other: &Kind) -> Option<Ordering> {
+        Some(self.cmp(other))
+    }
+}
+
+impl Ord for Kind {
+    ghost cmp = { slice_cmp nat_cmp };
+
+    ghost total = { nat_list_cmp_total };
+
+    ghost matches_partial_cmp = { λ x y. refl };
+
+    ghost matches_eq = { texts_ties };
+
+    fn cmp(&self, other: &Kind) -> Ordering {
+        self.as_bytes().cmp(other.as_bytes())
+    }
+}
+
+impl Hash for Kind {
+    ghost hash_input = { λ k. fed.slice fed.u8 k };
+
+    ghost respects_eq = { Prim.search (hashing, rules) };
+
+    fn hash<H: Hasher>(&self, state: &mut H) {
+        self.as_bytes().hash(state);
+    }
+}
+
+fn is_kind_byte(b: u8) -> bool
+    ensures { IsTrue result ↔ IsKindByte b }
+{
+    b.is_ascii_uppercase() || b.is_ascii_digit()
+}
+
+fn is_kind(text: &[u8]) -> bool
+    ensures { IsTrue result ↔ IsKindText text.now }
+{
+    !text.is_empty() && text.len() <= 6 && text.iter().all(|b| is_kind_byte(*b))
+}
+
+fn padded_kind(text: &[u8]) -> Option<Kind>
+    ensures { SomeIff result (IsKindText text.now) text.now }
+{
+    if !is_kind(text) {
+        return None;
+    }
+    let mut bytes = [0; 6];
+    bytes[..text.len()].copy_from_slice(text);
+    Some(Kind {
+        bytes,
+        len: text.len(),
+    })
+}
+
+/// Whether the kind is one of those that make the frame of a message.
+pub fn is_frame_kind(text: &[u8]) -> bool
+    ensures { result ≡ is_frame_kind text.now }
+{
+    text == b"HNHBK".as_slice()
+        || text == b"HNVSK".as_slice()
+        || text == b"HNVSD".as_slice()
+        || text == b"HNSHK".as_slice()
+        || text == b"HNSHA".as_slice()
+        || text == b"HNHBS".as_slice()
+}
+
+impl fmt::Display for Kind {
+    fn fmt<W: fmt::Write>(&self, f: &mut fmt::Formatter<W>) -> fmt::Result {
+        for b in self.as_bytes() {
+            f.write_char(char::from(*b))?;
+        }
+        Ok(())
+    }
+}
+
+impl Kind {
+    /// The identifier that the bytes spell, if they do.
+    pub fn parse(text: &[u8]) -> Option<Kind>
+        ensures kind { SomeIff result (IsKindText text.now) text.now }
+        ensures value { result ≡ kind_from text.now }
+    {
+        padded_kind(text)
+    }
+
+    /// Whether the identifier is spelled so.
+    pub fn is(&self, text: &[u8]) -> bool
+        ensures { result ≡ bytes_eq self.now text.now }
+    {
+        self.as_bytes() == text
+    }
+
+    /// The characters of the identifier.
+    pub fn as_bytes(&self) -> &[u8]
+        ensures { result.now ≡ self.now }
+    {
+        &self.bytes[..self.len]
+    }
+}

@@ -1,0 +1,19 @@
+//! A segment by its values, and its written text.
+#![tactic(auto)]
+
+mod bytes;
+mod element;
+mod fault;
+mod flat;
+mod item;
+mod limits;
+mod writing;
+
+pub use bytes::Bytes;
+pub use element::{ElementRef, ItemRef};
+pub use fault::Memory;
+pub use fints_syntax_kinds::{Kind, is_frame_kind};
+pub use flat::{Filling, Valued};
+pub use item::{Elements, Head, OwnedItem, OwnedSegment};
+pub use limits::{MAX_BYTES, MAX_ITEMS};
+pub use writing::{decimal_len, write_item, write_segment, written_binary_len, written_len};
