@@ -1,18 +1,18 @@
 -- The greatest figures of all steps are a closed certificate where nothing is found.
 use Rattle.std.proofs.Common.{ℕ, suc, zero, ◌+◌, ◌-◌, ◌*◌, ◌≤◌, ◌≡◌, Option, Some, None, List, [], ◌∷◌, length, refl, ap, sym, subst, ◌∙◌, arith, inl, inr}
 use Rattle.std.specs.Prelude.{◌↔◌}
-use Rattle.std.proofs.lemmas.Bool.{cases_lt}
 use Rattle.std.proofs.lemmas.Option.{same_Some}
 use Rattle.fints_script_cases.specs.Answers.{IsOpenTo, target_of}
 use Rattle.fints_script_cases.specs.declared.answers.Target.{Target}
 use Rattle.fints_script_cases.specs.declared.answers.Target.TheVariants.{Step, Again, Stop}
 use Rattle.fints_script_cases.specs.declared.values.NamedValue.{NamedValue}
-use Rattle.fints_check_findings.specs.Figures.{AreFigures, AreGreatestFigures, FiguresAre, IsSentOf}
+use Rattle.fints_check_findings.specs.Figures.{AreFigures, AreGreatestFigures, FiguresAre, IsSentOf, reached_figures}
 use Rattle.fints_check_findings.specs.Findings.{AreFindings, BreaksBehind, IsReal, SentStepsAreClean, SentStepsAreReleased}
 use Rattle.fints_check_findings.specs.declared.finding.Finding.{Finding}
 use Rattle.fints_check_findings.specs.declared.finding.Reached.{Reached}
 use Rattle.fints_rules_messages.specs.Messages.{IsMessage}
-use Rattle.fints_rules.specs.Breaks.{Breaks, BytesBreak}
+use Rattle.fints_rules.specs.Breaks.{Breaks, BreaksByFigures, BytesBreak}
+use Rattle.fints_rules.specs.Rules.{FiguresBreak}
 use Rattle.fints_rules_permissions.specs.Permits.{Granted}
 use Rattle.fints_rules.specs.declared.rule.Rule.{Rule}
 use Rattle.fints_rules.specs.declared.rule.Rule.TheVariants.{Number, Size}
@@ -185,6 +185,13 @@ module _ (open_lead : OpenBranchesLead) (read : MessagesAreRead) (granted : Gran
           };
         })
 
+    -- what its figures break the message does
+    within : (r : Rule) → p.visit.number ≡ f.number → (message_view script step p.visit.number p.sent.values).size ≡ f.size → FiguresBreak granted.rows.bank (reached_figures f) r → BreaksByFigures granted (message_view script step p.visit.number p.sent.values) r
+    within Number number size (inl none) = inl (number ∙ none)
+    within Number number size (inr past) = inr (omega (arith, past, number))
+    within Size number size b = (b.0, omega (arith, b.1, size))
+    within _ number size b = absurd b
+
     goes_on : (to : Target) → IsOpenTo step.branches step.otherwise to → GoesOn script.steps lines f.number to
     goes_on (Step to) can =
         let there : numbered script.steps p.visit.step ≡ Some step = ap (numbered script.steps) p.here ∙ at in
@@ -195,7 +202,6 @@ module _ (open_lead : OpenBranchesLead) (read : MessagesAreRead) (granted : Gran
 
     holds : LineHolds granted script lines step f
     holds =
-        let low = p.low in
         let number = p.number in
         let here : numbered script.steps p.visit.step ≡ Some step = ap (numbered script.steps) p.here ∙ at in
         let worst = p.most (record { step = p.visit.step; number = p.visit.number; bytes = message_bytes script step p.visit.number (longest_choice script.fields) })
@@ -203,10 +209,8 @@ module _ (open_lead : OpenBranchesLead) (read : MessagesAreRead) (granted : Gran
         let is : length (message_bytes script step p.visit.number p.sent.values) ≡ f.size = sym (ap length p.bytes) ∙ p.size in
         let whole = view_is.size in
         record {
-          least = omega arith;
-          most = elim (cases_lt 9999 f.number) [ inl past ↦ absurd (never Number (inl (refl, inr (omega (arith, past, number))))) | inr under ↦ under ];
+          permitted = λ r b. never r (inl (refl, within r number (omega (arith, is, whole)) b));
           size = subst (λ (k : ℕ). worst_len script step k ≤ f.size) number worst;
-          fits = λ limit. elim (cases_lt (1024 * granted.rows.bank.kilobytes) f.size) [ inl past ↦ absurd (never Size (inl (refl, (limit, omega (arith, past, is, whole))))) | inr under ↦ under ];
           clean = clean n step p.message at p.sent;
           onward = λ branch is_open. goes_on (target_of step.branches step.otherwise branch) (record { branch = branch; is_open = is_open; to = refl });
         }

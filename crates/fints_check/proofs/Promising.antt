@@ -8,10 +8,15 @@ use Rattle.fints_check_findings.specs.Findings.{BreaksBehind, EachIsPermitted, I
 use Rattle.fints_check_findings.specs.Releases.{IsUnreleased}
 use Rattle.fints_check_findings.specs.declared.finding.Finding.{Finding}
 use Rattle.fints_check_findings.specs.declared.finding.Reached.{Reached}
-use Rattle.fints_rules.specs.Breaks.{Breaks, BytesBreakRelease, Permitted}
+use Rattle.fints_rules.specs.Breaks.{Breaks, BreaksByFigures, BytesBreakRelease, Permitted}
+use Rattle.std.proofs.lemmas.Bool.{cases_lt}
+use Rattle.fints_rules.specs.declared.facts.Figures.{Figures}
+use Rattle.fints_rules.specs.declared.whole.TheConstants.{LAST_NUMBER}
+use Rattle.fints_rules.specs.Rules.{FiguresBreak}
+use Rattle.fints_check_findings.specs.Figures.{reached_figures}
 use Rattle.fints_rules_permissions.specs.Permits.{Granted}
 use Rattle.fints_rules.specs.declared.rule.Rule.{Rule}
-use Rattle.fints_rules.specs.declared.rule.Rule.TheVariants.{Protocol, Number, Size, Kinds, Version, Orders, Listed, Signatures, Account, Tan, Release, Procedure}
+use Rattle.fints_rules.specs.declared.rule.Rule.TheVariants.{Number, Size, Release}
 use Rattle.fints_script.specs.Numbered.{numbered_from, numbered_holds}
 use Rattle.fints_script.specs.Plans.{Admits}
 use Rattle.fints_script.specs.Scripts.{ScriptValue}
@@ -27,27 +32,24 @@ use Rattle.fints_check.specs.declared.certificate.Line.{Line}
 use Rattle.fints_wire.specs.declared.building.TheConstants.{MAX_NUMBER}
 use Rattle.fints_check.proofs.Bounds.{OpenBranchesLead, reach_bounded}
 
+-- figures that break neither P2 nor P3 have a number that can be asked for
+pub numbers_asked : (granted : Granted) (f : Figures) → ((r : Rule) → FiguresBreak granted.rows.bank f r → ⊥) → (1 ≤ f.number) × (f.number ≤ LAST_NUMBER)
+numbers_asked granted f none = (
+  elim (cases_lt 0 f.number) [ inl above ↦ above | inr under ↦ absurd (none Number (inl (omega (arith, under)))) ],
+  elim (cases_lt LAST_NUMBER f.number) [ inl past ↦ absurd (none Number (inr past)) | inr under ↦ under ],
+)
+
 -- a message of a number and a size within a line's figures breaks no rule
 permitted_view : (granted : Granted) (script : ScriptValue) (lines : List Line) (step : StepValue) (figures : Reached) (number : ℕ) (values : List NamedValue) → LineHolds granted script lines step figures → 1 ≤ number → number ≤ figures.number → (message_view script step number values).size ≤ figures.size → Admits script.fields values
     → (r : Rule) (place : ℕ) → Breaks granted (message_view script step number values) r place → ⊥
-permitted_view granted script lines step figures number values holds low high size admits Number place b = elim b [
-  | inl whole ↦ let top = holds.most in elim whole.1 [ inl none ↦ omega (arith, none) | inr over ↦ omega (arith, over) ]
-  | inr part ↦ part.4.1
-]
-permitted_view granted script lines step figures number values holds low high size admits Size place b = elim b [
-  | inl whole ↦ let room = holds.fits whole.1.0 in let over = whole.1.1 in omega arith
-  | inr part ↦ part.4.1
-]
-permitted_view granted script lines step figures number values holds low high size admits Protocol place b = holds.clean Protocol tt number values place admits b
-permitted_view granted script lines step figures number values holds low high size admits Kinds place b = holds.clean Kinds tt number values place admits b
-permitted_view granted script lines step figures number values holds low high size admits Version place b = holds.clean Version tt number values place admits b
-permitted_view granted script lines step figures number values holds low high size admits Orders place b = holds.clean Orders tt number values place admits b
-permitted_view granted script lines step figures number values holds low high size admits Listed place b = holds.clean Listed tt number values place admits b
-permitted_view granted script lines step figures number values holds low high size admits Signatures place b = holds.clean Signatures tt number values place admits b
-permitted_view granted script lines step figures number values holds low high size admits Account place b = holds.clean Account tt number values place admits b
-permitted_view granted script lines step figures number values holds low high size admits Tan place b = holds.clean Tan tt number values place admits b
-permitted_view granted script lines step figures number values holds low high size admits Release place b = holds.clean Release tt number values place admits b
-permitted_view granted script lines step figures number values holds low high size admits Procedure place b = holds.clean Procedure tt number values place admits b
+permitted_view granted script lines step figures number values holds low high size admits r place (inr b) = holds.clean r number values place admits b
+permitted_view granted script lines step figures number values holds low high size admits r place (inl whole) = holds.permitted r (within r whole.1)
+  where
+    within : (r : Rule) → BreaksByFigures granted (message_view script step number values) r → FiguresBreak granted.rows.bank (reached_figures figures) r
+    within Number (inl none) = absurd (omega (arith, low, none))
+    within Number (inr over) = inr (omega (arith, high, over))
+    within Size b = (b.0, omega (arith, b.1, size))
+    within _ b = absurd b
 
 -- no choice makes a message longer than the longest values
 abbrev pub NoneIsLonger : Type 0
@@ -73,7 +75,7 @@ module _ (open_lead : OpenBranchesLead) (longest : NoneIsLonger) (read : Message
       let holds = closed.each v.step is.at b.figures is.of b.named in
       let low = (within script v sound way.1).first in
       let high = b.stays.now in
-      let most = holds.most in
+      let most = (numbers_asked granted (reached_figures b.figures) holds.permitted).1 in
       let worst = longest script is.at values v.number b.figures.number sound (numbered_holds (IsSoundStep script) script.steps v.step is.at sound.steps is.of) admits low high (omega arith) in
       let top = holds.size in
       let size : length (message_bytes script is.at v.number values) ≤ b.figures.size = omega arith in

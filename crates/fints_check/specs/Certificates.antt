@@ -1,5 +1,5 @@
 -- What a certificate names, when it is closed, and what it promises. Steps and lines count from 1; branches too, and the default counts as the last.
-use Rattle.std.specs.Prelude.{ℕ, ◌≡◌, ◌≢◌, ◌≤◌, ◌+◌, ◌-◌, ◌*◌, Option, Some, List, length, map}
+use Rattle.std.specs.Prelude.{ℕ, ◌≡◌, ◌≤◌, ◌+◌, ◌-◌, Option, Some, List, length, map}
 use Rattle.std.specs.List.{AllByRecursion}
 use Rattle.std.specs.Option.{option_and_then}
 use Rattle.fints_script_cases.specs.Answers.{IsAnswer, IsOpen, IsOpenTo, target_of}
@@ -18,7 +18,9 @@ use Rattle.fints_wire.specs.declared.dialogue.Sent.{Sent}
 use Rattle.fints_check_findings.specs.Breakable.{IsCleanStep}
 use Rattle.fints_check_findings.specs.Releases.{IsUnreleased}
 use Rattle.fints_check_findings.specs.declared.finding.Reached.{Reached}
-use Rattle.fints_rules.specs.declared.whole.TheConstants.{LAST_NUMBER}
+use Rattle.fints_rules.specs.Rules.{FiguresBreak}
+use Rattle.fints_rules.specs.declared.rule.Rule.{Rule}
+use Rattle.fints_check_findings.specs.Figures.{reached_figures}
 use Rattle.fints_check.specs.declared.certificate.Line.{Line}
 
 -- ---- what it names
@@ -70,12 +72,10 @@ BranchGoesOn steps lines number step branch = IsOpen step.branches branch → Go
 abbrev pub worst_len : ScriptValue → StepValue → ℕ → ℕ
 worst_len script step number = length (message_bytes script step number (longest_choice script.fields))
 
--- what holds of a step that is named as reached: its figures stay within P2 and P3, the size is enough, its messages by themselves break no other rule, and each open branch goes on
+-- what holds of a step that is named as reached: its figures break neither P2 nor P3, the size is enough, what its messages hold breaks no rule, and each open branch goes on
 pub record LineHolds (granted : Granted) (script : ScriptValue) (lines : List Line) (step : StepValue) (figures : Reached) : Type 0 where
-  pub least : 1 ≤ figures.number
-  pub most : figures.number ≤ LAST_NUMBER
+  pub permitted : (r : Rule) → FiguresBreak granted.rows.bank (reached_figures figures) r → ⊥
   pub size : worst_len script step figures.number ≤ figures.size
-  pub fits : granted.rows.bank.kilobytes ≢ 0 → figures.size ≤ 1024 * granted.rows.bank.kilobytes
   pub clean : IsCleanStep granted script step
   pub onward : (branch : ℕ) → BranchGoesOn script.steps lines figures.number step branch
 

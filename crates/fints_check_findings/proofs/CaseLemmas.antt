@@ -32,7 +32,7 @@ use Rattle.fints_check_findings.specs.declared.finding.Finding.{Finding}
 use Rattle.fints_check_findings.specs.declared.finding.Reached.{Reached}
 use Rattle.fints_check_findings.proofs.Checking.{greatest_at, real_within}
 use Rattle.fints_check_findings.proofs.FigureRules.{number_case, size_case}
-use Rattle.fints_check_findings.proofs.Founds.{release_or}
+use Rattle.fints_rules.proofs.RuleTable.{rule_or}
 use Rattle.fints_check_findings.proofs.Reals.{AreWithin, LastMessages, NoneIsLonger, OneMessage, number_small, read_at, real_breaks, itself, sends_last}
 
 -- ---- values
@@ -76,7 +76,7 @@ module _ (script : ScriptValue) (granted : Granted) (f : Finding) (sound : IsSou
       let lower = subst (λ (r : Rule). Breaks granted (message_view script step b.1 b.0) r f.segment) is b.5 in (
         admits,
         subst (λ (r : Rule). Breaks granted (message_view script step number values) r f.segment) (sym is)
-            (number_case granted script step (figures_of step number) (are_figures number step peak) longest (sound_at step at) (λ n vs low high a. read_at script granted sound last within read one f.step n step vs at low high a) longer f.segment b.1 b.0 values b.3 b.4 lower),
+            (number_case granted script step (figures_of step number) (are_figures number step peak) longest (sound_at step at) (λ n vs low high a. read_at script granted sound last within read one f.step n step vs at low high a) longer f.segment b.1 b.0 values b.2 b.3 b.4 lower),
       )
 
 -- ---- findings by their place
@@ -136,7 +136,7 @@ module _ (report : ReportValue) (sound : IsSound report.plan.script) (last : Las
     (shown : (s : ℕ) (values : List NamedValue) (answers : List (List ℕ)) → Admits report.plan.script.fields values → LeadsUnreleased report.plan.script s answers → Shows report.granted report.plan.script (release_of s) values answers) where
   pub case_shown : (f : Finding) (values : List NamedValue) (answers : List (List ℕ)) → IsReal report.granted report.plan.script f → AreCaseValues report.granted report.plan.script f values → LeadsFor report f answers → Shows report.granted report.plan.script f values answers
   case_shown f values answers real are leads =
-      elim (release_or f.rule) [
+      elim (rule_or f.rule rule.Release) [
         | inl is ↦ subst (λ (x : Finding). Shows report.granted report.plan.script x values answers) (as_release f is (left f is real)) (shown f.step values answers (are.admitted is) (leads.unreleased is))
         | inr other ↦ shown_by report.plan.script report.granted sound last within report.numbers greatest read one sends f values answers real (are.greatest other) (leads.longest other)
       ]

@@ -1,4 +1,4 @@
--- Where nothing is found, the steps that runs send break no rule other than P2 and P3.
+-- Where nothing is found, what the messages of steps hold that runs send breaks no rule.
 use Rattle.std.proofs.Common.{ℕ, ◌-◌, ◌≡◌, ◌⊎◌, Bool, true, false, List, [], length, Some, refl, ap, sym, subst, ◌∙◌, arith, inl, inr}
 use Rattle.std.specs.Prelude.{codes, ◌↔◌, IsTrue, Contains}
 use Rattle.std.specs.List.{list_any, slice_get}
@@ -38,8 +38,6 @@ either h = h (inr (λ p. h (inl p)))
 facts_with : Granted → StepValue → Bool → MessageFacts
 facts_with granted step has = record {
   protocol = Some 300;
-  number = 0;
-  size = 0;
   kinds = distinct_count bytes_eq (template_kinds step.templates);
   signatures = length step.signers;
   submits = list_any (has_process (codes "4")) step.templates;
@@ -86,17 +84,17 @@ module _ (script : ScriptValue) (granted : Granted) (sound : IsSound script) (la
           breaks = itself granted (came_after at_first sends.sent sends.answers) (record { step = v.step; number = v.number; bytes = message_bytes script step v.number can.values }) r place (record {
             message = message_view script step v.number can.values;
             is = read script (n - 1) step v.number can.values sound (numbered_from script.steps n step at) first (omega arith) can.admitted;
-            breaks = can.breaks v.number;
+            breaks = inr (can.breaks v.number);
           });
         };
       }
 
   pub clean_steps : TemplatesDecide → ((n i : ℕ) (step : StepValue) (t : Template) → numbered script.steps n ≡ Some step → slice_get step.templates i ≡ Some t → IsClosedTemplate script.fields granted.orders t) → ((f : Finding) → IsReal granted script f → ⊥) → SentStepsAreClean granted script
-  clean_steps decide closed none n step m at s r other number values place admits b =
+  clean_steps decide closed none n step m at s r number values place admits b =
       either {P = Tan script step (wants_tan r)} (λ case.
       let f = facts_of granted script step (wants_tan r) case in
       let sound_step = numbered_holds (IsSoundStep script) script.steps n step sound.steps at in
-      let d = decide script granted step r f.0 sound sound_step (λ i t there. closed n i step t at there) other f.1 in
+      let d = decide script granted step r f.0 sound sound_step (λ i t there. closed n i step t at there) f.1 in
       none (record { step = n; rule = r; segment = place }) (can_real n step m r place at s (d.some place (d.each number values place admits b))))
 
 -- where nothing is real, nothing is left unreleased

@@ -9,7 +9,7 @@ use Rattle.fints_syntax_segments.specs.declared.item.OwnedSegment.{OwnedSegment}
 use Rattle.fints_syntax_segments.specs.Values.{values_at}
 use Rattle.fints_rules_messages.specs.Messages.{MessageView}
 use Rattle.fints_script_cases.specs.declared.values.NamedValue.{NamedValue}
-use Rattle.fints_rules.specs.Breaks.{Breaks, BreaksAt}
+use Rattle.fints_rules.specs.Breaks.{BreaksAt, BreaksByContent}
 use Rattle.fints_rules.specs.Facts.{facts_of, segment_facts}
 use Rattle.fints_rules_permissions.specs.Permits.{Granted}
 use Rattle.fints_rules.specs.Rules.{MessageBreaks, SegmentBreaks}
@@ -22,7 +22,7 @@ use Rattle.fints_script.specs.Steps.{StepValue}
 use Rattle.fints_script_templates.specs.declared.template.Template.{Template}
 use Rattle.fints_wire.specs.Filling.{FillingValue, filled_segment, filling_of}
 use Rattle.fints_wire.specs.Views.{message_view}
-use Rattle.fints_check_findings.specs.Breakable.{CanBreak, IsOther}
+use Rattle.fints_check_findings.specs.Breakable.{CanBreak}
 use Rattle.fints_check_findings.specs.Choosing.{BreaksWith, IsChoice, extreme_choice}
 use Rattle.fints_check_findings.specs.Elements.{template_facts, wants_tan}
 use Rattle.fints_check_findings.specs.Kinds.{template_count}
@@ -41,7 +41,7 @@ use Rattle.fints_check_findings.proofs.Signed.{longest_tan, may_have_tan, shorte
 -- ---- the step
 
 module _ (laws : Laws) (script : ScriptValue) (granted : Granted) (step : StepValue) (r : Rule) (f : MessageFacts) (sound : IsSound script) (sound_step : IsSoundStep script step)
-    (closed : (i : ℕ) (t : Template) → slice_get step.templates i ≡ Some t → IsClosedTemplate script.fields granted.orders t) (other : IsOther r) (facts : AreMessageFacts granted script step (wants_tan r) f) where
+    (closed : (i : ℕ) (t : Template) → slice_get step.templates i ≡ Some t → IsClosedTemplate script.fields granted.orders t) (facts : AreMessageFacts granted script step (wants_tan r) f) where
   abbrev Sent : List NamedValue → ℕ → MessageView
   Sent values number = message_view script step number values
 
@@ -124,12 +124,12 @@ module _ (laws : Laws) (script : ScriptValue) (granted : Granted) (step : StepVa
   abbrev Own : List NamedValue
   Own = extreme_choice (wants_tan r) script.fields
 
-  whole_broken : (place : ℕ) → place ≡ 0 → MessageBreaks granted f r → (number : ℕ) → Breaks granted (Sent Own number) r place
+  whole_broken : (place : ℕ) → place ≡ 0 → MessageBreaks granted f r → (number : ℕ) → BreaksByContent granted (Sent Own number) r place
   whole_broken place at b number =
-      inl (at, message_no_better granted (facts_of granted.rows.pins (Sent Own number)) f r (extreme_no_better Own number (extreme_admitted laws (wants_tan r) script.fields) (extreme_is (wants_tan r) script.fields)) other b)
+      inl (at, message_no_better granted (facts_of granted.rows.pins (Sent Own number)) f r (extreme_no_better Own number (extreme_admitted laws (wants_tan r) script.fields) (extreme_is (wants_tan r) script.fields)) b)
 
   segment_broken : (place i : ℕ) (t : Template) (there : slice_get step.templates i ≡ Some t) (values : List NamedValue) → place ≡ first + i
-      → IsBrokenBy laws script.fields granted f r t (template_count t.kind step.templates) (closed i t there) values → (number : ℕ) → Breaks granted (Sent values number) r place
+      → IsBrokenBy laws script.fields granted f r t (template_count t.kind step.templates) (closed i t there) values → (number : ℕ) → BreaksByContent granted (Sent values number) r place
   segment_broken place i t there values at s number =
       let segment : OwnedSegment = filled_segment (Fill values number) (first + i) t in
       inr (any_there (λ (x : OwnedSegment). (x.head.number ≡ place) × BreaksAt granted (Sent values number) r x) (Sent values number).body i segment (laws.segments script step number values i t there)
@@ -142,16 +142,16 @@ module _ (laws : Laws) (script : ScriptValue) (granted : Granted) (step : StepVa
       record { values = s.0; admitted = s.1.admitted; breaks = segment_broken place b.i b.template b.there s.0 b.number_is s.1 }
 
   step_chosen : (place : ℕ) (choice : Option SetAccount) (values : List NamedValue) → BreaksWith granted script.fields step f r place choice → IsChoice (wants_tan r) script.fields choice values
-      → Admits script.fields values × ((number : ℕ) → Breaks granted (Sent values number) r place)
+      → Admits script.fields values × ((number : ℕ) → BreaksByContent granted (Sent values number) r place)
   step_chosen place choice values (inl (at, b, none)) is =
       let own : values ≡ Own = subst (λ (c : Option SetAccount). IsChoice (wants_tan r) script.fields c values) none is in
-      subst (λ (vs : List NamedValue). Admits script.fields vs × ((number : ℕ) → Breaks granted (Sent vs number) r place)) (sym own) (extreme_admitted laws (wants_tan r) script.fields, whole_broken place at b)
+      subst (λ (vs : List NamedValue). Admits script.fields vs × ((number : ℕ) → BreaksByContent granted (Sent vs number) r place)) (sym own) (extreme_admitted laws (wants_tan r) script.fields, whole_broken place at b)
   step_chosen place choice values (inr b) is =
       let s = template_with laws script.fields granted f r b.template (template_count b.template.kind step.templates) (closed b.i b.template b.there) choice values b.breaks is in
       (s.admitted, segment_broken place b.i b.template b.there values b.number_is s)
 
-  step_each : (number : ℕ) (values : List NamedValue) (place : ℕ) → Admits script.fields values → Breaks granted (Sent values number) r place → StepBreaks granted script.fields step f r place
-  step_each number values place admits (inl (at, b)) = inl (at, message_no_better granted f (facts_of granted.rows.pins (Sent values number)) r (facts_no_better values number admits) other b)
+  step_each : (number : ℕ) (values : List NamedValue) (place : ℕ) → Admits script.fields values → BreaksByContent granted (Sent values number) r place → StepBreaks granted script.fields step f r place
+  step_each number values place admits (inl (at, b)) = inl (at, message_no_better granted f (facts_of granted.rows.pins (Sent values number)) r (facts_no_better values number admits) b)
   step_each number values place admits (inr (i, s, lt, at, (number_is, b))) =
       let within : i < length step.templates = subst (λ (m : ℕ). i < m) (laws.count script step number values) lt in
       let (t, there) = slice_there step.templates i within in
@@ -165,10 +165,10 @@ module _ (laws : Laws) (script : ScriptValue) (granted : Granted) (step : StepVa
       })
 
 pub decides : Laws → TemplatesDecide
-decides laws script granted step r f sound sound_step closed other facts = record {
-  some = step_some laws script granted step r f sound sound_step closed other facts;
-  chosen = step_chosen laws script granted step r f sound sound_step closed other facts;
-  each = step_each laws script granted step r f sound sound_step closed other facts;
+decides laws script granted step r f sound sound_step closed facts = record {
+  some = step_some laws script granted step r f sound sound_step closed facts;
+  chosen = step_chosen laws script granted step r f sound sound_step closed facts;
+  each = step_each laws script granted step r f sound sound_step closed facts;
 }
 
 pub message_is : (granted : Granted) (script : ScriptValue) (step : StepValue) (f : StepFacts) → AreStepFacts granted script step f → (most : Bool) → AreMessageFacts granted script step most (message_for f most)

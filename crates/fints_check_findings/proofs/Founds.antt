@@ -4,97 +4,15 @@ use Rattle.std.specs.Prelude.{AllPairs, Contains}
 use Rattle.std.proofs.lemmas.Bool.{cases_lt, cases_order}
 use Rattle.std.proofs.lemmas.List.{get_or_append_left, get_or_at, length-append}
 use Rattle.std.proofs.lemmas.List.Elements.{Contains-append_cases, Contains-append_left, Contains-append_right}
-use Rattle.fints_rules.specs.Breaks.{rule_number}
+use Rattle.fints_rules.specs.Rules.{rule_number}
 use Rattle.fints_rules_permissions.specs.Permits.{Granted}
 use Rattle.fints_rules.specs.declared.rule.Rule.{Rule}
-use Rattle.fints_rules.specs.declared.rule.Rule.TheVariants as rule
+use Rattle.fints_rules.specs.declared.rule.TheConstants.Rule.{ALL}
+use Rattle.fints_rules.proofs.RuleTable.{number_within, rule_once}
 use Rattle.fints_script.specs.Scripts.{ScriptValue}
 use Rattle.fints_check_findings.specs.Findings.{AreFindings, IsBefore, IsReal}
 use Rattle.fints_check_findings.specs.Searching.{AreFoundTo, IsEarlier}
 use Rattle.fints_check_findings.specs.declared.finding.Finding.{Finding}
-
--- ---- rules by their numbers
-
-numbers_are : (r : Rule) → (1 ≤ rule_number r) × (rule_number r ≤ 12)
-numbers_are rule.Protocol = (omega arith, omega arith)
-numbers_are rule.Number = (omega arith, omega arith)
-numbers_are rule.Size = (omega arith, omega arith)
-numbers_are rule.Kinds = (omega arith, omega arith)
-numbers_are rule.Version = (omega arith, omega arith)
-numbers_are rule.Orders = (omega arith, omega arith)
-numbers_are rule.Listed = (omega arith, omega arith)
-numbers_are rule.Signatures = (omega arith, omega arith)
-numbers_are rule.Account = (omega arith, omega arith)
-numbers_are rule.Tan = (omega arith, omega arith)
-numbers_are rule.Release = (omega arith, omega arith)
-numbers_are rule.Procedure = (omega arith, omega arith)
-
-rule_of : ℕ → Rule
-rule_of (suc zero) = rule.Protocol
-rule_of (suc (suc zero)) = rule.Number
-rule_of (suc (suc (suc zero))) = rule.Size
-rule_of (suc (suc (suc (suc zero)))) = rule.Kinds
-rule_of (suc (suc (suc (suc (suc zero))))) = rule.Version
-rule_of (suc (suc (suc (suc (suc (suc zero)))))) = rule.Orders
-rule_of (suc (suc (suc (suc (suc (suc (suc zero))))))) = rule.Listed
-rule_of (suc (suc (suc (suc (suc (suc (suc (suc zero)))))))) = rule.Signatures
-rule_of (suc (suc (suc (suc (suc (suc (suc (suc (suc zero))))))))) = rule.Account
-rule_of (suc (suc (suc (suc (suc (suc (suc (suc (suc (suc zero)))))))))) = rule.Tan
-rule_of (suc (suc (suc (suc (suc (suc (suc (suc (suc (suc (suc zero))))))))))) = rule.Release
-rule_of _ = rule.Procedure
-
-rule_back : (r : Rule) → rule_of (rule_number r) ≡ r
-unfolding rule_of
-rule_back rule.Protocol = refl
-rule_back rule.Number = refl
-rule_back rule.Size = refl
-rule_back rule.Kinds = refl
-rule_back rule.Version = refl
-rule_back rule.Orders = refl
-rule_back rule.Listed = refl
-rule_back rule.Signatures = refl
-rule_back rule.Account = refl
-rule_back rule.Tan = refl
-rule_back rule.Release = refl
-rule_back rule.Procedure = refl
-
--- a number is that of one rule
-pub rule_once : (r s : Rule) → rule_number r ≡ rule_number s → r ≡ s
-rule_once r s e = sym (rule_back r) ∙ (ap rule_of e ∙ rule_back s)
-
--- P11 or another
-pub release_or : (r : Rule) → (r ≡ rule.Release) ⊎ (r ≡ rule.Release → ⊥)
-release_or rule.Protocol = inr (λ e. cc)
-release_or rule.Number = inr (λ e. cc)
-release_or rule.Size = inr (λ e. cc)
-release_or rule.Kinds = inr (λ e. cc)
-release_or rule.Version = inr (λ e. cc)
-release_or rule.Orders = inr (λ e. cc)
-release_or rule.Listed = inr (λ e. cc)
-release_or rule.Signatures = inr (λ e. cc)
-release_or rule.Account = inr (λ e. cc)
-release_or rule.Tan = inr (λ e. cc)
-release_or rule.Release = inl refl
-release_or rule.Procedure = inr (λ e. cc)
-
--- the rules in the order of their numbers
-abbrev pub all_rules : List Rule
-all_rules = rule.Protocol ∷ rule.Number ∷ rule.Size ∷ rule.Kinds ∷ rule.Version ∷ rule.Orders ∷ rule.Listed ∷ rule.Signatures ∷ rule.Account ∷ rule.Tan ∷ rule.Release ∷ rule.Procedure ∷ []
-
-pub number_at : (k : ℕ) (d : Rule) → k < 12 → rule_number (get_or all_rules k d) ≡ k + 1
-number_at zero d lt = refl
-number_at (suc zero) d lt = refl
-number_at (suc (suc zero)) d lt = refl
-number_at (suc (suc (suc zero))) d lt = refl
-number_at (suc (suc (suc (suc zero)))) d lt = refl
-number_at (suc (suc (suc (suc (suc zero))))) d lt = refl
-number_at (suc (suc (suc (suc (suc (suc zero)))))) d lt = refl
-number_at (suc (suc (suc (suc (suc (suc (suc zero))))))) d lt = refl
-number_at (suc (suc (suc (suc (suc (suc (suc (suc zero)))))))) d lt = refl
-number_at (suc (suc (suc (suc (suc (suc (suc (suc (suc zero))))))))) d lt = refl
-number_at (suc (suc (suc (suc (suc (suc (suc (suc (suc (suc zero)))))))))) d lt = refl
-number_at (suc (suc (suc (suc (suc (suc (suc (suc (suc (suc (suc zero))))))))))) d lt = refl
-number_at (suc (suc (suc (suc (suc (suc (suc (suc (suc (suc (suc (suc k)))))))))))) d lt = absurd (omega (arith, lt))
 
 -- ---- order
 
@@ -205,20 +123,20 @@ module _ (granted : Granted) (script : ScriptValue) where
           ]
 
   -- all rules of the step were looked at
-  pub found_step : (n : ℕ) (findings : List Finding) → AreFoundTo granted script n 13 0 findings → AreFoundTo granted script (n + 1) 1 0 findings
-  found_step n findings a = moved n 13 0 (n + 1) 1 0 findings to from a
+  pub found_step : (n : ℕ) (findings : List Finding) → AreFoundTo granted script n (length ALL + 1) 0 findings → AreFoundTo granted script (n + 1) 1 0 findings
+  found_step n findings a = moved n (length ALL + 1) 0 (n + 1) 1 0 findings to from a
     where
-      to : (f : Finding) → IsReal granted script f → IsEarlier n 13 0 f → IsEarlier (n + 1) 1 0 f
+      to : (f : Finding) → IsReal granted script f → IsEarlier n (length ALL + 1) 0 f → IsEarlier (n + 1) 1 0 f
       to f real (inl less) = inl (omega (arith, less))
       to f real (inr (same, rest)) = inl (omega (arith, same))
 
-      from : (f : Finding) → IsReal granted script f → IsEarlier (n + 1) 1 0 f → IsEarlier n 13 0 f
+      from : (f : Finding) → IsReal granted script f → IsEarlier (n + 1) 1 0 f → IsEarlier n (length ALL + 1) 0 f
       from f real (inl less) =
           elim (cases_order f.step n) [
-            | inl at ↦ inr (at, inl (let high = (numbers_are f.rule).1 in omega (arith, high)))
+            | inl at ↦ inr (at, inl (let high = (number_within f.rule).1 in omega (arith, high)))
             | inr other ↦ elim other [ inl below ↦ inl below | inr above ↦ absurd (omega (arith, less, above)) ]
           ]
-      from f real (inr (same, inl less)) = absurd (let low = (numbers_are f.rule).0 in omega (arith, low, less))
+      from f real (inr (same, inl less)) = absurd (let low = (number_within f.rule).0 in omega (arith, low, less))
       from f real (inr (same, inr (rule, less))) = absurd (omega (arith, less))
 
   -- nothing of the step is real
@@ -235,7 +153,7 @@ module _ (granted : Granted) (script : ScriptValue) where
             | inl at ↦ absurd (none f at real)
             | inr other ↦ elim other [ inl below ↦ inl below | inr above ↦ absurd (omega (arith, less, above)) ]
           ]
-      from f real (inr (same, inl less)) = absurd (let low = (numbers_are f.rule).0 in omega (arith, low, less))
+      from f real (inr (same, inl less)) = absurd (let low = (number_within f.rule).0 in omega (arith, low, less))
       from f real (inr (same, inr (rule, less))) = absurd (omega (arith, less))
 
   -- before the first step
@@ -247,7 +165,7 @@ module _ (granted : Granted) (script : ScriptValue) where
     where
       early : (f : Finding) → IsReal granted script f → IsEarlier 1 1 0 f → ⊥
       early f real (inl less) = let low = some f real in omega (arith, low, less)
-      early f real (inr (same, inl less)) = let low = (numbers_are f.rule).0 in omega (arith, low, less)
+      early f real (inr (same, inl less)) = let low = (number_within f.rule).0 in omega (arith, low, less)
       early f real (inr (same, inr (rule, less))) = omega (arith, less)
 
   -- behind the last step

@@ -204,7 +204,8 @@ module _ (granted : Granted) (script : ScriptValue) (sound : IsSound script) (re
     where
       empty : (m : MessageView) → Breaks granted m Release place → ⊥
       empty m (inl h) = h.1
-      empty m (inr (i, s, lt, at, h)) = h.1
+      empty m (inr (inl h)) = h.1
+      empty m (inr (inr (i, s, lt, at, h))) = h.1
 
   pub release_left : ((bytes : List ℕ) (m n : MessageView) → IsMessage bytes m → IsMessage bytes n → m ≡ n) → ((values : List NamedValue) (before : Before) (m : Sent) → SendsAfter script values before m ↔ ((w : Visit) × IsSent script values w m × ComesAfter script values before w))
       → ((t s : ℕ) (step : StepValue) → numbered script.steps t ≡ Some step → IsFollowed script.steps t RELEASE s ↔ (((v : Visit) × Arrives script.steps v × (v.step ≡ t)) × CarriesTo step t RELEASE s))

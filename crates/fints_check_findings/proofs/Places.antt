@@ -1,25 +1,22 @@
--- Places of a step's message, and rules one by one.
-use Rattle.std.proofs.Common.{ℕ, ◌+◌, ◌<◌, ◌≡◌, Bool, true, false, List, [], ◌∷◌, length, get_or, Some, None, ap, sym, subst, ◌∙◌, arith, inl, inr}
-use Rattle.std.specs.Prelude.{IsTrue, ◌↔◌}
+-- Places of a step's message.
+use Rattle.std.proofs.Common.{ℕ, zero, suc, ◌+◌, ◌<◌, ◌≡◌, Bool, true, false, List, [], ◌∷◌, length, Some, None, ap, sym, subst, ◌∙◌, arith, inl, inr}
+use Rattle.std.specs.Prelude.{Any, IsTrue, ◌↔◌}
 use Rattle.std.specs.List.{slice_get}
-use Rattle.std.proofs.lemmas.List.{get_or_default}
 use Rattle.std.proofs.lemmas.Option.{same_Some}
 use Rattle.fints_syntax_segments.specs.declared.item.OwnedSegment.{OwnedSegment}
 use Rattle.fints_script_cases.specs.declared.values.NamedValue.{NamedValue}
 use Rattle.fints_script_rows.specs.declared.fields.NamedField.{NamedField}
-use Rattle.fints_rules.specs.Breaks.{Breaks}
+use Rattle.fints_rules.specs.Breaks.{Breaks, BreaksAt, BreaksByContent}
 use Rattle.fints_rules_permissions.specs.Permits.{Granted}
 use Rattle.fints_rules.specs.declared.facts.MessageFacts.{MessageFacts}
 use Rattle.fints_rules.specs.declared.rule.Rule.{Rule}
-use Rattle.fints_rules.specs.declared.rule.Rule.TheVariants as rule
 use Rattle.fints_script.specs.Scripts.{ScriptValue}
 use Rattle.fints_script.specs.Steps.{StepValue}
 use Rattle.fints_script_templates.specs.declared.template.Template.{Template}
-use Rattle.fints_wire.specs.Filling.{filled_segment, filling_of}
+use Rattle.fints_wire.specs.Filling.{FillingValue, filled_segments, filling_of}
 use Rattle.fints_wire.specs.Views.{message_view}
 use Rattle.fints_check_findings.specs.Kinds.{template_count}
 use Rattle.fints_check_findings.specs.StepFacts.{TemplateBreaks, TemplateBreaksAt}
-use Rattle.fints_check_findings.proofs.Lists.{slice_there, there_of}
 
 -- ---- segments of a step
 
@@ -45,37 +42,20 @@ at_none granted fields step f r number i is at = (
 
 -- ---- places of a message
 
-pub place_within : ((script : ScriptValue) (step : StepValue) (number : ℕ) (values : List NamedValue) (i : ℕ) (t : Template) → slice_get step.templates i ≡ Some t → slice_get (message_view script step number values).body i ≡ Some (filled_segment (filling_of script.fields values number) (2 + length step.signers + i) t))
-    → ((script : ScriptValue) (step : StepValue) (number : ℕ) (values : List NamedValue) → length (message_view script step number values).body ≡ length step.templates)
-    → (granted : Granted) (script : ScriptValue) (step : StepValue) (number : ℕ) (values : List NamedValue) (r : Rule) (place : ℕ) → Breaks granted (message_view script step number values) r place → place < 2 + length step.signers + length step.templates
-place_within segments count granted script step number values r place (inl (at, b)) = omega (arith, at)
-place_within segments count granted script step number values r place (inr (i, s, lt, at, (number_is, b))) =
-    let within : i < length step.templates = subst (λ (m : ℕ). i < m) (count script step number values) lt in
-    let (t, there) = slice_there step.templates i within in
-    let segment : OwnedSegment = filled_segment (filling_of script.fields values number) (2 + length step.signers + i) t in
-    let same : s ≡ segment = same_Some s segment (sym (there_of (message_view script step number values).body i s lt at) ∙ segments script step number values i t there) in
-    let is : s.head.number ≡ 2 + length step.signers + i = ap (λ (x : OwnedSegment). x.head.number) same in
-    omega (arith, is, number_is, within)
+numbers_within : (P : OwnedSegment → Type 0) (F : FillingValue) (n place : ℕ) (ts : List Template) → Any (λ (s : OwnedSegment). (s.head.number ≡ place) × P s) (filled_segments F n ts) → place < n + length ts
+numbers_within P F n place [] (k, s, lt, at, h) = absurd (omega (arith, lt))
+numbers_within P F n place (t ∷ ts) (zero, s, lt, at, h) =
+    let here : n ≡ place = subst (λ (x : OwnedSegment). x.head.number ≡ place) (sym at) h.0 in
+    omega (arith, here)
+numbers_within P F n place (t ∷ ts) (suc k, s, lt, at, h) =
+    let rest = numbers_within P F (n + 1) place ts (k, s, omega (arith, lt), at, h) in
+    omega (arith, rest)
 
--- ---- rules
+pub content_within : (granted : Granted) (script : ScriptValue) (step : StepValue) (number : ℕ) (values : List NamedValue) (r : Rule) (place : ℕ) → BreaksByContent granted (message_view script step number values) r place → place < 2 + length step.signers + length step.templates
+content_within granted script step number values r place (inl (at, b)) = omega (arith, at)
+content_within granted script step number values r place (inr any) =
+    numbers_within (BreaksAt granted (message_view script step number values) r) (filling_of script.fields values number) (2 + length step.signers) place step.templates any
 
-abbrev pub twelve : List Rule
-twelve = rule.Protocol ∷ rule.Number ∷ rule.Size ∷ rule.Kinds ∷ rule.Version ∷ rule.Orders ∷ rule.Listed ∷ rule.Signatures ∷ rule.Account ∷ rule.Tan ∷ rule.Release ∷ rule.Procedure ∷ []
-
--- the default of a look-up is of no matter
-pub rule_at : (P : Rule → Type 0) (i k : ℕ) (d e : Rule) → i ≡ k → k < 12 → P (get_or twelve i d) → P (get_or twelve k e)
-rule_at P i k d e same within h = subst P (ap (λ (n : ℕ). get_or twelve n d) same ∙ get_or_default twelve k d e within) h
-
-pub each_rule : (P : Rule → Type 0) → ((k : ℕ) (d : Rule) → k < 12 → P (get_or twelve k d)) → (r : Rule) → P r
-each_rule P h rule.Protocol = h 0 rule.Protocol (omega arith)
-each_rule P h rule.Number = h 1 rule.Protocol (omega arith)
-each_rule P h rule.Size = h 2 rule.Protocol (omega arith)
-each_rule P h rule.Kinds = h 3 rule.Protocol (omega arith)
-each_rule P h rule.Version = h 4 rule.Protocol (omega arith)
-each_rule P h rule.Orders = h 5 rule.Protocol (omega arith)
-each_rule P h rule.Listed = h 6 rule.Protocol (omega arith)
-each_rule P h rule.Signatures = h 7 rule.Protocol (omega arith)
-each_rule P h rule.Account = h 8 rule.Protocol (omega arith)
-each_rule P h rule.Tan = h 9 rule.Protocol (omega arith)
-each_rule P h rule.Release = h 10 rule.Protocol (omega arith)
-each_rule P h rule.Procedure = h 11 rule.Protocol (omega arith)
+pub place_within : (granted : Granted) (script : ScriptValue) (step : StepValue) (number : ℕ) (values : List NamedValue) (r : Rule) (place : ℕ) → Breaks granted (message_view script step number values) r place → place < 2 + length step.signers + length step.templates
+place_within granted script step number values r place (inl (at, b)) = omega (arith, at)
+place_within granted script step number values r place (inr b) = content_within granted script step number values r place b

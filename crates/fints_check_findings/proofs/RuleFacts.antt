@@ -15,7 +15,6 @@ use Rattle.fints_rules.specs.declared.rule.Rule.{Rule}
 use Rattle.fints_rules.specs.declared.rule.Rule.TheVariants as rule
 use Rattle.fints_script.specs.Plans.{names_account}
 use Rattle.fints_script_templates.specs.declared.template.Template.{Template}
-use Rattle.fints_check_findings.specs.Breakable.{IsOther}
 use Rattle.fints_check_findings.specs.Elements.{asks_account, template_facts, wants_tan}
 
 -- ---- facts of messages
@@ -25,7 +24,7 @@ abbrev pub HasTanAs : Bool → MessageFacts → MessageFacts → Type 0
 HasTanAs true f g = IsTrue g.has_tan → IsTrue f.has_tan
 HasTanAs false f g = IsTrue f.has_tan → IsTrue g.has_tan
 
--- the same but for the number and the size and the TAN
+-- the same but for the TAN
 pub record IsNoBetter (most : Bool) (f g : MessageFacts) : Type 0 where
   pub protocol : f.protocol ≡ g.protocol
   pub kinds : f.kinds ≡ g.kinds
@@ -39,36 +38,19 @@ carried : (f g : MessageFacts) → IsNoBetter false f g → CarriesTan f → Car
 carried f g w (inl h) = inl (sym w.submits ∙ h)
 carried f g w (inr h) = inr (w.has_tan h)
 
-pub message_no_better : (granted : Granted) (f g : MessageFacts) (r : Rule) → IsNoBetter (wants_tan r) f g → IsOther r → MessageBreaks granted g r → MessageBreaks granted f r
-message_no_better granted f g rule.Protocol w other b = λ n at. b n (sym w.protocol ∙ at)
-message_no_better granted f g rule.Kinds w other b = (b.0, subst (λ (n : ℕ). granted.rows.bank.kinds < n) (sym w.kinds) b.1)
-message_no_better granted f g rule.Number w other b = absurd other
-message_no_better granted f g rule.Size w other b = absurd other
-message_no_better granted f g rule.Version w other b = absurd b
-message_no_better granted f g rule.Orders w other b = absurd b
-message_no_better granted f g rule.Listed w other b = absurd b
-message_no_better granted f g rule.Signatures w other b = absurd b
-message_no_better granted f g rule.Account w other b = absurd b
-message_no_better granted f g rule.Tan w other b = absurd b
-message_no_better granted f g rule.Release w other b = absurd b
-message_no_better granted f g rule.Procedure w other b = absurd b
+pub message_no_better : (granted : Granted) (f g : MessageFacts) (r : Rule) → IsNoBetter (wants_tan r) f g → MessageBreaks granted g r → MessageBreaks granted f r
+message_no_better granted f g rule.Protocol w b = λ n at. b n (sym w.protocol ∙ at)
+message_no_better granted f g rule.Kinds w b = (b.0, subst (λ (n : ℕ). granted.rows.bank.kinds < n) (sym w.kinds) b.1)
+message_no_better granted f g _ w b = absurd b
 
 pub segment_no_better : (granted : Granted) (f g : MessageFacts) (s : SegmentFactsValue) (r : Rule) → IsNoBetter (wants_tan r) f g → SegmentBreaks granted g r s → SegmentBreaks granted f r s
-segment_no_better granted f g s rule.Version w b = b
-segment_no_better granted f g s rule.Orders w b = b
-segment_no_better granted f g s rule.Listed w b = b
 segment_no_better granted f g s rule.Signatures w (inl b) = inl (b.0, subst (λ (n : ℕ). Any (λ row. n < row.signatures) (params_of s.kind s.version granted.rows.orders)) (sym w.signatures) b.1)
 segment_no_better granted f g s rule.Signatures w (inr (plain, (who, names, more))) = inr (plain, (who, names, subst (AllNeedMore granted.rows who s.kind) (sym w.signatures) more))
-segment_no_better granted f g s rule.Account w b = b
 segment_no_better granted f g s rule.Tan w (inl b) = inl (b.0, b.1, λ carries. b.2 (carried f g w carries))
 segment_no_better granted f g s rule.Tan w (inr b) = inr (b.0, λ has. b.1 (w.has_tan has))
 segment_no_better granted f g s rule.Procedure w (inl b) = inl (b.0, b.1, subst (λ (n : ℕ). 2 ≤ n) (sym w.demanding) b.2)
 segment_no_better granted f g s rule.Procedure w (inr (plain, listed, one, two)) = inr (plain, listed, (w.has_tan one.0, λ order. one.1 (sym w.has_tan_order ∙ order)), two)
-segment_no_better granted f g s rule.Protocol w b = absurd b
-segment_no_better granted f g s rule.Number w b = absurd b
-segment_no_better granted f g s rule.Size w b = absurd b
-segment_no_better granted f g s rule.Kinds w b = absurd b
-segment_no_better granted f g s rule.Release w b = absurd b
+segment_no_better granted f g s _ w b = b
 
 -- ---- items of a segment
 
@@ -84,9 +66,6 @@ pub items_moved : (granted : Granted) (f : MessageFacts) (t : Template) (count :
     → (asks_account r ≡ true → names_account (form_of granted.orders t.kind t.version) ≡ true → X ≡ Y)
     → (is_tan_order t.kind ≡ true → X ≡ Y)
     → SegmentBreaks granted f r (template_facts t count X) → SegmentBreaks granted f r (template_facts t count Y)
-items_moved granted f t count X Y rule.Version account process b = b
-items_moved granted f t count X Y rule.Orders account process b = b
-items_moved granted f t count X Y rule.Listed account process b = b
 items_moved granted f t count X Y rule.Signatures account process (inl b) = inl b
 items_moved granted f t count X Y rule.Signatures account process (inr (plain, (who, names, more))) =
     let same = account refl (formed granted.orders (template_facts t count X) who names) in
@@ -99,25 +78,11 @@ items_moved granted f t count X Y rule.Tan account process (inl b) = inl b
 items_moved granted f t count X Y rule.Tan account process (inr ((tan, two), has)) = inr ((tan, ap (λ (items : List (List ℕ)). get_or items 0 []) (sym (process tan)) ∙ two), has)
 items_moved granted f t count X Y rule.Procedure account process (inl ((tan, four), takes, several)) = inl ((tan, ap (λ (items : List (List ℕ)). get_or items 0 []) (sym (process tan)) ∙ four), takes, several)
 items_moved granted f t count X Y rule.Procedure account process (inr b) = inr b
-items_moved granted f t count X Y rule.Protocol account process b = absurd b
-items_moved granted f t count X Y rule.Number account process b = absurd b
-items_moved granted f t count X Y rule.Size account process b = absurd b
-items_moved granted f t count X Y rule.Kinds account process b = absurd b
-items_moved granted f t count X Y rule.Release account process b = absurd b
+items_moved granted f t count X Y _ account process b = b
 
 -- ---- accounts
 
 -- a rule that asks for an account is broken by no TAN
 pub asks_least : (r : Rule) → asks_account r ≡ true → wants_tan r ≡ false
-asks_least rule.Signatures h = refl
-asks_least rule.Account h = refl
-asks_least rule.Version h = absurd cc
-asks_least rule.Orders h = absurd cc
-asks_least rule.Listed h = absurd cc
-asks_least rule.Tan h = absurd cc
-asks_least rule.Release h = absurd cc
 asks_least rule.Procedure h = absurd cc
-asks_least rule.Protocol h = absurd cc
-asks_least rule.Number h = absurd cc
-asks_least rule.Size h = absurd cc
-asks_least rule.Kinds h = absurd cc
+asks_least _ h = refl

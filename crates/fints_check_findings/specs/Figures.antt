@@ -1,6 +1,7 @@
--- The greatest number and size of a step's messages over all runs.
+-- The greatest number and size of a step's messages over all runs, and what P2 and P3 are asked of there.
 use Rattle.std.specs.Prelude.{ℕ, ◌≡◌, ◌≤◌, List, length, Option, Some, None}
 use Rattle.fints_script_cases.specs.declared.values.NamedValue.{NamedValue}
+use Rattle.fints_rules.specs.declared.facts.Figures.{Figures}
 use Rattle.fints_script.specs.Numbered.{numbered}
 use Rattle.fints_script.specs.Plans.{Admits}
 use Rattle.fints_script.specs.Scripts.{ScriptValue}
@@ -14,6 +15,10 @@ pub record IsSentOf (script : ScriptValue) (n : ℕ) (m : Sent) : Type 0 where
   pub admitted : Admits script.fields values
   pub sends : SendsLast script values m
   pub of : m.step ≡ n
+
+-- what P2 and P3 are asked of there
+abbrev pub reached_figures : Reached → Figures
+reached_figures r = record { number = r.number; size = r.size }
 
 -- one message has both figures, and none exceeds them
 pub record AreGreatestFigures (script : ScriptValue) (n : ℕ) (figures : Reached) : Type 0 where

@@ -1,7 +1,8 @@
 -- Which findings are real, and when every message of every run is permitted.
 use Rattle.std.specs.Prelude.{ℕ, ◌≡◌, ◌<◌, ◌⊎◌, ◌↔◌, List, Some, AllPairs, Contains}
 use Rattle.std.specs.List.{AllByRecursion}
-use Rattle.fints_rules.specs.Breaks.{BytesBreak, BytesBreakAfter, Permitted, PermittedAfter, rule_number}
+use Rattle.fints_rules.specs.Breaks.{BytesBreak, BytesBreakAfter, Permitted, PermittedAfter}
+use Rattle.fints_rules.specs.Rules.{rule_number}
 use Rattle.fints_rules_permissions.specs.Permits.{Granted}
 use Rattle.fints_rules.specs.declared.rule.Rule.{Rule}
 use Rattle.fints_script_cases.specs.Answers.{IsAnswer}
@@ -56,7 +57,7 @@ EachIsPermitted granted script =
     (values : List NamedValue) (answers : List (List ℕ)) (sent : List Sent) → Admits script.fields values → AllByRecursion IsAnswer answers → Run script values answers sent
     → EachAfter (IsPermittedBehind granted) at_first sent answers
 
--- a step of which some run sends a message breaks by itself no rule other than P2 and P3, at any number
+-- what the messages of a step hold of which some run sends one breaks no rule, at any number
 abbrev pub SentStepsAreClean : Granted → ScriptValue → Type 0
 SentStepsAreClean granted script = (n : ℕ) (step : StepValue) (m : Sent) → numbered script.steps n ≡ Some step → IsSentOf script n m → IsCleanStep granted script step
 

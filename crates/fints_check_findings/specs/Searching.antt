@@ -1,9 +1,9 @@
 -- What a search for findings tells on its way, and how far it has come. Private contracts alone cite these words.
-use Rattle.std.specs.Prelude.{ℕ, ◌≡◌, ◌≤◌, ◌<◌, ◌⊎◌, ◌↔◌, List, length, AllPairs, Contains, Some, Bool, false, IsTrue}
+use Rattle.std.specs.Prelude.{ℕ, ◌≡◌, ◌≤◌, ◌<◌, ◌⊎◌, ◌↔◌, List, length, AllPairs, Contains, Some}
 use Rattle.fints_script_cases.specs.declared.values.NamedValue.{NamedValue}
-use Rattle.fints_rules.specs.Breaks.{Breaks, rule_number}
+use Rattle.fints_rules.specs.Breaks.{Breaks}
+use Rattle.fints_rules.specs.Rules.{rule_number}
 use Rattle.fints_rules_permissions.specs.Permits.{Granted}
-use Rattle.fints_rules.specs.declared.facts.MessageFacts.{MessageFacts}
 use Rattle.fints_rules.specs.declared.rule.Rule.{Rule}
 use Rattle.fints_rules.specs.declared.rule.Rule.TheVariants.{Release}
 use Rattle.fints_script.specs.Numbered.{numbered}
@@ -15,7 +15,6 @@ use Rattle.fints_wire.specs.Messages.{message_bytes}
 use Rattle.fints_wire.specs.Runs.{Arrives}
 use Rattle.fints_wire.specs.declared.dialogue.Visit.{Visit}
 use Rattle.fints_wire.specs.Views.{message_view}
-use Rattle.fints_check_findings.specs.Breakable.{CanBreak, IsOther, NeverBreaks}
 use Rattle.fints_check_findings.specs.Findings.{IsBefore, IsReal}
 use Rattle.fints_check_findings.specs.declared.finding.Finding.{Finding}
 use Rattle.fints_wire.specs.declared.building.TheConstants.{MAX_NUMBER}
@@ -42,38 +41,10 @@ pub record BreaksUnder (granted : Granted) (script : ScriptValue) (step : StepVa
   pub admitted : Admits script.fields values
   pub breaks : Breaks granted (message_view script step number values) rule place
 
--- if it is told, some admitted values make the message of step n, of this number, break the rule at the place
-abbrev pub BreaksIfTold : Granted → ScriptValue → ℕ → ℕ → Rule → ℕ → Bool → Type 0
-BreaksIfTold granted script n number rule place told = (step : StepValue) → numbered script.steps n ≡ Some step → IsTrue told → BreaksUnder granted script step number rule place
-
--- it is told if some admitted values make a message of step n, of this number or a lower one, break the rule at the place
-abbrev pub IsToldIfBroken : Granted → ScriptValue → ℕ → ℕ → Rule → ℕ → Bool → Type 0
-IsToldIfBroken granted script n number rule place told =
-    (step : StepValue) (values : List NamedValue) (lower : ℕ) → numbered script.steps n ≡ Some step → Admits script.fields values → 1 ≤ lower → lower ≤ number
-    → Breaks granted (message_view script step lower values) rule place → IsTrue told
-
--- if it is told of a rule other than P2 and P3, some admitted values make the step's message break the rule at the place, at every number
-abbrev pub CanBreakIfTold : Granted → ScriptValue → ℕ → Rule → ℕ → Bool → Type 0
-CanBreakIfTold granted script n r place told = (step : StepValue) → numbered script.steps n ≡ Some step → IsOther r → IsTrue told → CanBreak granted script step r place
-
--- it is told if some admitted values make the step's message break a rule other than P2 and P3 at the place, at any number
-abbrev pub IsToldIfBreaks : Granted → ScriptValue → ℕ → Rule → ℕ → Bool → Type 0
-IsToldIfBreaks granted script n r place told =
-    (step : StepValue) (number : ℕ) (values : List NamedValue) → numbered script.steps n ≡ Some step → IsOther r → Admits script.fields values
-    → Breaks granted (message_view script step number values) r place → IsTrue told
-
--- it is told exactly where no admitted values make the step's message break the rule, anywhere and at any number
-abbrev pub IsToldIfNeverBreaks : Granted → ScriptValue → ℕ → Rule → Bool → Type 0
-IsToldIfNeverBreaks granted script n r told = (step : StepValue) → numbered script.steps n ≡ Some step → IsTrue told ↔ NeverBreaks granted script step r
-
 -- the number is that of a message of step n that some run sends last, and no run's last message of it exceeds it
 pub record IsGreatestAt (steps : List StepValue) (n number : ℕ) : Type 0 where
   pub attained : (v : Visit) × Arrives steps v × (v.step ≡ n) × (v.number ≡ number)
   pub most : (v : Visit) → Arrives steps v → v.step ≡ n → v.number ≤ number
-
--- what the rules that hang on the number and the size ask of messages with these figures; they ask nothing else
-abbrev pub facts_at : Reached → MessageFacts
-facts_at figures = record { protocol = Some 300; number = figures.number; size = figures.size; kinds = 0; signatures = 0; submits = false; sends = false; ends = false; has_tan = false; has_tan_order = false; demanding = 0 }
 
 -- if the finding is real, the values are admitted, and at the step's greatest number they make its message break the finding's rule at its segment
 abbrev pub BreaksAtGreatest : Granted → ScriptValue → Finding → List NamedValue → Type 0

@@ -5,19 +5,18 @@ use Rattle.std.specs.Set.{distinct_count}
 use Rattle.std.specs.Str.{bytes_eq}
 use Rattle.fints_script_cases.specs.declared.values.NamedValue.{NamedValue}
 use Rattle.fints_script_rows.specs.declared.fields.NamedField.{NamedField}
-use Rattle.fints_rules.specs.Breaks.{Breaks}
+use Rattle.fints_rules.specs.Breaks.{BreaksByContent}
 use Rattle.fints_rules_permissions.specs.Permits.{Granted}
 use Rattle.fints_rules.specs.Rules.{MessageBreaks, SegmentBreaks}
 use Rattle.fints_rules.specs.declared.facts.MessageFacts.{MessageFacts}
 use Rattle.fints_rules.specs.declared.rule.Rule.{Rule}
-use Rattle.fints_script.specs.Numbered.{numbered}
 use Rattle.fints_script.specs.Plans.{Admits, IsClosedTemplate}
 use Rattle.fints_script.specs.Scripts.{ScriptValue}
 use Rattle.fints_script.specs.Sound.{IsSound, IsSoundStep}
 use Rattle.fints_script.specs.Steps.{StepValue}
 use Rattle.fints_script_templates.specs.declared.template.Template.{Template}
 use Rattle.fints_wire.specs.Views.{message_view}
-use Rattle.fints_check_findings.specs.Breakable.{CanBreak, IsOther}
+use Rattle.fints_check_findings.specs.Breakable.{CanBreak}
 use Rattle.fints_check_findings.specs.Choosing.{BreaksWith, IsChoice, TemplateBreaksWith}
 use Rattle.fints_check_findings.specs.Elements.{accounts_asked, has_process, literals, template_facts, wants_tan}
 use Rattle.fints_check_findings.specs.Kinds.{AreCounts, demanding_count, is_end, is_tan_segment, template_count, template_kinds}
@@ -27,7 +26,7 @@ use Rattle.fints_check_findings.specs.declared.step_facts.StepFacts.{StepFacts}
 
 -- ---- facts
 
--- those of the whole message, but for the number and the size; a TAN is there where some choice fills it, or where no choice leaves it empty
+-- those of the whole message; a TAN is there where some choice fills it, or where no choice leaves it empty
 pub record AreMessageFacts (granted : Granted) (script : ScriptValue) (step : StepValue) (most : Bool) (f : MessageFacts) : Type 0 where
   pub protocol : f.protocol ≡ Some 300
   pub kinds : f.kinds ≡ distinct_count bytes_eq (template_kinds step.templates)
@@ -43,10 +42,6 @@ pub record AreStepFacts (granted : Granted) (script : ScriptValue) (step : StepV
   pub least : AreMessageFacts granted script step false f.least
   pub most : AreMessageFacts granted script step true f.most
   pub counts : AreCounts step.templates f.counts
-
--- those of step n
-abbrev pub AreFactsOf : Granted → ScriptValue → ℕ → StepFacts → Type 0
-AreFactsOf granted script n f = (step : StepValue) → numbered script.steps n ≡ Some step → AreStepFacts granted script step f
 
 -- those of which a rule is asked
 abbrev pub message_for : StepFacts → Bool → MessageFacts
@@ -86,11 +81,11 @@ IsStepChoice granted fields step f r place choice = StepBreaks granted fields st
 pub record Decides (granted : Granted) (script : ScriptValue) (step : StepValue) (r : Rule) (f : MessageFacts) : Type 0 where
   pub some : (place : ℕ) → StepBreaks granted script.fields step f r place → CanBreak granted script step r place
   pub chosen : (place : ℕ) (choice : Option SetAccount) (values : List NamedValue) → BreaksWith granted script.fields step f r place choice → IsChoice (wants_tan r) script.fields choice values
-      → Admits script.fields values × ((number : ℕ) → Breaks granted (message_view script step number values) r place)
-  pub each : (number : ℕ) (values : List NamedValue) (place : ℕ) → Admits script.fields values → Breaks granted (message_view script step number values) r place → StepBreaks granted script.fields step f r place
+      → Admits script.fields values × ((number : ℕ) → BreaksByContent granted (message_view script step number values) r place)
+  pub each : (number : ℕ) (values : List NamedValue) (place : ℕ) → Admits script.fields values → BreaksByContent granted (message_view script step number values) r place → StepBreaks granted script.fields step f r place
 
 abbrev pub TemplatesDecide : Type 0
 TemplatesDecide =
     (script : ScriptValue) (granted : Granted) (step : StepValue) (r : Rule) (f : MessageFacts) → IsSound script → IsSoundStep script step
     → ((i : ℕ) (t : Template) → slice_get step.templates i ≡ Some t → IsClosedTemplate script.fields granted.orders t)
-    → IsOther r → AreMessageFacts granted script step (wants_tan r) f → Decides granted script step r f
+    → AreMessageFacts granted script step (wants_tan r) f → Decides granted script step r f

@@ -1,5 +1,7 @@
 //! Findings, and the figures of reached steps.
-use fints_rules::Rule;
+ghost use Rattle.std.specs.Prelude.{◌≡◌};
+
+use fints_rules::{Figures, Rule};
 
 /// A rule that some run breaks: at which step, counted from 1, and at which segment, by its number
 /// in the message; 0 is the whole message.
@@ -15,4 +17,17 @@ pub struct Finding {
 pub struct Reached {
     pub number: u32,
     pub size: u64,
+}
+
+impl Reached {
+    /// What P2 and P3 ask of a message of this number and length.
+    pub fn figures(self) -> Figures
+        ensures { result ≡ reached_figures self }
+    {
+        ghost use Rattle.fints_check_findings.specs.Figures.{reached_figures};
+        Figures {
+            number: u64::from(self.number),
+            size: self.size,
+        }
+    }
 }

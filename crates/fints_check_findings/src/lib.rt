@@ -1,6 +1,7 @@
 //! The checker: which rules the runs of a plan break, and the greatest figures of its steps.
 #![tactic(auto)]
 
+mod at_step;
 mod casing;
 mod choosing;
 mod confirming;
@@ -12,14 +13,13 @@ mod releasing;
 mod report;
 mod searching;
 mod step_facts;
-mod stepping;
 mod tans;
 mod templates;
 
+pub use at_step::AtStep;
 pub use confirming::confirm;
 pub use finding::{Finding, Reached};
 pub use fints_syntax::Memory;
 pub use laws::release_is_left;
 pub use releasing::is_released_step;
 pub use report::{Report, check};
-pub use stepping::is_clean_step;

@@ -12,10 +12,11 @@ ghost use Rattle.fints_check_findings.specs.declared.finding.Finding.{Finding as
 ghost use Rattle.fints_wire.specs.declared.building.TheConstants.{MAX_NUMBER};
 ghost use Rattle.fints_rules.specs.declared.rule.Rule.TheVariants.{Release};
 
+use crate::at_step::AtStep;
 use crate::casing::case_values;
 use crate::finding::{Finding, Reached};
 use crate::releasing::{holder_of, holders, release_code, submitting};
-use crate::searching::search_step;
+use crate::searching::SentStep;
 use fints_check_reach::{Numbers, greatest_numbers, longest_way, way_behind};
 use fints_rules::{Permissions, Rule};
 use fints_script::{Answer, Case, Plan, Values};
@@ -83,9 +84,9 @@ impl<'a> Report<'a> {
         self.findings.as_slice()
     }
 
-    /// What each report keeps: its findings are exactly the real ones, and without any no step that runs
-    /// send can break a rule other than P2 and P3, at any number, or leaves an order of another that
-    /// runs send unreleased.
+    /// What each report keeps: its findings are exactly the real ones, and without any what the
+    /// messages of steps hold that runs send breaks no rule, at any number, and none of these steps
+    /// leaves an order of another unreleased.
     pub fn keeps(&self)
         ensures exactly { AreFindings self.now.granted self.now.plan.script self.now.findings }
         ensures clean { self.now.findings ≡ [] → SentStepsAreClean self.now.granted self.now.plan.script }
@@ -214,14 +215,8 @@ pub fn check<'a>(
             None => None,
             Some(number) => {
                 let reached = figures_at(plan, i + 1, number);
-                search_step(
-                    permissions,
-                    plan,
-                    i + 1,
-                    reached,
-                    holders[i].is_some(),
-                    &mut findings,
-                )?;
+                let step = AtStep::new(permissions, plan, i + 1);
+                SentStep::new(step, reached, holders[i].is_some()).search(&mut findings)?;
                 Some(reached)
             }
         };

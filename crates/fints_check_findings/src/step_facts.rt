@@ -1,7 +1,7 @@
 //! What the rules ask of a step's message, found once for the step.
 ghost use Rattle.std.specs.Prelude.{◌≡◌, ◌<◌, ◌≤◌, true, false, length, slice_index};
 ghost use Rattle.fints_check_findings.specs.Elements.{wants_tan};
-ghost use Rattle.fints_check_findings.specs.StepFacts.{AreFactsOf, AreMessageFacts, message_for};
+ghost use Rattle.fints_check_findings.specs.StepFacts.{AreMessageFacts, AreStepFacts, message_for};
 
 use crate::kinds::{
     MAX_SEGMENTS, count_demanding, count_kinds, kind_counts, some_ends, some_tan_order,
@@ -21,8 +21,7 @@ pub fn wants_tan(rule: Rule) -> bool
 /// The facts of a step's message, as far as the step tells them.
 #[derive(Drop)]
 pub struct StepFacts {
-    /// Those of the whole message, with a TAN where no choice leaves it empty. The number is 1 and the
-    /// size 0, whatever those of a message are.
+    /// Those of the whole message, with a TAN where no choice leaves it empty.
     pub least: MessageFacts,
     /// The same, with a TAN where some choice fills it.
     pub most: MessageFacts,
@@ -57,8 +56,6 @@ fn message_facts(permissions: &Permissions<'_>, plan: &Plan<'_>, step: &Step) ->
     let templates = step.templates();
     MessageFacts {
         protocol: Some(300),
-        number: 1,
-        size: 0,
         kinds: count_kinds(templates),
         signatures: step.signers().len(),
         submits: some_has_process(templates, b"4"),
@@ -85,13 +82,11 @@ fn with_most_tans(
     most
 }
 
-/// The facts of step n. It takes no memory.
-pub fn step_facts(permissions: &Permissions<'_>, plan: &Plan<'_>, n: usize) -> StepFacts
-    requires from { 1 ≤ n }
-    requires to { n ≤ length plan.now.script.steps }
-    ensures { AreFactsOf permissions.now plan.now.script n result }
+/// The facts of a step. It takes no memory.
+pub fn step_facts(permissions: &Permissions<'_>, plan: &Plan<'_>, step: &Step) -> StepFacts
+    requires few { length step.now.templates ≤ 100 }
+    ensures { AreStepFacts permissions.now plan.now.script step.now result }
 {
-    let step = plan.step(n);
     let least = message_facts(permissions, plan, step);
     StepFacts {
         least,

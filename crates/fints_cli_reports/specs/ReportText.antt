@@ -3,7 +3,7 @@ use Rattle.std.specs.Prelude.{◌≡◌, ℕ, List, [], ◌∷◌, ◌++◌, len
 use Rattle.std.specs.List.{flat_map}
 use Rattle.std.specs.Fmt.{decimal}
 use Rattle.fints_rules_permissions.specs.Permits.{Granted}
-use Rattle.fints_rules.specs.RuleNames.{rule_name}
+use Rattle.fints_rules.specs.Rules.{rule_name}
 use Rattle.fints_script.specs.Scripts.{ScriptValue}
 use Rattle.fints_script.specs.Steps.{StepValue}
 use Rattle.fints_check_findings.specs.Figures.{AreFigures}

@@ -13,7 +13,7 @@ use Rattle.fints_rules.specs.Breaks.{IsJudged}
 use Rattle.fints_rules_messages.specs.Messages.{IsNoMessage}
 use Rattle.fints_rules_messages.specs.declared.message.JudgeFault.{JudgeFault}
 use Rattle.fints_rules_messages.specs.declared.message.JudgeFault.TheVariants as message_faults
-use Rattle.fints_rules.specs.RuleNames.{rule_name}
+use Rattle.fints_rules.specs.Rules.{rule_name}
 use Rattle.fints_cli_texts.specs.declared.fault.Fault.{Fault}
 use Rattle.fints_cli_texts.specs.declared.fault.Fault.TheVariants.{Memory, Params, Orders, Message}
 

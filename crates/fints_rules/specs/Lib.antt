@@ -1,4 +1,3 @@
-pub mod RuleNames
 pub mod SegmentFacts
 pub mod Rules
 pub mod Facts

@@ -1,0 +1,41 @@
+-- A step as the rules are asked of it, and one that runs send. Private contracts and models alone cite these words.
+use Rattle.std.specs.Prelude.{ℕ, ◌≡◌, ◌↔◌, Bool, Some, slice_get, IsTrue}
+use Rattle.fints_rules_permissions.specs.Permits.{Granted}
+use Rattle.fints_script.specs.Numbered.{numbered}
+use Rattle.fints_script.specs.Plans.{IsClosedTemplate}
+use Rattle.fints_script.specs.Scripts.{ScriptValue}
+use Rattle.fints_script.specs.Sound.{IsSound, IsSoundStep}
+use Rattle.fints_script.specs.Steps.{StepValue}
+use Rattle.fints_script_templates.specs.declared.template.Template.{Template}
+use Rattle.fints_check_findings.specs.Findings.{IsReal}
+use Rattle.fints_check_findings.specs.Laws.{release_of}
+use Rattle.fints_check_findings.specs.Searching.{AreFiguresAt, IsGreatestAt}
+use Rattle.fints_check_findings.specs.StepFacts.{AreStepFacts}
+use Rattle.fints_check_findings.specs.declared.finding.Reached.{Reached}
+use Rattle.fints_check_findings.specs.declared.step_facts.StepFacts.{StepFacts}
+
+-- under what it is asked, of which script, its number and itself
+pub record AtStepValue : Type 0 where
+  pub granted : Granted
+  pub script : ScriptValue
+  pub n : ℕ
+  pub step : StepValue
+
+-- the script's step of that number, no account and process of which is left open, and its facts
+pub record IsAtStep (granted : Granted) (script : ScriptValue) (n : ℕ) (step : StepValue) (facts : StepFacts) : Type 0 where
+  pub at : numbered script.steps n ≡ Some step
+  pub sound : IsSound script
+  pub sound_step : IsSoundStep script step
+  pub closed : (i : ℕ) (t : Template) → slice_get step.templates i ≡ Some t → IsClosedTemplate script.fields granted.orders t
+  pub facts : AreStepFacts granted script step facts
+
+-- a step that runs send, its greatest figures, and whether it leaves an order unreleased
+pub record SentStepValue : Type 0 where
+  pub at : AtStepValue
+  pub figures : Reached
+  pub unreleased : Bool
+
+pub record IsSentStep (s : AtStepValue) (figures : Reached) (unreleased : Bool) : Type 0 where
+  pub figures_are : AreFiguresAt s.script s.step figures
+  pub greatest : IsGreatestAt s.script.steps s.n figures.number
+  pub left : IsTrue unreleased ↔ IsReal s.granted s.script (release_of s.n)
