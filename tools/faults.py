@@ -521,7 +521,7 @@ def one_test(lab, program, test):
 
 def calls(lab):
     # Not those of whole commands: what they show are statuses, and part 1 tries commands.
-    programs = sorted(set(glob.glob(f"{lab.tests}/*/out/*_tests_tests")) - {f"{lab.tests}/fints_cli_tests/out/fints_tests_tests"})
+    programs = sorted(set(glob.glob(f"{lab.tests}/*/out/*_tests_tests")) - {f"{lab.tests}/fints_cli_tests/out/fints_cli_tests_tests"})
     lab.note(programs, "no tests are built", lab.tests, ["ls"])
     jobs = []
     for program in programs:
