@@ -1,7 +1,8 @@
 #!/usr/bin/env python3
 """Counts what bodies say for a proof's sake alone: calls of laws, and calls whose result is thrown
-away under a name (`let _count = plan.step_count();`). There are to be none: a proof cites the lemma of a
-law by its name, and what an object keeps is said by its method `keeps`.
+away under a name (`let _count = plan.step_count();`; one that may refuse, with `?`, is called for its
+refusal). There are to be none: a proof cites the lemma of a law by its name, and what an object keeps is
+said by its method `keeps`.
 
 Usage: tools/bodies.py
 """
@@ -26,7 +27,7 @@ for path, text in sources.items():
         called = re.match(r"\s+(?:\w+::)*(\w+)\(\);$", line)
         if called and called[1] in laws:
             found.append(f"{path}:{number}: calls the law {called[1]}")
-        if re.match(r"\s+let _\w+ = .*\(.*\)\??;$", line):
+        if re.match(r"\s+let _\w+ = .*\(.*\);$", line):
             found.append(f"{path}:{number}: {line.strip()}")
 for line in found:
     print(line, file=sys.stderr)

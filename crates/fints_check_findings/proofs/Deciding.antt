@@ -1,5 +1,5 @@
 -- The facts of a step decide what some choice makes its message break.
-use Rattle.std.proofs.Common.{ℕ, ◌+◌, ◌<◌, ◌≡◌, Bool, true, false, List, length, Option, Some, refl, ap, sym, subst, ◌∙◌, inl, inr}
+use Rattle.std.proofs.Common.{ℕ, ◌+◌, ◌<◌, ◌≡◌, Bool, true, false, List, length, Option, Some, ap, sym, subst, ◌∙◌, inl, inr}
 use Rattle.std.specs.Prelude.{codes, ◌↔◌, IsTrue}
 use Rattle.std.specs.List.{slice_get}
 use Rattle.std.specs.Set.{distinct_count}

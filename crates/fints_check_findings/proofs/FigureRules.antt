@@ -1,5 +1,5 @@
 -- The two rules that hang on a message's number and size, P2 and P3: what messages of a step with its greatest figures break.
-use Rattle.std.proofs.Common.{ℕ, ◌≤◌, ◌≡◌, ◌⊎◌, List, length, refl, arith, inl, inr}
+use Rattle.std.proofs.Common.{ℕ, ◌≤◌, ◌≡◌, ◌⊎◌, List, refl, arith, inl, inr}
 use Rattle.std.specs.Prelude.{Any}
 use Rattle.fints_syntax_segments.specs.declared.item.OwnedSegment.{OwnedSegment}
 use Rattle.fints_params.specs.declared.rows.BankRow.{BankRow}

@@ -18,3 +18,5 @@ pub mod Leaving
 pub mod Holding
 pub mod CaseLemmas
 pub mod LawLemmas
+pub mod AtSteps
+pub mod SentSteps

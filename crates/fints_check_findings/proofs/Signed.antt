@@ -11,7 +11,7 @@ use Rattle.std.proofs.lemmas.Option.{slice_get-get_or}
 use Rattle.fints_syntax_segments.specs.declared.item.OwnedItem.{OwnedItem}
 use Rattle.fints_syntax_segments.specs.Segment.{item_value}
 use Rattle.fints_syntax_segments.specs.Values.{value_at}
-use Rattle.fints_script_fields.specs.Fields.{field_accounts, field_domain, field_longest, field_written}
+use Rattle.fints_script_fields.specs.Fields.{field_accounts, field_domain}
 use Rattle.fints_script_fields.specs.declared.field.Field.{Field as Class}
 use Rattle.fints_script_fields.specs.declared.field.Field.TheVariants as classes
 use Rattle.fints_script_rows.specs.NamedFields.{is_account, is_account_at}

@@ -1,12 +1,16 @@
 -- A step as the rules are asked of it, and one that runs send. Private contracts and models alone cite these words.
-use Rattle.std.specs.Prelude.{ℕ, ◌≡◌, ◌↔◌, Bool, Some, slice_get, IsTrue}
+use Rattle.std.specs.Prelude.{ℕ, ◌≡◌, ◌⊎◌, ◌↔◌, Bool, Some, slice_get, IsTrue}
 use Rattle.fints_rules_permissions.specs.Permits.{Granted}
+use Rattle.fints_rules.specs.Rules.{FiguresBreak}
+use Rattle.fints_rules.specs.declared.rule.Rule.{Rule}
+use Rattle.fints_rules.specs.declared.rule.Rule.TheVariants.{Release}
 use Rattle.fints_script.specs.Numbered.{numbered}
 use Rattle.fints_script.specs.Plans.{IsClosedTemplate}
 use Rattle.fints_script.specs.Scripts.{ScriptValue}
 use Rattle.fints_script.specs.Sound.{IsSound, IsSoundStep}
 use Rattle.fints_script.specs.Steps.{StepValue}
 use Rattle.fints_script_templates.specs.declared.template.Template.{Template}
+use Rattle.fints_check_findings.specs.Figures.{reached_figures}
 use Rattle.fints_check_findings.specs.Findings.{IsReal}
 use Rattle.fints_check_findings.specs.Laws.{release_of}
 use Rattle.fints_check_findings.specs.Searching.{AreFiguresAt, IsGreatestAt}
@@ -27,7 +31,7 @@ pub record IsAtStep (granted : Granted) (script : ScriptValue) (n : ℕ) (step :
   pub sound : IsSound script
   pub sound_step : IsSoundStep script step
   pub closed : (i : ℕ) (t : Template) → slice_get step.templates i ≡ Some t → IsClosedTemplate script.fields granted.orders t
-  pub facts : AreStepFacts granted script step facts
+  pub facts_are : AreStepFacts granted script step facts
 
 -- a step that runs send, its greatest figures, and whether it leaves an order unreleased
 pub record SentStepValue : Type 0 where
@@ -39,3 +43,7 @@ pub record IsSentStep (s : AtStepValue) (figures : Reached) (unreleased : Bool) 
   pub figures_are : AreFiguresAt s.script s.step figures
   pub greatest : IsGreatestAt s.script.steps s.n figures.number
   pub left : IsTrue unreleased ↔ IsReal s.granted s.script (release_of s.n)
+
+-- its figures break the rule, or it is P11 and an order is left unreleased
+abbrev pub BreaksAsSent : SentStepValue → Rule → Type 0
+BreaksAsSent s r = FiguresBreak s.at.granted.rows.bank (reached_figures s.figures) r ⊎ ((r ≡ Release) × IsTrue s.unreleased)

@@ -13,8 +13,8 @@ ghost use Rattle.fints_check_findings.specs.Elements.{wants_tan};
 
 use crate::choosing::{SetAccount, step_choice};
 use crate::step_facts::{StepFacts, step_facts};
-use crate::templates::template_breaks_at;
-use fints_rules::{Permissions, Rule, message_breaks};
+use crate::templates::step_breaks;
+use fints_rules::{Permissions, Rule};
 use fints_script::{Plan, Step};
 use std::marker::Model;
 
@@ -72,7 +72,7 @@ impl<'a> AtStep<'a> {
         ensures sound { IsSound self.now.script }
         ensures sound_step { IsSoundStep self.now.script self.now.step }
     {
-        let _ = self.n;
+        self.plan.keeps();
     }
 
     /// Under what the rules are asked.
@@ -107,15 +107,14 @@ impl<'a> AtStep<'a> {
         ensures each { (number : ℕ) (values : List NamedValue) → Admits self.now.script.fields values
             → BreaksByContent self.now.granted (message_view self.now.script self.now.step number values) rule place → IsTrue result }
     {
-        (place == 0 && message_breaks(self.permissions, self.facts.message(rule), rule))
-            || template_breaks_at(
-                self.permissions,
-                self.plan.fields(),
-                self.step,
-                &self.facts,
-                rule,
-                place,
-            )
+        step_breaks(
+            self.permissions,
+            self.plan.fields(),
+            self.step,
+            &self.facts,
+            rule,
+            place,
+        )
     }
 
     // Whether it can't break the rule anywhere.
@@ -151,7 +150,7 @@ impl<'a> AtStep<'a> {
             → BreaksByContent self.now.granted (message_view self.now.script self.now.step lower other) rule place
             → IsChoice (wants_tan rule) self.now.script.fields result values
             → Admits self.now.script.fields values
-              × ((number : ℕ) → BreaksByContent self.now.granted (message_view self.now.script self.now.step number values) rule place) }
+            × ((number : ℕ) → BreaksByContent self.now.granted (message_view self.now.script self.now.step number values) rule place) }
     {
         step_choice(
             self.permissions,

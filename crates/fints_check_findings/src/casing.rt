@@ -28,7 +28,8 @@ pub fn case_values(
     plan.keeps();
     match finding.rule {
         Rule::Size => values_of(alloc, plan, CaseValues::Worst),
-        Rule::Number | Rule::Release => values_of(alloc, plan, CaseValues::Least),
+        Rule::Number => values_of(alloc, plan, CaseValues::Least),
+        Rule::Release => values_of(alloc, plan, CaseValues::Least),
         _ => {
             let step = AtStep::new(permissions, plan, finding.step as usize);
             let choice = step.choice(finding.rule, finding.segment as usize);

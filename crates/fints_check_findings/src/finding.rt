@@ -20,11 +20,12 @@ pub struct Reached {
 }
 
 impl Reached {
+    ghost use Rattle.fints_check_findings.specs.Figures.{reached_figures};
+
     /// What P2 and P3 ask of a message of this number and length.
     pub fn figures(self) -> Figures
         ensures { result ≡ reached_figures self }
     {
-        ghost use Rattle.fints_check_findings.specs.Figures.{reached_figures};
         Figures {
             number: u64::from(self.number),
             size: self.size,

@@ -1,8 +1,7 @@
 //! The search for findings: of each reached step each rule, at each place.
 ghost use Rattle.std.specs.Prelude.{◌≡◌, ◌↔◌, ◌<◌, ◌≤◌, ◌⊎◌, ◌+◌, Some, length, IsTrue, OnOk};
-ghost use Rattle.fints_rules.specs.Rules.{rule_number, FiguresBreak};
-ghost use Rattle.fints_rules.specs.declared.rule.Rule.TheVariants.{Release};
-ghost use Rattle.fints_check_findings.specs.Figures.{reached_figures};
+ghost use Rattle.fints_rules.specs.Rules.{rule_number};
+ghost use Rattle.fints_check_findings.specs.AtStep.{BreaksAsSent};
 ghost use Rattle.fints_check_findings.specs.Findings.{IsReal};
 ghost use Rattle.fints_check_findings.specs.Laws.{release_of};
 ghost use Rattle.fints_check_findings.specs.Searching.{AreFiguresAt, AreFoundTo, IsGreatestAt};
@@ -49,7 +48,7 @@ impl<'a> SentStep<'a> {
         requires figures { AreFiguresAt at.script at.step figures }
         requires greatest { IsGreatestAt at.script.steps at.n figures.number }
         requires unreleased { IsTrue unreleased ↔ IsReal at.granted at.script (release_of at.n) }
-        ensures { result.at ≡ at }
+        ensures { result.at ≡ at.entry }
     {
         SentStep {
             at,
@@ -60,10 +59,16 @@ impl<'a> SentStep<'a> {
 
     // Whether messages of its figures break the rule, or it is P11 and an order is left unreleased.
     fn breaks_whole(&self, rule: Rule) -> bool
-        ensures { IsTrue result ↔ (FiguresBreak self.now.at.granted.rows.bank (reached_figures self.now.figures) rule ⊎ ((rule ≡ Release) × IsTrue self.now.unreleased)) }
+        ensures { IsTrue result ↔ BreaksAsSent self.now rule }
     {
         figures_break(self.at.permissions().bank(), self.figures.figures(), rule)
             || (self.unreleased && matches!(rule, Rule::Release))
+    }
+
+    fn breaks_at_zero(&self, rule: Rule, place: usize) -> bool
+        ensures { IsTrue result ↔ ((place ≡ 0) × BreaksAsSent self.now rule) }
+    {
+        place == 0 && self.breaks_whole(rule)
     }
 
     // Whether the rule at the place is a finding of the step.
@@ -71,7 +76,7 @@ impl<'a> SentStep<'a> {
         ensures { IsTrue result ↔ IsReal self.now.at.granted self.now.at.script (record { step = self.now.at.n; rule = rule; segment = place }) }
     {
         self.at.keeps();
-        (place == 0 && self.breaks_whole(rule)) || self.at.breaks(rule, place)
+        self.breaks_at_zero(rule, place) || self.at.breaks(rule, place)
     }
 
     // Adds the findings of a rule.

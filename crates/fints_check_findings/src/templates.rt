@@ -3,11 +3,11 @@ ghost use Rattle.std.specs.Prelude.{◌≡◌, ◌↔◌, IsTrue, Any, option_ma
 ghost use Rattle.fints_rules.specs.Rules.{SegmentBreaks};
 ghost use Rattle.fints_check_findings.specs.Elements.{accounts_asked, asks_account, template_facts, wants_tan};
 ghost use Rattle.fints_check_findings.specs.Kinds.{AreCounts};
-ghost use Rattle.fints_check_findings.specs.StepFacts.{TemplateBreaks, TemplateBreaksAt, message_for};
+ghost use Rattle.fints_check_findings.specs.StepFacts.{StepBreaks, TemplateBreaks, TemplateBreaksAt, message_for};
 
 use crate::elements::{element_two, listed_facts, listed_in, literal_facts};
 use crate::step_facts::StepFacts;
-use fints_rules::{MessageFacts, Permissions, Rule, segment_breaks};
+use fints_rules::{MessageFacts, Permissions, Rule, message_breaks, segment_breaks};
 use fints_script::{AccountValue, NamedField, Step, Template};
 
 // Whether the rule asks which account an order names.
@@ -92,8 +92,8 @@ pub fn template_at(step: &Step, i: usize) -> Option<&Template>
     step.templates().get(i)
 }
 
-/// Whether the segment of this number breaks the rule.
-pub fn template_breaks_at(
+// Whether the segment of this number breaks the rule.
+fn template_breaks_at(
     permissions: &Permissions<'_>,
     fields: &[NamedField],
     step: &Step,
@@ -122,4 +122,21 @@ pub fn template_breaks_at(
             )
         }
     }
+}
+
+/// Whether the step's facts break the rule at the place: 0 is the whole message, another place the
+/// number of a segment.
+pub fn step_breaks(
+    permissions: &Permissions<'_>,
+    fields: &[NamedField],
+    step: &Step,
+    facts: &StepFacts,
+    rule: Rule,
+    place: usize,
+) -> bool
+    requires { AreCounts step.now.templates facts.now.counts }
+    ensures { IsTrue result ↔ StepBreaks permissions.now fields.now step.now (message_for facts.now (wants_tan rule)) rule place }
+{
+    (place == 0 && message_breaks(permissions, facts.message(rule), rule))
+        || template_breaks_at(permissions, fields, step, facts, rule, place)
 }

@@ -49,7 +49,7 @@ fn judge_behind(
     ensures judged { IfOk result (λ reply. IsVerdictAfterBy permissions.now.rows permissions.now.orders before.now answer.now message.now reply.status reply.text.items) }
     ensures refused { IfErr result (λ f. IsRefusalOfThree before.now answer.now message.now f) }
 {
-    read_before(alloc, before)?;
+    let _earlier = read_before(alloc, before)?;
     let codes = read_answer(alloc, answer)?;
     let broken = judge_after(alloc, permissions, before, codes.as_slice(), message)?;
     let reply = verdict(alloc, broken.as_slice())?;

@@ -1,11 +1,16 @@
-use Rattle.std.proofs.Common.{◌≡◌, ◌∙◌, Bool, IfOk, ap, sym, subst}
+use Rattle.std.proofs.Common.{ℕ, ◌≡◌, ◌∙◌, Bool, List, IfOk, ap, sym, subst, inl, inr}
+use Rattle.std.proofs.lemmas.Option.{same_Some}
+use Rattle.fints_rules.specs.Breaks.{BreaksByContent}
+use Rattle.fints_script_cases.specs.declared.values.NamedValue.{NamedValue}
+use Rattle.fints_wire.specs.Views.{message_view}
+use Rattle.fints_check_findings.proofs.AtSteps.{from_same}
+use Rattle.fints_check_findings.proofs.FigureRules.{figures_rule}
 use Rattle.fints_script.specs.Plans.{Admits}
 use Rattle.fints_wire.specs.Choices.{longest_choice, shortest_choice}
 use Rattle.fints_check_findings.specs.Choosing.{AreOfSort, IsChoice, chosen_sort}
 use Rattle.fints_check_findings.specs.Elements.{wants_tan}
 use Rattle.fints_check_findings.specs.Searching.{AreCaseValues, BreaksAtGreatest}
 use Rattle.fints_check_findings.proofs.CaseLemmas.{if_ok, number_not, number_values, size_not, size_values, sort_is_choice}
-use Rattle.fints_check_findings.proofs.FigureRules.{other_rule}
 use Rattle.fints_check_findings.proofs.Reals.{AreWithin, LastMessages, NoneIsLonger, real_breaks}
 use Rattle.fints_rules_messages.proofs.LawLemmas.{one_message}
 use Rattle.fints_wire.proofs.LawLemmas.{extremes_are_admitted_longest, extremes_are_admitted_shortest, messages_are_read, none_is_longer_most}
@@ -54,18 +59,26 @@ returns-in_default c =
     let sound = c.keeps.ensures.sound in
     let last : LastMessages script = λ values m. last_messages script values m sound in
     let within : AreWithin script = λ v. visits_are_within script v sound in
-    let other = other_rule c.args.finding.rule c.in_default.not-Number c.in_default.not-Size in
-    let choice = c.choice_of-choice.result in
-    let sort : c.chosen_sort.result ≡ chosen_sort (wants_tan c.args.finding.rule) choice = c.chosen_sort.ensures ∙ ap (λ (most : Bool). chosen_sort most choice) c.wants_tan.ensures in
-    let is_choice : IfOk c.values_of-in_default.result (IsChoice (wants_tan c.args.finding.rule) script.fields choice) =
-    if_ok (AreOfSort script.fields (chosen_sort (wants_tan c.args.finding.rule) choice)) (IsChoice (wants_tan c.args.finding.rule) script.fields choice) c.values_of-in_default.result
-    (sort_is_choice (wants_tan c.args.finding.rule) script.fields choice) (subst (λ s. IfOk c.values_of-in_default.result (AreOfSort script.fields s)) sort c.values_of-in_default.ensures) in
-    if_ok (IsChoice (wants_tan c.args.finding.rule) script.fields choice) (AreCaseValues granted script c.args.finding) c.values_of-in_default.result
+    let f = c.args.finding in
+    let choice = c.choice-choice.result in
+    let sort : c.chosen_sort.result ≡ chosen_sort (wants_tan f.rule) choice = c.chosen_sort.ensures ∙ ap (λ (most : Bool). chosen_sort most choice) c.wants_tan.ensures in
+    let is_choice : IfOk c.values_of-in_default.result (IsChoice (wants_tan f.rule) script.fields choice) =
+    if_ok (AreOfSort script.fields (chosen_sort (wants_tan f.rule) choice)) (IsChoice (wants_tan f.rule) script.fields choice) c.values_of-in_default.result
+    (sort_is_choice (wants_tan f.rule) script.fields choice) (subst (λ s. IfOk c.values_of-in_default.result (AreOfSort script.fields s)) sort c.values_of-in_default.ensures) in
+    if_ok (IsChoice (wants_tan f.rule) script.fields choice) (AreCaseValues granted script f) c.values_of-in_default.result
     (λ v is. record {
       admitted = λ r. absurd (c.in_default.not-Release r);
       greatest = λ not_release number step at peak real.
-          let b = real_breaks script granted sound last within messages_are_read one_message c.args.finding number step not_release at peak real in
-          let chosen = c.choice_of-choice.ensures step b.0 v b.1 at other b.2 b.5 is in
-          (chosen.0, chosen.1 number);
+          let b = real_breaks script granted sound last within messages_are_read one_message f number step not_release at peak real in
+          let same : c.new-step.result.step ≡ step = same_Some c.new-step.result.step step (sym c.new-step.ensures.step ∙ at) in
+          elim b.5 [
+            | inl whole ↦ absurd (elim (figures_rule granted.rows.bank _ f.rule whole.1) [ inl is ↦ c.in_default.not-Number is | inr is ↦ c.in_default.not-Size is ])
+            | inr held ↦
+                let chosen = from_same
+                (λ g x s. (other values : List NamedValue) (lower : ℕ) → Admits x.fields other → BreaksByContent g (message_view x s lower other) f.rule f.segment → IsChoice (wants_tan f.rule) x.fields choice values
+                → Admits x.fields values × ((number : ℕ) → BreaksByContent g (message_view x s number values) f.rule f.segment))
+                c.new-step.result granted script step c.new-step.ensures.granted c.new-step.ensures.script same c.choice-choice.ensures b.0 v b.1 b.2 held is in
+                (chosen.0, inr (chosen.1 number))
+          ];
     })
     is_choice

@@ -7,9 +7,12 @@ use Rattle.fints_script.specs.Plans.{IsClosed}
 use Rattle.fints_check_findings.specs.Figures.{FiguresAre}
 use Rattle.fints_check_findings.specs.Findings.{IsReal}
 use Rattle.fints_check_findings.specs.Laws.{release_of}
-use Rattle.fints_check_findings.specs.Searching.{AreFoundTo, IsGreatestAt}
+use Rattle.fints_script.specs.Scripts.{ScriptValue}
+use Rattle.fints_check_findings.specs.AtStep.{AtStepValue}
+use Rattle.fints_check_findings.specs.Searching.{AreFiguresAt, AreFoundTo, IsGreatestAt}
 use Rattle.fints_check_findings.specs.declared.finding.Finding.{Finding}
 use Rattle.fints_check_findings.specs.declared.finding.Reached.{Reached}
+use Rattle.fints_check_findings.proofs.AtSteps.{from_step, to_step}
 use Rattle.fints_check_findings.proofs.Checking.{cell_at, clean_permits, figures_all, figures_more, figures_none, greatest_at, nothing_real, reached_more, real_within, unreached, visits_told}
 use Rattle.fints_check_findings.proofs.Founds.{found_all, found_first, found_none}
 use Rattle.fints_check_findings.proofs.Holding.{cell_tells}
@@ -19,7 +22,7 @@ use Rattle.fints_rules_messages.proofs.LawLemmas.{one_message}
 use Rattle.fints_wire.proofs.LawLemmas.{extremes_are_admitted_longest, messages_are_read, none_is_longer_most}
 use Rattle.fints_wire.proofs.RunLawLemmas.{each_is_last_after, last_messages, sent_are_read, visits_are_within}
 use Rattle.fints_check_findings.proofs.report.check.Goals as goal
-use Rattle.fints_check_findings.proofs.report.check.Goals.{in-None, in-Some+in_ok-search_step-in-Some}
+use Rattle.fints_check_findings.proofs.report.check.Goals.{in-None, in-Some+in_ok-search-in-Some}
 
 pub loop-i-init : goal.loop-i-init
 loop-i-init c =
@@ -58,16 +61,20 @@ figures_at-reached-requires-clause-most c =
     let has : Has numbers (c.loop-i.i + 1) c.in-Some.number = cell_at numbers c.loop-i.i c.index.result.now (omega (arith, greatest.long, c.step_count-count.ensures.count)) c.index.ensures ∙ ap (λ x. Some x) c.in-Some.is in
     (number_small script granted sound last within messages_are_read one_message (c.loop-i.i + 1) c.in-Some.number (greatest_at script.steps numbers (c.loop-i.i + 1) c.in-Some.number greatest has)).1
 
-pub search_step-requires-clause-greatest : goal.search_step-requires-clause-greatest
-search_step-requires-clause-greatest c =
+pub new-requires-clause-figures : goal.new-requires-clause-figures
+new-requires-clause-figures c = subst (λ (script : ScriptValue). AreFiguresAt script c.new-step.result.step c.figures_at-reached.result) (sym c.new-step.ensures.script) (c.figures_at-reached.ensures.figures c.new-step.result.step c.new-step.ensures.step)
+
+pub new-requires-clause-greatest : goal.new-requires-clause-greatest
+new-requires-clause-greatest c =
     let script = c.args.plan.now.script in
     let numbers = c.in_ok-numbers.numbers.greatest.items in
     let greatest = c.in_ok-numbers.ensures.greatest in
     let has : Has numbers (c.loop-i.i + 1) c.in-Some.number = cell_at numbers c.loop-i.i c.index.result.now (omega (arith, greatest.long, c.step_count-count.ensures.count)) c.index.ensures ∙ ap (λ x. Some x) c.in-Some.is in
-    subst (λ (k : ℕ). IsGreatestAt script.steps (c.loop-i.i + 1) k) (sym c.figures_at-reached.ensures.number) (greatest_at script.steps numbers (c.loop-i.i + 1) c.in-Some.number greatest has)
+    to_step (λ _ x n. IsGreatestAt x.steps n c.figures_at-reached.result.number) c.new-step.result c.args.permissions.now script (c.loop-i.i + 1) c.new-step.ensures.granted c.new-step.ensures.script c.new-step.ensures.number
+    (subst (λ (k : ℕ). IsGreatestAt script.steps (c.loop-i.i + 1) k) (sym c.figures_at-reached.ensures.number) (greatest_at script.steps numbers (c.loop-i.i + 1) c.in-Some.number greatest has))
 
-pub search_step-requires-clause-unreleased : goal.search_step-requires-clause-unreleased
-search_step-requires-clause-unreleased c =
+pub new-requires-clause-unreleased : goal.new-requires-clause-unreleased
+new-requires-clause-unreleased c =
     let script = c.args.plan.now.script in
     let granted = c.args.permissions.now in
     let sound = c.keeps.ensures.sound in
@@ -77,9 +84,10 @@ search_step-requires-clause-unreleased c =
     let greatest = c.in_ok-numbers.ensures.greatest in
     let are = c.in_ok-holders.ensures in
     let cell = cell_at holders c.loop-i.i c.index-in-Some.result.now (omega (arith, are.long, c.step_count-count.ensures.count)) c.index-in-Some.ensures in
-    subst (λ (b : Bool). IsTrue b ↔ IsReal granted script (release_of (c.loop-i.i + 1))) (sym c.is_some.ensures)
+    to_step (λ g x n. IsTrue c.is_some.result ↔ IsReal g x (release_of n)) c.new-step.result granted script (c.loop-i.i + 1) c.new-step.ensures.granted c.new-step.ensures.script c.new-step.ensures.number
+    (subst (λ (b : Bool). IsTrue b ↔ IsReal granted script (release_of (c.loop-i.i + 1))) (sym c.is_some.ensures)
     (cell_tells granted script numbers holders greatest are (λ s real. (release_is_left granted script (release_of s) sound refl real).1) (λ t s. held_is_unreleased script granted.orders t s sound closed)
-    (λ v s. unreleased_is_real granted script v s sound closed) (c.loop-i.i + 1) c.index-in-Some.result.now cell)
+    (λ v s. unreleased_is_real granted script v s sound closed) (c.loop-i.i + 1) c.index-in-Some.result.now cell))
 
 pub loop-i-preserved : goal.loop-i-preserved
 loop-i-preserved c =
@@ -103,11 +111,12 @@ loop-i-preserved c =
             subst Q (sym w.cell-is) (λ m s. unreached script numbers (c.loop-i.i + 1) s.values m greatest last none s.sends s.of),
             subst R (sym w.cell-is) (sym (ap (λ (x : Option ℕ). is_some x) w.in-None.is)),
           )
-      | in-Some+in_ok-search_step-in-Some w ↦
+      | in-Some+in_ok-search-in-Some w ↦
           let has : Has numbers (c.loop-i.i + 1) w.in-Some.number = cell ∙ ap (λ x. Some x) w.in-Some.is in
           let peak = subst (λ (k : ℕ). IsGreatestAt script.steps (c.loop-i.i + 1) k) (sym w.figures_at-reached.ensures.number) (greatest_at script.steps numbers (c.loop-i.i + 1) w.in-Some.number greatest has) in
           let step = numbered_at script.steps (c.loop-i.i + 1) (omega arith) (omega (arith, c.step_count-count.ensures.count)) in (
-            subst P (sym w.findings-is) w.in_ok-search_step-in-Some.ensures,
+            subst P (sym w.findings-is) (from_step (λ g x n. AreFoundTo g x (n + 1) 1 0 w.search.new.findings.items) w.new-step.result granted script (c.loop-i.i + 1) w.new-step.ensures.granted w.new-step.ensures.script w.new-step.ensures.number
+                (subst (λ (a : AtStepValue). AreFoundTo a.granted a.script (a.n + 1) 1 0 w.search.new.findings.items) w.new.ensures w.in_ok-search-in-Some.ensures)),
             subst Q (sym w.cell-is) (figures_are script granted sound last within messages_are_read one_message longer (extremes_are_admitted_longest script.fields) (c.loop-i.i + 1) step.0 w.figures_at-reached.result step.1 peak (w.figures_at-reached.ensures.figures step.0 step.1)),
             subst R (sym w.cell-is) (sym (ap (λ (x : Option ℕ). is_some x) w.in-Some.is)),
           )

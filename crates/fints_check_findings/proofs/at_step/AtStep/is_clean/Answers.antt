@@ -1,4 +1,4 @@
-use Rattle.std.proofs.Common.{◌≡◌, ◌<◌, length, true, false, refl, sym, arith, inl, inr}
+use Rattle.std.proofs.Common.{◌≡◌, ◌<◌, length, true, false, refl, arith, inl, inr}
 use Rattle.std.proofs.lemmas.Bool.{cases_lt}
 use Rattle.fints_rules.proofs.RuleTable.{each_rule, rule_same}
 use Rattle.fints_rules.specs.declared.rule.Rule.TheVariants as rule

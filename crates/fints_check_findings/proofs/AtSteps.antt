@@ -1,0 +1,27 @@
+-- What the facts of a step decide, by what holds of it.
+use Rattle.std.proofs.Common.{ℕ, ◌≡◌, sym, subst}
+use Rattle.fints_rules_permissions.specs.Permits.{Granted}
+use Rattle.fints_rules.specs.declared.rule.Rule.{Rule}
+use Rattle.fints_script.specs.Scripts.{ScriptValue}
+use Rattle.fints_script.specs.Steps.{StepValue}
+use Rattle.fints_check_findings.specs.AtStep.{AtStepValue, IsAtStep}
+use Rattle.fints_check_findings.specs.Elements.{wants_tan}
+use Rattle.fints_check_findings.specs.StepFacts.{Decides, message_for}
+use Rattle.fints_check_findings.specs.declared.step_facts.StepFacts.{StepFacts}
+use Rattle.fints_check_findings.proofs.Deciding.{message_is}
+use Rattle.fints_check_findings.proofs.LawLemmas.{templates_decide}
+
+pub decided : (granted : Granted) (script : ScriptValue) (n : ℕ) (step : StepValue) (facts : StepFacts) → IsAtStep granted script n step facts → (r : Rule) → Decides granted script step r (message_for facts (wants_tan r))
+decided granted script n step facts is r = templates_decide script granted step r (message_for facts (wants_tan r)) is.sound is.sound_step is.closed (message_is granted script step facts is.facts_are (wants_tan r))
+
+-- ---- a step and what it was made of
+
+module _ (Q : Granted → ScriptValue → ℕ → Type 0) (s : AtStepValue) (granted : Granted) (script : ScriptValue) (n : ℕ) (of : s.granted ≡ granted) (in_script : s.script ≡ script) (number : s.n ≡ n) where
+  pub to_step : Q granted script n → Q s.granted s.script s.n
+  to_step q = subst (λ (k : ℕ). Q s.granted s.script k) (sym number) (subst (λ (x : ScriptValue). Q s.granted x n) (sym in_script) (subst (λ (g : Granted). Q g script n) (sym of) q))
+
+  pub from_step : Q s.granted s.script s.n → Q granted script n
+  from_step q = subst (λ (g : Granted). Q g script n) of (subst (λ (x : ScriptValue). Q s.granted x n) in_script (subst (λ (k : ℕ). Q s.granted s.script k) number q))
+
+pub from_same : (Q : Granted → ScriptValue → StepValue → Type 0) (s : AtStepValue) (granted : Granted) (script : ScriptValue) (step : StepValue) → s.granted ≡ granted → s.script ≡ script → s.step ≡ step → Q s.granted s.script s.step → Q granted script step
+from_same Q s granted script step of in_script same q = subst (λ (x : StepValue). Q granted script x) same (subst (λ (x : ScriptValue). Q granted x s.step) in_script (subst (λ (g : Granted). Q g s.script s.step) of q))
