@@ -1,5 +1,5 @@
 -- The greatest figures of all steps are a closed certificate where nothing is found.
-use Rattle.std.proofs.Common.{ℕ, suc, zero, ◌+◌, ◌-◌, ◌*◌, ◌≤◌, ◌≡◌, Option, Some, None, List, [], ◌∷◌, length, refl, ap, sym, subst, ◌∙◌, arith, inl, inr}
+use Rattle.std.proofs.Common.{ℕ, suc, zero, ◌+◌, ◌-◌, ◌≤◌, ◌≡◌, Option, Some, None, List, [], ◌∷◌, length, refl, ap, sym, subst, ◌∙◌, arith, inl, inr}
 use Rattle.std.specs.Prelude.{◌↔◌}
 use Rattle.std.proofs.lemmas.Option.{same_Some}
 use Rattle.fints_script_cases.specs.Answers.{IsOpenTo, target_of}
@@ -186,11 +186,11 @@ module _ (open_lead : OpenBranchesLead) (read : MessagesAreRead) (granted : Gran
         })
 
     -- what its figures break the message does
-    within : (r : Rule) → p.visit.number ≡ f.number → (message_view script step p.visit.number p.sent.values).size ≡ f.size → FiguresBreak granted.rows.bank (reached_figures f) r → BreaksByFigures granted (message_view script step p.visit.number p.sent.values) r
-    within Number number size (inl none) = inl (number ∙ none)
-    within Number number size (inr past) = inr (omega (arith, past, number))
-    within Size number size b = (b.0, omega (arith, b.1, size))
-    within _ number size b = absurd b
+    breaks_so : (r : Rule) → p.visit.number ≡ f.number → (message_view script step p.visit.number p.sent.values).size ≡ f.size → FiguresBreak granted.rows.bank (reached_figures f) r → BreaksByFigures granted (message_view script step p.visit.number p.sent.values) r
+    breaks_so Number number size (inl none) = inl (number ∙ none)
+    breaks_so Number number size (inr past) = inr (omega (arith, past, number))
+    breaks_so Size number size b = (b.0, omega (arith, b.1, size))
+    breaks_so _ number size b = absurd b
 
     goes_on : (to : Target) → IsOpenTo step.branches step.otherwise to → GoesOn script.steps lines f.number to
     goes_on (Step to) can =
@@ -209,7 +209,7 @@ module _ (open_lead : OpenBranchesLead) (read : MessagesAreRead) (granted : Gran
         let is : length (message_bytes script step p.visit.number p.sent.values) ≡ f.size = sym (ap length p.bytes) ∙ p.size in
         let whole = view_is.size in
         record {
-          permitted = λ r b. never r (inl (refl, within r number (omega (arith, is, whole)) b));
+          permitted = λ r b. never r (inl (refl, breaks_so r number (omega (arith, is, whole)) b));
           size = subst (λ (k : ℕ). worst_len script step k ≤ f.size) number worst;
           clean = clean n step p.message at p.sent;
           onward = λ branch is_open. goes_on (target_of step.branches step.otherwise branch) (record { branch = branch; is_open = is_open; to = refl });

@@ -11,12 +11,6 @@ use Rattle.fints_check_findings.specs.Releases.{IsUnreleased}
 use Rattle.fints_check.specs.Certificates.{LineHolds, Names}
 use Rattle.fints_check.specs.declared.certificate.Line.{Line}
 
--- under what a certificate is verified, of which script, and its lines
-pub record ClaimValue : Type 0 where
-  pub granted : Granted
-  pub script : ScriptValue
-  pub lines : List Line
-
 -- the flag of a step tells whether an open branch leads back to it
 pub record AreRepeats (steps : List StepValue) (repeats : List Bool) : Type 0 where
   pub long : length steps ≤ length repeats

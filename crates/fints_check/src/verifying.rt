@@ -13,7 +13,6 @@ use fints_check_findings::{AtStep, Reached, is_released_step};
 use fints_rules::{Figures, LAST_NUMBER, Permissions, Rule, figures_break};
 use fints_script::{MAX_STEPS, Plan, Step, Target};
 use fints_wire::worst_size;
-use std::marker::Model;
 
 // Whether some answer fires the branch.
 fn is_open(step: &Step, branch: usize) -> bool
@@ -95,144 +94,147 @@ fn flag(flags: &[bool], n: usize) -> bool
     }
 }
 
-// Whether figures break neither P2 nor P3.
-fn are_permitted(permissions: &Permissions<'_>, figures: Figures) -> bool
-    ensures { IsTrue result ↔ ((r : RuleValue) → FiguresBreak permissions.now.rows.bank figures r → ⊥) }
+// Whether step n is reached, with a number that is enough where its first message in a row has at
+// most number `from`.
+fn is_entered(plan: &Plan<'_>, lines: &[Line], repeats: &[bool], n: usize, from: u32) -> bool
+    requires first { 1 ≤ n }
+    requires last { n ≤ length plan.now.script.steps }
+    requires repeats { AreRepeats plan.now.script.steps repeats.now }
+    requires small { from < 2 ^ 31 }
+    ensures { IsTrue result ↔ IsEntered plan.now.script.steps lines.now n from }
 {
-    for rule in Rule::ALL {
-        if figures_break(permissions.bank(), figures, rule) {
+    match figures(lines, n) {
+        Some(reached) => covers(plan.step(n), flag(repeats, n), from, reached.number),
+        None => false,
+    }
+}
+
+// Whether a branch of step n goes on, if it is open. Its opener is looked for last.
+fn branch_goes_on(
+    plan: &Plan<'_>,
+    lines: &[Line],
+    repeats: &[bool],
+    n: usize,
+    step: &Step,
+    number: u32,
+    branch: usize,
+) -> bool
+    requires at { numbered plan.now.script.steps n ≡ Some step.now }
+    requires repeats { AreRepeats plan.now.script.steps repeats.now }
+    requires small { number ≤ LAST_NUMBER }
+    requires from { 1 ≤ branch }
+    requires to { branch ≤ length step.now.branches + 1 }
+    ensures { IsTrue result ↔ BranchGoesOn plan.now.script.steps lines.now number step.now branch }
+{
+    plan.keeps();
+    match step.target(branch) {
+        Target::Step(to) => {
+            is_entered(plan, lines, repeats, to as usize, number + 1) || !is_open(step, branch)
+        }
+        _ => true,
+    }
+}
+
+// Whether each open branch of step n goes on.
+fn goes_on(
+    plan: &Plan<'_>,
+    lines: &[Line],
+    repeats: &[bool],
+    n: usize,
+    step: &Step,
+    number: u32,
+) -> bool
+    requires at { numbered plan.now.script.steps n ≡ Some step.now }
+    requires repeats { AreRepeats plan.now.script.steps repeats.now }
+    requires small { number ≤ LAST_NUMBER }
+    ensures { IsTrue result ↔ ((branch : ℕ) → BranchGoesOn plan.now.script.steps lines.now number step.now branch) }
+{
+    for branch in 1..step.branches().len() + 2 {
+        if !branch_goes_on(plan, lines, repeats, n, step, number, branch) {
             return false;
         }
     }
     true
 }
 
-// The lines of a certificate, under permissions and a plan with an order table of the same rows. A
-// contract sees the permissions, the script and the lines.
-#[derive(Drop)]
-struct Claim<'a> {
-    permissions: &'a Permissions<'a>,
-    plan: &'a Plan<'a>,
-    lines: &'a [Line],
-    repeats: [bool; MAX_STEPS],
+// Whether figures break neither P2 nor P3.
+fn are_permitted(permissions: &Permissions<'_>, figures: Figures) -> bool
+    ensures { IsTrue result ↔ ((r : RuleValue) → FiguresBreak permissions.now.rows.bank figures r → ⊥) }
+{
+    let bank = permissions.bank();
+    for rule in Rule::ALL {
+        if figures_break(bank, figures, rule) {
+            return false;
+        }
+    }
+    true
 }
 
-impl<'a> Model for Claim<'a> {
-    ghost use Rattle.std.specs.Prelude.{◌≡◌};
-    ghost use Rattle.fints_check.specs.Verifying.{AreRepeats, ClaimValue};
-
-    ghost Value = { ClaimValue };
-
-    ghost view = { λ c. record { granted = c.permissions.now; script = c.plan.now.script; lines = c.lines.now } };
-
-    ghost invariant = { λ c. (c.permissions.now.orders ≡ c.plan.now.orders) × AreRepeats c.plan.now.script.steps c.repeats };
+// Whether what is named of step n holds. The figures are looked at before a size is asked for at their
+// number.
+fn line_holds(
+    permissions: &Permissions<'_>,
+    plan: &Plan<'_>,
+    lines: &[Line],
+    repeats: &[bool],
+    n: usize,
+    step: &Step,
+    reached: Reached,
+) -> bool
+    requires orders { permissions.now.orders ≡ plan.now.orders }
+    requires at { numbered plan.now.script.steps n ≡ Some step.now }
+    requires repeats { AreRepeats plan.now.script.steps repeats.now }
+    ensures { IsTrue result ↔ LineHolds permissions.now plan.now.script lines.now step.now reached }
+{
+    if !are_permitted(permissions, reached.figures()) {
+        return false;
+    }
+    if worst_size(plan, n, reached.number) > reached.size {
+        return false;
+    }
+    if !goes_on(plan, lines, repeats, n, step, reached.number) {
+        return false;
+    }
+    AtStep::new(permissions, plan, n).is_clean()
 }
 
-impl<'a> Claim<'a> {
-    fn new(permissions: &'a Permissions<'a>, plan: &'a Plan<'a>, lines: &'a [Line]) -> Claim<'a>
-        requires { permissions.now.orders ≡ plan.now.orders }
-        ensures { result ≡ record { granted = permissions.now; script = plan.now.script; lines = lines.now } }
-    {
-        Claim {
-            permissions,
-            plan,
-            lines,
-            repeats: repeats(plan),
-        }
-    }
-
-    // Whether step n is reached, with a number that is enough where its first message in a row has at
-    // most number `from`.
-    fn is_entered(&self, n: usize, from: u32) -> bool
-        requires first { 1 ≤ n }
-        requires last { n ≤ length self.now.script.steps }
-        requires small { from < 2 ^ 31 }
-        ensures { IsTrue result ↔ IsEntered self.now.script.steps self.now.lines n from }
-    {
-        match figures(self.lines, n) {
-            Some(reached) => covers(
-                self.plan.step(n),
-                flag(&self.repeats, n),
-                from,
-                reached.number,
-            ),
-            None => false,
-        }
-    }
-
-    // Whether a branch of the step goes on, if it is open. Its opener is looked for last.
-    fn branch_goes_on(&self, n: usize, step: &Step, number: u32, branch: usize) -> bool
-        requires at { numbered self.now.script.steps n ≡ Some step.now }
-        requires small { number ≤ LAST_NUMBER }
-        requires from { 1 ≤ branch }
-        requires to { branch ≤ length step.now.branches + 1 }
-        ensures { IsTrue result ↔ BranchGoesOn self.now.script.steps self.now.lines number step.now branch }
-    {
-        self.plan.keeps();
-        match step.target(branch) {
-            Target::Step(to) => {
-                self.is_entered(to as usize, number + 1) || !is_open(step, branch)
-            }
-            _ => true,
-        }
-    }
-
-    // Whether each open branch of the step goes on.
-    fn goes_on(&self, n: usize, step: &Step, number: u32) -> bool
-        requires at { numbered self.now.script.steps n ≡ Some step.now }
-        requires small { number ≤ LAST_NUMBER }
-        ensures { IsTrue result ↔ ((branch : ℕ) → BranchGoesOn self.now.script.steps self.now.lines number step.now branch) }
-    {
-        for branch in 1..step.branches().len() + 2 {
-            if !self.branch_goes_on(n, step, number, branch) {
-                return false;
-            }
-        }
-        true
-    }
-
-    // Whether what is named of the step holds. The number is looked at before a size is asked for at it.
-    fn line_holds(&self, n: usize, step: &Step, reached: Reached) -> bool
-        requires { numbered self.now.script.steps n ≡ Some step.now }
-        ensures { IsTrue result ↔ LineHolds self.now.granted self.now.script self.now.lines step.now reached }
-    {
-        if !are_permitted(self.permissions, reached.figures()) {
-            return false;
-        }
-        if worst_size(self.plan, n, reached.number) > reached.size {
-            return false;
-        }
-        if !self.goes_on(n, step, reached.number) {
-            return false;
-        }
-        AtStep::new(self.permissions, self.plan, n).is_clean()
-    }
-
-    // Whether step n is named as unreached, or what is named of it holds.
-    fn step_holds(&self, n: usize) -> bool
-        requires first { 1 ≤ n }
-        requires last { n ≤ length self.now.script.steps }
-        ensures { TellsLine self.now.granted self.now.script self.now.lines n result }
-    {
-        match figures(self.lines, n) {
-            Some(reached) => self.line_holds(n, self.plan.step(n), reached),
-            None => true, // named as unreached
-        }
-    }
-
-    fn steps_hold(&self) -> bool
-        ensures { IsTrue result ↔ AreLinesTrue self.now.granted self.now.script self.now.lines }
-    {
-        for n in 1..self.plan.step_count() + 1 {
-            if !self.step_holds(n) {
-                return false;
-            }
-        }
-        true
+// Whether step n is named as unreached, or what is named of it holds.
+fn step_holds(
+    permissions: &Permissions<'_>,
+    plan: &Plan<'_>,
+    lines: &[Line],
+    repeats: &[bool],
+    n: usize,
+) -> bool
+    requires first { 1 ≤ n }
+    requires last { n ≤ length plan.now.script.steps }
+    requires orders { permissions.now.orders ≡ plan.now.orders }
+    requires repeats { AreRepeats plan.now.script.steps repeats.now }
+    ensures { TellsLine permissions.now plan.now.script lines.now n result }
+{
+    match figures(lines, n) {
+        Some(reached) => line_holds(permissions, plan, lines, repeats, n, plan.step(n), reached),
+        None => true, // named as unreached
     }
 }
 
-// ---- orders left unreleased
+fn steps_hold(
+    permissions: &Permissions<'_>,
+    plan: &Plan<'_>,
+    lines: &[Line],
+    repeats: &[bool],
+) -> bool
+    requires orders { permissions.now.orders ≡ plan.now.orders }
+    requires repeats { AreRepeats plan.now.script.steps repeats.now }
+    ensures { IsTrue result ↔ AreLinesTrue permissions.now plan.now.script lines.now }
+{
+    for n in 1..plan.step_count() + 1 {
+        if !step_holds(permissions, plan, lines, repeats, n) {
+            return false;
+        }
+    }
+    true
+}
 
 // Whether step t is named as unreached, or no step leaves an order of it unreleased.
 fn is_released(plan: &Plan<'_>, lines: &[Line], t: usize) -> bool
@@ -287,14 +289,14 @@ fn is_closed(permissions: &Permissions<'_>, plan: &Plan<'_>, lines: &[Line]) -> 
     if !has_names(plan, lines) {
         return false;
     }
-    let claim = Claim::new(permissions, plan, lines);
-    if !claim.is_entered(1, 1) {
+    let repeats = repeats(plan);
+    if !is_entered(plan, lines, &repeats, 1, 1) {
         return false;
     }
     if !are_released(plan, lines) {
         return false;
     }
-    claim.steps_hold()
+    steps_hold(permissions, plan, lines, &repeats)
 }
 
 /// Whether the certificate is closed, whoever wrote it. It then keeps its promise, and every message

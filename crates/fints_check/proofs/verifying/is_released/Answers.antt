@@ -1,4 +1,4 @@
-use Rattle.std.proofs.Common.{◌≡◌, sym, ◌∙◌}
+use Rattle.std.proofs.Common.{sym, ◌∙◌}
 use Rattle.fints_check.proofs.verifying.is_released.Goals as goal
 
 pub returns-in-Some : goal.returns-in-Some

@@ -4,13 +4,13 @@ use Rattle.fints_script.specs.Numbered.{numbered_of}
 use Rattle.fints_script.specs.Steps.{StepValue}
 use Rattle.fints_check.specs.Certificates.{LineHolds}
 use Rattle.fints_check_findings.specs.declared.finding.Reached.{Reached}
-use Rattle.fints_check.proofs.verifying.Claim.step_holds.Goals as goal
+use Rattle.fints_check.proofs.verifying.step_holds.Goals as goal
 
 pub returns-in-Some : goal.returns-in-Some
 returns-in-Some c step at =
-    let granted = c.args.self.now.granted in
-    let script = c.args.self.now.script in
-    let lines = c.args.self.now.lines in
+    let granted = c.args.permissions.now in
+    let script = c.args.plan.now.script in
+    let lines = c.args.lines.now in
     let here = numbered_of script.steps c.args.n c.step.result.now c.requires.first c.step.ensures.step in
     let is : c.step.result.now ≡ step = same_Some c.step.result.now step (sym here ∙ at) in
     let named = sym c.figures.ensures ∙ c.in-Some.is in
