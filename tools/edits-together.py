@@ -8,7 +8,7 @@ another function neither helps nor harms. An edit that isn't refused so is tried
 The crates are to be checked before (`rt check`). It works in a copy, which it removes.
 
 Usage: tools/edits-together.py [--gate] [--at-once N] [--only WORD] [CRATE..]
-       none: all that stand in edits/; --gate: those of crates/CRATE/must-fail in place of edits/CRATE
+       none: all that stand in must-fail/; --gate: those of crates/CRATE/must-fail in place of must-fail/CRATE
 """
 import argparse
 import glob
@@ -193,7 +193,7 @@ def main():
     words.add_argument("--only", default="", metavar="WORD")
     words.add_argument("crates", nargs="*", metavar="CRATE")
     given = words.parse_args()
-    where = f"{TOP}/crates/*/must-fail" if given.gate else f"{TOP}/edits/*"
+    where = f"{TOP}/crates/*/must-fail" if given.gate else f"{TOP}/must-fail/*"
     crate_of = lambda path: path.split("/")[-3 if given.gate else -2]
     paths = sorted(it for it in glob.glob(f"{where}/*.edit") if given.only in it)
     crates = given.crates or sorted({crate_of(it) for it in paths})

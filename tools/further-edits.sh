@@ -1,17 +1,17 @@
 #!/usr/bin/env bash
-# Tries the further must-fail edits of the crates that are named (none: of all), which the gate
-# leaves out for its time: the prover must refuse each. The crates are to be checked before.
+# Tries the further must-fail edits of the crates that are named (none: of all), those in must-fail/
+# at the top, which the gate leaves out for its time: the prover must refuse each. The crates are to be checked before.
 set -euo pipefail
 cd "$(dirname "$0")/.."
 names=("$@")
-[ "${#names[@]}" -gt 0 ] || mapfile -t names < <(ls edits)
+[ "${#names[@]}" -gt 0 ] || mapfile -t names < <(ls must-fail)
 room=$(mktemp -d)
 trap 'rm -rf "$room"' EXIT
 cp -a crates.txt HANDLES crates "$room/"
 rm -f "$room"/crates/*/must-fail/*.edit
 for name in "${names[@]}"; do
     mkdir -p "$room/crates/$name/must-fail"
-    cp "edits/$name/"*.edit "$room/crates/$name/must-fail/"
+    cp "must-fail/$name/"*.edit "$room/crates/$name/must-fail/"
 done
 cd "$room"
 rt must-fail "${names[@]}"
