@@ -10,14 +10,14 @@ use Rattle.fints_script_cases.specs.declared.values.NamedValue.{NamedValue}
 use Rattle.fints_check_reach.specs.Numbers.{AreGreatest, Has}
 use Rattle.fints_check_reach.specs.Ways.{LeadsTo}
 use Rattle.fints_script.specs.Numbered.{numbered, numbered_at, numbered_holds}
-use Rattle.fints_script.specs.Plans.{Admits}
+use Rattle.fints_script.specs.Plans.{Admits, IsClosed}
 use Rattle.fints_script.specs.Scripts.{ScriptValue}
 use Rattle.fints_script.specs.Sound.{IsSound, IsSoundStep}
 use Rattle.fints_script.specs.Steps.{StepValue}
 use Rattle.fints_wire.specs.Choices.{longest_choice}
 use Rattle.fints_wire.specs.Messages.{message_bytes}
-use Rattle.fints_wire.specs.Runs.{EndsIn, IsSent, RouteTo, at_first, came_after}
-use Rattle.fints_wire.specs.Views.{MessagesAreRead, message_view}
+use Rattle.fints_wire.specs.Runs.{at_first, came_after}
+use Rattle.fints_wire.specs.Views.{message_view}
 use Rattle.fints_wire.specs.declared.dialogue.Sent.{Sent}
 use Rattle.fints_wire.specs.declared.dialogue.Visit.{Visit}
 use Rattle.fints_script_rows.specs.declared.fields.NamedField.{NamedField}
@@ -25,7 +25,6 @@ use Rattle.fints_check_findings.specs.Choosing.{AreOfSort, IsChoice, chosen_sort
 use Rattle.fints_check_findings.specs.declared.choosing.SetAccount.{SetAccount}
 use Rattle.fints_check_findings.specs.Findings.{AreFindings, IsReal, Shows}
 use Rattle.fints_check_findings.specs.Laws.{release_of}
-use Rattle.fints_check_findings.specs.Releases.{LeadsUnreleased}
 use Rattle.fints_check_findings.specs.Reports.{LeadsFor, ReportValue}
 use Rattle.fints_check_findings.specs.Searching.{AreCaseValues, AreFiguresAt, BreaksAtGreatest, IsGreatestAt}
 use Rattle.fints_check_findings.specs.declared.finding.Finding.{Finding}
@@ -33,7 +32,10 @@ use Rattle.fints_check_findings.specs.declared.finding.Reached.{Reached}
 use Rattle.fints_check_findings.proofs.Checking.{greatest_at, real_within}
 use Rattle.fints_check_findings.proofs.FigureRules.{number_case, size_case}
 use Rattle.fints_rules.proofs.RuleTable.{rule_or}
-use Rattle.fints_check_findings.proofs.Reals.{AreWithin, LastMessages, NoneIsLonger, OneMessage, number_small, read_at, real_breaks, itself, sends_last}
+use Rattle.fints_check_findings.proofs.LawLemmas.{release_is_left, unreleased_is_shown}
+use Rattle.fints_check_findings.proofs.Reals.{number_small, read_at, real_breaks, itself, sends_last}
+use Rattle.fints_wire.proofs.RunLawLemmas.{last_messages, routes_send}
+use Rattle.fints_wire.proofs.LawLemmas.{extremes_are_admitted_longest}
 
 -- ---- values
 
@@ -47,36 +49,36 @@ size_not r a b = let clash : rule.Size ≡ rule.Release = sym a ∙ b in cc
 pub number_not : (r : Rule) → r ≡ rule.Number → r ≡ rule.Release → ⊥
 number_not r a b = let clash : rule.Number ≡ rule.Release = sym a ∙ b in cc
 
-module _ (script : ScriptValue) (granted : Granted) (f : Finding) (sound : IsSound script) (last : LastMessages script) (within : AreWithin script) (read : MessagesAreRead) (one : OneMessage) where
+module _ (script : ScriptValue) (granted : Granted) (f : Finding) (sound : IsSound script) where
   -- the figures of messages of this number
   figures_of : StepValue → ℕ → Reached
   figures_of step number = record { number = number; size = length (message_bytes script step number (longest_choice script.fields)) }
 
   are_figures : (number : ℕ) (step : StepValue) → IsGreatestAt script.steps f.step number → AreFiguresAt script step (figures_of step number)
   unfolding figures_of
-  are_figures number step peak = let top = number_small script granted sound last within read one f.step number peak in record { least = top.0; most = top.1; size = refl }
+  are_figures number step peak = let top = number_small script granted sound f.step number peak in record { least = top.0; most = top.1; size = refl }
 
   sound_at : (step : StepValue) → numbered script.steps f.step ≡ Some step → IsSoundStep script step
   sound_at step at = numbered_holds (IsSoundStep script) script.steps f.step step sound.steps at
 
-  pub size_values : NoneIsLonger script → Admits script.fields (longest_choice script.fields) → f.rule ≡ rule.Size → BreaksAtGreatest granted script f (longest_choice script.fields)
+  pub size_values : f.rule ≡ rule.Size → BreaksAtGreatest granted script f (longest_choice script.fields)
   unfolding figures_of
-  size_values longer longest is number step at peak real =
-      let b = real_breaks script granted sound last within read one f number step (size_not f.rule is) at peak real in
+  size_values is number step at peak real =
+      let b = real_breaks script granted sound f number step (size_not f.rule is) at peak real in
       let lower = subst (λ (r : Rule). Breaks granted (message_view script step b.1 b.0) r f.segment) is b.5 in (
-        longest,
+        extremes_are_admitted_longest script.fields,
         subst (λ (r : Rule). Breaks granted (message_view script step number (longest_choice script.fields)) r f.segment) (sym is)
-            (size_case granted script step (figures_of step number) (are_figures number step peak) longest (sound_at step at) (λ n values low high admits. read_at script granted sound last within read one f.step n step values at low high admits) longer f.segment b.1 b.0 b.2 b.3 b.4 lower),
+            (size_case granted script step f.step (figures_of step number) (are_figures number step peak) at sound (sound_at step at) f.segment b.1 b.0 b.2 b.3 b.4 lower),
       )
 
-  pub number_values : NoneIsLonger script → Admits script.fields (longest_choice script.fields) → (values : List NamedValue) → Admits script.fields values → f.rule ≡ rule.Number → BreaksAtGreatest granted script f values
+  pub number_values : (values : List NamedValue) → Admits script.fields values → f.rule ≡ rule.Number → BreaksAtGreatest granted script f values
   unfolding figures_of
-  number_values longer longest values admits is number step at peak real =
-      let b = real_breaks script granted sound last within read one f number step (number_not f.rule is) at peak real in
+  number_values values admits is number step at peak real =
+      let b = real_breaks script granted sound f number step (number_not f.rule is) at peak real in
       let lower = subst (λ (r : Rule). Breaks granted (message_view script step b.1 b.0) r f.segment) is b.5 in (
         admits,
         subst (λ (r : Rule). Breaks granted (message_view script step number values) r f.segment) (sym is)
-            (number_case granted script step (figures_of step number) (are_figures number step peak) longest (sound_at step at) (λ n vs low high a. read_at script granted sound last within read one f.step n step vs at low high a) longer f.segment b.1 b.0 values b.2 b.3 b.4 lower),
+            (number_case granted script step f.step (figures_of step number) (are_figures number step peak) at sound (sound_at step at) f.segment b.1 b.0 values b.2 b.3 b.4 lower),
       )
 
 -- ---- findings by their place
@@ -89,29 +91,25 @@ same_at findings i f g within is at = is ∙ same_Some (get_or findings i f) g (
 
 -- ---- ways
 
--- what the law of routes says
-abbrev pub RoutesSend : ScriptValue → Type 0
-RoutesSend script = (values : List NamedValue) (answers : List (List ℕ)) (v : Visit) (m : Sent) → RouteTo script.steps answers v → IsSent script values v m → EndsIn script values answers m
-
-module _ (script : ScriptValue) (granted : Granted) (sound : IsSound script) (last : LastMessages script) (within : AreWithin script) (numbers : List (Option ℕ)) (greatest : AreGreatest script.steps numbers) where
+module _ (script : ScriptValue) (granted : Granted) (sound : IsSound script) (numbers : List (Option ℕ)) (greatest : AreGreatest script.steps numbers) where
   -- the step of a real finding has a greatest number
   pub real_has : (f : Finding) → IsReal granted script f → (number : ℕ) × Has numbers f.step number
   real_has f real =
-      let way = (last real.values real.shown.message).0 (sends_last script real.values real.answers real.shown.message real.shown.ends) in
+      let way = (last_messages script real.values real.shown.message sound).0 (sends_last script real.values real.answers real.shown.message real.shown.ends) in
       let here : way.0.step ≡ f.step = sym (ap (λ (x : Sent). x.step) way.2.is) ∙ real.shown.of in
       let most = greatest.most way.0 way.1 in
       (most.0, subst (λ k. Has numbers k most.0) here most.1)
 
-  pub shown_by : MessagesAreRead → OneMessage → RoutesSend script → (f : Finding) (values : List NamedValue) (answers : List (List ℕ)) → IsReal granted script f → BreaksAtGreatest granted script f values → LeadsTo script.steps numbers f.step answers → Shows granted script f values answers
-  shown_by read one sends f values answers real breaks l =
-      let inside = real_within granted script last within f real in
+  pub shown_by : (f : Finding) (values : List NamedValue) (answers : List (List ℕ)) → IsReal granted script f → BreaksAtGreatest granted script f values → LeadsTo script.steps numbers f.step answers → Shows granted script f values answers
+  shown_by f values answers real breaks l =
+      let inside = real_within granted script sound f real in
       let step = numbered_at script.steps f.step inside.0 inside.1 in
       let peak = greatest_at script.steps numbers f.step l.number greatest l.has in
-      let top = number_small script granted sound last within read one f.step l.number peak in
+      let top = number_small script granted sound f.step l.number peak in
       let b = breaks l.number step.0 step.1 peak real in
       let v : Visit = record { step = f.step; number = l.number; times = l.times } in
       let m : Sent = record { step = f.step; number = l.number; bytes = message_bytes script step.0 l.number values } in
-      let ends = sends values answers v m l.route (record { at = step.0; of = step.1; is = refl }) in
+      let ends = routes_send script values answers v m sound l.route (record { at = step.0; of = step.1; is = refl }) in
       record {
         admitted = b.0;
         message = m;
@@ -119,7 +117,7 @@ module _ (script : ScriptValue) (granted : Granted) (sound : IsSound script) (la
         of = refl;
         breaks = itself granted (came_after at_first ends.sent answers) m f.rule f.segment (record {
           message = message_view script step.0 l.number values;
-          is = read_at script granted sound last within read one f.step l.number step.0 values step.1 top.0 top.1 b.0;
+          is = read_at script granted sound f.step l.number step.0 values step.1 top.0 top.1 b.0;
           breaks = b.1;
         });
       }
@@ -131,14 +129,12 @@ as_release f is whole =
     let make : Rule → ℕ → Finding = λ r p. record { step = f.step; rule = r; segment = p } in
     sym (ap (λ (r : Rule). make r f.segment) is ∙ ap (λ (p : ℕ). make rule.Release p) whole)
 
-module _ (report : ReportValue) (sound : IsSound report.plan.script) (last : LastMessages report.plan.script) (within : AreWithin report.plan.script) (greatest : AreGreatest report.plan.script.steps report.numbers) (read : MessagesAreRead) (one : OneMessage) (sends : RoutesSend report.plan.script)
-    (left : (f : Finding) → f.rule ≡ rule.Release → IsReal report.granted report.plan.script f → f.segment ≡ 0)
-    (shown : (s : ℕ) (values : List NamedValue) (answers : List (List ℕ)) → Admits report.plan.script.fields values → LeadsUnreleased report.plan.script s answers → Shows report.granted report.plan.script (release_of s) values answers) where
+module _ (report : ReportValue) (sound : IsSound report.plan.script) (closed : IsClosed report.plan.script report.granted.orders) (greatest : AreGreatest report.plan.script.steps report.numbers) where
   pub case_shown : (f : Finding) (values : List NamedValue) (answers : List (List ℕ)) → IsReal report.granted report.plan.script f → AreCaseValues report.granted report.plan.script f values → LeadsFor report f answers → Shows report.granted report.plan.script f values answers
   case_shown f values answers real are leads =
       elim (rule_or f.rule rule.Release) [
-        | inl is ↦ subst (λ (x : Finding). Shows report.granted report.plan.script x values answers) (as_release f is (left f is real)) (shown f.step values answers (are.admitted is) (leads.unreleased is))
-        | inr other ↦ shown_by report.plan.script report.granted sound last within report.numbers greatest read one sends f values answers real (are.greatest other) (leads.longest other)
+        | inl is ↦ subst (λ (x : Finding). Shows report.granted report.plan.script x values answers) (as_release f is (release_is_left report.granted report.plan.script f sound is real).0) (unreleased_is_shown report.granted report.plan.script f.step values answers sound closed (are.admitted is) (leads.unreleased is))
+        | inr other ↦ shown_by report.plan.script report.granted sound report.numbers greatest f values answers real (are.greatest other) (leads.longest other)
       ]
 
 -- ---- sorts of values

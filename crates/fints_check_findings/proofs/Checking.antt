@@ -8,14 +8,13 @@ use Rattle.fints_rules.specs.Breaks.{Permitted}
 use Rattle.fints_rules.specs.declared.rule.Rule.{Rule}
 use Rattle.fints_rules.specs.declared.rule.Rule.TheVariants.{Release}
 use Rattle.fints_rules_permissions.specs.Permits.{Granted}
-use Rattle.fints_script_cases.specs.Answers.{IsAnswer}
 use Rattle.fints_script_cases.specs.declared.values.NamedValue.{NamedValue}
 use Rattle.fints_check_reach.specs.Numbers.{AreGreatest, Has, looked_at}
 use Rattle.fints_script.specs.Numbered.{numbered, numbered_of}
 use Rattle.fints_script.specs.Plans.{Admits}
 use Rattle.fints_script.specs.Scripts.{ScriptValue}
 use Rattle.fints_script.specs.Steps.{StepValue}
-use Rattle.fints_wire.specs.Runs.{Before, EachAfter, Run, SendsAfter, SendsLast, at_first, behind}
+use Rattle.fints_wire.specs.Runs.{Before, EachAfter, SendsAfter, SendsLast, at_first, behind}
 use Rattle.fints_wire.specs.Views.{IsReadAs, message_view}
 use Rattle.fints_wire.specs.declared.dialogue.Sent.{Sent}
 use Rattle.fints_check_findings.specs.Figures.{AreFigures, FiguresAre}
@@ -23,7 +22,9 @@ use Rattle.fints_check_findings.specs.Findings.{BreaksBehind, EachIsPermitted, I
 use Rattle.fints_check_findings.specs.Searching.{IsGreatestAt}
 use Rattle.fints_check_findings.specs.declared.finding.Finding.{Finding}
 use Rattle.fints_check_findings.specs.declared.finding.Reached.{Reached}
-use Rattle.fints_check_findings.proofs.Reals.{AreWithin, LastMessages, itself, sends_last}
+use Rattle.fints_check_findings.proofs.Reals.{itself, sends_last}
+use Rattle.fints_wire.proofs.RunLawLemmas.{each_is_last_after, last_messages, sent_are_read, visits_are_within}
+use Rattle.fints_script.specs.Sound.{IsSound}
 
 -- ---- numbers
 
@@ -43,24 +44,24 @@ greatest_at steps numbers n number greatest has = record {
 }
 
 -- a step without a number is the last of no run
-pub unreached : (script : ScriptValue) (numbers : List (Option ℕ)) (n : ℕ) (values : List NamedValue) (m : Sent) → AreGreatest script.steps numbers → LastMessages script → numbered numbers n ≡ Some None → SendsLast script values m → m.step ≡ n → ⊥
-unreached script numbers n values m greatest last none sends of =
-    let way = (last values m).0 sends in
+pub unreached : (script : ScriptValue) (numbers : List (Option ℕ)) (n : ℕ) (values : List NamedValue) (m : Sent) → AreGreatest script.steps numbers → IsSound script → numbered numbers n ≡ Some None → SendsLast script values m → m.step ≡ n → ⊥
+unreached script numbers n values m greatest sound none sends of =
+    let way = (last_messages script values m sound).0 sends in
     let here : way.0.step ≡ n = sym (ap (λ (x : Sent). x.step) way.2.is) ∙ of in
     let most = greatest.most way.0 way.1 in
     let has = subst (λ k. Has numbers k most.0) here most.1 in
     let clash : ◌≡◌ {A = Option (Option ℕ)} (Some None) (Some (Some most.0)) = sym none ∙ has in
     cc
 
-pub nothing_real : (granted : Granted) (script : ScriptValue) (numbers : List (Option ℕ)) (n : ℕ) → AreGreatest script.steps numbers → LastMessages script → numbered numbers n ≡ Some None → (f : Finding) → f.step ≡ n → IsReal granted script f → ⊥
-nothing_real granted script numbers n greatest last none f here real =
-    unreached script numbers n real.values real.shown.message greatest last none (sends_last script real.values real.answers real.shown.message real.shown.ends) (real.shown.of ∙ here)
+pub nothing_real : (granted : Granted) (script : ScriptValue) (numbers : List (Option ℕ)) (n : ℕ) → AreGreatest script.steps numbers → IsSound script → numbered numbers n ≡ Some None → (f : Finding) → f.step ≡ n → IsReal granted script f → ⊥
+nothing_real granted script numbers n greatest sound none f here real =
+    unreached script numbers n real.values real.shown.message greatest sound none (sends_last script real.values real.answers real.shown.message real.shown.ends) (real.shown.of ∙ here)
 
-pub real_within : (granted : Granted) (script : ScriptValue) → LastMessages script → AreWithin script → (f : Finding) → IsReal granted script f → (1 ≤ f.step) × (f.step ≤ length script.steps)
-real_within granted script last within f real =
-    let way = (last real.values real.shown.message).0 (sends_last script real.values real.answers real.shown.message real.shown.ends) in
+pub real_within : (granted : Granted) (script : ScriptValue) → IsSound script → (f : Finding) → IsReal granted script f → (1 ≤ f.step) × (f.step ≤ length script.steps)
+real_within granted script sound f real =
+    let way = (last_messages script real.values real.shown.message sound).0 (sends_last script real.values real.answers real.shown.message real.shown.ends) in
     let here : way.0.step ≡ f.step = sym (ap (λ (x : Sent). x.step) way.2.is) ∙ real.shown.of in
-    let w = within way.0 way.1 in
+    let w = visits_are_within script way.0 sound way.1 in
     let low = w.from in
     let high = w.to in
     (omega arith, omega arith)
@@ -148,9 +149,6 @@ module _ (granted : Granted) (script : ScriptValue) where
   none_breaks values before (m ∷ n ∷ ns) [] admits none all read = absurd all
   none_breaks values before (m ∷ n ∷ ns) (codes ∷ answers) admits none all read = (permitted_behind values before m admits none all.0 read.0, none_breaks values (behind m codes) (n ∷ ns) answers admits none all.1 read.1)
 
-  pub clean_permits : (findings : List Finding) → ((f : Finding) → Contains findings f ↔ IsReal granted script f)
-      → ((values : List NamedValue) (answers : List (List ℕ)) (sent : List Sent) → AllByRecursion IsAnswer answers → Run script values answers sent → EachAfter (SendsAfter script values) at_first sent answers)
-      → ((values : List NamedValue) (answers : List (List ℕ)) (sent : List Sent) → Admits script.fields values → Run script values answers sent → AllByRecursion (IsReadAs script values) sent)
-      → findings ≡ [] → EachIsPermitted granted script
-  clean_permits findings exactly last read clean values answers sent admits each run =
-      none_breaks values at_first sent answers admits (λ f real. let has = subst (λ (xs : List Finding). Contains xs f) clean ((exactly f).1 real) in let lt = has.1 in omega arith) (last values answers sent each run) (read values answers sent admits run)
+  pub clean_permits : (findings : List Finding) → IsSound script → ((f : Finding) → Contains findings f ↔ IsReal granted script f) → findings ≡ [] → EachIsPermitted granted script
+  clean_permits findings sound exactly clean values answers sent admits each run =
+      none_breaks values at_first sent answers admits (λ f real. let has = subst (λ (xs : List Finding). Contains xs f) clean ((exactly f).1 real) in let lt = has.1 in omega arith) (each_is_last_after script values answers sent sound each run) (sent_are_read script values answers sent sound admits run)

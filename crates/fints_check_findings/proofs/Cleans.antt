@@ -14,7 +14,7 @@ use Rattle.fints_script.specs.Sound.{IsSound, IsSoundStep}
 use Rattle.fints_script.specs.Steps.{StepValue}
 use Rattle.fints_script_templates.specs.declared.template.Template.{Template}
 use Rattle.fints_wire.specs.Messages.{message_bytes}
-use Rattle.fints_wire.specs.Views.{MessagesAreRead, message_view}
+use Rattle.fints_wire.specs.Views.{message_view}
 use Rattle.fints_wire.specs.declared.dialogue.Sent.{Sent}
 use Rattle.fints_check_findings.specs.Breakable.{CanBreak}
 use Rattle.fints_check_findings.specs.Elements.{has_process, wants_tan}
@@ -25,10 +25,13 @@ use Rattle.fints_check_findings.specs.Findings.{AreFindings, IsReal, SentStepsAr
 use Rattle.fints_check_findings.specs.Laws.{release_of}
 use Rattle.fints_check_findings.specs.Releases.{IsUnreleased}
 use Rattle.fints_check_findings.specs.Kinds.{demanding_count, is_end, is_tan_segment, template_kinds}
-use Rattle.fints_check_findings.specs.StepFacts.{AreMessageFacts, TemplatesDecide}
+use Rattle.fints_check_findings.specs.StepFacts.{AreMessageFacts}
 use Rattle.fints_check_findings.specs.Tans.{TanUnder}
 use Rattle.fints_check_findings.specs.declared.finding.Finding.{Finding}
-use Rattle.fints_check_findings.proofs.Reals.{AreWithin, LastMessages, itself}
+use Rattle.fints_check_findings.proofs.LawLemmas.{templates_decide}
+use Rattle.fints_check_findings.proofs.Reals.{itself}
+use Rattle.fints_wire.proofs.RunLawLemmas.{last_messages, visits_are_within}
+use Rattle.fints_wire.proofs.LawLemmas.{messages_are_read}
 
 -- where the aim is absurd, any fact may be taken to hold or not
 either : {P : Type 0} → (P ⊎ (P → ⊥) → ⊥) → ⊥
@@ -59,20 +62,20 @@ facts_of : (granted : Granted) (script : ScriptValue) (step : StepValue) (most :
 facts_of granted script step most (inl some) = (facts_with granted step true, facts_are granted script step most true (λ _. some, λ _. refl))
 facts_of granted script step most (inr none) = (facts_with granted step false, facts_are granted script step most false (λ h. let clash : ◌≡◌ {A = Bool} false true = h in absurd cc, λ some. absurd (none some)))
 
-module _ (script : ScriptValue) (granted : Granted) (sound : IsSound script) (last : LastMessages script) (within : AreWithin script) (read : MessagesAreRead) where
+module _ (script : ScriptValue) (granted : Granted) (sound : IsSound script) where
   -- what the step's message can break, some run breaks
   can_real : (n : ℕ) (step : StepValue) (m : Sent) (r : Rule) (place : ℕ) → numbered script.steps n ≡ Some step → IsSentOf script n m → CanBreak granted script step r place → IsReal granted script (record { step = n; rule = r; segment = place })
   can_real n step m r place at s can =
-      let way = (last s.values m).0 s.sends in
+      let way = (last_messages script s.values m sound).0 s.sends in
       let v = way.0 in
       let here : v.step ≡ n = sym (ap (λ (x : Sent). x.step) way.2.is) ∙ s.of in
-      let w = within v way.1 in
+      let w = visits_are_within script v sound way.1 in
       let few = sound.few_steps in
       let first = w.first in
       let to = w.to in
       let high = w.last in
       let there : numbered script.steps v.step ≡ Some step = ap (numbered script.steps) here ∙ at in
-      let sends = (last can.values (record { step = v.step; number = v.number; bytes = message_bytes script step v.number can.values })).1 (v, way.1, record { at = step; of = there; is = refl }) in
+      let sends = (last_messages script can.values (record { step = v.step; number = v.number; bytes = message_bytes script step v.number can.values }) sound).1 (v, way.1, record { at = step; of = there; is = refl }) in
       record {
         values = can.values;
         answers = sends.answers;
@@ -83,24 +86,24 @@ module _ (script : ScriptValue) (granted : Granted) (sound : IsSound script) (la
           of = here;
           breaks = itself granted (came_after at_first sends.sent sends.answers) (record { step = v.step; number = v.number; bytes = message_bytes script step v.number can.values }) r place (record {
             message = message_view script step v.number can.values;
-            is = read script (n - 1) step v.number can.values sound (numbered_from script.steps n step at) first (omega arith) can.admitted;
+            is = messages_are_read script (n - 1) step v.number can.values sound (numbered_from script.steps n step at) first (omega arith) can.admitted;
             breaks = inr (can.breaks v.number);
           });
         };
       }
 
-  pub clean_steps : TemplatesDecide → ((n i : ℕ) (step : StepValue) (t : Template) → numbered script.steps n ≡ Some step → slice_get step.templates i ≡ Some t → IsClosedTemplate script.fields granted.orders t) → ((f : Finding) → IsReal granted script f → ⊥) → SentStepsAreClean granted script
-  clean_steps decide closed none n step m at s r number values place admits b =
+  pub clean_steps : ((n i : ℕ) (step : StepValue) (t : Template) → numbered script.steps n ≡ Some step → slice_get step.templates i ≡ Some t → IsClosedTemplate script.fields granted.orders t) → ((f : Finding) → IsReal granted script f → ⊥) → SentStepsAreClean granted script
+  clean_steps closed none n step m at s r number values place admits b =
       either {P = Tan script step (wants_tan r)} (λ case.
       let f = facts_of granted script step (wants_tan r) case in
       let sound_step = numbered_holds (IsSoundStep script) script.steps n step sound.steps at in
-      let d = decide script granted step r f.0 sound sound_step (λ i t there. closed n i step t at there) f.1 in
+      let d = templates_decide script granted step r f.0 sound sound_step (λ i t there. closed n i step t at there) f.1 in
       none (record { step = n; rule = r; segment = place }) (can_real n step m r place at s (d.some place (d.each number values place admits b))))
 
 -- where nothing is real, nothing is left unreleased
-pub released_steps : (granted : Granted) (script : ScriptValue) → LastMessages script → ((v : Visit) (s : ℕ) → Arrives script.steps v → IsUnreleased script v.step s → IsReal granted script (release_of s)) → ((f : Finding) → IsReal granted script f → ⊥) → SentStepsAreReleased script
-released_steps granted script last law none t s m is u =
-    let way = (last is.values m).0 is.sends in
+pub released_steps : (granted : Granted) (script : ScriptValue) → IsSound script → ((v : Visit) (s : ℕ) → Arrives script.steps v → IsUnreleased script v.step s → IsReal granted script (release_of s)) → ((f : Finding) → IsReal granted script f → ⊥) → SentStepsAreReleased script
+released_steps granted script sound law none t s m is u =
+    let way = (last_messages script is.values m sound).0 is.sends in
     let here : way.0.step ≡ t = sym (ap (λ (x : Sent). x.step) way.2.is) ∙ is.of in
     none (release_of s) (law way.0 s way.1 (subst (λ (k : ℕ). IsUnreleased script k s) (sym here) u))
 

@@ -30,17 +30,17 @@ use Rattle.fints_check_findings.specs.StepFacts.{AreMessageFacts, AreStepFacts, 
 use Rattle.fints_check_findings.specs.Tans.{TanUnder}
 use Rattle.fints_check_findings.specs.declared.choosing.SetAccount.{SetAccount}
 use Rattle.fints_check_findings.specs.declared.step_facts.StepFacts.{StepFacts}
-use Rattle.fints_check_findings.proofs.Below.{Laws}
 use Rattle.fints_check_findings.proofs.Counted.{count_is, demanding_is, plain_kinds_are, tan_orders_are}
 use Rattle.fints_check_findings.proofs.ElementTwo.{IsBrokenBy, IsExtreme, extreme_admitted, extreme_is, template_complete, template_sound, template_with}
 use Rattle.fints_check_findings.proofs.Lists.{any_there, slice_there, there_of}
 use Rattle.fints_check_findings.proofs.Literals.{processes_are}
 use Rattle.fints_check_findings.proofs.RuleFacts.{HasTanAs, IsNoBetter, message_no_better, segment_no_better}
 use Rattle.fints_check_findings.proofs.Signed.{longest_tan, may_have_tan, shortest_tan, tan_stays}
+use Rattle.fints_wire.proofs.LawLemmas.{bodies_are_templates_count, bodies_are_templates_segments, bodies_are_templates_signatures, elements_are_filled_values}
 
 -- ---- the step
 
-module _ (laws : Laws) (script : ScriptValue) (granted : Granted) (step : StepValue) (r : Rule) (f : MessageFacts) (sound : IsSound script) (sound_step : IsSoundStep script step)
+module _ (script : ScriptValue) (granted : Granted) (step : StepValue) (r : Rule) (f : MessageFacts) (sound : IsSound script) (sound_step : IsSoundStep script step)
     (closed : (i : ℕ) (t : Template) → slice_get step.templates i ≡ Some t → IsClosedTemplate script.fields granted.orders t) (facts : AreMessageFacts granted script step (wants_tan r) f) where
   abbrev Sent : List NamedValue → ℕ → MessageView
   Sent values number = message_view script step number values
@@ -52,13 +52,13 @@ module _ (laws : Laws) (script : ScriptValue) (granted : Granted) (step : StepVa
   first = 2 + length step.signers
 
   submits_are : (values : List NamedValue) (number : ℕ) → f.submits ≡ (facts_of granted.rows.pins (Sent values number)).submits
-  submits_are values number = facts.submits ∙ sym (processes_are laws.values (codes "4") (Fill values number) script.fields granted.orders first step.templates closed)
+  submits_are values number = facts.submits ∙ sym (processes_are elements_are_filled_values (codes "4") (Fill values number) script.fields granted.orders first step.templates closed)
 
   kinds_same : (values : List NamedValue) (number : ℕ) → f.kinds ≡ (facts_of granted.rows.pins (Sent values number)).kinds
   kinds_same values number = facts.kinds ∙ sym (ap (distinct_count bytes_eq) (plain_kinds_are (Fill values number) first step.templates))
 
   signatures_same : (values : List NamedValue) (number : ℕ) → f.signatures ≡ (facts_of granted.rows.pins (Sent values number)).signatures
-  signatures_same values number = facts.signatures ∙ sym (laws.signatures script step number values)
+  signatures_same values number = facts.signatures ∙ sym (bodies_are_templates_signatures script step number values)
 
   tan_orders_same : (values : List NamedValue) (number : ℕ) → f.has_tan_order ≡ (facts_of granted.rows.pins (Sent values number)).has_tan_order
   tan_orders_same values number = facts.has_tan_order ∙ sym (tan_orders_are (Fill values number) first step.templates)
@@ -70,12 +70,12 @@ module _ (laws : Laws) (script : ScriptValue) (granted : Granted) (step : StepVa
   Has values number = IsTrue (facts_of granted.rows.pins (Sent values number)).has_tan
 
   tan_no_better : (most : Bool) (values : List NamedValue) (number : ℕ) → Admits script.fields values → (IsTrue f.has_tan ↔ TanUnder most script.fields script.signers step.signers) → HasTanAs most f (facts_of granted.rows.pins (Sent values number))
-  tan_no_better true values number admits has = λ h. has.1 (may_have_tan laws script values number sound admits step sound_step (first + length step.templates) h)
-  tan_no_better false values number admits has = λ h. tan_stays laws script values number sound admits step sound_step (first + length step.templates) (has.0 h)
+  tan_no_better true values number admits has = λ h. has.1 (may_have_tan script values number sound admits step sound_step (first + length step.templates) h)
+  tan_no_better false values number admits has = λ h. tan_stays script values number sound admits step sound_step (first + length step.templates) (has.0 h)
 
   tan_as_bad : (most : Bool) (values : List NamedValue) (number : ℕ) → Admits script.fields values → IsExtreme most script.fields values → (IsTrue f.has_tan ↔ TanUnder most script.fields script.signers step.signers) → HasTanAs most (facts_of granted.rows.pins (Sent values number)) f
-  tan_as_bad true values number admits extreme has = λ h. longest_tan laws script values number sound admits step sound_step (first + length step.templates) extreme (has.0 h)
-  tan_as_bad false values number admits extreme has = λ h. has.1 (shortest_tan laws script values number sound admits step sound_step (first + length step.templates) extreme h)
+  tan_as_bad true values number admits extreme has = λ h. longest_tan script values number sound admits step sound_step (first + length step.templates) extreme (has.0 h)
+  tan_as_bad false values number admits extreme has = λ h. has.1 (shortest_tan script values number sound admits step sound_step (first + length step.templates) extreme h)
 
   -- no message is worse than the step's facts..
   facts_no_better : (values : List NamedValue) (number : ℕ) → Admits script.fields values → IsNoBetter (wants_tan r) f (facts_of granted.rows.pins (Sent values number))
@@ -126,49 +126,49 @@ module _ (laws : Laws) (script : ScriptValue) (granted : Granted) (step : StepVa
 
   whole_broken : (place : ℕ) → place ≡ 0 → MessageBreaks granted f r → (number : ℕ) → BreaksByContent granted (Sent Own number) r place
   whole_broken place at b number =
-      inl (at, message_no_better granted (facts_of granted.rows.pins (Sent Own number)) f r (extreme_no_better Own number (extreme_admitted laws (wants_tan r) script.fields) (extreme_is (wants_tan r) script.fields)) b)
+      inl (at, message_no_better granted (facts_of granted.rows.pins (Sent Own number)) f r (extreme_no_better Own number (extreme_admitted (wants_tan r) script.fields) (extreme_is (wants_tan r) script.fields)) b)
 
   segment_broken : (place i : ℕ) (t : Template) (there : slice_get step.templates i ≡ Some t) (values : List NamedValue) → place ≡ first + i
-      → IsBrokenBy laws script.fields granted f r t (template_count t.kind step.templates) (closed i t there) values → (number : ℕ) → BreaksByContent granted (Sent values number) r place
+      → IsBrokenBy script.fields granted f r t (template_count t.kind step.templates) (closed i t there) values → (number : ℕ) → BreaksByContent granted (Sent values number) r place
   segment_broken place i t there values at s number =
       let segment : OwnedSegment = filled_segment (Fill values number) (first + i) t in
-      inr (any_there (λ (x : OwnedSegment). (x.head.number ≡ place) × BreaksAt granted (Sent values number) r x) (Sent values number).body i segment (laws.segments script step number values i t there)
+      inr (any_there (λ (x : OwnedSegment). (x.head.number ≡ place) × BreaksAt granted (Sent values number) r x) (Sent values number).body i segment (bodies_are_templates_segments script step number values i t there)
       (sym at, segment_from values number (first + i) t s.admitted s.extreme (s.breaks number (first + i))))
 
   step_some : (place : ℕ) → StepBreaks granted script.fields step f r place → CanBreak granted script step r place
-  step_some place (inl (at, b)) = record { values = Own; admitted = extreme_admitted laws (wants_tan r) script.fields; breaks = whole_broken place at b }
+  step_some place (inl (at, b)) = record { values = Own; admitted = extreme_admitted (wants_tan r) script.fields; breaks = whole_broken place at b }
   step_some place (inr b) =
-      let s = template_sound laws script.fields granted f r b.template (template_count b.template.kind step.templates) (closed b.i b.template b.there) b.breaks in
+      let s = template_sound script.fields granted f r b.template (template_count b.template.kind step.templates) (closed b.i b.template b.there) b.breaks in
       record { values = s.0; admitted = s.1.admitted; breaks = segment_broken place b.i b.template b.there s.0 b.number_is s.1 }
 
   step_chosen : (place : ℕ) (choice : Option SetAccount) (values : List NamedValue) → BreaksWith granted script.fields step f r place choice → IsChoice (wants_tan r) script.fields choice values
       → Admits script.fields values × ((number : ℕ) → BreaksByContent granted (Sent values number) r place)
   step_chosen place choice values (inl (at, b, none)) is =
       let own : values ≡ Own = subst (λ (c : Option SetAccount). IsChoice (wants_tan r) script.fields c values) none is in
-      subst (λ (vs : List NamedValue). Admits script.fields vs × ((number : ℕ) → BreaksByContent granted (Sent vs number) r place)) (sym own) (extreme_admitted laws (wants_tan r) script.fields, whole_broken place at b)
+      subst (λ (vs : List NamedValue). Admits script.fields vs × ((number : ℕ) → BreaksByContent granted (Sent vs number) r place)) (sym own) (extreme_admitted (wants_tan r) script.fields, whole_broken place at b)
   step_chosen place choice values (inr b) is =
-      let s = template_with laws script.fields granted f r b.template (template_count b.template.kind step.templates) (closed b.i b.template b.there) choice values b.breaks is in
+      let s = template_with script.fields granted f r b.template (template_count b.template.kind step.templates) (closed b.i b.template b.there) choice values b.breaks is in
       (s.admitted, segment_broken place b.i b.template b.there values b.number_is s)
 
   step_each : (number : ℕ) (values : List NamedValue) (place : ℕ) → Admits script.fields values → BreaksByContent granted (Sent values number) r place → StepBreaks granted script.fields step f r place
   step_each number values place admits (inl (at, b)) = inl (at, message_no_better granted f (facts_of granted.rows.pins (Sent values number)) r (facts_no_better values number admits) b)
   step_each number values place admits (inr (i, s, lt, at, (number_is, b))) =
-      let within : i < length step.templates = subst (λ (m : ℕ). i < m) (laws.count script step number values) lt in
+      let within : i < length step.templates = subst (λ (m : ℕ). i < m) (bodies_are_templates_count script step number values) lt in
       let (t, there) = slice_there step.templates i within in
-      let same : s ≡ filled_segment (Fill values number) (first + i) t = same_Some s (filled_segment (Fill values number) (first + i) t) (sym (there_of (Sent values number).body i s lt at) ∙ laws.segments script step number values i t there) in
+      let same : s ≡ filled_segment (Fill values number) (first + i) t = same_Some s (filled_segment (Fill values number) (first + i) t) (sym (there_of (Sent values number).body i s lt at) ∙ bodies_are_templates_segments script step number values i t there) in
       inr (record {
         i = i;
         template = t;
         there = there;
         number_is = sym number_is ∙ ap (λ (x : OwnedSegment). x.head.number) same;
-        breaks = template_complete laws script.fields granted f r t (template_count t.kind step.templates) (closed i t there) values number (first + i) admits (segment_to values number (first + i) t admits (subst (BreaksAt granted (Sent values number) r) same b));
+        breaks = template_complete script.fields granted f r t (template_count t.kind step.templates) (closed i t there) values number (first + i) admits (segment_to values number (first + i) t admits (subst (BreaksAt granted (Sent values number) r) same b));
       })
 
-pub decides : Laws → TemplatesDecide
-decides laws script granted step r f sound sound_step closed facts = record {
-  some = step_some laws script granted step r f sound sound_step closed facts;
-  chosen = step_chosen laws script granted step r f sound sound_step closed facts;
-  each = step_each laws script granted step r f sound sound_step closed facts;
+pub decides : TemplatesDecide
+decides script granted step r f sound sound_step closed facts = record {
+  some = step_some script granted step r f sound sound_step closed facts;
+  chosen = step_chosen script granted step r f sound sound_step closed facts;
+  each = step_each script granted step r f sound sound_step closed facts;
 }
 
 pub message_is : (granted : Granted) (script : ScriptValue) (step : StepValue) (f : StepFacts) → AreStepFacts granted script step f → (most : Bool) → AreMessageFacts granted script step most (message_for f most)

@@ -31,15 +31,16 @@ use Rattle.fints_check_findings.specs.Choosing.{IsChoice, TemplateBreaksWith, ex
 use Rattle.fints_check_findings.specs.Elements.{accounts_asked, accounts_at, asks_account, listed_in, literals, template_facts, wants_tan}
 use Rattle.fints_check_findings.specs.StepFacts.{TemplateBreaks}
 use Rattle.fints_check_findings.specs.declared.choosing.SetAccount.{SetAccount}
-use Rattle.fints_check_findings.proofs.Below.{Laws}
 use Rattle.fints_check_findings.proofs.Literals.{literal_two, two_is}
 use Rattle.fints_check_findings.proofs.Lists.{any_there, none_or_some, set_elsewhere, set_here, there_of}
 use Rattle.fints_check_findings.proofs.RuleFacts.{asks_least, items_moved}
+use Rattle.fints_script_fields.proofs.ClassLawLemmas.{listed_accounts_are_values_admitted, listed_accounts_are_values_items}
+use Rattle.fints_wire.proofs.LawLemmas.{accounts_are_put_in, elements_are_filled_values, extremes_are_admitted_longest, extremes_are_admitted_shortest, values_may_be_set_admitted}
 
 -- ---- literals
 
-pub two_literal : Laws → (F : FillingValue) (n : ℕ) (t : Template) → list_all is_literal (element_two t) ≡ true → values_at (filled_segment F n t) 2 ≡ literals t
-two_literal laws = literal_two laws.values
+pub two_literal : (F : FillingValue) (n : ℕ) (t : Template) → list_all is_literal (element_two t) ≡ true → values_at (filled_segment F n t) 2 ≡ literals t
+two_literal = literal_two elements_are_filled_values
 
 -- ---- one account field
 
@@ -133,9 +134,9 @@ pub extreme_is : (most : Bool) (fields : List NamedField) → IsExtreme most fie
 extreme_is true fields = longest_is fields
 extreme_is false fields = shortest_is fields
 
-pub extreme_admitted : Laws → (most : Bool) (fields : List NamedField) → Admits fields (extreme_choice most fields)
-extreme_admitted laws true fields = laws.longest fields
-extreme_admitted laws false fields = laws.shortest fields
+pub extreme_admitted : (most : Bool) (fields : List NamedField) → Admits fields (extreme_choice most fields)
+extreme_admitted true fields = extremes_are_admitted_longest fields
+extreme_admitted false fields = extremes_are_admitted_shortest fields
 
 with_account_is : (fields : List NamedField) (place : ℕ) (field : NamedField) (text : List ℕ) → slice_get fields place ≡ Some field → is_account field.class ≡ true → IsShortest fields (with_value (shortest_choice fields) place field text)
 with_account_is fields place field text at account f other value there single chosen =
@@ -155,7 +156,7 @@ item_values (x ∷ xs) = ap (λ (vs : List (List ℕ)). x ∷ vs) (item_values x
 same_accounts : (a b : List (List ℕ)) → account_items a ≡ account_items b → a ≡ b
 same_accounts a b e = sym (item_values a) ∙ (ap (map item_value) e ∙ item_values b)
 
-module _ (laws : Laws) (fields : List NamedField) (t : Template) where
+module _ (fields : List NamedField) (t : Template) where
   abbrev Items : List NamedValue → ℕ → ℕ → List (List ℕ)
   Items values number n = values_at (filled_segment (filling_of fields values number) n t) 2
 
@@ -169,19 +170,19 @@ module _ (laws : Laws) (fields : List NamedField) (t : Template) where
 
   standing : (values : List NamedValue) (number n : ℕ) → Admits fields values → (a : AccountAt fields (element_two t)) → IsStanding a (Items values number n)
   standing values number n admits a =
-      let (value, there, place, account, listed, is) = laws.account fields values number n 2 a.place t a.field admits (two_field a) a.there a.account in
+      let (value, there, place, account, listed, is) = accounts_are_put_in fields values number n 2 a.place t a.field admits (two_field a) a.there a.account in
       record { listed_at = place; listed = listed.listed ∙ ap (λ (x : List (List ℕ)). Some x) (sym is) }
 
   -- the account that is set stands there
   set_stands : (a : AccountAt fields (element_two t)) (k : ℕ) (account : List (List ℕ)) → slice_get (field_accounts a.field.class) k ≡ Some account → (number n : ℕ) → Items (with_value (shortest_choice fields) a.place a.field (account_text account)) number n ≡ account
   set_stands a k account at number n =
       let V = with_value (shortest_choice fields) a.place a.field (account_text account) in
-      let admits : Admits fields V = laws.set_admitted fields (shortest_choice fields) a.place a.field (account_text account) (laws.shortest fields) a.there (laws.listed_admitted a.field.class k account at) in
-      let (value, there, place, stands, listed, is) = laws.account fields V number n 2 a.place t a.field admits (two_field a) a.there a.account in
+      let admits : Admits fields V = values_may_be_set_admitted fields (shortest_choice fields) a.place a.field (account_text account) (extremes_are_admitted_shortest fields) a.there (listed_accounts_are_values_admitted a.field.class k account at) in
+      let (value, there, place, stands, listed, is) = accounts_are_put_in fields V number n 2 a.place t a.field admits (two_field a) a.there a.account in
       let within : a.place < length (shortest_choice fields) = subst (λ (m : ℕ). a.place < m) (sym (length-map fields with_shortest)) (slice_get_within fields a.place a.field a.there) in
       let same : value ≡ value_of a.field (account_text account) = same_Some value (value_of a.field (account_text account)) (sym there ∙ set_here (shortest_choice fields) a.place (value_of a.field (account_text account)) within) in
       let items : account_items stands ≡ account_items account =
-      sym listed.items ∙ (ap (λ (v : NamedValue). field_items a.field.class v.value) same ∙ (laws.listed_items a.field.class k account at).items)
+      sym listed.items ∙ (ap (λ (v : NamedValue). field_items a.field.class v.value) same ∙ (listed_accounts_are_values_items a.field.class k account at).items)
       in
       is ∙ same_accounts stands account items
 
@@ -194,7 +195,7 @@ module _ (laws : Laws) (fields : List NamedField) (t : Template) where
     plain : (values : List NamedValue) (number n : ℕ) → Admits fields values → accounts_asked fields r t ≡ [] → IsPlain (Items values number n)
     plain values number n admits none = record {
       account = λ asks names. elim (closed.account names) [
-        | inl literal ↦ two_literal laws (filling_of fields values number) n t literal
+        | inl literal ↦ two_literal (filling_of fields values number) n t literal
         | inr field ↦
             let a = account_at fields (element_two t) field in
             let s = standing values number n admits a in
@@ -202,12 +203,12 @@ module _ (laws : Laws) (fields : List NamedField) (t : Template) where
             let no_match : slice_get [] s.listed_at ≡ Some (Items values number n) = subst (λ (xs : List (List (List ℕ))). slice_get xs s.listed_at ≡ Some (Items values number n)) empty s.listed in
             absurd cc
       ];
-      process = λ tan. two_literal laws (filling_of fields values number) n t (closed.process tan);
+      process = λ tan. two_literal (filling_of fields values number) n t (closed.process tan);
     }
 
 -- ---- both ways
 
-module _ (laws : Laws) (fields : List NamedField) (granted : Granted) (f : MessageFacts) (r : Rule) (t : Template) (count : ℕ) (closed : IsClosedTemplate fields granted.orders t) where
+module _ (fields : List NamedField) (granted : Granted) (f : MessageFacts) (r : Rule) (t : Template) (count : ℕ) (closed : IsClosedTemplate fields granted.orders t) where
   abbrev With : List (List ℕ) → Type 0
   With items = SegmentBreaks granted f r (template_facts t count items)
 
@@ -218,11 +219,11 @@ module _ (laws : Laws) (fields : List NamedField) (granted : Granted) (f : Messa
   template_complete values number n admits b =
       elim (none_or_some (accounts_asked fields r t)) [
         | inl none ↦
-            let p = plain laws fields t granted.orders closed r values number n admits none in
+            let p = plain fields t granted.orders closed r values number n admits none in
             inr (none, items_moved granted f t count (Two values number n) (literals t) r p.account p.process b)
         | inr some ↦
             let a = asked fields r t some in
-            let s = standing laws fields t values number n admits a.at in
+            let s = standing fields t values number n admits a.at in
             inl (subst (λ (xs : List (List (List ℕ))). Any With xs) (sym a.accounts) (any_there With (field_accounts a.at.field.class) s.listed_at (Two values number n) s.listed b))
       ]
 
@@ -237,18 +238,18 @@ module _ (laws : Laws) (fields : List NamedField) (granted : Granted) (f : Messa
 
   own_broken : accounts_asked fields r t ≡ [] → With (literals t) → IsBrokenBy Own
   own_broken none own = record {
-    admitted = extreme_admitted laws (wants_tan r) fields;
+    admitted = extreme_admitted (wants_tan r) fields;
     extreme = extreme_is (wants_tan r) fields;
     breaks = λ number n.
-        let p = plain laws fields t granted.orders closed r Own number n (extreme_admitted laws (wants_tan r) fields) none in
+        let p = plain fields t granted.orders closed r Own number n (extreme_admitted (wants_tan r) fields) none in
         items_moved granted f t count (literals t) (Two Own number n) r (λ asks names. sym (p.account asks names)) (λ tan. sym (p.process tan)) own;
   }
 
   set_broken : asks_account r ≡ true → (a : AccountAt fields (element_two t)) (k : ℕ) (account : List (List ℕ)) → slice_get (field_accounts a.field.class) k ≡ Some account → With account → IsBrokenBy (with_value (shortest_choice fields) a.place a.field (account_text account))
   set_broken asks a k account at b = record {
-    admitted = laws.set_admitted fields (shortest_choice fields) a.place a.field (account_text account) (laws.shortest fields) a.there (laws.listed_admitted a.field.class k account at);
+    admitted = values_may_be_set_admitted fields (shortest_choice fields) a.place a.field (account_text account) (extremes_are_admitted_shortest fields) a.there (listed_accounts_are_values_admitted a.field.class k account at);
     extreme = subst (λ (most : Bool). IsExtreme most fields (with_value (shortest_choice fields) a.place a.field (account_text account))) (sym (asks_least r asks)) (with_account_is fields a.place a.field (account_text account) a.there a.account);
-    breaks = λ number n. subst With (sym (set_stands laws fields t a k account at number n)) b;
+    breaks = λ number n. subst With (sym (set_stands fields t a k account at number n)) b;
   }
 
   -- the values with the account that is set

@@ -1,5 +1,5 @@
 -- The two rules that hang on a message's number and size, P2 and P3: what messages of a step with its greatest figures break.
-use Rattle.std.proofs.Common.{ℕ, ◌≤◌, ◌≡◌, ◌⊎◌, List, refl, arith, inl, inr}
+use Rattle.std.proofs.Common.{Some, ℕ, ◌≤◌, ◌≡◌, ◌⊎◌, List, refl, arith, inl, inr}
 use Rattle.std.specs.Prelude.{Any}
 use Rattle.fints_syntax_segments.specs.declared.item.OwnedSegment.{OwnedSegment}
 use Rattle.fints_params.specs.declared.rows.BankRow.{BankRow}
@@ -11,9 +11,10 @@ use Rattle.fints_rules.specs.declared.facts.Figures.{Figures}
 use Rattle.fints_rules.specs.declared.rule.Rule.{Rule}
 use Rattle.fints_rules.specs.declared.rule.Rule.TheVariants as rule
 use Rattle.fints_script_cases.specs.declared.values.NamedValue.{NamedValue}
+use Rattle.fints_script.specs.Numbered.{numbered}
 use Rattle.fints_script.specs.Plans.{Admits}
 use Rattle.fints_script.specs.Scripts.{ScriptValue}
-use Rattle.fints_script.specs.Sound.{IsSoundStep}
+use Rattle.fints_script.specs.Sound.{IsSound, IsSoundStep}
 use Rattle.fints_script.specs.Steps.{StepValue}
 use Rattle.fints_wire.specs.Choices.{longest_choice}
 use Rattle.fints_wire.specs.Messages.{message_bytes}
@@ -22,7 +23,8 @@ use Rattle.fints_check_findings.specs.Figures.{reached_figures}
 use Rattle.fints_check_findings.specs.Searching.{AreFiguresAt}
 use Rattle.fints_check_findings.specs.declared.finding.Reached.{Reached}
 use Rattle.fints_wire.specs.declared.building.TheConstants.{MAX_NUMBER}
-use Rattle.fints_check_findings.proofs.Reals.{NoneIsLonger}
+use Rattle.fints_check_findings.proofs.Reals.{longest_are_longest, read_at}
+use Rattle.fints_wire.proofs.LawLemmas.{extremes_are_admitted_longest}
 
 -- ---- which rules they are
 
@@ -46,13 +48,14 @@ size_alone granted m place (inr any) = nowhere _ _ (λ s h. h.1) any
 
 -- ---- at the greatest figures
 
-module _ (granted : Granted) (script : ScriptValue) (step : StepValue) (figures : Reached) (are : AreFiguresAt script step figures) (longest : Admits script.fields (longest_choice script.fields)) (sound : IsSoundStep script step)
-    (read : (number : ℕ) (values : List NamedValue) → 1 ≤ number → number ≤ MAX_NUMBER → Admits script.fields values → IsMessage (message_bytes script step number values) (message_view script step number values))
-    (longer : NoneIsLonger script) where
+module _ (granted : Granted) (script : ScriptValue) (step : StepValue) (n : ℕ) (figures : Reached) (are : AreFiguresAt script step figures) (at : numbered script.steps n ≡ Some step) (sound : IsSound script) (sound_step : IsSoundStep script step) where
+  read : (number : ℕ) (values : List NamedValue) → 1 ≤ number → number ≤ MAX_NUMBER → Admits script.fields values → IsMessage (message_bytes script step number values) (message_view script step number values)
+  read number values low high admits = read_at script granted sound n number step values at low high admits
+
   -- what they break the longest message does
   pub figures_some : (r : Rule) → FiguresBreak granted.rows.bank (reached_figures figures) r → BreaksByFigures granted (message_view script step figures.number (longest_choice script.fields)) r
   figures_some rule.Number b = b
-  figures_some rule.Size b = let whole = (read figures.number (longest_choice script.fields) are.least are.most longest).size in (b.0, omega (arith, b.1, are.size, whole))
+  figures_some rule.Size b = let whole = (read figures.number (longest_choice script.fields) are.least are.most (extremes_are_admitted_longest script.fields)).size in (b.0, omega (arith, b.1, are.size, whole))
   figures_some _ b = absurd b
 
   -- what a message of a number up to theirs breaks they do
@@ -62,7 +65,7 @@ module _ (granted : Granted) (script : ScriptValue) (step : StepValue) (figures 
   figures_each rule.Size lower values admits low high b =
       let most = are.most in
       let whole = (read lower values low (omega (arith, most, high)) admits).size in
-      let long = longer step values lower figures.number sound admits low high are.most in
+      let long = longest_are_longest script sound step values lower figures.number sound_step admits low high are.most in
       (b.0, omega (arith, b.1, are.size, whole, long))
   figures_each _ lower values admits low high b = absurd b
 

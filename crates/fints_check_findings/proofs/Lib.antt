@@ -1,5 +1,4 @@
 pub mod Lists
-pub mod Below
 pub mod RuleFacts
 pub mod Literals
 pub mod ElementTwo

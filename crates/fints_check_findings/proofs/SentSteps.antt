@@ -1,21 +1,16 @@
 -- Which findings of a step that runs send are real.
-use Rattle.std.proofs.Common.{ℕ, ◌-◌, ◌+◌, ◌<◌, ◌≤◌, ◌≡◌, ◌⊎◌, Bool, List, length, Some, sym, subst, arith, inl, inr}
+use Rattle.std.proofs.Common.{ℕ, ◌+◌, ◌<◌, ◌≡◌, ◌⊎◌, Bool, List, length, Some, sym, subst, arith, inl, inr}
 use Rattle.fints_rules.proofs.RuleTable.{rule_or}
 use Rattle.fints_rules.specs.Breaks.{BreaksByContent}
 use Rattle.fints_rules.specs.declared.rule.Rule.{Rule}
 use Rattle.fints_rules.specs.declared.rule.Rule.TheVariants.{Release}
-use Rattle.fints_rules_messages.proofs.LawLemmas.{one_message}
-use Rattle.fints_rules_messages.specs.Messages.{IsMessage}
 use Rattle.fints_script_cases.specs.declared.values.NamedValue.{NamedValue}
-use Rattle.fints_script.specs.Numbered.{numbered, numbered_from}
+use Rattle.fints_script.specs.Numbered.{numbered}
 use Rattle.fints_script.specs.Plans.{Admits}
 use Rattle.fints_script.specs.Sound.{IsSound, IsSoundStep}
 use Rattle.fints_wire.specs.Choices.{longest_choice}
-use Rattle.fints_wire.specs.Messages.{message_bytes}
 use Rattle.fints_wire.specs.Views.{message_view}
-use Rattle.fints_wire.specs.declared.building.TheConstants.{MAX_NUMBER}
-use Rattle.fints_wire.proofs.LawLemmas.{extremes_are_admitted_longest, messages_are_read, none_is_longer_most}
-use Rattle.fints_wire.proofs.RunLawLemmas.{last_messages, visits_are_within}
+use Rattle.fints_wire.proofs.LawLemmas.{extremes_are_admitted_longest}
 use Rattle.fints_check_findings.specs.AtStep.{AtStepValue, BreaksAsSent, IsSentStep}
 use Rattle.fints_check_findings.specs.Breakable.{CanBreak}
 use Rattle.fints_check_findings.specs.Findings.{IsReal}
@@ -24,7 +19,7 @@ use Rattle.fints_check_findings.specs.declared.finding.Reached.{Reached}
 use Rattle.fints_check_findings.proofs.FigureRules.{figures_each, figures_some}
 use Rattle.fints_check_findings.proofs.LawLemmas.{release_is_left}
 use Rattle.fints_check_findings.proofs.Places.{content_within}
-use Rattle.fints_check_findings.proofs.Reals.{AreWithin, LastMessages, NoneIsLonger, broken_real, real_breaks}
+use Rattle.fints_check_findings.proofs.Reals.{broken_real, real_breaks}
 
 -- what its message holds breaks the rule at the place, for some admitted values and at some number
 abbrev pub IsHeld : AtStepValue → Rule → ℕ → Type 0
@@ -37,28 +32,13 @@ module _ (s : AtStepValue) (figures : Reached) (unreleased : Bool) (is : IsSentS
   abbrev BreaksSo : Rule → Type 0
   BreaksSo r = BreaksAsSent (record { at = s; figures = figures; unreleased = unreleased }) r
 
-  last : LastMessages s.script
-  last = λ values m. last_messages s.script values m sound
-
-  within : AreWithin s.script
-  within = λ v. visits_are_within s.script v sound
-
-  longer : NoneIsLonger s.script
-  longer = λ step v l k h a low high small. none_is_longer_most s.script step v l k sound h a low high small
-
-  read : (number : ℕ) (values : List NamedValue) → 1 ≤ number → number ≤ MAX_NUMBER → Admits s.script.fields values → IsMessage (message_bytes s.script s.step number values) (message_view s.script s.step number values)
-  read number values low high admits = messages_are_read s.script (s.n - 1) s.step number values sound (numbered_from s.script.steps s.n s.step at) low high admits
-
-  longest : Admits s.script.fields (longest_choice s.script.fields)
-  longest = extremes_are_admitted_longest s.script.fields
-
   pub sent_real : (r : Rule) (place : ℕ) → place ≡ 0 → BreaksSo r → Real r place
-  sent_real r place zero (inl b) = broken_real s.script s.granted sound last within messages_are_read one_message (record { step = s.n; rule = r; segment = place }) figures.number s.step at is.greatest
-      (record { values = longest_choice s.script.fields; admitted = longest; breaks = inl (zero, figures_some s.granted s.script s.step figures is.figures_are longest sound_step read longer r b) })
+  sent_real r place zero (inl b) = broken_real s.script s.granted sound (record { step = s.n; rule = r; segment = place }) figures.number s.step at is.greatest
+      (record { values = longest_choice s.script.fields; admitted = extremes_are_admitted_longest s.script.fields; breaks = inl (zero, figures_some s.granted s.script s.step s.n figures is.figures_are at sound sound_step r b) })
   sent_real r place zero (inr (release, left)) = subst (λ (x : Rule). Real x place) (sym release) (subst (Real Release) (sym zero) (is.left.0 left))
 
   pub held_real : (r : Rule) (place : ℕ) → CanBreak s.granted s.script s.step r place → Real r place
-  held_real r place can = broken_real s.script s.granted sound last within messages_are_read one_message (record { step = s.n; rule = r; segment = place }) figures.number s.step at is.greatest (record { values = can.values; admitted = can.admitted; breaks = inr (can.breaks figures.number) })
+  held_real r place can = broken_real s.script s.granted sound (record { step = s.n; rule = r; segment = place }) figures.number s.step at is.greatest (record { values = can.values; admitted = can.admitted; breaks = inr (can.breaks figures.number) })
 
   pub real_sent : (r : Rule) (place : ℕ) → Real r place → ((place ≡ 0) × BreaksSo r) ⊎ IsHeld s r place
   real_sent r place real = elim (rule_or r Release) [
@@ -66,9 +46,9 @@ module _ (s : AtStepValue) (figures : Reached) (unreleased : Bool) (is : IsSentS
         let zero = (release_is_left s.granted s.script (record { step = s.n; rule = r; segment = place }) sound release real).0 in
         inl (zero, inr (release, is.left.1 (subst (Real Release) zero (subst (λ (x : Rule). Real x place) release real))))
     | inr other ↦
-        let b = real_breaks s.script s.granted sound last within messages_are_read one_message (record { step = s.n; rule = r; segment = place }) figures.number s.step other at is.greatest real in
+        let b = real_breaks s.script s.granted sound (record { step = s.n; rule = r; segment = place }) figures.number s.step other at is.greatest real in
         elim b.5 [
-          | inl whole ↦ inl (whole.0, inl (figures_each s.granted s.script s.step figures is.figures_are longest sound_step read longer r b.1 b.0 b.2 b.3 b.4 whole.1))
+          | inl whole ↦ inl (whole.0, inl (figures_each s.granted s.script s.step s.n figures is.figures_are at sound sound_step r b.1 b.0 b.2 b.3 b.4 whole.1))
           | inr held ↦ inr (b.1, b.0, b.2, held)
         ]
   ]

@@ -28,9 +28,10 @@ use Rattle.fints_script_templates.specs.declared.template.TemplateItem.TheVarian
 use Rattle.fints_wire.specs.Filling.{FillingValue, filled_element, filled_item, filled_segment, filled_segments, filling_of}
 use Rattle.fints_wire.specs.Messages.{end_template, no_signer, signer_at, signers_of}
 use Rattle.fints_check_findings.specs.Tans.{AdmitsEmpty, AdmitsFilled, AlwaysHasTan, HasTanAt, MayBeEmpty, MayBeFilled, MayHaveTanAt, MaybeTan, SomeTan, tan_item}
-use Rattle.fints_check_findings.proofs.Below.{Laws}
 use Rattle.fints_check_findings.proofs.ElementTwo.{IsLongest, IsShortest}
 use Rattle.fints_check_findings.proofs.Lists.{slice_there}
+use Rattle.fints_script_fields.proofs.ClassLawLemmas.{empty_is_shortest, longest_is_empty_alone_alone, longest_is_empty_alone_empty, others_are_one_item}
+use Rattle.fints_wire.proofs.LawLemmas.{dialog_is_one_item, elements_are_filled_values, fields_are_put_in}
 
 single_class : (class : Class) → is_account class ≡ false → field_accounts class ≡ []
 single_class (classes.Account c) h = absurd cc
@@ -59,7 +60,7 @@ frame_at fields es each i =
           (subst (All (IsInRange fields)) (sym none) (All-nil (IsInRange fields)), subst (All (IsSingle fields)) (sym none) (All-nil (IsSingle fields)))
     ]
 
-module _ (laws : Laws) (script : ScriptValue) (values : List NamedValue) (number : ℕ) (sound : IsSound script) (admits : Admits script.fields values) where
+module _ (script : ScriptValue) (values : List NamedValue) (number : ℕ) (sound : IsSound script) (admits : Admits script.fields values) where
   abbrev F : FillingValue
   F = filling_of script.fields values number
 
@@ -75,20 +76,20 @@ module _ (laws : Laws) (script : ScriptValue) (values : List NamedValue) (number
   stands : (t : TemplateItem) → IsInRange script.fields t → IsSingle script.fields t → Stands t
   stands (Literal item) within single = record { item = item; items_are = refl; may = λ e. e; is = λ shortest e. e; filled = λ h. h; has = λ longest h. h }
   stands Dialog within single =
-      let (item, items_are, some) = laws.dialog script values number sound admits in
+      let (item, items_are, some) = dialog_is_one_item script values number sound admits in
       record { item = item; items_are = items_are; may = λ e. some e; is = λ shortest never. absurd never; filled = λ h. tt; has = λ longest h. some }
   stands (Field f) within single =
       let (field, at) = slice_there script.fields f within.1 in
       let plain : is_account field.class ≡ false = subst (λ (o : Option NamedField). is_account_at o ≡ false) at single in
-      let v = laws.field script.fields values f field admits at in
-      let (item, items_are, value_is) = laws.one_item field.class v.value.value (single_class field.class plain) in
+      let v = fields_are_put_in script.fields values f field admits at in
+      let (item, items_are, value_is) = others_are_one_item field.class v.value.value (single_class field.class plain) in
       record {
         item = item;
         items_are = v.items ∙ items_are;
         may = λ e. subst AdmitsEmpty (sym at) (subst (λ (x : List ℕ). field_domain field.class x) (sym value_is ∙ e) v.chosen.1);
-        is = λ shortest may. value_is ∙ (shortest f field v.value at plain v.there ∙ laws.empty_shortest field.class (subst AdmitsEmpty at may));
-        filled = λ h. subst AdmitsFilled (sym at) (λ none. h (value_is ∙ laws.longest_alone field.class v.value.value v.chosen.1 none));
-        has = λ longest may e. (subst AdmitsFilled at may) (laws.longest_empty field.class (sym (longest f field v.value at plain v.there) ∙ (sym value_is ∙ e)));
+        is = λ shortest may. value_is ∙ (shortest f field v.value at plain v.there ∙ empty_is_shortest field.class (subst AdmitsEmpty at may));
+        filled = λ h. subst AdmitsFilled (sym at) (λ none. h (value_is ∙ longest_is_empty_alone_alone field.class v.value.value v.chosen.1 none));
+        has = λ longest may e. (subst AdmitsFilled at may) (longest_is_empty_alone_empty field.class (sym (longest f field v.value at plain v.there) ∙ (sym value_is ∙ e)));
       }
 
   -- the value of an item, or of none
@@ -111,7 +112,7 @@ module _ (laws : Laws) (script : ScriptValue) (values : List NamedValue) (number
   tan_value : (signer : Signer) → IsSoundFrame script.fields signer.end → IsValueOf (tan_item signer) (value_at (filled_segment F 0 (end_template signer)) 4 2)
   tan_value signer h =
       let at = frame_at script.fields signer.end h.each 2 in
-      subst (λ (vs : List (List ℕ)). IsValueOf (tan_item signer) (get_or vs 1 [])) (sym (laws.values F 0 4 (end_template signer))) (value_of_item (get_or signer.end 2 []) at.0 at.1 1)
+      subst (λ (vs : List (List ℕ)). IsValueOf (tan_item signer) (get_or vs 1 [])) (sym (elements_are_filled_values F 0 4 (end_template signer))) (value_of_item (get_or signer.end 2 []) at.0 at.1 1)
 
   abbrev flag : ℕ → Bool
   flag p = has_tan (filled_segment F 0 (end_template (signer_at script.signers p)))

@@ -11,10 +11,8 @@ use Rattle.fints_check_findings.specs.Choosing.{AreOfSort, IsChoice, chosen_sort
 use Rattle.fints_check_findings.specs.Elements.{wants_tan}
 use Rattle.fints_check_findings.specs.Searching.{AreCaseValues, BreaksAtGreatest}
 use Rattle.fints_check_findings.proofs.CaseLemmas.{if_ok, number_not, number_values, size_not, size_values, sort_is_choice}
-use Rattle.fints_check_findings.proofs.Reals.{AreWithin, LastMessages, NoneIsLonger, real_breaks}
-use Rattle.fints_rules_messages.proofs.LawLemmas.{one_message}
-use Rattle.fints_wire.proofs.LawLemmas.{extremes_are_admitted_longest, extremes_are_admitted_shortest, messages_are_read, none_is_longer_most}
-use Rattle.fints_wire.proofs.RunLawLemmas.{last_messages, visits_are_within}
+use Rattle.fints_check_findings.proofs.Reals.{real_breaks}
+use Rattle.fints_wire.proofs.LawLemmas.{extremes_are_admitted_shortest}
 use Rattle.fints_check_findings.proofs.casing.case_values.Goals as goal
 
 pub returns-in-Size : goal.returns-in-Size
@@ -22,10 +20,7 @@ returns-in-Size c =
     let script = c.args.plan.now.script in
     let granted = c.args.permissions.now in
     let sound = c.keeps.ensures.sound in
-    let last : LastMessages script = λ values m. last_messages script values m sound in
-    let within : AreWithin script = λ v. visits_are_within script v sound in
-    let longer : NoneIsLonger script = λ s v l k h a low high small. none_is_longer_most script s v l k sound h a low high small in
-    let breaks = size_values script granted c.args.finding sound last within messages_are_read one_message longer (extremes_are_admitted_longest script.fields) c.in-Size.is in
+    let breaks = size_values script granted c.args.finding sound c.in-Size.is in
     if_ok (λ v. v ≡ longest_choice script.fields) (AreCaseValues granted script c.args.finding) c.values_of.result
     (λ v is. record { admitted = λ r. absurd (size_not c.args.finding.rule c.in-Size.is r); greatest = λ other. subst (BreaksAtGreatest granted script c.args.finding) (sym is) breaks }) c.values_of.ensures
 
@@ -34,15 +29,12 @@ returns-in-Number c =
     let script = c.args.plan.now.script in
     let granted = c.args.permissions.now in
     let sound = c.keeps.ensures.sound in
-    let last : LastMessages script = λ values m. last_messages script values m sound in
-    let within : AreWithin script = λ v. visits_are_within script v sound in
-    let longer : NoneIsLonger script = λ s v l k h a low high small. none_is_longer_most script s v l k sound h a low high small in
     if_ok (λ v. v ≡ shortest_choice script.fields) (AreCaseValues granted script c.args.finding) c.values_of-in-Number.result
     (λ v is. record {
       admitted = λ r. absurd (number_not c.args.finding.rule c.in-Number.is r);
       greatest = λ other.
           let admits : Admits script.fields v = subst (Admits script.fields) (sym is) (extremes_are_admitted_shortest script.fields) in
-          number_values script granted c.args.finding sound last within messages_are_read one_message longer (extremes_are_admitted_longest script.fields) v admits c.in-Number.is;
+          number_values script granted c.args.finding sound v admits c.in-Number.is;
     }) c.values_of-in-Number.ensures
 
 pub returns-in-Release : goal.returns-in-Release
@@ -57,8 +49,6 @@ returns-in_default c =
     let script = c.args.plan.now.script in
     let granted = c.args.permissions.now in
     let sound = c.keeps.ensures.sound in
-    let last : LastMessages script = λ values m. last_messages script values m sound in
-    let within : AreWithin script = λ v. visits_are_within script v sound in
     let f = c.args.finding in
     let choice = c.choice-choice.result in
     let sort : c.chosen_sort.result ≡ chosen_sort (wants_tan f.rule) choice = c.chosen_sort.ensures ∙ ap (λ (most : Bool). chosen_sort most choice) c.wants_tan.ensures in
@@ -69,7 +59,7 @@ returns-in_default c =
     (λ v is. record {
       admitted = λ r. absurd (c.in_default.not-Release r);
       greatest = λ not_release number step at peak real.
-          let b = real_breaks script granted sound last within messages_are_read one_message f number step not_release at peak real in
+          let b = real_breaks script granted sound f number step not_release at peak real in
           let same : c.new-step.result.step ≡ step = same_Some c.new-step.result.step step (sym c.new-step.ensures.step ∙ at) in
           elim b.5 [
             | inl whole ↦ absurd (elim (figures_rule granted.rows.bank _ f.rule whole.1) [ inl is ↦ c.in_default.not-Number is | inr is ↦ c.in_default.not-Size is ])

@@ -16,11 +16,8 @@ use Rattle.fints_check_findings.proofs.AtSteps.{from_step, to_step}
 use Rattle.fints_check_findings.proofs.Checking.{cell_at, clean_permits, figures_all, figures_more, figures_none, greatest_at, nothing_real, reached_more, real_within, unreached, visits_told}
 use Rattle.fints_check_findings.proofs.Founds.{found_all, found_first, found_none}
 use Rattle.fints_check_findings.proofs.Holding.{cell_tells}
-use Rattle.fints_check_findings.proofs.Reals.{AreWithin, LastMessages, NoneIsLonger, figures_are, number_small}
+use Rattle.fints_check_findings.proofs.Reals.{figures_are, number_small}
 use Rattle.fints_check_findings.proofs.LawLemmas.{held_is_unreleased, release_is_left, unreleased_is_real}
-use Rattle.fints_rules_messages.proofs.LawLemmas.{one_message}
-use Rattle.fints_wire.proofs.LawLemmas.{extremes_are_admitted_longest, messages_are_read, none_is_longer_most}
-use Rattle.fints_wire.proofs.RunLawLemmas.{each_is_last_after, last_messages, sent_are_read, visits_are_within}
 use Rattle.fints_check_findings.proofs.report.check.Goals as goal
 use Rattle.fints_check_findings.proofs.report.check.Goals.{in-None, in-Some+in_ok-search-in-Some}
 
@@ -29,10 +26,8 @@ loop-i-init c =
     let script = c.args.plan.now.script in
     let granted = c.args.permissions.now in
     let sound = c.keeps.ensures.sound in
-    let last : LastMessages script = λ values m. last_messages script values m sound in
-    let within : AreWithin script = λ v. visits_are_within script v sound in
     record {
-      findings = subst (AreFoundTo granted script 1 1 0) (sym c.new-findings.ensures.items) (found_first granted script (λ f real. (real_within granted script last within f real).0));
+      findings = subst (AreFoundTo granted script 1 1 0) (sym c.new-findings.ensures.items) (found_first granted script (λ f real. (real_within granted script sound f real).0));
       figures = figures_none script c.in_ok-figures.figures.items c.in_ok-figures.ensures.items;
       reached = ap (λ (xs : List (Option Reached)). map is_some xs) c.in_ok-figures.ensures.items;
     }
@@ -42,24 +37,20 @@ figures_at-reached-requires-clause-least c =
     let script = c.args.plan.now.script in
     let granted = c.args.permissions.now in
     let sound = c.keeps.ensures.sound in
-    let last : LastMessages script = λ values m. last_messages script values m sound in
-    let within : AreWithin script = λ v. visits_are_within script v sound in
     let numbers = c.in_ok-numbers.numbers.greatest.items in
     let greatest = c.in_ok-numbers.ensures.greatest in
     let has : Has numbers (c.loop-i.i + 1) c.in-Some.number = cell_at numbers c.loop-i.i c.index.result.now (omega (arith, greatest.long, c.step_count-count.ensures.count)) c.index.ensures ∙ ap (λ x. Some x) c.in-Some.is in
-    (number_small script granted sound last within messages_are_read one_message (c.loop-i.i + 1) c.in-Some.number (greatest_at script.steps numbers (c.loop-i.i + 1) c.in-Some.number greatest has)).0
+    (number_small script granted sound (c.loop-i.i + 1) c.in-Some.number (greatest_at script.steps numbers (c.loop-i.i + 1) c.in-Some.number greatest has)).0
 
 pub figures_at-reached-requires-clause-most : goal.figures_at-reached-requires-clause-most
 figures_at-reached-requires-clause-most c =
     let script = c.args.plan.now.script in
     let granted = c.args.permissions.now in
     let sound = c.keeps.ensures.sound in
-    let last : LastMessages script = λ values m. last_messages script values m sound in
-    let within : AreWithin script = λ v. visits_are_within script v sound in
     let numbers = c.in_ok-numbers.numbers.greatest.items in
     let greatest = c.in_ok-numbers.ensures.greatest in
     let has : Has numbers (c.loop-i.i + 1) c.in-Some.number = cell_at numbers c.loop-i.i c.index.result.now (omega (arith, greatest.long, c.step_count-count.ensures.count)) c.index.ensures ∙ ap (λ x. Some x) c.in-Some.is in
-    (number_small script granted sound last within messages_are_read one_message (c.loop-i.i + 1) c.in-Some.number (greatest_at script.steps numbers (c.loop-i.i + 1) c.in-Some.number greatest has)).1
+    (number_small script granted sound (c.loop-i.i + 1) c.in-Some.number (greatest_at script.steps numbers (c.loop-i.i + 1) c.in-Some.number greatest has)).1
 
 pub new-requires-clause-figures : goal.new-requires-clause-figures
 new-requires-clause-figures c = subst (λ (script : ScriptValue). AreFiguresAt script c.new-step.result.step c.figures_at-reached.result) (sym c.new-step.ensures.script) (c.figures_at-reached.ensures.figures c.new-step.result.step c.new-step.ensures.step)
@@ -94,9 +85,6 @@ loop-i-preserved c =
     let script = c.args.plan.now.script in
     let granted = c.args.permissions.now in
     let sound = c.keeps.ensures.sound in
-    let last : LastMessages script = λ values m. last_messages script values m sound in
-    let within : AreWithin script = λ v. visits_are_within script v sound in
-    let longer : NoneIsLonger script = λ s v l k h a low high small. none_is_longer_most script s v l k sound h a low high small in
     let numbers = c.in_ok-numbers.numbers.greatest.items in
     let greatest = c.in_ok-numbers.ensures.greatest in
     let n : ℕ = c.loop-i.i + 1 in
@@ -107,8 +95,8 @@ loop-i-preserved c =
     let all : P c.match-index.findings × Q c.match-index.cell × R c.match-index.cell = elim c.match-index.branch [
       | in-None w ↦
           let none : numbered numbers (c.loop-i.i + 1) ≡ Some None = cell ∙ ap (λ x. Some x) w.in-None.is in (
-            subst P (sym w.findings-is) (found_none granted script (c.loop-i.i + 1) c.loop-i.findings.items (nothing_real granted script numbers (c.loop-i.i + 1) greatest last none) c.loop-i.invariant.findings),
-            subst Q (sym w.cell-is) (λ m s. unreached script numbers (c.loop-i.i + 1) s.values m greatest last none s.sends s.of),
+            subst P (sym w.findings-is) (found_none granted script (c.loop-i.i + 1) c.loop-i.findings.items (nothing_real granted script numbers (c.loop-i.i + 1) greatest sound none) c.loop-i.invariant.findings),
+            subst Q (sym w.cell-is) (λ m s. unreached script numbers (c.loop-i.i + 1) s.values m greatest sound none s.sends s.of),
             subst R (sym w.cell-is) (sym (ap (λ (x : Option ℕ). is_some x) w.in-None.is)),
           )
       | in-Some+in_ok-search-in-Some w ↦
@@ -117,7 +105,7 @@ loop-i-preserved c =
           let step = numbered_at script.steps (c.loop-i.i + 1) (omega arith) (omega (arith, c.step_count-count.ensures.count)) in (
             subst P (sym w.findings-is) (from_step (λ g x n. AreFoundTo g x (n + 1) 1 0 w.search.new.findings.items) w.new-step.result granted script (c.loop-i.i + 1) w.new-step.ensures.granted w.new-step.ensures.script w.new-step.ensures.number
                 (subst (λ (a : AtStepValue). AreFoundTo a.granted a.script (a.n + 1) 1 0 w.search.new.findings.items) w.new.ensures w.in_ok-search-in-Some.ensures)),
-            subst Q (sym w.cell-is) (figures_are script granted sound last within messages_are_read one_message longer (extremes_are_admitted_longest script.fields) (c.loop-i.i + 1) step.0 w.figures_at-reached.result step.1 peak (w.figures_at-reached.ensures.figures step.0 step.1)),
+            subst Q (sym w.cell-is) (figures_are script granted sound (c.loop-i.i + 1) step.0 w.figures_at-reached.result step.1 peak (w.figures_at-reached.ensures.figures step.0 step.1)),
             subst R (sym w.cell-is) (sym (ap (λ (x : Option ℕ). is_some x) w.in-Some.is)),
           )
     ] in
@@ -132,33 +120,25 @@ invariant_of-result c =
     let script = c.args.plan.now.script in
     let granted = c.args.permissions.now in
     let sound = c.keeps.ensures.sound in
-    let last : LastMessages script = λ values m. last_messages script values m sound in
-    let within : AreWithin script = λ v. visits_are_within script v sound in
     let all : c.loop-i.i ≡ length script.steps = omega (arith, c.loop-i-test.false, c.loop-i.auto.i-end, c.step_count-count.ensures.count) in
-    (c.requires, found_all granted script c.loop-i.i c.loop-i.findings.items (λ f real. subst (λ (k : ℕ). f.step ≤ k) (sym all) (real_within granted script last within f real).1) c.loop-i.invariant.findings, figures_all script c.loop-i.i c.loop-i.figures.items all c.loop-i.invariant.figures, visits_told script.steps c.loop-i.figures.items c.in_ok-numbers.numbers.greatest.items c.loop-i.i c.in_ok-numbers.numbers.visits (omega (arith, c.in_ok-numbers.ensures.greatest.long, all)) c.loop-i.invariant.reached c.in_ok-numbers.ensures.visits, c.in_ok-numbers.ensures.greatest, c.in_ok-numbers.ensures.sources, c.in_ok-holders.ensures)
+    (c.requires, found_all granted script c.loop-i.i c.loop-i.findings.items (λ f real. subst (λ (k : ℕ). f.step ≤ k) (sym all) (real_within granted script sound f real).1) c.loop-i.invariant.findings, figures_all script c.loop-i.i c.loop-i.figures.items all c.loop-i.invariant.figures, visits_told script.steps c.loop-i.figures.items c.in_ok-numbers.numbers.greatest.items c.loop-i.i c.in_ok-numbers.numbers.visits (omega (arith, c.in_ok-numbers.ensures.greatest.long, all)) c.loop-i.invariant.reached c.in_ok-numbers.ensures.visits, c.in_ok-numbers.ensures.greatest, c.in_ok-numbers.ensures.sources, c.in_ok-holders.ensures)
 
 pub returns-clause-exactly : goal.returns-clause-exactly
 returns-clause-exactly c =
     let script = c.args.plan.now.script in
     let granted = c.args.permissions.now in
     let sound = c.keeps.ensures.sound in
-    let last : LastMessages script = λ values m. last_messages script values m sound in
-    let within : AreWithin script = λ v. visits_are_within script v sound in
     let all : c.loop-i.i ≡ length script.steps = omega (arith, c.loop-i-test.false, c.loop-i.auto.i-end, c.step_count-count.ensures.count) in
-    (found_all granted script c.loop-i.i c.loop-i.findings.items (λ f real. subst (λ (k : ℕ). f.step ≤ k) (sym all) (real_within granted script last within f real).1) c.loop-i.invariant.findings).exactly
+    (found_all granted script c.loop-i.i c.loop-i.findings.items (λ f real. subst (λ (k : ℕ). f.step ≤ k) (sym all) (real_within granted script sound f real).1) c.loop-i.invariant.findings).exactly
 
 pub returns-clause-permitted : goal.returns-clause-permitted
 returns-clause-permitted c =
     let script = c.args.plan.now.script in
     let granted = c.args.permissions.now in
     let sound = c.keeps.ensures.sound in
-    let last : LastMessages script = λ values m. last_messages script values m sound in
-    let within : AreWithin script = λ v. visits_are_within script v sound in
     let all : c.loop-i.i ≡ length script.steps = omega (arith, c.loop-i-test.false, c.loop-i.auto.i-end, c.step_count-count.ensures.count) in
-    clean_permits granted script c.loop-i.findings.items
-    (found_all granted script c.loop-i.i c.loop-i.findings.items (λ f real. subst (λ (k : ℕ). f.step ≤ k) (sym all) (real_within granted script last within f real).1) c.loop-i.invariant.findings).exactly
-    (λ values answers sent. each_is_last_after script values answers sent sound)
-    (λ values answers sent. sent_are_read script values answers sent sound)
+    clean_permits granted script c.loop-i.findings.items sound
+    (found_all granted script c.loop-i.i c.loop-i.findings.items (λ f real. subst (λ (k : ℕ). f.step ≤ k) (sym all) (real_within granted script sound f real).1) c.loop-i.invariant.findings).exactly
 
 pub returns-clause-visits : goal.returns-clause-visits
 returns-clause-visits c =

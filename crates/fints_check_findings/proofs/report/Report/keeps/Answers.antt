@@ -8,11 +8,8 @@ use Rattle.fints_script_templates.specs.declared.template.Template.{Template}
 use Rattle.fints_check_findings.specs.Findings.{SentStepsAreClean, SentStepsAreReleased}
 use Rattle.fints_check_findings.specs.Reports.{ReportValue}
 use Rattle.fints_check_findings.proofs.Cleans.{clean_steps, nothing_real, released_steps}
-use Rattle.fints_check_findings.proofs.Reals.{AreWithin, LastMessages}
-use Rattle.fints_check_findings.proofs.LawLemmas.{templates_decide, unreleased_is_real}
+use Rattle.fints_check_findings.proofs.LawLemmas.{unreleased_is_real}
 use Rattle.fints_script.proofs.LawLemmas.{closed_segments}
-use Rattle.fints_wire.proofs.LawLemmas.{messages_are_read}
-use Rattle.fints_wire.proofs.RunLawLemmas.{last_messages, visits_are_within}
 use Rattle.fints_check_findings.proofs.report.Report.keeps.Goals as goal
 
 pub returns-clause-clean : goal.returns-clause-clean
@@ -21,13 +18,11 @@ returns-clause-clean c =
     let script = inside.plan.now.script in
     let granted = inside.permissions.now in
     let sound = c.keeps.ensures.sound in
-    let last : LastMessages script = λ values m. last_messages script values m sound in
-    let within : AreWithin script = λ v. visits_are_within script v sound in
     let closed : (n i : ℕ) (step : StepValue) (t : Template) → numbered script.steps n ≡ Some step → slice_get step.templates i ≡ Some t → IsClosedTemplate script.fields granted.orders t =
     λ n i step t at there. subst (λ (orders : List OrderRow). IsClosedTemplate script.fields orders t) (sym c.self.invariant.0) (closed_segments script inside.plan.now.orders c.keeps.ensures.closed n i step t at there)
     in
     subst (λ (r : ReportValue). r.findings ≡ [] → SentStepsAreClean r.granted r.plan.script) c.self.view_is
-    (λ none. clean_steps script granted sound last within messages_are_read templates_decide closed (nothing_real granted script inside.findings.items c.self.invariant.1 none))
+    (λ none. clean_steps script granted sound closed (nothing_real granted script inside.findings.items c.self.invariant.1 none))
 
 pub returns-clause-released : goal.returns-clause-released
 returns-clause-released c =
@@ -35,7 +30,6 @@ returns-clause-released c =
     let script = inside.plan.now.script in
     let granted = inside.permissions.now in
     let sound = c.keeps.ensures.sound in
-    let last : LastMessages script = λ values m. last_messages script values m sound in
     let closed = subst (IsClosed script) (sym c.self.invariant.0) c.keeps.ensures.closed in
     subst (λ (r : ReportValue). r.findings ≡ [] → SentStepsAreReleased r.plan.script) c.self.view_is
-    (λ none. released_steps granted script last (λ v s. unreleased_is_real granted script v s sound closed) (nothing_real granted script inside.findings.items c.self.invariant.1 none))
+    (λ none. released_steps granted script sound (λ v s. unreleased_is_real granted script v s sound closed) (nothing_real granted script inside.findings.items c.self.invariant.1 none))

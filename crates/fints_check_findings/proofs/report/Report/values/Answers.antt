@@ -1,19 +1,11 @@
-use Rattle.std.proofs.Common.{ℕ, ◌≡◌, ◌<◌, List, IfOk, length, ap, sym, subst}
-use Rattle.fints_script_cases.specs.declared.values.NamedValue.{NamedValue}
-use Rattle.fints_rules.specs.declared.rule.Rule.TheVariants.{Release}
-use Rattle.fints_script.specs.Plans.{Admits, IsClosed}
-use Rattle.fints_check_findings.specs.Findings.{IsReal, Shows}
-use Rattle.fints_check_findings.specs.Releases.{LeadsUnreleased}
+use Rattle.std.proofs.Common.{ℕ, ◌<◌, IfOk, length, ap, sym, subst}
+use Rattle.fints_script.specs.Plans.{IsClosed}
+use Rattle.fints_check_findings.specs.Findings.{Shows}
 use Rattle.fints_check_findings.specs.Reports.{AreValuesOf, LeadsFor, ReportValue}
 use Rattle.fints_check_findings.specs.Searching.{AreCaseValues}
 use Rattle.fints_check_findings.specs.declared.finding.Finding.{Finding}
-use Rattle.fints_check_findings.proofs.CaseLemmas.{RoutesSend, case_shown, if_ok, real_at, same_at}
+use Rattle.fints_check_findings.proofs.CaseLemmas.{case_shown, if_ok, real_at, same_at}
 use Rattle.fints_check_findings.proofs.Checking.{real_within}
-use Rattle.fints_check_findings.proofs.Reals.{AreWithin, LastMessages}
-use Rattle.fints_check_findings.proofs.LawLemmas.{release_is_left, unreleased_is_shown}
-use Rattle.fints_rules_messages.proofs.LawLemmas.{one_message}
-use Rattle.fints_wire.proofs.LawLemmas.{messages_are_read}
-use Rattle.fints_wire.proofs.RunLawLemmas.{last_messages, routes_send, visits_are_within}
 use Rattle.fints_check_findings.proofs.report.Report.values.Goals as goal
 
 pub case_values-requires-clause-from : goal.case_values-requires-clause-from
@@ -22,11 +14,9 @@ case_values-requires-clause-from c =
     let script = inside.plan.now.script in
     let granted = inside.permissions.now in
     let sound = c.keeps.ensures.sound in
-    let last : LastMessages script = λ values m. last_messages script values m sound in
-    let within : AreWithin script = λ v. visits_are_within script v sound in
     let few : c.args.i < length inside.findings.items = subst (λ (m : ℕ). c.args.i < m) (sym (ap (λ (r : ReportValue). length r.findings) c.self.view_is)) c.requires in
     let real = real_at granted script inside.findings.items c.args.i c.index-finding.result.now c.self.invariant.1 few c.index-finding.ensures in
-    (real_within granted script last within c.index-finding.result.now real).0
+    (real_within granted script sound c.index-finding.result.now real).0
 
 pub case_values-requires-clause-to : goal.case_values-requires-clause-to
 case_values-requires-clause-to c =
@@ -34,11 +24,9 @@ case_values-requires-clause-to c =
     let script = inside.plan.now.script in
     let granted = inside.permissions.now in
     let sound = c.keeps.ensures.sound in
-    let last : LastMessages script = λ values m. last_messages script values m sound in
-    let within : AreWithin script = λ v. visits_are_within script v sound in
     let few : c.args.i < length inside.findings.items = subst (λ (m : ℕ). c.args.i < m) (sym (ap (λ (r : ReportValue). length r.findings) c.self.view_is)) c.requires in
     let real = real_at granted script inside.findings.items c.args.i c.index-finding.result.now c.self.invariant.1 few c.index-finding.ensures in
-    (real_within granted script last within c.index-finding.result.now real).1
+    (real_within granted script sound c.index-finding.result.now real).1
 
 pub returns : goal.returns
 returns c =
@@ -46,19 +34,14 @@ returns c =
     let script = inside.plan.now.script in
     let granted = inside.permissions.now in
     let sound = c.keeps.ensures.sound in
-    let last : LastMessages script = λ values m. last_messages script values m sound in
-    let within : AreWithin script = λ v. visits_are_within script v sound in
     let few : c.args.i < length inside.findings.items = subst (λ (m : ℕ). c.args.i < m) (sym (ap (λ (r : ReportValue). length r.findings) c.self.view_is)) c.requires in
     let real = real_at granted script inside.findings.items c.args.i c.index-finding.result.now c.self.invariant.1 few c.index-finding.ensures in
-    let sends : RoutesSend script = λ values answers v m. routes_send script values answers v m sound in
     let report : ReportValue = record { plan = inside.plan.now; granted = granted; figures = inside.figures.items; findings = inside.findings.items; numbers = inside.numbers.greatest.items; visits = inside.numbers.visits } in
     let closed = subst (IsClosed script) (sym c.self.invariant.0) c.keeps.ensures.closed in
-    let left = λ (f : Finding) (is : f.rule ≡ Release) (r : IsReal granted script f). (release_is_left granted script f sound is r).0 in
-    let shown = λ (s : ℕ) (values : List NamedValue) (answers : List (List ℕ)) (admits : Admits script.fields values) (l : LeadsUnreleased script s answers). unreleased_is_shown granted script s values answers sound closed admits l in
     subst (λ (r : ReportValue). IfOk c.case_values.result (AreValuesOf r c.args.i)) c.self.view_is
     (if_ok (AreCaseValues granted script c.index-finding.result.now) (AreValuesOf report c.args.i) c.case_values.result
     (λ values are f answers at leads.
     let same = same_at inside.findings.items c.args.i c.index-finding.result.now f few c.index-finding.ensures at in
     subst (λ (x : Finding). Shows granted script x values answers) same
-    (case_shown report sound last within c.self.invariant.4 messages_are_read one_message sends left shown c.index-finding.result.now values answers real are (subst (λ (x : Finding). LeadsFor report x answers) (sym same) leads)))
+    (case_shown report sound closed c.self.invariant.4 c.index-finding.result.now values answers real are (subst (λ (x : Finding). LeadsFor report x answers) (sym same) leads)))
     c.case_values.ensures)

@@ -7,8 +7,6 @@ use Rattle.fints_check_findings.specs.Reports.{IsWayOf, LeadsFor, ReportValue}
 use Rattle.fints_check_findings.specs.declared.finding.Finding.{Finding}
 use Rattle.fints_check_findings.proofs.CaseLemmas.{if_ok, real_at, real_has, same_at}
 use Rattle.fints_check_findings.proofs.Checking.{real_within}
-use Rattle.fints_check_findings.proofs.Reals.{AreWithin, LastMessages}
-use Rattle.fints_wire.proofs.RunLawLemmas.{last_messages, visits_are_within}
 use Rattle.fints_check_findings.proofs.report.Report.way.Goals as goal
 
 pub longest_way-requires-clause-from : goal.longest_way-requires-clause-from
@@ -17,11 +15,9 @@ longest_way-requires-clause-from c =
     let script = inside.plan.now.script in
     let granted = inside.permissions.now in
     let sound = c.keeps.ensures.sound in
-    let last : LastMessages script = λ values m. last_messages script values m sound in
-    let within : AreWithin script = λ v. visits_are_within script v sound in
     let few : c.args.i < length inside.findings.items = subst (λ (m : ℕ). c.args.i < m) (sym (ap (λ (r : ReportValue). length r.findings) c.self.view_is)) c.requires in
     let real = real_at granted script inside.findings.items c.args.i c.index-finding.result.now c.self.invariant.1 few c.index-finding.ensures in
-    (real_within granted script last within c.index-finding.result.now real).0
+    (real_within granted script sound c.index-finding.result.now real).0
 
 pub longest_way-requires-clause-to : goal.longest_way-requires-clause-to
 longest_way-requires-clause-to c =
@@ -29,11 +25,9 @@ longest_way-requires-clause-to c =
     let script = inside.plan.now.script in
     let granted = inside.permissions.now in
     let sound = c.keeps.ensures.sound in
-    let last : LastMessages script = λ values m. last_messages script values m sound in
-    let within : AreWithin script = λ v. visits_are_within script v sound in
     let few : c.args.i < length inside.findings.items = subst (λ (m : ℕ). c.args.i < m) (sym (ap (λ (r : ReportValue). length r.findings) c.self.view_is)) c.requires in
     let real = real_at granted script inside.findings.items c.args.i c.index-finding.result.now c.self.invariant.1 few c.index-finding.ensures in
-    (real_within granted script last within c.index-finding.result.now real).1
+    (real_within granted script sound c.index-finding.result.now real).1
 
 pub longest_way-requires-clause-reached : goal.longest_way-requires-clause-reached
 longest_way-requires-clause-reached c =
@@ -41,11 +35,9 @@ longest_way-requires-clause-reached c =
     let script = inside.plan.now.script in
     let granted = inside.permissions.now in
     let sound = c.keeps.ensures.sound in
-    let last : LastMessages script = λ values m. last_messages script values m sound in
-    let within : AreWithin script = λ v. visits_are_within script v sound in
     let few : c.args.i < length inside.findings.items = subst (λ (m : ℕ). c.args.i < m) (sym (ap (λ (r : ReportValue). length r.findings) c.self.view_is)) c.requires in
     let real = real_at granted script inside.findings.items c.args.i c.index-finding.result.now c.self.invariant.1 few c.index-finding.ensures in
-    real_has script granted sound last within inside.numbers.greatest.items c.self.invariant.4 c.index-finding.result.now real
+    real_has script granted sound inside.numbers.greatest.items c.self.invariant.4 c.index-finding.result.now real
 
 pub unreleased_way-requires-clause-real : goal.unreleased_way-requires-clause-real
 unreleased_way-requires-clause-real c =
