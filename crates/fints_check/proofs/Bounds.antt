@@ -14,14 +14,11 @@ use Rattle.fints_wire.specs.Runs.Reach.{first, onward}
 use Rattle.fints_wire.specs.declared.dialogue.Visit.{Visit}
 use Rattle.fints_check.specs.Certificates.{Covers, Names, IsEntered, GoesOn}
 use Rattle.fints_check.specs.declared.certificate.Line.{Line}
-
--- some answer leads to a target exactly where an open branch does
-abbrev pub OpenBranchesLead : Type 0
-OpenBranchesLead = (branches : List Branch) (otherwise target : Target) → CanLead branches otherwise target ↔ IsOpenTo branches otherwise target
+use Rattle.fints_script_cases.proofs.LawLemmas.{open_branches_lead}
 
 -- where an answer leads, an open branch does
-pub leads_open : (step : StepValue) (codes : List ℕ) → OpenBranchesLead → IsAnswer codes → IsOpenTo step.branches step.otherwise (answered step codes)
-leads_open step codes open_lead a = (open_lead step.branches step.otherwise (answered step codes)).0 (record { codes = codes; answer = a; leads_to = refl })
+pub leads_open : (step : StepValue) (codes : List ℕ) → IsAnswer codes → IsOpenTo step.branches step.otherwise (answered step codes)
+leads_open step codes a = (open_branches_lead step.branches step.otherwise (answered step codes)).0 (record { codes = codes; answer = a; leads_to = refl })
 
 -- v stays within the number, with what its step may still be repeated
 pub record Stays (step : StepValue) (v : Visit) (number : ℕ) : Type 0 where
@@ -69,12 +66,12 @@ abbrev pub EachGoesOn : List StepValue → List Line → Type 0
 EachGoesOn steps lines =
     (n : ℕ) (step : StepValue) (figures : Reached) → numbered steps n ≡ Some step → Names lines n figures → (branch : ℕ) → IsOpen step.branches branch → GoesOn steps lines figures.number (target_of step.branches step.otherwise branch)
 
-pub reach_bounded : (steps : List StepValue) (lines : List Line) (v : Visit) → OpenBranchesLead → IsEntered steps lines 1 1 → EachGoesOn steps lines → Reach steps v → IsBounded steps lines v
-reach_bounded steps lines _ open_lead begins goes first = entered_bounded steps lines 1 1 1 (omega arith) begins
-reach_bounded steps lines w open_lead begins goes (onward {v} codes a r f) =
-    let b = reach_bounded steps lines v open_lead begins goes r in
+pub reach_bounded : (steps : List StepValue) (lines : List Line) (v : Visit) → IsEntered steps lines 1 1 → EachGoesOn steps lines → Reach steps v → IsBounded steps lines v
+reach_bounded steps lines _ begins goes first = entered_bounded steps lines 1 1 1 (omega arith) begins
+reach_bounded steps lines w begins goes (onward {v} codes a r f) =
+    let b = reach_bounded steps lines v begins goes r in
     let same : b.step ≡ f.step = same_Some b.step f.step (sym b.at ∙ f.at) in
     let enters = subst (λ (s : StepValue). Enters s.repeat v (answered s codes) w) (sym same) f.enters in
-    let way = leads_open b.step codes open_lead a in
+    let way = leads_open b.step codes a in
     let on = subst (GoesOn steps lines b.figures.number) way.to (goes v.step b.step b.figures b.at b.named way.branch way.is_open) in
     enters_bounded steps lines v w b (answered b.step codes) way on enters

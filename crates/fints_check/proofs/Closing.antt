@@ -30,9 +30,10 @@ use Rattle.fints_wire.specs.declared.dialogue.Sent.{Sent}
 use Rattle.fints_wire.specs.declared.dialogue.Visit.{Visit}
 use Rattle.fints_check.specs.Certificates.{IsEntered, GoesOn, LineHolds, IsClosedCertificate, Names, line_figures, line_names, step_names, worst_len}
 use Rattle.fints_check.specs.declared.certificate.Line.{Line}
-use Rattle.fints_check.proofs.Bounds.{OpenBranchesLead}
 use Rattle.fints_wire.specs.declared.building.TheConstants.{MAX_NUMBER}
 use Rattle.fints_check.proofs.Reaching.{reach_step, reach_repeated}
+use Rattle.fints_wire.proofs.RunLawLemmas.{last_messages, runs_by_steps, visits_are_within}
+use Rattle.fints_wire.proofs.LawLemmas.{extremes_are_admitted_longest, messages_are_read}
 
 -- ---- lines and their figures
 
@@ -80,24 +81,19 @@ record Peak (script : ScriptValue) (n : ℕ) (step : StepValue) (f : Reached) : 
   pub size : length message.bytes ≡ f.size
   pub most : (m : Sent) → IsSentOf script n m → length m.bytes ≤ f.size
 
-module _ (open_lead : OpenBranchesLead) (read : MessagesAreRead) (granted : Granted) (script : ScriptValue) (lines : List Line) (sound : IsSound script)
-    (longest : Admits script.fields (longest_choice script.fields))
-    (last : (values : List NamedValue) (m : Sent) → SendsLast script values m ↔ ((v : Visit) × Arrives script.steps v × IsSent script values v m))
-    (runs : (v : Visit) → Arrives script.steps v ↔ Reach script.steps v)
-    (within : (v : Visit) → Arrives script.steps v → IsWithin script.steps v)
-    (figures : AreFigures script (line_figures lines)) where
+module _ (granted : Granted) (script : ScriptValue) (lines : List Line) (sound : IsSound script) (figures : AreFigures script (line_figures lines)) where
   -- a visit's message with the longest values
   sent_at : (v : Visit) (step : StepValue) → numbered script.steps v.step ≡ Some step → Arrives script.steps v → IsSentOf script v.step (record { step = v.step; number = v.number; bytes = message_bytes script step v.number (longest_choice script.fields) })
   sent_at v step at arrives = record {
     values = longest_choice script.fields;
-    admitted = longest;
-    sends = (last (longest_choice script.fields) (record { step = v.step; number = v.number; bytes = message_bytes script step v.number (longest_choice script.fields) })).1 (v, arrives, record { at = step; of = at; is = refl });
+    admitted = extremes_are_admitted_longest script.fields;
+    sends = (last_messages script (longest_choice script.fields) (record { step = v.step; number = v.number; bytes = message_bytes script step v.number (longest_choice script.fields) }) sound).1 (v, arrives, record { at = step; of = at; is = refl });
     of = refl;
   }
 
   kept : (v : Visit) → Arrives script.steps v → Kept script lines v
   kept v arrives =
-      let w = within v arrives in
+      let w = visits_are_within script v sound arrives in
       let from = w.from in
       let to = w.to in
       let long : length (line_figures lines) ≡ length script.steps = figures.long in
@@ -118,7 +114,7 @@ module _ (open_lead : OpenBranchesLead) (read : MessagesAreRead) (granted : Gran
   -- where runs enter a step, its number is enough
   entered : (n e : ℕ) → Reach script.steps (record { step = n; number = e; times = 1 }) → IsEntered script.steps lines n e
   entered n e r =
-      let k = kept (record { step = n; number = e; times = 1 }) ((runs (record { step = n; number = e; times = 1 })).1 r) in
+      let k = kept (record { step = n; number = e; times = 1 }) ((runs_by_steps script.steps (record { step = n; number = e; times = 1 })).1 r) in
       let once = (numbered_holds (IsSoundStep script) script.steps n k.step sound.steps k.at).once in
       record {
         step = k.step;
@@ -128,9 +124,9 @@ module _ (open_lead : OpenBranchesLead) (read : MessagesAreRead) (granted : Gran
         covers = record {
           once = k.number;
           often = λ again.
-              let repeated = reach_repeated open_lead script.steps n e k.step (k.step.repeat - 1) k.at again (omega arith) r in
+              let repeated = reach_repeated script.steps n e k.step (k.step.repeat - 1) k.at again (omega arith) r in
               let w : Visit = record { step = n; number = e + (k.step.repeat - 1); times = 1 + (k.step.repeat - 1) } in
-              let h = kept w ((runs w).1 repeated) in
+              let h = kept w ((runs_by_steps script.steps w).1 repeated) in
               let same : h.figures ≡ k.figures = same_Some h.figures k.figures (sym h.named ∙ k.named) in
               subst (λ (f : Reached). e + (k.step.repeat - 1) ≤ f.number) same h.number;
         };
@@ -139,11 +135,11 @@ module _ (open_lead : OpenBranchesLead) (read : MessagesAreRead) (granted : Gran
   peak : (n : ℕ) (step : StepValue) (f : Reached) → numbered script.steps n ≡ Some step → Names lines n f → Peak script n step f
   peak n step f at named =
       let g : AreGreatestFigures script n f = figures.each n (Some f) (named_figures lines n f named) in
-      let way = (last g.sent.values g.message).0 g.sent.sends in
+      let way = (last_messages script g.sent.values g.message sound).0 g.sent.sends in
       let is = way.2 in
       let here : way.0.step ≡ n = sym (ap (λ (x : Sent). x.step) is.is) ∙ g.sent.of in
       let same : is.at ≡ step = same_Some is.at step (sym is.of ∙ (ap (numbered script.steps) here ∙ at)) in
-      let w = within way.0 way.1 in
+      let w = visits_are_within script way.0 sound way.1 in
       let to = w.to in
       let high = w.last in
       let few = sound.few_steps in
@@ -163,7 +159,7 @@ module _ (open_lead : OpenBranchesLead) (read : MessagesAreRead) (granted : Gran
 
   module _ (none : (f : Finding) → IsReal granted script f → ⊥) (clean : SentStepsAreClean granted script) (n : ℕ) (step : StepValue) (f : Reached) (at : numbered script.steps n ≡ Some step) (p : Peak script n step f) where
     view_is : IsMessage (message_bytes script step p.visit.number p.sent.values) (message_view script step p.visit.number p.sent.values)
-    view_is = read script (n - 1) step p.visit.number p.sent.values sound (numbered_from script.steps n step at) p.low p.high p.sent.admitted
+    view_is = messages_are_read script (n - 1) step p.visit.number p.sent.values sound (numbered_from script.steps n step at) p.low p.high p.sent.admitted
 
     -- the message that has both figures breaks no rule
     never : (r : Rule) → Breaks granted (message_view script step p.visit.number p.sent.values) r 0 → ⊥
@@ -195,7 +191,7 @@ module _ (open_lead : OpenBranchesLead) (read : MessagesAreRead) (granted : Gran
     goes_on : (to : Target) → IsOpenTo step.branches step.otherwise to → GoesOn script.steps lines f.number to
     goes_on (Step to) can =
         let there : numbered script.steps p.visit.step ≡ Some step = ap (numbered script.steps) p.here ∙ at in
-        let next = reach_step open_lead script.steps p.visit step to there can ((runs p.visit).0 p.arrives) in
+        let next = reach_step script.steps p.visit step to there can ((runs_by_steps script.steps p.visit).0 p.arrives) in
         subst (λ (k : ℕ). IsEntered script.steps lines to (k + 1)) p.number (entered to (p.visit.number + 1) next)
     goes_on Again can = tt
     goes_on Stop can = tt

@@ -30,7 +30,10 @@ use Rattle.fints_wire.specs.declared.dialogue.Visit.{Visit}
 use Rattle.fints_check.specs.Certificates.{worst_len, LineHolds, IsClosedCertificate, StaysWithin, KeepsPromise}
 use Rattle.fints_check.specs.declared.certificate.Line.{Line}
 use Rattle.fints_wire.specs.declared.building.TheConstants.{MAX_NUMBER}
-use Rattle.fints_check.proofs.Bounds.{OpenBranchesLead, reach_bounded}
+use Rattle.fints_check.proofs.Bounds.{reach_bounded}
+use Rattle.fints_wire.proofs.RunLawLemmas.{each_is_last, each_is_last_after, last_messages, runs_by_steps, visits_are_within}
+use Rattle.fints_wire.proofs.LawLemmas.{messages_are_read, none_is_longer_most}
+use Rattle.fints_check_findings.proofs.LawLemmas.{release_is_left}
 
 -- figures that break neither P2 nor P3 have a number that can be asked for
 pub numbers_asked : (granted : Granted) (f : Figures) → ((r : Rule) → FiguresBreak granted.rows.bank f r → ⊥) → (1 ≤ f.number) × (f.number ≤ LAST_NUMBER)
@@ -51,35 +54,22 @@ permitted_view granted script lines step figures number values holds low high si
     within Size b = (b.0, omega (arith, b.1, size))
     within _ b = absurd b
 
--- no choice makes a message longer than the longest values
-abbrev pub NoneIsLonger : Type 0
-NoneIsLonger =
-    (script : ScriptValue) (step : StepValue) (values : List NamedValue) (lower number : ℕ) → IsSound script → IsSoundStep script step → Admits script.fields values → 1 ≤ lower → lower ≤ number → number ≤ MAX_NUMBER
-    → length (message_bytes script step lower values) ≤ worst_len script step number
-
-module _ (open_lead : OpenBranchesLead) (longest : NoneIsLonger) (read : MessagesAreRead)
-    (last : (script : ScriptValue) (values : List NamedValue) (m : Sent) → IsSound script → (SendsLast script values m ↔ ((v : Visit) × Arrives script.steps v × IsSent script values v m)))
-    (runs : (steps : List StepValue) (v : Visit) → Arrives steps v ↔ Reach steps v)
-    (within : (script : ScriptValue) (v : Visit) → IsSound script → Arrives script.steps v → IsWithin script.steps v)
-    (each : (script : ScriptValue) (values : List NamedValue) (answers : List (List ℕ)) (sent : List Sent) → IsSound script → AllByRecursion IsAnswer answers → Run script values answers sent → AllByRecursion (SendsLast script values) sent)
-    (each_after : (script : ScriptValue) (values : List NamedValue) (answers : List (List ℕ)) (sent : List Sent) → IsSound script → AllByRecursion IsAnswer answers → Run script values answers sent → EachAfter (SendsAfter script values) at_first sent answers)
-    (left : (granted : Granted) (script : ScriptValue) (f : Finding) → IsSound script → f.rule ≡ Release → IsReal granted script f → (f.segment ≡ 0) × ((v : Visit) × Arrives script.steps v × IsUnreleased script v.step f.step))
-    (granted : Granted) (script : ScriptValue) (lines : List Line) (sound : IsSound script) (closed : IsClosedCertificate granted script lines) where
+module _ (granted : Granted) (script : ScriptValue) (lines : List Line) (sound : IsSound script) (closed : IsClosedCertificate granted script lines) where
   -- the last message of a run
   kept : (values : List NamedValue) (m : Sent) → Admits script.fields values → SendsLast script values m → StaysWithin lines m × Permitted granted m.bytes
   kept values m admits sends =
-      let way = (last script values m sound).0 sends in
+      let way = (last_messages script values m sound).0 sends in
       let v = way.0 in
       let is = way.2 in
-      let b = reach_bounded script.steps lines v open_lead closed.first (λ n step figures at named. (closed.each n step figures at named).onward) ((runs script.steps v).0 way.1) in
+      let b = reach_bounded script.steps lines v closed.first (λ n step figures at named. (closed.each n step figures at named).onward) ((runs_by_steps script.steps v).0 way.1) in
       let holds = closed.each v.step is.at b.figures is.of b.named in
-      let low = (within script v sound way.1).first in
+      let low = (visits_are_within script v sound way.1).first in
       let high = b.stays.now in
       let most = (numbers_asked granted (reached_figures b.figures) holds.permitted).1 in
-      let worst = longest script is.at values v.number b.figures.number sound (numbered_holds (IsSoundStep script) script.steps v.step is.at sound.steps is.of) admits low high (omega arith) in
+      let worst = none_is_longer_most script is.at values v.number b.figures.number sound (numbered_holds (IsSoundStep script) script.steps v.step is.at sound.steps is.of) admits low high (omega arith) in
       let top = holds.size in
       let size : length (message_bytes script is.at v.number values) ≤ b.figures.size = omega arith in
-      let view = read script (v.step - 1) is.at v.number values sound (numbered_from script.steps v.step is.at is.of) low (omega arith) admits in
+      let view = messages_are_read script (v.step - 1) is.at v.number values sound (numbered_from script.steps v.step is.at is.of) low (omega arith) admits in
       let same = view.size in
       let message : Sent = record { step = v.step; number = v.number; bytes = message_bytes script is.at v.number values } in
       let stays : StaysWithin lines message = record { figures = b.figures; named = b.named; number = high; size = size } in
@@ -91,7 +81,7 @@ module _ (open_lead : OpenBranchesLead) (longest : NoneIsLonger) (read : Message
       subst (λ (x : Sent). StaysWithin lines x × Permitted granted x.bytes) (sym is.is) (stays, permitted)
 
   pub promise : KeepsPromise script lines
-  promise values answers sent admits good run = all sent (each script values answers sent sound good run)
+  promise values answers sent admits good run = all sent (each_is_last script values answers sent sound good run)
     where
       all : (sent : List Sent) → AllByRecursion (SendsLast script values) sent → AllByRecursion (StaysWithin lines) sent
       all [] h = tt
@@ -109,8 +99,8 @@ module _ (open_lead : OpenBranchesLead) (longest : NoneIsLonger) (read : Message
         answers = s.0;
         shown = record { admitted = admits; message = m; ends = s.1.ends; of = refl; breaks = subst (λ (x : Before). BreaksBehind granted x m Release 0) (sym s.1.after) (inr (refl, refl, breaks)) };
       } in
-      let l = (left granted script f sound refl real).1 in
-      let stays = reach_bounded script.steps lines l.0 open_lead closed.first (λ n step figures at named. (closed.each n step figures at named).onward) ((runs script.steps l.0).0 l.1) in
+      let l = (release_is_left granted script f sound refl real).1 in
+      let stays = reach_bounded script.steps lines l.0 closed.first (λ n step figures at named. (closed.each n step figures at named).onward) ((runs_by_steps script.steps l.0).0 l.1) in
       closed.released l.0.step m.step stays.figures stays.named l.2
 
   kept_behind : (values : List NamedValue) (before : Before) (m : Sent) → Admits script.fields values → SendsAfter script values before m → IsPermittedBehind granted before m
@@ -118,7 +108,7 @@ module _ (open_lead : OpenBranchesLead) (longest : NoneIsLonger) (read : Message
   kept_behind values (behind b codes) m admits s = record { alone = (kept values m admits (last_of_run values (behind b codes) m s)).1; released = none_left values b codes m admits s }
 
   pub permits : EachIsPermitted granted script
-  permits values answers sent admits good run = all at_first sent answers (each_after script values answers sent sound good run)
+  permits values answers sent admits good run = all at_first sent answers (each_is_last_after script values answers sent sound good run)
     where
       all : (before : Before) (sent : List Sent) (answers : List (List ℕ)) → EachAfter (SendsAfter script values) before sent answers → EachAfter (IsPermittedBehind granted) before sent answers
       all before [] answers h = tt

@@ -8,12 +8,12 @@ use Rattle.fints_script.specs.Steps.{StepValue}
 use Rattle.fints_wire.specs.Runs.{Enters, Reach}
 use Rattle.fints_wire.specs.Runs.Reach.{onward}
 use Rattle.fints_wire.specs.declared.dialogue.Visit.{Visit}
-use Rattle.fints_check.proofs.Bounds.{OpenBranchesLead}
+use Rattle.fints_script_cases.proofs.LawLemmas.{open_branches_lead}
 
-module _ (open_lead : OpenBranchesLead) (steps : List StepValue) where
+module _ (steps : List StepValue) where
   -- where an open branch leads, an answer does
   leads : (step : StepValue) (to : Target) → IsOpenTo step.branches step.otherwise to → CanLead step.branches step.otherwise to
-  leads step to can = (open_lead step.branches step.otherwise to).1 can
+  leads step to can = (open_branches_lead step.branches step.otherwise to).1 can
 
   -- an open branch to a step has it sent
   pub reach_step : (v : Visit) (step : StepValue) (to : ℕ) → numbered steps v.step ≡ Some step → IsOpenTo step.branches step.otherwise (Step to) → Reach steps v → Reach steps (record { step = to; number = v.number + 1; times = 1 })

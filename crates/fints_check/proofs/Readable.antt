@@ -28,6 +28,8 @@ use Rattle.fints_syntax_lines.specs.declared.lines.TheConstants.{MAX_TEXT}
 use Rattle.fints_script_rows.specs.declared.limits.TheConstants.{MAX_STEPS}
 use Rattle.fints_wire.specs.declared.building.TheConstants.{MAX_NUMBER}
 use Rattle.fints_check.proofs.Numbered.{same_at}
+use Rattle.fints_wire.proofs.RunLawLemmas.{last_messages, visits_are_within}
+use Rattle.fints_wire.proofs.LawLemmas.{none_is_longer_short}
 
 -- ---- names
 
@@ -91,14 +93,7 @@ cons_some x xs = omega arith
 message_some : (script : ScriptValue) (step : StepValue) (number : ℕ) (values : List NamedValue) → 1 ≤ length (message_bytes script step number values)
 message_some script step number values = cons_some 72 (drop 1 (message_bytes script step number values))
 
--- a message of any number that runs reach is short
-abbrev pub MessagesAreShort : Type 0
-MessagesAreShort =
-    (script : ScriptValue) (step : StepValue) (values : List NamedValue) (number : ℕ) → IsSound script → IsSoundStep script step → Admits script.fields values → number ≤ MAX_NUMBER → length (message_bytes script step number values) < 1048576
-
-module _ (script : ScriptValue) (sound : IsSound script) (short : MessagesAreShort)
-    (last : (values : List NamedValue) (m : Sent) → (SendsLast script values m ↔ ((v : Visit) × Arrives script.steps v × IsSent script values v m)))
-    (within : (v : Visit) → Arrives script.steps v → IsWithin script.steps v) where
+module _ (script : ScriptValue) (sound : IsSound script) where
   message_shown : (values : List NamedValue) (v : Visit) (m : Sent) → Admits script.fields values → IsWithin script.steps v → IsSent script values v m → (1 ≤ m.number) × (m.number ≤ MAX_NUMBER) × (1 ≤ length m.bytes) × (length m.bytes < 1048576)
   message_shown values v m admits w is =
       let number : m.number ≡ v.number = ap (λ (x : Sent). x.number) is.is in
@@ -109,14 +104,14 @@ module _ (script : ScriptValue) (sound : IsSound script) (short : MessagesAreSho
       let few = sound.few_steps in
       let top : v.number ≤ MAX_NUMBER = omega arith in
       let some = message_some script is.at v.number values in
-      let less = short script is.at values v.number sound (numbered_holds (IsSoundStep script) script.steps v.step is.at sound.steps is.of) admits top in
+      let less = none_is_longer_short script is.at values v.number sound (numbered_holds (IsSoundStep script) script.steps v.step is.at sound.steps is.of) admits top in
       (omega (arith, number, low), omega (arith, number, top), omega (arith, bytes, some), omega (arith, bytes, less))
 
   figures_shown : (n : ℕ) (cell : Option Reached) → FiguresAre script n cell → AreShown cell
   figures_shown n None is = tt
   figures_shown n (Some figures) is =
-      let from = (last is.sent.values is.message).0 is.sent.sends in
-      let shown = message_shown is.sent.values from.0 is.message is.sent.admitted (within from.0 from.1) from.2 in
+      let from = (last_messages script is.sent.values is.message sound).0 is.sent.sends in
+      let shown = message_shown is.sent.values from.0 is.message is.sent.admitted (visits_are_within script from.0 sound from.1) from.2 in
       let number = is.number in
       let size = is.size in
       ((omega (arith, number, shown), omega (arith, number, shown)), (omega (arith, size, shown), omega (arith, size, shown)))

@@ -1,8 +1,8 @@
-use Rattle.fints_check_reach.proofs.Visits.{at_least, at_most}
+use Rattle.fints_check_reach.proofs.LawLemmas.{visits_are_bounded_most, visits_are_bounded_least}
 use Rattle.fints_check_reach.proofs.laws.visits_are_bounded.Goals as goal
 
 pub returns-clause-most : goal.returns-clause-most
-returns-clause-most c = at_most
+returns-clause-most c = visits_are_bounded_most
 
 pub returns-clause-least : goal.returns-clause-least
-returns-clause-least c = at_least
+returns-clause-least c = visits_are_bounded_least

@@ -1,5 +1,5 @@
-use Rattle.fints_script_cases.proofs.Carriers.{carries_where}
+use Rattle.fints_script_cases.proofs.LawLemmas.{carried_where}
 use Rattle.fints_script_cases.proofs.laws.carried_where.Goals as goal
 
 pub returns : goal.returns
-returns c = carries_where
+returns c = carried_where

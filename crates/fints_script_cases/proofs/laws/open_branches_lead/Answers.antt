@@ -1,5 +1,5 @@
-use Rattle.fints_script_cases.proofs.Firing.{open_leads}
+use Rattle.fints_script_cases.proofs.LawLemmas.{open_branches_lead}
 use Rattle.fints_script_cases.proofs.laws.open_branches_lead.Goals as goal
 
 pub returns : goal.returns
-returns c = open_leads
+returns c = open_branches_lead

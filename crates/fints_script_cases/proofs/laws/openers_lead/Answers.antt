@@ -1,5 +1,5 @@
-use Rattle.fints_script_cases.proofs.Firing.{opener_leads}
+use Rattle.fints_script_cases.proofs.LawLemmas.{openers_lead}
 use Rattle.fints_script_cases.proofs.laws.openers_lead.Goals as goal
 
 pub returns : goal.returns
-returns c = opener_leads
+returns c = openers_lead

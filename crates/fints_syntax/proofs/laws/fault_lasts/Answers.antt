@@ -1,4 +1,4 @@
-use Rattle.fints_syntax.proofs.Lasting.{fault_lasts}
+use Rattle.fints_syntax.proofs.LawLemmas.{fault_lasts}
 use Rattle.fints_syntax.proofs.laws.fault_lasts.Goals as goal
 
 pub returns : goal.returns

@@ -1,4 +1,4 @@
-use Rattle.fints_syntax.proofs.OneFault.{one_capture}
+use Rattle.fints_syntax.proofs.LawLemmas.{one_capture}
 use Rattle.fints_syntax.proofs.laws.one_capture.Goals as goal
 
 pub returns : goal.returns

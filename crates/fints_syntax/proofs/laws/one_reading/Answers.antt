@@ -1,4 +1,4 @@
-use Rattle.fints_syntax.proofs.Readings.{one_reading}
+use Rattle.fints_syntax.proofs.LawLemmas.{one_reading}
 use Rattle.fints_syntax.proofs.laws.one_reading.Goals as goal
 
 pub returns : goal.returns

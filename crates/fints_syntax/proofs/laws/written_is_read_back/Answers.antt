@@ -1,5 +1,5 @@
-use Rattle.fints_syntax.proofs.Readings.{read_back}
+use Rattle.fints_syntax.proofs.LawLemmas.{written_is_read_back}
 use Rattle.fints_syntax.proofs.laws.written_is_read_back.Goals as goal
 
 pub returns : goal.returns
-returns c = read_back
+returns c = written_is_read_back

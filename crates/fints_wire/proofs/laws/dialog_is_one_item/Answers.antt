@@ -1,5 +1,5 @@
-use Rattle.fints_wire.proofs.Filled.{dialog_stands}
+use Rattle.fints_wire.proofs.LawLemmas.{dialog_is_one_item}
 use Rattle.fints_wire.proofs.laws.dialog_is_one_item.Goals as goal
 
 pub returns : goal.returns
-returns c = dialog_stands
+returns c = dialog_is_one_item

@@ -1,8 +1,8 @@
-use Rattle.fints_wire.proofs.Filled.{values_filled, literals_stay}
+use Rattle.fints_wire.proofs.LawLemmas.{elements_are_filled_values, elements_are_filled_literal}
 use Rattle.fints_wire.proofs.laws.elements_are_filled.Goals as goal
 
 pub returns-clause-values : goal.returns-clause-values
-returns-clause-values c = values_filled
+returns-clause-values c = elements_are_filled_values
 
 pub returns-clause-literal : goal.returns-clause-literal
-returns-clause-literal c = literals_stay
+returns-clause-literal c = elements_are_filled_literal

@@ -1,5 +1,5 @@
-use Rattle.fints_wire.proofs.Filled.{put_in}
+use Rattle.fints_wire.proofs.LawLemmas.{fields_are_put_in}
 use Rattle.fints_wire.proofs.laws.fields_are_put_in.Goals as goal
 
 pub returns : goal.returns
-returns c = put_in
+returns c = fields_are_put_in

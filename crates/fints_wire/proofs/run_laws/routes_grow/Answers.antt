@@ -1,5 +1,5 @@
-use Rattle.fints_wire.proofs.Reaching.{route_more}
+use Rattle.fints_wire.proofs.RunLawLemmas.{routes_grow_more}
 use Rattle.fints_wire.proofs.run_laws.routes_grow.Goals as goal
 
 pub returns-clause-more : goal.returns-clause-more
-returns-clause-more c = route_more
+returns-clause-more c = routes_grow_more

@@ -1,5 +1,5 @@
-use Rattle.fints_wire.proofs.Repeating.{visit_repeated}
+use Rattle.fints_wire.proofs.RunLawLemmas.{visits_are_repeated}
 use Rattle.fints_wire.proofs.run_laws.visits_are_repeated.Goals as goal
 
 pub returns : goal.returns
-returns c = visit_repeated
+returns c = visits_are_repeated

@@ -1,5 +1,5 @@
-use Rattle.fints_wire.proofs.SentLemmas.{arrives_within}
+use Rattle.fints_wire.proofs.RunLawLemmas.{visits_are_within}
 use Rattle.fints_wire.proofs.run_laws.visits_are_within.Goals as goal
 
 pub returns : goal.returns
-returns c = arrives_within
+returns c = visits_are_within
