@@ -1,7 +1,8 @@
 //! Whether a case shows a finding, whoever wrote it.
-ghost use Rattle.std.specs.Prelude.{◌≡◌, ◌↔◌, ◌≤◌, ◌+◌, Contains, IfOk, IsTrue, MatchOption, length};
+ghost use Rattle.std.specs.Prelude.{◌≡◌, ◌↔◌, ◌≤◌, ◌+◌, false, Contains, IfOk, IsTrue, MatchOption, length};
 ghost use Rattle.std.specs.List.{All};
 ghost use Rattle.fints_script_cases.specs.Answers.{IsAnswer};
+ghost use Rattle.fints_script.specs.Plans.{Admits};
 ghost use Rattle.fints_rules.specs.Breaks.{BytesBreak, BytesBreakAfter};
 ghost use Rattle.fints_wire.specs.Runs.{EndsWith, at_first, came_after};
 ghost use Rattle.fints_check_findings.specs.Findings.{BreaksBehind, IsReal, Shows};
@@ -146,6 +147,7 @@ pub fn confirm(
 ) -> Result<bool, Memory>
     ensures shows { IfOk result (λ answer. IsTrue answer ↔ Shows permissions.now plan.now.script finding.now case.now.values case.now.answers.items) }
     ensures real { IfOk result (λ answer. IsTrue answer → IsReal permissions.now plan.now.script finding.now) }
+    ensures unadmitted { (Admits plan.now.script.fields case.now.values → ⊥) → result ≡ Ok false }
 {
     if !plan.admits(&case.values) {
         return Ok(false);

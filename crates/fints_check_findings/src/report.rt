@@ -84,13 +84,16 @@ impl<'a> Report<'a> {
         self.findings.as_slice()
     }
 
-    /// What each report keeps: its findings are exactly the real ones, and without any what the
-    /// messages of steps hold that runs send breaks no rule, at any number, and none of these steps
-    /// leaves an order of another unreleased.
+    /// What each report keeps: its findings are exactly the real ones, and its figures the greatest.
+    /// Without findings each message of each run is permitted; and what the messages of steps hold that
+    /// runs send breaks no rule, at any number, and none of these steps leaves an order of another
+    /// unreleased.
     pub fn keeps(&self)
         ensures exactly { AreFindings self.now.granted self.now.plan.script self.now.findings }
         ensures clean { self.now.findings ≡ [] → SentStepsAreClean self.now.granted self.now.plan.script }
         ensures released { self.now.findings ≡ [] → SentStepsAreReleased self.now.plan.script }
+        ensures permitted { self.now.findings ≡ [] → EachIsPermitted self.now.granted self.now.plan.script }
+        ensures figures { AreFigures self.now.plan.script self.now.figures }
     {
         self.plan.keeps();
     }

@@ -1,20 +1,23 @@
--- What `certify` tells.
-use Rattle.std.proofs.Common.{◌≡◌, ◌∙◌, ℕ, List, [], ◌∷◌, refl, subst, inl, inr}
-use Rattle.fints_check.specs.Certificates.{line_figures, IsClosedCertificate}
-use Rattle.fints_check.specs.CertTexts.{cert_text}
+-- What `certify` and `verify` tell.
+use Rattle.std.proofs.Common.{◌≡◌, ◌∙◌, ◌↔◌, ℕ, Bool, IsTrue, List, [], ◌∷◌, refl, subst, inl, inr}
+use Rattle.fints_check.specs.Certificates.{line_figures, IsClosedCertificate, KeepsPromise}
+use Rattle.fints_check.specs.CertTexts.{cert_text, IsCertificateOf}
 use Rattle.fints_check.specs.declared.certificate.Line.{Line}
 use Rattle.fints_check_findings.specs.Figures.{AreFigures}
-use Rattle.fints_check_findings.specs.Findings.{AreFindings}
+use Rattle.fints_check_findings.specs.Findings.{AreFindings, EachIsPermitted}
 use Rattle.fints_check_findings.specs.declared.finding.Finding.{Finding}
+use Rattle.fints_params.specs.Parameters.{Rows}
 use Rattle.fints_rules_permissions.specs.Permits.{Granted}
+use Rattle.fints_rules_permissions.specs.declared.orders.OrderRow.{OrderRow}
 use Rattle.fints_script.specs.Scripts.{ScriptValue}
 use Rattle.fints_cli_reports.specs.Certified.{IsCertifiedBy}
 use Rattle.fints_cli_reports.specs.ReportText.{report_status, IsReportBy}
+use Rattle.fints_cli_reports.specs.Verified.{IsVerifiedBy, TellsWhether}
 
-pub certified : (granted : Granted) (script : ScriptValue) (lines : List Line) (findings : List Finding) (status : ℕ) (text : List ℕ) → findings ≡ [] → AreFindings granted script findings → AreFigures script (line_figures lines) → IsClosedCertificate granted script lines → status ≡ 0 → text ≡ cert_text lines
+pub certified : (granted : Granted) (script : ScriptValue) (lines : List Line) (findings : List Finding) (status : ℕ) (text : List ℕ) → findings ≡ [] → AreFindings granted script findings → AreFigures script (line_figures lines) → IsClosedCertificate granted script lines → KeepsPromise script lines → EachIsPermitted granted script → status ≡ 0 → text ≡ cert_text lines
     → IsCertifiedBy granted script status text
-certified granted script lines findings status text none are figures closed zero same =
-    inl (zero, record { lines = lines; clean = subst (λ (fs : List Finding). AreFindings granted script fs) none are; figures_are = figures; closed = closed; text_is = same })
+certified granted script lines findings status text none are figures closed promise permitted zero same =
+    inl (zero, record { lines = lines; clean = subst (λ (fs : List Finding). AreFindings granted script fs) none are; figures_are = figures; closed = closed; text_is = same; promise = promise; permitted = permitted })
 
 found_status : (findings : List Finding) → (findings ≡ [] → ⊥) → report_status findings ≡ 1
 found_status [] some = absurd (some refl)
@@ -22,3 +25,12 @@ found_status (f ∷ fs) some = refl
 
 pub reported : (granted : Granted) (script : ScriptValue) (findings : List Finding) (status : ℕ) (text : List ℕ) → (findings ≡ [] → ⊥) → status ≡ report_status findings → IsReportBy granted script status text → IsCertifiedBy granted script status text
 reported granted script findings status text some same report = inr (same ∙ found_status findings some, report)
+
+-- what `verify` tells, by permissions that have these rows and this order table
+pub verified_by : (p : Granted) (rows : Rows) (orders : List OrderRow) (script : ScriptValue) (lines : List Line) (certificate : List ℕ) (valid : Bool) (status : ℕ) (text : List ℕ) → p.rows ≡ rows → p.orders ≡ orders
+    → IsCertificateOf certificate lines → IsTrue valid ↔ IsClosedCertificate p script lines → (IsTrue valid → KeepsPromise script lines) → (IsTrue valid → EachIsPermitted p script) → TellsWhether valid status text
+    → IsVerifiedBy (record { rows = rows; orders = orders }) script certificate status text
+verified_by p rows orders script lines certificate valid status text same table is closed promise permitted told =
+    subst (λ (r : Rows). IsVerifiedBy (record { rows = r; orders = orders }) script certificate status text) same
+    (subst (λ (o : List OrderRow). IsVerifiedBy (record { rows = p.rows; orders = o }) script certificate status text) table
+    (record { lines = lines; certificate_is = is; valid = valid; closed = closed; told = told; promise = promise; permitted = permitted }))

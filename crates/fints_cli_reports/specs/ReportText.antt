@@ -7,7 +7,7 @@ use Rattle.fints_rules.specs.Rules.{rule_name}
 use Rattle.fints_script.specs.Scripts.{ScriptValue}
 use Rattle.fints_script.specs.Steps.{StepValue}
 use Rattle.fints_check_findings.specs.Figures.{AreFigures}
-use Rattle.fints_check_findings.specs.Findings.{AreFindings}
+use Rattle.fints_check_findings.specs.Findings.{AreFindings, EachIsPermitted}
 use Rattle.fints_check_findings.specs.declared.finding.Finding.{Finding}
 use Rattle.fints_check_findings.specs.declared.finding.Reached.{Reached}
 use Rattle.fints_cli_reports.specs.StepNames.{step_name}
@@ -53,7 +53,7 @@ report_status (f ∷ fs) = 1
 
 -- ---- what it tells
 
--- the text and the status tell the greatest figures of the steps, and what the runs break under these permissions
+-- the text and the status tell the greatest figures of the steps, and what the runs break under these permissions; where that is nothing, and the text ends with `clean`, each message of each run is permitted
 pub record IsReportBy (granted : Granted) (script : ScriptValue) (status : ℕ) (text : List ℕ) : Type 0 where
   pub figures : List (Option Reached)
   pub findings : List Finding
@@ -61,3 +61,4 @@ pub record IsReportBy (granted : Granted) (script : ScriptValue) (status : ℕ) 
   pub findings_are : AreFindings granted script findings
   pub text_is : text ≡ report_text script.steps figures findings
   pub status_is : status ≡ report_status findings
+  pub permitted : findings ≡ [] → EachIsPermitted granted script

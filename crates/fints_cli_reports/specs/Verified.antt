@@ -1,6 +1,7 @@
 -- What `verify` tells of a certificate, and why nothing is. Words of private contracts and proofs alone stand last, under a heading.
 use Rattle.std.specs.Prelude.{◌≡◌, ◌↔◌, ℕ, Bool, true, false, IsTrue, List, codes}
-use Rattle.fints_check.specs.Certificates.{IsClosedCertificate}
+use Rattle.fints_check.specs.Certificates.{IsClosedCertificate, KeepsPromise}
+use Rattle.fints_check_findings.specs.Findings.{EachIsPermitted}
 use Rattle.fints_check.specs.CertTexts.{IsCertificateOf, IsFirstBadLine}
 use Rattle.fints_check.specs.declared.certificate.Line.{Line}
 use Rattle.fints_params.specs.Captures.{IsParamsOf}
@@ -19,13 +20,15 @@ abbrev pub TellsWhether : Bool → ℕ → List ℕ → Type 0
 TellsWhether true status text = (status ≡ 0) × (text ≡ codes "valid\n")
 TellsWhether false status text = (status ≡ 1) × (text ≡ codes "invalid\n")
 
--- the text of a certificate is good, and the status and the text tell whether it is closed
+-- the text of a certificate is good, and the status and the text tell whether it is closed; where they say `valid` it keeps its promise, and each message of each run is permitted
 pub record IsVerifiedBy (granted : Granted) (script : ScriptValue) (certificate : List ℕ) (status : ℕ) (text : List ℕ) : Type 0 where
   pub lines : List Line
   pub certificate_is : IsCertificateOf certificate lines
   pub valid : Bool
   pub closed : IsTrue valid ↔ IsClosedCertificate granted script lines
   pub told : TellsWhether valid status text
+  pub promise : IsTrue valid → KeepsPromise script lines
+  pub permitted : IsTrue valid → EachIsPermitted granted script
 
 -- they tell it by these rows of parameters and the texts of an order table and of a script
 pub record IsVerifiedOn (rows : Rows) (orders script certificate : List ℕ) (status : ℕ) (text : List ℕ) : Type 0 where

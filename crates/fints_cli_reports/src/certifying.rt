@@ -1,6 +1,5 @@
 //! The certificate of a script without findings.
 ghost use Rattle.std.specs.Prelude.{◌≡◌, IfOk};
-ghost use Rattle.fints_check_findings.specs.Figures.{AreFigures};
 ghost use Rattle.fints_cli_reports.specs.Certified.{IsCertifiedBy};
 ghost use Rattle.fints_check.specs.CertTexts.{cert_text};
 
@@ -21,8 +20,7 @@ fn certificate_reply(alloc: Global, certificate: &Certificate) -> Result<Reply, 
 
 /// The certificate of a plan without findings, or else the report, with its status.
 pub fn certify(alloc: Global, plan: &Plan<'_>, report: &Report<'_>) -> Result<Reply, Memory>
-    requires plan { report.now.plan ≡ plan.now }
-    requires figures { AreFigures plan.now.script report.now.figures }
+    requires { report.now.plan ≡ plan.now }
     ensures { IfOk result (λ reply. IsCertifiedBy report.now.granted plan.now.script reply.status reply.text.items) }
 {
     report.keeps();

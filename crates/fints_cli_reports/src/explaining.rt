@@ -1,8 +1,6 @@
 //! The cases of a report's findings.
 ghost use Rattle.std.specs.Prelude.{◌≡◌, ◌<◌, ◌≤◌, ◌-◌, ◌++◌, [], length, slice_get, Some, IfOk, IfSome, IsTrue, OnOk};
 ghost use Rattle.fints_script_cases.specs.Cases.{case_text};
-ghost use Rattle.fints_check_findings.specs.Figures.{AreFigures};
-ghost use Rattle.fints_check_findings.specs.Findings.{EachIsPermitted};
 ghost use Rattle.fints_check_findings.specs.Reports.{LeadsFor};
 ghost use Rattle.fints_rules.specs.declared.rule.Rule.TheVariants.{Release};
 ghost use Rattle.fints_cli_reports.specs.ExplainText.{case_line, IsExplainedBy};
@@ -140,11 +138,10 @@ fn write_cases(
 
 /// The report on a plan and the cases of its findings, with its status.
 pub fn explain(alloc: Global, plan: &Plan<'_>, report: &Report<'_>) -> Result<Reply, Memory>
-    requires plan { report.now.plan ≡ plan.now }
-    requires figures { AreFigures plan.now.script report.now.figures }
-    requires permitted { report.now.findings ≡ [] → EachIsPermitted report.now.granted plan.now.script }
+    requires { report.now.plan ≡ plan.now }
     ensures { IfOk result (λ reply. IsExplainedBy report.now.granted plan.now.script reply.status reply.text.items) }
 {
+    report.keeps();
     let mut text = Vec::new(alloc);
     write_report(&mut text, plan, report)?;
     write_cases(alloc, &mut text, plan, report)?;

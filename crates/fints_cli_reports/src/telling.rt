@@ -1,5 +1,7 @@
 //! What is told of a script, from the texts of its inputs.
-ghost use Rattle.std.specs.Prelude.{◌≤◌, ℕ, List, IfOk, IfErr};
+ghost use Rattle.std.specs.Prelude.{◌≤◌, ℕ, List, IfOk, IfErr, ◌≡◌};
+ghost use Rattle.fints_params.specs.declared.fault.ParamFault.{ParamFault as ParamFaultValue};
+ghost use Rattle.fints_cli_texts.specs.Fault.{fault_of};
 ghost use Rattle.fints_params.specs.Captures.{IsReadOf};
 ghost use Rattle.fints_cli_reports.specs.Plans.{IsPlanRefusal};
 ghost use Rattle.fints_cli_reports.specs.Told.{IsRefused, IsToldBy, IsToldOf, IsToldOn};
@@ -77,6 +79,7 @@ pub fn tell_read(
     ensures told { IfOk result (λ reply. (capture : List ℕ) → IsReadOf capture params
         → IsToldOf wanted capture orders.now script.now reply.status reply.text.items) }
     ensures refused { IfErr result (λ f. (capture : List ℕ) → IsReadOf capture params → IsRefused capture orders.now script.now f) }
+    ensures params_first { (f : ParamFaultValue) → params ≡ Err f → result ≡ Err (fault_of f) }
 {
     let params = match params {
         Ok(params) => params,

@@ -1,5 +1,7 @@
 //! Whether a certificate is closed, from the texts of its inputs.
 ghost use Rattle.std.specs.Prelude.{◌≡◌, ◌≤◌, ◌↔◌, ℕ, List, IsTrue, IfOk, IfErr};
+ghost use Rattle.fints_params.specs.declared.fault.ParamFault.{ParamFault as ParamFaultValue};
+ghost use Rattle.fints_cli_texts.specs.Fault.{fault_of};
 ghost use Rattle.fints_check.specs.CertTexts.{IsCertificateOf};
 ghost use Rattle.fints_params.specs.Captures.{IsReadOf};
 ghost use Rattle.fints_cli_reports.specs.Verified.{IsCertificateRefusal, IsUnverified, IsVerifiedBy, IsVerifiedOf, IsVerifiedOn, IsVerifyRefusal, TellsWhether};
@@ -91,6 +93,7 @@ pub fn verify_read(
     ensures told { IfOk result (λ reply. (capture : List ℕ) → IsReadOf capture params
         → IsVerifiedOf capture orders.now script.now certificate.now reply.status reply.text.items) }
     ensures refused { IfErr result (λ f. (capture : List ℕ) → IsReadOf capture params → IsUnverified capture orders.now script.now certificate.now f) }
+    ensures params_first { (f : ParamFaultValue) → params ≡ Err f → result ≡ Err (fault_of f) }
 {
     let params = match params {
         Ok(params) => params,

@@ -1,7 +1,6 @@
 //! The lines of a report.
 ghost use Rattle.std.specs.Prelude.{◌≡◌, ◌++◌, IfOk, OnOk};
 ghost use Rattle.std.specs.List.{All, flat_map};
-ghost use Rattle.fints_check_findings.specs.Figures.{AreFigures};
 ghost use Rattle.fints_cli_reports.specs.StepNames.{IsFindingOf};
 ghost use Rattle.fints_cli_reports.specs.ReportText.{broken_line, figures_text, finding_line, finding_text, last_line, report_status, report_text, step_line, step_lines, IsReportBy};
 
@@ -132,11 +131,11 @@ pub fn report_status(findings: &[Finding]) -> u8
 
 /// The report on a plan, with its status.
 pub fn reply(alloc: Global, plan: &Plan<'_>, report: &Report<'_>) -> Result<Reply, Memory>
-    requires plan { report.now.plan ≡ plan.now }
-    requires figures { AreFigures plan.now.script report.now.figures }
+    requires { report.now.plan ≡ plan.now }
     ensures report { IfOk result (λ reply. IsReportBy report.now.granted plan.now.script reply.status reply.text.items) }
     ensures status { IfOk result (λ reply. reply.status ≡ report_status report.now.findings) }
 {
+    report.keeps();
     let mut text = Vec::new(alloc);
     write_report(&mut text, plan, report)?;
     Ok(Reply {

@@ -1,5 +1,7 @@
 //! The text of `judge`: the rules that a message breaks.
 ghost use Rattle.std.specs.Prelude.{◌≡◌, ◌≤◌, ◌++◌, ℕ, List, OnOk, IfOk, IfErr, string_bytes};
+ghost use Rattle.fints_params.specs.declared.fault.ParamFault.{ParamFault as ParamFaultValue};
+ghost use Rattle.fints_cli_texts.specs.Fault.{fault_of};
 ghost use Rattle.fints_params.specs.Captures.{IsReadOf};
 ghost use Rattle.std.specs.List.{flat_map};
 ghost use Rattle.fints_cli_texts.specs.Judge.{broken_line, last_line, verdict_text, verdict_status, IsVerdictBy, IsVerdictOf, IsMessageRefusal, IsJudgeRefusal};
@@ -86,6 +88,7 @@ pub fn judge_read(
     ensures judged { IfOk result (λ reply. (capture : List ℕ) → IsReadOf capture params
         → IsVerdictOf capture orders.now message.now reply.status reply.text.items) }
     ensures refused { IfErr result (λ f. (capture : List ℕ) → IsReadOf capture params → IsJudgeRefusal capture orders.now message.now f) }
+    ensures params_first { (f : ParamFaultValue) → params ≡ Err f → result ≡ Err (fault_of f) }
 {
     let params = match params {
         Ok(params) => params,

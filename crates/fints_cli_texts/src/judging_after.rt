@@ -1,5 +1,7 @@
 //! The text of `judge` for a message behind another one and the bank's answer to that.
 ghost use Rattle.std.specs.Prelude.{◌≡◌, ◌≤◌, ℕ, List, IfOk, IfErr};
+ghost use Rattle.fints_params.specs.declared.fault.ParamFault.{ParamFault as ParamFaultValue};
+ghost use Rattle.fints_cli_texts.specs.Fault.{fault_of};
 ghost use Rattle.fints_rules_messages.specs.Messages.{IsMessage};
 ghost use Rattle.fints_params.specs.Captures.{IsCodesOf, IsReadOf};
 ghost use Rattle.fints_cli_texts.specs.JudgeAfter.{IsAnswerRefusal, IsBeforeRefusal, IsJudgeAfterRefusal, IsRefusalOfThree, IsVerdictAfter, IsVerdictAfterBy};
@@ -90,6 +92,7 @@ pub fn judge_after_read(
         → IsVerdictAfter capture orders.now before.now answer.now message.now reply.status reply.text.items) }
     ensures refused { IfErr result (λ f. (capture : List ℕ) → IsReadOf capture params
         → IsJudgeAfterRefusal capture orders.now before.now answer.now message.now f) }
+    ensures params_first { (f : ParamFaultValue) → params ≡ Err f → result ≡ Err (fault_of f) }
 {
     let params = match params {
         Ok(params) => params,

@@ -5,7 +5,9 @@ use Rattle.fints_script.specs.Numbered.{numbered}
 use Rattle.fints_script.specs.Plans.{IsClosed, IsClosedTemplate}
 use Rattle.fints_script.specs.Steps.{StepValue}
 use Rattle.fints_script_templates.specs.declared.template.Template.{Template}
-use Rattle.fints_check_findings.specs.Findings.{SentStepsAreClean, SentStepsAreReleased}
+use Rattle.fints_check_findings.specs.Figures.{AreFigures}
+use Rattle.fints_check_findings.specs.Findings.{EachIsPermitted, SentStepsAreClean, SentStepsAreReleased}
+use Rattle.fints_check_findings.proofs.Checking.{clean_permits}
 use Rattle.fints_check_findings.specs.Reports.{ReportValue}
 use Rattle.fints_check_findings.proofs.Cleans.{clean_steps, nothing_real, released_steps}
 use Rattle.fints_check_findings.proofs.LawLemmas.{unreleased_is_real}
@@ -33,3 +35,12 @@ returns-clause-released c =
     let closed = subst (IsClosed script) (sym c.self.invariant.0) c.keeps.ensures.closed in
     subst (λ (r : ReportValue). r.findings ≡ [] → SentStepsAreReleased r.plan.script) c.self.view_is
     (λ none. released_steps granted script sound (λ v s. unreleased_is_real granted script v s sound closed) (nothing_real granted script inside.findings.items c.self.invariant.1 none))
+
+pub returns-clause-permitted : goal.returns-clause-permitted
+returns-clause-permitted c =
+    let inside = c.self.inside in
+    subst (λ (r : ReportValue). r.findings ≡ [] → EachIsPermitted r.granted r.plan.script) c.self.view_is
+    (clean_permits inside.permissions.now inside.plan.now.script inside.findings.items c.keeps.ensures.sound c.self.invariant.1.exactly)
+
+pub returns-clause-figures : goal.returns-clause-figures
+returns-clause-figures c = subst (λ (r : ReportValue). AreFigures r.plan.script r.figures) c.self.view_is c.self.invariant.2
