@@ -1,9 +1,7 @@
 -- No run exceeds the numbers of a closed certificate.
 use Rattle.std.proofs.Common.{ℕ, ◌+◌, ◌-◌, ◌≤◌, ◌≡◌, Some, List, refl, sym, subst, ◌∙◌, arith}
-use Rattle.std.specs.Prelude.{◌↔◌}
 use Rattle.std.proofs.lemmas.Option.{same_Some}
-use Rattle.fints_script_cases.specs.Answers.{CanLead, IsAnswer, IsOpen, IsOpenTo, target_of}
-use Rattle.fints_script_cases.specs.declared.answers.Branch.{Branch}
+use Rattle.fints_script_cases.specs.Answers.{IsAnswer, IsOpen, IsOpenTo, target_of}
 use Rattle.fints_script_cases.specs.declared.answers.Target.{Target}
 use Rattle.fints_script_cases.specs.declared.answers.Target.TheVariants.{Step, Again, Stop}
 use Rattle.fints_check_findings.specs.declared.finding.Reached.{Reached}

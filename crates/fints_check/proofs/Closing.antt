@@ -1,11 +1,9 @@
 -- The greatest figures of all steps are a closed certificate where nothing is found.
 use Rattle.std.proofs.Common.{ℕ, suc, zero, ◌+◌, ◌-◌, ◌≤◌, ◌≡◌, Option, Some, None, List, [], ◌∷◌, length, refl, ap, sym, subst, ◌∙◌, arith, inl, inr}
-use Rattle.std.specs.Prelude.{◌↔◌}
 use Rattle.std.proofs.lemmas.Option.{same_Some}
 use Rattle.fints_script_cases.specs.Answers.{IsOpenTo, target_of}
 use Rattle.fints_script_cases.specs.declared.answers.Target.{Target}
 use Rattle.fints_script_cases.specs.declared.answers.Target.TheVariants.{Step, Again, Stop}
-use Rattle.fints_script_cases.specs.declared.values.NamedValue.{NamedValue}
 use Rattle.fints_check_findings.specs.Figures.{AreFigures, AreGreatestFigures, FiguresAre, IsSentOf, reached_figures}
 use Rattle.fints_check_findings.specs.Findings.{AreFindings, BreaksBehind, IsReal, SentStepsAreClean, SentStepsAreReleased}
 use Rattle.fints_check_findings.specs.declared.finding.Finding.{Finding}
@@ -17,15 +15,14 @@ use Rattle.fints_rules_permissions.specs.Permits.{Granted}
 use Rattle.fints_rules.specs.declared.rule.Rule.{Rule}
 use Rattle.fints_rules.specs.declared.rule.Rule.TheVariants.{Number, Size}
 use Rattle.fints_script.specs.Numbered.{numbered, numbered_at, numbered_from, numbered_holds}
-use Rattle.fints_script.specs.Plans.{Admits}
 use Rattle.fints_script.specs.Scripts.{ScriptValue}
 use Rattle.fints_script.specs.Sound.{IsSound, IsSoundStep}
 use Rattle.fints_script.specs.Steps.{StepValue}
 use Rattle.fints_wire.specs.Choices.{longest_choice}
 use Rattle.fints_wire.specs.Messages.{message_bytes}
-use Rattle.fints_wire.specs.Runs.{Arrives, Before, IsSent, IsWithin, Reach, SendsLast, at_first, behind, came_after}
+use Rattle.fints_wire.specs.Runs.{Arrives, Before, Reach, at_first, behind, came_after}
 use Rattle.fints_wire.specs.Runs.Reach.{first}
-use Rattle.fints_wire.specs.Views.{MessagesAreRead, message_view}
+use Rattle.fints_wire.specs.Views.{message_view}
 use Rattle.fints_wire.specs.declared.dialogue.Sent.{Sent}
 use Rattle.fints_wire.specs.declared.dialogue.Visit.{Visit}
 use Rattle.fints_check.specs.Certificates.{IsEntered, GoesOn, LineHolds, IsClosedCertificate, Names, line_figures, line_names, step_names, worst_len}

@@ -1,11 +1,8 @@
 -- A closed certificate keeps its promise.
-use Rattle.std.proofs.Common.{ℕ, ◌-◌, ◌≤◌, ◌≡◌, List, [], ◌∷◌, length, refl, sym, subst, arith, inl, inr}
-use Rattle.std.specs.Prelude.{◌↔◌}
+use Rattle.std.proofs.Common.{ℕ, ◌-◌, ◌≤◌, List, [], ◌∷◌, length, refl, sym, subst, arith, inl, inr}
 use Rattle.std.specs.List.{AllByRecursion}
-use Rattle.fints_script_cases.specs.Answers.{IsAnswer}
 use Rattle.fints_script_cases.specs.declared.values.NamedValue.{NamedValue}
 use Rattle.fints_check_findings.specs.Findings.{BreaksBehind, EachIsPermitted, IsPermittedBehind, IsReal}
-use Rattle.fints_check_findings.specs.Releases.{IsUnreleased}
 use Rattle.fints_check_findings.specs.declared.finding.Finding.{Finding}
 use Rattle.fints_check_findings.specs.declared.finding.Reached.{Reached}
 use Rattle.fints_rules.specs.Breaks.{Breaks, BreaksByFigures, BytesBreakRelease, Permitted}
@@ -23,13 +20,11 @@ use Rattle.fints_script.specs.Scripts.{ScriptValue}
 use Rattle.fints_script.specs.Sound.{IsSound, IsSoundStep}
 use Rattle.fints_script.specs.Steps.{StepValue}
 use Rattle.fints_wire.specs.Messages.{message_bytes}
-use Rattle.fints_wire.specs.Runs.{Arrives, Before, EachAfter, Reach, IsWithin, IsSent, Run, SendsAfter, SendsLast, at_first, behind}
-use Rattle.fints_wire.specs.Views.{message_view, MessagesAreRead}
+use Rattle.fints_wire.specs.Runs.{Before, EachAfter, SendsAfter, SendsLast, at_first, behind}
+use Rattle.fints_wire.specs.Views.{message_view}
 use Rattle.fints_wire.specs.declared.dialogue.Sent.{Sent}
-use Rattle.fints_wire.specs.declared.dialogue.Visit.{Visit}
-use Rattle.fints_check.specs.Certificates.{worst_len, LineHolds, IsClosedCertificate, StaysWithin, KeepsPromise}
+use Rattle.fints_check.specs.Certificates.{LineHolds, IsClosedCertificate, StaysWithin, KeepsPromise}
 use Rattle.fints_check.specs.declared.certificate.Line.{Line}
-use Rattle.fints_wire.specs.declared.building.TheConstants.{MAX_NUMBER}
 use Rattle.fints_check.proofs.Bounds.{reach_bounded}
 use Rattle.fints_wire.proofs.RunLawLemmas.{each_is_last, each_is_last_after, last_messages, runs_by_steps, visits_are_within}
 use Rattle.fints_wire.proofs.LawLemmas.{messages_are_read, none_is_longer_most}

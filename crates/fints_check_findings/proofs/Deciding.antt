@@ -33,8 +33,8 @@ use Rattle.fints_check_findings.specs.declared.step_facts.StepFacts.{StepFacts}
 use Rattle.fints_check_findings.proofs.Counted.{count_is, demanding_is, plain_kinds_are, tan_orders_are}
 use Rattle.fints_check_findings.proofs.ElementTwo.{IsBrokenBy, IsExtreme, extreme_admitted, extreme_is, template_complete, template_sound, template_with}
 use Rattle.fints_check_findings.proofs.Lists.{any_there, slice_there, there_of}
-use Rattle.fints_check_findings.proofs.Literals.{processes_are}
-use Rattle.fints_check_findings.proofs.RuleFacts.{HasTanAs, IsNoBetter, message_no_better, segment_no_better}
+use Rattle.fints_check_findings.proofs.Literals.{ends_are, processes_are}
+use Rattle.fints_check_findings.proofs.RuleFacts.{HasTanAs, IsNoBetter, message_no_better, segment_no_better, with_tan}
 use Rattle.fints_check_findings.proofs.Signed.{longest_tan, may_have_tan, shortest_tan, tan_stays}
 use Rattle.fints_wire.proofs.LawLemmas.{bodies_are_templates_count, bodies_are_templates_segments, bodies_are_templates_signatures, elements_are_filled_values}
 
@@ -51,54 +51,56 @@ module _ (script : ScriptValue) (granted : Granted) (step : StepValue) (r : Rule
   abbrev first : ℕ
   first = 2 + length step.signers
 
-  submits_are : (values : List NamedValue) (number : ℕ) → f.submits ≡ (facts_of granted.rows.pins (Sent values number)).submits
-  submits_are values number = facts.submits ∙ sym (processes_are elements_are_filled_values (codes "4") (Fill values number) script.fields granted.orders first step.templates closed)
+  abbrev Facts : List NamedValue → ℕ → MessageFacts
+  Facts values number = facts_of granted.rows.pins (Sent values number)
 
-  kinds_same : (values : List NamedValue) (number : ℕ) → f.kinds ≡ (facts_of granted.rows.pins (Sent values number)).kinds
-  kinds_same values number = facts.kinds ∙ sym (ap (distinct_count bytes_eq) (plain_kinds_are (Fill values number) first step.templates))
+  abbrev made : Option ℕ → ℕ → ℕ → Bool → Bool → Bool → Bool → ℕ → MessageFacts
+  made protocol kinds signatures submits sends ends has_tan_order demanding = record {
+    protocol = protocol;
+    kinds = kinds;
+    signatures = signatures;
+    submits = submits;
+    sends = sends;
+    ends = ends;
+    has_tan = f.has_tan;
+    has_tan_order = has_tan_order;
+    demanding = demanding;
+  }
 
-  signatures_same : (values : List NamedValue) (number : ℕ) → f.signatures ≡ (facts_of granted.rows.pins (Sent values number)).signatures
-  signatures_same values number = facts.signatures ∙ sym (bodies_are_templates_signatures script step number values)
-
-  tan_orders_same : (values : List NamedValue) (number : ℕ) → f.has_tan_order ≡ (facts_of granted.rows.pins (Sent values number)).has_tan_order
-  tan_orders_same values number = facts.has_tan_order ∙ sym (tan_orders_are (Fill values number) first step.templates)
-
-  demanding_same : (values : List NamedValue) (number : ℕ) → f.demanding ≡ (facts_of granted.rows.pins (Sent values number)).demanding
-  demanding_same values number = facts.demanding ∙ sym (demanding_is granted.rows.pins (Fill values number) first step.templates)
+  -- the step's facts are those of each of its messages, but for the TAN
+  facts_same : (values : List NamedValue) (number : ℕ) → f ≡ with_tan (Facts values number) f.has_tan
+  facts_same values number =
+      let g = Facts values number in
+      let process = λ (p : List ℕ). sym (processes_are elements_are_filled_values p (Fill values number) script.fields granted.orders first step.templates closed) in
+      ap (λ (x : Option ℕ). made x f.kinds f.signatures f.submits f.sends f.ends f.has_tan_order f.demanding) facts.protocol
+      ∙ (ap (λ (x : ℕ). made g.protocol x f.signatures f.submits f.sends f.ends f.has_tan_order f.demanding) (facts.kinds ∙ sym (ap (distinct_count bytes_eq) (plain_kinds_are (Fill values number) first step.templates)))
+      ∙ (ap (λ (x : ℕ). made g.protocol g.kinds x f.submits f.sends f.ends f.has_tan_order f.demanding) (facts.signatures ∙ sym (bodies_are_templates_signatures script step number values))
+      ∙ (ap (λ (x : Bool). made g.protocol g.kinds g.signatures x f.sends f.ends f.has_tan_order f.demanding) (facts.submits ∙ process (codes "4"))
+      ∙ (ap (λ (x : Bool). made g.protocol g.kinds g.signatures g.submits x f.ends f.has_tan_order f.demanding) (facts.sends ∙ process (codes "2"))
+      ∙ (ap (λ (x : Bool). made g.protocol g.kinds g.signatures g.submits g.sends x f.has_tan_order f.demanding) (facts.ends ∙ sym (ends_are (Fill values number) first step.templates))
+      ∙ (ap (λ (x : Bool). made g.protocol g.kinds g.signatures g.submits g.sends g.ends x f.demanding) (facts.has_tan_order ∙ sym (tan_orders_are (Fill values number) first step.templates))
+      ∙ ap (λ (x : ℕ). made g.protocol g.kinds g.signatures g.submits g.sends g.ends g.has_tan_order x) (facts.demanding ∙ sym (demanding_is granted.rows.pins (Fill values number) first step.templates))))))))
 
   abbrev Has : List NamedValue → ℕ → Type 0
   Has values number = IsTrue (facts_of granted.rows.pins (Sent values number)).has_tan
 
-  tan_no_better : (most : Bool) (values : List NamedValue) (number : ℕ) → Admits script.fields values → (IsTrue f.has_tan ↔ TanUnder most script.fields script.signers step.signers) → HasTanAs most f (facts_of granted.rows.pins (Sent values number))
+  tan_no_better : (most : Bool) (values : List NamedValue) (number : ℕ) → Admits script.fields values → (IsTrue f.has_tan ↔ TanUnder most script.fields script.signers step.signers) → HasTanAs most f.has_tan (Facts values number).has_tan
   tan_no_better true values number admits has = λ h. has.1 (may_have_tan script values number sound admits step sound_step (first + length step.templates) h)
   tan_no_better false values number admits has = λ h. tan_stays script values number sound admits step sound_step (first + length step.templates) (has.0 h)
 
-  tan_as_bad : (most : Bool) (values : List NamedValue) (number : ℕ) → Admits script.fields values → IsExtreme most script.fields values → (IsTrue f.has_tan ↔ TanUnder most script.fields script.signers step.signers) → HasTanAs most (facts_of granted.rows.pins (Sent values number)) f
+  tan_as_bad : (most : Bool) (values : List NamedValue) (number : ℕ) → Admits script.fields values → IsExtreme most script.fields values → (IsTrue f.has_tan ↔ TanUnder most script.fields script.signers step.signers) → HasTanAs most (Facts values number).has_tan f.has_tan
   tan_as_bad true values number admits extreme has = λ h. longest_tan script values number sound admits step sound_step (first + length step.templates) extreme (has.0 h)
   tan_as_bad false values number admits extreme has = λ h. has.1 (shortest_tan script values number sound admits step sound_step (first + length step.templates) extreme h)
 
   -- no message is worse than the step's facts..
-  facts_no_better : (values : List NamedValue) (number : ℕ) → Admits script.fields values → IsNoBetter (wants_tan r) f (facts_of granted.rows.pins (Sent values number))
-  facts_no_better values number admits = record {
-    protocol = facts.protocol;
-    kinds = kinds_same values number;
-    signatures = signatures_same values number;
-    submits = submits_are values number;
-    has_tan = tan_no_better (wants_tan r) values number admits facts.has_tan;
-    has_tan_order = tan_orders_same values number;
-    demanding = demanding_same values number;
-  }
+  facts_no_better : (values : List NamedValue) (number : ℕ) → Admits script.fields values → IsNoBetter (wants_tan r) f (Facts values number)
+  facts_no_better values number admits = record { same = facts_same values number; tan = tan_no_better (wants_tan r) values number admits facts.has_tan }
 
   -- ..and those of extreme values are as bad
-  extreme_no_better : (values : List NamedValue) (number : ℕ) → Admits script.fields values → IsExtreme (wants_tan r) script.fields values → IsNoBetter (wants_tan r) (facts_of granted.rows.pins (Sent values number)) f
+  extreme_no_better : (values : List NamedValue) (number : ℕ) → Admits script.fields values → IsExtreme (wants_tan r) script.fields values → IsNoBetter (wants_tan r) (Facts values number) f
   extreme_no_better values number admits extreme = record {
-    protocol = sym facts.protocol;
-    kinds = sym (kinds_same values number);
-    signatures = sym (signatures_same values number);
-    submits = sym (submits_are values number);
-    has_tan = tan_as_bad (wants_tan r) values number admits extreme facts.has_tan;
-    has_tan_order = sym (tan_orders_same values number);
-    demanding = sym (demanding_same values number);
+    same = sym (ap (λ (x : MessageFacts). with_tan x (Facts values number).has_tan) (facts_same values number));
+    tan = tan_as_bad (wants_tan r) values number admits extreme facts.has_tan;
   }
 
   -- ---- segments

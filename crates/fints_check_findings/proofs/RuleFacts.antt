@@ -1,10 +1,10 @@
 -- What a rule asks: where there is less of a TAN, or for P12 more, no less is broken, and items that a rule doesn't ask for change nothing.
-use Rattle.std.proofs.Common.{ℕ, ◌<◌, ◌≡◌, ◌≢◌, true, false, List, [], get_or, Some, refl, ap, sym, subst, ◌∙◌, inl, inr}
-use Rattle.std.specs.Prelude.{◌≤◌, Bool, Any, IsTrue}
+use Rattle.std.proofs.Common.{ℕ, ◌≡◌, ◌≢◌, true, false, List, [], get_or, Some, refl, ap, sym, subst, ◌∙◌, inl, inr}
+use Rattle.std.specs.Prelude.{Bool, IsTrue}
 use Rattle.fints_rules_permissions.specs.Accounts.{Account}
 use Rattle.fints_rules_permissions.specs.Kinds.{is_tan_order}
 use Rattle.fints_rules_permissions.specs.Orders.{form_of}
-use Rattle.fints_rules_permissions.specs.Permits.{Granted, params_of, AllNeedMore}
+use Rattle.fints_rules_permissions.specs.Permits.{Granted}
 use Rattle.fints_rules.specs.Rules.{CarriesTan, MessageBreaks, NamesAccount, SegmentBreaks}
 use Rattle.fints_rules.specs.SegmentFacts.{SegmentFactsValue}
 use Rattle.fints_rules.specs.declared.facts.MessageFacts.{MessageFacts}
@@ -19,38 +19,50 @@ use Rattle.fints_check_findings.specs.Elements.{asks_account, template_facts, wa
 
 -- ---- facts of messages
 
--- a TAN at most where the others have one, or at least there
-abbrev pub HasTanAs : Bool → MessageFacts → MessageFacts → Type 0
-HasTanAs true f g = IsTrue g.has_tan → IsTrue f.has_tan
-HasTanAs false f g = IsTrue f.has_tan → IsTrue g.has_tan
-
 -- the same but for the TAN
-pub record IsNoBetter (most : Bool) (f g : MessageFacts) : Type 0 where
-  pub protocol : f.protocol ≡ g.protocol
-  pub kinds : f.kinds ≡ g.kinds
-  pub signatures : f.signatures ≡ g.signatures
-  pub submits : f.submits ≡ g.submits
-  pub has_tan : HasTanAs most f g
-  pub has_tan_order : f.has_tan_order ≡ g.has_tan_order
-  pub demanding : f.demanding ≡ g.demanding
+abbrev pub with_tan : MessageFacts → Bool → MessageFacts
+with_tan f has = record {
+  protocol = f.protocol;
+  kinds = f.kinds;
+  signatures = f.signatures;
+  submits = f.submits;
+  sends = f.sends;
+  ends = f.ends;
+  has_tan = has;
+  has_tan_order = f.has_tan_order;
+  demanding = f.demanding;
+}
 
-carried : (f g : MessageFacts) → IsNoBetter false f g → CarriesTan f → CarriesTan g
-carried f g w (inl h) = inl (sym w.submits ∙ h)
-carried f g w (inr h) = inr (w.has_tan h)
+-- a TAN at most where the others have one, or at least there
+abbrev pub HasTanAs : Bool → Bool → Bool → Type 0
+HasTanAs true has other = IsTrue other → IsTrue has
+HasTanAs false has other = IsTrue has → IsTrue other
+
+pub record IsNoBetter (most : Bool) (f g : MessageFacts) : Type 0 where
+  pub same : f ≡ with_tan g f.has_tan
+  pub tan : HasTanAs most f.has_tan g.has_tan
+
+message_with_tan : (granted : Granted) (g : MessageFacts) (has : Bool) (r : Rule) → MessageBreaks granted g r → MessageBreaks granted (with_tan g has) r
+message_with_tan granted g has rule.Protocol b = b
+message_with_tan granted g has _ b = b
 
 pub message_no_better : (granted : Granted) (f g : MessageFacts) (r : Rule) → IsNoBetter (wants_tan r) f g → MessageBreaks granted g r → MessageBreaks granted f r
-message_no_better granted f g rule.Protocol w b = λ n at. b n (sym w.protocol ∙ at)
-message_no_better granted f g rule.Kinds w b = (b.0, subst (λ (n : ℕ). granted.rows.bank.kinds < n) (sym w.kinds) b.1)
-message_no_better granted f g _ w b = absurd b
+message_no_better granted f g r w b = subst (λ (x : MessageFacts). MessageBreaks granted x r) (sym w.same) (message_with_tan granted g f.has_tan r b)
+
+carried : (g : MessageFacts) (has : Bool) → HasTanAs false has g.has_tan → CarriesTan (with_tan g has) → CarriesTan g
+carried g has tan (inl h) = inl h
+carried g has tan (inr h) = inr (tan h)
+
+-- the rules that ask about a TAN
+segment_with_tan : (granted : Granted) (g : MessageFacts) (has : Bool) (s : SegmentFactsValue) (r : Rule) → HasTanAs (wants_tan r) has g.has_tan → SegmentBreaks granted g r s → SegmentBreaks granted (with_tan g has) r s
+segment_with_tan granted g has s rule.Tan tan (inl b) = inl (b.0, b.1, λ carries. b.2 (carried g has tan carries))
+segment_with_tan granted g has s rule.Tan tan (inr b) = inr (b.0, λ h. b.1 (tan h))
+segment_with_tan granted g has s rule.Procedure tan (inl b) = inl b
+segment_with_tan granted g has s rule.Procedure tan (inr (plain, listed, one, two)) = inr (plain, listed, (tan one.0, one.1), two)
+segment_with_tan granted g has s _ tan b = b
 
 pub segment_no_better : (granted : Granted) (f g : MessageFacts) (s : SegmentFactsValue) (r : Rule) → IsNoBetter (wants_tan r) f g → SegmentBreaks granted g r s → SegmentBreaks granted f r s
-segment_no_better granted f g s rule.Signatures w (inl b) = inl (b.0, subst (λ (n : ℕ). Any (λ row. n < row.signatures) (params_of s.kind s.version granted.rows.orders)) (sym w.signatures) b.1)
-segment_no_better granted f g s rule.Signatures w (inr (plain, (who, names, more))) = inr (plain, (who, names, subst (AllNeedMore granted.rows who s.kind) (sym w.signatures) more))
-segment_no_better granted f g s rule.Tan w (inl b) = inl (b.0, b.1, λ carries. b.2 (carried f g w carries))
-segment_no_better granted f g s rule.Tan w (inr b) = inr (b.0, λ has. b.1 (w.has_tan has))
-segment_no_better granted f g s rule.Procedure w (inl b) = inl (b.0, b.1, subst (λ (n : ℕ). 2 ≤ n) (sym w.demanding) b.2)
-segment_no_better granted f g s rule.Procedure w (inr (plain, listed, one, two)) = inr (plain, listed, (w.has_tan one.0, λ order. one.1 (sym w.has_tan_order ∙ order)), two)
-segment_no_better granted f g s _ w b = b
+segment_no_better granted f g s r w b = subst (λ (x : MessageFacts). SegmentBreaks granted x r s) (sym w.same) (segment_with_tan granted g f.has_tan s r w.tan b)
 
 -- ---- items of a segment
 

@@ -1,5 +1,5 @@
 -- What `certify` and `verify` tell.
-use Rattle.std.proofs.Common.{◌≡◌, ◌∙◌, ◌↔◌, ℕ, Bool, IsTrue, List, [], ◌∷◌, refl, subst, inl, inr}
+use Rattle.std.proofs.Common.{Result, Ok, Err, IfOk, ◌≡◌, ◌∙◌, ◌↔◌, ℕ, Bool, IsTrue, List, [], ◌∷◌, refl, subst, inl, inr}
 use Rattle.fints_check.specs.Certificates.{line_figures, IsClosedCertificate, KeepsPromise}
 use Rattle.fints_check.specs.CertTexts.{cert_text, IsCertificateOf}
 use Rattle.fints_check.specs.declared.certificate.Line.{Line}
@@ -34,3 +34,8 @@ verified_by p rows orders script lines certificate valid status text same table 
     subst (λ (r : Rows). IsVerifiedBy (record { rows = r; orders = orders }) script certificate status text) same
     (subst (λ (o : List OrderRow). IsVerifiedBy (record { rows = p.rows; orders = o }) script certificate status text) table
     (record { lines = lines; certificate_is = is; valid = valid; closed = closed; told = told; promise = promise; permitted = permitted }))
+
+-- two facts of an answer
+pub both_ok : {X E : Type 0} (P Q R : X → Type 0) (r : Result X E) → IfOk r P → IfOk r Q → ((x : X) → P x → Q x → R x) → IfOk r R
+both_ok P Q R (Ok x) p q h = h x p q
+both_ok P Q R (Err e) p q h = tt

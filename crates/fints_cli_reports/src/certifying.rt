@@ -24,6 +24,7 @@ pub fn certify(alloc: Global, plan: &Plan<'_>, report: &Report<'_>) -> Result<Re
     ensures { IfOk result (λ reply. IsCertifiedBy report.now.granted plan.now.script reply.status reply.text.items) }
 {
     report.keeps();
+    plan.keeps();
     match report.certificate(alloc)? {
         Some(certificate) => certificate_reply(alloc, &certificate),
         None => reply(alloc, plan, report),
