@@ -124,7 +124,7 @@ fn add(taken: &mut Taken, line: Line) -> Result<bool, Memory>
 }
 
 // Adds the line that the rest begins with, and gives what stands after it; none where that is no good
-// line of a text of so many bytes.
+// line of a text of `whole` bytes.
 fn take_line<'a>(
     taken: &mut Taken,
     whole: usize,

@@ -9,11 +9,11 @@ const MOST: usize = 20_000;
 pub enum Why {
     /// They end within an item.
     Cut,
-    /// They end within a binary item of so many bytes, of which so many are there.
+    /// They end within a binary item: how many bytes it says that it has, and how many are there.
     CutBinary { len: usize, there: usize },
     /// An `@` begins an item, and digits with a second `@` don't follow.
     NoLength,
-    /// Behind a binary item of so many bytes stands this byte, which is no separator.
+    /// Behind a binary item, of this length, stands a byte that is no separator.
     NoSeparator { len: usize, after: u8 },
     /// They have too many items.
     Many,
@@ -32,7 +32,7 @@ pub struct Stop {
 /// What stands at the front of bytes.
 #[derive(Clone, Copy)]
 enum Scanned {
-    /// An item of so many bytes, and the separator behind it.
+    /// An item, its length in bytes, and the separator behind it.
     Item { len: usize, after: u8 },
     /// No item.
     No(Why),

@@ -74,7 +74,7 @@ fn read_rest<'a>(alloc: Global, rest: &'a [u8], number: u64) -> Result<Tail<'a>,
     }
 }
 
-/// What follows HNHBK, where it begins with an HNVSK of so many bytes.
+/// What follows HNHBK, where it begins with an HNVSK, which has `len` bytes.
 pub fn read_sealed<'a>(
     alloc: Global,
     tail: &'a [u8],

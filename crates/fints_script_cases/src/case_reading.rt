@@ -193,7 +193,7 @@ fn add(taken: &mut Taken, line: CaseLine) -> Result<(), Memory>
 }
 
 /// Adds the line that the rest begins with, and gives what stands after it; none where that is no
-/// good line of a text of so many bytes.
+/// good line of a text of `whole` bytes.
 fn take_line<'a>(
     alloc: Global,
     taken: &mut Taken,

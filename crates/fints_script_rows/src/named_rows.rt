@@ -104,7 +104,7 @@ impl<'a> NamedRows<'a> {
         self.place_of(name).is_some()
     }
 
-    /// Whether one of the first rows, so many of them, has this name.
+    /// Whether one of the first `end` rows has this name.
     pub fn has_before(&self, name: &str, end: usize) -> bool
         ensures { result ≡ list_any (is_named name.now) (take end (map view self.now)) }
     {

@@ -51,7 +51,7 @@ fn figures_at(figures: &[Figures], place: usize) -> Figures
     figures.get(place).copied().unwrap_or(NO_FIGURES)
 }
 
-// What is left of an allowance after a binary item of so many bytes.
+// What is left of an allowance after a binary item of `len` bytes.
 fn spend_binary(left: u64, len: usize) -> Option<u64>
     ensures { Spends left (len + length (decimal len) + 2) result }
 {

@@ -43,7 +43,7 @@ impl<'a> Model for ElementRef<'a> {
     ghost invariant = { IsItems };
 }
 
-// The item that stands so.
+// The item at a span of the bytes.
 fn item_of<'a>(bytes: &'a [u8], span: &Span) -> ItemRef<'a>
     requires { IsSpanIn (length bytes.now) span.now }
     ensures { item_of_ref result ≡ spanned bytes.now span.now }
@@ -58,7 +58,7 @@ fn item_of<'a>(bytes: &'a [u8], span: &Span) -> ItemRef<'a>
 }
 
 impl<'a> ElementRef<'a> {
-    /// The items that stand so among the bytes.
+    /// The items at these spans of the bytes.
     pub(crate) fn new(bytes: &'a [u8], spans: &'a [Span]) -> ElementRef<'a>
         requires { AllByRecursion (IsSpanIn (length bytes.now)) spans.now }
         ensures { result ≡ all_items bytes.now spans.now }
@@ -79,7 +79,7 @@ impl<'a> ElementRef<'a> {
         self.spans.is_empty()
     }
 
-    // The item that stands so many on.
+    // The item at a place, counted from 0.
     pub(crate) fn at(&self, i: usize) -> ItemRef<'a>
         requires { i < length self.now }
         ensures { slice_get self.now i ≡ Some (item_of_ref result) }
