@@ -1,2 +1,2 @@
-pub mod FileLemmas
-pub mod ReasonLemmas
+pub mod Reading
+pub mod Answering

@@ -1,3 +1,4 @@
 pub mod BuiltIn
 pub mod Loading
+pub mod Loaded
 pub mod Commands

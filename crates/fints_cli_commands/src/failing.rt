@@ -1,9 +1,8 @@
 //! Why a command has no answer.
-ghost use Rattle.std.specs.Prelude.{◌≡◌, ◌≢◌, ◌≤◌};
-ghost use Rattle.fints_cli_commands.specs.Commands.{failure_status, HintsIfAsked, IsUnloaded, IsUnreadAs};
+ghost use Rattle.std.specs.Prelude.{◌≡◌};
+ghost use Rattle.fints_cli_commands.specs.Commands.{failure_status, HintsIfAsked};
+ghost use Rattle.fints_cli_commands.specs.Loaded.{unread_as};
 ghost use Rattle.fints_cli_commands.specs.declared.failing.Failure.TheVariants as failure;
-ghost use Rattle.fints_cli_files.specs.declared.reading.LoadFault.TheVariants as load_fault;
-ghost use Rattle.fints_cli_texts.specs.declared.fault.Fault.TheVariants as texts;
 
 use fints_cli_files::LoadFault;
 use fints_cli_hints::{Inputs, hint};
@@ -85,10 +84,7 @@ pub fn unread(
     limit: usize,
     hints: bool,
 ) -> Refusal
-    ensures told { IsUnloaded option.now result.failure }
-    ensures file { fault ≢ load_fault.Memory → IsUnreadAs option.now result.failure }
-    ensures memory { fault ≡ load_fault.Memory → result.failure ≡ failure.Input texts.Memory }
-    ensures status { 4 ≤ failure_status result.failure }
+    ensures failure { result.failure ≡ unread_as option.entry fault }
     ensures unasked { HintsIfAsked hints result }
 {
     let failure = match fault {

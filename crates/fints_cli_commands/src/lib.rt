@@ -4,6 +4,7 @@
 pub mod built_in;
 mod commands;
 mod failing;
+mod loading;
 
 pub use commands::perform;
 pub use failing::{Failure, Refusal};

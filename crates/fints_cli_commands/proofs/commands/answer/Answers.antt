@@ -1,0 +1,40 @@
+use Rattle.std.proofs.lemmas.Result.{IfErr-weaker}
+use Rattle.fints_cli_texts.specs.Show.{IsMemoryOrShowFault}
+use Rattle.fints_cli_commands.proofs.Answering.{judge_refused, judge_after_refused, run_refused}
+use Rattle.fints_cli_commands.proofs.Reading.{of_exit, of_file}
+use Rattle.fints_cli_commands.proofs.commands.answer.Goals as goal
+
+pub returns-in_err-text-in-Show-clause-refused : goal.returns-in_err-text-in-Show-clause-refused
+returns-in_err-text-in-Show-clause-refused c =
+    let fault = c.in_err-text-in-Show.field-0.0 in
+    let refused = rw c.deref.ensures.value at c.in_err-text-in-Show.ensures.refused in
+    rw c.in-Show.is (of_exit c.from_residual.result fault _ c.from_residual.ensures.1 (λ holds loaded.
+    of_file (λ capture. IsMemoryOrShowFault capture fault) (holds c.in-Show.params.now) _ loaded.shown refused))
+
+pub returns-in_err-text-in-Run-clause-refused : goal.returns-in_err-text-in-Run-clause-refused
+returns-in_err-text-in-Run-clause-refused c =
+    let orders = c.deref-in-Run.ensures.value in
+    let script = c.deref-in-Run-2.ensures.value in
+    let case = c.deref-in-Run-3.ensures.value in
+    let refused = rw (orders, script, case) at c.in_err-text-in-Run.ensures.refused in
+    let exit = c.from_residual-in_err-text-in-Run.ensures.1 in
+    rw c.in-Run.is (of_exit c.from_residual-in_err-text-in-Run.result _ _ exit (λ holds loaded.
+    run_refused holds _ _ _ c.in-Run.files _ refused loaded))
+
+pub returns-in-Judge-clause-refused : goal.returns-in-Judge-clause-refused
+returns-in-Judge-clause-refused c =
+    let orders = c.deref-in-Judge.ensures.value in
+    let message = c.deref-in-Judge-2.ensures.value in
+    rw c.in-Judge.is (IfErr-weaker c.judge_read.result _ _ (λ fault h holds loaded.
+    judge_refused holds _ _ fault _ (rw (orders, message) at h) loaded)
+    c.judge_read.ensures.refused)
+
+pub returns-in-JudgeAfter-clause-refused : goal.returns-in-JudgeAfter-clause-refused
+returns-in-JudgeAfter-clause-refused c =
+    let orders = c.deref-in-JudgeAfter.ensures.value in
+    let before = c.deref-in-JudgeAfter-2.ensures.value in
+    let answer = c.deref-in-JudgeAfter-3.ensures.value in
+    let message = c.deref-in-JudgeAfter-4.ensures.value in
+    rw c.in-JudgeAfter.is (IfErr-weaker c.judge_after_read.result _ _ (λ fault h holds loaded.
+    judge_after_refused holds _ _ fault _ _ (rw (orders, before, answer, message) at h) loaded)
+    c.judge_after_read.ensures.refused)

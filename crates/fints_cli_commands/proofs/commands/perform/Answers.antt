@@ -1,0 +1,29 @@
+use Rattle.std.proofs.Common.{arith, ◌≡◌, ◌≤◌, length}
+use Rattle.fints_cli_words.specs.declared.words.Request.{Request}
+use Rattle.fints_cli_words.specs.declared.words.Request.TheVariants.{BuiltIn, Show, Judge, JudgeAfter, Check, Explain, Certify, Verify}
+use Rattle.fints_cli_words.specs.declared.words.Request.TheVariants as requests
+use Rattle.fints_cli_commands.specs.declared.loading.Paths.{Paths}
+use Rattle.fints_cli_commands.specs.Loading.{files_at, files_of, paths_of}
+use Rattle.fints_cli_commands.proofs.commands.perform.Goals as goal
+
+at_most_five : (request : Request) → length (files_of request) ≤ 5
+at_most_five BuiltIn = omega arith
+at_most_five (Show params) = omega arith
+at_most_five (Judge files) = omega arith
+at_most_five (JudgeAfter files earlier) = omega arith
+at_most_five (Check files) = omega arith
+at_most_five (Explain files) = omega arith
+at_most_five (Certify files) = omega arith
+at_most_five (Verify files certificate) = omega arith
+at_most_five (requests.Run files only) = omega arith
+
+few : (request : Request) (paths : Paths) → paths ≡ paths_of request → length (files_at paths) ≤ 5
+few request paths is = rw is (at_most_five request)
+
+pub returns-in-Ok-clause-calls : goal.returns-in-Ok-clause-calls
+returns-in-Ok-clause-calls g c =
+    omega (arith, few c.args.request.now _ c.paths_of-paths.ensures, c.in_ok-params.ensures.read.calls)
+
+pub returns-clause-calls : goal.returns-clause-calls
+returns-clause-calls g c =
+    omega (arith, few c.args.request.now _ c.paths_of-paths.ensures, c.in_ok-params.ensures.read.calls)

@@ -1,0 +1,63 @@
+-- What was loaded, and what loading says of the files: words of private contracts and proofs alone.
+use Rattle.std.specs.Prelude.{◌≡◌, ◌≤◌, ◌+◌, ◌-◌, ◌*◌, ◌^◌, min, ℕ, List, length, Option, IfSome, Result}
+use Rattle.std.specs.Borrow.{Bor}
+use Rattle.fints_params.specs.Parameters.{Rows}
+use Rattle.fints_params.specs.declared.fault.ParamFault.{ParamFault}
+use Rattle.fints_cli_files.specs.Captures.{IsReadFrom}
+use Rattle.fints_cli_files.specs.Loading.{MAX_READS, NoneFailed}
+use Rattle.fints_cli_files.specs.Streams.{IsFile, ReadCounts}
+use Rattle.fints_cli_files.specs.declared.reading.LoadFault.{LoadFault}
+use Rattle.fints_cli_files.specs.declared.reading.LoadFault.TheVariants as load_faults
+use Rattle.fints_cli_texts.specs.declared.fault.Fault.TheVariants.{Memory}
+use Rattle.fints_cli_commands.specs.declared.failing.Failure.{Failure}
+use Rattle.fints_cli_commands.specs.declared.failing.Failure.TheVariants.{Input, Unread}
+use Rattle.fints_cli_commands.specs.declared.loading.Contents.{Contents}
+use Rattle.fints_cli_commands.specs.declared.loading.Paths.{Paths}
+use Rattle.fints_cli_commands.specs.Loading.{Held, NamedFile, AreWithin, FollowsReading}
+
+-- the bytes are those of the file, where there is a path
+abbrev pub IsFileAt : Option (Bor (List ℕ)) → Held → List ℕ → Type 0
+IsFileAt path holds bytes = IfSome path (λ p. IsFile (holds p.now) bytes)
+
+-- the capture of the path was read so, where there is a path
+abbrev pub IsReadAt : Option (Bor (List ℕ)) → Held → Result Rows ParamFault → Type 0
+IsReadAt path holds params = IfSome path (λ p. IsReadFrom (holds p.now) params)
+
+-- what was loaded is what the files of these paths hold
+pub record IsLoaded (paths : Paths) (holds : Held) (capture : Result Rows ParamFault) (contents : Contents)
+    : Type 0 where
+  pub shown : IsFileAt paths.shown holds contents.shown.items
+  pub params : IsReadAt paths.params holds capture
+  pub orders : IsFileAt paths.orders holds contents.orders.items
+  pub script : IsFileAt paths.script holds contents.script.items
+  pub case : IsFileAt paths.case holds contents.case.items
+  pub certificate : IsFileAt paths.certificate holds contents.certificate.items
+  pub before : IsFileAt paths.before holds contents.before.items
+  pub answer : IsFileAt paths.answer holds contents.answer.items
+  pub message : IsFileAt paths.message holds contents.message.items
+
+-- these files were read to their ends
+pub record AreRead (files : List NamedFile) (holds kept : Held) (before after : ReadCounts) : Type 0 where
+  pub within : AreWithin files holds
+  pub fine : NoneFailed before after
+  pub counted : min before.calls (2 ^ 64 - 1) ≤ after.calls
+  pub calls : after.calls ≤ before.calls + length files * MAX_READS
+  pub keeps : kept ≡ holds
+
+-- a file of an option wasn't loaded, or memory ran out
+abbrev pub IsUnloaded : Failure → Type 0
+IsUnloaded (Unread option) = Unit {0}
+IsUnloaded (Input fault) = fault ≡ Memory
+
+-- one of these files wasn't loaded
+pub record IsOneUnread (files : List NamedFile) (holds kept : Held) (before after : ReadCounts) (failure : Failure)
+    : Type 0 where
+  pub follows : FollowsReading files holds before after failure
+  pub unloaded : IsUnloaded failure
+  pub calls : after.calls ≤ before.calls + length files * MAX_READS
+  pub keeps : kept ≡ holds
+
+-- what the file of an option that wasn't loaded is told as
+abbrev pub unread_as : Bor (List ℕ) → LoadFault → Failure
+unread_as option load_faults.Memory = Input Memory
+unread_as option _ = Unread option
