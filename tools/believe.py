@@ -93,9 +93,16 @@ def exported(crate):
 
 
 def public_clauses(text, names, is_public):
-    """The contracts of public functions and traits, and what the models of public types say."""
+    """The contracts of public functions and traits, and what the models of public types say. An
+    invariant of a model is seen by nobody outside."""
+    text = re.sub(r"^ *ghost (?:use [^\n]*|invariant = \{.*?\});\n", "", text, flags=re.M | re.S)
     for item in re.split(r"\n\n(?=\S)", text):
-        head = next((it for it in item.split("\n") if re.match(r"(pub |unsafe )?(fn|impl|trait|struct|enum)\b", it)), "")
+        head = next((it for it in item.split("\n") if re.match(r"(pub(\(crate\))? |unsafe )*(fn|impl|trait|struct|enum)\b", it)), "")
+        free = re.match(r"(?:pub(?:\(crate\))? |unsafe )*fn (\w+)", head)
+        if free:
+            if head.startswith("pub fn") and (is_public or free[1] in names):
+                yield re.split(r"^\{$", item, maxsplit=1, flags=re.M)[0]
+            continue
         called = set(WORD.findall(head.split("{")[0]))
         if not is_public and not called & names:
             continue
@@ -105,7 +112,7 @@ def public_clauses(text, names, is_public):
         own = head.startswith("impl") and " for " in head
         for function in re.split(r"^ *(?=(?:pub(?:\(crate\))? )?fn )", item, flags=re.M):
             if own or function.startswith("pub fn") or not re.match(r"(pub(\(crate\))? )?fn ", function):
-                yield "\n".join(it for it in re.split(r"^ *\{$", function, maxsplit=1, flags=re.M)[0].split("\n"))
+                yield re.split(r"^ *\{$", function, maxsplit=1, flags=re.M)[0]
 
 
 def roots(definitions):

@@ -67,7 +67,7 @@ impl<'a> AtStep<'a> {
     }
 
     /// What is known of the step: it is the script's, which was read.
-    pub fn keeps(&self)
+    pub(crate) fn keeps(&self)
         ensures at { numbered self.now.script.steps self.now.n ≡ Some self.now.step }
         ensures sound { IsSound self.now.script }
         ensures sound_step { IsSoundStep self.now.script self.now.step }
@@ -76,21 +76,21 @@ impl<'a> AtStep<'a> {
     }
 
     /// Under what the rules are asked.
-    pub fn permissions(&self) -> &Permissions<'a>
+    pub(crate) fn permissions(&self) -> &Permissions<'a>
         ensures { result.now ≡ self.now.granted }
     {
         self.permissions
     }
 
     /// The step's number, counted from 1.
-    pub fn number(&self) -> usize
+    pub(crate) fn number(&self) -> usize
         ensures { result ≡ self.now.n }
     {
         self.n
     }
 
     /// How many places its message has: the whole message, and the segments before those of the end.
-    pub fn place_count(&self) -> usize
+    pub(crate) fn place_count(&self) -> usize
         ensures { result ≡ 2 + length self.now.step.signers + length self.now.step.templates }
     {
         2 + self.step.signers().len() + self.step.templates().len()
@@ -98,7 +98,7 @@ impl<'a> AtStep<'a> {
 
     /// Whether what its message holds can break the rule at the place: 0 is the whole message, another
     /// place the number of a segment. It takes no memory.
-    pub fn breaks(&self, rule: Rule, place: usize) -> bool
+    pub(crate) fn breaks(&self, rule: Rule, place: usize) -> bool
 
         // Then for some admitted values it does, at every number..
         ensures some { IsTrue result → CanBreak self.now.granted self.now.script self.now.step rule place }
@@ -145,7 +145,7 @@ impl<'a> AtStep<'a> {
 
     /// With which account set, if with any, the least values (for P12 the worst) break the rule at the
     /// place, where some values do.
-    pub fn choice(&self, rule: Rule, place: usize) -> Option<SetAccount>
+    pub(crate) fn choice(&self, rule: Rule, place: usize) -> Option<SetAccount>
         ensures { (other values : List NamedValue) (lower : ℕ) → Admits self.now.script.fields other
             → BreaksByContent self.now.granted (message_view self.now.script self.now.step lower other) rule place
             → IsChoice (wants_tan rule) self.now.script.fields result values
