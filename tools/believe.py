@@ -3,6 +3,7 @@
 
 tools/believe.py           a table: lines of definitions in specs/, and those that public contracts reach
 tools/believe.py --apart   the spec files of which public contracts reach nothing, and those that they reach in part
+tools/believe.py --doubles the names that stand for two things or more, of those that public contracts reach
 tools/believe.py NAME..    the same table for what these definitions alone reach, as Headline
 --bare                     with any of these: lines without the comments
 
@@ -17,7 +18,7 @@ import sys
 
 TOP = os.path.dirname(os.path.dirname(os.path.abspath(__file__)))
 WORD = re.compile(r"[A-Za-z_][\w'-]*")
-START = re.compile(r"^(?:(?:pub|abbrev|unfoldable|opaque) )*(?:record |data )?(?:pub )?([A-Za-z_][\w'-]*)(?: .*)?:")
+START = re.compile(r"^(?:(?:pub|abbrev|unfoldable|opaque) )*(?:record |data )?(?:pub )?([A-Za-z_][\w'-]*|◌\S+◌)(?: .*)?:")
 
 
 class Definition:
@@ -76,6 +77,10 @@ def found(text, scope, at, definitions):
         key = names.get(word) or (*at, word)
         if key in definitions:
             yield key
+    for name in {name for _, _, name in definitions if name.startswith("◌")}:
+        key = names.get(name) or (*at, name)
+        if key in definitions and name.strip("◌") in text.split():
+            yield key
     for other, name in set(re.findall(r"\b(\w+)\.([\w'-]+)", text)):
         if other in files and (*files[other], name) in definitions:
             yield (*files[other], name)
@@ -93,9 +98,11 @@ def exported(crate):
 
 
 def public_clauses(text, names, is_public):
-    """The contracts of public functions and traits, and what the models of public types say. An
-    invariant of a model is seen by nobody outside."""
-    text = re.sub(r"^ *ghost (?:use [^\n]*|invariant = \{.*?\});\n", "", text, flags=re.M | re.S)
+    """The contracts of public functions and traits, and what the models of public types say. What
+    a model proves, as its invariant, is seen by nobody outside."""
+    text = re.sub(r"^ *ghost use [^\n]*;\n", "", text, flags=re.M)
+    proved = r"invariant|inverse|inverse_ok|laws|total|matches_\w+|respects_eq"
+    text = re.sub(rf"^ *ghost (?:{proved}) = \{{.*?\}};\n", "", text, flags=re.M | re.S)
     for item in re.split(r"\n\n(?=\S)", text):
         head = next((it for it in item.split("\n") if re.match(r"(pub(\(crate\))? |unsafe )*(fn|impl|trait|struct|enum)\b", it)), "")
         free = re.match(r"(?:pub(?:\(crate\))? |unsafe )*fn (\w+)", head)
@@ -159,6 +166,14 @@ def main():
             apart = [name for is_reached, name in names if not is_reached]
             if apart:
                 print(f"{crate}/specs/{file}.antt: {'all' if len(apart) == len(names) else ' '.join(apart)}")
+        return
+    if "--doubles" in sys.argv:
+        by_name = collections.defaultdict(list)
+        for crate, file, name in sorted(reached):
+            by_name[name].append(f"{crate}/{file}")
+        for name, places in sorted(by_name.items()):
+            if len(places) > 1:
+                print(f"{name}: {', '.join(places)}")
         return
     lines, believed = collections.Counter(), collections.Counter()
     for key, it in definitions.items():

@@ -1,8 +1,9 @@
 #!/usr/bin/env python3
-"""Counts what bodies say for a proof's sake alone: calls of laws, and calls whose result is thrown
-away under a name (`let _count = plan.step_count();`; one that may refuse, with `?`, is called for its
-refusal). There are to be none: a proof cites the lemma of a law by its name, and what an object keeps is
-said by its method `keeps`.
+"""Counts what bodies say for a proof's sake alone: calls of laws; calls whose result is thrown away, under
+a name or without (`let _count = plan.step_count();`; one that may refuse, with `?`, is called for its
+refusal); and calls of functions that change nothing and give nothing. There are to be none: a proof
+cites the lemma of a law by its name, and what an object keeps is said by its method `keeps`, which alone
+may be called so.
 
 Usage: tools/bodies.py
 """
@@ -13,6 +14,7 @@ import sys
 
 os.chdir(os.path.dirname(os.path.dirname(os.path.abspath(__file__))))
 LAW_FILES = ("laws.rt", "run_laws.rt", "class_laws.rt")
+HEAD = re.compile(r"^ *(?:pub(?:\([a-z]+\))? )?(?:const )?(?:final )?fn (\w+)((?:.|\n)*?)(?:;|\{)$", re.M)
 
 sources = {path: open(path, encoding="utf-8").read() for path in sorted(glob.glob("crates/*/src/**/*.rt", recursive=True))}
 laws = {
@@ -21,14 +23,29 @@ laws = {
     if os.path.basename(path) in LAW_FILES
     for name in re.findall(r"^(?:pub )?fn (\w+)\(\)$", text, re.M)
 }
+# Functions of which none of that name is handed anything that it could change, those that give a value,
+# and those that give none.
+changing, giving, silent = set(), set(), set()
+for text in sources.values():
+    for name, head in HEAD.findall(text):
+        signature = re.split(r"^ *(?:requires|ensures)", head, maxsplit=1, flags=re.M)[0]
+        if "&mut" in signature or re.search(r"\(\s*(?:mut )?self\b", signature):
+            changing.add(name)
+        (giving if "->" in signature else silent).add(name)
 found = []
 for path, text in sources.items():
+    if "_tests/" in path:
+        continue
     for number, line in enumerate(text.split("\n"), 1):
-        called = re.match(r"\s+(?:\w+::)*(\w+)\(\);$", line)
+        at = f"{path}:{number}"
+        called = re.match(r"\s+(?:\w+(?:\.|::))*(\w+)\((.*)\);$", line)
+        thrown = re.match(r"\s+let _(?:\w+)? = (?:\w+(?:\.|::))*(\w+)\((.*)\);$", line)
         if called and called[1] in laws:
-            found.append(f"{path}:{number}: calls the law {called[1]}")
-        if re.match(r"\s+let _\w+ = .*\(.*\);$", line):
-            found.append(f"{path}:{number}: {line.strip()}")
+            found.append(f"{at}: calls the law {called[1]}")
+        elif called and called[1] in silent and called[1] not in changing | {"keeps"}:
+            found.append(f"{at}: {line.strip()}")
+        elif thrown and (thrown[1] in giving - changing or re.match(r"\s+let _\w+ = ", line)):
+            found.append(f"{at}: {line.strip()}")
 for line in found:
     print(line, file=sys.stderr)
 print(f"bodies: {len(laws)} laws, {len(found)} statements for a proof alone")

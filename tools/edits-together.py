@@ -5,6 +5,9 @@ function must meet is its own contract, and it rests on the contracts of others 
 another function neither helps nor harms. An edit that isn't refused so is tried alone, by
 `rt must-fail`, which says what it came to.
 
+A refusal that comes only because a proof file names what the edit took away, or answers a goal that is
+no longer one, says nothing of the contract: it counts as NOT REFUSED.
+
 The crates are to be checked before (`rt check`). It works in a copy, which it removes.
 
 Usage: tools/edits-together.py [--gate] [--at-once N] [--only WORD] [CRATE..]
@@ -22,8 +25,10 @@ import tempfile
 TOP = os.path.dirname(os.path.dirname(os.path.abspath(__file__)))
 # What a line of a function says where it is not refused for itself.
 FOR_ANOTHER = re.compile(r": (no proof|not proved)(: it (calls|passes|waits)|; it waits)")
-# What a proof file's line says where it names what the edit took away.
-LOST_NAME = re.compile(r"has no field|is not in scope|has no `|was not admitted")
+# What a proof file's line says where it names what the edit took away, or answers what is no goal now.
+LOST_NAME = re.compile(r"has no field|is not in scope|has no `|was not admitted|Unit \{0\}")
+# What rt says of such a refusal.
+SAYS_LITTLE = "only because a proof file names"
 
 
 class Edit:
@@ -152,25 +157,28 @@ def tried_alone(room, crate, edits):
     shutil.rmtree(into)
     told = [it.removeprefix("rt: ") for it in ran.stdout.split("\n") if it.removeprefix("rt: ").startswith("must-fail ")]
     print(*told or ran.stdout.split("\n"), sep="\n", flush=True)
-    return sum(": refused, as it must be" not in it for it in told) + max(0, len(edits) - len(told))
+    good = [": refused, as it must be" in it and SAYS_LITTLE not in it for it in told]
+    return len(good) - sum(good) + max(0, len(edits) - len(told))
 
 
 def try_crate(room, crate, paths, most):
     """Tries a crate's edits; how many were refused, and how many were not."""
     edits = [Edit(it, f"{room}/crates/{crate}") for it in paths]
-    alone, passed = [it for it in edits if not it.places], 0
+    alone, passed, lost = [it for it in edits if not it.places], 0, 0
     for taken, texts in batches(edits, most):
         said = check(room, crate, texts)
         found = refusals(crate, said)
         for edit in taken:
-            if refused(edit, found):
-                passed += 1
-                little = " (only because a proof file names what the edit took away)" * only_names(edit, said)
-                print(f"{crate}/{edit.name}: refused, with {len(taken) - 1} others{little}", flush=True)
-            else:
+            if not refused(edit, found):
                 alone.append(edit)
+            elif only_names(edit, said):
+                lost += 1
+                print(f"{crate}/{edit.name}: NOT REFUSED: only because a proof file names what the edit took away", flush=True)
+            else:
+                passed += 1
+                print(f"{crate}/{edit.name}: refused, with {len(taken) - 1} others", flush=True)
     failed = tried_alone(room, crate, alone) if alone else 0
-    return passed + len(alone) - failed, failed
+    return passed + len(alone) - failed, failed + lost
 
 
 def copy_to(room, crates):

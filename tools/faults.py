@@ -178,6 +178,7 @@ def in_all_commands(lab):
     c1, orders = ["--params", "c1.fints"], ["--orders", "orders.toml"]
     groups = {
         "one-end": [
+            row("report/no-words"),
             row("show/bank-without-accounts"),
             row("judge/end-of-a-dialogue"),
             Run(["run", *orders, "--script", "end.toml", "--case", "no-answer.case"], INPUTS, once),

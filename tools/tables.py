@@ -20,8 +20,10 @@ def repeated(piece):
 
 
 def text_of(part):
-    """The text that a row's part stands for."""
-    return re.sub(r"⟨(?:(\d+)-)?(\d+) (.*?)⟩", repeated, part).replace("⏎", "\n")
+    """The text that a row's part stands for: of copies of copies, the inner ones are made first."""
+    while "⟨" in part:
+        part = re.sub(r"⟨(?:(\d+)-)?(\d+) ([^⟨⟩]*)⟩", repeated, part)
+    return part.replace("⏎", "\n")
 
 
 def is_told(wanted, run):
@@ -31,9 +33,9 @@ def is_told(wanted, run):
         return run.returncode in (0, 1) and not err
     if wanted.startswith("error: "):
         return (run.returncode, out, err) == (3, "", f"{wanted}\n")
-    text = wanted.removeprefix(".. ").replace("⏎", "\n") + "\n"
+    text = text_of(wanted.removeprefix(".. ")) + "\n"
     good = out.endswith(f"\n{text}") if wanted.startswith(".. ") else out == text
-    status = int(text.splitlines()[-1].startswith(("invalid", "findings ")))
+    status = int(any(line.startswith(("invalid", "findings ", "broken ")) for line in text.splitlines()))
     return good and (run.returncode, err) == (status, "")
 
 

@@ -1,5 +1,5 @@
 -- The status and the output of the words that were given.
-use Rattle.std.specs.Prelude.{◌≡◌, ◌≤◌, ◌⊎◌, ℕ, List, Option, string_bytes}
+use Rattle.std.specs.Prelude.{codes, ◌≡◌, ◌≤◌, ◌⊎◌, ℕ, false, List, [], ◌∷◌, ◌++◌, Option, String, string_bytes}
 use Rattle.fints_cli_files.specs.Streams.{ReadCounts, Gets, GetsNothing, GetsPrefix, one_more}
 use Rattle.fints_cli_files.specs.Loading.{NoneFailed}
 use Rattle.fints_cli_words.specs.declared.words.Asked.{Asked}
@@ -29,6 +29,13 @@ IsUsage (Usage fault) = Unit {0}
 IsUsage NoMemory = ⊥
 IsUsage (Run request hints) = ⊥
 
+-- memory ran out before the words were understood
+abbrev pub RanOut : Asked → Type 0
+RanOut (Help help) = ⊥
+RanOut (Usage fault) = ⊥
+RanOut NoMemory = Unit {0}
+RanOut (Run request hints) = ⊥
+
 -- the request has no answer, and this status
 abbrev pub FailsWith : ℕ → Asked → (List ℕ → Option (List ℕ)) → Type 0
 FailsWith status (Help help) holds = ⊥
@@ -57,8 +64,41 @@ pub record IsResponse (asked : Asked) (holds : List ℕ → Option (List ℕ)) (
   pub usage : status ≡ 2 → IsUsage asked ⊎ FailsWith 2 asked holds
   pub unread : IsUsage asked → after.calls ≡ before.calls
   pub refused : status ≡ 3 → FailsWith 3 asked holds
+  pub memory : status ≡ 4 → RanOut asked ⊎ FailsWith 4 asked holds
   pub read : status ≤ 3 → NoneFailed before after
   pub within : status ≤ 3 → FilesAreWithin asked holds
   pub silent : (status ≡ 2) ⊎ ((status ≡ 3) ⊎ (status ≡ 4)) → GetsNothing old new
   pub fine : status ≤ 4 → lost_after ≡ lost
   pub failed : status ≡ 5 → (FailsToRead asked holds before after × GetsNothing old new) ⊎ (IsCutOff asked holds old new × (lost_after ≡ one_more lost))
+
+-- ---- what the errors get
+
+-- a stream got the text, or a prefix of it, after which a write failed
+abbrev pub Tells : (old new : Option (List ℕ)) (lost lost_after : ℕ) → List ℕ → Type 0
+Tells old new lost lost_after text =
+    (Gets old new text × (lost_after ≡ lost)) ⊎ (GetsPrefix old new text × (lost_after ≡ one_more lost))
+
+-- a stream got nothing, and no write to it failed
+abbrev pub IsUntold : (old new : Option (List ℕ)) (lost lost_after : ℕ) → Type 0
+IsUntold old new lost lost_after = GetsNothing old new × (lost_after ≡ lost)
+
+abbrev pub memory_line : List ℕ
+memory_line = codes "error: memory" ++ 10 ∷ []
+
+abbrev pub write_line : List ℕ
+write_line = codes "error: write" ++ 10 ∷ []
+
+-- no hint is asked for
+abbrev pub AsksNoHint : Asked → Type 0
+AsksNoHint (Help help) = Unit {0}
+AsksNoHint (Usage fault) = Unit {0}
+AsksNoHint NoMemory = Unit {0}
+AsksNoHint (Run request hints) = hints ≡ false
+
+-- What the errors got. Where no hint is asked for that is nothing up to status 1, and from 2 on one line, which a bad command
+-- line has from the usage, and want of memory as its own.
+pub record SaysWhy (asked : Asked) (status : ℕ) (old new : Option (List ℕ)) (lost lost_after : ℕ) : Type 0 where
+  pub quiet : status ≤ 1 → AsksNoHint asked → IsUntold old new lost lost_after
+  pub usage : (text : String) → asked ≡ Usage text → Tells old new lost lost_after (string_bytes text)
+  pub line : 2 ≤ status → AsksNoHint asked → (line : List ℕ) × Tells old new lost lost_after line
+  pub memory : status ≡ 4 → Tells old new lost lost_after memory_line

@@ -1,73 +1,84 @@
 //! From words to a status: the answer of a command on the output, and what it says on the errors.
-ghost use Rattle.std.specs.Prelude.{◌≡◌, ◌≤◌, ◌<◌, ◌+◌, ◌*◌, ◌⊎◌, [], false};
+ghost use Rattle.std.specs.Prelude.{◌≡◌, ◌≤◌, ◌+◌, ◌*◌, ◌⊎◌, ℕ, List, [], false, None};
 ghost use Rattle.fints_cli_files.specs.Streams.{Gets, GetsNothing, GetsPrefix, one_more};
 ghost use Rattle.fints_cli_files.specs.Loading.{MAX_READS, NoneFailed};
 ghost use Rattle.fints_cli_words.specs.declared.words.Request.TheVariants as request;
 ghost use Rattle.fints_cli_words.specs.declared.words.Asked.{Asked};
 ghost use Rattle.fints_cli_words.specs.declared.words.Asked.TheVariants as asked;
 ghost use Rattle.fints_cli_commands.specs.Commands.{failure_status};
-ghost use Rattle.fints_cli.specs.Responses.{IsAnswered, IsCutOff, IsResponse, IsUsage, FailsToRead, FailsWith, FilesAreWithin};
+ghost use Rattle.fints_cli.specs.Responses.{IsAnswered, IsCutOff, IsResponse, RanOut, IsUntold, IsUsage, FailsToRead, FailsWith, FilesAreWithin, SaysWhy, Tells, memory_line, write_line};
 
 use crate::emitting::emit;
+use arrayvec::ArrayString;
 use fints_cli_commands::{Failure, Refusal, perform};
-use fints_cli_files::{Files, Out};
+use fints_cli_files::{Files, Out, WriteFault};
 use fints_cli_words::{Asked, read_words};
 use std::alloc::Global;
+use std::fmt::Write;
 
-// Writes a line to the errors; a fault there changes nothing.
-fn tell<E: Out>(line: &[u8], err: &mut E) {
-    let _ = emit(line, err);
+// The longest line of a fault has fewer bytes.
+const LONGEST_LINE: usize = 256;
+
+// Writes a text to the errors; a fault there changes nothing.
+fn tell<E: Out>(text: &[u8], err: &mut E)
+    ensures { Tells (E.told err.old) (E.told err.new) (E.failed_calls err.old) (E.failed_calls err.new) text.now }
+{
+    let _ = emit(text, err);
 }
 
 fn tell_memory<E: Out>(err: &mut E) -> u8
-    ensures { result ≡ 4 }
+    ensures status { result ≡ 4 }
+    ensures line { Tells (E.told err.old) (E.told err.new) (E.failed_calls err.old) (E.failed_calls err.new) memory_line }
 {
     tell(b"error: memory\n", err);
     4
 }
 
-// Says on the errors why there is no answer.
-fn tell_failure<E: Out>(alloc: Global, failure: &Failure, err: &mut E) -> u8
-    ensures { (result ≡ failure_status failure.now) ⊎ (result ≡ 4) }
+// Says on the errors why there is no answer. The line takes no memory.
+fn tell_failure<E: Out>(failure: &Failure, err: &mut E)
+    ensures { (line : List ℕ) × Tells (E.told err.old) (E.told err.new) (E.failed_calls err.old) (E.failed_calls err.new) line }
 {
-    match format!(in alloc; "error: {failure}\n") {
-        Ok(line) => {
-            tell(line.as_bytes(), err);
-            failure.status()
-        }
-        Err(_) => tell_memory(err),
-    }
+    let mut line = ArrayString::<LONGEST_LINE>::new();
+    let _ = write!(line, "error: {failure}\n");
+    tell(line.as_bytes(), err);
 }
 
-// Says on the errors what to look at.
-fn tell_hint<E: Out>(alloc: Global, hint: &str, err: &mut E) {
-    if let Ok(line) = format!(in alloc; "hint: {hint}\n") {
-        tell(line.as_bytes(), err);
-    }
+// Writes the line of a hint.
+fn emit_hint<E: Out>(hint: &str, err: &mut E) -> Result<(), WriteFault> {
+    emit(b"hint: ", err)?;
+    emit(hint.as_bytes(), err)?;
+    emit(b"\n", err)
 }
 
 // Says on the errors why there is no answer, and what to look at where there is a hint; none stands
 // behind want of memory.
-fn tell_refusal<E: Out>(alloc: Global, refusal: &Refusal, err: &mut E) -> u8
-    ensures { (result ≡ failure_status refusal.now.failure) ⊎ (result ≡ 4) }
+fn tell_refusal<E: Out>(refusal: &Refusal, err: &mut E) -> u8
+    ensures status { result ≡ failure_status refusal.now.failure }
+    ensures memory { result ≡ 4 → Tells (E.told err.old) (E.told err.new) (E.failed_calls err.old) (E.failed_calls err.new) memory_line }
+    ensures line { refusal.now.hint ≡ None
+        → (line : List ℕ) × Tells (E.told err.old) (E.told err.new) (E.failed_calls err.old) (E.failed_calls err.new) line }
 {
-    let status = tell_failure(alloc, &refusal.failure, err);
-    if let Some(hint) = &refusal.hint
-        && status != 4
-    {
-        tell_hint(alloc, hint.as_str(), err);
+    let status = refusal.failure.status();
+    if status == 4 {
+        return tell_memory(err);
+    }
+    tell_failure(&refusal.failure, err);
+    if let Some(hint) = &refusal.hint {
+        let _ = emit_hint(hint.as_str(), err);
     }
     status
 }
 
 // Writes the text to the output.
 fn deliver<O: Out, E: Out>(text: &[u8], status: u8, out: &mut O, err: &mut E) -> u8
-    requires { status < 5 }
+    requires { status ≤ 1 }
     ensures statuses { (result ≡ status) ⊎ (result ≡ 5) }
     ensures written { result ≡ status → Gets (O.told out.old) (O.told out.new) text.now }
     ensures fine { result ≡ status → O.failed_calls out.new ≡ O.failed_calls out.old }
     ensures cut { result ≡ 5 → GetsPrefix (O.told out.old) (O.told out.new) text.now }
     ensures failed { result ≡ 5 → O.failed_calls out.new ≡ one_more (O.failed_calls out.old) }
+    ensures quiet { result ≡ status → IsUntold (E.told err.old) (E.told err.new) (E.failed_calls err.old) (E.failed_calls err.new) }
+    ensures line { result ≡ 5 → Tells (E.told err.old) (E.told err.new) (E.failed_calls err.old) (E.failed_calls err.new) write_line }
 {
     if emit(text, out).is_err() {
         tell(b"error: write\n", err);
@@ -90,6 +101,7 @@ pub fn respond<F: Files, O: Out, E: Out>(
     ensures usage { IsUsage asked.now → result ≡ 2 }
     ensures only_usage { result ≡ 2 → IsUsage asked.now ⊎ FailsWith 2 asked.now (F.holds files.old) }
     ensures refused { result ≡ 3 → FailsWith 3 asked.now (F.holds files.old) }
+    ensures memory { result ≡ 4 → RanOut asked.now ⊎ FailsWith 4 asked.now (F.holds files.old) }
     ensures silent { (result ≡ 2) ⊎ ((result ≡ 3) ⊎ (result ≡ 4))
         → GetsNothing (O.told out.old) (O.told out.new) }
     ensures fine { result ≤ 4 → O.failed_calls out.new ≡ O.failed_calls out.old }
@@ -101,6 +113,8 @@ pub fn respond<F: Files, O: Out, E: Out>(
     ensures read { result ≤ 3 → NoneFailed (F.reads files.old) (F.reads files.new) }
     ensures within { result ≤ 3 → FilesAreWithin asked.now (F.holds files.old) }
     ensures calls { (F.reads files.new).calls ≤ (F.reads files.old).calls + 5 * MAX_READS }
+    ensures says { SaysWhy asked.now result
+        (E.told err.old) (E.told err.new) (E.failed_calls err.old) (E.failed_calls err.new) }
 {
     match asked {
         Asked::Help(text) => deliver(text.as_bytes(), 0, out, err),
@@ -111,7 +125,7 @@ pub fn respond<F: Files, O: Out, E: Out>(
         Asked::NoMemory => tell_memory(err),
         Asked::Run { request, hints } => match perform(alloc, request, files, *hints) {
             Ok(reply) => deliver(reply.text.as_slice(), reply.status, out, err),
-            Err(refusal) => tell_refusal(alloc, &refusal, err),
+            Err(refusal) => tell_refusal(&refusal, err),
         },
     }
 }
@@ -132,7 +146,8 @@ pub fn execute<F: Files, O: Out, E: Out>(
     ensures status { result ≤ 5 }
     ensures responds { (what : Asked) × (words.now ≡ [] → what ≡ asked.Run request.BuiltIn false)
         × IsResponse what (F.holds files.old) (F.reads files.old) (F.reads files.new)
-        (O.failed_calls out.old) (O.failed_calls out.new) result (O.told out.old) (O.told out.new) }
+        (O.failed_calls out.old) (O.failed_calls out.new) result (O.told out.old) (O.told out.new)
+        × SaysWhy what result (E.told err.old) (E.told err.new) (E.failed_calls err.old) (E.failed_calls err.new) }
     ensures calls { (F.reads files.new).calls ≤ (F.reads files.old).calls + 5 * MAX_READS }
 {
     let asked = read_words(alloc, words);

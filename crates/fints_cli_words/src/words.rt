@@ -277,6 +277,14 @@ fn told<'a>(alloc: Global, error: &Error) -> Asked<'a> {
     }
 }
 
+// A usage fault of this text. The command line requires what is missed here, so that clap tells it.
+fn usage<'a>(alloc: Global, text: &str) -> Asked<'a> {
+    match String::from_str(alloc, text) {
+        Ok(text) => Asked::Usage(text),
+        Err(_) => Asked::NoMemory,
+    }
+}
+
 /// What the words after the program's name ask for: with no words, the report of the built-in
 /// texts.
 pub fn read_words<'a>(alloc: Global, words: &'a [&'a str]) -> Asked<'a>
@@ -296,14 +304,14 @@ pub fn read_words<'a>(alloc: Global, words: &'a [&'a str]) -> Asked<'a>
         Err(error) => return told(alloc, &error),
     };
     let Some((name, options)) = matches.subcommand() else {
-        return Asked::NoMemory;
+        return usage(alloc, "error: a command is missing\n");
     };
     match named_request(name, options) {
         Some(request) => Asked::Run {
             request,
             hints: options.get_flag("hints"),
         },
-        None => Asked::NoMemory,
+        None => usage(alloc, "error: a command has not the options that it needs\n"),
     }
 }
 

@@ -96,6 +96,31 @@ fn fed_again(rt: HostRuntime) -> Result<(), Fail> {
     Ok(())
 }
 
+// The 19,998th separator behind the head is the 20,000th of the segment.
+#[test]
+fn too_many_separators(rt: HostRuntime) -> Result<(), Fail> {
+    let mut feeder = Feeder::new(rt.alloc());
+    assert!(rt; feed(&mut feeder, b"HIXYZ:1:1")? == 0);
+    for _ in 1..19_998 {
+        assert!(rt; feed(&mut feeder, b"+")? == 0);
+    }
+    assert!(rt; feeder.feed(b"+").err() == fault(SyntaxKind::TooLong, 0));
+    Ok(())
+}
+
+// A piece that is longer than a segment may be.
+#[test]
+fn long_piece(rt: HostRuntime) -> Result<(), Fail> {
+    let mut piece = Vec::new(rt.alloc());
+    for _ in 0..100_000 {
+        piece.extend_from_slice(b"HKEND:2:1+0'")?;
+    }
+    let mut feeder = Feeder::new(rt.alloc());
+    assert!(rt; feed(&mut feeder, piece.as_slice())? == 100_000);
+    assert!(rt; feeder.finish().is_ok());
+    Ok(())
+}
+
 #[test]
 fn too_long_stream(rt: HostRuntime) -> Result<(), Fail> {
     let mut feeder = Feeder::new(rt.alloc());

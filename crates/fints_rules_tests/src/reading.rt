@@ -103,6 +103,42 @@ fn fault_is_kept(rt: HostRuntime) -> Result<(), Fail> {
     Ok(())
 }
 
+// The data of an HNVSD that is cut in two hold no whole segment.
+#[test]
+fn unfinished_data(rt: HostRuntime) -> Result<(), Fail> {
+    let mut reader = ParamReader::new(rt.alloc());
+    for piece in [b"HNVSD:999:1+@5@HI".as_slice(), b"BPA'".as_slice()] {
+        reader.feed(piece)?;
+    }
+    assert!(rt; reader.finish().err() == syntax(SyntaxKind::Incomplete, 15));
+    Ok(())
+}
+
+// The 19,998th separator behind the head is the 20,000th of the segment.
+#[test]
+fn too_many_separators(rt: HostRuntime) -> Result<(), Fail> {
+    let mut reader = ParamReader::new(rt.alloc());
+    reader.feed(b"HIXYZ:1:1")?;
+    for _ in 1..19_998 {
+        reader.feed(b"+")?;
+    }
+    assert!(rt; reader.feed(b"+").err() == syntax(SyntaxKind::TooLong, 0));
+    Ok(())
+}
+
+// A piece that is longer than a segment may be.
+#[test]
+fn long_piece(rt: HostRuntime) -> Result<(), Fail> {
+    let mut piece = C.to_vec(rt.alloc())?;
+    for _ in 0..1_100_000 {
+        piece.push(b'\n')?;
+    }
+    let mut reader = ParamReader::new(rt.alloc());
+    reader.feed(piece.as_slice())?;
+    assert!(rt; are_of_c(&reader.finish()?));
+    Ok(())
+}
+
 #[test]
 fn rows_and_codes(rt: HostRuntime) -> Result<(), Fail> {
     let told = params_and_codes(rt.alloc(), C)?;
