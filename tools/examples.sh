@@ -1,8 +1,8 @@
 #!/usr/bin/env bash
 # Runs the built program on the examples of README.md: of each fenced block that begins with
 # '$ fints ..', the further lines are what the command must print (on either stream). Then it looks
-# that each file that docs/library.md shows whole is that file: of a line 'PATH, whole:' in backquotes
-# and the fenced block behind it.
+# that each file that docs/library.md shows whole is that file, and each part of one stands in it: of a
+# line 'PATH, whole:' or 'PATH, of it:' with the path in backquotes, and the fenced block behind it.
 set -uo pipefail
 cd "$(dirname "$0")/.."
 program=crates/fints/out/fints
@@ -71,7 +71,9 @@ while IFS= read -r line || [ -n "$line" ]; do
         if [ "$line" = '```' ]; then
             fenced=0
             shown=$((shown + 1))
-            if [ "$text" != "$(cat "$file")" ]; then
+            if [ "$part" -eq 1 ] && [[ $(cat "$file") == *"$text"* ]]; then
+                :
+            elif [ "$text" != "$(cat "$file")" ]; then
                 failed=$((failed + 1))
                 echo "examples: docs/library.md shows $file otherwise than it is" >&2
             fi
@@ -79,8 +81,9 @@ while IFS= read -r line || [ -n "$line" ]; do
         else
             text+=${text:+$'\n'}$line
         fi
-    elif [[ $line =~ ^\`(crates/[^\`]+)\`,\ whole: ]]; then
+    elif [[ $line =~ ^\`(crates/[^\`]+)\`,\ (whole|of\ it): ]]; then
         file=${BASH_REMATCH[1]}
+        part=$([ "${BASH_REMATCH[2]}" = whole ]; echo $?)
     elif [ -n "$file" ] && [[ $line == '```'* ]]; then
         fenced=1
         text=

@@ -4,7 +4,7 @@
 mod outbox;
 
 use anyhow::Result;
-use fints_params::{Params, feedback_codes};
+use fints_params::{ParamReader, Params, feedback_codes};
 use fints_rules::{Broken, OrderTable, Permissions};
 use outbox::{Held, Outbox};
 use std::fs;
@@ -59,8 +59,17 @@ fn open(rt: &HostRuntime, params: &Params, orders: &OrderTable) -> Result<()> {
     talk(rt, &mut outbox)
 }
 
+// The parameters of a capture that comes in pieces, as from a stream.
+fn read_pieces(rt: &HostRuntime, capture: &[u8]) -> Result<Params> {
+    let mut reader = ParamReader::new(rt.alloc());
+    for piece in capture.chunks(512) {
+        reader.feed(piece)?;
+    }
+    Ok(reader.finish()?)
+}
+
 fn main(rt: HostRuntime) -> Result<()> {
-    let params = Params::read(rt.alloc(), fs::read(&rt, "bank.fints")?.as_slice())?;
+    let params = read_pieces(&rt, fs::read(&rt, "bank.fints")?.as_slice())?;
     let orders = OrderTable::read(rt.alloc(), fs::read(&rt, "orders.toml")?.as_slice())?;
     open(&rt, &params, &orders)
 }
