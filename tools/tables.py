@@ -33,6 +33,8 @@ def is_told(wanted, run):
         return run.returncode in (0, 1) and not err
     if wanted.startswith("error: "):
         return (run.returncode, out, err) == (3, "", f"{wanted}\n")
+    if wanted.startswith(("why: ", "note: ")):
+        return run.returncode in (0, 1) and bool(out) and err == text_of(wanted) + "\n"
     text = text_of(wanted.removeprefix(".. ")) + "\n"
     good = out.endswith(f"\n{text}") if wanted.startswith(".. ") else out == text
     status = int(any(line.startswith(("invalid", "findings ", "broken ")) for line in text.splitlines()))

@@ -10,7 +10,7 @@ ghost use Rattle.fints_cli.specs.Responses.{IsAnswered, IsCutOff, IsResponse, Ra
 
 use crate::emitting::emit;
 use arrayvec::ArrayString;
-use fints_cli_commands::{Failure, Refusal, perform};
+use fints_cli_commands::{Answered, Failure, Refusal, perform};
 use fints_cli_files::{Files, Out, WriteFault};
 use fints_cli_words::{Asked, read_words};
 use std::alloc::Global;
@@ -87,6 +87,31 @@ fn deliver<O: Out, E: Out>(text: &[u8], status: u8, out: &mut O, err: &mut E) ->
     status
 }
 
+// Writes the answer to the output, and then its reasons to the errors.
+fn respond_with<O: Out, E: Out>(answered: &Answered, out: &mut O, err: &mut E) -> u8
+    requires { answered.now.reply.status ≤ 1 }
+    ensures statuses { (result ≡ answered.now.reply.status) ⊎ (result ≡ 5) }
+    ensures written { result ≡ answered.now.reply.status
+        → Gets (O.told out.old) (O.told out.new) answered.now.reply.text.items }
+    ensures fine { result ≡ answered.now.reply.status → O.failed_calls out.new ≡ O.failed_calls out.old }
+    ensures cut { result ≡ 5 → GetsPrefix (O.told out.old) (O.told out.new) answered.now.reply.text.items }
+    ensures failed { result ≡ 5 → O.failed_calls out.new ≡ one_more (O.failed_calls out.old) }
+    ensures quiet { result ≡ answered.now.reply.status → answered.now.reasons ≡ None
+        → IsUntold (E.told err.old) (E.told err.new) (E.failed_calls err.old) (E.failed_calls err.new) }
+    ensures line { result ≡ 5
+        → Tells (E.told err.old) (E.told err.new) (E.failed_calls err.old) (E.failed_calls err.new) write_line }
+{
+    let Answered { reply, reasons } = answered;
+    let status = deliver(reply.text.as_slice(), reply.status, out, err);
+    if status == 5 {
+        return status;
+    }
+    if let Some(reasons) = reasons {
+        let _ = emit(reasons.as_bytes(), err);
+    }
+    status
+}
+
 /// Does what is asked, and gives the status as `execute` does.
 pub fn respond<F: Files, O: Out, E: Out>(
     alloc: Global,
@@ -124,7 +149,7 @@ pub fn respond<F: Files, O: Out, E: Out>(
         }
         Asked::NoMemory => tell_memory(err),
         Asked::Run { request, hints } => match perform(alloc, request, files, *hints) {
-            Ok(reply) => deliver(reply.text.as_slice(), reply.status, out, err),
+            Ok(answered) => respond_with(&answered, out, err),
             Err(refusal) => tell_refusal(&refusal, err),
         },
     }

@@ -1,5 +1,5 @@
 //! The commands: what each answers, of the files that it names.
-ghost use Rattle.std.specs.Prelude.{◌≡◌, ◌≤◌, ◌+◌, ◌*◌, IfOk, IfErr};
+ghost use Rattle.std.specs.Prelude.{◌≡◌, ◌≤◌, ◌+◌, ◌*◌, false, None, IfOk, IfErr};
 ghost use Rattle.fints_cli_commands.specs.BuiltIn as texts;
 ghost use Rattle.fints_cli_reports.specs.Told.{IsRefused, IsToldOf};
 ghost use Rattle.fints_cli_reports.specs.declared.telling.Wanted.TheVariants as wants;
@@ -13,6 +13,7 @@ use crate::built_in;
 use crate::failing::{Refusal, refused};
 use crate::loading::{Contents, Loaded, load_all, paths_of};
 use fints_cli_files::Files;
+use fints_cli_hints_reasons::{JudgedBytes, judged_reasons, report_reasons, verified_reason};
 use fints_cli_reports::{Wanted, run_case, tell_read, tell_script, verify_read};
 use fints_cli_texts::{Fault, Reply, judge_after_read, judge_read, show};
 use fints_cli_words::Request;
@@ -79,17 +80,60 @@ fn answer(
     }
 }
 
+/// The answer of a command, and what stands beside it where hints are asked for: the reasons of what is
+/// broken and the notes on a script, a line each.
+#[derive(Drop)]
+pub struct Answered {
+    pub reply: Reply,
+    pub reasons: Option<String>,
+}
+
+// The reasons of what the request finds broken and the notes on its script, where they are asked for;
+// none where there is no memory for them.
+fn reasons(alloc: Global, request: &Request<'_>, contents: &Contents, hints: bool) -> Option<String>
+    ensures { hints ≡ false → result ≡ None }
+{
+    if !hints {
+        return None;
+    }
+    let Contents {
+        capture,
+        orders,
+        script,
+        ..
+    } = contents;
+    match request {
+        Request::Judge(_) | Request::JudgeAfter { .. } => {
+            let judged = JudgedBytes {
+                params: capture,
+                orders,
+                before: &contents.before,
+                answer: &contents.answer,
+                message: &contents.message,
+            };
+            judged_reasons(alloc, &judged).unwrap_or(None)
+        }
+        Request::Check(_) | Request::Explain(_) | Request::Certify(_) => {
+            report_reasons(alloc, capture, orders, script).unwrap_or(None)
+        }
+        Request::Verify { .. } => {
+            verified_reason(alloc, capture, orders, script, &contents.certificate).unwrap_or(None)
+        }
+        _ => None,
+    }
+}
+
 /// Answers a request over the files, all of which are read before any fault of what stands in them
-/// is told. A refusal has a hint where that is asked for.
+/// is told. Where hints are asked for, a refusal has a hint, and what is broken has reasons.
 pub fn perform<F: Files>(
     alloc: Global,
     request: &Request<'_>,
     files: &mut F,
     hints: bool,
-) -> Result<Reply, Refusal>
-    ensures status { IfOk result (λ reply. reply.status ≤ 1) }
-    ensures answers { IfOk result (λ reply.
-        AnswersTo request.now (F.holds files.old) reply.status reply.text.items) }
+) -> Result<Answered, Refusal>
+    ensures status { IfOk result (λ it. it.reply.status ≤ 1) }
+    ensures answers { IfOk result (λ it.
+        AnswersTo request.now (F.holds files.old) it.reply.status it.reply.text.items) }
     ensures refused { IfErr result (λ r. FailsFor request.now (F.holds files.old) r.failure) }
     ensures read { IfOk result (λ _. NoneFailed (F.reads files.old) (F.reads files.new)) }
     ensures within { IfOk result (λ _. AreWithin (files_of request.now) (F.holds files.old)) }
@@ -100,11 +144,15 @@ pub fn perform<F: Files>(
     ensures calls { (F.reads files.new).calls ≤ (F.reads files.old).calls + 5 * MAX_READS }
     ensures keeps { F.holds files.new ≡ F.holds files.old }
     ensures unasked { IfErr result (λ r. HintsIfAsked hints r) }
+    ensures no_reasons { IfOk result (λ it. hints ≡ false → it.reasons ≡ None) }
 {
     let paths = paths_of(request);
     let Loaded { params, contents } = load_all(alloc, files, &paths, hints)?;
     match answer(alloc, request, params, &contents) {
-        Ok(reply) => Ok(reply),
+        Ok(reply) => {
+            let reasons = reasons(alloc, request, &contents, hints);
+            Ok(Answered { reply, reasons })
+        }
         Err(fault) => Err(refused(alloc, fault, &contents.inputs(), hints)),
     }
 }

@@ -6,5 +6,5 @@ mod commands;
 mod failing;
 mod loading;
 
-pub use commands::perform;
+pub use commands::{Answered, perform};
 pub use failing::{Failure, Refusal};

@@ -240,7 +240,7 @@ fn command<'a>(alloc: Global, described: &Described) -> Result<Command<'a>, Allo
 fn hints_option<'a>(alloc: Global) -> Arg<'a> {
     Arg::new(alloc, "hints")
         .long("hints")
-        .help("Adds to a refusal a line that names what to look at")
+        .help("Says on standard error why: of a refusal, and of each finding")
         .global(true)
         .action(ArgAction::SetTrue)
 }

@@ -1,0 +1,6 @@
+//! Why a rule is broken at a segment: which part of the rule's definition holds.
+#![tactic(auto)]
+
+mod causes;
+
+pub use causes::{Cause, segment_cause};
