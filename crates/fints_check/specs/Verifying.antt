@@ -8,7 +8,7 @@ use Rattle.fints_script.specs.Scripts.{ScriptValue}
 use Rattle.fints_script.specs.Steps.{StepValue}
 use Rattle.fints_check_findings.specs.declared.finding.Reached.{Reached}
 use Rattle.fints_check_findings.specs.Releases.{IsUnreleased}
-use Rattle.fints_check.specs.Certificates.{LineHolds, Names}
+use Rattle.fints_check.specs.Certificates.{BranchGoesOn, LineHolds, Names}
 use Rattle.fints_check.specs.declared.certificate.Line.{Line}
 
 -- the flag of a step tells whether an open branch leads back to it
@@ -16,11 +16,27 @@ pub record AreRepeats (steps : List StepValue) (repeats : List Bool) : Type 0 wh
   pub long : length steps ≤ length repeats
   pub each : (n : ℕ) (step : StepValue) → numbered steps n ≡ Some step → (numbered repeats n ≡ Some true) ↔ IsOpenTo step.branches step.otherwise targets.Again
 
+-- the permissions, the script, and what a certificate names of its steps
+pub record ClaimsValue : Type 0 where
+  pub granted : Granted
+  pub script : ScriptValue
+  pub lines : List Line
+
+-- it tells whether each open branch of step n goes on behind messages of at most this number
+abbrev pub TellsOnward : ClaimsValue → ℕ → ℕ → Bool → Type 0
+TellsOnward c n number told =
+    (step : StepValue) → numbered c.script.steps n ≡ Some step → (IsTrue told ↔ ((branch : ℕ) → BranchGoesOn c.script.steps c.lines number step branch))
+
+-- it tells whether these figures hold of step n
+abbrev pub TellsFigures : ClaimsValue → ℕ → Reached → Bool → Type 0
+TellsFigures c n figures told = (step : StepValue) → numbered c.script.steps n ≡ Some step → (IsTrue told ↔ LineHolds c.granted c.script c.lines step figures)
+
 -- it tells whether step n is named as unreached, or what is named of it holds
-abbrev pub TellsLine : Granted → ScriptValue → List Line → ℕ → Bool → Type 0
-TellsLine granted script lines n told =
-    (step : StepValue) → numbered script.steps n ≡ Some step → (IsTrue told ↔ ((figures : Reached) → Names lines n figures → LineHolds granted script lines step figures))
+abbrev pub TellsLine : ClaimsValue → ℕ → Bool → Type 0
+TellsLine c n told =
+    (step : StepValue) → numbered c.script.steps n ≡ Some step
+    → (IsTrue told ↔ ((figures : Reached) → Names c.lines n figures → LineHolds c.granted c.script c.lines step figures))
 
 -- it tells whether step t is named as unreached, or no step leaves an order of it unreleased
-abbrev pub TellsReleased : ScriptValue → List Line → ℕ → Bool → Type 0
-TellsReleased script lines t told = IsTrue told ↔ ((s : ℕ) (figures : Reached) → Names lines t figures → IsUnreleased script t s → ⊥)
+abbrev pub TellsReleased : ClaimsValue → ℕ → Bool → Type 0
+TellsReleased c t told = IsTrue told ↔ ((s : ℕ) (figures : Reached) → Names c.lines t figures → IsUnreleased c.script t s → ⊥)

@@ -1,46 +1,27 @@
 //! Whether a certificate is closed, whoever wrote it.
-ghost use Rattle.std.specs.Prelude.{◌≡◌, ◌↔◌, ◌≤◌, ◌+◌, ◌<◌, ◌^◌, ℕ, Some, true, length, IsTrue};
-ghost use Rattle.fints_script_cases.specs.Answers.{IsOpen, IsOpenTo, target_of};
+ghost use Rattle.std.specs.Prelude.{◌≡◌, ◌↔◌, ◌≤◌, Some, true, length, IsTrue};
+ghost use Rattle.fints_script_cases.specs.Answers.{IsOpenTo};
 ghost use Rattle.fints_check_findings.specs.Findings.{EachIsPermitted};
 ghost use Rattle.fints_script.specs.Numbered.{numbered};
 ghost use Rattle.fints_rules.specs.Rules.{FiguresBreak};
 ghost use Rattle.fints_rules.specs.declared.rule.Rule.{Rule as RuleValue};
-ghost use Rattle.fints_check.specs.Certificates.{figures_at, line_names, step_names, AreLinesTrue, AreReleased, BranchGoesOn, Covers, IsClosedCertificate, IsEntered, KeepsPromise, LineHolds};
-ghost use Rattle.fints_check.specs.Verifying.{AreRepeats, TellsLine, TellsReleased};
+ghost use Rattle.fints_check.specs.Certificates.{figures_at, line_names, step_names, AreLinesTrue, AreReleased, Covers, GoesOn, IsClosedCertificate, IsEntered, KeepsPromise};
+ghost use Rattle.fints_check.specs.Verifying.{AreRepeats, TellsFigures, TellsLine, TellsOnward, TellsReleased};
+ghost use Rattle.fints_script.specs.Sound.{IsOnward};
 
 use crate::certificate::{Certificate, Line};
 use fints_check_findings::{AtStep, Reached, is_released_step};
-use fints_rules::{Figures, LAST_NUMBER, Permissions, Rule, figures_break};
+use fints_rules::{Figures, Permissions, Rule, figures_break};
 use fints_script::{MAX_STEPS, Plan, Step, Target};
 use fints_wire::worst_size;
-
-// Whether some answer fires the branch.
-fn is_open(step: &Step, branch: usize) -> bool
-    requires from { 1 ≤ branch }
-    requires to { branch ≤ length step.now.branches + 1 }
-    ensures { IsTrue result ↔ IsOpen step.now.branches branch }
-{
-    step.opener(branch).is_some()
-}
-
-// Whether the branch is open and leads back to the step.
-fn leads_again(step: &Step, branch: usize) -> bool
-    requires from { 1 ≤ branch }
-    requires to { branch ≤ length step.now.branches + 1 }
-    ensures { IsTrue result ↔ (IsOpen step.now.branches branch × (target_of step.now.branches step.now.otherwise branch ≡ Target.Again)) }
-{
-    match step.target(branch) {
-        Target::Again => is_open(step, branch),
-        _ => false,
-    }
-}
+use std::marker::Model;
 
 // Whether an open branch leads back to the step.
 fn is_repeated(step: &Step) -> bool
     ensures { IsTrue result ↔ IsOpenTo step.now.branches step.now.otherwise Target.Again }
 {
     for branch in 1..step.branches().len() + 2 {
-        if leads_again(step, branch) {
+        if step.target(branch) == Target::Again && step.opener(branch).is_some() {
             return true;
         }
     }
@@ -59,27 +40,14 @@ fn repeats(plan: &Plan<'_>) -> [bool; MAX_STEPS]
 }
 
 // Whether a number is enough for a step whose first message in a row has at most number `from`.
-fn covers(step: &Step, repeated: bool, from: u32, number: u32) -> bool
-    requires small { from < 2 ^ 31 }
-    requires repeated { IsTrue repeated ↔ IsOpenTo step.now.branches step.now.otherwise Target.Again }
+fn covers(step: &Step, repeated: bool, from: u64, number: u32) -> bool
+    requires { IsTrue repeated ↔ IsOpenTo step.now.branches step.now.otherwise Target.Again }
     ensures { IsTrue result ↔ Covers step.now from number }
 {
     if repeated {
-        return from + (step.repeat() as u32).saturating_sub(1) <= number;
+        return from.saturating_add((step.repeat() as u64).saturating_sub(1)) <= u64::from(number);
     }
-    from <= number
-}
-
-#[tactic(auto, using(crate::proofs::Numbered::numbered_is))]
-// The figures of step n, if it is named as reached.
-fn figures(lines: &[Line], n: usize) -> Option<Reached>
-    requires { 1 ≤ n }
-    ensures { result ≡ figures_at lines.now n }
-{
-    match lines.get(n - 1) {
-        Some(line) => line.reached,
-        None => None,
-    }
+    from <= u64::from(number)
 }
 
 #[tactic(auto, using(crate::proofs::Numbered::numbered_is))]
@@ -92,69 +60,6 @@ fn flag(flags: &[bool], n: usize) -> bool
         Some(flag) => *flag,
         None => false,
     }
-}
-
-// Whether step n is reached, with a number that is enough where its first message in a row has at
-// most number `from`.
-fn is_entered(plan: &Plan<'_>, lines: &[Line], repeats: &[bool], n: usize, from: u32) -> bool
-    requires first { 1 ≤ n }
-    requires last { n ≤ length plan.now.script.steps }
-    requires repeats { AreRepeats plan.now.script.steps repeats.now }
-    requires small { from < 2 ^ 31 }
-    ensures { IsTrue result ↔ IsEntered plan.now.script.steps lines.now n from }
-{
-    match figures(lines, n) {
-        Some(reached) => covers(plan.step(n), flag(repeats, n), from, reached.number),
-        None => false,
-    }
-}
-
-// Whether a branch of step n goes on, if it is open. Its opener is looked for last.
-fn branch_goes_on(
-    plan: &Plan<'_>,
-    lines: &[Line],
-    repeats: &[bool],
-    n: usize,
-    step: &Step,
-    number: u32,
-    branch: usize,
-) -> bool
-    requires at { numbered plan.now.script.steps n ≡ Some step.now }
-    requires repeats { AreRepeats plan.now.script.steps repeats.now }
-    requires small { number ≤ LAST_NUMBER }
-    requires from { 1 ≤ branch }
-    requires to { branch ≤ length step.now.branches + 1 }
-    ensures { IsTrue result ↔ BranchGoesOn plan.now.script.steps lines.now number step.now branch }
-{
-    plan.keeps();
-    match step.target(branch) {
-        Target::Step(to) => {
-            is_entered(plan, lines, repeats, to as usize, number + 1) || !is_open(step, branch)
-        }
-        _ => true,
-    }
-}
-
-// Whether each open branch of step n goes on.
-fn goes_on(
-    plan: &Plan<'_>,
-    lines: &[Line],
-    repeats: &[bool],
-    n: usize,
-    step: &Step,
-    number: u32,
-) -> bool
-    requires at { numbered plan.now.script.steps n ≡ Some step.now }
-    requires repeats { AreRepeats plan.now.script.steps repeats.now }
-    requires small { number ≤ LAST_NUMBER }
-    ensures { IsTrue result ↔ ((branch : ℕ) → BranchGoesOn plan.now.script.steps lines.now number step.now branch) }
-{
-    for branch in 1..step.branches().len() + 2 {
-        if !branch_goes_on(plan, lines, repeats, n, step, number, branch) {
-            return false;
-        }
-    }
-    true
 }
 
 // Whether figures break neither P2 nor P3.
@@ -170,94 +75,165 @@ fn are_permitted(permissions: &Permissions<'_>, figures: Figures) -> bool
     true
 }
 
-// Whether what is named of step n holds. The figures are looked at before a size is asked for at their
-// number.
-fn line_holds(
-    permissions: &Permissions<'_>,
-    plan: &Plan<'_>,
-    lines: &[Line],
-    repeats: &[bool],
-    n: usize,
-    step: &Step,
-    reached: Reached,
-) -> bool
-    requires orders { permissions.now.orders ≡ plan.now.orders }
-    requires at { numbered plan.now.script.steps n ≡ Some step.now }
-    requires repeats { AreRepeats plan.now.script.steps repeats.now }
-    ensures { IsTrue result ↔ LineHolds permissions.now plan.now.script lines.now step.now reached }
-{
-    if !are_permitted(permissions, reached.figures()) {
-        return false;
-    }
-    if worst_size(plan, n, reached.number) > reached.size {
-        return false;
-    }
-    if !goes_on(plan, lines, repeats, n, step, reached.number) {
-        return false;
-    }
-    AtStep::new(permissions, plan, n).is_clean()
+// What a certificate names of the steps of a plan, and which of them an open branch leads back to. A
+// contract sees the permissions, the script and the lines.
+#[derive(Drop)]
+struct Claims<'a> {
+    permissions: &'a Permissions<'a>,
+    plan: &'a Plan<'a>,
+    lines: &'a [Line],
+    repeats: [bool; MAX_STEPS],
 }
 
-// Whether step n is named as unreached, or what is named of it holds.
-fn step_holds(
-    permissions: &Permissions<'_>,
-    plan: &Plan<'_>,
-    lines: &[Line],
-    repeats: &[bool],
-    n: usize,
-) -> bool
-    requires first { 1 ≤ n }
-    requires last { n ≤ length plan.now.script.steps }
-    requires orders { permissions.now.orders ≡ plan.now.orders }
-    requires repeats { AreRepeats plan.now.script.steps repeats.now }
-    ensures { TellsLine permissions.now plan.now.script lines.now n result }
-{
-    match figures(lines, n) {
-        Some(reached) => line_holds(permissions, plan, lines, repeats, n, plan.step(n), reached),
-        None => true, // named as unreached
-    }
+impl<'a> Model for Claims<'a> {
+    ghost use Rattle.std.specs.Prelude.{◌≡◌};
+    ghost use Rattle.fints_check.specs.Verifying.{AreRepeats, ClaimsValue};
+
+    ghost Value = { ClaimsValue };
+
+    ghost view = { λ c. record {
+      granted = c.permissions.now;
+      script = c.plan.now.script;
+      lines = c.lines.now;
+    } };
+
+    ghost invariant = { λ c. (c.permissions.now.orders ≡ c.plan.now.orders) × AreRepeats c.plan.now.script.steps c.repeats };
 }
 
-fn steps_hold(
-    permissions: &Permissions<'_>,
-    plan: &Plan<'_>,
-    lines: &[Line],
-    repeats: &[bool],
-) -> bool
-    requires orders { permissions.now.orders ≡ plan.now.orders }
-    requires repeats { AreRepeats plan.now.script.steps repeats.now }
-    ensures { IsTrue result ↔ AreLinesTrue permissions.now plan.now.script lines.now }
-{
-    for n in 1..plan.step_count() + 1 {
-        if !step_holds(permissions, plan, lines, repeats, n) {
-            return false;
+impl<'a> Claims<'a> {
+    fn new(permissions: &'a Permissions<'a>, plan: &'a Plan<'a>, lines: &'a [Line]) -> Claims<'a>
+        requires { permissions.now.orders ≡ plan.now.orders }
+        ensures { result ≡ record { granted = permissions.now; script = plan.now.script; lines = lines.now } }
+    {
+        Claims {
+            permissions,
+            plan,
+            lines,
+            repeats: repeats(plan),
         }
     }
-    true
-}
 
-// Whether step t is named as unreached, or no step leaves an order of it unreleased.
-fn is_released(plan: &Plan<'_>, lines: &[Line], t: usize) -> bool
-    requires first { 1 ≤ t }
-    requires last { t ≤ length plan.now.script.steps }
-    ensures { TellsReleased plan.now.script lines.now t result }
-{
-    match figures(lines, t) {
-        Some(_) => is_released_step(plan, t),
-        None => true,
-    }
-}
-
-// Whether no step leaves an order unreleased of one that is named as reached.
-fn are_released(plan: &Plan<'_>, lines: &[Line]) -> bool
-    ensures { IsTrue result ↔ AreReleased plan.now.script lines.now }
-{
-    for t in 1..plan.step_count() + 1 {
-        if !is_released(plan, lines, t) {
-            return false;
+    #[tactic(auto, using(crate::proofs::Numbered::numbered_is))]
+    // The figures of step n, if it is named as reached.
+    fn figures(&self, n: usize) -> Option<Reached>
+        requires { 1 ≤ n }
+        ensures { result ≡ figures_at self.now.lines n }
+    {
+        match self.lines.get(n - 1) {
+            Some(line) => line.reached,
+            None => None,
         }
     }
-    true
+
+    // Whether step n is reached, with a number that is enough where its first message in a row has at
+    // most number `from`.
+    fn is_entered(&self, n: usize, from: u64) -> bool
+        requires first { 1 ≤ n }
+        requires last { n ≤ length self.now.script.steps }
+        ensures { IsTrue result ↔ IsEntered self.now.script.steps self.now.lines n from }
+    {
+        match self.figures(n) {
+            Some(reached) => covers(
+                self.plan.step(n),
+                flag(&self.repeats, n),
+                from,
+                reached.number,
+            ),
+            None => false,
+        }
+    }
+
+    // Whether a target is as it must be behind messages of at most this number.
+    fn target_goes_on(&self, target: Target, number: u32) -> bool
+        requires { IsOnward (length self.now.script.steps) 0 target }
+        ensures { IsTrue result ↔ GoesOn self.now.script.steps self.now.lines number target }
+    {
+        match target {
+            Target::Step(to) => self.is_entered(to as usize, u64::from(number) + 1),
+            _ => true,
+        }
+    }
+
+    // Whether each open branch of step n goes on. A branch's opener is looked for last.
+    fn goes_on(&self, n: usize, number: u32) -> bool
+        requires first { 1 ≤ n }
+        requires last { n ≤ length self.now.script.steps }
+        ensures { TellsOnward self.now n number result }
+    {
+        let step = self.plan.step(n);
+        for branch in 1..step.branches().len() + 2 {
+            if !self.target_goes_on(step.target(branch), number) && step.opener(branch).is_some() {
+                return false;
+            }
+        }
+        true
+    }
+
+    // Whether what is named of step n holds. The figures are looked at before a size is asked for at
+    // their number.
+    fn line_holds(&self, n: usize, reached: Reached) -> bool
+        requires first { 1 ≤ n }
+        requires last { n ≤ length self.now.script.steps }
+        ensures { TellsFigures self.now n reached result }
+    {
+        if !are_permitted(self.permissions, reached.figures()) {
+            return false;
+        }
+        if worst_size(self.plan, n, reached.number) > reached.size {
+            return false;
+        }
+        if !self.goes_on(n, reached.number) {
+            return false;
+        }
+        AtStep::new(self.permissions, self.plan, n).is_clean()
+    }
+
+    // Whether step n is named as unreached, or what is named of it holds.
+    fn step_holds(&self, n: usize) -> bool
+        requires first { 1 ≤ n }
+        requires last { n ≤ length self.now.script.steps }
+        ensures { TellsLine self.now n result }
+    {
+        match self.figures(n) {
+            Some(reached) => self.line_holds(n, reached),
+            None => true, // named as unreached
+        }
+    }
+
+    fn steps_hold(&self) -> bool
+        ensures { IsTrue result ↔ AreLinesTrue self.now.granted self.now.script self.now.lines }
+    {
+        for n in 1..self.plan.step_count() + 1 {
+            if !self.step_holds(n) {
+                return false;
+            }
+        }
+        true
+    }
+
+    // Whether step t is named as unreached, or no step leaves an order of it unreleased.
+    fn is_released(&self, t: usize) -> bool
+        requires first { 1 ≤ t }
+        requires last { t ≤ length self.now.script.steps }
+        ensures { TellsReleased self.now t result }
+    {
+        match self.figures(t) {
+            Some(_) => is_released_step(self.plan, t),
+            None => true,
+        }
+    }
+
+    // Whether no step leaves an order unreleased of one that is named as reached.
+    fn are_released(&self) -> bool
+        ensures { IsTrue result ↔ AreReleased self.now.script self.now.lines }
+    {
+        for t in 1..self.plan.step_count() + 1 {
+            if !self.is_released(t) {
+                return false;
+            }
+        }
+        true
+    }
 }
 
 fn is_named(line: &Line, step: &Step) -> bool
@@ -289,14 +265,14 @@ fn is_closed(permissions: &Permissions<'_>, plan: &Plan<'_>, lines: &[Line]) -> 
     if !has_names(plan, lines) {
         return false;
     }
-    let repeats = repeats(plan);
-    if !is_entered(plan, lines, &repeats, 1, 1) {
+    let claims = Claims::new(permissions, plan, lines);
+    if !claims.is_entered(1, 1) {
         return false;
     }
-    if !are_released(plan, lines) {
+    if !claims.are_released() {
         return false;
     }
-    steps_hold(permissions, plan, lines, &repeats)
+    claims.steps_hold()
 }
 
 /// Whether the certificate is closed, whoever wrote it. It then keeps its promise, and every message

@@ -1,10 +1,14 @@
 -- What the facts of a step decide, by what holds of it.
-use Rattle.std.proofs.Common.{ℕ, ◌≡◌, sym, subst}
+use Rattle.std.proofs.Common.{ℕ, ◌≡◌, List, Option, Some, None, sym, subst, inl, inr}
 use Rattle.fints_rules_permissions.specs.Permits.{Granted}
+use Rattle.fints_rules.specs.declared.facts.MessageFacts.{MessageFacts}
 use Rattle.fints_rules.specs.declared.rule.Rule.{Rule}
+use Rattle.fints_script_cases.specs.declared.values.NamedValue.{NamedValue}
 use Rattle.fints_script.specs.Scripts.{ScriptValue}
 use Rattle.fints_script.specs.Steps.{StepValue}
-use Rattle.fints_check_findings.specs.AtStep.{AtStepValue, IsAtStep}
+use Rattle.fints_check_findings.specs.AtStep.{AreChosenAt, AtStepValue, IsAtStep}
+use Rattle.fints_check_findings.specs.Choosing.{BreaksWith, IsChoice}
+use Rattle.fints_check_findings.specs.declared.choosing.SetAccount.{SetAccount}
 use Rattle.fints_check_findings.specs.Elements.{wants_tan}
 use Rattle.fints_check_findings.specs.StepFacts.{Decides, message_for}
 use Rattle.fints_check_findings.specs.declared.step_facts.StepFacts.{StepFacts}
@@ -13,6 +17,12 @@ use Rattle.fints_check_findings.proofs.LawLemmas.{templates_decide}
 
 pub decided : (granted : Granted) (script : ScriptValue) (n : ℕ) (step : StepValue) (facts : StepFacts) → IsAtStep granted script n step facts → (r : Rule) → Decides granted script step r (message_for facts (wants_tan r))
 decided granted script n step facts is r = templates_decide script granted step r (message_for facts (wants_tan r)) is.sound is.sound_step is.closed (message_is granted script step facts is.facts_are (wants_tan r))
+
+-- what is known of the values of a choice
+pub chosen_at : (s : AtStepValue) (r : Rule) (f : MessageFacts) → Decides s.granted s.script s.step r f → (place : ℕ) (choice : Option SetAccount) (values : List NamedValue) → BreaksWith s.granted s.script.fields s.step f r place choice → IsChoice (wants_tan r) s.script.fields choice values
+    → AreChosenAt s r place values
+chosen_at s r f d place None values b is = let c = d.chosen place None values b is in record { admitted = c.0; breaks = c.1; chosen = inl is }
+chosen_at s r f d place (Some set) values b is = let c = d.chosen place (Some set) values b is in record { admitted = c.0; breaks = c.1; chosen = inr (d.set place set values b is) }
 
 -- ---- a step and what it was made of
 

@@ -1,5 +1,5 @@
 -- The facts of a step decide what some choice makes its message break.
-use Rattle.std.proofs.Common.{ℕ, ◌+◌, ◌<◌, ◌≡◌, Bool, true, false, List, length, Option, Some, ap, sym, subst, ◌∙◌, inl, inr}
+use Rattle.std.proofs.Common.{ℕ, ◌+◌, ◌<◌, ◌≡◌, Bool, true, false, List, length, Option, Some, ap, sym, subst, ◌∙◌, arith, inl, inr}
 use Rattle.std.specs.Prelude.{codes, ◌↔◌, IsTrue}
 use Rattle.std.specs.List.{slice_get}
 use Rattle.std.specs.Set.{distinct_count}
@@ -8,6 +8,7 @@ use Rattle.std.proofs.lemmas.Option.{same_Some}
 use Rattle.fints_syntax_segments.specs.declared.item.OwnedSegment.{OwnedSegment}
 use Rattle.fints_syntax_segments.specs.Values.{values_at}
 use Rattle.fints_rules_messages.specs.Messages.{MessageView}
+use Rattle.fints_script_fields.specs.Fields.{field_accounts}
 use Rattle.fints_script_cases.specs.declared.values.NamedValue.{NamedValue}
 use Rattle.fints_rules.specs.Breaks.{BreaksAt, BreaksByContent}
 use Rattle.fints_rules.specs.Facts.{facts_of, segment_facts}
@@ -23,15 +24,16 @@ use Rattle.fints_script_templates.specs.declared.template.Template.{Template}
 use Rattle.fints_wire.specs.Filling.{FillingValue, filled_segment, filling_of}
 use Rattle.fints_wire.specs.Views.{message_view}
 use Rattle.fints_check_findings.specs.Breakable.{CanBreak}
-use Rattle.fints_check_findings.specs.Choosing.{BreaksWith, IsChoice, extreme_choice}
-use Rattle.fints_check_findings.specs.Elements.{template_facts, wants_tan}
+use Rattle.fints_check_findings.specs.Cases.{HaveFirstAccount, with_account}
+use Rattle.fints_check_findings.specs.Choosing.{BreaksWith, BreaksWithAt, IsChoice, IsChoiceWith, extreme_choice}
+use Rattle.fints_check_findings.specs.Elements.{asks_account, template_facts, wants_tan}
 use Rattle.fints_check_findings.specs.Kinds.{template_count}
 use Rattle.fints_check_findings.specs.StepFacts.{AreMessageFacts, AreStepFacts, StepBreaks, TemplatesDecide, message_for}
 use Rattle.fints_check_findings.specs.Tans.{TanUnder}
 use Rattle.fints_check_findings.specs.declared.choosing.SetAccount.{SetAccount}
 use Rattle.fints_check_findings.specs.declared.step_facts.StepFacts.{StepFacts}
 use Rattle.fints_check_findings.proofs.Counted.{count_is, demanding_is, plain_kinds_are, tan_orders_are}
-use Rattle.fints_check_findings.proofs.ElementTwo.{IsBrokenBy, IsExtreme, extreme_admitted, extreme_is, template_complete, template_sound, template_with}
+use Rattle.fints_check_findings.proofs.ElementTwo.{IsBrokenBy, IsExtreme, extreme_admitted, extreme_is, other_admitted, template_complete, template_first, template_sound, template_with}
 use Rattle.fints_check_findings.proofs.Lists.{any_there, slice_there, there_of}
 use Rattle.fints_check_findings.proofs.Literals.{ends_are, processes_are}
 use Rattle.fints_check_findings.proofs.RuleFacts.{HasTanAs, IsNoBetter, message_no_better, segment_no_better, with_tan}
@@ -152,6 +154,43 @@ module _ (script : ScriptValue) (granted : Granted) (step : StepValue) (r : Rule
       let s = template_with script.fields granted f r b.template (template_count b.template.kind step.templates) (closed b.i b.template b.there) choice values b.breaks is in
       (s.admitted, segment_broken place b.i b.template b.there values b.number_is s)
 
+  -- none of the accounts before the one that is set breaks it there
+  step_first : (place : ℕ) (s : SetAccount) (b : BreaksWithAt granted script.fields step f r place (Some s)) (k number : ℕ) (other : List (List ℕ)) → k < s.account → slice_get (field_accounts b.breaks.field.class) k ≡ Some other
+      → BreaksByContent granted (Sent (with_account script.fields s.field b.breaks.field other) number) r place → ⊥
+  step_first place s b k number other less listed (inl (at, h)) = absurd (omega (arith, at, b.number_is))
+  step_first place s b k number other less listed (inr (i, x, lt, at, (number_is, h))) =
+      let values = with_account script.fields s.field b.breaks.field other in
+      let count : ℕ = template_count b.template.kind step.templates in
+      let admits = other_admitted script.fields granted f r b.template count (closed b.i b.template b.there) s b.breaks k other listed in
+      let within : i < length step.templates = subst (λ (m : ℕ). i < m) (bodies_are_templates_count script step number values) lt in
+      let (t, there) = slice_there step.templates i within in
+      let same : x ≡ filled_segment (Fill values number) (first + i) t =
+      same_Some x (filled_segment (Fill values number) (first + i) t) (sym (there_of (Sent values number).body i x lt at) ∙ bodies_are_templates_segments script step number values i t there)
+      in
+      let number_at : place ≡ first + i = sym number_is ∙ ap (λ (y : OwnedSegment). y.head.number) same in
+      let own : i ≡ b.i = omega (arith, number_at, b.number_is) in
+      let one : t ≡ b.template = same_Some t b.template (sym there ∙ (ap (λ (j : ℕ). slice_get step.templates j) own ∙ b.there)) in
+      let breaks = segment_to values number (first + i) t admits (subst (BreaksAt granted (Sent values number) r) same h) in
+      template_first script.fields granted f r b.template count (closed b.i b.template b.there) s b.breaks k other less listed number (first + i)
+      (subst (λ (y : Template). SegmentBreaks granted f r (template_facts y (template_count y.kind step.templates) (Two values number (first + i) y))) one breaks)
+
+  step_set : (place : ℕ) (s : SetAccount) (values : List NamedValue) → BreaksWith granted script.fields step f r place (Some s) → IsChoiceWith script.fields s values → (asks_account r ≡ true) × HaveFirstAccount granted script step r place values
+  step_set place s values (inl (at, h, none)) is = absurd cc
+  step_set place s values (inr b) is =
+      let w = b.breaks in (
+        w.asks,
+        record {
+          place = s.field;
+          field = w.field;
+          there = w.there;
+          row = s.account;
+          account = w.breaking.account;
+          listed = w.breaking.listed;
+          values_are = is w.field w.breaking.account w.there w.breaking.listed;
+          first = λ earlier number other less listed h. step_first place s b earlier number other less listed h;
+        },
+      )
+
   step_each : (number : ℕ) (values : List NamedValue) (place : ℕ) → Admits script.fields values → BreaksByContent granted (Sent values number) r place → StepBreaks granted script.fields step f r place
   step_each number values place admits (inl (at, b)) = inl (at, message_no_better granted f (facts_of granted.rows.pins (Sent values number)) r (facts_no_better values number admits) b)
   step_each number values place admits (inr (i, s, lt, at, (number_is, b))) =
@@ -170,6 +209,7 @@ pub decides : TemplatesDecide
 decides script granted step r f sound sound_step closed facts = record {
   some = step_some script granted step r f sound sound_step closed facts;
   chosen = step_chosen script granted step r f sound sound_step closed facts;
+  set = step_set script granted step r f sound sound_step closed facts;
   each = step_each script granted step r f sound sound_step closed facts;
 }
 

@@ -27,7 +27,7 @@ use Rattle.fints_script_templates.specs.declared.template.TemplateItem.{Template
 use Rattle.fints_script_templates.specs.declared.template.TemplateItem.TheVariants.{Literal, Dialog, Field}
 use Rattle.fints_wire.specs.Choices.{longest_choice, shortest_choice, value_of, with_longest, with_shortest, with_value}
 use Rattle.fints_wire.specs.Filling.{FillingValue, element_at, filled_segment, filling_of}
-use Rattle.fints_check_findings.specs.Choosing.{IsChoice, TemplateBreaksWith, extreme_choice}
+use Rattle.fints_check_findings.specs.Choosing.{IsChoice, IsSetFor, TemplateBreaksWith, extreme_choice}
 use Rattle.fints_check_findings.specs.Elements.{accounts_asked, accounts_at, asks_account, listed_in, literals, template_facts, wants_tan}
 use Rattle.fints_check_findings.specs.StepFacts.{TemplateBreaks}
 use Rattle.fints_check_findings.specs.declared.choosing.SetAccount.{SetAccount}
@@ -252,14 +252,30 @@ module _ (fields : List NamedField) (granted : Granted) (f : MessageFacts) (r : 
     breaks = λ number n. subst With (sym (set_stands fields t a k account at number n)) b;
   }
 
+  -- where the account that is set stands
+  set_at : (s : SetAccount) → IsSetFor granted fields f r t count s → AccountAt fields (element_two t)
+  set_at s w =
+      let b = w.breaking in
+      let within = slice_get_within (field_accounts w.field.class) s.account b.account b.listed in
+      record { place = s.field; field = w.field; items_are = w.items_are; there = w.there; account = class_listed w.field.class (omega (arith, within)) }
+
+  -- values with another listed account there are admitted
+  pub other_admitted : (s : SetAccount) (w : IsSetFor granted fields f r t count s) (k : ℕ) (other : List (List ℕ)) → slice_get (field_accounts w.field.class) k ≡ Some other → Admits fields (with_value (shortest_choice fields) s.field w.field (account_text other))
+  other_admitted s w k other listed = values_may_be_set_admitted fields (shortest_choice fields) s.field w.field (account_text other) (extremes_are_admitted_shortest fields) w.there (listed_accounts_are_values_admitted w.field.class k other listed)
+
+  -- no account before the one that is set breaks it
+  pub template_first : (s : SetAccount) (w : IsSetFor granted fields f r t count s) (k : ℕ) (other : List (List ℕ)) → k < s.account → slice_get (field_accounts w.field.class) k ≡ Some other → (number n : ℕ)
+      → With (Two (with_value (shortest_choice fields) s.field w.field (account_text other)) number n) → ⊥
+  unfolding set_at
+  template_first s w k other less listed number n b = w.breaking.first k other less listed (subst With (set_stands fields t (set_at s w) k other listed number n) b)
+
   -- the values with the account that is set
   pub template_with : (choice : Option SetAccount) (values : List NamedValue) → TemplateBreaksWith granted fields f r t count choice → IsChoice (wants_tan r) fields choice values → IsBrokenBy values
+  unfolding set_at
   template_with None values (none, own) is = subst IsBrokenBy (sym is) (own_broken none own)
   template_with (Some s) values w is =
       let b = w.breaking in
-      let within = slice_get_within (field_accounts w.field.class) s.account b.account b.listed in
-      let a : AccountAt fields (element_two t) = record { place = s.field; field = w.field; items_are = w.items_are; there = w.there; account = class_listed w.field.class (omega (arith, within)) } in
-      subst IsBrokenBy (sym (is w.field b.account w.there b.listed)) (set_broken w.asks a s.account b.account b.listed b.breaks)
+      subst IsBrokenBy (sym (is w.field b.account w.there b.listed)) (set_broken w.asks (set_at s w) s.account b.account b.listed b.breaks)
 
   pub template_sound : TemplateBreaks granted fields f r t count → (values : List NamedValue) × IsBrokenBy values
   template_sound (inl any) =

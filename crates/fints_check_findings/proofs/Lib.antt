@@ -19,3 +19,4 @@ pub mod CaseLemmas
 pub mod LawLemmas
 pub mod AtSteps
 pub mod SentSteps
+pub mod ChosenValues

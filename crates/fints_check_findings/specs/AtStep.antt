@@ -1,15 +1,21 @@
 -- A step as the rules are asked of it, and one that runs send. Private contracts and models alone cite these words.
-use Rattle.std.specs.Prelude.{ℕ, ◌≡◌, ◌⊎◌, ◌↔◌, Bool, Some, slice_get, IsTrue}
+use Rattle.std.specs.Prelude.{ℕ, ◌≡◌, ◌⊎◌, ◌↔◌, Bool, true, List, Some, slice_get, IsTrue}
+use Rattle.fints_script_cases.specs.declared.values.NamedValue.{NamedValue}
 use Rattle.fints_rules_permissions.specs.Permits.{Granted}
+use Rattle.fints_rules.specs.Breaks.{BreaksByContent}
 use Rattle.fints_rules.specs.Rules.{FiguresBreak}
 use Rattle.fints_rules.specs.declared.rule.Rule.{Rule}
 use Rattle.fints_rules.specs.declared.rule.Rule.TheVariants.{Release}
 use Rattle.fints_script.specs.Numbered.{numbered}
-use Rattle.fints_script.specs.Plans.{IsClosedTemplate}
+use Rattle.fints_script.specs.Plans.{Admits, IsClosedTemplate}
 use Rattle.fints_script.specs.Scripts.{ScriptValue}
 use Rattle.fints_script.specs.Sound.{IsSound, IsSoundStep}
 use Rattle.fints_script.specs.Steps.{StepValue}
 use Rattle.fints_script_templates.specs.declared.template.Template.{Template}
+use Rattle.fints_wire.specs.Views.{message_view}
+use Rattle.fints_check_findings.specs.Cases.{HaveFirstAccount}
+use Rattle.fints_check_findings.specs.Choosing.{extreme_choice}
+use Rattle.fints_check_findings.specs.Elements.{asks_account, wants_tan}
 use Rattle.fints_check_findings.specs.Figures.{reached_figures}
 use Rattle.fints_check_findings.specs.Findings.{IsReal}
 use Rattle.fints_check_findings.specs.Laws.{release_of}
@@ -47,3 +53,9 @@ pub record IsSentStep (s : AtStepValue) (figures : Reached) (unreleased : Bool) 
 -- its figures break the rule, or it is P11 and an order is left unreleased
 abbrev pub BreaksAsSent : SentStepValue → Rule → Type 0
 BreaksAsSent s r = FiguresBreak s.at.granted.rows.bank (reached_figures s.figures) r ⊎ ((r ≡ Release) × IsTrue s.unreleased)
+
+-- the values are admitted, and what the step's message holds with them breaks the rule at the place, at every number; they are the extreme ones of which the rule is asked, or, for P8 and P9, have the first account that does
+pub record AreChosenAt (s : AtStepValue) (r : Rule) (place : ℕ) (values : List NamedValue) : Type 0 where
+  pub admitted : Admits s.script.fields values
+  pub breaks : (number : ℕ) → BreaksByContent s.granted (message_view s.script s.step number values) r place
+  pub chosen : (values ≡ extreme_choice (wants_tan r) s.script.fields) ⊎ ((asks_account r ≡ true) × HaveFirstAccount s.granted s.script s.step r place values)

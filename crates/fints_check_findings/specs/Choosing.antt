@@ -1,5 +1,5 @@
 -- Which values a case has: the worst ones for a rule that a TAN breaks, and else the least ones, with at most one account set. Private contracts alone cite these words.
-use Rattle.std.specs.Prelude.{ℕ, ◌≡◌, ◌⊎◌, ◌+◌, Bool, true, false, List, [], ◌∷◌, length, Option, Some, None, Any, MatchOption}
+use Rattle.std.specs.Prelude.{ℕ, ◌≡◌, ◌<◌, ◌⊎◌, ◌+◌, Bool, true, false, List, [], ◌∷◌, length, Option, Some, None, Any, MatchOption}
 use Rattle.std.specs.List.{slice_get}
 use Rattle.fints_script_fields.specs.Fields.{field_accounts, field_shortest}
 use Rattle.fints_script_fields.specs.Listed.{account_text}
@@ -59,18 +59,19 @@ chosen_sort false None = Least
 
 -- ---- rules
 
--- with the account at this place the template's segment breaks the rule
+-- with the account at this place the template's segment breaks the rule, and with none before it
 pub record HasBreaking (granted : Granted) (f : MessageFacts) (r : Rule) (t : Template) (count : ℕ) (accounts : List (List (List ℕ))) (place : ℕ) : Type 0 where
   pub account : List (List ℕ)
   pub listed : slice_get accounts place ≡ Some account
   pub breaks : SegmentBreaks granted f r (template_facts t count account)
+  pub first : (k : ℕ) (earlier : List (List ℕ)) → k < place → slice_get accounts k ≡ Some earlier → SegmentBreaks granted f r (template_facts t count earlier) → ⊥
 
--- at this place stands an account with which the template's segment breaks the rule; none is told only where no account does
+-- at this place stands the first account with which the template's segment breaks the rule; none is told only where no account does
 abbrev pub IsBreakingPlace : Granted → MessageFacts → Rule → Template → ℕ → List (List (List ℕ)) → Option ℕ → Type 0
 IsBreakingPlace granted f r t count accounts place =
     MatchOption place (Any (λ account. SegmentBreaks granted f r (template_facts t count account)) accounts → ⊥) (HasBreaking granted f r t count accounts)
 
--- element 2 is the field that is set, and with the account that it is set to the template's segment breaks the rule
+-- element 2 is the field that is set, and the account that it is set to is the first with which the template's segment breaks the rule
 pub record IsSetFor (granted : Granted) (fields : List NamedField) (f : MessageFacts) (r : Rule) (t : Template) (count : ℕ) (s : SetAccount) : Type 0 where
   pub asks : asks_account r ≡ true
   pub items_are : element_two t ≡ Field s.field ∷ []

@@ -15,6 +15,7 @@ use Rattle.fints_wire.specs.Messages.{message_bytes}
 use Rattle.fints_wire.specs.Runs.{Arrives}
 use Rattle.fints_wire.specs.declared.dialogue.Visit.{Visit}
 use Rattle.fints_wire.specs.Views.{message_view}
+use Rattle.fints_check_findings.specs.Cases.{AreChosenFor}
 use Rattle.fints_check_findings.specs.Findings.{IsBefore, IsReal}
 use Rattle.fints_check_findings.specs.declared.finding.Finding.{Finding}
 use Rattle.fints_wire.specs.declared.building.TheConstants.{MAX_NUMBER}
@@ -52,7 +53,14 @@ BreaksAtGreatest granted script f values =
     (number : ℕ) (step : StepValue) → numbered script.steps f.step ≡ Some step → IsGreatestAt script.steps f.step number → IsReal granted script f
     → Admits script.fields values × Breaks granted (message_view script step number values) f.rule f.segment
 
--- for P11 the values are admitted; for any other they break it at the greatest number
+-- if the finding is real, the values are those that are chosen for it
+abbrev pub AreChosenAtGreatest : Granted → ScriptValue → Finding → List NamedValue → Type 0
+AreChosenAtGreatest granted script f values =
+    (number : ℕ) (step : StepValue) → numbered script.steps f.step ≡ Some step → IsGreatestAt script.steps f.step number → IsReal granted script f
+    → AreChosenFor granted script f values
+
+-- for P11 the values are admitted; for any other they break it at the greatest number; and which they are
 pub record AreCaseValues (granted : Granted) (script : ScriptValue) (f : Finding) (values : List NamedValue) : Type 0 where
   pub admitted : f.rule ≡ Release → Admits script.fields values
   pub greatest : (f.rule ≡ Release → ⊥) → BreaksAtGreatest granted script f values
+  pub chosen : AreChosenAtGreatest granted script f values

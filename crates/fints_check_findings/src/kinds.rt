@@ -8,10 +8,8 @@ ghost use Rattle.fints_check_findings.specs.Kinds.{AreCounts, demanding_count, h
 use fints_rules::Permissions;
 use fints_rules::kinds::{is_plain_order, is_tan_order};
 use fints_script::Template;
+use fints_script_rows::limits::MAX_SEGMENTS;
 use fints_syntax::Kind;
-
-/// The most segments of a step.
-pub const MAX_SEGMENTS: usize = 100;
 
 fn has_kind(template: &Template, kind: Kind) -> bool
     ensures { result ≡ has_kind kind template.now }
@@ -59,7 +57,7 @@ fn count_kind(templates: &[Template], kind: Kind) -> usize
 
 /// Beside each segment how many have its kind.
 pub fn kind_counts(templates: &[Template]) -> [usize; MAX_SEGMENTS]
-    requires { length templates.now ≤ 100 }
+    requires { length templates.now ≤ MAX_SEGMENTS }
     ensures { AreCounts templates.now result }
 {
     let mut counts = [0; MAX_SEGMENTS];

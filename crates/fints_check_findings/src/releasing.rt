@@ -1,7 +1,5 @@
 //! The release rule: which steps leave an order unreleased, and of which step.
 ghost use Rattle.std.specs.Prelude.{◌≡◌, ◌↔◌, ◌<◌, ◌≤◌, ◌+◌, ℕ, length, Some, None, cond, IfOk, IsTrue, MatchOption};
-ghost use Rattle.fints_script_cases.specs.Answers.{target_of};
-ghost use Rattle.fints_script_cases.specs.Carrying.{Carries};
 ghost use Rattle.fints_check_reach.specs.Following.{AreBehind, GoesTo};
 ghost use Rattle.fints_check_reach.specs.Numbers.{Has};
 ghost use Rattle.fints_script.specs.Numbered.{numbered};
@@ -38,28 +36,15 @@ fn releases(step: &Step) -> bool
     some_has_process(step.templates(), b"2") || some_ends(step.templates())
 }
 
-// The step whose message a branch of step t may have sent next.
-fn next_step(step: &Step, t: usize, branch: usize) -> Option<usize>
-    requires from { 1 ≤ branch }
-    requires to { branch ≤ length step.now.branches + 1 }
-    ensures { MatchOption result
-        ((s : ℕ) → GoesTo step.now t (target_of step.now.branches step.now.otherwise branch) s → ⊥)
-        (GoesTo step.now t (target_of step.now.branches step.now.otherwise branch)) }
+// The step whose message a target of step t has sent next.
+fn next_step(step: &Step, t: usize, target: Target) -> Option<usize>
+    ensures { MatchOption result ((s : ℕ) → GoesTo step.now t target s → ⊥) (GoesTo step.now t target) }
 {
-    match step.target(branch) {
+    match target {
         Target::Step(to) => Some(to as usize),
         Target::Again => { if step.repeat() >= 2 { Some(t) } else { None } }
         Target::Stop => None,
     }
-}
-
-// Whether some answer with 0030 fires the branch.
-fn carries_release(step: &Step, branch: usize) -> bool
-    requires from { 1 ≤ branch }
-    requires to { branch ≤ length step.now.branches + 1 }
-    ensures { IsTrue result ↔ Carries step.now.branches branch RELEASE }
-{
-    step.carries(branch, release_code())
 }
 
 // The step that a branch of step t leads to behind 0030, where it releases nothing. What costs most
@@ -68,16 +53,18 @@ fn unreleased_at(plan: &Plan<'_>, t: usize, step: &Step, branch: usize) -> Optio
     requires at { numbered plan.now.script.steps t ≡ Some step.now }
     requires from { 1 ≤ branch }
     requires to { branch ≤ length step.now.branches + 1 }
-    ensures { MatchOption result ((s : ℕ) → IsUnreleasedAt plan.now.script.steps t step.now branch s → ⊥) (IsUnreleasedAt plan.now.script.steps t step.now branch) }
+    ensures { MatchOption result
+        ((s : ℕ) → IsUnreleasedAt plan.now.script.steps t step.now branch s → ⊥)
+        (IsUnreleasedAt plan.now.script.steps t step.now branch) }
 {
     plan.keeps();
-    match next_step(step, t, branch) {
+    match next_step(step, t, step.target(branch)) {
         None => None,
         Some(s) => {
             if releases(plan.step(s)) {
                 return None;
             }
-            if !carries_release(step, branch) {
+            if !step.carries(branch, release_code()) {
                 return None;
             }
             Some(s)
@@ -124,15 +111,6 @@ pub fn holders(
     Ok(holders)
 }
 
-// What stands beside step s.
-fn cell_of(holders: &[Option<u16>], s: usize) -> Option<u16>
-    requires from { 1 ≤ s }
-    requires to { s ≤ length holders.now }
-    ensures { numbered holders.now s ≡ Some result }
-{
-    holders[s - 1]
-}
-
 /// The step that is kept beside step s.
 pub fn holder_of(holders: &[Option<u16>], s: usize) -> u16
     requires from { 1 ≤ s }
@@ -140,21 +118,9 @@ pub fn holder_of(holders: &[Option<u16>], s: usize) -> u16
     requires noted { (t : ℕ) × Has holders.now s t }
     ensures { Has holders.now s result }
 {
-    match cell_of(holders, s) {
+    match holders[s - 1] {
         Some(t) => t,
         None => 0,
-    }
-}
-
-fn is_unreleased_at(plan: &Plan<'_>, t: usize, step: &Step, branch: usize) -> bool
-    requires at { numbered plan.now.script.steps t ≡ Some step.now }
-    requires from { 1 ≤ branch }
-    requires to { branch ≤ length step.now.branches + 1 }
-    ensures { IsTrue result ↔ ((s : ℕ) × IsUnreleasedAt plan.now.script.steps t step.now branch s) }
-{
-    match unreleased_at(plan, t, step, branch) {
-        None => false,
-        Some(_) => true,
     }
 }
 
@@ -169,7 +135,7 @@ fn is_never_held(plan: &Plan<'_>, t: usize) -> bool
         return true;
     }
     for branch in 1..step.branches().len() + 2 {
-        if is_unreleased_at(plan, t, step, branch) {
+        if unreleased_at(plan, t, step, branch).is_some() {
             return false;
         }
     }

@@ -6,7 +6,7 @@ ghost use Rattle.fints_script.specs.Steps.{StepValue};
 ghost use Rattle.fints_check_findings.specs.Figures.{AreFigures, FiguresAre};
 ghost use Rattle.fints_check_findings.specs.Findings.{AreFindings, EachIsPermitted, IsBefore, IsReal, SentStepsAreClean, SentStepsAreReleased};
 ghost use Rattle.fints_check_findings.specs.Releases.{LeadsUnreleased};
-ghost use Rattle.fints_check_findings.specs.Reports.{AreValuesOf, IsWayOf, ShowsFindingAt};
+ghost use Rattle.fints_check_findings.specs.Reports.{AreChosenOf, AreValuesOf, IsWayOf, ShowsFindingAt};
 ghost use Rattle.fints_check_findings.specs.Searching.{AreFiguresAt, IsGreatestAt};
 ghost use Rattle.fints_check_findings.specs.declared.finding.Finding.{Finding as FindingValue};
 ghost use Rattle.fints_wire.specs.declared.building.TheConstants.{MAX_NUMBER};
@@ -52,7 +52,6 @@ impl<'a> Model for Report<'a> {
       granted = r.permissions.now;
       figures = r.figures.items;
       findings = r.findings.items;
-      numbers = r.numbers.greatest.items;
       visits = r.numbers.visits;
     } };
 
@@ -154,10 +153,13 @@ impl<'a> Report<'a> {
         }
     }
 
-    /// The values of a finding's case, for any answers that lead as its way does; findings count from 0.
+    /// The values of a finding's case, for any answers that lead as its way does: the longest ones for
+    /// P3 and P12, and else the shortest, where P8 and P9 are asked of listed accounts with the first of
+    /// them that breaks; findings count from 0.
     pub fn values(&self, alloc: Global, i: usize) -> Result<Values, Memory>
         requires { i < length self.now.findings }
-        ensures { IfOk result (λ values. AreValuesOf self.now i values) }
+        ensures shown { IfOk result (λ values. AreValuesOf self.now i values) }
+        ensures chosen { IfOk result (λ values. AreChosenOf self.now i values) }
     {
         self.plan.keeps();
         let finding = self.findings[i];

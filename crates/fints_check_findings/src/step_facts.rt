@@ -3,12 +3,11 @@ ghost use Rattle.std.specs.Prelude.{◌≡◌, ◌<◌, ◌≤◌, true, false, 
 ghost use Rattle.fints_check_findings.specs.Elements.{wants_tan};
 ghost use Rattle.fints_check_findings.specs.StepFacts.{AreMessageFacts, AreStepFacts, message_for};
 
-use crate::kinds::{
-    MAX_SEGMENTS, count_demanding, count_kinds, kind_counts, some_ends, some_tan_order,
-};
+use crate::kinds::{count_demanding, count_kinds, kind_counts, some_ends, some_tan_order};
 use crate::tans::{some_has_process, some_has_tan, some_may_have_tan};
 use fints_rules::{MessageFacts, Permissions, Rule};
 use fints_script::{Plan, Step};
+use fints_script_rows::limits::MAX_SEGMENTS;
 
 /// Whether a TAN breaks the rule: it is asked of values with the most TANs, and another of those with
 /// the fewest.
@@ -84,7 +83,7 @@ fn with_most_tans(
 
 /// The facts of a step. It takes no memory.
 pub fn step_facts(permissions: &Permissions<'_>, plan: &Plan<'_>, step: &Step) -> StepFacts
-    requires few { length step.now.templates ≤ 100 }
+    requires few { length step.now.templates ≤ MAX_SEGMENTS }
     ensures { AreStepFacts permissions.now plan.now.script step.now result }
 {
     let least = message_facts(permissions, plan, step);

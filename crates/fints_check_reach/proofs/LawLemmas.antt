@@ -5,7 +5,6 @@ use Rattle.fints_check_reach.proofs.Scripts.{script_of}
 use Rattle.fints_check_reach.proofs.Closing.{greatest_closed}
 use Rattle.fints_check_reach.proofs.Visits.{at_least, at_most}
 use Rattle.fints_check_reach.proofs.Followed.{follow, followed}
-use Rattle.fints_script_cases.proofs.LawLemmas.{carrying_leads, one_branch_fires}
 use Rattle.fints_wire.proofs.RunLawLemmas.{runs_by_steps, visits_are_repeated}
 
 pub closed_numbers_bound : ClosedNumbersBound
@@ -22,6 +21,6 @@ visits_are_bounded_least = at_least
 
 pub followed_where_carried : FollowedWhereCarried
 followed_where_carried script t code s step sound at = (
-  followed carrying_leads one_branch_fires script.steps t code s step at (λ v arrives. (visits_are_repeated script v sound arrives).some),
-  follow carrying_leads script.steps t code s step at (runs_by_steps script.steps),
+  followed script.steps t code s step at (λ v arrives. (visits_are_repeated script v sound arrives).some),
+  follow script.steps t code s step at,
 )

@@ -14,6 +14,7 @@ use Rattle.fints_check_reach.specs.Numbers.{Has}
 use Rattle.fints_check_reach.specs.Sources.{AreSources, EndsRow}
 use Rattle.fints_check_reach.specs.Walking.{EntersTo, HasWay, IsCodeTo, IsWayBack}
 use Rattle.fints_check_reach.specs.Ways.{LeadsTo}
+use Rattle.fints_wire.proofs.RunLawLemmas.{routes_grow_more}
 use Rattle.fints_check_reach.proofs.SourceLemmas.{one_number}
 
 -- ---- back
@@ -60,18 +61,17 @@ one_answer code small = record { some = omega arith; each = All-cons (λ c. c < 
 code_leads : (step : StepValue) (to : Target) (code : ℕ) → IsCodeTo step to code → Leads step to
 code_leads step to code is = record { codes = code ∷ []; answer = one_answer code is.small; leads_to = is.leads_there }
 
-module _ (steps : List StepValue) (grow : (answers : List (List ℕ)) (codes : List ℕ) (v w : Visit) → RouteTo steps answers v → IsAnswer codes → Follows steps v codes w → RouteTo steps (answers ++ codes ∷ []) w) where
-  -- one message more of the row
-  pub row_more : (answers : List (List ℕ)) (n e k code : ℕ) (step : StepValue) → numbered steps n ≡ Some step → IsCodeTo step Again code → 1 + k < step.repeat → RouteTo steps answers (record { step = n; number = e + k; times = 1 + k }) → RouteTo steps (answers ++ (code ∷ []) ∷ []) (record { step = n; number = e + (k + 1); times = 1 + (k + 1) })
-  row_more answers n e k code step at is room r =
-      let v : Visit = record { step = n; number = e + k; times = 1 + k } in
-      let w : Visit = record { step = n; number = (e + k) + 1; times = (1 + k) + 1 } in
-      let f : Follows steps v (code ∷ []) w = record { step = step; at = at; enters = subst (λ t. Enters step.repeat v t w) (sym is.leads_there) (room, refl) } in
-      let next = grow answers (code ∷ []) v w r (one_answer code is.small) f in
-      let number : (e + k) + 1 ≡ e + (k + 1) = omega arith in
-      let times : (1 + k) + 1 ≡ 1 + (k + 1) = omega arith in
-      subst (λ (p : ℕ). RouteTo steps (answers ++ (code ∷ []) ∷ []) (record { step = n; number = p; times = 1 + (k + 1) })) number
-      (subst (λ (q : ℕ). RouteTo steps (answers ++ (code ∷ []) ∷ []) (record { step = n; number = (e + k) + 1; times = q })) times next)
+-- one message more of the row
+pub row_more : (steps : List StepValue) (answers : List (List ℕ)) (n e k code : ℕ) (step : StepValue) → numbered steps n ≡ Some step → IsCodeTo step Again code → 1 + k < step.repeat → RouteTo steps answers (record { step = n; number = e + k; times = 1 + k }) → RouteTo steps (answers ++ (code ∷ []) ∷ []) (record { step = n; number = e + (k + 1); times = 1 + (k + 1) })
+row_more steps answers n e k code step at is room r =
+    let v : Visit = record { step = n; number = e + k; times = 1 + k } in
+    let w : Visit = record { step = n; number = (e + k) + 1; times = (1 + k) + 1 } in
+    let f : Follows steps v (code ∷ []) w = record { step = step; at = at; enters = subst (λ t. Enters step.repeat v t w) (sym is.leads_there) (room, refl) } in
+    let next = routes_grow_more steps answers (code ∷ []) v w r (one_answer code is.small) f in
+    let number : (e + k) + 1 ≡ e + (k + 1) = omega arith in
+    let times : (1 + k) + 1 ≡ 1 + (k + 1) = omega arith in
+    subst (λ (p : ℕ). RouteTo steps (answers ++ (code ∷ []) ∷ []) (record { step = n; number = p; times = 1 + (k + 1) })) number
+    (subst (λ (q : ℕ). RouteTo steps (answers ++ (code ∷ []) ∷ []) (record { step = n; number = (e + k) + 1; times = q })) times next)
 
 module _ (steps : List StepValue) (numbers : List (Option ℕ)) (n : ℕ) (old : List (List ℕ)) (e : EntersTo steps numbers n old) (step : StepValue) (at : numbered steps n ≡ Some step) where
   own_row : EndsRow step e.from e.number

@@ -27,15 +27,6 @@ fn goes_to(step: &Step, t: usize, target: Target, s: usize) -> bool
     }
 }
 
-// Whether a branch of step t carries the code and goes to step s. Branches count from 1.
-fn is_carried_to(step: &Step, t: usize, branch: usize, code: Code, s: usize) -> bool
-    requires from { 1 ≤ branch }
-    requires to { branch ≤ length step.now.branches + 1 }
-    ensures { IsTrue result ↔ IsCarriedTo step.now t branch code s }
-{
-    goes_to(step, t, step.target(branch), s) && step.carries(branch, code)
-}
-
 // The step that a target has sent next behind a message of step n.
 fn next_of(step: &Step, n: u16, target: Target) -> Option<u16>
     ensures { MatchOption result ((s : ℕ) → GoesTo step.now n target s → ⊥) (λ s. GoesTo step.now n target s) }
@@ -74,7 +65,7 @@ pub fn branch_to(step: &Step, t: usize, code: Code, s: usize) -> Option<usize>
     ensures { MatchOption result (CarriesTo step.now t code s → ⊥) (λ branch. IsCarriedTo step.now t branch code s) }
 {
     for branch in 1..step.branches().len() + 2 {
-        if is_carried_to(step, t, branch, code, s) {
+        if goes_to(step, t, step.target(branch), s) && step.carries(branch, code) {
             return Some(branch);
         }
     }

@@ -38,6 +38,7 @@ use Rattle.fints_wire.specs.Messages.{end_template, head_template, message_bytes
 use Rattle.fints_wire.proofs.Counting.{IsBare, bare_len, is_bare, number_text-len, size_is, total-append}
 use Rattle.fints_wire.specs.declared.building.TheConstants.{MAX_NUMBER}
 use Rattle.fints_wire.proofs.PartLemmas.{has_parts}
+use Rattle.fints_syntax_segments.specs.declared.limits.TheConstants.{MAX_BYTES}
 
 pub total_mono : {X : Type 0} (f g : X → ℕ) (xs : List X) → ((x : X) → f x ≤ g x) → total f xs ≤ total g xs
 total_mono f g [] h = omega arith
@@ -187,7 +188,7 @@ pub record IsShort (script : ScriptValue) (step : StepValue) (sizes : Sizes) (nu
   pub inner : segments_len sizes 2 (templates_of script step) ≤ 1000000
   pub seal : step.sealed ≡ true → elements_len sizes (seal_of script) ≤ 1000000
   pub few : length (templates_of script step) ≤ 118
-  pub whole : message_len script step sizes number < 1048576
+  pub whole : message_len script step sizes number < MAX_BYTES
 
 pub step_short : (script : ScriptValue) (step : StepValue) (sizes : Sizes) (number : ℕ) → IsSoundStep script step → IsWithin sizes (map figures_of script.fields) → number ≤ MAX_NUMBER → IsShort script step sizes number
 step_short script step sizes number h w small =
@@ -211,7 +212,7 @@ step_short script step sizes number h w small =
       whole = omega arith;
     }
 
-pub step_light : (script : ScriptValue) (step : StepValue) (sizes : Sizes) (number : ℕ) → IsSoundStep script step → IsWithin sizes (map figures_of script.fields) → number ≤ MAX_NUMBER → message_len script step sizes number < 1048576
+pub step_light : (script : ScriptValue) (step : StepValue) (sizes : Sizes) (number : ℕ) → IsSoundStep script step → IsWithin sizes (map figures_of script.fields) → number ≤ MAX_NUMBER → message_len script step sizes number < MAX_BYTES
 step_light script step sizes number h w small = (step_short script step sizes number h w small).whole
 
 -- ---- values
@@ -268,7 +269,7 @@ choice_light script values number sound admits =
 
 -- the message is as long as its first segment says, and short
 pub message_light : (script : ScriptValue) (step : StepValue) (values : List NamedValue) (number : ℕ) → IsSound script → IsSoundStep script step → Admits script.fields values → number ≤ MAX_NUMBER
-    → (length (message_bytes script step number values) ≡ message_size script step (filling_of script.fields values number) number) × (length (message_bytes script step number values) < 1048576)
+    → (length (message_bytes script step number values) ≡ message_size script step (filling_of script.fields values number) number) × (length (message_bytes script step number values) < MAX_BYTES)
 message_light script step values number sound h admits small =
     let filling : FillingValue = filling_of script.fields values number in
     let short = step_light script step (sizes_of filling) number h (choice_light script values number sound admits) small in

@@ -28,6 +28,7 @@ use Rattle.fints_wire.proofs.FilledLemmas.{dialog_some, sealed_filled, templates
 use Rattle.fints_wire.proofs.ItemCounts.{dialog_few, sealed_few, templates_few, tokens-len}
 use Rattle.fints_wire.specs.declared.building.TheConstants.{MAX_NUMBER}
 use Rattle.fints_wire.proofs.Weighing.{HNHBK_kind, HNHBS_kind, HNVSD_kind, HNVSK_kind, IsShort, IsSmall, choice_light, message_light, small_templates, step_short}
+use Rattle.fints_syntax_segments.specs.declared.limits.TheConstants.{MAX_BYTES}
 
 abbrev HasItem : List OwnedItem → Type 0
 HasItem items = 0 < length items
@@ -47,7 +48,7 @@ make_proper kind n version elements k small v h few =
     record { kind = k; number = small; version = v; reference = tt; nonempty = h; items = omega arith }
 
 -- segments whose text is short
-pub all_writable : (ss : List OwnedSegment) → AllByRecursion IsProper ss → length (segments_text ss) ≤ 1048576 → AllByRecursion IsWritable ss
+pub all_writable : (ss : List OwnedSegment) → AllByRecursion IsProper ss → length (segments_text ss) ≤ MAX_BYTES → AllByRecursion IsWritable ss
 all_writable [] h short = tt
 all_writable (s ∷ ss) h short =
     let sum = length-append (written_segment s) (segments_text ss) in

@@ -11,6 +11,7 @@ use Rattle.fints_wire.specs.Filling.{FillingValue, filling_of, filled_segments}
 use Rattle.fints_wire.specs.declared.dialogue.Sent.{Sent}
 use Rattle.fints_wire.specs.declared.building.TheConstants.{MAX_NUMBER}
 use Rattle.fints_wire.specs.Messages.{end_template, message_bytes, message_size, signers_of}
+use Rattle.fints_syntax_segments.specs.declared.limits.TheConstants.{MAX_BYTES}
 
 -- what the message of a step, of this number, holds under a choice: the step's templates with the choice put in, numbered on behind HNHBK and the signers' HNSHK, and behind them the signers' HNSHA
 abbrev pub message_view : ScriptValue → StepValue → ℕ → List NamedValue → MessageView
@@ -35,4 +36,4 @@ pub record IsReadAs (script : ScriptValue) (values : List NamedValue) (m : Sent)
   pub step : StepValue
   pub of : numbered script.steps m.step ≡ Some step
   pub message : IsMessage m.bytes (message_view script step m.number values)
-  pub short : length m.bytes < 1048576
+  pub short : length m.bytes < MAX_BYTES

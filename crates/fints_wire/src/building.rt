@@ -7,6 +7,7 @@ ghost use Rattle.fints_script.specs.Sound.{IsSoundStep};
 ghost use Rattle.fints_wire.specs.Filling.{AreFilled, TemplatesAreFilled, filled_elements, filled_segment};
 ghost use Rattle.fints_wire.specs.Messages.{OfStep, between_segments, envelope_text, first_segment, inner_segments, later_segments, message_bytes, seal_of, segments_text, size_under, templates_of, text_with_first};
 ghost use Rattle.fints_wire.specs.Views.{message_view};
+ghost use Rattle.fints_syntax_segments.specs.declared.limits.TheConstants.{MAX_BYTES};
 
 use crate::filling::{Filling, filled_elements};
 use crate::frame::{data_segment, first_segment, last_segment, seal_segment, segment};
@@ -162,7 +163,7 @@ pub fn build(
     requires admits { Admits plan.now.script.fields values.now }
     ensures bytes { OfStep plan.now.script.steps step (λ s. IfOk result (λ bytes. bytes.items ≡ message_bytes plan.now.script s number values.now)) }
     ensures size { OfStep plan.now.script.steps step (λ s. IfOk result (λ bytes. length bytes.items ≡ size_under plan.now.script s number values.now)) }
-    ensures short { IfOk result (λ bytes. length bytes.items < 1048576) }
+    ensures short { IfOk result (λ bytes. length bytes.items < MAX_BYTES) }
     ensures view { OfStep plan.now.script.steps step (λ s. IfOk result (λ bytes. IsMessage bytes.items (message_view plan.now.script s number values.now))) }
 {
     let step = plan.step(step);

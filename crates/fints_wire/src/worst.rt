@@ -11,6 +11,7 @@ ghost use Rattle.fints_wire.specs.Choices.{NoneIsLonger, longest_message};
 ghost use Rattle.fints_wire.specs.Lengths.{between_len, binary_size, element_len, elements_len, head_len, item_len, longest_size, longest_sizes, message_len, number_len, segment_len, segments_len};
 ghost use Rattle.fints_wire.specs.declared.building.TheConstants.{MAX_NUMBER};
 ghost use Rattle.fints_wire.specs.Messages.{seal_of, templates_of};
+ghost use Rattle.fints_syntax_segments.specs.declared.limits.TheConstants.{MAX_BYTES};
 
 use crate::part::{Part, part_at, part_count};
 use fints_script::{FieldClass, Plan, Step, TemplateItem};
@@ -192,7 +193,7 @@ pub fn worst_size(plan: &Plan, step: usize, number: u32) -> u64
     requires last { number ≤ MAX_NUMBER }
     ensures attained { (s : StepValue) → numbered plan.now.script.steps step ≡ Some s → result ≡ length (longest_message plan.now.script s number) }
     ensures most { NoneIsLonger plan.now.script step number result }
-    ensures short { result < 1048576 }
+    ensures short { result < MAX_BYTES }
 {
     message_size(plan, plan.step(step), number)
 }

@@ -1,16 +1,22 @@
-use Rattle.std.proofs.Common.{ℕ, ◌≡◌, ◌∙◌, Bool, List, IfOk, ap, sym, subst, inl, inr}
+use Rattle.std.proofs.Common.{ℕ, ◌≡◌, ◌∙◌, Bool, List, Some, IfOk, ap, sym, subst, inl, inr}
 use Rattle.std.proofs.lemmas.Option.{same_Some}
 use Rattle.fints_rules.specs.Breaks.{BreaksByContent}
 use Rattle.fints_script_cases.specs.declared.values.NamedValue.{NamedValue}
 use Rattle.fints_wire.specs.Views.{message_view}
 use Rattle.fints_check_findings.proofs.AtSteps.{from_same}
 use Rattle.fints_check_findings.proofs.FigureRules.{figures_rule}
+use Rattle.fints_rules.specs.declared.rule.Rule.TheVariants as rule
+use Rattle.fints_script.specs.Numbered.{numbered}
 use Rattle.fints_script.specs.Plans.{Admits}
+use Rattle.fints_script.specs.Steps.{StepValue}
+use Rattle.fints_check_findings.specs.AtStep.{AreChosenAt}
+use Rattle.fints_check_findings.specs.Findings.{IsReal}
 use Rattle.fints_wire.specs.Choices.{longest_choice, shortest_choice}
 use Rattle.fints_check_findings.specs.Choosing.{AreOfSort, IsChoice, chosen_sort}
 use Rattle.fints_check_findings.specs.Elements.{wants_tan}
-use Rattle.fints_check_findings.specs.Searching.{AreCaseValues, BreaksAtGreatest}
+use Rattle.fints_check_findings.specs.Searching.{AreCaseValues, BreaksAtGreatest, IsGreatestAt}
 use Rattle.fints_check_findings.proofs.CaseLemmas.{if_ok, number_not, number_values, size_not, size_values, sort_is_choice}
+use Rattle.fints_check_findings.proofs.ChosenValues.{at_step_number, chosen_for, other_chosen, size_chosen}
 use Rattle.fints_check_findings.proofs.Reals.{real_breaks}
 use Rattle.fints_wire.proofs.LawLemmas.{extremes_are_admitted_shortest}
 use Rattle.fints_check_findings.proofs.casing.case_values.Goals as goal
@@ -22,7 +28,7 @@ returns-in-Size c =
     let sound = c.keeps.ensures.sound in
     let breaks = size_values script granted c.args.finding sound c.in-Size.is in
     if_ok (λ v. v ≡ longest_choice script.fields) (AreCaseValues granted script c.args.finding) c.values_of.result
-    (λ v is. record { admitted = λ r. absurd (size_not c.args.finding.rule c.in-Size.is r); greatest = λ other. subst (BreaksAtGreatest granted script c.args.finding) (sym is) breaks }) c.values_of.ensures
+    (λ v is. record { admitted = λ r. absurd (size_not c.args.finding.rule c.in-Size.is r); greatest = λ other. subst (BreaksAtGreatest granted script c.args.finding) (sym is) breaks; chosen = λ number step at peak real. size_chosen granted script c.args.finding v c.in-Size.is is }) c.values_of.ensures
 
 pub returns-in-Number : goal.returns-in-Number
 returns-in-Number c =
@@ -35,6 +41,7 @@ returns-in-Number c =
       greatest = λ other.
           let admits : Admits script.fields v = subst (Admits script.fields) (sym is) (extremes_are_admitted_shortest script.fields) in
           number_values script granted c.args.finding sound v admits c.in-Number.is;
+      chosen = λ number step at peak real. other_chosen granted script c.args.finding v rule.Number c.in-Number.is (λ e. cc) (λ e. cc) is;
     }) c.values_of-in-Number.ensures
 
 pub returns-in-Release : goal.returns-in-Release
@@ -42,7 +49,7 @@ returns-in-Release c =
     let script = c.args.plan.now.script in
     let granted = c.args.permissions.now in
     if_ok (λ v. v ≡ shortest_choice script.fields) (AreCaseValues granted script c.args.finding) c.values_of-in-Release.result
-    (λ v is. record { admitted = λ r. subst (Admits script.fields) (sym is) (extremes_are_admitted_shortest script.fields); greatest = λ other. absurd (other c.in-Release.is) }) c.values_of-in-Release.ensures
+    (λ v is. record { admitted = λ r. subst (Admits script.fields) (sym is) (extremes_are_admitted_shortest script.fields); greatest = λ other. absurd (other c.in-Release.is); chosen = λ number step at peak real. other_chosen granted script c.args.finding v rule.Release c.in-Release.is (λ e. cc) (λ e. cc) is }) c.values_of-in-Release.ensures
 
 pub returns-in_default : goal.returns-in_default
 returns-in_default c =
@@ -55,20 +62,25 @@ returns-in_default c =
     let is_choice : IfOk c.values_of-in_default.result (IsChoice (wants_tan f.rule) script.fields choice) =
     if_ok (AreOfSort script.fields (chosen_sort (wants_tan f.rule) choice)) (IsChoice (wants_tan f.rule) script.fields choice) c.values_of-in_default.result
     (sort_is_choice (wants_tan f.rule) script.fields choice) (subst (λ s. IfOk c.values_of-in_default.result (AreOfSort script.fields s)) sort c.values_of-in_default.ensures) in
+    let found : (number : ℕ) (step : StepValue) (values : List NamedValue) → (f.rule ≡ rule.Release → ⊥) → numbered script.steps f.step ≡ Some step → IsGreatestAt script.steps f.step number → IsReal granted script f → IsChoice (wants_tan f.rule) script.fields choice values
+    → AreChosenAt (record { granted = granted; script = script; n = f.step; step = step }) f.rule f.segment values =
+    λ number step values not_release at peak real is.
+    let b = real_breaks script granted sound f number step not_release at peak real in
+    let same : c.new-step.result.step ≡ step = same_Some c.new-step.result.step step (sym c.new-step.ensures.step ∙ at) in
+    elim b.5 [
+      | inl whole ↦ absurd (elim (figures_rule granted.rows.bank _ f.rule whole.1) [ inl is ↦ c.in_default.not-Number is | inr is ↦ c.in_default.not-Size is ])
+      | inr held ↦
+          from_same
+          (λ g x s. (other values : List NamedValue) (lower : ℕ) → Admits x.fields other → BreaksByContent g (message_view x s lower other) f.rule f.segment → IsChoice (wants_tan f.rule) x.fields choice values
+          → AreChosenAt (record { granted = g; script = x; n = f.step; step = s }) f.rule f.segment values)
+          c.new-step.result granted script step c.new-step.ensures.granted c.new-step.ensures.script same (at_step_number c.new-step.result f.step f.rule f.segment choice c.choice-choice.ensures) b.0 values b.1 b.2 held is
+    ]
+    in
     if_ok (IsChoice (wants_tan f.rule) script.fields choice) (AreCaseValues granted script f) c.values_of-in_default.result
     (λ v is. record {
       admitted = λ r. absurd (c.in_default.not-Release r);
-      greatest = λ not_release number step at peak real.
-          let b = real_breaks script granted sound f number step not_release at peak real in
-          let same : c.new-step.result.step ≡ step = same_Some c.new-step.result.step step (sym c.new-step.ensures.step ∙ at) in
-          elim b.5 [
-            | inl whole ↦ absurd (elim (figures_rule granted.rows.bank _ f.rule whole.1) [ inl is ↦ c.in_default.not-Number is | inr is ↦ c.in_default.not-Size is ])
-            | inr held ↦
-                let chosen = from_same
-                (λ g x s. (other values : List NamedValue) (lower : ℕ) → Admits x.fields other → BreaksByContent g (message_view x s lower other) f.rule f.segment → IsChoice (wants_tan f.rule) x.fields choice values
-                → Admits x.fields values × ((number : ℕ) → BreaksByContent g (message_view x s number values) f.rule f.segment))
-                c.new-step.result granted script step c.new-step.ensures.granted c.new-step.ensures.script same c.choice-choice.ensures b.0 v b.1 b.2 held is in
-                (chosen.0, inr (chosen.1 number))
-          ];
+      greatest = λ not_release number step at peak real. let x = found number step v not_release at peak real is in (x.admitted, inr (x.breaks number));
+      chosen = λ number step at peak real.
+          chosen_for granted script f v step at c.in_default.not-Size (found number step v c.in_default.not-Release at peak real is).chosen;
     })
     is_choice

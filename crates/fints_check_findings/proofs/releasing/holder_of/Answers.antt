@@ -1,7 +1,18 @@
-use Rattle.std.proofs.Common.{◌≡◌, ◌∙◌, ℕ, Option, Some, None, sym}
+use Rattle.std.proofs.Common.{◌≡◌, ◌≤◌, ◌-◌, ◌∙◌, ℕ, List, get_or, Option, Some, None, length, ap, sym, arith}
+use Rattle.std.proofs.lemmas.Option.{slice_get-get_or}
+use Rattle.fints_script.specs.Numbered.{numbered, numbered_of}
 use Rattle.fints_check_findings.proofs.releasing.holder_of.Goals as goal
+
+-- what stands beside a step
+cell_of : (holders : List (Option ℕ)) (s : ℕ) (cell : Option ℕ) → 1 ≤ s → s ≤ length holders → get_or holders (s - 1) None ≡ cell → numbered holders s ≡ Some cell
+cell_of holders s cell low high is =
+    numbered_of holders s cell low (slice_get-get_or holders (s - 1) None (omega (arith, low, high)) ∙ ap (λ (x : Option ℕ). Some x) is)
+
+pub returns-in-Some : goal.returns-in-Some
+returns-in-Some c = cell_of c.args.holders.now c.args.s (Some c.in-Some.t) c.requires.from c.requires.to c.in-Some.is
 
 pub returns-in-None : goal.returns-in-None
 returns-in-None c =
-    let both : ◌≡◌ {A = Option (Option ℕ)} (Some None) (Some (Some c.requires.noted.0)) = sym c.in-None.ensures ∙ c.requires.noted.1 in
+    let at = cell_of c.args.holders.now c.args.s None c.requires.from c.requires.to c.in-None.is in
+    let both : ◌≡◌ {A = Option (Option ℕ)} (Some None) (Some (Some c.requires.noted.0)) = sym at ∙ c.requires.noted.1 in
     absurd cc

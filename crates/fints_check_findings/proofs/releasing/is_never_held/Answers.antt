@@ -1,9 +1,19 @@
-use Rattle.std.proofs.Common.{ℕ, ◌≡◌, ◌∙◌, length, true, false, refl, ap, arith, sym, subst, inl, inr}
+use Rattle.std.specs.Prelude.{MatchOption, is_some}
+use Rattle.std.proofs.Common.{ℕ, Option, Some, None, ◌≡◌, ◌∙◌, length, true, false, refl, ap, arith, sym, subst, inl, inr}
 use Rattle.std.proofs.lemmas.Bool.{cases_lt}
 use Rattle.std.proofs.lemmas.Option.{same_Some}
 use Rattle.fints_script.specs.Steps.{StepValue}
 use Rattle.fints_check_findings.specs.Releases.{IsUnreleasedAt, submits}
 use Rattle.fints_check_findings.proofs.releasing.is_never_held.Goals as goal
+
+-- what an answer that may be none tells
+some_of : (P : Type 0) (Q : ℕ → Type 0) (o : Option ℕ) → MatchOption o P Q → is_some o ≡ true → (s : ℕ) × Q s
+some_of P Q None told h = absurd cc
+some_of P Q (Some s) told h = (s, told)
+
+none_of : (P : Type 0) (Q : ℕ → Type 0) (o : Option ℕ) → MatchOption o P Q → is_some o ≡ false → P
+none_of P Q None told h = told
+none_of P Q (Some s) told h = absurd cc
 
 pub returns-then-not-submits : goal.returns-then-not-submits
 returns-then-not-submits c = (
@@ -16,11 +26,11 @@ returns-then-not-submits c = (
   λ _. refl,
 )
 
-pub returns-then-is_unreleased_at : goal.returns-then-is_unreleased_at
-returns-then-is_unreleased_at c = (
+pub returns-then-is_some : goal.returns-then-is_some
+returns-then-is_some c = (
   λ h. let clash : false ≡ true = h in cc,
   λ none.
-      let is = c.is_unreleased_at.ensures.0 c.if-is_unreleased_at.true in
+      let is = some_of _ _ c.unreleased_at.result c.unreleased_at.ensures (sym c.is_some.ensures ∙ c.if-is_some.true) in
       absurd (none is.0 (record { step = c.step-step.result.now; at = c.step-step.ensures.numbered; submitted = sym c.submits.ensures ∙ c.if-not-submits.false; branch = c.loop-branch.branch; is = is.1 })),
 )
 
@@ -30,9 +40,7 @@ loop-branch-preserved c s k low less is =
       | inl below ↦ c.loop-branch.invariant s k low below is
       | inr above ↦
           let same : k ≡ c.loop-branch.branch = omega (arith, less, above) in
-          let yes = c.is_unreleased_at.ensures.1 (s, subst (λ (j : ℕ). IsUnreleasedAt c.args.plan.now.script.steps c.args.t c.step-step.result.now j s) same is) in
-          let clash : true ≡ false = sym yes ∙ c.if-is_unreleased_at.false in
-          cc
+          none_of _ _ c.unreleased_at.result c.unreleased_at.ensures (sym c.is_some.ensures ∙ c.if-is_some.false) s (subst (λ (j : ℕ). IsUnreleasedAt c.args.plan.now.script.steps c.args.t c.step-step.result.now j s) same is)
     ]
 
 pub returns : goal.returns

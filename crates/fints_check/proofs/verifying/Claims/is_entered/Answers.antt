@@ -1,19 +1,22 @@
-use Rattle.std.proofs.Common.{sym, subst, ◌∙◌}
+use Rattle.std.proofs.Common.{◌≡◌, ◌≤◌, Some, length, sym, subst, ◌∙◌}
 use Rattle.std.proofs.lemmas.Option.{same_Some}
-use Rattle.fints_script.specs.Numbered.{numbered_of}
+use Rattle.fints_script.specs.Numbered.{numbered}
 use Rattle.fints_check.specs.Certificates.{Covers}
-use Rattle.fints_check.proofs.verifying.is_entered.Goals as goal
+use Rattle.fints_check.specs.Verifying.{ClaimsValue}
+use Rattle.fints_check.proofs.verifying.Claims.is_entered.Goals as goal
 
-pub covers-requires-clause-repeated : goal.covers-requires-clause-repeated
-covers-requires-clause-repeated c =
-    let at = numbered_of c.args.plan.now.script.steps c.args.n c.step.result.now c.requires.first c.step.ensures.step in
-    let e = c.requires.repeats.each c.args.n c.step.result.now at in
+pub step-requires-clause-to : goal.step-requires-clause-to
+step-requires-clause-to c = subst (λ (v : ClaimsValue). c.args.n ≤ length v.script.steps) (sym c.self.view_is) c.requires.last
+
+pub covers-requires : goal.covers-requires
+covers-requires c =
+    let e = c.self.invariant.1.each c.args.n c.step.result.now c.step.ensures.numbered in
     let f = c.flag.ensures in
     (λ h. e.0 (f.0 h), λ h. f.1 (e.1 h))
 
 pub returns-in-Some : goal.returns-in-Some
 returns-in-Some c =
-    let at = numbered_of c.args.plan.now.script.steps c.args.n c.step.result.now c.requires.first c.step.ensures.step in
+    let at = subst (λ (v : ClaimsValue). numbered v.script.steps c.args.n ≡ Some c.step.result.now) c.self.view_is c.step.ensures.numbered in
     let named = sym c.figures.ensures ∙ c.in-Some.is in (
       λ h. record { step = c.step.result.now; at = at; figures = c.in-Some.reached; named = named; covers = c.covers.ensures.0 h },
       λ e.
