@@ -32,7 +32,7 @@ def is_told(wanted, run):
     if wanted == "read":
         return run.returncode in (0, 1) and not err
     if wanted.startswith("error: "):
-        return (run.returncode, out, err) == (3, "", f"{wanted}\n")
+        return (run.returncode, out, err) == (3, "", text_of(wanted) + "\n")
     if wanted.startswith(("why: ", "note: ")):
         return run.returncode in (0, 1) and bool(out) and err == text_of(wanted) + "\n"
     text = text_of(wanted.removeprefix(".. ")) + "\n"

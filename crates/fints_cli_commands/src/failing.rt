@@ -8,6 +8,8 @@ use fints_cli_files::LoadFault;
 use fints_cli_hints::{Inputs, hint};
 use fints_cli_texts::Fault;
 use std::alloc::{AllocError, Global};
+use std::fmt;
+use std::fmt::{Display, Formatter, Write};
 use thiserror::Error;
 
 /// Why a command has no answer.
@@ -59,6 +61,24 @@ pub fn refused(alloc: Global, fault: Fault, inputs: &Inputs<'_>, hints: bool) ->
     }
 }
 
+/// A path as it is, in one line: a character that controls is shown by its number.
+#[derive(Clone, Copy)]
+struct Path<'a>(&'a str);
+
+impl Display for Path<'_> {
+    fn fmt<W: Write>(&self, f: &mut Formatter<W>) -> fmt::Result {
+        for ch in self.0.chars() {
+            if ch < ' ' || ch == '\u{7f}' {
+                let code = u32::from(ch);
+                write!(f, "\\x{code:02x}")?;
+            } else {
+                f.write_char(ch)?;
+            }
+        }
+        Ok(())
+    }
+}
+
 // What keeps a file from being read.
 fn file_hint(
     alloc: Global,
@@ -66,11 +86,12 @@ fn file_hint(
     fault: LoadFault,
     limit: usize,
 ) -> Result<Option<String>, AllocError> {
+    let path = Path(path);
     let line = match fault {
         LoadFault::Memory => return Ok(None),
-        LoadFault::TooLong => format!(in alloc; "{path:?} is longer than {limit} bytes")?,
-        LoadFault::TooManyCalls => format!(in alloc; "{path:?} comes in too many pieces")?,
-        LoadFault::Unreadable(cause) => format!(in alloc; "{path:?}: {cause}")?,
+        LoadFault::TooLong => format!(in alloc; "{path} is longer than {limit} bytes")?,
+        LoadFault::TooManyCalls => format!(in alloc; "{path} comes in too many pieces")?,
+        LoadFault::Unreadable(cause) => format!(in alloc; "{path}: {cause}")?,
     };
     Ok(Some(line))
 }

@@ -9,63 +9,91 @@ use std::alloc::Global;
 use std::fmt;
 use std::fmt::{Display, Formatter, Write};
 
-/// An account as an order names it: by its IBAN, or by its number and its bank code.
+/// The first items of element 2; an absent one is empty.
 #[derive(Clone, Copy)]
-pub enum Account<'a> {
-    Iban(&'a [u8]),
-    /// Number, subaccount, country and bank code.
-    Number([&'a [u8]; 4]),
+pub struct Items<'a> {
+    pub first: &'a [u8],
+    pub second: &'a [u8],
+    pub third: &'a [u8],
+    pub fourth: &'a [u8],
+    pub fifth: &'a [u8],
+    pub sixth: &'a [u8],
+}
+
+impl Items<'_> {
+    fn are_empty(&self) -> bool {
+        self.first.is_empty()
+            && self.second.is_empty()
+            && self.third.is_empty()
+            && self.fourth.is_empty()
+            && self.fifth.is_empty()
+            && self.sixth.is_empty()
+    }
+}
+
+/// An account as an order names it: by its IBAN where it has one here, or else by its number and its bank
+/// code.
+#[derive(Clone, Copy)]
+pub struct Account<'a> {
+    iban: &'a [u8],
+    number: &'a [u8],
+    subaccount: &'a [u8],
+    country: &'a [u8],
+    bank: &'a [u8],
 }
 
 impl Display for Account<'_> {
     fn fmt<W: Write>(&self, f: &mut Formatter<W>) -> fmt::Result {
-        match *self {
-            Account::Iban(iban) => {
-                let iban = Sample(iban);
-                write!(f, "the account of IBAN {iban}")
-            }
-            Account::Number([number, subaccount, country, bank]) => {
-                let (number, subaccount) = (Sample(number), Sample(subaccount));
-                let (country, bank) = (Sample(country), Sample(bank));
-                write!(
-                    f,
-                    "the account of number {number}, subaccount {subaccount}, country {country}, bank code {bank}"
-                )
-            }
+        if !self.iban.is_empty() {
+            let iban = Sample(self.iban);
+            return write!(f, "the account of IBAN {iban}");
         }
+        let (number, subaccount) = (Sample(self.number), Sample(self.subaccount));
+        let (country, bank) = (Sample(self.country), Sample(self.bank));
+        write!(
+            f,
+            "the account of number {number}, subaccount {subaccount}, country {country}, bank code {bank}"
+        )
     }
 }
 
-fn account_of<'a>(form: Option<AccountForm>, items: &[&'a [u8]; 6]) -> Account<'a> {
-    let [first, second, third, fourth, fifth, sixth] = *items;
-    match form {
-        Some(AccountForm::International) if first.is_empty() => {
-            Account::Number([third, fourth, fifth, sixth])
-        }
-        Some(AccountForm::International) => Account::Iban(first),
-        _ => Account::Number([first, second, third, fourth]),
+fn account_of<'a>(form: Option<AccountForm>, items: &Items<'a>) -> Account<'a> {
+    let international = matches!(form, Some(AccountForm::International));
+    if international && items.first.is_empty() {
+        return Account {
+            iban: b"",
+            number: items.third,
+            subaccount: items.fourth,
+            country: items.fifth,
+            bank: items.sixth,
+        };
+    }
+    Account {
+        iban: if international { items.first } else { b"" },
+        number: items.first,
+        subaccount: items.second,
+        country: items.third,
+        bank: items.fourth,
     }
 }
 
 /// The account that the order names.
-pub fn named<'a>(bank: &Bank<'_>, seen: &Seen<'a>) -> Account<'a> {
+pub fn named<'a>(bank: &Bank<'_>, seen: &Seen<'a, '_>) -> Account<'a> {
     account_of(bank.orders.form(seen.kind, seen.version), &seen.items)
 }
 
 fn is_of(row: &AccountRow, account: &Account<'_>) -> bool {
-    match account {
-        Account::Iban(iban) => row.iban.as_slice() == *iban,
-        Account::Number([number, subaccount, country, bank]) => {
-            row.national.number.as_slice() == *number
-                && row.national.subaccount.as_slice() == *subaccount
-                && row.national.country.as_slice() == *country
-                && row.national.bank.as_slice() == *bank
-        }
+    if !account.iban.is_empty() {
+        return row.iban.as_slice() == account.iban;
     }
+    row.national.number.as_slice() == account.number
+        && row.national.subaccount.as_slice() == account.subaccount
+        && row.national.country.as_slice() == account.country
+        && row.national.bank.as_slice() == account.bank
 }
 
 /// The least number of signatures that an entry of the order's kind wants, in the rows of its account.
-pub fn least_need(bank: &Bank<'_>, seen: &Seen<'_>) -> u32 {
+pub fn least_need(bank: &Bank<'_>, seen: &Seen<'_, '_>) -> u32 {
     let account = named(bank, seen);
     let mut least = None;
     for row in bank.params.accounts() {
@@ -116,11 +144,11 @@ fn slip(bank: &Bank<'_>, form: Option<AccountForm>, first: &[u8]) -> &'static st
 }
 
 /// Why no row of the order's account lists it.
-pub fn locked_text(alloc: Global, bank: &Bank<'_>, seen: &Seen<'_>) -> Result<String, Memory> {
+pub fn locked_text(alloc: Global, bank: &Bank<'_>, seen: &Seen<'_, '_>) -> Result<String, Memory> {
     let kind = Named(seen.kind);
     let account = named(bank, seen);
     let rows = bank.params.accounts();
-    if seen.items.iter().all(|item| item.is_empty()) {
+    if seen.items.are_empty() {
         return written(
             alloc,
             format_args!("element 2 of {kind} is empty, and the account stands there"),
@@ -135,7 +163,7 @@ pub fn locked_text(alloc: Global, bank: &Bank<'_>, seen: &Seen<'_>) -> Result<St
         );
     }
     let count = rows.len();
-    let [first, ..] = seen.items;
+    let first = seen.items.first;
     let slip = slip(bank, bank.orders.form(seen.kind, seen.version), first);
     written(
         alloc,

@@ -1,4 +1,5 @@
 //! Why a message breaks the rules that `judge` names.
+use crate::accounts::Items;
 use crate::lines::add;
 use crate::segment::{Bank, Seen, segment_text};
 use crate::whole::{Whole, whole_text};
@@ -52,15 +53,15 @@ fn count_kinds(alloc: Global, body: &[OwnedSegment]) -> Result<usize, Memory> {
     Ok(kinds.len())
 }
 
-fn items_of(segment: &OwnedSegment) -> [&[u8]; 6] {
-    [
-        segment.value(2, 1),
-        segment.value(2, 2),
-        segment.value(2, 3),
-        segment.value(2, 4),
-        segment.value(2, 5),
-        segment.value(2, 6),
-    ]
+fn items_of(segment: &OwnedSegment) -> Items<'_> {
+    Items {
+        first: segment.value(2, 1),
+        second: segment.value(2, 2),
+        third: segment.value(2, 3),
+        fourth: segment.value(2, 4),
+        fifth: segment.value(2, 5),
+        sixth: segment.value(2, 6),
+    }
 }
 
 fn count_of(body: &[OwnedSegment], kind: Kind) -> usize {
@@ -73,7 +74,7 @@ fn demanding(permissions: &Permissions<'_>, body: &[OwnedSegment]) -> usize {
         .count()
 }
 
-fn seen<'a>(bank: &Bank<'_>, message: &'a Message, segment: &'a OwnedSegment) -> Seen<'a> {
+fn seen<'a>(bank: &Bank<'_>, message: &Message, segment: &'a OwnedSegment) -> Seen<'a, 'static> {
     Seen {
         kind: segment.head.id,
         version: segment.head.version,

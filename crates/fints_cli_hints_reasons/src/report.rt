@@ -103,12 +103,12 @@ struct Found<'a> {
     values: &'a Values,
 }
 
-fn segment_reason(
+fn segment_reason<'a>(
     alloc: Global,
     bank: &Bank<'_>,
-    found: &Found<'_>,
+    found: &Found<'a>,
     rule: Rule,
-    template: &Template,
+    template: &'a Template,
 ) -> Result<Option<String>, Memory> {
     let templates = found.step.templates();
     let no_tan = no_tan(alloc, found.plan, found.step)?;

@@ -1,5 +1,5 @@
 //! Why a segment breaks a rule, in words.
-use crate::accounts::{least_need, locked_text, named};
+use crate::accounts::{Items, least_need, locked_text, named};
 use fints_cli_hints_words::places::written;
 use fints_params::{OrderParam, Params};
 use fints_rules::kinds::own_version;
@@ -20,18 +20,17 @@ pub struct Bank<'a> {
 
 /// A segment as the rules see it, and what can be said of the TANs of its message.
 #[derive(Clone, Copy)]
-pub struct Seen<'a> {
+pub struct Seen<'a, 't> {
     pub kind: Kind,
     pub version: u16,
-    /// The first items of element 2.
-    pub items: [&'a [u8]; 6],
+    pub items: Items<'a>,
     /// How many segments of the message have its kind.
     pub count: usize,
     pub signatures: usize,
     /// How many orders of the message are listed with J.
     pub demanding: usize,
     /// Why the message has no TAN.
-    pub no_tan: &'a str,
+    pub no_tan: &'t str,
 }
 
 /// A kind.
@@ -80,7 +79,7 @@ impl Display for Versions<'_> {
     }
 }
 
-fn no_parameters(alloc: Global, bank: &Bank<'_>, seen: &Seen<'_>) -> Result<String, Memory> {
+fn no_parameters(alloc: Global, bank: &Bank<'_>, seen: &Seen<'_, '_>) -> Result<String, Memory> {
     let (kind, params) = (Named(seen.kind), ParamsOf(seen.kind));
     let rows = bank.params.orders();
     let version = seen.version;
@@ -104,7 +103,7 @@ fn no_parameters(alloc: Global, bank: &Bank<'_>, seen: &Seen<'_>) -> Result<Stri
     )
 }
 
-fn too_many(alloc: Global, bank: &Bank<'_>, seen: &Seen<'_>) -> Result<String, Memory> {
+fn too_many(alloc: Global, bank: &Bank<'_>, seen: &Seen<'_, '_>) -> Result<String, Memory> {
     let (kind, params) = (Named(seen.kind), ParamsOf(seen.kind));
     let (count, version) = (seen.count, seen.version);
     let most = match bank.permissions.limits(seen.kind, version) {
@@ -119,7 +118,7 @@ fn too_many(alloc: Global, bank: &Bank<'_>, seen: &Seen<'_>) -> Result<String, M
     )
 }
 
-fn order_needs(alloc: Global, bank: &Bank<'_>, seen: &Seen<'_>) -> Result<String, Memory> {
+fn order_needs(alloc: Global, bank: &Bank<'_>, seen: &Seen<'_, '_>) -> Result<String, Memory> {
     let params = ParamsOf(seen.kind);
     let (signatures, version) = (seen.signatures, seen.version);
     let need = match bank.permissions.limits(seen.kind, version) {
@@ -134,7 +133,7 @@ fn order_needs(alloc: Global, bank: &Bank<'_>, seen: &Seen<'_>) -> Result<String
     )
 }
 
-fn account_needs(alloc: Global, bank: &Bank<'_>, seen: &Seen<'_>) -> Result<String, Memory> {
+fn account_needs(alloc: Global, bank: &Bank<'_>, seen: &Seen<'_, '_>) -> Result<String, Memory> {
     let kind = Named(seen.kind);
     let signatures = seen.signatures;
     let account = named(bank, seen);
@@ -147,7 +146,7 @@ fn account_needs(alloc: Global, bank: &Bank<'_>, seen: &Seen<'_>) -> Result<Stri
     )
 }
 
-fn no_row(alloc: Global, seen: &Seen<'_>) -> Result<String, Memory> {
+fn no_row(alloc: Global, seen: &Seen<'_, '_>) -> Result<String, Memory> {
     let kind = Named(seen.kind);
     let version = seen.version;
     written(
@@ -158,7 +157,7 @@ fn no_row(alloc: Global, seen: &Seen<'_>) -> Result<String, Memory> {
     )
 }
 
-fn version_text(alloc: Global, seen: &Seen<'_>) -> Result<String, Memory> {
+fn version_text(alloc: Global, seen: &Seen<'_, '_>) -> Result<String, Memory> {
     let kind = Named(seen.kind);
     let version = seen.version;
     let own = own_version(seen.kind).unwrap_or(0);
@@ -168,7 +167,7 @@ fn version_text(alloc: Global, seen: &Seen<'_>) -> Result<String, Memory> {
     )
 }
 
-fn listed_text(alloc: Global, seen: &Seen<'_>) -> Result<String, Memory> {
+fn listed_text(alloc: Global, seen: &Seen<'_, '_>) -> Result<String, Memory> {
     let kind = Named(seen.kind);
     written(
         alloc,
@@ -178,7 +177,7 @@ fn listed_text(alloc: Global, seen: &Seen<'_>) -> Result<String, Memory> {
     )
 }
 
-fn tan_text(alloc: Global, seen: &Seen<'_>, sent: bool) -> Result<String, Memory> {
+fn tan_text(alloc: Global, seen: &Seen<'_, '_>, sent: bool) -> Result<String, Memory> {
     let kind = Named(seen.kind);
     let no_tan = seen.no_tan;
     if sent {
@@ -195,7 +194,7 @@ fn tan_text(alloc: Global, seen: &Seen<'_>, sent: bool) -> Result<String, Memory
     )
 }
 
-fn procedure_text(alloc: Global, seen: &Seen<'_>, several: bool) -> Result<String, Memory> {
+fn procedure_text(alloc: Global, seen: &Seen<'_, '_>, several: bool) -> Result<String, Memory> {
     let kind = Named(seen.kind);
     let (version, demanding) = (seen.version, seen.demanding);
     if several {
@@ -217,7 +216,7 @@ fn procedure_text(alloc: Global, seen: &Seen<'_>, several: bool) -> Result<Strin
 fn cause_text(
     alloc: Global,
     bank: &Bank<'_>,
-    seen: &Seen<'_>,
+    seen: &Seen<'_, '_>,
     cause: Cause,
 ) -> Result<String, Memory> {
     match cause {
@@ -241,7 +240,7 @@ pub fn segment_text(
     alloc: Global,
     bank: &Bank<'_>,
     rule: Rule,
-    seen: &Seen<'_>,
+    seen: &Seen<'_, '_>,
 ) -> Result<Option<String>, Memory> {
     match segment_cause(
         bank.permissions,

@@ -1,6 +1,7 @@
 //! What the rules see in the message of a step.
 ghost use Rattle.std.specs.Prelude.{◌≤◌, ◌+◌, length};
 
+use crate::accounts::Items;
 use fints_cli_hints_words::places::written;
 use fints_rules::Permissions;
 use fints_rules::kinds::is_plain_order;
@@ -36,18 +37,22 @@ pub fn demanding(permissions: &Permissions<'_>, templates: &[Template]) -> usize
 
 // ---- element 2
 
-fn first_six(items: &[Bytes]) -> [&[u8]; 6] {
-    let mut six: [&[u8]; 6] = [b"", b"", b"", b"", b"", b""];
-    for (place, item) in six.iter_mut().zip(items) {
-        *place = item.as_slice();
+fn item_of(items: &[Bytes], i: usize) -> &[u8] {
+    match items.get(i) {
+        Some(item) => item.as_slice(),
+        None => b"",
     }
-    six
 }
 
-fn account_items<'a>(accounts: &'a [AccountValue], value: &[u8]) -> [&'a [u8]; 6] {
-    match accounts.iter().find(|it| it.text() == value) {
-        Some(account) => first_six(account.items()),
-        None => [b"", b"", b"", b"", b"", b""],
+fn account_items(account: &AccountValue) -> Items<'_> {
+    let items = account.items();
+    Items {
+        first: item_of(items, 0),
+        second: item_of(items, 1),
+        third: item_of(items, 2),
+        fourth: item_of(items, 3),
+        fifth: item_of(items, 4),
+        sixth: item_of(items, 5),
     }
 }
 
@@ -58,24 +63,48 @@ fn value_of<'a>(fields: &[NamedField], values: &'a Values, place: usize) -> &'a 
     }
 }
 
-fn item_value<'a>(fields: &[NamedField], values: &'a Values, item: &'a TemplateItem) -> &'a [u8] {
-    match item {
-        TemplateItem::Literal(item) => item.value(),
-        TemplateItem::Dialog => value_of(fields, values, 0),
-        TemplateItem::Field(place) => value_of(fields, values, *place),
-    }
-}
-
+// The value of item i, from 0.
 fn filled<'a>(
     fields: &[NamedField],
     values: &'a Values,
     items: &'a [TemplateItem],
-) -> [&'a [u8]; 6] {
-    let mut six: [&[u8]; 6] = [b"", b"", b"", b"", b"", b""];
-    for (place, item) in six.iter_mut().zip(items) {
-        *place = item_value(fields, values, item);
+    i: usize,
+) -> &'a [u8] {
+    match items.get(i) {
+        Some(TemplateItem::Literal(item)) => item.value(),
+        Some(TemplateItem::Dialog) => value_of(fields, values, 0),
+        Some(TemplateItem::Field(place)) => value_of(fields, values, *place),
+        None => b"",
     }
-    six
+}
+
+fn filled_items<'a>(
+    fields: &[NamedField],
+    values: &'a Values,
+    items: &'a [TemplateItem],
+) -> Items<'a> {
+    Items {
+        first: filled(fields, values, items, 0),
+        second: filled(fields, values, items, 1),
+        third: filled(fields, values, items, 2),
+        fourth: filled(fields, values, items, 3),
+        fifth: filled(fields, values, items, 4),
+        sixth: filled(fields, values, items, 5),
+    }
+}
+
+// The account that is the value of the field, where it is one of accounts.
+fn account_in<'a>(
+    fields: &'a [NamedField],
+    values: &Values,
+    items: &[TemplateItem],
+) -> Option<&'a AccountValue> {
+    let [TemplateItem::Field(place)] = items else {
+        return None;
+    };
+    let value = value_of(fields, values, *place);
+    let accounts = fields.get(*place)?.class.accounts();
+    accounts.iter().find(|it| it.text() == value)
 }
 
 /// The first items of element 2 under these values.
@@ -83,17 +112,15 @@ pub fn items_in<'a>(
     fields: &'a [NamedField],
     values: &'a Values,
     template: &'a Template,
-) -> [&'a [u8]; 6] {
-    let [first, ..] = template.elements.as_slice() else {
-        return [b"", b"", b"", b"", b"", b""];
+) -> Items<'a> {
+    let items = match template.elements.as_slice() {
+        [first, ..] => first.as_slice(),
+        [] => &[],
     };
-    if let [TemplateItem::Field(place)] = first.as_slice()
-        && let Some(field) = fields.get(*place)
-        && !field.class.accounts().is_empty()
-    {
-        return account_items(field.class.accounts(), value_of(fields, values, *place));
+    match account_in(fields, values, items) {
+        Some(account) => account_items(account),
+        None => filled_items(fields, values, items),
     }
-    filled(fields, values, first.as_slice())
 }
 
 // ---- TANs

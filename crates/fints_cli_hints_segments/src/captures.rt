@@ -1,5 +1,6 @@
 //! What the refusal of a capture is about.
 use crate::bad_elements::{BadSegment, Data, Found, data_of, first_bad_segment, flat};
+use crate::forms::form_text;
 use crate::syntax::{IN_DATA, Numbered, Region, bad_start, trouble_at, whole};
 use fints_cli_hints_words::places::{Told, line_at, told};
 use fints_cli_hints_words::quoting::Sample;
@@ -166,8 +167,13 @@ fn segments_hint(alloc: Global, fault: &ParamFault, capture: &[u8]) -> Told {
 
 /// What the refusal of a capture is about.
 pub fn params_hint(alloc: Global, fault: &ParamFault, capture: &[u8]) -> Told {
+    if *fault == ParamFault::Memory {
+        return Ok(None);
+    }
+    if let Some(text) = form_text(capture) {
+        return told(alloc, text);
+    }
     match fault {
-        ParamFault::Memory => Ok(None),
         ParamFault::Syntax(fault) => syntax_text(alloc, fault, capture),
         _ => segments_hint(alloc, fault, capture),
     }

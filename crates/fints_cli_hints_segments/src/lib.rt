@@ -3,6 +3,7 @@
 
 mod bad_elements;
 mod captures;
+mod forms;
 mod frames;
 mod messages;
 mod scanning;

@@ -1,9 +1,10 @@
 //! Why bytes are no message.
+use crate::forms::form_text;
 use crate::frames::{
     Walk, is_named, last_slip, named, order_slip, slip_at, unread_text, walk_from,
 };
 use crate::syntax::{front_of, trouble};
-use fints_cli_hints_words::places::{Told, written};
+use fints_cli_hints_words::places::{Told, told, written};
 use fints_cli_hints_words::quoting::Sample;
 use fints_rules_messages::JudgeFault;
 use fints_syntax::{Item, Memory, OwnedSegment, SegmentView, parse_number, parse_segment};
@@ -260,7 +261,10 @@ fn text_at(alloc: Global, bytes: &[u8], at: usize) -> Result<String, Memory> {
 pub fn message_hint(alloc: Global, fault: &JudgeFault, bytes: &[u8]) -> Told {
     match fault {
         JudgeFault::Memory => Ok(None),
-        JudgeFault::NotAMessage { offset } => Ok(Some(text_at(alloc, bytes, *offset)?)),
+        JudgeFault::NotAMessage { offset } => match form_text(bytes) {
+            Some(text) => told(alloc, text),
+            None => Ok(Some(text_at(alloc, bytes, *offset)?)),
+        },
         JudgeFault::NotAMessageBefore { offset: _ } => Ok(None),
     }
 }

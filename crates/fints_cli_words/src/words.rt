@@ -18,7 +18,7 @@ Statuses:
   4  out of memory
   5  a file couldn't be read, or the output failed
 
-Files:
+Files (- is standard input, for one of them):
   capture      what the bank sent: segments up to ', as bytes; HIBPA 3 and HIPINS 1 among them
   order table  TOML: for each order [[order]] with kind, version, account
   script       TOML: seal = [..] first, then [[field]], [[signer]] and the steps, [[step]]
@@ -285,6 +285,11 @@ fn usage<'a>(alloc: Global, text: &str) -> Asked<'a> {
     }
 }
 
+// Whether a word names standard input as the file of an option.
+fn is_standard_input(word: &str) -> bool {
+    word == "-" || (word.starts_with("--") && word.ends_with("=-"))
+}
+
 /// What the words after the program's name ask for: with no words, the report of the built-in
 /// texts.
 pub fn read_words<'a>(alloc: Global, words: &'a [&'a str]) -> Asked<'a>
@@ -306,6 +311,9 @@ pub fn read_words<'a>(alloc: Global, words: &'a [&'a str]) -> Asked<'a>
     let Some((name, options)) = matches.subcommand() else {
         return usage(alloc, "error: a command is missing\n");
     };
+    if words.iter().filter(|word| is_standard_input(word)).count() > 1 {
+        return usage(alloc, "error: standard input (-) can be the file of one option alone\n");
+    }
     match named_request(name, options) {
         Some(request) => Asked::Run {
             request,
