@@ -108,6 +108,12 @@ fn reason(
     }
 }
 
+const ANSWER: &str = "segments of the message begin with HI, as those of a bank: this is a bank's answer, and judge takes a message of the client";
+
+fn is_of_bank(segment: &OwnedSegment) -> bool {
+    segment.head.id.as_bytes().starts_with(b"HI")
+}
+
 fn reasons(
     alloc: Global,
     bank: &Bank<'_>,
@@ -115,6 +121,10 @@ fn reasons(
     broken: &[Broken],
 ) -> Result<String, Memory> {
     let mut text = String::new(alloc);
+    if message.body().iter().any(is_of_bank) {
+        add(&mut text, "", 0, ANSWER)?;
+        return Ok(text);
+    }
     for one in broken {
         if let Some(reason) = reason(alloc, bank, message, one)? {
             add(&mut text, "", one.segment, reason.as_str())?;

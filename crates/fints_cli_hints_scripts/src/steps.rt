@@ -26,12 +26,38 @@ pub struct Around<'a, 'r> {
     pub steps: &'a NamedRows<'r>,
 }
 
-fn missing(alloc: Global, around: &Around<'_, '_>, table: &Table) -> Told {
-    match missing_key(alloc, table, &["name", "segments"], "a step")? {
-        None if is_set(member(table, "sealed")) && around.seal.is_none() => told(
+// The number of the step in whose table a `seal` stands, which belongs before all tables.
+fn step_with_seal(steps: &[Value]) -> Option<usize> {
+    for (i, step) in steps.iter().enumerate() {
+        if let Value::Table(table) = step
+            && member(table, "seal").is_some()
+        {
+            return Some(i.saturating_add(1));
+        }
+    }
+    None
+}
+
+fn no_seal(alloc: Global, steps: &[Value]) -> Told {
+    match step_with_seal(steps) {
+        Some(number) => told(
+            alloc,
+            format_args!(
+                ": sealed is true, and \"seal\" stands in step {number}, where TOML puts what follows its [[step]]: write it before all tables"
+            ),
+        ),
+        None => told(
             alloc,
             ": sealed is true, and the script has no key \"seal\" at its top",
         ),
+    }
+}
+
+fn missing(alloc: Global, around: &Around<'_, '_>, table: &Table) -> Told {
+    match missing_key(alloc, table, &["name", "segments"], "a step")? {
+        None if is_set(member(table, "sealed")) && around.seal.is_none() => {
+            no_seal(alloc, around.steps.as_slice())
+        }
         found => Ok(found),
     }
 }

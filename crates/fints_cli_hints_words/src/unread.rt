@@ -72,17 +72,30 @@ impl Display for There<'_> {
     }
 }
 
+// What to write where the line of an offset is the head of a table in one pair of brackets: rows of
+// scripts and order tables have two.
+fn advice(text: &str, offset: usize) -> &'static str {
+    let start = offset.saturating_sub(before(text, offset).len());
+    let line = text.get(start..).unwrap_or("");
+    if line.starts_with('[') && !line.starts_with("[[") {
+        "; the head of a row has two pairs of brackets, as [[step]]"
+    } else {
+        ""
+    }
+}
+
 fn refusal(alloc: Global, text: &str, error: &Error) -> Told {
     let Some(span) = error.span() else {
         return Ok(None);
     };
+    let advice = advice(text, span.start);
     let line = line_at(text.as_bytes(), span.start);
     let column = column_at(text.as_bytes(), span.start);
     let why = error.message();
     let there = there_at(text, span.start);
     told(
         alloc,
-        format_args!("line {line}, column {column}: {why}; {there}"),
+        format_args!("line {line}, column {column}: {why}; {there}{advice}"),
     )
 }
 
