@@ -3,6 +3,7 @@ pub mod Pairs
 pub mod Lists
 pub mod Offsets
 pub mod Refusing
+pub mod Fine
 pub mod RowsSoFar
 pub mod FoundCodes
 pub mod Sizes

@@ -14,8 +14,8 @@ use Rattle.fints_syntax.proofs.Lasting.{fault_lasts}
 use Rattle.fints_syntax.proofs.Streams.{read_splits}
 use Rattle.fints_syntax_segments.specs.declared.item.OwnedSegment.{OwnedSegment}
 use Rattle.fints_params.specs.declared.fault.ParamFault.{ParamFault}
-use Rattle.fints_params.specs.declared.fault.ParamFault.TheVariants.{Syntax}
-use Rattle.fints_params.specs.Captures.{Rule, IsParamFault}
+use Rattle.fints_params.specs.Captures.{IsParamFault}
+use Rattle.fints_params.specs.Refused.{Rule}
 use Rattle.fints_params.specs.Faults.{IsMemoryOr, fault_of}
 use Rattle.fints_params.specs.Pieces.{Received, unread, AreReceived, IsPieceFault, IsReceived, IsNotReceived, IsUnfinished}
 use Rattle.fints_params.specs.Steps.{HasRead, HasCome, HasComeIn}
@@ -104,4 +104,4 @@ pub any_cutting : (pieces : List (List ℕ)) (new : Received) → AreReceived un
 any_cutting pieces new h = received_all unread pieces new refl h
 
 pub param_fault_of : (stream more : List ℕ) (f : ParamFault) → IsPieceFault stream f → IsParamFault (stream ++ more) f
-param_fault_of stream more f (fault, h, e) = inl (syntax_fault (stream ++ more) f (fault, fault_lasts stream more MAX_CAPTURE fault.offset fault.kind h, e))
+param_fault_of stream more f (fault, h, e) = inl (inl (syntax_fault (stream ++ more) f (fault, fault_lasts stream more MAX_CAPTURE fault.offset fault.kind h, e)))

@@ -1,7 +1,7 @@
 //! A capture, read segment by segment.
 ghost use Rattle.std.specs.Prelude.{[], IfOk, IfErr};
 ghost use Rattle.fints_params.specs.Faults.{IsMemoryOr};
-ghost use Rattle.fints_params.specs.Captures.{IsRefusedOf};
+ghost use Rattle.fints_params.specs.Refused.{IsRefusedOf};
 ghost use Rattle.fints_params.specs.Steps.{HasComeIn, ReadsCapture};
 
 use crate::fault::ParamFault;

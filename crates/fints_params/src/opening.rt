@@ -1,12 +1,11 @@
 //! Segments one after the other, an HNVSD version 1 replaced once by the segments of its data.
-ghost use Rattle.std.specs.Prelude.{◌≡◌, true, [], ◌∷◌, List, map, option_copied, IfOk, IfErr};
+ghost use Rattle.std.specs.Prelude.{◌≡◌, true, [], ◌∷◌, List, option_copied, IfOk, IfErr};
 ghost use Rattle.fints_syntax_segments.specs.declared.item.OwnedSegment.{OwnedSegment};
 ghost use Rattle.fints_params.specs.Sealed.{is_sealed, data_of};
 ghost use Rattle.fints_params.specs.Faults.{IsMemoryOr};
 ghost use Rattle.fints_syntax.specs.Owned.{segments_of};
-ghost use Rattle.fints_params.specs.Opened.{part};
-ghost use Rattle.fints_params.specs.Captures.{Rule, NoneRefused};
-ghost use Rattle.fints_params.specs.Steps.{Continues, StopsIn, ContinuesOver, StopsAt, OpensTo, IsClosedBy, IsWithin, ReadsNext, StopsNext};
+ghost use Rattle.fints_params.specs.Refused.{Rule, NoneRefused, IsClosed};
+ghost use Rattle.fints_params.specs.Steps.{Continues, StopsIn, ContinuesOver, StopsAt, HasInside, IsWithin, ReadsNext, StopsNext};
 
 use crate::fault::{ParamFault, bad_element};
 use crate::placed::PlacedSegment;
@@ -25,7 +24,7 @@ pub trait Reader {
 
     fn add(&mut self, alloc: Global, segment: &OwnedSegment) -> Result<(), ParamFault>
         ensures ok { IfOk result (λ _. Continues good self.old self.new (segment.now ∷ [])) }
-        ensures stopped { IfErr result (λ f. IsMemoryOr (StopsIn rule good self.old (part segment.now ∷ [])) f) };
+        ensures stopped { IfErr result (λ f. IsMemoryOr (StopsIn rule good self.old (segment.now ∷ [])) f) };
 
     ghost none_refused: { (seen : List OwnedSegment) (reader : Self) → good seen reader → NoneRefused rule seen };
 }
@@ -48,8 +47,8 @@ fn data(segment: &OwnedSegment) -> Option<&[u8]>
 
 // The segments of the data of an HNVSD.
 fn open<'a>(alloc: Global, placed: &'a PlacedSegment) -> Result<Vec<SegmentView<'a>>, ParamFault>
-    ensures ok { IfOk result (λ v. OpensTo placed.now (segments_of v.items)) }
-    ensures closed { IfErr result (λ f. IsMemoryOr (IsClosedBy placed.now) f) }
+    ensures ok { IfOk result (λ v. HasInside placed.now.segment (segments_of v.items)) }
+    ensures closed { IfErr result (λ f. IsMemoryOr (IsClosed placed.now.segment placed.now.place) f) }
 {
     let Some(bytes) = data(&placed.segment) else {
         return Err(bad_element(&placed.segment, 2));
@@ -70,7 +69,7 @@ fn add_all<R: Reader>(
     reader: &mut R,
 ) -> Result<(), ParamFault>
     ensures ok { IfOk result (λ _. Continues R.good reader.old reader.new (segments_of views.now)) }
-    ensures stopped { IfErr result (λ f. IsMemoryOr (StopsIn R.rule R.good reader.old (map part (segments_of views.now))) f) }
+    ensures stopped { IfErr result (λ f. IsMemoryOr (StopsIn R.rule R.good reader.old (segments_of views.now)) f) }
 {
     let mut elements = Elements::new(alloc);
     for view in views {
@@ -88,8 +87,8 @@ fn add_sealed<R: Reader>(
     reader: &mut R,
 ) -> Result<Elements, ParamFault>
     requires { is_sealed placed.segment ≡ true }
-    ensures ok { IfOk result (λ _. ContinuesOver R.good reader.old reader.new placed) }
-    ensures stopped { IfErr result (λ f. IsMemoryOr (StopsAt R.rule R.good reader.old placed) f) }
+    ensures ok { IfOk result (λ _. ContinuesOver R.good reader.old reader.new placed.segment) }
+    ensures stopped { IfErr result (λ f. IsMemoryOr (StopsAt R.rule R.good reader.old placed.segment placed.place) f) }
 {
     let views = open(alloc, &placed)?;
     add_all(alloc, views.as_slice(), reader)?;

@@ -1,6 +1,6 @@
 //! What a reader has read of bytes behind which more may come.
 ghost use Rattle.std.specs.Prelude.{◌≡◌, [], IfOk, IfErr};
-ghost use Rattle.fints_params.specs.Captures.{IsRefusedOf};
+ghost use Rattle.fints_params.specs.Refused.{IsRefusedOf};
 ghost use Rattle.fints_params.specs.Faults.{IsMemoryOr};
 ghost use Rattle.fints_params.specs.Pieces.{IsPieceFault};
 ghost use Rattle.fints_params.specs.Steps.{HasRead, HasCome, HasComeIn, IsWithin, ReadsCapture, ReadsNext, StopsNext};

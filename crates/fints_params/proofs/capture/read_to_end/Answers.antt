@@ -1,7 +1,7 @@
 use Rattle.std.proofs.Common.{inl, inr}
 use Rattle.std.proofs.lemmas.Result.{IfErr-weaker, err_from_is_err_and}
 use Rattle.fints_params.specs.Faults.{IsMemoryOr}
-use Rattle.fints_params.specs.Captures.{IsRefusedOf}
+use Rattle.fints_params.specs.Refused.{IsRefusedOf}
 use Rattle.fints_params.proofs.GoingOn.{syntax_fault}
 use Rattle.fints_params.proofs.capture.read_to_end.Goals as goal
 

@@ -2,7 +2,6 @@ use Rattle.std.proofs.Common.{[], ◌∷◌}
 use Rattle.std.proofs.lemmas.Result.{IfOk-weaker, IfErr-weaker}
 use Rattle.fints_params.specs.Faults.{IsMemoryOr}
 use Rattle.fints_params.specs.Parameters.{fault_after}
-use Rattle.fints_params.specs.Opened.{part}
 use Rattle.fints_params.specs.Steps.{Continues, StopsIn}
 use Rattle.fints_params.specs.Taken.{Adds, IsTakeFault, SoFar}
 use Rattle.fints_params.proofs.RowsSoFar.{so_far_more, so_far_stop}
@@ -16,4 +15,4 @@ returns-clause-ok c =
 pub returns-clause-stopped : goal.returns-clause-stopped
 returns-clause-stopped c =
     let s = c.args.segment.now in
-    IfErr-weaker c.take.result (λ f. IsTakeFault s c.args.self.now.bank f) (λ f. IsMemoryOr (StopsIn fault_after SoFar c.args.self.now (part s ∷ [])) f) (λ f h. so_far_stop s c.args.self.now f h) c.take.ensures.fault
+    IfErr-weaker c.take.result (λ f. IsTakeFault s c.args.self.now.bank f) (λ f. IsMemoryOr (StopsIn fault_after SoFar c.args.self.now (s ∷ [])) f) (λ f h. so_far_stop s c.args.self.now f h) c.take.ensures.fault

@@ -1,4 +1,4 @@
-use Rattle.std.proofs.Common.{subst, sym, IfErr}
+use Rattle.std.proofs.Common.{subst, IfErr}
 use Rattle.std.proofs.lemmas.Result.{IfErr-weaker}
 use Rattle.fints_params.specs.Captures.{IsParamFault}
 use Rattle.fints_params.specs.Faults.{IsMemoryOr}
