@@ -20,9 +20,9 @@ pub struct Capture {
 }
 
 impl Model for Capture {
-    ghost use Rattle.fints_cli_files.specs.Captures.{Fed};
+    ghost use Rattle.fints_cli_files.specs.Captures.{FedReader};
 
-    ghost Value = { Fed };
+    ghost Value = { FedReader };
 
     ghost view = { λ c. record { reader = c.reader; fault = c.fault; keeps = c.keeps; kept = c.bytes.items } };
 }

@@ -9,11 +9,11 @@ use Rattle.fints_params.specs.declared.gathered.Gathered.{Gathered}
 use Rattle.fints_params.specs.Captures.{IsParamsOf, IsParamFault, IsCodesOf, IsCodeFault}
 use Rattle.fints_params.specs.Faults.{IsMemoryOr}
 use Rattle.fints_params.specs.Feedback.{feedback_fault}
-use Rattle.fints_params.specs.Opened.{OpenTo, IsOpened}
+use Rattle.fints_params.specs.Opened.{OpenTo, AreSegmentsOf}
 use Rattle.fints_params.specs.Parameters.{Rows, IsRowsOf, end_fault}
 use Rattle.fints_params.specs.Refused.{IsFirstRefused, values_in}
 use Rattle.fints_params.specs.Steps.{Continues, StopsIn}
-use Rattle.fints_params.specs.Taken.{IsGathered, SoFar, CodesSoFar, CodesRead}
+use Rattle.fints_params.specs.Taken.{IsGathered, ParamsSoFar, CodesSoFar, CodesRead}
 use Rattle.fints_params.proofs.Fine.{each_bad_element, each_bad_code, some_pins}
 use Rattle.fints_params.proofs.Refusing.{refused_later}
 use Rattle.fints_params.proofs.Viewed.{refused_among}
@@ -34,7 +34,7 @@ codes_refused None old new s f e n (inr k) = λ seen h. refused_later feedback_f
 
 -- ---- at the end
 
-pub code_fault : (capture : List ℕ) (segments : List OwnedSegment) (refused : Option ParamFault) (numbers : List ℕ) (f : ParamFault) → refused ≡ Some f → IsOpened capture segments → CodesRead segments refused numbers → IsCodeFault capture f
+pub code_fault : (capture : List ℕ) (segments : List OwnedSegment) (refused : Option ParamFault) (numbers : List ℕ) (f : ParamFault) → refused ≡ Some f → AreSegmentsOf capture segments → CodesRead segments refused numbers → IsCodeFault capture f
 code_fault capture segments None numbers f e o h = absurd cc
 code_fault capture segments (Some g) numbers f e o h =
     let same : g ≡ f = cc in
@@ -43,17 +43,17 @@ code_fault capture segments (Some g) numbers f e o h =
     let first = subst (λ (x : ParamFault). IsFirstRefused feedback_fault [] segments x) same h in
     inr (o.short, placed, v, refused_among feedback_fault [] placed [] segments f refl all first)
 
-pub params_of : (capture : List ℕ) (segments : List OwnedSegment) (g : Gathered) (rows : Rows) → IsOpened capture segments → SoFar segments g → end_fault segments ≡ None → IsRowsOf segments rows → IsParamsOf capture rows
+pub params_of : (capture : List ℕ) (segments : List OwnedSegment) (g : Gathered) (rows : Rows) → AreSegmentsOf capture segments → ParamsSoFar segments g → end_fault segments ≡ None → IsRowsOf segments rows → IsParamsOf capture rows
 params_of capture segments g rows o h complete are =
     record { segments = segments; opened = o; each = each_bad_element segments h.none; has_pins = some_pins segments complete; rows_are = are }
 
-pub missing : (capture : List ℕ) (segments : List OwnedSegment) (g : Gathered) (f : ParamFault) → IsOpened capture segments → SoFar segments g → end_fault segments ≡ Some f → IsParamFault capture f
+pub missing : (capture : List ℕ) (segments : List OwnedSegment) (g : Gathered) (f : ParamFault) → AreSegmentsOf capture segments → ParamsSoFar segments g → end_fault segments ≡ Some f → IsParamFault capture f
 missing capture segments g f o h e = inr (segments, o, h.none, e)
 
-pub codes_are : (message : List ℕ) (segments : List OwnedSegment) (numbers : List ℕ) → IsOpened message segments → CodesSoFar segments numbers → IsCodesOf message numbers
+pub codes_are : (message : List ℕ) (segments : List OwnedSegment) (numbers : List ℕ) → AreSegmentsOf message segments → CodesSoFar segments numbers → IsCodesOf message numbers
 codes_are message segments numbers o h = record { segments = segments; opened = o; each = each_bad_code segments h.none; numbers_are = h.numbers_are }
 
-pub params_read : (capture : List ℕ) (segments : List OwnedSegment) (g : Gathered) (r : Result Rows ParamFault) → IsOpened capture segments → SoFar segments g
+pub params_read : (capture : List ℕ) (segments : List OwnedSegment) (g : Gathered) (r : Result Rows ParamFault) → AreSegmentsOf capture segments → ParamsSoFar segments g
     → IfOk r (λ p. (ss : List OwnedSegment) → IsGathered ss g → end_fault ss ≡ None) → IfOk r (λ p. (ss : List OwnedSegment) → IsGathered ss g → IsRowsOf ss p)
     → IfOk r (λ p. IsParamsOf capture p)
 params_read capture segments g (Ok rows) o h complete are = params_of capture segments g rows o h (complete segments h.rows) (are segments h.rows)

@@ -12,15 +12,15 @@ use Rattle.fints_syntax.specs.declared.capture.Placed.{Placed}
 use Rattle.fints_syntax_segments.specs.declared.item.OwnedSegment.{OwnedSegment}
 use Rattle.fints_params.specs.Sealed.{data_of, data_len}
 use Rattle.fints_params.specs.Parameters.{skipped_in}
-use Rattle.fints_syntax.specs.Streams.{place_in}
-use Rattle.fints_params.specs.Opened.{ReadsAs, OpensTo, OpenTo, IsOpened}
+use Rattle.fints_syntax.specs.Streams.{data_place}
+use Rattle.fints_params.specs.Opened.{ReadsAs, OpensTo, OpenTo, AreSegmentsOf}
 use Rattle.fints_params.specs.Refused.{values_in}
-use Rattle.fints_params.specs.Steps.{IsWithin}
+use Rattle.fints_params.specs.Steps.{EndsWithin}
 use Rattle.fints_params.proofs.RowsSoFar.{skipped_more}
 use Rattle.fints_syntax.specs.declared.capture.TheConstants.{MAX_CAPTURE}
 use Rattle.fints_params.proofs.Sizes.{data_within, skipped_within}
 
-within_from : (at : ℕ) (ps : List Piece) → at + length (flat_map piece_bytes ps) ≤ MAX_CAPTURE → AllByRecursion IsWithin (placed_from at ps)
+within_from : (at : ℕ) (ps : List Piece) → at + length (flat_map piece_bytes ps) ≤ MAX_CAPTURE → AllByRecursion EndsWithin (placed_from at ps)
 within_from at [] h = tt
 within_from at (p ∷ ps) h =
     let one = length-append (piece_bytes p) (flat_map piece_bytes ps) in
@@ -28,9 +28,9 @@ within_from at (p ∷ ps) h =
     (omega (arith, one, two), within_from (at + length (piece_bytes p)) ps (omega (arith, one)))
 
 -- the segments of a capture end in it
-pub all_within : (capture : List ℕ) (views : List Placed) → length capture ≤ MAX_CAPTURE → IsPlacedCapture capture views → AllByRecursion IsWithin views
+pub all_within : (capture : List ℕ) (views : List Placed) → length capture ≤ MAX_CAPTURE → IsPlacedCapture capture views → AllByRecursion EndsWithin views
 all_within capture views le (tail, breaks, r) =
-    subst (λ (vs : List Placed). AllByRecursion IsWithin vs) r.placed_are (within_from 0 r.pieces (omega (arith, ap length r.text, length-append (flat_map piece_bytes r.pieces) tail)))
+    subst (λ (vs : List Placed). AllByRecursion EndsWithin vs) r.placed_are (within_from 0 r.pieces (omega (arith, ap length r.text, length-append (flat_map piece_bytes r.pieces) tail)))
 
 -- ---- what is skipped
 
@@ -81,15 +81,15 @@ opened_skips capture outer segments (trees, (placed, (tail, breaks, r), same), i
     omega (arith, all_skips 0 r.pieces segments r.each all, ap length r.text, length-append (flat_map piece_bytes r.pieces) tail)
 
 -- the number of things skipped fits
-pub can_count : (capture : List ℕ) (segments : List OwnedSegment) → IsOpened capture segments → skipped_in segments < 2 ^ 32
+pub can_count : (capture : List ℕ) (segments : List OwnedSegment) → AreSegmentsOf capture segments → skipped_in segments < 2 ^ 32
 can_count capture segments h = omega (arith, opened_skips capture h.outer segments h.reads h.opened, h.short)
 
 -- ---- places
 
-pub place_fits : (view : Placed) (o : ℕ) → IsWithin view → start_of view.segment 2 1 ≡ Some o → view.start + o ≤ MAX_CAPTURE
+pub place_fits : (view : Placed) (o : ℕ) → EndsWithin view → start_of view.segment 2 1 ≡ Some o → view.start + o ≤ MAX_CAPTURE
 place_fits view o h e = omega (arith, start_within view.segment o e)
 
-place_le : (view : Placed) (r : Option ℕ) → start_of view.segment 2 1 ≡ r → IsWithin view → place_in view ≤ MAX_CAPTURE
+place_le : (view : Placed) (r : Option ℕ) → start_of view.segment 2 1 ≡ r → EndsWithin view → data_place view ≤ MAX_CAPTURE
 place_le view None e h = rw e (omega arith)
 place_le view (Some o) e h = rw e (place_fits view o h e)
 
@@ -98,5 +98,5 @@ len_le es s None e o = rw e (omega arith)
 len_le es s (Some bytes) e o = rw e (data_within es s bytes o e)
 
 -- an offset in the data of a segment, counted in the capture, fits
-pub placed_fits : (view : Placed) (s : OwnedSegment) (place : ℕ) → IsWithin view → s ≡ segment_of view.segment → place ≡ place_in view → place + data_len s < 2 ^ 64
+pub placed_fits : (view : Placed) (s : OwnedSegment) (place : ℕ) → EndsWithin view → s ≡ segment_of view.segment → place ≡ data_place view → place + data_len s < 2 ^ 64
 placed_fits view s place h o e = omega (arith, place_le view (start_of view.segment 2 1) refl h, len_le view.segment s (data_of s) refl o)

@@ -15,7 +15,7 @@ use Rattle.fints_syntax.specs.declared.stream.ReadTo.{ReadTo}
 use Rattle.fints_params.specs.declared.fault.ParamFault.{ParamFault}
 use Rattle.fints_params.specs.declared.fault.ParamFault.TheVariants.{Memory, Syntax}
 use Rattle.fints_params.specs.Refused.{Rule, NoneRefused, IsSyntaxFault, IsRefusedIn, IsRefusedOf, values_in}
-use Rattle.fints_params.specs.Faults.{IsMemoryOr, fault_from, fault_of}
+use Rattle.fints_params.specs.Faults.{IsMemoryOr, fault_from, as_param_fault}
 use Rattle.fints_params.specs.Pieces.{IsPieceFault}
 use Rattle.fints_params.specs.Steps.{ReadsNext, StopsNext, HasRead, HasCome, ReadsCapture}
 use Rattle.fints_syntax.specs.declared.capture.TheConstants.{MAX_CAPTURE}
@@ -101,17 +101,17 @@ piece_fault front more placed to f o short h is p =
     subst (λ (k : ℕ). PieceFaultAt MAX_CAPTURE f.kind k (front ++ more)) at (subst (λ (k : ℕ). PieceFaultAt k f.kind (whole_len front rest + o) (front ++ more)) limit all)
 
 pub stream_fault : (front more : List ℕ) (placed : List Placed) (to : ReadTo) (f : SyntaxFault) → length front ≤ MAX_CAPTURE → IsReadTo front placed to
-    → IsStreamFault to.whole (drop to.whole (front ++ more)) f → IsMemoryOr (IsPieceFault (front ++ more)) (fault_of f)
-stream_fault front more placed to f short h (inl m) = inl (ap fault_of m)
+    → IsStreamFault to.whole (drop to.whole (front ++ more)) f → IsMemoryOr (IsPieceFault (front ++ more)) (as_param_fault f)
+stream_fault front more placed to f short h (inl m) = inl (ap as_param_fault m)
 stream_fault front more placed to f short h (inr (o, is, p)) =
     let here = piece_fault front more placed to f o short h is p in
     inr (f, here, syntax_from f.kind f.offset (piece_fault_is_capture_fault (front ++ more) f here).1)
 
 pub come_fault : {S : Type 0} (rule : Rule) (Good : List OwnedSegment → S → Type 0) (front more bytes rest : List ℕ) (to : ReadTo) (before : Option ParamFault) (a : S) (f : SyntaxFault)
-    → bytes ≡ front ++ more → rest ≡ drop to.whole bytes → HasCome rule Good front to before a → IsStreamFault to.whole rest f → IsMemoryOr (IsPieceFault bytes) (fault_of f)
+    → bytes ≡ front ++ more → rest ≡ drop to.whole bytes → HasCome rule Good front to before a → IsStreamFault to.whole rest f → IsMemoryOr (IsPieceFault bytes) (as_param_fault f)
 come_fault rule Good front more bytes rest to before a f e back h k =
     let own : IsStreamFault to.whole (drop to.whole (front ++ more)) f = subst (λ (xs : List ℕ). IsStreamFault to.whole xs f) (back ∙ ap (drop to.whole) e) k in
-    subst (λ (xs : List ℕ). IsMemoryOr (IsPieceFault xs) (fault_of f)) (sym e) (stream_fault front more h.placed to f h.short h.read own)
+    subst (λ (xs : List ℕ). IsMemoryOr (IsPieceFault xs) (as_param_fault f)) (sym e) (stream_fault front more h.placed to f h.short h.read own)
 
 -- the fault of a stream is that of a capture
 pub syntax_fault : (bytes : List ℕ) (f : ParamFault) → IsPieceFault bytes f → IsSyntaxFault bytes f

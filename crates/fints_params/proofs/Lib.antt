@@ -13,3 +13,4 @@ pub mod GoingOn
 pub mod Receiving
 pub mod OneMeaning
 pub mod BothRead
+pub mod OneAnswer

@@ -9,7 +9,7 @@ use Rattle.fints_syntax.specs.Capture.{CaptureFaultAt}
 use Rattle.fints_params.specs.Sealed.{is_sealed, data_of}
 use Rattle.fints_params.specs.Faults.{IsMemoryOr, fault_from}
 use Rattle.fints_params.specs.Opened.{OpensTo, OpenTo}
-use Rattle.fints_params.specs.Refused.{Rule, NoneRefused, IsFirstRefused, IsClosed}
+use Rattle.fints_params.specs.Refused.{Rule, NoneRefused, IsFirstRefused, StaysClosed}
 use Rattle.fints_params.specs.Steps.{Continues, StopsIn, ContinuesOver, StopsAt, HasInside}
 use Rattle.fints_params.proofs.Lists.{split_at, next_is, push_split}
 
@@ -111,12 +111,12 @@ opened_stop rule Good a s place mine f e (bytes, d, r) m =
 
 -- data that can't be opened
 pub closed_stop : {S : Type 0} (rule : Rule) (Good : List OwnedSegment → S → Type 0) (a : S) (s : OwnedSegment) (place : ℕ) (f : ParamFault)
-    → is_sealed s ≡ true → IsMemoryOr (IsClosed s place) f → IsMemoryOr (StopsAt rule Good a s place) f
-closed_stop rule Good a s place f e m = memory_or (IsClosed s place) (StopsAt rule Good a s place) f (λ g k. λ seen h. inr (e, k)) m
+    → is_sealed s ≡ true → IsMemoryOr (StaysClosed s place) f → IsMemoryOr (StopsAt rule Good a s place) f
+closed_stop rule Good a s place f e m = memory_or (StaysClosed s place) (StopsAt rule Good a s place) f (λ g k. λ seen h. inr (e, k)) m
 
 -- the fault of data, counted in the capture
 pub closed_by : (s : OwnedSegment) (place : ℕ) (bytes : List ℕ) (kind : SyntaxKind) (o : ℕ) → data_of s ≡ Some bytes → CaptureFaultAt kind o bytes
-    → IsMemoryOr (IsClosed s place) (fault_from kind (place + o))
+    → IsMemoryOr (StaysClosed s place) (fault_from kind (place + o))
 closed_by s place bytes kinds.Memory o e h = inl refl
 closed_by s place bytes kinds.BadBinary o e h = inr (inr (bytes, record { kind = kinds.BadBinary; offset = o }, e, (h, λ q. cc), refl))
 closed_by s place bytes kinds.TooLong o e h = inr (inr (bytes, record { kind = kinds.TooLong; offset = o }, e, (h, λ q. cc), refl))

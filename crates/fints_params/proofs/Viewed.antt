@@ -18,7 +18,7 @@ pub values_more : (xs ys : List Placed) → values_in (xs ++ ys) ≡ values_in x
 values_more xs ys = ap segments_of (map-append (λ p. p.segment) xs ys) ∙ map-append segment_of (map (λ p. p.segment) xs) (map (λ p. p.segment) ys)
 
 -- one more view is opened
-open_view : (views : List Placed) (segments : List OwnedSegment) (view : Placed) (mine : List OwnedSegment) → OpenTo (values_in views) segments → OpensTo (segment_of view.segment) mine → OpenTo (values_in (views ++ view ∷ [])) (segments ++ mine)
+pub open_view : (views : List Placed) (segments : List OwnedSegment) (view : Placed) (mine : List OwnedSegment) → OpenTo (values_in views) segments → OpensTo (segment_of view.segment) mine → OpenTo (values_in (views ++ view ∷ [])) (segments ++ mine)
 open_view views segments view mine h o =
     subst (λ (ss : List OwnedSegment). OpenTo ss (segments ++ mine)) (sym (values_more views (view ∷ []))) (open_more (values_in views) segments (segment_of view.segment) mine h o)
 

@@ -5,7 +5,7 @@ use Rattle.fints_syntax_segments.specs.declared.item.OwnedSegment.{OwnedSegment}
 use Rattle.fints_params.specs.declared.fault.ParamFault.{ParamFault}
 use Rattle.fints_params.specs.Faults.{IsMemoryOr}
 use Rattle.fints_params.specs.Feedback.{bad_code, codes_in, feedback_fault}
-use Rattle.fints_params.specs.Opened.{IsOpened}
+use Rattle.fints_params.specs.Opened.{AreSegmentsOf}
 use Rattle.fints_params.specs.Parameters.{Rows, IsRowsOf, bad_element, fault_after, end_fault}
 use Rattle.fints_params.specs.Pins.{is_pins}
 use Rattle.fints_params.specs.Refused.{NoneRefused, IsRefusedOf}
@@ -13,7 +13,7 @@ use Rattle.fints_params.specs.Refused.{NoneRefused, IsRefusedOf}
 -- the parameters of a capture: no segment has a bad element, one is HIBPA, and some is HIPINS
 pub record IsParamsOf (capture : List ℕ) (rows : Rows) : Type 0 where
   pub segments : List OwnedSegment
-  pub opened : IsOpened capture segments
+  pub opened : AreSegmentsOf capture segments
   pub each : AllByRecursion (λ s. bad_element s ≡ None) segments
   pub has_pins : filter is_pins segments ≡ [] → ⊥
   pub rows_are : IsRowsOf segments rows
@@ -21,7 +21,7 @@ pub record IsParamsOf (capture : List ℕ) (rows : Rows) : Type 0 where
 -- the codes of a message
 pub record IsCodesOf (message numbers : List ℕ) : Type 0 where
   pub segments : List OwnedSegment
-  pub opened : IsOpened message segments
+  pub opened : AreSegmentsOf message segments
   pub each : AllByRecursion (λ s. bad_code s ≡ None) segments
   pub numbers_are : numbers ≡ codes_in segments
 
@@ -31,7 +31,7 @@ pub record IsCodesOf (message numbers : List ℕ) : Type 0 where
 abbrev pub IsParamFault : List ℕ → ParamFault → Type 0
 IsParamFault capture f =
     IsRefusedOf fault_after capture f
-    ⊎ ((segments : List OwnedSegment) × IsOpened capture segments × NoneRefused fault_after segments × (end_fault segments ≡ Some f))
+    ⊎ ((segments : List OwnedSegment) × AreSegmentsOf capture segments × NoneRefused fault_after segments × (end_fault segments ≡ Some f))
 
 -- what is answered where the parameters of a capture are read
 abbrev pub IsReadOf : List ℕ → Result Rows ParamFault → Type 0

@@ -21,7 +21,7 @@ OpenTo [] segments = segments ≡ []
 OpenTo (s ∷ ss) segments = (mine more : List OwnedSegment) × OpensTo s mine × OpenTo ss more × (segments ≡ mine ++ more)
 
 -- the segments of a capture, opened
-pub record IsOpened (capture : List ℕ) (segments : List OwnedSegment) : Type 0 where
+pub record AreSegmentsOf (capture : List ℕ) (segments : List OwnedSegment) : Type 0 where
   pub short : length capture ≤ MAX_CAPTURE
   pub outer : List OwnedSegment
   pub reads : ReadsAs capture outer

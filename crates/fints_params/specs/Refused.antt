@@ -2,7 +2,7 @@
 use Rattle.std.specs.Prelude.{◌≡◌, ◌≢◌, ◌⊎◌, ℕ, ◌+◌, ◌≤◌, true, List, ◌∷◌, ◌++◌, length, map, Option, Some, None}
 use Rattle.fints_syntax.specs.Capture.{IsPlacedCapture, IsCaptureFault}
 use Rattle.fints_syntax.specs.Owned.{segment_of, segments_of}
-use Rattle.fints_syntax.specs.Streams.{place_in}
+use Rattle.fints_syntax.specs.Streams.{data_place}
 use Rattle.fints_syntax.specs.declared.capture.Placed.{Placed}
 use Rattle.fints_syntax.specs.declared.capture.TheConstants.{MAX_CAPTURE}
 use Rattle.fints_syntax.specs.declared.fault.SyntaxFault.{SyntaxFault}
@@ -21,18 +21,18 @@ abbrev pub NoneRefused : Rule → List OwnedSegment → Type 0
 NoneRefused rule segments = (before after : List OwnedSegment) (at : OwnedSegment) → segments ≡ before ++ at ∷ after → rule before at ≡ None
 
 -- why the bytes are no segments
-abbrev pub IsUnreadable : List ℕ → SyntaxFault → Type 0
-IsUnreadable bytes fault = IsCaptureFault bytes fault × (fault.kind ≢ kinds.Memory)
+abbrev pub AreNoSegments : List ℕ → SyntaxFault → Type 0
+AreNoSegments bytes fault = IsCaptureFault bytes fault × (fault.kind ≢ kinds.Memory)
 
 -- the bytes are no capture
 abbrev pub IsSyntaxFault : List ℕ → ParamFault → Type 0
-IsSyntaxFault capture f = (fault : SyntaxFault) × IsUnreadable capture fault × (f ≡ Syntax fault)
+IsSyntaxFault capture f = (fault : SyntaxFault) × AreNoSegments capture fault × (f ≡ Syntax fault)
 
 -- why an HNVSD doesn't open: item 1 of its element 2 isn't binary, or its data are no segments, with their fault's offset in the capture, in which they start at this place
-abbrev pub IsClosed : OwnedSegment → ℕ → ParamFault → Type 0
-IsClosed s place f =
+abbrev pub StaysClosed : OwnedSegment → ℕ → ParamFault → Type 0
+StaysClosed s place f =
     ((data_of s ≡ None) × (f ≡ BadElement s.head.number 2))
-    ⊎ ((bytes : List ℕ) × (fault : SyntaxFault) × (data_of s ≡ Some bytes) × IsUnreadable bytes fault
+    ⊎ ((bytes : List ℕ) × (fault : SyntaxFault) × (data_of s ≡ Some bytes) × AreNoSegments bytes fault
     × (f ≡ Syntax (record { kind = fault.kind; offset = place + fault.offset })))
 
 -- the first of these segments that is refused after those seen and those before it
@@ -48,7 +48,7 @@ pub record IsFirstRefused (rule : Rule) (seen segments : List OwnedSegment) (f :
 abbrev pub IsRefusedAt : Rule → List OwnedSegment → OwnedSegment → ℕ → ParamFault → Type 0
 IsRefusedAt rule seen s place f =
     ((mine : List OwnedSegment) × OpensTo s mine × IsFirstRefused rule seen mine f)
-    ⊎ ((is_sealed s ≡ true) × IsClosed s place f)
+    ⊎ ((is_sealed s ≡ true) × StaysClosed s place f)
 
 -- the segments at these places, by their values
 abbrev pub values_in : List Placed → List OwnedSegment
@@ -63,7 +63,7 @@ pub record IsRefusedIn (rule : Rule) (placed : List Placed) (f : ParamFault) : T
   pub seen : List OwnedSegment
   pub opened : OpenTo (values_in front) seen
   pub none : NoneRefused rule seen
-  pub refused : IsRefusedAt rule seen (segment_of at.segment) (place_in at) f
+  pub refused : IsRefusedAt rule seen (segment_of at.segment) (data_place at) f
 
 -- the first refusal of a capture or a message by a rule: it is none, or a segment is refused
 abbrev pub IsRefusedOf : Rule → List ℕ → ParamFault → Type 0

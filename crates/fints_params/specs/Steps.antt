@@ -2,13 +2,13 @@
 use Rattle.std.specs.Prelude.{◌≡◌, ◌+◌, ◌≤◌, ℕ, ◌++◌, List, length, Option, Some, None}
 use Rattle.fints_syntax_segments.specs.Segment.{segment_bytes}
 use Rattle.fints_syntax.specs.Owned.{segment_of}
-use Rattle.fints_syntax.specs.Streams.{IsReadTo, place_in}
+use Rattle.fints_syntax.specs.Streams.{IsReadTo, data_place}
 use Rattle.fints_syntax.specs.declared.capture.Placed.{Placed}
 use Rattle.fints_syntax.specs.declared.stream.ReadTo.{ReadTo}
 use Rattle.fints_syntax_segments.specs.declared.item.OwnedSegment.{OwnedSegment}
 use Rattle.fints_params.specs.declared.fault.ParamFault.{ParamFault}
 use Rattle.fints_params.specs.Sealed.{data_of}
-use Rattle.fints_params.specs.Opened.{ReadsAs, OpensTo, OpenTo, IsOpened}
+use Rattle.fints_params.specs.Opened.{ReadsAs, OpensTo, OpenTo, AreSegmentsOf}
 use Rattle.fints_params.specs.Refused.{Rule, IsFirstRefused, IsRefusedAt, IsRefusedIn, values_in}
 use Rattle.fints_syntax.specs.declared.capture.TheConstants.{MAX_CAPTURE}
 
@@ -32,15 +32,15 @@ abbrev pub HasInside : OwnedSegment → List OwnedSegment → Type 0
 HasInside s mine = (bytes : List ℕ) × (data_of s ≡ Some bytes) × ReadsAs bytes mine
 
 -- the segment ends within the longest capture
-abbrev pub IsWithin : Placed → Type 0
-IsWithin view = view.start + length (segment_bytes view.segment) ≤ MAX_CAPTURE
+abbrev pub EndsWithin : Placed → Type 0
+EndsWithin view = view.start + length (segment_bytes view.segment) ≤ MAX_CAPTURE
 
 -- a placed segment is read next, or stops the reader
 abbrev pub ReadsNext : {S : Type 0} → (List OwnedSegment → S → Type 0) → S → S → Placed → Type 0
 ReadsNext Good old new view = ContinuesOver Good old new (segment_of view.segment)
 
 abbrev pub StopsNext : {S : Type 0} → Rule → (List OwnedSegment → S → Type 0) → S → Placed → ParamFault → Type 0
-StopsNext rule Good old view f = StopsAt rule Good old (segment_of view.segment) (place_in view) f
+StopsNext rule Good old view f = StopsAt rule Good old (segment_of view.segment) (data_place view) f
 
 -- the state is right for all that the placed segments stand for
 abbrev pub ReadsViews : {S : Type 0} → (List OwnedSegment → S → Type 0) → List Placed → S → Type 0
@@ -64,4 +64,4 @@ HasComeIn rule Good bytes to refused state = (front more : List ℕ) × (bytes �
 
 -- the same for the segments of a capture
 abbrev pub ReadsCapture : {S : Type 0} → (List OwnedSegment → S → Type 0) → List ℕ → S → Type 0
-ReadsCapture Good capture new = (segments : List OwnedSegment) × IsOpened capture segments × Good segments new
+ReadsCapture Good capture new = (segments : List OwnedSegment) × AreSegmentsOf capture segments × Good segments new

@@ -31,11 +31,11 @@ struct Both {
 
 impl Reader for Both {
     ghost use Rattle.fints_params.specs.Parameters.{fault_after};
-    ghost use Rattle.fints_params.specs.Taken.{SoFar, CodesRead};
+    ghost use Rattle.fints_params.specs.Taken.{ParamsSoFar, CodesRead};
 
     ghost rule = { fault_after };
 
-    ghost good = { λ seen both. SoFar seen both.rows × CodesRead seen both.refused both.found.codes.items };
+    ghost good = { λ seen both. ParamsSoFar seen both.rows × CodesRead seen both.refused both.found.codes.items };
 
     fn add(&mut self, alloc: Global, segment: &OwnedSegment) -> Result<(), ParamFault> {
         self.rows.add(alloc, segment)?;

@@ -4,8 +4,8 @@ ghost use Rattle.fints_syntax_segments.specs.declared.item.OwnedSegment.{OwnedSe
 ghost use Rattle.fints_params.specs.Sealed.{is_sealed, data_of};
 ghost use Rattle.fints_params.specs.Faults.{IsMemoryOr};
 ghost use Rattle.fints_syntax.specs.Owned.{segments_of};
-ghost use Rattle.fints_params.specs.Refused.{Rule, NoneRefused, IsClosed};
-ghost use Rattle.fints_params.specs.Steps.{Continues, StopsIn, ContinuesOver, StopsAt, HasInside, IsWithin, ReadsNext, StopsNext};
+ghost use Rattle.fints_params.specs.Refused.{Rule, NoneRefused, StaysClosed};
+ghost use Rattle.fints_params.specs.Steps.{Continues, StopsIn, ContinuesOver, StopsAt, HasInside, EndsWithin, ReadsNext, StopsNext};
 
 use crate::fault::{ParamFault, bad_element};
 use crate::placed::PlacedSegment;
@@ -48,7 +48,7 @@ fn data(segment: &OwnedSegment) -> Option<&[u8]>
 // The segments of the data of an HNVSD.
 fn open<'a>(alloc: Global, placed: &'a PlacedSegment) -> Result<Vec<SegmentView<'a>>, ParamFault>
     ensures ok { IfOk result (λ v. HasInside placed.now.segment (segments_of v.items)) }
-    ensures closed { IfErr result (λ f. IsMemoryOr (IsClosed placed.now.segment placed.now.place) f) }
+    ensures closed { IfErr result (λ f. IsMemoryOr (StaysClosed placed.now.segment placed.now.place) f) }
 {
     let Some(bytes) = data(&placed.segment) else {
         return Err(bad_element(&placed.segment, 2));
@@ -105,7 +105,7 @@ pub fn add_view<R: Reader>(
     elements: Elements,
     reader: &mut R,
 ) -> Result<Elements, ParamFault>
-    requires { IsWithin (record { start = start; segment = view.now }) }
+    requires { EndsWithin (record { start = start; segment = view.now }) }
     ensures ok { IfOk result (λ _. ReadsNext R.good reader.old reader.new (record { start = start; segment = view.now })) }
     ensures stopped { IfErr result (λ f. IsMemoryOr (StopsNext R.rule R.good reader.old (record { start = start; segment = view.now })) f) }
 {

@@ -3,7 +3,7 @@ ghost use Rattle.std.specs.Prelude.{◌≡◌, [], IfOk, IfErr};
 ghost use Rattle.fints_params.specs.Refused.{IsRefusedOf};
 ghost use Rattle.fints_params.specs.Faults.{IsMemoryOr};
 ghost use Rattle.fints_params.specs.Pieces.{IsPieceFault};
-ghost use Rattle.fints_params.specs.Steps.{HasRead, HasCome, HasComeIn, IsWithin, ReadsCapture, ReadsNext, StopsNext};
+ghost use Rattle.fints_params.specs.Steps.{HasRead, HasCome, HasComeIn, EndsWithin, ReadsCapture, ReadsNext, StopsNext};
 
 use crate::fault::{ParamFault, is_memory};
 use crate::opening::{Reader, add_view};
@@ -39,7 +39,7 @@ impl<R: Reader + Drop> Reading<R> {
 
     // Reads a segment that starts at this offset.
     fn read(&mut self, start: usize, segment: &SegmentView<'_>) -> Result<(), ParamFault>
-        requires { IsWithin (record { start = start; segment = segment.now }) }
+        requires { EndsWithin (record { start = start; segment = segment.now }) }
         ensures kept { self.new.refused ≡ self.old.refused }
         ensures ok { IfOk result (λ _. ReadsNext R.good self.old.reader self.new.reader (record { start = start; segment = segment.now })) }
         ensures stopped { IfErr result (λ f. IsMemoryOr (StopsNext R.rule R.good self.old.reader (record { start = start; segment = segment.now })) f) }

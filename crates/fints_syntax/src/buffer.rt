@@ -1,7 +1,7 @@
 //! What is kept of a stream of segments that comes in pieces.
 ghost use Rattle.std.specs.Prelude.{List, ◌≡◌, ◌↔◌, ◌≤◌, ◌<◌, ◌+◌, ◌++◌, length, drop, IsTrue, MatchOption, OnOk, IfErr};
 ghost use Rattle.std.specs.Option.{option_map};
-ghost use Rattle.fints_syntax.specs.Buffered.{failed_at, read_end, rest_at, without_whole, IsFed, IsNew, IsUnfed, IsUnread};
+ghost use Rattle.fints_syntax.specs.Buffered.{failed_at, read_end, rest_at, without_whole, IsFed, IsEmptyBuffer, IsUnfed, IsUnread};
 ghost use Rattle.fints_syntax.specs.Streams.{moved_by};
 ghost use Rattle.fints_syntax.specs.declared.capture.Placed.{Placed};
 ghost use Rattle.fints_syntax.specs.declared.fault.SyntaxKind.TheVariants as kinds;
@@ -74,7 +74,7 @@ fn drop_front(bytes: &mut Vec<u8>, count: usize)
 impl StreamBuffer {
     /// The start of a stream. It takes no memory before the first piece.
     pub fn new(alloc: Global) -> StreamBuffer
-        ensures { IsNew result }
+        ensures { IsEmptyBuffer result }
     {
         StreamBuffer {
             bytes: Vec::new(alloc),

@@ -5,7 +5,7 @@ use Rattle.fints_params.specs.Steps.{ContinuesOver, StopsAt}
 use Rattle.fints_params.specs.Sealed.{is_sealed}
 use Rattle.fints_params.specs.declared.fault.ParamFault.{ParamFault}
 use Rattle.fints_syntax.specs.Owned.{segment_of}
-use Rattle.fints_syntax.specs.Streams.{place_in}
+use Rattle.fints_syntax.specs.Streams.{data_place}
 use Rattle.fints_syntax.specs.declared.capture.Placed.{Placed}
 use Rattle.fints_syntax_segments.specs.declared.item.OwnedSegment.{OwnedSegment}
 use Rattle.fints_params.proofs.Bounds.{placed_fits}
@@ -24,8 +24,8 @@ returns-in_err-add-clause-stopped g c =
     let s = c.in_ok-segment.segment in
     let f = c.in_err-add.field-0.0 in
     let e : is_sealed s ≡ false = sym c.is_sealed.ensures ∙ c.if-not-is_sealed.true in
-    let m = single_stop g.R.Reader.rule g.R.Reader.good c.args.reader.now s (place_in view) f e c.in_err-add.ensures.stopped in
-    let here = subst (λ (x : OwnedSegment). IsMemoryOr (StopsAt g.R.Reader.rule g.R.Reader.good c.args.reader.now x (place_in view)) f) c.in_ok-segment.ensures m in
+    let m = single_stop g.R.Reader.rule g.R.Reader.good c.args.reader.now s (data_place view) f e c.in_err-add.ensures.stopped in
+    let here = subst (λ (x : OwnedSegment). IsMemoryOr (StopsAt g.R.Reader.rule g.R.Reader.good c.args.reader.now x (data_place view)) f) c.in_ok-segment.ensures m in
     let q = err_from_is_err_and c.from_residual-in_err-add.result c.from_residual-in_err-add.ensures.1 in
     rw (q.1, q.2) here
 
@@ -46,4 +46,4 @@ returns-clause-stopped g c =
     let s = c.in_ok-segment.segment in
     let place = c.place_of-place.result in
     let P : OwnedSegment → ℕ → ParamFault → Type 0 = λ x n f. IsMemoryOr (StopsAt g.R.Reader.rule g.R.Reader.good c.args.reader.now x n) f in
-    IfErr-weaker c.add_sealed.result (P s place) (P (segment_of c.args.view.now) (place_in view)) (λ f h. subst (λ x. P x (place_in view) f) c.in_ok-segment.ensures (subst (λ n. P s n f) c.place_of-place.ensures.place h)) c.add_sealed.ensures.stopped
+    IfErr-weaker c.add_sealed.result (P s place) (P (segment_of c.args.view.now) (data_place view)) (λ f h. subst (λ x. P x (data_place view) f) c.in_ok-segment.ensures (subst (λ n. P s n f) c.place_of-place.ensures.place h)) c.add_sealed.ensures.stopped
