@@ -15,14 +15,14 @@ use fints_syntax::{
 use std::alloc::Global;
 
 /// What reads segments one after the other, until one is refused.
-pub trait Reader {
+pub trait SegmentTaker {
     /// Why a segment is refused after those before it.
     ghost rule: { Rule };
 
     /// The state is right for these segments, none of which is refused.
     ghost good: { List OwnedSegment → Self → Type 0 };
 
-    fn add(&mut self, alloc: Global, segment: &OwnedSegment) -> Result<(), ParamFault>
+    fn take(&mut self, alloc: Global, segment: &OwnedSegment) -> Result<(), ParamFault>
         ensures ok { IfOk result (λ _. Continues good self.old self.new (segment.now ∷ [])) }
         ensures stopped { IfErr result (λ f. IsMemoryOr (StopsIn rule good self.old (segment.now ∷ [])) f) };
 
@@ -63,7 +63,7 @@ fn open<'a>(alloc: Global, placed: &'a PlacedSegment) -> Result<Vec<SegmentView<
 }
 
 // All segments, each read into the memory of the one before.
-fn add_all<R: Reader>(
+fn add_all<R: SegmentTaker>(
     alloc: Global,
     views: &[SegmentView<'_>],
     reader: &mut R,
@@ -74,14 +74,14 @@ fn add_all<R: Reader>(
     let mut elements = Elements::new(alloc);
     for view in views {
         let segment = view.to_owned_in(elements)?;
-        reader.add(alloc, &segment)?;
+        reader.take(alloc, &segment)?;
         elements = segment.into_elements();
     }
     Ok(())
 }
 
 // The segments of the data of an HNVSD, whose own memory is handed back.
-fn add_sealed<R: Reader>(
+fn add_sealed<R: SegmentTaker>(
     alloc: Global,
     placed: PlacedSegment,
     reader: &mut R,
@@ -98,7 +98,7 @@ fn add_sealed<R: Reader>(
 
 /// Reads a segment that starts at this offset of a capture, in the memory of these elements, which
 /// it hands back.
-pub fn add_view<R: Reader>(
+pub fn add_view<R: SegmentTaker>(
     alloc: Global,
     start: usize,
     view: &SegmentView<'_>,
@@ -111,7 +111,7 @@ pub fn add_view<R: Reader>(
 {
     let segment = view.to_owned_in(elements)?;
     if !is_sealed(&segment) {
-        reader.add(alloc, &segment)?;
+        reader.take(alloc, &segment)?;
         return Ok(segment.into_elements());
     }
     let place = place_of(start, view);

@@ -6,7 +6,7 @@ ghost use Rattle.fints_params.specs.Pieces.{IsPieceFault};
 ghost use Rattle.fints_params.specs.Steps.{HasRead, HasCome, HasComeIn, EndsWithin, ReadsCapture, ReadsNext, StopsNext};
 
 use crate::fault::{ParamFault, is_memory};
-use crate::opening::{Reader, add_view};
+use crate::opening::{SegmentTaker, add_view};
 use fints_syntax::{
     Begun, Elements, Memory, ReadTo, SegmentView, SyntaxFault, SyntaxKind, Taker, read_piece,
 };
@@ -23,7 +23,7 @@ pub struct Reading<R> {
     elements: Elements,
 }
 
-impl<R: Reader + Drop> Reading<R> {
+impl<R: SegmentTaker + Drop> Reading<R> {
     /// Nothing is read into the reader.
     pub fn new(alloc: Global, reader: R) -> Reading<R>
         ensures reader { result.reader ≡ reader }
@@ -50,7 +50,7 @@ impl<R: Reader + Drop> Reading<R> {
     }
 }
 
-impl<R: Reader + Drop> Taker for Reading<R> {
+impl<R: SegmentTaker + Drop> Taker for Reading<R> {
     ghost good = { λ placed reading. HasRead R.rule R.good placed reading.refused reading.reader };
 
     fn take(&mut self, start: usize, segment: &SegmentView<'_>) -> Result<(), Memory> {
@@ -77,7 +77,7 @@ pub struct Progress<R> {
     pub reading: Reading<R>,
 }
 
-impl<R: Reader + Drop> Progress<R> {
+impl<R: SegmentTaker + Drop> Progress<R> {
     /// No byte is read.
     pub fn new(alloc: Global, reader: R) -> Progress<R>
         requires { R.good [] reader }

@@ -16,17 +16,17 @@ pub returns-then-not-is_sealed-clause-ok : goal.returns-then-not-is_sealed-claus
 returns-then-not-is_sealed-clause-ok g c =
     let s = c.in_ok-segment.segment in
     let e : is_sealed s ≡ false = sym c.is_sealed.ensures ∙ c.if-not-is_sealed.true in
-    subst (ContinuesOver g.R.Reader.good c.args.reader.now c.add.new.self) c.in_ok-segment.ensures (single_ok g.R.Reader.good c.args.reader.now c.add.new.self s e c.in_ok-add.ensures.ok)
+    subst (ContinuesOver g.R.SegmentTaker.good c.args.reader.now c.take.new.self) c.in_ok-segment.ensures (single_ok g.R.SegmentTaker.good c.args.reader.now c.take.new.self s e c.in_ok-take.ensures.ok)
 
-pub returns-in_err-add-clause-stopped : goal.returns-in_err-add-clause-stopped
-returns-in_err-add-clause-stopped g c =
+pub returns-in_err-take-clause-stopped : goal.returns-in_err-take-clause-stopped
+returns-in_err-take-clause-stopped g c =
     let view : Placed = record { start = c.args.start; segment = c.args.view.now } in
     let s = c.in_ok-segment.segment in
-    let f = c.in_err-add.field-0.0 in
+    let f = c.in_err-take.field-0.0 in
     let e : is_sealed s ≡ false = sym c.is_sealed.ensures ∙ c.if-not-is_sealed.true in
-    let m = single_stop g.R.Reader.rule g.R.Reader.good c.args.reader.now s (data_place view) f e c.in_err-add.ensures.stopped in
-    let here = subst (λ (x : OwnedSegment). IsMemoryOr (StopsAt g.R.Reader.rule g.R.Reader.good c.args.reader.now x (data_place view)) f) c.in_ok-segment.ensures m in
-    let q = err_from_is_err_and c.from_residual-in_err-add.result c.from_residual-in_err-add.ensures.1 in
+    let m = single_stop g.R.SegmentTaker.rule g.R.SegmentTaker.good c.args.reader.now s (data_place view) f e c.in_err-take.ensures.stopped in
+    let here = subst (λ (x : OwnedSegment). IsMemoryOr (StopsAt g.R.SegmentTaker.rule g.R.SegmentTaker.good c.args.reader.now x (data_place view)) f) c.in_ok-segment.ensures m in
+    let q = err_from_is_err_and c.from_residual-in_err-take.result c.from_residual-in_err-take.ensures.1 in
     rw (q.1, q.2) here
 
 pub invariant_of-add_sealed : goal.invariant_of-add_sealed
@@ -37,7 +37,7 @@ invariant_of-add_sealed g c =
 pub returns-clause-ok : goal.returns-clause-ok
 returns-clause-ok g c =
     let s = c.in_ok-segment.segment in
-    let P : OwnedSegment → Type 0 = ContinuesOver g.R.Reader.good c.args.reader.now c.add_sealed.new.reader in
+    let P : OwnedSegment → Type 0 = ContinuesOver g.R.SegmentTaker.good c.args.reader.now c.add_sealed.new.reader in
     IfOk-weaker c.add_sealed.result (λ _. P s) (λ _. P (segment_of c.args.view.now)) (λ _ h. subst P c.in_ok-segment.ensures h) c.add_sealed.ensures.ok
 
 pub returns-clause-stopped : goal.returns-clause-stopped
@@ -45,5 +45,5 @@ returns-clause-stopped g c =
     let view : Placed = record { start = c.args.start; segment = c.args.view.now } in
     let s = c.in_ok-segment.segment in
     let place = c.place_of-place.result in
-    let P : OwnedSegment → ℕ → ParamFault → Type 0 = λ x n f. IsMemoryOr (StopsAt g.R.Reader.rule g.R.Reader.good c.args.reader.now x n) f in
+    let P : OwnedSegment → ℕ → ParamFault → Type 0 = λ x n f. IsMemoryOr (StopsAt g.R.SegmentTaker.rule g.R.SegmentTaker.good c.args.reader.now x n) f in
     IfErr-weaker c.add_sealed.result (P s place) (P (segment_of c.args.view.now) (data_place view)) (λ f h. subst (λ x. P x (data_place view) f) c.in_ok-segment.ensures (subst (λ n. P s n f) c.place_of-place.ensures.place h)) c.add_sealed.ensures.stopped

@@ -4,7 +4,7 @@ use Rattle.fints_params.specs.declared.fault.ParamFault.TheVariants.{Syntax}
 use Rattle.fints_params.specs.Pieces.{IsNotReceived}
 use Rattle.fints_cli_files.specs.Captures.{FedReader}
 use Rattle.fints_cli_files.proofs.CaptureLemmas.{fed_after, fed_fault, fed_more, with_piece}
-use Rattle.fints_cli_files.proofs.capture.CaptureSink.take.Goals as goal
+use Rattle.fints_cli_files.proofs.capture.CapturePieceTaker.take.Goals as goal
 
 pub returns-then-is_some : goal.returns-then-is_some
 returns-then-is_some c =

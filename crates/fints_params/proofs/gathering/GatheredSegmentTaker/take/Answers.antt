@@ -5,7 +5,7 @@ use Rattle.fints_params.specs.Parameters.{fault_after}
 use Rattle.fints_params.specs.Steps.{Continues, StopsIn}
 use Rattle.fints_params.specs.Taken.{AddsRows, IsTakeFault, ParamsSoFar}
 use Rattle.fints_params.proofs.RowsSoFar.{so_far_more, so_far_stop}
-use Rattle.fints_params.proofs.gathering.GatheredReader.add.Goals as goal
+use Rattle.fints_params.proofs.gathering.GatheredSegmentTaker.take.Goals as goal
 
 pub returns-clause-ok : goal.returns-clause-ok
 returns-clause-ok c =
