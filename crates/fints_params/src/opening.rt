@@ -69,7 +69,8 @@ fn add_all<R: SegmentTaker>(
     reader: &mut R,
 ) -> Result<(), ParamFault>
     ensures ok { IfOk result (λ _. Continues R.good reader.old reader.new (segments_of views.now)) }
-    ensures stopped { IfErr result (λ f. IsMemoryOr (StopsIn R.rule R.good reader.old (segments_of views.now)) f) }
+    ensures stopped { IfErr result
+        (λ f. IsMemoryOr (StopsIn R.rule R.good reader.old (segments_of views.now)) f) }
 {
     let mut elements = Elements::new(alloc);
     for view in views {
@@ -88,7 +89,8 @@ fn add_sealed<R: SegmentTaker>(
 ) -> Result<Elements, ParamFault>
     requires { is_sealed placed.segment ≡ true }
     ensures ok { IfOk result (λ _. ContinuesOver R.good reader.old reader.new placed.segment) }
-    ensures stopped { IfErr result (λ f. IsMemoryOr (StopsAt R.rule R.good reader.old placed.segment placed.place) f) }
+    ensures stopped { IfErr result
+        (λ f. IsMemoryOr (StopsAt R.rule R.good reader.old placed.segment placed.place) f) }
 {
     let views = open(alloc, &placed)?;
     add_all(alloc, views.as_slice(), reader)?;
@@ -106,8 +108,10 @@ pub fn add_view<R: SegmentTaker>(
     reader: &mut R,
 ) -> Result<Elements, ParamFault>
     requires { EndsWithin (record { start = start; segment = view.now }) }
-    ensures ok { IfOk result (λ _. ReadsNext R.good reader.old reader.new (record { start = start; segment = view.now })) }
-    ensures stopped { IfErr result (λ f. IsMemoryOr (StopsNext R.rule R.good reader.old (record { start = start; segment = view.now })) f) }
+    ensures ok { IfOk result (λ _. ReadsNext R.good reader.old reader.new
+        (record { start = start; segment = view.now })) }
+    ensures stopped { IfErr result (λ f. IsMemoryOr
+        (StopsNext R.rule R.good reader.old (record { start = start; segment = view.now })) f) }
 {
     let segment = view.to_owned_in(elements)?;
     if !is_sealed(&segment) {
