@@ -15,21 +15,21 @@ reads-next None at count size loaded buffer new front honest within appended siz
 reads-next (Some bytes) at count size loaded buffer new front honest within appended sized =
     appended ∙ ap (λ l. l ++ take count buffer) front ∙ ap (λ l. take at bytes ++ l) (honest within).0 ∙ sym (take-add at count bytes) ∙ ap (λ n. take n bytes) (sym sized)
 
--- a sink took this front of a file
-pub record IsTakenSo {S : Type 0} (Holds : List ℕ → S → Type 0) (held : Option (List ℕ)) (at : ℕ) (sink : S) : Type 0 where
+-- a taker took this front of a file
+pub record IsTakenSo {S : Type 0} (Holds : List ℕ → S → Type 0) (held : Option (List ℕ)) (at : ℕ) (taker : S) : Type 0 where
   pub bytes : List ℕ
   pub size : length bytes ≡ at
-  pub right : Holds bytes sink
+  pub right : Holds bytes taker
   pub front : IfSome held (λ file. bytes ≡ take at file)
 
-pub taken-none : {S : Type 0} (Holds : List ℕ → S → Type 0) (held : Option (List ℕ)) (sink : S) → Holds [] sink → IsTakenSo Holds held 0 sink
-taken-none Holds None sink h = record { bytes = []; size = refl; right = h; front = tt }
-taken-none Holds (Some file) sink h = record { bytes = []; size = refl; right = h; front = refl }
+pub taken-none : {S : Type 0} (Holds : List ℕ → S → Type 0) (held : Option (List ℕ)) (taker : S) → Holds [] taker → IsTakenSo Holds held 0 taker
+taken-none Holds None taker h = record { bytes = []; size = refl; right = h; front = tt }
+taken-none Holds (Some file) taker h = record { bytes = []; size = refl; right = h; front = refl }
 
 -- and the next part of it
-pub taken-next : {S : Type 0} (Holds : List ℕ → S → Type 0) (held : Option (List ℕ)) (at count : ℕ) (buffer : List ℕ) (sink next : S) → IsTakenSo Holds held at sink → ReadsFrom held at buffer (Ok count) → count ≤ length buffer
-    → ((bytes : List ℕ) → Holds bytes sink → Holds (bytes ++ take count buffer) next) → IsTakenSo Holds held (at + count) next
-taken-next Holds held at count buffer sink next t honest within takes =
+pub taken-next : {S : Type 0} (Holds : List ℕ → S → Type 0) (held : Option (List ℕ)) (at count : ℕ) (buffer : List ℕ) (taker next : S) → IsTakenSo Holds held at taker → ReadsFrom held at buffer (Ok count) → count ≤ length buffer
+    → ((bytes : List ℕ) → Holds bytes taker → Holds (bytes ++ take count buffer) next) → IsTakenSo Holds held (at + count) next
+taken-next Holds held at count buffer taker next t honest within takes =
     record {
       bytes = t.bytes ++ take count buffer;
       size = omega (arith, t.size, length-append t.bytes (take count buffer), length-take-le count buffer within);
@@ -42,8 +42,8 @@ ends None at bytes buffer front honest some = tt
 ends (Some file) at bytes buffer front honest some = front ∙ take_all at file ((honest (omega arith)).1 refl some)
 
 -- where no byte is left it took the file
-pub taken-all : {S : Type 0} (Holds : List ℕ → S → Type 0) (held : Option (List ℕ)) (at limit : ℕ) (buffer : List ℕ) (sink : S) → IsTakenSo Holds held at sink → ReadsFrom held at buffer (Ok 0) → 0 < length buffer → at ≤ limit → IsTakenFrom Holds held limit sink
-taken-all Holds held at limit buffer sink t honest some le = (t.bytes, ends held at t.bytes buffer t.front honest some, omega (arith, t.size), t.right)
+pub taken-all : {S : Type 0} (Holds : List ℕ → S → Type 0) (held : Option (List ℕ)) (at limit : ℕ) (buffer : List ℕ) (taker : S) → IsTakenSo Holds held at taker → ReadsFrom held at buffer (Ok 0) → 0 < length buffer → at ≤ limit → IsTakenFrom Holds held limit taker
+taken-all Holds held at limit buffer taker t honest some le = (t.bytes, ends held at t.bytes buffer t.front honest some, omega (arith, t.size), t.right)
 
 -- a vector that took a file holds it
 pub vec-taken : (held : Option (List ℕ)) (limit : ℕ) (items : List ℕ) → IsTakenFrom (λ bytes it. it ≡ bytes) held limit items → IsFile held items × (length items ≤ limit)

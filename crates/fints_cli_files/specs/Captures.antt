@@ -7,24 +7,24 @@ use Rattle.fints_params.specs.Captures.{IsReadOf}
 use Rattle.fints_cli_files.specs.Streams.{IsFile}
 
 -- what reads a capture as its file comes: a reader, and the fault that it met; whether it keeps the bytes, and what it kept
-pub record Fed : Type 0 where
+pub record FedReader : Type 0 where
   pub reader : Received
   pub fault : Option ParamFault
   pub keeps : Bool
   pub kept : List ℕ
 
 -- the reader has taken the bytes, or met a fault in a front of them
-abbrev pub IsFed : List ℕ → Received → Option ParamFault → Type 0
-IsFed bytes reader None = reader ≡ record { bytes = bytes; failed = None }
-IsFed bytes reader (Some f) = (front more : List ℕ) × (bytes ≡ front ++ more) × IsPieceFault front f
+abbrev pub HasTaken : List ℕ → Received → Option ParamFault → Type 0
+HasTaken bytes reader None = reader ≡ record { bytes = bytes; failed = None }
+HasTaken bytes reader (Some f) = (front more : List ℕ) × (bytes ≡ front ++ more) × IsPieceFault front f
 
 -- the bytes are kept, or none
 abbrev pub AreKept : Bool → List ℕ → List ℕ → Type 0
 AreKept true bytes kept = kept ≡ bytes
 AreKept false bytes kept = kept ≡ []
 
-abbrev pub HoldsCapture : List ℕ → Fed → Type 0
-HoldsCapture bytes fed = IsFed bytes fed.reader fed.fault × AreKept fed.keeps bytes fed.kept
+abbrev pub HoldsCapture : List ℕ → FedReader → Type 0
+HoldsCapture bytes fed = HasTaken bytes fed.reader fed.fault × AreKept fed.keeps bytes fed.kept
 
 -- ---- of private contracts and proofs alone
 

@@ -3,7 +3,7 @@ ghost use Rattle.std.specs.Prelude.{◌≡◌, ℕ, List, [], OnOk};
 ghost use Rattle.fints_params.specs.Captures.{IsReadOf};
 ghost use Rattle.fints_cli_files.specs.Captures.{AreKept, HoldsCapture, kept_after};
 
-use crate::reading::Sink;
+use crate::reading::PieceTaker;
 use fints_params::{ParamFault, ParamReader, Params};
 use fints_syntax::Memory;
 use std::alloc::Global;
@@ -20,9 +20,9 @@ pub struct Capture {
 }
 
 impl Model for Capture {
-    ghost use Rattle.fints_cli_files.specs.Captures.{Fed};
+    ghost use Rattle.fints_cli_files.specs.Captures.{FedReader};
 
-    ghost Value = { Fed };
+    ghost Value = { FedReader };
 
     ghost view = { λ c. record { reader = c.reader; fault = c.fault; keeps = c.keeps; kept = c.bytes.items } };
 }
@@ -82,7 +82,7 @@ impl Capture {
     }
 }
 
-impl Sink for Capture {
+impl PieceTaker for Capture {
     ghost holds = { HoldsCapture };
 
     fn take(&mut self, piece: &[u8]) -> Result<(), Memory> {

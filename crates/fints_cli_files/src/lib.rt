@@ -7,5 +7,5 @@ mod reading;
 mod streams;
 
 pub use capture::{Capture, ReadCapture};
-pub use reading::{LoadFault, MAX_CALLS, Sink, load, load_into};
+pub use reading::{LoadFault, MAX_CALLS, PieceTaker, load, load_into};
 pub use streams::{Files, Out, ReadFault, WriteFault};

@@ -27,7 +27,7 @@ pub enum LoadFault {
 }
 
 /// What takes the bytes of a file as they come.
-pub trait Sink {
+pub trait PieceTaker {
     ghost use Rattle.std.specs.Prelude.{ℕ, List};
 
     /// It is right for these bytes, which it took.
@@ -38,7 +38,7 @@ pub trait Sink {
         ensures { OnOk result ((bytes : List ℕ) → holds bytes self.old → holds (bytes ++ piece.now) self.new) };
 }
 
-impl Sink for Vec<u8> {
+impl PieceTaker for Vec<u8> {
     ghost holds = { λ bytes it. it.items ≡ bytes };
 
     fn take(&mut self, piece: &[u8]) -> Result<(), Memory> {
@@ -47,17 +47,17 @@ impl Sink for Vec<u8> {
     }
 }
 
-/// Hands the whole file, which has at most `limit` bytes, to the sink. A reader that fails, that
+/// Hands the whole file, which has at most `limit` bytes, to the taker. A reader that fails, that
 /// claims more bytes than it was lent room for, that goes past the limit, or that does not come to
 /// the end within the calls, is a fault.
 #[tactic(auto, using(crate::proofs::StreamLemmas::one_more_le))]
-pub fn load_into<F: Files, S: Sink + Drop>(
+pub fn load_into<F: Files, S: PieceTaker + Drop>(
     files: &mut F,
     path: &str,
     limit: usize,
-    mut sink: S,
+    mut taker: S,
 ) -> Result<S, LoadFault>
-    requires { S.holds [] sink }
+    requires { S.holds [] taker }
     ensures calls { (F.reads files.new).calls ≤ (F.reads files.old).calls + MAX_READS }
     ensures counted { min ((F.reads files.old).calls) (2 ^ 64 - 1) ≤ (F.reads files.new).calls }
     ensures keeps { F.holds files.new ≡ F.holds files.old }
@@ -73,7 +73,7 @@ pub fn load_into<F: Files, S: Sink + Drop>(
             Err(fault) => return Err(LoadFault::Unreadable(fault)),
         };
         if count == 0 {
-            return Ok(sink);
+            return Ok(taker);
         }
         if PIECE < count {
             return Err(LoadFault::Unreadable(ReadFault::Failed));
@@ -81,7 +81,7 @@ pub fn load_into<F: Files, S: Sink + Drop>(
         if limit - at < count {
             return Err(LoadFault::TooLong);
         }
-        if sink.take(&buffer[..count]).is_err() {
+        if taker.take(&buffer[..count]).is_err() {
             return Err(LoadFault::Memory);
         }
         at += count;

@@ -5,6 +5,7 @@ use fints_cli_hints_words::keys::{
 };
 use fints_cli_hints_words::places::{Told, row_at, row_named, text_in, told, told_at};
 use fints_cli_hints_words::quoting::Quoted;
+use fints_cli_hints_words::tables::rows_of;
 use fints_cli_hints_words::unread::why_no_toml;
 use fints_rules::kinds::is_plain_order;
 use fints_rules::{MAX_ROWS, TableFault};
@@ -12,7 +13,6 @@ use fints_syntax::Kind;
 use fints_syntax_toml::document;
 use fints_syntax_toml::document::member;
 use fints_syntax_toml::entries::text_at;
-use fints_syntax_toml::tables::rows_of;
 use std::alloc::Global;
 use toml::{Table, Value};
 

@@ -5,13 +5,13 @@ use crate::signers::{seal_hint, signer_hint};
 use crate::steps::{Around, step_hint};
 use fints_cli_hints_words::keys::{Form, Wanted, missing_key, unknown_key, wrong_value};
 use fints_cli_hints_words::places::{Told, told_at};
+use fints_cli_hints_words::tables::rows_of;
 use fints_cli_hints_words::unread::{too_long, why_no_toml};
 use fints_script_rows::limits::{MAX_FIELDS, MAX_SIGNERS, MAX_STEPS};
 use fints_script_rows::{FaultKind, NamedRows, Place, ScriptFault};
 use fints_syntax::Memory;
 use fints_syntax_toml::document;
 use fints_syntax_toml::document::{MAX_TEXT, member};
-use fints_syntax_toml::tables::rows_of;
 use std::alloc::Global;
 use toml::Table;
 

@@ -9,11 +9,11 @@ use fints_cli_hints_words::keys::{
 };
 use fints_cli_hints_words::places::{Told, names_of, row_at, row_named, told, told_at};
 use fints_cli_hints_words::quoting::Quoted;
+use fints_cli_hints_words::tables::{is_set, rows_of};
 use fints_script_rows::limits::{MAX_BRANCHES, MAX_REPEAT, MAX_SEGMENTS, MAX_SIGNATURES};
 use fints_script_rows::{FaultKind, NamedRows};
 use fints_syntax_toml::document::member;
 use fints_syntax_toml::entries::{some_is_named, text_at};
-use fints_syntax_toml::tables::{is_set, rows_of};
 use std::alloc::Global;
 use toml::{Table, Value};
 

@@ -1,11 +1,11 @@
 //! How many items the segments of a step have, and how much they weigh.
 use fints_cli_hints_words::places::{Told, row_named, told};
+use fints_cli_hints_words::tables::rows_of;
 use fints_script_rows::NamedRows;
 use fints_script_rows::limits::{MAX_TEMPLATE_ITEMS, MAX_WEIGHT};
 use fints_syntax::Memory;
 use fints_syntax_toml::document::member;
 use fints_syntax_toml::entries::{is_named, text_at};
-use fints_syntax_toml::tables::rows_of;
 use std::alloc::Global;
 use toml::{Table, Value};
 

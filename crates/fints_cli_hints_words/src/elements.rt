@@ -3,9 +3,9 @@ use crate::guessing::{Named, not_named};
 use crate::keys::must_be;
 use crate::places::{Told, names_of, numbered, text_in, told, told_at};
 use crate::quoting::{Character, Quoted};
+use crate::tables::rows_of;
 use fints_script_rows::text::is_latin1;
 use fints_script_rows::{FaultKind, NamedRows};
-use fints_syntax_toml::tables::rows_of;
 use std::alloc::Global;
 use toml::Value;
 

@@ -3,12 +3,9 @@
 use crate::guessing::{Joined, guess_of};
 use crate::places::{Told, told};
 use crate::quoting::{Quoted, Shown, misfit_of};
+use crate::tables::{is_no_array, is_no_flag, is_no_integer, is_no_list, is_no_text, is_outside};
 use fints_script_rows::names::parsed;
 use fints_syntax_toml::document::member;
-use fints_syntax_toml::entries::has_key;
-use fints_syntax_toml::tables::{
-    is_no_array, is_no_flag, is_no_integer, is_no_list, is_no_text, is_outside,
-};
 use std::alloc::Global;
 use std::fmt::Display;
 use toml::{Table, Value};
@@ -47,7 +44,7 @@ pub fn unknown_key(alloc: Global, table: &Table, keys: &[&str], whose: &str) -> 
 
 fn first_missing<'a>(table: &Table, keys: &[&'a str]) -> Option<&'a str> {
     for key in keys {
-        if !has_key(table, key) {
+        if member(table, key).is_none() {
             return Some(*key);
         }
     }

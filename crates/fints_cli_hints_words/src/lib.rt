@@ -8,4 +8,5 @@ pub mod keys;
 pub mod listed;
 pub mod places;
 pub mod quoting;
+pub mod tables;
 pub mod unread;

@@ -1,5 +1,5 @@
 -- The codes of feedback, as far as they are read.
-use Rattle.std.proofs.Common.{◌≡◌, ℕ, ◌+◌, ◌<◌, Bool, true, false, not, List, [], ◌∷◌, ◌++◌, length, take, get_or, refl, ap, ◌∙◌, sym, subst, arith, append_assoc, inl, inr, below_more, Option, Some, None}
+use Rattle.std.proofs.Common.{◌≡◌, ℕ, ◌+◌, ◌<◌, Bool, true, false, not, List, [], ◌∷◌, ◌++◌, length, take, get_or, refl, ap, ◌∙◌, sym, arith, append_assoc, inl, inr, below_more, Option, Some, None}
 use Rattle.std.specs.Prelude.{position}
 use Rattle.std.specs.List.{filter_map, cons_option, position_or_len, filter, flat_map}
 use Rattle.std.proofs.lemmas.Bool.{lt-ltb, le-ltb}
@@ -12,11 +12,9 @@ use Rattle.fints_params.specs.declared.fault.ParamFault.{ParamFault}
 use Rattle.fints_params.specs.declared.fault.ParamFault.TheVariants.{Memory, Syntax, BadElement, TwoBankParameters, NoBankParameters, NoPinParameters}
 use Rattle.fints_params.specs.Feedback.{code_in, is_bad_code, is_feedback, codes_of, codes_in, bad_code, feedback_fault}
 use Rattle.fints_params.specs.Faults.{IsBad, IsMemoryOr}
-use Rattle.fints_params.specs.Opened.{part}
-use Rattle.fints_params.specs.Captures.{NoneRefused}
 use Rattle.fints_params.specs.Steps.{Continues, StopsIn}
 use Rattle.fints_params.specs.Taken.{CodesSoFar}
-use Rattle.fints_params.proofs.Refusing.{none_push}
+use Rattle.fints_params.proofs.Refusing.{none_push, refused_here}
 
 pub record Left (vs : List (List ℕ)) (i : ℕ) (codes old : List ℕ) : Type 0 where
   pub good : (k : ℕ) → k < i → is_bad_code (get_or vs k []) ≡ false
@@ -91,18 +89,10 @@ codes_more s old new fine e = λ seen h.
           ∙ sym (ap (λ xs. flat_map codes_of xs) (filter-append is_feedback seen (s ∷ [])) ∙ flat_map-append codes_of (filter is_feedback seen) (filter is_feedback (s ∷ [])));
     }
 
-pub codes_stop : (s : OwnedSegment) (old : List ℕ) (f : ParamFault) → IsBad s (bad_code s) f → IsMemoryOr (StopsIn feedback_fault CodesSoFar old (part s ∷ [])) f
+pub codes_stop : (s : OwnedSegment) (old : List ℕ) (f : ParamFault) → IsBad s (bad_code s) f → IsMemoryOr (StopsIn feedback_fault CodesSoFar old (s ∷ [])) f
 codes_stop s old Memory h = inl refl
 codes_stop s old (Syntax x) h = absurd h
-codes_stop s old (BadElement n m) h = inr (λ seen k.
-    record {
-      before = [];
-      at = part s;
-      after = [];
-      split = refl;
-      none = subst (NoneRefused feedback_fault) (sym (append-nil seen)) k.none;
-      fault = rw h.0 (ap (λ (y : ℕ). Some (BadElement y m)) (sym h.1));
-    })
+codes_stop s old (BadElement n m) h = inr (λ seen k. refused_here feedback_fault seen s (BadElement n m) k.none (rw h.0 (ap (λ (y : ℕ). Some (BadElement y m)) (sym h.1))))
 codes_stop s old TwoBankParameters h = absurd h
 codes_stop s old NoBankParameters h = absurd h
 codes_stop s old NoPinParameters h = absurd h

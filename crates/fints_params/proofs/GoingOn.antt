@@ -1,11 +1,11 @@
 -- How far bytes are read, and what is read of them.
-use Rattle.std.proofs.Common.{◌≡◌, ◌≢◌, ℕ, ◌+◌, ◌-◌, ◌<◌, ◌≤◌, List, [], ◌∷◌, ◌++◌, length, take, drop, refl, ap, ◌∙◌, sym, subst, arith, inl, inr, append_assoc, Option, Some, None, true, false}
+use Rattle.std.proofs.Common.{◌≡◌, ◌≢◌, ℕ, ◌+◌, ◌-◌, ◌<◌, ◌≤◌, List, [], ◌∷◌, ◌++◌, length, take, drop, map, refl, ap, ◌∙◌, sym, subst, arith, inl, inr, Option, Some, None, true, false}
 use Rattle.std.specs.Option.{is_some}
-use Rattle.std.specs.List.{AllByRecursion, AllZip, flat_map}
-use Rattle.std.proofs.lemmas.List.{append-nil, drop-append-le, drop-drop, drop_all, take_all, length-append, length-drop, take-append-drop}
-use Rattle.fints_syntax.specs.Capture.{IsBreak, ReadsPlaced, FaultsAt}
+use Rattle.std.specs.List.{AllByRecursion}
+use Rattle.std.proofs.lemmas.List.{drop-append-le, drop-drop, drop_all, take_all, length-append, length-drop, take-append-drop}
+use Rattle.fints_syntax.specs.Capture.{IsBreak, IsPlacedCapture, ReadsPlaced, FaultsAt}
 use Rattle.fints_syntax.specs.Streams.{IsBegun, IsReady, IsReadTo, IsStreamFault, PieceFaultAt, moved_by, whole_len}
-use Rattle.fints_syntax.specs.declared.capture.Placed as syntax
+use Rattle.fints_syntax.specs.declared.capture.Placed.{Placed}
 use Rattle.fints_syntax.specs.declared.fault.SyntaxFault.{SyntaxFault}
 use Rattle.fints_syntax.specs.declared.fault.SyntaxKind.{SyntaxKind}
 use Rattle.fints_syntax.specs.declared.fault.SyntaxKind.TheVariants as kinds
@@ -14,22 +14,20 @@ use Rattle.fints_syntax.specs.declared.stream.Begun.{Begun}
 use Rattle.fints_syntax.specs.declared.stream.ReadTo.{ReadTo}
 use Rattle.fints_params.specs.declared.fault.ParamFault.{ParamFault}
 use Rattle.fints_params.specs.declared.fault.ParamFault.TheVariants.{Memory, Syntax}
-use Rattle.fints_params.specs.declared.placed.PlacedSegment.{PlacedSegment}
-use Rattle.fints_params.specs.Captures.{Rule, IsSyntaxFault, IsRefusedOf}
-use Rattle.fints_params.specs.Faults.{IsMemoryOr, fault_from, fault_of}
-use Rattle.fints_params.specs.Opened.{IsValuesOf, IsPlacedValue}
+use Rattle.fints_params.specs.Refused.{Rule, NoneRefused, IsSyntaxFault, IsRefusedIn, IsRefusedOf, values_in}
+use Rattle.fints_params.specs.Faults.{IsMemoryOr, fault_from, as_param_fault}
 use Rattle.fints_params.specs.Pieces.{IsPieceFault}
-use Rattle.fints_params.specs.Steps.{IsWithin, ReadsNext, StopsNext, HasRead, HasCome, ReadsCapture, IsRefusedInViews}
+use Rattle.fints_params.specs.Steps.{ReadsNext, StopsNext, HasRead, HasCome, ReadsCapture}
 use Rattle.fints_syntax.specs.declared.capture.TheConstants.{MAX_CAPTURE}
 use Rattle.fints_syntax.proofs.Cuts.{cut_fault, cut_segments, piece_fault_is_capture_fault}
 use Rattle.fints_syntax.proofs.Streams.{begun_goes_on, read_splits}
 use Rattle.fints_params.proofs.Viewed.{views_none, views_push, views_stopped, views_stay}
 
 -- how many bytes the whole segments take
-whole_is : (bytes : List ℕ) (placed : List syntax.Placed) (to : ReadTo) → IsReadTo bytes placed to → whole_len bytes (drop to.whole bytes) ≡ to.whole
+whole_is : (bytes : List ℕ) (placed : List Placed) (to : ReadTo) → IsReadTo bytes placed to → whole_len bytes (drop to.whole bytes) ≡ to.whole
 whole_is bytes placed to h = omega (arith, h.within, length-drop to.whole bytes)
 
-pub read_on : (front more : List ℕ) (placed next : List syntax.Placed) (to read : ReadTo) → IsReadTo front placed to → IsReadTo (drop to.whole (front ++ more)) next read
+pub read_on : (front more : List ℕ) (placed next : List Placed) (to read : ReadTo) → IsReadTo front placed to → IsReadTo (drop to.whole (front ++ more)) next read
     → IsReadTo (front ++ more) (placed ++ moved_by to.whole next) (record { whole = to.whole + read.whole; rest = read.rest })
 read_on front more placed next to read h g =
     let bytes = front ++ more in
@@ -55,11 +53,11 @@ syntax_from kinds.BadHead o n = refl
 syntax_from kinds.CaptureTooLong o n = refl
 syntax_from kinds.Failed o n = refl
 
-rest_is : (front more bytes rest : List ℕ) (to : ReadTo) (placed : List syntax.Placed) → bytes ≡ front ++ more → rest ≡ drop to.whole bytes → IsReadTo front placed to → rest ≡ drop to.whole front ++ more
+rest_is : (front more bytes rest : List ℕ) (to : ReadTo) (placed : List Placed) → bytes ≡ front ++ more → rest ≡ drop to.whole bytes → IsReadTo front placed to → rest ≡ drop to.whole front ++ more
 rest_is front more bytes rest to placed e back h = back ∙ ap (drop to.whole) e ∙ drop-append-le to.whole front more h.within
 
 -- what is looked at of the rest
-pub ready_at : (front more bytes rest : List ℕ) (to : ReadTo) (placed : List syntax.Placed) → bytes ≡ front ++ more → rest ≡ drop to.whole bytes → length front ≤ MAX_CAPTURE → IsReadTo front placed to → IsReady (take (MAX_CAPTURE - to.whole) rest) to.rest
+pub ready_at : (front more bytes rest : List ℕ) (to : ReadTo) (placed : List Placed) → bytes ≡ front ++ more → rest ≡ drop to.whole bytes → length front ≤ MAX_CAPTURE → IsReadTo front placed to → IsReady (take (MAX_CAPTURE - to.whole) rest) to.rest
 ready_at front more bytes rest to placed e back short h =
     let own = begun_goes_on (drop to.whole front) more (MAX_CAPTURE - to.whole) to.rest h.ready (omega (arith, short, length-drop to.whole front)) in
     subst (λ (xs : List ℕ). IsReady (take (MAX_CAPTURE - to.whole) xs) to.rest) (sym (rest_is front more bytes rest to placed e back h)) own
@@ -76,9 +74,9 @@ come_none rule Good state b fresh g =
     }
 
 -- more of them are
-pub come_on : {S : Type 0} (rule : Rule) (Good : List OwnedSegment → S → Type 0) (front more bytes rest : List ℕ) (to read : ReadTo) (before after : Option ParamFault) (a b : S) (next : List syntax.Placed)
+pub come_on : {S : Type 0} (rule : Rule) (Good : List OwnedSegment → S → Type 0) (front more bytes rest : List ℕ) (to read : ReadTo) (before after : Option ParamFault) (a b : S) (next : List Placed)
     → bytes ≡ front ++ more → rest ≡ drop to.whole bytes → HasCome rule Good front to before a → IsReadTo rest next read → to.whole + length rest ≤ MAX_CAPTURE
-    → ((seen : List syntax.Placed) → HasRead rule Good seen before a → HasRead rule Good (seen ++ moved_by to.whole next) after b) → HasCome rule Good bytes (record { whole = to.whole + read.whole; rest = read.rest }) after b
+    → ((seen : List Placed) → HasRead rule Good seen before a → HasRead rule Good (seen ++ moved_by to.whole next) after b) → HasCome rule Good bytes (record { whole = to.whole + read.whole; rest = read.rest }) after b
 come_on rule Good front more bytes rest to read before after a b next e back h k le goes =
     let own : IsReadTo (drop to.whole (front ++ more)) next read = subst (λ (xs : List ℕ). IsReadTo xs next read) (back ∙ ap (drop to.whole) e) k in
     let all = read_on front more h.placed next to read h.read own in
@@ -90,7 +88,7 @@ come_on rule Good front more bytes rest to read before after a b next e back h k
     }
 
 -- a fault of the rest with more bytes is the stream's
-pub piece_fault : (front more : List ℕ) (placed : List syntax.Placed) (to : ReadTo) (f : SyntaxFault) (o : ℕ) → length front ≤ MAX_CAPTURE → IsReadTo front placed to → f.offset ≡ to.whole + o
+pub piece_fault : (front more : List ℕ) (placed : List Placed) (to : ReadTo) (f : SyntaxFault) (o : ℕ) → length front ≤ MAX_CAPTURE → IsReadTo front placed to → f.offset ≡ to.whole + o
     → PieceFaultAt (MAX_CAPTURE - to.whole) f.kind o (drop to.whole (front ++ more)) → PieceFaultAt MAX_CAPTURE f.kind f.offset (front ++ more)
 piece_fault front more placed to f o short h is p =
     let rest = drop to.whole front in
@@ -102,18 +100,18 @@ piece_fault front more placed to f o short h is p =
     let at : whole_len front rest + o ≡ f.offset = omega (arith, n, is) in
     subst (λ (k : ℕ). PieceFaultAt MAX_CAPTURE f.kind k (front ++ more)) at (subst (λ (k : ℕ). PieceFaultAt k f.kind (whole_len front rest + o) (front ++ more)) limit all)
 
-pub stream_fault : (front more : List ℕ) (placed : List syntax.Placed) (to : ReadTo) (f : SyntaxFault) → length front ≤ MAX_CAPTURE → IsReadTo front placed to
-    → IsStreamFault to.whole (drop to.whole (front ++ more)) f → IsMemoryOr (IsPieceFault (front ++ more)) (fault_of f)
-stream_fault front more placed to f short h (inl m) = inl (ap fault_of m)
+pub stream_fault : (front more : List ℕ) (placed : List Placed) (to : ReadTo) (f : SyntaxFault) → length front ≤ MAX_CAPTURE → IsReadTo front placed to
+    → IsStreamFault to.whole (drop to.whole (front ++ more)) f → IsMemoryOr (IsPieceFault (front ++ more)) (as_param_fault f)
+stream_fault front more placed to f short h (inl m) = inl (ap as_param_fault m)
 stream_fault front more placed to f short h (inr (o, is, p)) =
     let here = piece_fault front more placed to f o short h is p in
     inr (f, here, syntax_from f.kind f.offset (piece_fault_is_capture_fault (front ++ more) f here).1)
 
 pub come_fault : {S : Type 0} (rule : Rule) (Good : List OwnedSegment → S → Type 0) (front more bytes rest : List ℕ) (to : ReadTo) (before : Option ParamFault) (a : S) (f : SyntaxFault)
-    → bytes ≡ front ++ more → rest ≡ drop to.whole bytes → HasCome rule Good front to before a → IsStreamFault to.whole rest f → IsMemoryOr (IsPieceFault bytes) (fault_of f)
+    → bytes ≡ front ++ more → rest ≡ drop to.whole bytes → HasCome rule Good front to before a → IsStreamFault to.whole rest f → IsMemoryOr (IsPieceFault bytes) (as_param_fault f)
 come_fault rule Good front more bytes rest to before a f e back h k =
     let own : IsStreamFault to.whole (drop to.whole (front ++ more)) f = subst (λ (xs : List ℕ). IsStreamFault to.whole xs f) (back ∙ ap (drop to.whole) e) k in
-    subst (λ (xs : List ℕ). IsMemoryOr (IsPieceFault xs) (fault_of f)) (sym e) (stream_fault front more h.placed to f h.short h.read own)
+    subst (λ (xs : List ℕ). IsMemoryOr (IsPieceFault xs) (as_param_fault f)) (sym e) (stream_fault front more h.placed to f h.short h.read own)
 
 -- the fault of a stream is that of a capture
 pub syntax_fault : (bytes : List ℕ) (f : ParamFault) → IsPieceFault bytes f → IsSyntaxFault bytes f
@@ -121,25 +119,26 @@ syntax_fault bytes f (fault, h, e) = let l = piece_fault_is_capture_fault bytes 
 
 -- ---- where the bytes are all
 
-values : {S : Type 0} (rule : Rule) (Good : List OwnedSegment → S → Type 0) (bytes : List ℕ) (to : ReadTo) (refused : Option ParamFault) (state : S) (placed : List PlacedSegment) (h : HasCome rule Good bytes to refused state)
-    → length bytes ≤ to.whole + to.rest.gap → AllZip IsPlacedValue h.placed placed → IsValuesOf bytes placed
-values rule Good bytes to refused state placed h le zip =
+whole : {S : Type 0} (rule : Rule) (Good : List OwnedSegment → S → Type 0) (bytes : List ℕ) (to : ReadTo) (refused : Option ParamFault) (state : S) (h : HasCome rule Good bytes to refused state)
+    → length bytes ≤ to.whole + to.rest.gap → IsPlacedCapture bytes h.placed
+whole rule Good bytes to refused state h le =
     let rest = drop to.whole bytes in
     let all : take to.rest.gap rest ≡ rest = take_all to.rest.gap rest (omega (arith, length-drop to.whole bytes, h.read.within, le)) in
-    record { short = h.short; views = h.placed; read = (rest, subst (AllByRecursion IsBreak) all h.read.ready.breaks, h.read.reads); each = zip }
+    (rest, subst (AllByRecursion IsBreak) all h.read.ready.breaks, h.read.reads)
 
 pub ended : {S : Type 0} (rule : Rule) (Good : List OwnedSegment → S → Type 0) (bytes : List ℕ) (to : ReadTo) (refused : Option ParamFault) (state : S) → refused ≡ None → HasCome rule Good bytes to refused state → length bytes ≤ to.whole + to.rest.gap → ReadsCapture Good bytes state
 ended rule Good bytes to (Some f) state e h le = absurd cc
-ended rule Good bytes to None state e h le = let (placed, zip, reads) = h.segments in (placed, values rule Good bytes to None state placed h le zip, reads)
+ended rule Good bytes to None state e h le =
+    let (segments, opened, g) = h.segments in
+    (segments, record { short = h.short; outer = values_in h.placed; reads = (map (λ p. p.segment) h.placed, (h.placed, whole rule Good bytes to None state h le, refl), refl); opened = opened }, g)
 
 pub end_refused : {S : Type 0} (rule : Rule) (Good : List OwnedSegment → S → Type 0) (bytes : List ℕ) (to : ReadTo) (refused : Option ParamFault) (state : S) (f : ParamFault) → refused ≡ Some f → HasCome rule Good bytes to refused state → length bytes ≤ to.whole + to.rest.gap → IsRefusedOf rule bytes f
 end_refused rule Good bytes to None state f e h le = absurd cc
 end_refused rule Good bytes to (Some g) state f e h le =
     let same : g ≡ f = cc in
-    let (placed, zip, r) = h.segments in
-    subst (IsRefusedOf rule bytes) same (inr (placed, values rule Good bytes to (Some g) state placed h le zip, r))
+    subst (IsRefusedOf rule bytes) same (inr (h.short, h.placed, whole rule Good bytes to (Some g) state h le, h.segments))
 
-cut_faults : (bytes : List ℕ) (placed : List syntax.Placed) (gap begun : List ℕ) (o : ℕ) → ReadsPlaced bytes placed (gap ++ begun) → AllByRecursion IsBreak gap → IsBegun begun → 0 < length begun → o + length begun ≡ length bytes → FaultsAt bytes kinds.Incomplete o
+cut_faults : (bytes : List ℕ) (placed : List Placed) (gap begun : List ℕ) (o : ℕ) → ReadsPlaced bytes placed (gap ++ begun) → AllByRecursion IsBreak gap → IsBegun begun → 0 < length begun → o + length begun ≡ length bytes → FaultsAt bytes kinds.Incomplete o
 cut_faults bytes placed gap [] o r breaks u some at = absurd (omega (arith, some))
 cut_faults bytes placed gap (b ∷ bs) o r breaks u some at = record { placed = placed; gap = gap; first = b; more = bs; breaks = breaks; no_break = u.0; reads = r; at = 0; fault = u.1; offset_is = omega (arith, at) }
 
@@ -158,18 +157,19 @@ end_cut rule Good bytes to refused state h lt =
 
 -- ---- one more segment
 
-pub read_past : {S : Type 0} (rule : Rule) (Good : List OwnedSegment → S → Type 0) (refused : Option ParamFault) (state : S) (view : syntax.Placed) → is_some refused ≡ true → IsWithin view
-    → (seen : List syntax.Placed) → HasRead rule Good seen refused state → HasRead rule Good (seen ++ view ∷ []) refused state
-read_past rule Good None state view e within = absurd cc
-read_past rule Good (Some f) state view e within = λ seen h. views_stay rule seen view f within h
+pub read_past : {S : Type 0} (rule : Rule) (Good : List OwnedSegment → S → Type 0) (refused : Option ParamFault) (state : S) (view : Placed) → is_some refused ≡ true
+    → (seen : List Placed) → HasRead rule Good seen refused state → HasRead rule Good (seen ++ view ∷ []) refused state
+read_past rule Good None state view e = absurd cc
+read_past rule Good (Some f) state view e = λ seen h. views_stay rule seen view f h
 
-pub read_next : {S : Type 0} (rule : Rule) (Good : List OwnedSegment → S → Type 0) (refused : Option ParamFault) (a b : S) (view : syntax.Placed) → is_some refused ≡ false → ReadsNext Good a b view
-    → (seen : List syntax.Placed) → HasRead rule Good seen refused a → HasRead rule Good (seen ++ view ∷ []) refused b
+pub read_next : {S : Type 0} (rule : Rule) (Good : List OwnedSegment → S → Type 0) (refused : Option ParamFault) (a b : S) (view : Placed) → is_some refused ≡ false → ReadsNext Good a b view
+    → (seen : List Placed) → HasRead rule Good seen refused a → HasRead rule Good (seen ++ view ∷ []) refused b
 read_next rule Good None a b view e k = λ seen h. views_push Good a b seen view h k
 read_next rule Good (Some f) a b view e k = absurd cc
 
-pub read_stop : {S : Type 0} (rule : Rule) (Good : List OwnedSegment → S → Type 0) (refused : Option ParamFault) (a : S) (view : syntax.Placed) (f : ParamFault) → is_some refused ≡ false → f ≢ Memory → IsMemoryOr (StopsNext rule Good a view) f
-    → (seen : List syntax.Placed) → HasRead rule Good seen refused a → IsRefusedInViews rule (seen ++ view ∷ []) f
-read_stop rule Good (Some g) a view f e n k = absurd cc
-read_stop rule Good None a view f e n (inl m) = absurd (n m)
-read_stop rule Good None a view f e n (inr k) = λ seen h. views_stopped rule Good a seen view f h k
+pub read_stop : {S : Type 0} (rule : Rule) (Good : List OwnedSegment → S → Type 0) (refused : Option ParamFault) (a : S) (view : Placed) (f : ParamFault) → ((seen : List OwnedSegment) → Good seen a → NoneRefused rule seen)
+    → is_some refused ≡ false → f ≢ Memory → IsMemoryOr (StopsNext rule Good a view) f
+    → (seen : List Placed) → HasRead rule Good seen refused a → IsRefusedIn rule (seen ++ view ∷ []) f
+read_stop rule Good (Some g) a view f none e n k = absurd cc
+read_stop rule Good None a view f none e n (inl m) = absurd (n m)
+read_stop rule Good None a view f none e n (inr k) = λ seen h. views_stopped rule Good a seen view f none h k

@@ -3,6 +3,7 @@ pub mod Pairs
 pub mod Lists
 pub mod Offsets
 pub mod Refusing
+pub mod Fine
 pub mod RowsSoFar
 pub mod FoundCodes
 pub mod Sizes
@@ -12,3 +13,4 @@ pub mod GoingOn
 pub mod Receiving
 pub mod OneMeaning
 pub mod BothRead
+pub mod OneAnswer

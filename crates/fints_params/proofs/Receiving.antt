@@ -14,10 +14,10 @@ use Rattle.fints_syntax.proofs.Lasting.{fault_lasts}
 use Rattle.fints_syntax.proofs.Streams.{read_splits}
 use Rattle.fints_syntax_segments.specs.declared.item.OwnedSegment.{OwnedSegment}
 use Rattle.fints_params.specs.declared.fault.ParamFault.{ParamFault}
-use Rattle.fints_params.specs.declared.fault.ParamFault.TheVariants.{Syntax}
-use Rattle.fints_params.specs.Captures.{Rule, IsParamFault}
-use Rattle.fints_params.specs.Faults.{IsMemoryOr, fault_of}
-use Rattle.fints_params.specs.Pieces.{Received, unread, AreReceived, IsPieceFault, IsReceived, IsNotReceived, IsUnfinished}
+use Rattle.fints_params.specs.Captures.{IsParamFault}
+use Rattle.fints_params.specs.Refused.{Rule}
+use Rattle.fints_params.specs.Faults.{IsMemoryOr, as_param_fault}
+use Rattle.fints_params.specs.Pieces.{Received, unread, AreReceived, IsPieceFault, IsReceived, IsNotReceived, HasNoParams}
 use Rattle.fints_params.specs.Steps.{HasRead, HasCome, HasComeIn}
 use Rattle.fints_params.proofs.GoingOn.{come_none, come_on, piece_fault, syntax_fault, syntax_from}
 
@@ -70,9 +70,9 @@ received rule Good old piece next new refused state k h = record {
 }
 
 not_received_by : {S : Type 0} (rule : Rule) (Good : List OwnedSegment → S → Type 0) (failed : Option ℕ) (old : Buffered) (piece : List ℕ) (f : SyntaxFault) (new : Buffered) (before : Option ParamFault) (a : S) → old.at ≡ 0 → HasComeIn rule Good old.bytes old.to before a → IsUnfed failed old piece f new
-    → IsNotReceived failed (received_by old) piece (fault_of f) (received_by new)
-not_received_by rule Good (Some o) old piece f new before a start h (is, same) = (ap fault_of is, ap received_by same)
-not_received_by rule Good None old piece f new before a start h (inl (m, same)) = inl (ap fault_of m, ap received_by same)
+    → IsNotReceived failed (received_by old) piece (as_param_fault f) (received_by new)
+not_received_by rule Good (Some o) old piece f new before a start h (is, same) = (ap as_param_fault is, ap received_by same)
+not_received_by rule Good None old piece f new before a start h (inl (m, same)) = inl (ap as_param_fault m, ap received_by same)
 not_received_by rule Good None old piece f new before a start (front, more, e, h) (inr (o, at, p, s)) =
     let bytes : old.bytes ++ piece ≡ front ++ (more ++ piece) = ap (λ (xs : List ℕ). xs ++ piece) e ∙ append_assoc front more piece in
     let here : rest_at old ≡ old.to.whole = omega (arith, start) in
@@ -83,11 +83,11 @@ not_received_by rule Good None old piece f new before a start (front, more, e, h
     inr (f, fault, syntax_from f.kind f.offset (piece_fault_is_capture_fault (old.bytes ++ piece) f fault).1, λ i. record { bytes = s.bytes i; failed = s.failed i })
 
 pub not_received : {S : Type 0} (rule : Rule) (Good : List OwnedSegment → S → Type 0) (old : Buffered) (piece : List ℕ) (f : SyntaxFault) (new : Buffered) (before : Option ParamFault) (a : S) → old.at ≡ 0 → HasComeIn rule Good old.bytes old.to before a → IsUnfed old.failed old piece f new
-    → IsNotReceived old.failed (received_by old) piece (fault_of f) (received_by new)
+    → IsNotReceived old.failed (received_by old) piece (as_param_fault f) (received_by new)
 not_received rule Good old piece f new before a start h u = not_received_by rule Good old.failed old piece f new before a start h u
 
 -- why there are no parameters at the end
-pub unfinished : (failed : Option ℕ) (r : Received) (bytes : List ℕ) (f : ParamFault) → failed ≡ None → bytes ≡ r.bytes → IsMemoryOr (IsParamFault bytes) f → IsUnfinished failed r f
+pub unfinished : (failed : Option ℕ) (r : Received) (bytes : List ℕ) (f : ParamFault) → failed ≡ None → bytes ≡ r.bytes → IsMemoryOr (IsParamFault bytes) f → HasNoParams failed r f
 unfinished (Some o) r bytes f none e h = absurd cc
 unfinished None r bytes f none e h = subst (λ (xs : List ℕ). IsMemoryOr (IsParamFault xs) f) e h
 
@@ -104,4 +104,4 @@ pub any_cutting : (pieces : List (List ℕ)) (new : Received) → AreReceived un
 any_cutting pieces new h = received_all unread pieces new refl h
 
 pub param_fault_of : (stream more : List ℕ) (f : ParamFault) → IsPieceFault stream f → IsParamFault (stream ++ more) f
-param_fault_of stream more f (fault, h, e) = inl (syntax_fault (stream ++ more) f (fault, fault_lasts stream more MAX_CAPTURE fault.offset fault.kind h, e))
+param_fault_of stream more f (fault, h, e) = inl (inl (syntax_fault (stream ++ more) f (fault, fault_lasts stream more MAX_CAPTURE fault.offset fault.kind h, e)))

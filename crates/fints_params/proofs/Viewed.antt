@@ -1,74 +1,53 @@
 -- What is read of the views of a capture.
 use Rattle.std.proofs.Common.{◌≡◌, ℕ, ◌<◌, List, [], ◌∷◌, ◌++◌, length, map, get_or, refl, ap, ◌∙◌, sym, subst, arith, append_assoc, inl, inr}
-use Rattle.std.specs.List.{AllZip}
-use Rattle.std.proofs.lemmas.List.{append-nil, map-append, length-map, get_or-map}
-use Rattle.fints_syntax.specs.declared.capture.Placed as syntax
+use Rattle.std.proofs.lemmas.List.{map-append, length-append, length-map, get_or-map}
+use Rattle.fints_syntax.specs.declared.capture.Placed.{Placed}
 use Rattle.fints_syntax_segments.specs.Spelling.{Spelled}
 use Rattle.fints_syntax_segments.specs.declared.item.OwnedSegment.{OwnedSegment}
 use Rattle.fints_syntax.specs.Owned.{segment_of, segments_of}
 use Rattle.fints_params.specs.declared.fault.ParamFault.{ParamFault}
-use Rattle.fints_params.specs.declared.placed.PlacedSegment.{PlacedSegment}
-use Rattle.fints_params.specs.Faults.{IsMemoryOr}
-use Rattle.fints_syntax.specs.Streams.{place_in}
-use Rattle.fints_params.specs.Opened.{Part, part, StandFor, IsPlacedValue}
-use Rattle.fints_params.specs.Captures.{Rule, IsRefusedAfter, IsParamFault, IsRefusedOf}
+use Rattle.fints_params.specs.Opened.{OpensTo, OpenTo}
+use Rattle.fints_params.specs.Refused.{Rule, NoneRefused, IsFirstRefused, IsRefusedIn, IsRefusedOf, values_in}
+use Rattle.fints_params.specs.Captures.{IsParamFault}
 use Rattle.fints_params.specs.Parameters.{fault_after}
-use Rattle.fints_params.specs.Steps.{ContinuesOver, StopsAt, ReadsAll, IsWithin, ReadsNext, StopsNext, ReadsViews, IsRefusedInViews}
-use Rattle.fints_params.proofs.Refusing.{memory_or, read_none, stand_more, refused_later}
-use Rattle.fints_params.proofs.Bounds.{placed_fits}
+use Rattle.fints_params.specs.Steps.{ReadsNext, StopsNext, ReadsViews}
+use Rattle.fints_params.proofs.Lists.{two_lists}
+use Rattle.fints_params.proofs.Refusing.{none_front, open_more}
 
-zip_append : {A B : Type 0} (R : A → B → Type 0) (xs xs' : List A) (ys ys' : List B) → AllZip R xs ys → AllZip R xs' ys' → AllZip R (xs ++ xs') (ys ++ ys')
-zip_append R [] xs' [] ys' h k = k
-zip_append R [] xs' (y ∷ ys) ys' h k = absurd h
-zip_append R (x ∷ xs) xs' [] ys' h k = absurd h
-zip_append R (x ∷ xs) xs' (y ∷ ys) ys' h k = (h.0, zip_append R xs xs' ys ys' h.1 k)
+pub values_more : (xs ys : List Placed) → values_in (xs ++ ys) ≡ values_in xs ++ values_in ys
+values_more xs ys = ap segments_of (map-append (λ p. p.segment) xs ys) ∙ map-append segment_of (map (λ p. p.segment) xs) (map (λ p. p.segment) ys)
 
-read_push : {S : Type 0} (Good : List OwnedSegment → S → Type 0) (a b : S) (placed : List PlacedSegment) (p : PlacedSegment) → ReadsAll Good placed a → ContinuesOver Good a b p → ReadsAll Good (placed ++ p ∷ []) b
-read_push Good a b placed p (seen, stand, g) (mine, own, k) =
-    let stands : StandFor (placed ++ p ∷ []) (map part (seen ++ mine)) = subst (λ (ps : List Part). StandFor (placed ++ p ∷ []) ps) (sym (map-append part seen mine)) (stand_more placed (map part seen) p (map part mine) stand own) in
-    (seen ++ mine, stands, k seen g)
+-- one more view is opened
+pub open_view : (views : List Placed) (segments : List OwnedSegment) (view : Placed) (mine : List OwnedSegment) → OpenTo (values_in views) segments → OpensTo (segment_of view.segment) mine → OpenTo (values_in (views ++ view ∷ [])) (segments ++ mine)
+open_view views segments view mine h o =
+    subst (λ (ss : List OwnedSegment). OpenTo ss (segments ++ mine)) (sym (values_more views (view ∷ []))) (open_more (values_in views) segments (segment_of view.segment) mine h o)
 
 pub views_none : {S : Type 0} (Good : List OwnedSegment → S → Type 0) (a : S) → Good [] a → ReadsViews Good [] a
-views_none Good a g = ([], tt, read_none Good a g)
+views_none Good a g = ([], refl, g)
 
 -- one more view, which is read
-pub views_push : {S : Type 0} (Good : List OwnedSegment → S → Type 0) (a b : S) (views : List syntax.Placed) (view : syntax.Placed) → ReadsViews Good views a → ReadsNext Good a b view → ReadsViews Good (views ++ view ∷ []) b
-views_push Good a b views view (placed, zip, reads) (p, is, over) = (placed ++ p ∷ [], zip_append IsPlacedValue views (view ∷ []) placed (p ∷ []) zip (is, tt), read_push Good a b placed p reads over)
-
-pub stops_next : {S : Type 0} (rule : Rule) (Good : List OwnedSegment → S → Type 0) (a : S) (view : syntax.Placed) (p : PlacedSegment) (f : ParamFault) → IsPlacedValue view p → IsMemoryOr (StopsAt rule Good a p) f → IsMemoryOr (StopsNext rule Good a view) f
-stops_next rule Good a view p f is m = memory_or (StopsAt rule Good a p) (StopsNext rule Good a view) f (λ g k. (p, is, k)) m
+pub views_push : {S : Type 0} (Good : List OwnedSegment → S → Type 0) (a b : S) (views : List Placed) (view : Placed) → ReadsViews Good views a → ReadsNext Good a b view → ReadsViews Good (views ++ view ∷ []) b
+views_push Good a b views view (seen, opened, g) (mine, own, k) = (seen ++ mine, open_view views seen view mine opened own, k seen g)
 
 -- one that stops the reader
-pub views_stopped : {S : Type 0} (rule : Rule) (Good : List OwnedSegment → S → Type 0) (a : S) (views : List syntax.Placed) (view : syntax.Placed) (f : ParamFault) → ReadsViews Good views a → StopsNext rule Good a view f → IsRefusedInViews rule (views ++ view ∷ []) f
-views_stopped rule Good a views view f (placed, zip, (seen, stand, g)) (p, is, (parts, own, k)) =
-    let first = refused_later rule [] seen parts [] f (k seen g) in (
-      placed ++ p ∷ [],
-      zip_append IsPlacedValue views (view ∷ []) placed (p ∷ []) zip (is, tt),
-      record {
-        front = placed ++ p ∷ [];
-        back = [];
-        split = sym (append-nil (placed ++ p ∷ []));
-        parts = map part seen ++ parts;
-        stand = stand_more placed (map part seen) p parts stand own;
-        first = subst (λ (ps : List Part). IsRefusedAfter rule [] (map part seen ++ ps) f) (append-nil parts) first;
-      },
-    )
+pub views_stopped : {S : Type 0} (rule : Rule) (Good : List OwnedSegment → S → Type 0) (a : S) (views : List Placed) (view : Placed) (f : ParamFault) → ((seen : List OwnedSegment) → Good seen a → NoneRefused rule seen)
+    → ReadsViews Good views a → StopsNext rule Good a view f → IsRefusedIn rule (views ++ view ∷ []) f
+views_stopped rule Good a views view f none (seen, opened, g) k =
+    record { front = views; at = view; back = []; split = refl; seen = seen; opened = opened; none = none seen g; refused = k seen g }
 
 -- one behind the first refusal
-pub views_stay : (rule : Rule) (views : List syntax.Placed) (view : syntax.Placed) (f : ParamFault) → IsWithin view → IsRefusedInViews rule views f → IsRefusedInViews rule (views ++ view ∷ []) f
-views_stay rule views view f within (placed, zip, r) =
-    let p : PlacedSegment = record { segment = segment_of view.segment; place = place_in view; in_range = placed_fits view (segment_of view.segment) (place_in view) within refl refl } in (
-      placed ++ p ∷ [],
-      zip_append IsPlacedValue views (view ∷ []) placed (p ∷ []) zip ((refl, refl), tt),
-      record {
-        front = r.front;
-        back = r.back ++ p ∷ [];
-        split = ap (λ (ps : List PlacedSegment). ps ++ p ∷ []) r.split ∙ append_assoc r.front r.back (p ∷ []);
-        parts = r.parts;
-        stand = r.stand;
-        first = r.first;
-      },
-    )
+pub views_stay : (rule : Rule) (views : List Placed) (view : Placed) (f : ParamFault) → IsRefusedIn rule views f → IsRefusedIn rule (views ++ view ∷ []) f
+views_stay rule views view f r =
+    record {
+      front = r.front;
+      at = r.at;
+      back = r.back ++ view ∷ [];
+      split = ap (λ (ps : List Placed). ps ++ view ∷ []) r.split ∙ append_assoc r.front (r.at ∷ r.back) (view ∷ []);
+      seen = r.seen;
+      opened = r.opened;
+      none = r.none;
+      refused = r.refused;
+    }
 
 -- the segment of the view at i
 pub segment_at : (views : List (List (List Spelled))) (i : ℕ) (view : List (List Spelled)) (s : OwnedSegment) → i < length views → view ≡ get_or views i view → s ≡ segment_of view
@@ -79,5 +58,27 @@ segment_at views i view s lt e is =
 
 -- what is refused as the capture is read is its first refusal
 pub param_fault : (capture : List ℕ) (f : ParamFault) → IsRefusedOf fault_after capture f → IsParamFault capture f
-param_fault capture f (inl e) = inl e
-param_fault capture f (inr (placed, values, refused)) = inr (placed, values, inl refused)
+param_fault capture f h = inl h
+
+-- ---- the place of what is refused
+
+-- the first of all segments that is refused stands for a part of one of these, or is one
+pub refused_among : (rule : Rule) (front placed : List Placed) (seen segments : List OwnedSegment) (f : ParamFault) → OpenTo (values_in front) seen → OpenTo (values_in placed) segments → IsFirstRefused rule seen segments f
+    → IsRefusedIn rule (front ++ placed) f
+refused_among rule front [] seen segments f h k r = absurd (omega (arith, ap length (sym k ∙ r.split), length-append r.before (r.at ∷ r.after)))
+refused_among rule front (p ∷ ps) seen segments f h (mine, more, own, rest, e) r =
+    elim (two_lists mine more r.before r.after r.at (sym e ∙ r.split)) [
+      | inl w ↦ record {
+        front = front;
+        at = p;
+        back = ps;
+        split = refl;
+        seen = seen;
+        opened = h;
+        none = none_front rule seen r.before r.none;
+        refused = inl (mine, own, record { before = r.before; at = r.at; after = w.0; split = w.1; none = r.none; fault = r.fault });
+      }
+      | inr w ↦ let same : seen ++ r.before ≡ (seen ++ mine) ++ w.0 = ap (λ (xs : List OwnedSegment). seen ++ xs) w.1 ∙ sym (append_assoc seen mine w.0) in
+          let later : IsFirstRefused rule (seen ++ mine) more f = record { before = w.0; at = r.at; after = r.after; split = w.2; none = subst (NoneRefused rule) same r.none; fault = ap (λ (xs : List OwnedSegment). rule xs r.at) (sym same) ∙ r.fault } in
+          subst (λ (qs : List Placed). IsRefusedIn rule qs f) (append_assoc front (p ∷ []) ps) (refused_among rule (front ++ p ∷ []) ps (seen ++ mine) more f (open_view front seen p mine h own) rest later)
+    ]

@@ -12,8 +12,8 @@ abbrev pub fault_from : SyntaxKind → ℕ → ParamFault
 fault_from kinds.Memory o = Memory
 fault_from kind o = Syntax (record { kind = kind; offset = o })
 
-abbrev pub fault_of : SyntaxFault → ParamFault
-fault_of f = fault_from f.kind f.offset
+abbrev pub as_param_fault : SyntaxFault → ParamFault
+as_param_fault f = fault_from f.kind f.offset
 
 -- want of memory, or the element that is bad
 abbrev pub IsBad : OwnedSegment → Option ℕ → ParamFault → Type 0

@@ -1,5 +1,5 @@
 -- The laws of what captures tell: their bytes have one meaning at most. Each is the contract of a public function.
-use Rattle.std.specs.Prelude.{◌≡◌, ◌++◌, ℕ, List, None}
+use Rattle.std.specs.Prelude.{◌≡◌, ◌⊎◌, ◌++◌, ℕ, List, None}
 use Rattle.std.specs.List.{flat_map}
 use Rattle.fints_params.specs.declared.fault.ParamFault.{ParamFault}
 use Rattle.fints_params.specs.Parameters.{Rows}
@@ -37,3 +37,11 @@ AnyCutting = (pieces : List (List ℕ)) (new : Received) → AreReceived unread 
 -- the fault of a capture so far is that of the capture, whatever bytes follow
 abbrev pub PieceFaultIsParamFault : Type 0
 PieceFaultIsParamFault = (stream more : List ℕ) (f : ParamFault) → IsPieceFault stream f → IsParamFault (stream ++ more) f
+
+-- each list of bytes tells rows as a capture, or is refused
+abbrev pub ParamsOrFault : Type 0
+ParamsOrFault = (capture : List ℕ) → ((rows : Rows) × IsParamsOf capture rows) ⊎ ((f : ParamFault) × IsParamFault capture f)
+
+-- each tells codes as a message, or is refused
+abbrev pub CodesOrFault : Type 0
+CodesOrFault = (message : List ℕ) → ((numbers : List ℕ) × IsCodesOf message numbers) ⊎ ((f : ParamFault) × IsCodeFault message f)

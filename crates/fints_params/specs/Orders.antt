@@ -19,8 +19,8 @@ is_order_identifier id =
     && not (bytes_eq id (codes "HIPINS"))
 
 -- the kind of the orders that the identifier speaks of: HKabc or DKabc
-abbrev pub order_kind : List ℕ → Option (List ℕ)
-order_kind id =
+abbrev pub kind_of_orders : List ℕ → Option (List ℕ)
+kind_of_orders id =
     if is_order_identifier id then kind_from (get_or id 0 0 ∷ get_or (codes "K") 0 0 ∷ get_or id 2 0 ∷ get_or id 3 0 ∷ get_or id 4 0 ∷ []) else None
 
 -- what the segment says of the kind, if it has both numbers
@@ -30,8 +30,8 @@ order_of s kind =
 
 -- of a parameter segment
 abbrev pub order_in : OwnedSegment → Option OrderParam
-order_in s = option_and_then (λ k. order_of s k) (order_kind s.head.id)
+order_in s = option_and_then (λ k. order_of s k) (kind_of_orders s.head.id)
 
 -- a parameter segment without the numbers
 abbrev pub is_odd_order : OwnedSegment → Bool
-is_odd_order s = is_some (order_kind s.head.id) && not (is_some (order_in s))
+is_odd_order s = is_some (kind_of_orders s.head.id) && not (is_some (order_in s))

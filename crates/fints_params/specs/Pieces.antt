@@ -1,6 +1,6 @@
 -- A reader of parameters: what it keeps of a capture that comes in pieces, and why a piece or the end is refused. Words of private contracts and proofs alone stand last, under a heading.
 use Rattle.std.specs.Prelude.{◌≡◌, ◌⊎◌, ◌≤◌, ℕ, List, [], ◌∷◌, ◌++◌, length, Option, Some, None}
-use Rattle.fints_syntax.specs.Streams.{IsSplit, PieceFaultAt}
+use Rattle.fints_syntax.specs.Streams.{SplitsInto, PieceFaultAt}
 use Rattle.fints_syntax.specs.declared.capture.Placed.{Placed}
 use Rattle.fints_syntax.specs.declared.fault.SyntaxFault.{SyntaxFault}
 use Rattle.fints_syntax.specs.declared.fault.SyntaxKind.TheVariants.{Failed}
@@ -24,7 +24,7 @@ pub record IsReceived (old : Received) (piece : List ℕ) (new : Received) : Typ
   pub sound : old.failed ≡ None
   pub placed : List Placed
   pub rest : List ℕ
-  pub split : IsSplit (old.bytes ++ piece) placed rest
+  pub split : SplitsInto (old.bytes ++ piece) placed rest
   pub short : length (old.bytes ++ piece) ≤ MAX_CAPTURE
   pub kept : new ≡ record { bytes = old.bytes ++ piece; failed = None }
 
@@ -33,24 +33,24 @@ abbrev pub IsPieceFault : List ℕ → ParamFault → Type 0
 IsPieceFault stream f = (fault : SyntaxFault) × PieceFaultAt MAX_CAPTURE fault.kind fault.offset stream × (f ≡ Syntax fault)
 
 -- what is answered after a fault at this offset
-abbrev pub failed_at : ℕ → ParamFault
-failed_at offset = Syntax (record { kind = Failed; offset = offset })
+abbrev pub answer_after : ℕ → ParamFault
+answer_after offset = Syntax (record { kind = Failed; offset = offset })
 
 -- a sound reader refuses a piece for want of memory, and is as before, or for the stream's fault, and keeps its offset alone
-abbrev pub IsStopped : Received → List ℕ → ParamFault → Received → Type 0
-IsStopped old piece f new =
+abbrev pub RefusesPiece : Received → List ℕ → ParamFault → Received → Type 0
+RefusesPiece old piece f new =
     ((f ≡ Memory) × (new ≡ old))
     ⊎ ((fault : SyntaxFault) × PieceFaultAt MAX_CAPTURE fault.kind fault.offset (old.bytes ++ piece) × (f ≡ Syntax fault) × (new ≡ record { bytes = []; failed = Some fault.offset }))
 
 -- why a piece is refused, and what the reader keeps then
 abbrev pub IsNotReceived : Option ℕ → Received → List ℕ → ParamFault → Received → Type 0
-IsNotReceived (Some offset) old piece f new = (f ≡ failed_at offset) × (new ≡ old)
-IsNotReceived None old piece f new = IsStopped old piece f new
+IsNotReceived (Some offset) old piece f new = (f ≡ answer_after offset) × (new ≡ old)
+IsNotReceived None old piece f new = RefusesPiece old piece f new
 
 -- why there are no parameters where the stream ends here
-abbrev pub IsUnfinished : Option ℕ → Received → ParamFault → Type 0
-IsUnfinished (Some offset) received f = f ≡ failed_at offset
-IsUnfinished None received f = IsMemoryOr (IsParamFault received.bytes) f
+abbrev pub HasNoParams : Option ℕ → Received → ParamFault → Type 0
+HasNoParams (Some offset) received f = f ≡ answer_after offset
+HasNoParams None received f = IsMemoryOr (IsParamFault received.bytes) f
 
 -- ---- of private contracts and proofs alone
 

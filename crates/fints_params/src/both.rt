@@ -9,7 +9,7 @@ use crate::fault::{ParamFault, is_memory};
 use crate::feedback::{Found, none_found};
 use crate::gathered::Gathered;
 use crate::gathering::no_rows;
-use crate::opening::Reader;
+use crate::opening::SegmentTaker;
 use crate::params::{Params, params_of};
 use fints_syntax::OwnedSegment;
 use std::alloc::Global;
@@ -29,20 +29,20 @@ struct Both {
     refused: Option<ParamFault>,
 }
 
-impl Reader for Both {
+impl SegmentTaker for Both {
     ghost use Rattle.fints_params.specs.Parameters.{fault_after};
-    ghost use Rattle.fints_params.specs.Taken.{SoFar, CodesRead};
+    ghost use Rattle.fints_params.specs.Taken.{ParamsSoFar, CodesRead};
 
     ghost rule = { fault_after };
 
-    ghost good = { λ seen both. SoFar seen both.rows × CodesRead seen both.refused both.found.codes.items };
+    ghost good = { λ seen both. ParamsSoFar seen both.rows × CodesRead seen both.refused both.found.codes.items };
 
-    fn add(&mut self, alloc: Global, segment: &OwnedSegment) -> Result<(), ParamFault> {
-        self.rows.add(alloc, segment)?;
+    fn take(&mut self, alloc: Global, segment: &OwnedSegment) -> Result<(), ParamFault> {
+        self.rows.take(alloc, segment)?;
         if self.refused.is_some() {
             return Ok(());
         }
-        match self.found.add(alloc, segment) {
+        match self.found.take(alloc, segment) {
             Ok(()) => Ok(()),
             Err(fault) => {
                 if is_memory(&fault) {

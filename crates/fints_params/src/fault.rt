@@ -2,7 +2,7 @@
 ghost use Rattle.std.specs.Prelude.{◌≡◌, ◌↔◌, IsTrue};
 ghost use Rattle.fints_params.specs.declared.fault.ParamFault.TheVariants.{Memory, BadElement};
 ghost use Rattle.fints_params.specs.declared.fault.ParamFault.TheVariants as faults;
-ghost use Rattle.fints_params.specs.Faults.{fault_of};
+ghost use Rattle.fints_params.specs.Faults.{as_param_fault};
 
 use fints_syntax::{Memory, OwnedSegment, SyntaxFault, SyntaxKind};
 use std::alloc::{AllocError, AllocFailed};
@@ -58,7 +58,7 @@ impl<T: Drop> From<AllocFailed<T>> for ParamFault {
 }
 
 impl From<SyntaxFault> for ParamFault {
-    ghost from_gives = { λ e f. f ≡ fault_of e };
+    ghost from_gives = { λ e f. f ≡ as_param_fault e };
 
     fn from(e: SyntaxFault) -> ParamFault {
         match e.kind {

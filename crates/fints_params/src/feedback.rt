@@ -8,7 +8,7 @@ ghost use Rattle.fints_params.specs.Taken.{CodesSoFar};
 use crate::capture::read_capture;
 use crate::code::Code;
 use crate::fault::{ParamFault, bad_element};
-use crate::opening::Reader;
+use crate::opening::SegmentTaker;
 use fints_syntax::OwnedSegment;
 use std::alloc::Global;
 
@@ -63,12 +63,12 @@ fn take_codes(segment: &OwnedSegment, codes: &mut Vec<Code>) -> Result<(), Param
     read_codes(segment, codes)
 }
 
-impl Reader for Found {
+impl SegmentTaker for Found {
     ghost rule = { feedback_fault };
 
     ghost good = { λ seen found. CodesSoFar seen found.codes.items };
 
-    fn add(&mut self, _alloc: Global, segment: &OwnedSegment) -> Result<(), ParamFault> {
+    fn take(&mut self, _alloc: Global, segment: &OwnedSegment) -> Result<(), ParamFault> {
         take_codes(segment, &mut self.codes)
     }
 

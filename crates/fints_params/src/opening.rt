@@ -1,12 +1,11 @@
 //! Segments one after the other, an HNVSD version 1 replaced once by the segments of its data.
-ghost use Rattle.std.specs.Prelude.{◌≡◌, true, [], ◌∷◌, List, map, option_copied, IfOk, IfErr};
+ghost use Rattle.std.specs.Prelude.{◌≡◌, true, [], ◌∷◌, List, option_copied, IfOk, IfErr};
 ghost use Rattle.fints_syntax_segments.specs.declared.item.OwnedSegment.{OwnedSegment};
 ghost use Rattle.fints_params.specs.Sealed.{is_sealed, data_of};
 ghost use Rattle.fints_params.specs.Faults.{IsMemoryOr};
 ghost use Rattle.fints_syntax.specs.Owned.{segments_of};
-ghost use Rattle.fints_params.specs.Opened.{part};
-ghost use Rattle.fints_params.specs.Captures.{Rule, NoneRefused};
-ghost use Rattle.fints_params.specs.Steps.{Continues, StopsIn, ContinuesOver, StopsAt, OpensTo, IsClosedBy, IsWithin, ReadsNext, StopsNext};
+ghost use Rattle.fints_params.specs.Refused.{Rule, NoneRefused, StaysClosed};
+ghost use Rattle.fints_params.specs.Steps.{Continues, StopsIn, ContinuesOver, StopsAt, HasInside, EndsWithin, ReadsNext, StopsNext};
 
 use crate::fault::{ParamFault, bad_element};
 use crate::placed::PlacedSegment;
@@ -16,16 +15,16 @@ use fints_syntax::{
 use std::alloc::Global;
 
 /// What reads segments one after the other, until one is refused.
-pub trait Reader {
+pub trait SegmentTaker {
     /// Why a segment is refused after those before it.
     ghost rule: { Rule };
 
     /// The state is right for these segments, none of which is refused.
     ghost good: { List OwnedSegment → Self → Type 0 };
 
-    fn add(&mut self, alloc: Global, segment: &OwnedSegment) -> Result<(), ParamFault>
+    fn take(&mut self, alloc: Global, segment: &OwnedSegment) -> Result<(), ParamFault>
         ensures ok { IfOk result (λ _. Continues good self.old self.new (segment.now ∷ [])) }
-        ensures stopped { IfErr result (λ f. IsMemoryOr (StopsIn rule good self.old (part segment.now ∷ [])) f) };
+        ensures stopped { IfErr result (λ f. IsMemoryOr (StopsIn rule good self.old (segment.now ∷ [])) f) };
 
     ghost none_refused: { (seen : List OwnedSegment) (reader : Self) → good seen reader → NoneRefused rule seen };
 }
@@ -48,8 +47,8 @@ fn data(segment: &OwnedSegment) -> Option<&[u8]>
 
 // The segments of the data of an HNVSD.
 fn open<'a>(alloc: Global, placed: &'a PlacedSegment) -> Result<Vec<SegmentView<'a>>, ParamFault>
-    ensures ok { IfOk result (λ v. OpensTo placed.now (segments_of v.items)) }
-    ensures closed { IfErr result (λ f. IsMemoryOr (IsClosedBy placed.now) f) }
+    ensures ok { IfOk result (λ v. HasInside placed.now.segment (segments_of v.items)) }
+    ensures closed { IfErr result (λ f. IsMemoryOr (StaysClosed placed.now.segment placed.now.place) f) }
 {
     let Some(bytes) = data(&placed.segment) else {
         return Err(bad_element(&placed.segment, 2));
@@ -64,32 +63,34 @@ fn open<'a>(alloc: Global, placed: &'a PlacedSegment) -> Result<Vec<SegmentView<
 }
 
 // All segments, each read into the memory of the one before.
-fn add_all<R: Reader>(
+fn add_all<R: SegmentTaker>(
     alloc: Global,
     views: &[SegmentView<'_>],
     reader: &mut R,
 ) -> Result<(), ParamFault>
     ensures ok { IfOk result (λ _. Continues R.good reader.old reader.new (segments_of views.now)) }
-    ensures stopped { IfErr result (λ f. IsMemoryOr (StopsIn R.rule R.good reader.old (map part (segments_of views.now))) f) }
+    ensures stopped { IfErr result
+        (λ f. IsMemoryOr (StopsIn R.rule R.good reader.old (segments_of views.now)) f) }
 {
     let mut elements = Elements::new(alloc);
     for view in views {
         let segment = view.to_owned_in(elements)?;
-        reader.add(alloc, &segment)?;
+        reader.take(alloc, &segment)?;
         elements = segment.into_elements();
     }
     Ok(())
 }
 
 // The segments of the data of an HNVSD, whose own memory is handed back.
-fn add_sealed<R: Reader>(
+fn add_sealed<R: SegmentTaker>(
     alloc: Global,
     placed: PlacedSegment,
     reader: &mut R,
 ) -> Result<Elements, ParamFault>
     requires { is_sealed placed.segment ≡ true }
-    ensures ok { IfOk result (λ _. ContinuesOver R.good reader.old reader.new placed) }
-    ensures stopped { IfErr result (λ f. IsMemoryOr (StopsAt R.rule R.good reader.old placed) f) }
+    ensures ok { IfOk result (λ _. ContinuesOver R.good reader.old reader.new placed.segment) }
+    ensures stopped { IfErr result
+        (λ f. IsMemoryOr (StopsAt R.rule R.good reader.old placed.segment placed.place) f) }
 {
     let views = open(alloc, &placed)?;
     add_all(alloc, views.as_slice(), reader)?;
@@ -99,20 +100,22 @@ fn add_sealed<R: Reader>(
 
 /// Reads a segment that starts at this offset of a capture, in the memory of these elements, which
 /// it hands back.
-pub fn add_view<R: Reader>(
+pub fn add_view<R: SegmentTaker>(
     alloc: Global,
     start: usize,
     view: &SegmentView<'_>,
     elements: Elements,
     reader: &mut R,
 ) -> Result<Elements, ParamFault>
-    requires { IsWithin (record { start = start; segment = view.now }) }
-    ensures ok { IfOk result (λ _. ReadsNext R.good reader.old reader.new (record { start = start; segment = view.now })) }
-    ensures stopped { IfErr result (λ f. IsMemoryOr (StopsNext R.rule R.good reader.old (record { start = start; segment = view.now })) f) }
+    requires { EndsWithin (record { start = start; segment = view.now }) }
+    ensures ok { IfOk result (λ _. ReadsNext R.good reader.old reader.new
+        (record { start = start; segment = view.now })) }
+    ensures stopped { IfErr result (λ f. IsMemoryOr
+        (StopsNext R.rule R.good reader.old (record { start = start; segment = view.now })) f) }
 {
     let segment = view.to_owned_in(elements)?;
     if !is_sealed(&segment) {
-        reader.add(alloc, &segment)?;
+        reader.take(alloc, &segment)?;
         return Ok(segment.into_elements());
     }
     let place = place_of(start, view);

@@ -1,13 +1,13 @@
 //! Parameter segments: what a bank allows of a kind of orders.
 ghost use Rattle.std.specs.Prelude.{◌≡◌};
-ghost use Rattle.fints_params.specs.Orders.{order_kind, order_of};
+ghost use Rattle.fints_params.specs.Orders.{kind_of_orders, order_of};
 
 use crate::rows::OrderParam;
 use fints_syntax::{Kind, OwnedSegment, parse_number};
 
 /// The kind of the orders that the identifier speaks of.
 pub fn kind_of(id: Kind) -> Option<Kind>
-    ensures { result ≡ order_kind id }
+    ensures { result ≡ kind_of_orders id }
 {
     match id.as_bytes() {
         [first, middle, x, y, z, last] => {

@@ -1,12 +1,12 @@
 //! What a reader has read of bytes behind which more may come.
 ghost use Rattle.std.specs.Prelude.{◌≡◌, [], IfOk, IfErr};
-ghost use Rattle.fints_params.specs.Captures.{IsRefusedOf};
+ghost use Rattle.fints_params.specs.Refused.{IsRefusedOf};
 ghost use Rattle.fints_params.specs.Faults.{IsMemoryOr};
 ghost use Rattle.fints_params.specs.Pieces.{IsPieceFault};
-ghost use Rattle.fints_params.specs.Steps.{HasRead, HasCome, HasComeIn, IsWithin, ReadsCapture, ReadsNext, StopsNext};
+ghost use Rattle.fints_params.specs.Steps.{HasRead, HasCome, HasComeIn, EndsWithin, ReadsCapture, ReadsNext, StopsNext};
 
 use crate::fault::{ParamFault, is_memory};
-use crate::opening::{Reader, add_view};
+use crate::opening::{SegmentTaker, add_view};
 use fints_syntax::{
     Begun, Elements, Memory, ReadTo, SegmentView, SyntaxFault, SyntaxKind, Taker, read_piece,
 };
@@ -23,7 +23,7 @@ pub struct Reading<R> {
     elements: Elements,
 }
 
-impl<R: Reader + Drop> Reading<R> {
+impl<R: SegmentTaker + Drop> Reading<R> {
     /// Nothing is read into the reader.
     pub fn new(alloc: Global, reader: R) -> Reading<R>
         ensures reader { result.reader ≡ reader }
@@ -39,10 +39,12 @@ impl<R: Reader + Drop> Reading<R> {
 
     // Reads a segment that starts at this offset.
     fn read(&mut self, start: usize, segment: &SegmentView<'_>) -> Result<(), ParamFault>
-        requires { IsWithin (record { start = start; segment = segment.now }) }
+        requires { EndsWithin (record { start = start; segment = segment.now }) }
         ensures kept { self.new.refused ≡ self.old.refused }
-        ensures ok { IfOk result (λ _. ReadsNext R.good self.old.reader self.new.reader (record { start = start; segment = segment.now })) }
-        ensures stopped { IfErr result (λ f. IsMemoryOr (StopsNext R.rule R.good self.old.reader (record { start = start; segment = segment.now })) f) }
+        ensures ok { IfOk result (λ _. ReadsNext R.good self.old.reader self.new.reader
+            (record { start = start; segment = segment.now })) }
+        ensures stopped { IfErr result (λ f. IsMemoryOr
+            (StopsNext R.rule R.good self.old.reader (record { start = start; segment = segment.now })) f) }
     {
         let elements = replace(&mut self.elements, Elements::new(self.alloc));
         self.elements = add_view(self.alloc, start, segment, elements, &mut self.reader)?;
@@ -50,7 +52,7 @@ impl<R: Reader + Drop> Reading<R> {
     }
 }
 
-impl<R: Reader + Drop> Taker for Reading<R> {
+impl<R: SegmentTaker + Drop> Taker for Reading<R> {
     ghost good = { λ placed reading. HasRead R.rule R.good placed reading.refused reading.reader };
 
     fn take(&mut self, start: usize, segment: &SegmentView<'_>) -> Result<(), Memory> {
@@ -77,7 +79,7 @@ pub struct Progress<R> {
     pub reading: Reading<R>,
 }
 
-impl<R: Reader + Drop> Progress<R> {
+impl<R: SegmentTaker + Drop> Progress<R> {
     /// No byte is read.
     pub fn new(alloc: Global, reader: R) -> Progress<R>
         requires { R.good [] reader }

@@ -1,7 +1,7 @@
 //! Parameters of a capture that comes in pieces.
 ghost use Rattle.std.specs.Prelude.{◌≡◌, None, OnOk, IfOk, IfErr};
 ghost use Rattle.fints_params.specs.Captures.{IsParamsOf};
-ghost use Rattle.fints_params.specs.Pieces.{unread, IsReceived, IsNotReceived, IsUnfinished};
+ghost use Rattle.fints_params.specs.Pieces.{unread, IsReceived, IsNotReceived, HasNoParams};
 
 use crate::fault::ParamFault;
 use crate::gathered::Gathered;
@@ -68,7 +68,7 @@ impl ParamReader {
     /// refusal in its order; after a fault of a piece its offset.
     pub fn finish(self) -> Result<Params, ParamFault>
         ensures rows { IfOk result (λ p. (self.failed ≡ None) × IsParamsOf self.bytes p) }
-        ensures refused { IfErr result (λ f. IsUnfinished self.failed self f) }
+        ensures refused { IfErr result (λ f. HasNoParams self.failed self f) }
     {
         if let Some(fault) = self.buffer.failure() {
             return Err(ParamFault::Syntax(fault));

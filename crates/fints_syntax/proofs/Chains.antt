@@ -5,12 +5,12 @@ use Rattle.std.proofs.lemmas.List.{append-nil, map-append}
 use Rattle.fints_syntax.specs.Capture.{IsPlacedCapture, piece_bytes}
 use Rattle.fints_syntax.specs.Laws.{CutFault, CutSegments}
 use Rattle.fints_syntax.specs.Owned.{segment_of}
-use Rattle.fints_syntax.specs.Streams.{IsSplit, PieceFaultAt, moved_by, whole_len}
+use Rattle.fints_syntax.specs.Streams.{SplitsInto, PieceFaultAt, moved_by, whole_len}
 use Rattle.fints_syntax.specs.declared.capture.Placed.{Placed}
 use Rattle.fints_syntax.specs.declared.fault.SyntaxFault.{SyntaxFault}
 use Rattle.fints_syntax.specs.declared.fault.SyntaxKind.TheVariants.{Memory}
 use Rattle.fints_syntax_segments.specs.declared.item.OwnedSegment.{OwnedSegment}
-use Rattle.fints_syntax.specs.Feeding.{Fed, IsEnded, IsGiven, IsRefused, unfed}
+use Rattle.fints_syntax.specs.Feeding.{Fed, IsEnded, IsGiven, IsNotGiven, unfed}
 use Rattle.fints_syntax.specs.declared.capture.TheConstants.{MAX_CAPTURE}
 use Rattle.fints_syntax.specs.FeedingLaws.{AreGiven, HasGiven}
 
@@ -18,7 +18,7 @@ abbrev values : List Placed → List OwnedSegment
 values placed = map (λ p. segment_of p.segment) placed
 
 -- what is left is no longer than the bytes
-rest_within : (bytes : List ℕ) (placed : List Placed) (rest : List ℕ) → IsSplit bytes placed rest → length rest ≤ length bytes
+rest_within : (bytes : List ℕ) (placed : List Placed) (rest : List ℕ) → SplitsInto bytes placed rest → length rest ≤ length bytes
 rest_within bytes placed rest h = omega (arith, ap length h.reads.text, length-append (flat_map piece_bytes h.reads.pieces) rest)
 
 more_values : (n : ℕ) (before first : List OwnedSegment) (at : ℕ) (p q : List Placed) → at ≡ n → before ≡ values p → first ≡ values (moved_by at q) → before ++ first ≡ values (p ++ moved_by n q)
@@ -63,7 +63,7 @@ nothing_given = record {
 pub any_cutting : (cut : CutSegments) (pieces : List (List ℕ)) (segments : List OwnedSegment) (fed : Fed) → AreGiven unfed pieces segments fed → HasGiven (flat_map (λ p. p) pieces) segments fed
 any_cutting cut pieces segments fed h = given_on cut [] [] unfed pieces segments fed nothing_given h
 
-fault_in : (cut : CutFault) (failed : Option ℕ) (stream piece : List ℕ) (segments : List OwnedSegment) (fed new : Fed) (f : SyntaxFault) → failed ≡ None → HasGiven stream segments fed → IsRefused failed fed piece f new → f.kind ≢ Memory
+fault_in : (cut : CutFault) (failed : Option ℕ) (stream piece : List ℕ) (segments : List OwnedSegment) (fed new : Fed) (f : SyntaxFault) → failed ≡ None → HasGiven stream segments fed → IsNotGiven failed fed piece f new → f.kind ≢ Memory
     → PieceFaultAt MAX_CAPTURE f.kind f.offset (stream ++ piece)
 fault_in cut (Some o) stream piece segments fed new f none h r n = absurd cc
 fault_in cut None stream piece segments fed new f none h (inl (m, same)) n = absurd (n (ap (λ (x : SyntaxFault). x.kind) m))
@@ -73,7 +73,7 @@ fault_in cut None stream piece segments fed new f none h (inr (o, is, p, s)) n =
     let at : whole_len stream fed.rest + o ≡ f.offset = omega (arith, h.at_is, is) in
     subst (λ (k : ℕ). PieceFaultAt MAX_CAPTURE f.kind k (stream ++ piece)) at (subst (λ (k : ℕ). PieceFaultAt k f.kind (whole_len stream fed.rest + o) (stream ++ piece)) limit all)
 
-pub fault_of_stream : (cut : CutFault) (stream piece : List ℕ) (segments : List OwnedSegment) (fed new : Fed) (f : SyntaxFault) → HasGiven stream segments fed → IsRefused fed.failed fed piece f new → f.kind ≢ Memory
+pub fault_of_stream : (cut : CutFault) (stream piece : List ℕ) (segments : List OwnedSegment) (fed new : Fed) (f : SyntaxFault) → HasGiven stream segments fed → IsNotGiven fed.failed fed piece f new → f.kind ≢ Memory
     → PieceFaultAt MAX_CAPTURE f.kind f.offset (stream ++ piece)
 fault_of_stream cut stream piece segments fed new f h r n = fault_in cut fed.failed stream piece segments fed new f h.sound h r n
 

@@ -2,14 +2,14 @@
 use Rattle.std.proofs.Common.{◌≡◌, ℕ, zero, suc, ◌+◌, ◌<◌, List, [], ◌∷◌, length, take, drop, refl, ap, ◌∙◌, sym, subst, arith, append_assoc}
 use Rattle.std.proofs.lemmas.List.{append-nil}
 use Rattle.fints_syntax_segments.specs.Segment.{Token, tokens_bytes, segment_tokens}
-use Rattle.fints_syntax.specs.Reader.{tokens_in, segment_in}
+use Rattle.fints_syntax.specs.Reader.{tokens_in, read_segment}
 use Rattle.fints_syntax.specs.Faults.{BeginsWithItem}
 use Rattle.fints_syntax.specs.Window.{IsFrameText}
-use Rattle.fints_syntax.specs.Scan.{IsWhole}
+use Rattle.fints_syntax.specs.Scan.{IsWholeItem}
 use Rattle.fints_syntax.specs.Items.{IsSpelledText}
 use Rattle.fints_syntax.specs.Cursor.{IsRun}
 use Rattle.fints_syntax_segments.specs.Spelling.{spelled_bytes}
-use Rattle.fints_syntax.specs.Reader.{item_in}
+use Rattle.fints_syntax.specs.Reader.{read_item}
 use Rattle.fints_syntax.proofs.Tokens.{IsClosed, closed-segment, tokens_in-closed, tokens-short}
 use Rattle.fints_syntax.proofs.Windows.{token_closed}
 use Rattle.fints_syntax.proofs.Located.{first_is}
@@ -52,9 +52,9 @@ read_run bytes ts h e =
     let is : tokens_in (length bytes) bytes ≡ ts = ap (λ (bs : List ℕ). tokens_in (length bs) bs) e ∙ tokens_in-run ts h in
     record { tokens = is; text = e ∙ ap tokens_bytes (sym is); run = subst IsRun (sym is) h }
 
-pub read_frame : (source : List ℕ) → IsFrameText source → IsRead source (segment_tokens (segment_in source))
+pub read_frame : (source : List ℕ) → IsFrameText source → IsRead source (segment_tokens (read_segment source))
 read_frame source f =
-    read_run source (segment_tokens (segment_in source)) (run_closed (segment_tokens (segment_in source)) (closed-segment (segment_in source) f.framed.some f.framed.nonempty f.framed.spelled)) f.text
+    read_run source (segment_tokens (read_segment source)) (run_closed (segment_tokens (read_segment source)) (closed-segment (read_segment source) f.framed.some f.framed.nonempty f.framed.spelled)) f.text
 
 -- the next of what is left
 pub record IsNextOf (bytes : List ℕ) (len after : ℕ) (ts : List Token) : Type 0 where
@@ -63,11 +63,11 @@ pub record IsNextOf (bytes : List ℕ) (len after : ℕ) (ts : List Token) : Typ
   pub split : ts ≡ token ∷ more
   pub after_is : after ≡ token.after
   pub spelled : IsSpelledText (take len bytes)
-  pub item : item_in (take len bytes) ≡ token.item
+  pub item : read_item (take len bytes) ≡ token.item
   pub rest : drop (len + 1) bytes ≡ tokens_bytes more
   pub run : IsRun more
 
-pub next_of : (bytes : List ℕ) (len after : ℕ) (ts : List Token) → IsRun ts → bytes ≡ tokens_bytes ts → 0 < length bytes → IsWhole bytes len after → IsNextOf bytes len after ts
+pub next_of : (bytes : List ℕ) (len after : ℕ) (ts : List Token) → IsRun ts → bytes ≡ tokens_bytes ts → 0 < length bytes → IsWholeItem bytes len after → IsNextOf bytes len after ts
 next_of bytes len after [] h e lt w = absurd (omega (arith, ap length e))
 next_of bytes len after (t ∷ ts) h e lt w =
     let token = token_closed t ts (closed_run t ts h) in

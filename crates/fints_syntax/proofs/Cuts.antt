@@ -8,7 +8,7 @@ use Rattle.std.proofs.Math.Seq.{take-append-add}
 use Rattle.fints_syntax_segments.specs.Spelling.{Spelled}
 use Rattle.fints_syntax.specs.Faults.{KindAt}
 use Rattle.fints_syntax.specs.Capture.{IsBreak, Piece, piece_bytes, IsPiece, placed_from, ReadsPlaced, FaultsAt, CaptureFaultAt, IsCaptureFault, IsCapture}
-use Rattle.fints_syntax.specs.Streams.{IsBegun, IsRest, IsSplit, moved_by, whole_len, PieceFaultAt, IsStreamFault, IsStop}
+use Rattle.fints_syntax.specs.Streams.{IsBegun, IsRest, SplitsInto, moved_by, whole_len, PieceFaultAt, IsStreamFault, IsPieceStop}
 use Rattle.fints_syntax.specs.declared.capture.Placed.{Placed}
 use Rattle.fints_syntax.specs.declared.fault.SyntaxFault.{SyntaxFault}
 use Rattle.fints_syntax.specs.declared.fault.SyntaxKind.{SyntaxKind}
@@ -47,7 +47,7 @@ joined first second rest left placed more r s =
           ∙ sym (append_assoc (flat_map piece_bytes ps) (flat_map piece_bytes qs) left) ∙ ap (λ (xs : List ℕ). xs ++ left) (sym (flat_map-append piece_bytes ps qs));
     }
 
-pub cut_segments : (first second : List ℕ) (placed more : List Placed) (rest left : List ℕ) → IsSplit first placed rest → IsSplit (rest ++ second) more left → IsSplit (first ++ second) (placed ++ moved_by (whole_len first rest) more) left
+pub cut_segments : (first second : List ℕ) (placed more : List Placed) (rest left : List ℕ) → SplitsInto first placed rest → SplitsInto (rest ++ second) more left → SplitsInto (first ++ second) (placed ++ moved_by (whole_len first rest) more) left
 cut_segments first second placed more rest left r s = record { reads = joined first second rest left placed more r.reads s.reads; left = s.left }
 
 -- the bytes that are read, cut in two
@@ -85,17 +85,17 @@ faults_before all bytes n ps kind o each size e f =
       offset_is = omega (arith, f.offset_is, size, ap length e, length-append (flat_map piece_bytes ps) bytes);
     }
 
-split_before : (all bytes : List ℕ) (n : ℕ) (ps : List Piece) (placed : List Placed) (rest : List ℕ) → AllByRecursion IsPiece ps → length (flat_map piece_bytes ps) ≡ n → all ≡ flat_map piece_bytes ps ++ bytes → IsSplit bytes placed rest
-    → IsSplit all (placed_from 0 ps ++ moved_by n placed) rest
+split_before : (all bytes : List ℕ) (n : ℕ) (ps : List Piece) (placed : List Placed) (rest : List ℕ) → AllByRecursion IsPiece ps → length (flat_map piece_bytes ps) ≡ n → all ≡ flat_map piece_bytes ps ++ bytes → SplitsInto bytes placed rest
+    → SplitsInto all (placed_from 0 ps ++ moved_by n placed) rest
 split_before all bytes n ps placed rest each size e s = record { reads = before all bytes rest n ps placed each size e s.reads; left = s.left }
 
-faults_cut : (first second : List ℕ) (placed : List Placed) (rest : List ℕ) (limit o : ℕ) (kind : SyntaxKind) → IsSplit first placed rest → FaultsAt (take limit (rest ++ second)) kind o
+faults_cut : (first second : List ℕ) (placed : List Placed) (rest : List ℕ) (limit o : ℕ) (kind : SyntaxKind) → SplitsInto first placed rest → FaultsAt (take limit (rest ++ second)) kind o
     → FaultsAt (take (whole_len first rest + limit) (first ++ second)) kind (whole_len first rest + o)
 faults_cut first second placed rest limit o kind r f =
     let ps = r.reads.pieces in
     faults_before (take (whole_len first rest + limit) (first ++ second)) (take limit (rest ++ second)) (whole_len first rest) ps kind o r.reads.each (whole_size first rest ps r.reads.text) (window_cut first second rest ps limit r.reads.text) f
 
-pub cut_fault : (first second : List ℕ) (placed : List Placed) (rest : List ℕ) (limit o : ℕ) (kind : SyntaxKind) → IsSplit first placed rest → PieceFaultAt limit kind o (rest ++ second)
+pub cut_fault : (first second : List ℕ) (placed : List Placed) (rest : List ℕ) (limit o : ℕ) (kind : SyntaxKind) → SplitsInto first placed rest → PieceFaultAt limit kind o (rest ++ second)
     → PieceFaultAt (whole_len first rest + limit) kind (whole_len first rest + o) (first ++ second)
 cut_fault first second placed rest limit o CaptureTooLong r (at, more, found, left, s) =
     let ps = r.reads.pieces in
@@ -123,7 +123,7 @@ ends_of rest gap (b ∷ bs) breaks u e = subst Ends (sym e) (fault_ends gap bs b
 pub rest_ends : (rest : List ℕ) → IsRest rest → Ends rest
 rest_ends rest r = ends_of rest r.gap r.begun r.breaks r.unended r.text
 
-pub one_split : (bytes : List ℕ) (p q : List Placed) (x y : List ℕ) → IsSplit bytes p x → IsSplit bytes q y → (p ≡ q) × (x ≡ y)
+pub one_split : (bytes : List ℕ) (p q : List Placed) (x y : List ℕ) → SplitsInto bytes p x → SplitsInto bytes q y → (p ≡ q) × (x ≡ y)
 one_split bytes p q x y r s =
     let e = same_places 0 r.reads.pieces s.reads.pieces x y r.reads.each s.reads.each (rest_ends x r.left) (rest_ends y s.left) (sym r.reads.text ∙ s.reads.text) in
     (sym r.reads.placed_are ∙ e.0 ∙ s.reads.placed_are, e.1)
@@ -158,10 +158,10 @@ sound_from bytes rest gap [] placed r breaks u text =
     inl (map (λ p. p.segment) placed, placed_capture bytes placed (rest, subst (AllByRecursion IsBreak) (sym same) breaks, r))
 sound_from bytes rest gap (b ∷ bs) placed r breaks u text = inr (length bytes - length (b ∷ bs), unfinished_at bytes rest gap (b ∷ bs) b bs placed r breaks refl text u.0 u.1)
 
-split_sound : (bytes : List ℕ) (placed : List Placed) (rest : List ℕ) → IsSplit bytes placed rest → Sound bytes
+split_sound : (bytes : List ℕ) (placed : List Placed) (rest : List ℕ) → SplitsInto bytes placed rest → Sound bytes
 split_sound bytes placed rest s = sound_from bytes rest s.left.gap s.left.begun placed s.reads s.left.breaks s.left.unended s.left.text
 
-pub no_split_at_fault : (bytes : List ℕ) (p : List Placed) (x : List ℕ) (kind : SyntaxKind) (o : ℕ) → IsSplit bytes p x → kind ≢ Incomplete → FaultsAt bytes kind o → ⊥
+pub no_split_at_fault : (bytes : List ℕ) (p : List Placed) (x : List ℕ) (kind : SyntaxKind) (o : ℕ) → SplitsInto bytes p x → kind ≢ Incomplete → FaultsAt bytes kind o → ⊥
 no_split_at_fault bytes p x kind o s n f =
     elim (split_sound bytes p x s) [
       | inl (segments, c) ↦ no_capture_at bytes kind o segments f c
@@ -191,17 +191,17 @@ fault_in limit bytes window BadBinary o e n f = (n, subst (λ (xs : List ℕ). F
 fault_in limit bytes window TooLong o e n f = (n, subst (λ (xs : List ℕ). FaultsAt xs TooLong o) (sym e) f)
 fault_in limit bytes window BadHead o e n f = (n, subst (λ (xs : List ℕ). FaultsAt xs BadHead o) (sym e) f)
 
-short_stop : (at : ℕ) (bytes : List ℕ) (f : SyntaxFault) → length bytes ≤ MAX_CAPTURE - at → IsStop at bytes f → IsStreamFault at bytes f
+short_stop : (at : ℕ) (bytes : List ℕ) (f : SyntaxFault) → length bytes ≤ MAX_CAPTURE - at → IsPieceStop at bytes f → IsStreamFault at bytes f
 short_stop at bytes f le (inl e) = inl e
 short_stop at bytes f le (inr (o, is, n, h)) = inr (o, is, fault_in (MAX_CAPTURE - at) bytes bytes f.kind o (take_all (MAX_CAPTURE - at) bytes le) n h)
 
-pub stop_of : {A : Type 0} (at : ℕ) (bytes : List ℕ) (r : Result A SyntaxFault) → length bytes ≤ MAX_CAPTURE - at → IfErr r (λ f. IsStop at bytes f) → IfErr r (λ f. IsStreamFault at bytes f)
+pub stop_of : {A : Type 0} (at : ℕ) (bytes : List ℕ) (r : Result A SyntaxFault) → length bytes ≤ MAX_CAPTURE - at → IfErr r (λ f. IsPieceStop at bytes f) → IfErr r (λ f. IsStreamFault at bytes f)
 stop_of at bytes (Ok v) le h = tt
 stop_of at bytes (Err f) le h = short_stop at bytes f le h
 
-pub long_stop : (at : ℕ) (bytes window : List ℕ) (f : SyntaxFault) → window ≡ take (MAX_CAPTURE - at) bytes → IsStop at window f → IsStreamFault at bytes f
+pub long_stop : (at : ℕ) (bytes window : List ℕ) (f : SyntaxFault) → window ≡ take (MAX_CAPTURE - at) bytes → IsPieceStop at window f → IsStreamFault at bytes f
 long_stop at bytes window f e (inl m) = inl m
 long_stop at bytes window f e (inr (o, is, n, h)) = inr (o, is, fault_in (MAX_CAPTURE - at) bytes window f.kind o (sym e) n h)
 
-pub too_long : (at : ℕ) (bytes window : List ℕ) (placed : List Placed) (rest : List ℕ) → at ≤ MAX_CAPTURE → MAX_CAPTURE - at < length bytes → window ≡ take (MAX_CAPTURE - at) bytes → IsSplit window placed rest → IsStreamFault at bytes (record { kind = CaptureTooLong; offset = MAX_CAPTURE })
-too_long at bytes window placed rest le lt e s = inr (MAX_CAPTURE - at, (omega arith), (refl, lt, placed, rest, subst (λ (xs : List ℕ). IsSplit xs placed rest) e s))
+pub too_long : (at : ℕ) (bytes window : List ℕ) (placed : List Placed) (rest : List ℕ) → at ≤ MAX_CAPTURE → MAX_CAPTURE - at < length bytes → window ≡ take (MAX_CAPTURE - at) bytes → SplitsInto window placed rest → IsStreamFault at bytes (record { kind = CaptureTooLong; offset = MAX_CAPTURE })
+too_long at bytes window placed rest le lt e s = inr (MAX_CAPTURE - at, (omega arith), (refl, lt, placed, rest, subst (λ (xs : List ℕ). SplitsInto xs placed rest) e s))

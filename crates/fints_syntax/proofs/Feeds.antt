@@ -6,7 +6,7 @@ use Rattle.std.proofs.lemmas.List.{drop_all, length-drop, length-append, take-ap
 use Rattle.fints_syntax.specs.Buffered.{Buffered, IsFed, IsHalted, IsUnfed, failed_at, read_end, rest_at, rest_with, without_whole}
 use Rattle.fints_syntax.specs.Capture.{IsBreak}
 use Rattle.fints_syntax.specs.Owned.{segment_of}
-use Rattle.fints_syntax.specs.Streams.{IsBegun, IsMemory, IsReadTo, PieceFaultAt, moved_by, place_in, is_quote, IsRest, IsReady}
+use Rattle.fints_syntax.specs.Streams.{IsBegun, IsMemory, IsReadTo, PieceFaultAt, moved_by, data_place, is_quote, IsRest, IsReady}
 use Rattle.fints_syntax.specs.declared.capture.Placed.{Placed}
 use Rattle.fints_syntax.specs.declared.fault.SyntaxFault.{SyntaxFault}
 use Rattle.fints_syntax.specs.declared.fault.SyntaxKind.TheVariants.{Incomplete}
@@ -14,7 +14,7 @@ use Rattle.fints_syntax_segments.specs.declared.item.OwnedSegment.{OwnedSegment}
 use Rattle.fints_syntax.specs.declared.stream.Begun.{Begun}
 use Rattle.fints_syntax.specs.declared.stream.ReadTo.{ReadTo}
 use Rattle.fints_syntax.specs.declared.capture.TheConstants.{MAX_CAPTURE}
-use Rattle.fints_syntax.specs.Feeding.{Fed, IsGiven, IsRefused, IsCut, IsEnded, IsUnended, stopped}
+use Rattle.fints_syntax.specs.Feeding.{Fed, IsGiven, IsNotGiven, IsCut, IsEnded, IsUnended, stopped}
 use Rattle.fints_syntax.proofs.Quotes.{few_segments}
 use Rattle.fints_syntax.proofs.Streams.{read_splits}
 
@@ -48,7 +48,7 @@ moved_is : (old : Buffered) (placed : List Placed) → old.to.whole ≡ 0 → mo
 moved_is old placed e = ap (λ (n : ℕ). moved_by n placed) (omega (arith, e))
 
 pub given : (old : Buffered) (piece : List ℕ) (placed : List Placed) (new last : Buffered) (before places : List ℕ) (segments : List OwnedSegment) → old.to.whole ≡ 0 → IsFed old piece placed new → last ≡ without_whole new
-    → segments ≡ map (λ p. segment_of p.segment) (moved_by (rest_at old) placed) → places ≡ map place_in (moved_by (rest_at old) placed) → IsGiven (fed_by old before) piece segments (fed_by last places)
+    → segments ≡ map (λ p. segment_of p.segment) (moved_by (rest_at old) placed) → places ≡ map data_place (moved_by (rest_at old) placed) → IsGiven (fed_by old before) piece segments (fed_by last places)
 given old piece placed new last before places segments e h is s p =
     let bytes = old.bytes ++ piece in
     let read = read_is old piece placed new e h in
@@ -57,7 +57,7 @@ given old piece placed new last before places segments e h is s p =
       placed = placed;
       split = read_splits bytes placed h.read read;
       segments_are = s ∙ ap (map (λ p. segment_of p.segment)) (moved_is old placed e);
-      places_are = p ∙ ap (map place_in) (moved_is old placed e);
+      places_are = p ∙ ap (map data_place) (moved_is old placed e);
       at_is = omega (arith, read.within, length-drop h.read.whole bytes);
       within = omega (arith, h.within, read.within, length-drop h.read.whole bytes);
       still = refl;
@@ -86,11 +86,11 @@ unhalted None old piece f new r e (inr (o, at, p, s)) is none = let k : r ≡ So
 pub memory : (old : Buffered) (piece : List ℕ) (f : SyntaxFault) (new : Buffered) (r : Option SyntaxFault) → old.failed ≡ None → IsUnfed old.failed old piece f new → r ≡ option_map failed_at new.failed → is_some r ≡ false → IsMemory f × (new ≡ old)
 memory old piece f new r e h is none = unhalted old.failed old piece f new r e h is none
 
-refused_by : (failed : Option ℕ) (old : Buffered) (piece : List ℕ) (f : SyntaxFault) (before : List ℕ) (new : Fed) → failed ≡ None → IsMemory f → new ≡ fed_by old before → IsRefused failed (fed_by old before) piece f new
+refused_by : (failed : Option ℕ) (old : Buffered) (piece : List ℕ) (f : SyntaxFault) (before : List ℕ) (new : Fed) → failed ≡ None → IsMemory f → new ≡ fed_by old before → IsNotGiven failed (fed_by old before) piece f new
 refused_by (Some o) old piece f before new e m s = absurd cc
 refused_by None old piece f before new e m s = inl (m, s)
 
-pub refused : (old : Buffered) (piece : List ℕ) (f : SyntaxFault) (new : Buffered) (before : List ℕ) → old.failed ≡ None → IsMemory f → new ≡ old → IsRefused old.failed (fed_by old before) piece f (fed_by new before)
+pub refused : (old : Buffered) (piece : List ℕ) (f : SyntaxFault) (new : Buffered) (before : List ℕ) → old.failed ≡ None → IsMemory f → new ≡ old → IsNotGiven old.failed (fed_by old before) piece f (fed_by new before)
 refused old piece f new before e m s = refused_by old.failed old piece f before (fed_by new before) e m (ap (λ (b : Buffered). fed_by b before) s)
 
 -- the fault's offset, where one is kept then
@@ -105,7 +105,7 @@ pub fault : (old : Buffered) (piece : List ℕ) (f : SyntaxFault) (new : Buffere
 fault old piece f new r e h is some = halted old.failed old piece f new r e e h is some
 
 stopped_by : (failed : Option ℕ) (old : Buffered) (piece : List ℕ) (f : SyntaxFault) (new : Buffered) (before places : List ℕ) (o : ℕ) → failed ≡ None → old.to.whole ≡ 0 → f.offset ≡ rest_at old + o → PieceFaultAt (MAX_CAPTURE - rest_at old) f.kind o (rest_with old piece) → IsHalted old f.offset new → places ≡ []
-    → IsRefused failed (fed_by old before) piece f (fed_by new places)
+    → IsNotGiven failed (fed_by old before) piece f (fed_by new places)
 stopped_by (Some x) old piece f new before places o e w at p h empty = absurd cc
 stopped_by None old piece f new before places o e w at p h empty =
     let here : old.at + old.to.whole ≡ old.at = omega (arith, w) in
@@ -113,7 +113,7 @@ stopped_by None old piece f new before places o e w at p h empty =
     inr (o, omega (arith, at, w), own, λ i. record { rest = h.bytes i; at = h.at i; failed = h.failed i; places = empty i })
 
 pub stops : (old : Buffered) (piece : List ℕ) (f : SyntaxFault) (new : Buffered) (before places : List ℕ) (r : Option SyntaxFault) → old.failed ≡ None → old.to.whole ≡ 0 → IsUnfed old.failed old piece f new → r ≡ option_map failed_at new.failed → is_some r ≡ true → places ≡ []
-    → IsRefused old.failed (fed_by old before) piece f (fed_by new places)
+    → IsNotGiven old.failed (fed_by old before) piece f (fed_by new places)
 stops old piece f new before places r e w h is some empty = let (o, at, p, s) = fault old piece f new r e h is some in stopped_by old.failed old piece f new before places o e w at p s empty
 
 -- ---- the end

@@ -4,7 +4,7 @@ use Rattle.std.specs.List.{AllByRecursion}
 use Rattle.std.proofs.lemmas.List.{append-nil}
 use Rattle.fints_syntax_segments.specs.Spelling.{Spelled, item_of, IsSpelled}
 use Rattle.fints_syntax_segments.specs.Segment.{Token, element_tokens, segment_tokens, values_of}
-use Rattle.fints_syntax.specs.Reader.{segment_in, elements_in}
+use Rattle.fints_syntax.specs.Reader.{read_segment, read_elements}
 use Rattle.fints_syntax.specs.Owned.{owned_item_of}
 use Rattle.fints_syntax.specs.Window.{IsFrameText}
 use Rattle.fints_syntax.specs.Cursor.{IsTaken, after_element}
@@ -29,7 +29,7 @@ after_first (e ∷ f ∷ es) h = after_one 43 e (segment_tokens (f ∷ es)) h.0 
 
 pub record Filled (all : List (List OwnedItem)) (tokens : List Token) (elements : List (List OwnedItem)) (items : List OwnedItem) : Type 0 where
   pub closed : IsClosed tokens ⊎ ((tokens ≡ []) × (items ≡ []))
-  pub values : elements ++ with_items (values_of (elements_in tokens)) items ≡ all
+  pub values : elements ++ with_items (values_of (read_elements tokens)) items ≡ all
 
 closed_rest : (es : List (List Spelled)) → AllByRecursion (λ e. 0 < length e) es → AllByRecursion (λ e. AllByRecursion IsSpelled e) es → IsClosed (segment_tokens es) ⊎ ((segment_tokens es ≡ []) × (none_of ≡ []))
 closed_rest [] h s = inr (refl, refl)
@@ -43,14 +43,14 @@ values_rest : (es : List (List Spelled)) → values_of (drop 1 es) ≡ drop 1 (v
 values_rest [] = refl
 values_rest (e ∷ es) = refl
 
-pub filled_start : (source : List ℕ) (tokens : List Token) → IsFrameText source → tokens ≡ after_element (segment_tokens (segment_in source)) → Filled (drop 1 (values_of (segment_in source))) tokens [] []
+pub filled_start : (source : List ℕ) (tokens : List Token) → IsFrameText source → tokens ≡ after_element (segment_tokens (read_segment source)) → Filled (drop 1 (values_of (read_segment source))) tokens [] []
 filled_start source tokens f is =
-    let es = drop 1 (segment_in source) in
-    let nonempty = all_rest (λ (e : List Spelled). 0 < length e) (segment_in source) f.framed.nonempty in
-    let e : segment_tokens es ≡ tokens = sym (is ∙ after_first (segment_in source) f.framed.nonempty) in
-    subst (λ ts. Filled (drop 1 (values_of (segment_in source))) ts [] []) e (record {
-      closed = closed_rest es nonempty (all_rest (λ (x : List Spelled). AllByRecursion IsSpelled x) (segment_in source) f.framed.spelled);
-      values = none_read (values_of (elements_in (segment_tokens es))) ∙ ap (λ (x : List (List Spelled)). values_of x) (elements_in-tokens es nonempty) ∙ values_rest (segment_in source);
+    let es = drop 1 (read_segment source) in
+    let nonempty = all_rest (λ (e : List Spelled). 0 < length e) (read_segment source) f.framed.nonempty in
+    let e : segment_tokens es ≡ tokens = sym (is ∙ after_first (read_segment source) f.framed.nonempty) in
+    subst (λ ts. Filled (drop 1 (values_of (read_segment source))) ts [] []) e (record {
+      closed = closed_rest es nonempty (all_rest (λ (x : List Spelled). AllByRecursion IsSpelled x) (read_segment source) f.framed.spelled);
+      values = none_read (values_of (read_elements (segment_tokens es))) ∙ ap (λ (x : List (List Spelled)). values_of x) (elements_in-tokens es nonempty) ∙ values_rest (read_segment source);
     })
 
 pub filled_colon : (all : List (List OwnedItem)) (old new : List Token) (elements : List (List OwnedItem)) (items : List OwnedItem) (f : Found) → Filled all old elements items → IsTaken old f new → f.after ≡ 58
@@ -59,9 +59,9 @@ filled_colon all old new elements items f h t q =
     let c : IsClosed (t.token ∷ new) ⊎ (((t.token ∷ new) ≡ []) × (items ≡ [])) = rw t.split at h.closed in
     let a : t.token.after ≡ 58 = sym t.after ∙ q in
     let o = owned_is f.item t.token.item t.item in
-    let move : with_items (values_of (elements_in old)) items ≡ with_items (values_of (elements_in new)) (items ++ owned_item_of f.item ∷ []) =
-    ap (λ (x : List Token). with_items (values_of (elements_in x)) items) t.split ∙ ap (λ (x : List (List Spelled)). with_items (values_of x) items) (colon_in t.token new a)
-    ∙ first_read items t.token.item (elements_in new) ∙ ap (λ (x : OwnedItem). with_items (values_of (elements_in new)) (items ++ x ∷ [])) (sym o) in
+    let move : with_items (values_of (read_elements old)) items ≡ with_items (values_of (read_elements new)) (items ++ owned_item_of f.item ∷ []) =
+    ap (λ (x : List Token). with_items (values_of (read_elements x)) items) t.split ∙ ap (λ (x : List (List Spelled)). with_items (values_of x) items) (colon_in t.token new a)
+    ∙ first_read items t.token.item (read_elements new) ∙ ap (λ (x : OwnedItem). with_items (values_of (read_elements new)) (items ++ x ∷ [])) (sym o) in
     record { closed = inl (closed_colon t.token new c a); values = ap (λ (x : List (List OwnedItem)). elements ++ x) (sym move) ∙ h.values }
 
 pub filled_other : (all : List (List OwnedItem)) (old new : List Token) (elements : List (List OwnedItem)) (items : List OwnedItem) (f : Found) → Filled all old elements items → IsTaken old f new → f.after ≢ 58
@@ -70,9 +70,9 @@ filled_other all old new elements items f h t q =
     let c : IsClosed (t.token ∷ new) ⊎ (((t.token ∷ new) ≡ []) × (items ≡ [])) = rw t.split at h.closed in
     let a : t.token.after ≢ 58 = λ e. q (t.after ∙ e) in
     let o = owned_is f.item t.token.item t.item in
-    let rest = values_of (elements_in new) in
-    let move : with_items (values_of (elements_in old)) items ≡ (items ++ owned_item_of f.item ∷ []) ∷ with_items rest [] =
-    ap (λ (x : List Token). with_items (values_of (elements_in x)) items) t.split ∙ ap (λ (x : List (List Spelled)). with_items (values_of x) items) (other_in t.token new a)
+    let rest = values_of (read_elements new) in
+    let move : with_items (values_of (read_elements old)) items ≡ (items ++ owned_item_of f.item ∷ []) ∷ with_items rest [] =
+    ap (λ (x : List Token). with_items (values_of (read_elements x)) items) t.split ∙ ap (λ (x : List (List Spelled)). with_items (values_of x) items) (other_in t.token new a)
     ∙ element_read items (item_of t.token.item) rest ∙ ap (λ (x : OwnedItem). (items ++ x ∷ []) ∷ rest) (sym o) ∙ ap (λ (x : List (List OwnedItem)). (items ++ owned_item_of f.item ∷ []) ∷ x) (sym (none_read rest)) in
     record {
       closed = closed_other t.token new c;
@@ -80,7 +80,7 @@ filled_other all old new elements items f h t q =
     }
 
 filled_nil : (all : List (List OwnedItem)) (elements : List (List OwnedItem)) (items : List OwnedItem) → Filled all [] elements items → (elements ≡ all) × (items ≡ [])
-unfolding with_items alone elements_in
+unfolding with_items alone read_elements
 filled_nil all elements items h =
     elim h.closed [
       | inl c ↦ absurd c

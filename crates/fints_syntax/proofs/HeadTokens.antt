@@ -6,7 +6,7 @@ use Rattle.std.proofs.lemmas.List.{append-nil}
 use Rattle.fints_syntax_segments.specs.Spelling.{Spelled, item_of}
 use Rattle.fints_syntax_segments.specs.Head.{head_from}
 use Rattle.fints_syntax_segments.specs.Segment.{Token, element_tokens, segment_tokens, values_of, head_of, item_value}
-use Rattle.fints_syntax.specs.Reader.{segment_in}
+use Rattle.fints_syntax.specs.Reader.{read_segment}
 use Rattle.fints_syntax.specs.Window.{IsFrameText}
 use Rattle.fints_syntax.specs.ItemIs.{value_of_item}
 use Rattle.fints_syntax.specs.Cursor.{IsTaken}
@@ -35,8 +35,8 @@ head_front (e ∷ f ∷ es) h =
     let one : front (segment_tokens (e ∷ f ∷ es)) ≡ e = front_one 43 e (segment_tokens (f ∷ es)) h.0 refl in
     ap (λ (x : List Spelled). head_from (map item_value (map item_of x))) (sym one)
 
-pub head_read : (source : List ℕ) (tokens : List Token) → IsFrameText source → tokens ≡ segment_tokens (segment_in source) → head_of (values_of (segment_in source)) ≡ head_from (front_values tokens)
-head_read source tokens f e = head_front (segment_in source) f.framed.nonempty ∙ ap (λ (x : List Token). head_from (front_values x)) (sym e)
+pub head_read : (source : List ℕ) (tokens : List Token) → IsFrameText source → tokens ≡ segment_tokens (read_segment source) → head_of (values_of (read_segment source)) ≡ head_from (front_values tokens)
+head_read source tokens f e = head_front (read_segment source) f.framed.nonempty ∙ ap (λ (x : List Token). head_from (front_values x)) (sym e)
 
 pub values_end : (ts : List Token) → ts ≡ [] → front_values ts ≡ []
 values_end ts e = ap front_values e

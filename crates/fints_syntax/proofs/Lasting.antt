@@ -8,7 +8,7 @@ use Rattle.fints_syntax_segments.specs.Spelling.{Spelled, escaped, plain, text, 
 use Rattle.fints_syntax_segments.specs.Segment.{segment_bytes, tokens_bytes}
 use Rattle.fints_syntax.specs.Faults.{BeginsWithItem, IsCutBinary, IsBadBinary, Opens, IsBadAt, HasTooManyItems, IsUnfinished, BeginsFramed, BeginsWithSegment, KindAt, window_of}
 use Rattle.fints_syntax.specs.Capture.{piece_bytes, FaultsAt}
-use Rattle.fints_syntax.specs.Streams.{IsSplit, PieceFaultAt}
+use Rattle.fints_syntax.specs.Streams.{SplitsInto, PieceFaultAt}
 use Rattle.fints_syntax.specs.declared.fault.SyntaxKind.{SyntaxKind}
 use Rattle.fints_syntax.specs.declared.fault.SyntaxKind.TheVariants.{Memory, BadBinary, TooLong, Incomplete, BadHead, CaptureTooLong, Failed}
 use Rattle.fints_syntax.proofs.Tokens.{one_segment}
@@ -182,7 +182,7 @@ faults_read bytes more limit kind o n f =
 pub fault_lasts : (bytes more : List ℕ) (limit o : ℕ) (kind : SyntaxKind) → PieceFaultAt limit kind o bytes → PieceFaultAt limit kind o (bytes ++ more)
 fault_lasts bytes more limit o CaptureTooLong (at, lt, placed, rest, s) =
     let e = take-append-le limit bytes more (omega arith) in
-    (at, omega (arith, lt, length-append bytes more), placed, rest, subst (λ (x : List ℕ). IsSplit x placed rest) (sym e) s)
+    (at, omega (arith, lt, length-append bytes more), placed, rest, subst (λ (x : List ℕ). SplitsInto x placed rest) (sym e) s)
 fault_lasts bytes more limit o Memory (n, f) = absurd f.fault
 fault_lasts bytes more limit o Failed (n, f) = absurd f.fault
 fault_lasts bytes more limit o Incomplete (n, f) = absurd (n refl)

@@ -5,7 +5,7 @@ use Rattle.std.proofs.lemmas.Bool.{cases_lt}
 use Rattle.std.proofs.lemmas.List.{append-nil, length-append, length-drop, take_all}
 use Rattle.fints_syntax_segments.specs.Spelling.{Spelled}
 use Rattle.fints_syntax_segments.specs.Segment.{Token, tokens_bytes, segment_tokens, segment_bytes, IsSegment}
-use Rattle.fints_syntax.specs.Faults.{BeginsWithItem, IsOpen, IsBadAt, HasTooManyItems, BeginsFramed, BeginsWithSegment, KindAt, IsFault, window_of}
+use Rattle.fints_syntax.specs.Faults.{BeginsWithItem, IsContinued, IsBadAt, HasTooManyItems, BeginsFramed, BeginsWithSegment, KindAt, IsFault, window_of}
 use Rattle.fints_syntax.specs.Capture.{IsBreak, Piece, piece_bytes, IsPiece, placed_from, IsCapture, IsPlacedCapture, FaultsAt, CaptureFaultAt, IsCaptureFault}
 use Rattle.fints_syntax.specs.declared.capture.Placed.{Placed}
 use Rattle.fints_syntax.specs.declared.fault.SyntaxFault.{SyntaxFault}
@@ -20,7 +20,7 @@ use Rattle.fints_syntax.proofs.OneCapture.{same_gap, regroup, same_piece, segmen
 -- ---- of bytes that begin with no segment
 
 -- open items are none where no item begins
-nothing_left : (left : List Token) (more rest : List ℕ) → AllByRecursion IsOpen left → more ≡ tokens_bytes left ++ rest → (BeginsWithItem more → ⊥) → more ≡ rest
+nothing_left : (left : List Token) (more rest : List ℕ) → AllByRecursion IsContinued left → more ≡ tokens_bytes left ++ rest → (BeginsWithItem more → ⊥) → more ≡ rest
 nothing_left [] more rest o e none = e
 nothing_left (t ∷ ts) more rest o e none = absurd (none (subst BeginsWithItem (sym e) (begins_token t ts rest (token_open t o.0))))
 

@@ -7,7 +7,7 @@ use Rattle.std.proofs.lemmas.List.Sums.{sum_by-append}
 use Rattle.fints_syntax_segments.specs.Spelling.{spelled_bytes}
 use Rattle.fints_syntax_segments.specs.Segment.{Token, token_bytes, tokens_bytes, segment_tokens, segment_bytes}
 use Rattle.fints_syntax.specs.Capture.{Piece, piece_bytes, IsPiece, placed_from}
-use Rattle.fints_syntax.specs.Streams.{is_quote, IsRest, IsSplit}
+use Rattle.fints_syntax.specs.Streams.{is_quote, IsRest, SplitsInto}
 use Rattle.fints_syntax.specs.declared.capture.Placed.{Placed}
 use Rattle.fints_syntax.proofs.Tokens.{IsClosed, closed-segment}
 use Rattle.fints_syntax.proofs.OneFault.{Ends}
@@ -71,5 +71,5 @@ placed_count : (at : ℕ) (ps : List Piece) → length (placed_from at ps) ≡ l
 placed_count at [] = refl
 placed_count at (p ∷ ps) = ap suc (placed_count (at + length (piece_bytes p)) ps)
 
-pub few_segments : (rest more : List ℕ) (placed : List Placed) (left : List ℕ) → IsRest rest → IsSplit (rest ++ more) placed left → length placed ≤ count_by is_quote more
+pub few_segments : (rest more : List ℕ) (placed : List Placed) (left : List ℕ) → IsRest rest → SplitsInto (rest ++ more) placed left → length placed ≤ count_by is_quote more
 few_segments rest more placed left r s = omega (arith, few_pieces rest more s.reads.pieces left (rest_ends rest r) s.reads.each s.reads.text, ap length s.reads.placed_are, placed_count 0 s.reads.pieces)

@@ -2,7 +2,7 @@
 use Rattle.std.proofs.Common.{◌≡◌, ℕ, suc, ◌+◌, List, ◌∷◌, ◌++◌, length, drop, refl, ap, ◌∙◌, sym, arith, append_assoc, Some, add-zero, Bor}
 use Rattle.std.proofs.lemmas.List.{drop_at, drop-drop, length-append}
 use Rattle.fints_syntax_segments.specs.Spelling.{TextUnit, Spelled, text, binary, spelled_bytes}
-use Rattle.fints_syntax.specs.Reader.{segment_in}
+use Rattle.fints_syntax.specs.Reader.{read_segment}
 use Rattle.fints_syntax.specs.Window.{IsFrameText}
 use Rattle.fints_syntax.specs.Places.{start_at, spelled_at, data_offset, source_bytes, StandsAt}
 use Rattle.fints_syntax.specs.Locate.{IsPlace, found_in}
@@ -33,7 +33,7 @@ data_start d (text us) h = absurd h
 data_start d (binary ds bytes) h = omega (arith, ap length h, length-append ds (64 ∷ bytes))
 
 module _ (source : List ℕ) (e i start len : ℕ) (f : IsFrameText source) (p : IsPlace source start len (found_in source e i)) where
-  pub start_of_text : (raw : List TextUnit) → IsItem (Text raw) p.item → Some start ≡ start_at (segment_in source) e i
+  pub start_of_text : (raw : List TextUnit) → IsItem (Text raw) p.item → Some start ≡ start_at (read_segment source) e i
   start_of_text raw h =
       let n : start + data_offset p.item ≡ start = omega (arith, text_start raw p.item h) in
       sym (place_at source e i start len f p ∙ ap Some n)
@@ -41,12 +41,12 @@ module _ (source : List ℕ) (e i start len : ℕ) (f : IsFrameText source) (p :
   pub data_within : (data_slice : Bor (List ℕ)) → IsItem (Bin data_slice) p.item → data_offset p.item + length data_slice.now ≡ len
   data_within d h = data_start d p.item h ∙ p.len_is
 
-  pub start_of_data : (data_slice : Bor (List ℕ)) (n : ℕ) → IsItem (Bin data_slice) p.item → n + length data_slice.now ≡ start + len → Some n ≡ start_at (segment_in source) e i
+  pub start_of_data : (data_slice : Bor (List ℕ)) (n : ℕ) → IsItem (Bin data_slice) p.item → n + length data_slice.now ≡ start + len → Some n ≡ start_at (read_segment source) e i
   start_of_data d n h q =
       let m : start + data_offset p.item ≡ n = omega (arith, data_within d h) in
       sym (place_at source e i start len f p ∙ ap Some m)
 
-  pub stands_there : (n : ℕ) → Some n ≡ start_at (segment_in source) e i → StandsAt source n (spelled_at (segment_in source) e i)
+  pub stands_there : (n : ℕ) → Some n ≡ start_at (read_segment source) e i → StandsAt source n (spelled_at (read_segment source) e i)
   stands_there n q =
       let both : Some n ≡ Some (start + data_offset p.item) = q ∙ place_at source e i start len f p in
       let is : n ≡ start + data_offset p.item = cc in

@@ -8,7 +8,7 @@ use Rattle.fints_syntax_segments.specs.Segment.{segment_bytes, IsSegment}
 use Rattle.fints_syntax.specs.Faults.{KindAt, window_of}
 use Rattle.fints_syntax.specs.Search.{IsSearched}
 use Rattle.fints_syntax.specs.Capture.{IsBreak, IsClean, piece_bytes, FaultsAt}
-use Rattle.fints_syntax.specs.Streams.{IsBegun, IsSplit, moved_by, IsReady, IsReadTo}
+use Rattle.fints_syntax.specs.Streams.{IsBegun, SplitsInto, moved_by, IsReady, IsReadTo}
 use Rattle.fints_syntax.specs.declared.capture.Placed.{Placed}
 use Rattle.fints_syntax.specs.declared.fault.SyntaxKind.{SyntaxKind}
 use Rattle.fints_syntax.specs.declared.fault.SyntaxKind.TheVariants.{Incomplete}
@@ -131,7 +131,7 @@ begun_goes_on rest more limit b r le =
     let e : take limit (rest ++ more) ≡ rest ++ take (limit - length rest) more = ap (λ (k : ℕ). take k (rest ++ more)) (sym n) ∙ take-append-add rest more (limit - length rest) in
     subst (λ (xs : List ℕ). IsReady xs b) (sym e) (still_ready rest (take (limit - length rest) more) b r)
 
-pub read_splits : (bytes : List ℕ) (placed : List Placed) (r : ReadTo) → IsReadTo bytes placed r → IsSplit bytes placed (drop r.whole bytes)
+pub read_splits : (bytes : List ℕ) (placed : List Placed) (r : ReadTo) → IsReadTo bytes placed r → SplitsInto bytes placed (drop r.whole bytes)
 read_splits bytes placed r h =
     let rest = drop r.whole bytes in
     record {

@@ -20,7 +20,7 @@ pub record IsUnread (to : ReadTo) : Type 0 where
   pub ready : (rest : List ℕ) → IsReady rest to.rest
 
 -- no byte came
-pub record IsNew (b : Buffered) : Type 0 where
+pub record IsEmptyBuffer (b : Buffered) : Type 0 where
   pub bytes : b.bytes ≡ []
   pub at : b.at ≡ 0
   pub failed : b.failed ≡ None

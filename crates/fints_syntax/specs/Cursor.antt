@@ -3,7 +3,7 @@ use Rattle.std.specs.Prelude.{◌≡◌, ◌==◌, if◌then◌else◌, List, []
 use Rattle.fints_syntax_segments.specs.Spelling.{IsSpelled}
 use Rattle.fints_syntax_segments.specs.Segment.{Token, tokens_bytes}
 use Rattle.fints_syntax.specs.Reader.{tokens_in}
-use Rattle.fints_syntax.specs.Faults.{IsOpen}
+use Rattle.fints_syntax.specs.Faults.{IsContinued}
 use Rattle.fints_syntax.specs.ItemIs.{IsItem}
 use Rattle.fints_syntax.specs.declared.cursor.Found.{Found}
 use Rattle.fints_syntax.specs.declared.cursor.Cursor.TheInside.{Inside}
@@ -12,7 +12,7 @@ use Rattle.fints_syntax.specs.declared.cursor.Cursor.TheInside.{Inside}
 abbrev pub IsRun : List Token → Type 0
 IsRun [] = Unit {0}
 IsRun (t ∷ []) = IsSpelled t.item × (t.after ≡ 39)
-IsRun (t ∷ u ∷ ts) = IsOpen t × IsRun (u ∷ ts)
+IsRun (t ∷ u ∷ ts) = IsContinued t × IsRun (u ∷ ts)
 
 abbrev pub tokens_of : Inside → List Token
 tokens_of c = tokens_in (length c.rest.now) c.rest.now

@@ -4,7 +4,7 @@ use Rattle.std.specs.List.{AllByRecursion}
 use Rattle.fints_syntax.specs.Buffered.{failed_at}
 use Rattle.fints_syntax.specs.Capture.{IsBreak}
 use Rattle.fints_syntax.specs.Owned.{segment_of}
-use Rattle.fints_syntax.specs.Streams.{IsSplit, IsMemory, PieceFaultAt, moved_by, whole_len, place_in}
+use Rattle.fints_syntax.specs.Streams.{SplitsInto, IsMemory, PieceFaultAt, moved_by, whole_len, data_place}
 use Rattle.fints_syntax.specs.declared.capture.Placed.{Placed}
 use Rattle.fints_syntax.specs.declared.fault.SyntaxFault.{SyntaxFault}
 use Rattle.fints_syntax.specs.declared.fault.SyntaxKind.TheVariants.{Incomplete}
@@ -26,9 +26,9 @@ unfed = record { rest = []; at = 0; failed = None; places = [] }
 pub record IsGiven (old : Fed) (piece : List ℕ) (segments : List OwnedSegment) (new : Fed) : Type 0 where
   pub sound : old.failed ≡ None
   pub placed : List Placed
-  pub split : IsSplit (old.rest ++ piece) placed new.rest
+  pub split : SplitsInto (old.rest ++ piece) placed new.rest
   pub segments_are : segments ≡ map (λ p. segment_of p.segment) (moved_by old.at placed)
-  pub places_are : new.places ≡ map place_in (moved_by old.at placed)
+  pub places_are : new.places ≡ map data_place (moved_by old.at placed)
   pub at_is : new.at ≡ old.at + whole_len (old.rest ++ piece) new.rest
   pub within : new.at + length new.rest ≤ MAX_CAPTURE
   pub still : new.failed ≡ None
@@ -44,9 +44,9 @@ IsStopped old piece f new =
     ⊎ ((o : ℕ) × (f.offset ≡ old.at + o) × PieceFaultAt (MAX_CAPTURE - old.at) f.kind o (old.rest ++ piece) × (new ≡ stopped old f.offset))
 
 -- why a piece is refused, and what the feeder keeps then
-abbrev pub IsRefused : Option ℕ → Fed → List ℕ → SyntaxFault → Fed → Type 0
-IsRefused (Some offset) old piece f new = (f ≡ failed_at offset) × (new ≡ old)
-IsRefused None old piece f new = IsStopped old piece f new
+abbrev pub IsNotGiven : Option ℕ → Fed → List ℕ → SyntaxFault → Fed → Type 0
+IsNotGiven (Some offset) old piece f new = (f ≡ failed_at offset) × (new ≡ old)
+IsNotGiven None old piece f new = IsStopped old piece f new
 
 -- the rest is line breaks and a segment that has begun behind them, which has no end
 pub record IsCut (fed : Fed) (f : SyntaxFault) : Type 0 where

@@ -1,11 +1,11 @@
 -- The laws of segment texts. Each is the contract of a public function, which a proof in a crate above calls for it.
-use Rattle.std.specs.Prelude.{◌≡◌, ◌≢◌, ◌≤◌, ◌↔◌, ◌+◌, ◌++◌, ℕ, List, length, take, drop, Some}
+use Rattle.std.specs.Prelude.{◌≡◌, ◌≢◌, ◌⊎◌, ◌≤◌, ◌↔◌, ◌+◌, ◌++◌, ℕ, List, length, take, drop, Some}
 use Rattle.std.specs.List.{count_by}
 use Rattle.fints_syntax_segments.specs.Spelling.{Spelled}
 use Rattle.fints_syntax_segments.specs.Segment.{segment_bytes, values_of, head_of, IsFramed, IsSegment}
 use Rattle.fints_syntax.specs.Owned.{segment_of}
 use Rattle.fints_syntax.specs.Faults.{BeginsWithSegment, IsFault, window_of}
-use Rattle.fints_syntax.specs.Streams.{is_quote, IsRest, IsSplit, moved_by, whole_len, IsReady, IsReadTo, PieceFaultAt}
+use Rattle.fints_syntax.specs.Streams.{is_quote, IsRest, SplitsInto, moved_by, whole_len, IsReady, IsReadTo, PieceFaultAt}
 use Rattle.fints_syntax.specs.Capture.{IsCapture, IsPlacedCapture, IsCaptureFault, FaultsAt}
 use Rattle.fints_syntax_segments.specs.Written.{segment_values, written_tree, written_segment, IsWritable}
 use Rattle.fints_syntax.specs.declared.capture.Placed.{Placed}
@@ -74,16 +74,16 @@ BegunGoesOn = (rest more : List ℕ) (limit : ℕ) (b : Begun) → IsReady rest 
 
 -- bytes that are read so far are split there
 abbrev pub ReadIsSplit : Type 0
-ReadIsSplit = (bytes : List ℕ) (placed : List Placed) (r : ReadTo) → IsReadTo bytes placed r → IsSplit bytes placed (drop r.whole bytes)
+ReadIsSplit = (bytes : List ℕ) (placed : List Placed) (r : ReadTo) → IsReadTo bytes placed r → SplitsInto bytes placed (drop r.whole bytes)
 
 -- a stream that is cut in two: its segments are those of the first part, and then those of the first part's rest with the second part
 abbrev pub CutSegments : Type 0
-CutSegments = (first second : List ℕ) (placed more : List Placed) (rest left : List ℕ) → IsSplit first placed rest → IsSplit (rest ++ second) more left → IsSplit (first ++ second) (placed ++ moved_by (whole_len first rest) more) left
+CutSegments = (first second : List ℕ) (placed more : List Placed) (rest left : List ℕ) → SplitsInto first placed rest → SplitsInto (rest ++ second) more left → SplitsInto (first ++ second) (placed ++ moved_by (whole_len first rest) more) left
 
 -- and its fault is that of the first part's rest with the second part
 abbrev pub CutFault : Type 0
 CutFault =
-    (first second : List ℕ) (placed : List Placed) (rest : List ℕ) (limit o : ℕ) (kind : SyntaxKind) → IsSplit first placed rest → PieceFaultAt limit kind o (rest ++ second)
+    (first second : List ℕ) (placed : List Placed) (rest : List ℕ) (limit o : ℕ) (kind : SyntaxKind) → SplitsInto first placed rest → PieceFaultAt limit kind o (rest ++ second)
     → PieceFaultAt (whole_len first rest + limit) kind (whole_len first rest + o) (first ++ second)
 
 -- a fault of a stream stays what it is, and where it is, whatever bytes follow
@@ -92,15 +92,15 @@ FaultLasts = (bytes more : List ℕ) (limit o : ℕ) (kind : SyntaxKind) → Pie
 
 -- what follows bytes without a whole segment ends no more segments than it has `'`
 abbrev pub FewSegments : Type 0
-FewSegments = (rest more : List ℕ) (placed : List Placed) (left : List ℕ) → IsRest rest → IsSplit (rest ++ more) placed left → length placed ≤ count_by is_quote more
+FewSegments = (rest more : List ℕ) (placed : List Placed) (left : List ℕ) → IsRest rest → SplitsInto (rest ++ more) placed left → length placed ≤ count_by is_quote more
 
 -- bytes have one list of whole segments, and one rest
 abbrev pub OneSplit : Type 0
-OneSplit = (bytes : List ℕ) (p q : List Placed) (x y : List ℕ) → IsSplit bytes p x → IsSplit bytes q y → (p ≡ q) × (x ≡ y)
+OneSplit = (bytes : List ℕ) (p q : List Placed) (x y : List ℕ) → SplitsInto bytes p x → SplitsInto bytes q y → (p ≡ q) × (x ≡ y)
 
 -- and no fault then, unless more bytes may mend it
 abbrev pub NoSplitAtFault : Type 0
-NoSplitAtFault = (bytes : List ℕ) (p : List Placed) (x : List ℕ) (kind : SyntaxKind) (o : ℕ) → IsSplit bytes p x → kind ≢ Incomplete → FaultsAt bytes kind o → ⊥
+NoSplitAtFault = (bytes : List ℕ) (p : List Placed) (x : List ℕ) (kind : SyntaxKind) (o : ℕ) → SplitsInto bytes p x → kind ≢ Incomplete → FaultsAt bytes kind o → ⊥
 
 -- the fault of a stream from its start on is that of a capture, and none of the others that a capture may have
 abbrev pub PieceFaultIsCaptureFault : Type 0
@@ -121,3 +121,12 @@ OnePlacedCapture = (input : List ℕ) (p q : List Placed) → IsPlacedCapture in
 -- a capture has one fault at most, but for want of memory: one kind, and one offset
 abbrev pub OneCaptureFault : Type 0
 OneCaptureFault = (input : List ℕ) (f g : SyntaxFault) → IsCaptureFault input f → IsCaptureFault input g → f.kind ≢ Memory → g.kind ≢ Memory → f ≡ g
+
+-- each list of bytes begins with a segment, or has the fault of one that doesn't
+abbrev pub SegmentOrFault : Type 0
+SegmentOrFault = (input : List ℕ) → BeginsWithSegment (window_of input) ⊎ ((f : SyntaxFault) × IsFault input f)
+
+-- each list of bytes is a capture within the limit, or has a fault that isn't want of memory
+abbrev pub CaptureOrFault : Type 0
+CaptureOrFault = (input : List ℕ)
+    → ((length input ≤ MAX_CAPTURE) × (placed : List Placed) × IsPlacedCapture input placed) ⊎ ((f : SyntaxFault) × IsCaptureFault input f × (f.kind ≢ Memory))

@@ -4,7 +4,7 @@ use Rattle.std.specs.List.{AllByRecursion}
 use Rattle.fints_syntax_segments.specs.Spelling.{TextUnit, text_bytes, IsUnit}
 use Rattle.fints_syntax_segments.specs.Segment.{Token, tokens_bytes}
 use Rattle.fints_syntax_segments.specs.declared.limits.TheConstants.{MAX_ITEMS}
-use Rattle.fints_syntax.specs.Faults.{IsOpen}
+use Rattle.fints_syntax.specs.Faults.{IsContinued}
 use Rattle.fints_syntax.specs.declared.window.Search.{Search}
 
 -- how many of the items end an element before the last
@@ -22,7 +22,7 @@ pub record BeginsWithUnits (bytes : List ℕ) (n : ℕ) : Type 0 where
 -- so many items, each followed by `+` or `:`, stand in the first `at` bytes; the byte after them is in the element of this number
 pub record SoFar (window : List ℕ) (items at elements : ℕ) : Type 0 where
   pub tokens : List Token
-  pub each : AllByRecursion IsOpen tokens
+  pub each : AllByRecursion IsContinued tokens
   pub count : length tokens ≡ items
   pub at_is : length (tokens_bytes tokens) ≡ at
   pub text : window ≡ tokens_bytes tokens ++ drop at window

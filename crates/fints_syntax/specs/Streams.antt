@@ -32,7 +32,7 @@ pub record IsRest (rest : List ℕ) : Type 0 where
   pub text : rest ≡ gap ++ begun
 
 -- the whole segments of the bytes, each with its offset, and what is left of the bytes
-pub record IsSplit (bytes : List ℕ) (placed : List Placed) (rest : List ℕ) : Type 0 where
+pub record SplitsInto (bytes : List ℕ) (placed : List Placed) (rest : List ℕ) : Type 0 where
   pub reads : ReadsPlaced bytes placed rest
   pub left : IsRest rest
 
@@ -41,8 +41,8 @@ abbrev pub moved_by : ℕ → List Placed → List Placed
 moved_by n placed = map (λ p. record { start = n + p.start; segment = p.segment }) placed
 
 -- the offset of item 1 of element 2 of a segment, counted as the segment's is, or 0 where there is none
-abbrev pub place_in : Placed → ℕ
-place_in p = unwrap_or (option_map (λ o. p.start + o) (start_of p.segment 2 1)) 0
+abbrev pub data_place : Placed → ℕ
+data_place p = unwrap_or (option_map (λ o. p.start + o) (start_of p.segment 2 1)) 0
 
 -- how many bytes the whole segments take, with the line breaks before and between them
 abbrev pub whole_len : List ℕ → List ℕ → ℕ
@@ -63,7 +63,7 @@ pub record IsReadTo (bytes : List ℕ) (placed : List Placed) (r : ReadTo) : Typ
 
 -- The fault of bytes of which at most `limit` are read: an unfinished segment is none, since more bytes may end it; and where more bytes stand there, and those that are read have no fault, there are too many.
 abbrev pub PieceFaultAt : ℕ → SyntaxKind → ℕ → List ℕ → Type 0
-PieceFaultAt limit CaptureTooLong o bytes = (o ≡ limit) × (limit < length bytes) × (placed : List Placed) × (rest : List ℕ) × IsSplit (take limit bytes) placed rest
+PieceFaultAt limit CaptureTooLong o bytes = (o ≡ limit) × (limit < length bytes) × (placed : List Placed) × (rest : List ℕ) × SplitsInto (take limit bytes) placed rest
 PieceFaultAt limit kind o bytes = (kind ≢ Incomplete) × FaultsAt (take limit bytes) kind o
 
 -- want of memory
@@ -77,5 +77,5 @@ IsStreamFault at bytes f = IsMemory f ⊎ ((o : ℕ) × (f.offset ≡ at + o) ×
 -- ---- of private contracts and proofs alone
 
 -- want of memory, or a fault of the bytes that no further byte mends
-abbrev pub IsStop : ℕ → List ℕ → SyntaxFault → Type 0
-IsStop at bytes f = IsMemory f ⊎ ((o : ℕ) × (f.offset ≡ at + o) × (f.kind ≢ Incomplete) × FaultsAt bytes f.kind o)
+abbrev pub IsPieceStop : ℕ → List ℕ → SyntaxFault → Type 0
+IsPieceStop at bytes f = IsMemory f ⊎ ((o : ℕ) × (f.offset ≡ at + o) × (f.kind ≢ Incomplete) × FaultsAt bytes f.kind o)

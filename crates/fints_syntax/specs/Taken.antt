@@ -1,11 +1,11 @@
 -- What is taken of a piece. Private contracts alone cite these words.
 use Rattle.std.specs.Prelude.{◌≡◌, List, map}
 use Rattle.fints_syntax.specs.Owned.{segment_of}
-use Rattle.fints_syntax.specs.Streams.{place_in}
+use Rattle.fints_syntax.specs.Streams.{data_place}
 use Rattle.fints_syntax.specs.declared.capture.Placed.{Placed}
 use Rattle.fints_syntax.specs.declared.taken.Taken.{Taken}
 
 -- these segments, by their values and with their places
 pub record AreTaken (placed : List Placed) (t : Taken) : Type 0 where
   pub segments_are : t.segments.items ≡ map (λ p. segment_of p.segment) placed
-  pub places_are : t.places.items ≡ map place_in placed
+  pub places_are : t.places.items ≡ map data_place placed

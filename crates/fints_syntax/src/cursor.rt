@@ -1,7 +1,7 @@
 //! The items of a segment one after the other.
 ghost use Rattle.std.specs.Prelude.{◌≡◌, [], IfNone, IfSome};
 ghost use Rattle.fints_syntax_segments.specs.Segment.{segment_tokens};
-ghost use Rattle.fints_syntax.specs.Reader.{segment_in};
+ghost use Rattle.fints_syntax.specs.Reader.{read_segment};
 ghost use Rattle.fints_syntax.specs.Window.{IsFrameText};
 ghost use Rattle.fints_syntax.specs.Cursor.{IsTaken};
 
@@ -39,7 +39,7 @@ impl<'a> Model for Cursor<'a> {
 #[inline(always)]
 pub fn cursor_over(source: &[u8]) -> Cursor<'_>
     requires { IsFrameText source.now }
-    ensures { result ≡ segment_tokens (segment_in source.now) }
+    ensures { result ≡ segment_tokens (read_segment source.now) }
 {
     Cursor { rest: source }
 }

@@ -2,7 +2,7 @@
 ghost use Rattle.std.specs.Prelude.{◌≡◌, ◌≤◌, [], length, OnOk, IfOk, IfErr};
 ghost use Rattle.std.specs.List.{count_by};
 ghost use Rattle.fints_syntax.specs.Streams.{is_quote};
-ghost use Rattle.fints_syntax.specs.Feeding.{unfed, IsGiven, IsRefused, IsEnded, IsUnended};
+ghost use Rattle.fints_syntax.specs.Feeding.{unfed, IsGiven, IsNotGiven, IsEnded, IsUnended};
 
 use crate::buffer::StreamBuffer;
 use crate::fault::{SyntaxFault, SyntaxKind};
@@ -52,7 +52,7 @@ impl Feeder {
     pub fn feed(&mut self, piece: &[u8]) -> Result<Vec<OwnedSegment>, SyntaxFault>
         ensures given { IfOk result (λ v. IsGiven self.old piece.now v.items self.new) }
         ensures few { IfOk result (λ v. length v.items ≤ count_by is_quote piece.now) }
-        ensures refused { IfErr result (λ f. IsRefused self.old.failed self.old piece.now f self.new) }
+        ensures refused { IfErr result (λ f. IsNotGiven self.old.failed self.old piece.now f self.new) }
     {
         if let Some(fault) = self.buffer.failure() {
             return Err(fault);

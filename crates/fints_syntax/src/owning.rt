@@ -6,7 +6,7 @@ ghost use Rattle.fints_syntax_segments.specs.Spelling.{text_value};
 ghost use Rattle.fints_syntax_segments.specs.Written.{KeepsFront};
 ghost use Rattle.fints_syntax.specs.Owned.{owned_item_of};
 ghost use Rattle.fints_syntax.specs.Items.{HasNoEscape};
-ghost use Rattle.fints_syntax.specs.Reader.{segment_in};
+ghost use Rattle.fints_syntax.specs.Reader.{read_segment};
 ghost use Rattle.fints_syntax.specs.Window.{IsFrameText};
 ghost use Rattle.fints_syntax.specs.Cursor.{after_element};
 
@@ -69,7 +69,8 @@ fn skip_element(cursor: &mut Cursor<'_>)
 /// The values of the elements after the head, in one pass, in place of what was held.
 pub fn fill(filling: &mut Filling, source: &[u8]) -> Result<(), Memory>
     requires { IsFrameText source.now }
-    ensures { OnOk result (filling.new ≡ record { elements = drop 1 (values_of (segment_in source.now)); items = [] }) }
+    ensures { OnOk result (filling.new
+        ≡ record { elements = drop 1 (values_of (read_segment source.now)); items = [] }) }
 {
     filling.clear();
     let mut cursor = cursor_over(source);

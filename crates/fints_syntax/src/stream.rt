@@ -2,7 +2,7 @@
 ghost use Rattle.std.specs.Prelude.{List, ◌≡◌, ◌≤◌, ◌+◌, ◌-◌, ◌++◌, ◌∷◌, [], ℕ, length, take, drop, OnOk, IfOk, IfErr, IsTrue, ◌↔◌};
 ghost use Rattle.fints_syntax_segments.specs.Segment.{segment_bytes};
 ghost use Rattle.fints_syntax.specs.Capture.{IsClean};
-ghost use Rattle.fints_syntax.specs.Streams.{IsReady, IsReadTo, IsStop, IsStreamFault, moved_by, place_in};
+ghost use Rattle.fints_syntax.specs.Streams.{IsReady, IsReadTo, IsPieceStop, IsStreamFault, moved_by, data_place};
 ghost use Rattle.fints_syntax.specs.declared.capture.Placed.{Placed};
 ghost use Rattle.fints_syntax.specs.declared.capture.TheConstants.{MAX_CAPTURE};
 ghost use Rattle.fints_syntax.specs.declared.fault.SyntaxKind.TheVariants as kinds;
@@ -54,14 +54,15 @@ pub trait Taker {
     /// Takes a segment, and the offset in the stream at which it starts.
     fn take(&mut self, start: usize, segment: &SegmentView<'_>) -> Result<(), Memory>
         requires { start + length (segment_bytes segment.now) ≤ MAX_CAPTURE }
-        ensures { OnOk result ((seen : List Placed) → good seen self.old → good (seen ++ record { start = start; segment = segment.now } ∷ []) self.new) };
+        ensures { OnOk result ((seen : List Placed) → good seen self.old
+            → good (seen ++ record { start = start; segment = segment.now } ∷ []) self.new) };
 }
 
 /// The offset of item 1 of element 2 of a segment that starts at `start`, counted from where that
 /// is counted from; of a binary item, the offset of its data. It is 0 where there is no element 2.
 pub fn place_of(start: usize, segment: &SegmentView<'_>) -> usize
     requires { start + length (segment_bytes segment.now) ≤ MAX_CAPTURE }
-    ensures place { result ≡ place_in (record { start = start; segment = segment.now }) }
+    ensures place { result ≡ data_place (record { start = start; segment = segment.now }) }
     ensures within { result ≤ MAX_CAPTURE }
 {
     match segment.item_start(2, 1) {
@@ -116,7 +117,7 @@ fn read_on<T: Taker>(
     requires ready { IsReady bytes.now from }
     ensures read { IfOk result (λ r. (placed : List Placed) × IsReadTo bytes.now placed r
         × ((seen : List Placed) → T.good seen taker.old → T.good (seen ++ moved_by at placed) taker.new)) }
-    ensures stopped { IfErr result (λ f. IsStop at bytes.now f) }
+    ensures stopped { IfErr result (λ f. IsPieceStop at bytes.now f) }
 {
     let begun = begin(bytes, from);
     let mut whole = 0;

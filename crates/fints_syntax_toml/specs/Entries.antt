@@ -1,14 +1,11 @@
 -- What stands at the keys of a table. Words of private contracts and proofs alone stand last, under a heading.
-use Rattle.std.specs.Prelude.{codes, ℕ, Bool, false, List, Option, Some, None, option_and_then, is_some}
+use Rattle.std.specs.Prelude.{codes, ℕ, Bool, false, List, Option, Some, None, option_and_then}
 use Rattle.std.specs.Str.{bytes_eq}
 use Rattle.toml.specs.Data.{Data, string, table, Members, get_member, as_str}
 
 -- the text at a key, where it holds a text
 abbrev pub text_at : List ℕ → Members → Option (List ℕ)
 text_at key ms = option_and_then as_str (get_member key ms)
-
-abbrev pub has_key : List ℕ → Members → Bool
-has_key key ms = is_some (get_member key ms)
 
 -- there is a value, and it is this text
 abbrev pub holds_text : List ℕ → Option Data → Bool

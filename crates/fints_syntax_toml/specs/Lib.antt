@@ -1,4 +1,3 @@
 pub mod Document
 pub mod Entries
-pub mod Tables
 pub mod ItemLists

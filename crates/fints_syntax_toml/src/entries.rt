@@ -2,7 +2,7 @@
 ghost use Rattle.std.specs.Prelude.{◌≡◌, map, option_map};
 ghost use Rattle.std.specs.List.{list_any};
 ghost use Rattle.toml.specs.View.{table_view, view};
-ghost use Rattle.fints_syntax_toml.specs.Entries.{has_key, is_named, text_at};
+ghost use Rattle.fints_syntax_toml.specs.Entries.{is_named, text_at};
 
 use crate::document;
 use toml::{Table, Value};
@@ -12,12 +12,6 @@ pub fn text_at<'a>(table: &'a Table, key: &str) -> Option<&'a str>
     ensures { option_map (λ text. text.now) result ≡ text_at key.now (table_view table.now) }
 {
     document::member(table, key)?.as_str()
-}
-
-pub fn has_key(table: &Table, key: &str) -> bool
-    ensures { result ≡ has_key key.now (table_view table.now) }
-{
-    document::member(table, key).is_some()
 }
 
 /// Whether the entry is a table with this name.

@@ -3,4 +3,3 @@
 
 pub mod document;
 pub mod entries;
-pub mod tables;

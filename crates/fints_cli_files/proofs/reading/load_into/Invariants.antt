@@ -9,4 +9,4 @@ invariant-loop g l =
     × ((g.F.Files.reads l.files).failed ≡ (g.F.Files.reads l.initial.files).failed)
     × (l.at ≤ l.limit)
     × (g.F.Files.holds l.files ≡ g.F.Files.holds l.initial.files)
-    × IsTakenSo g.S.Sink.holds (g.F.Files.holds l.initial.files l.path) l.at l.sink
+    × IsTakenSo g.S.PieceTaker.holds (g.F.Files.holds l.initial.files l.path) l.at l.taker

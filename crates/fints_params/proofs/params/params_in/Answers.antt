@@ -2,8 +2,9 @@ use Rattle.std.proofs.Common.{◌<◌, ◌^◌, arith}
 use Rattle.std.proofs.lemmas.Result.{err_from_is_err_and}
 use Rattle.fints_params.specs.Captures.{IsParamFault}
 use Rattle.fints_params.specs.Parameters.{fault_after, skipped_in}
-use Rattle.fints_params.specs.Captures.{IsRefusedOf}
+use Rattle.fints_params.specs.Refused.{IsRefusedOf}
 use Rattle.fints_params.proofs.Bounds.{can_count}
+use Rattle.fints_params.proofs.BothRead.{params_read}
 use Rattle.fints_params.proofs.Refusing.{memory_or}
 use Rattle.fints_params.proofs.Viewed.{param_fault}
 use Rattle.fints_params.proofs.params.params_in.Goals as goal
@@ -18,5 +19,10 @@ returns-in_err-rows-clause-refused c =
 pub params_of-requires : goal.params_of-requires
 params_of-requires c =
     let e = c.in_ok-rows.ensures.ok in
-    let few : skipped_in e.2.0 < 2 ^ 32 = can_count c.args.capture.now e.0 e.1 e.2.0 e.2.1 in
-    omega (arith, few, e.2.2.rows.skipped)
+    let few : skipped_in e.0 < 2 ^ 32 = can_count c.args.capture.now e.0 e.1 in
+    omega (arith, few, e.2.rows.skipped)
+
+pub returns-clause-rows : goal.returns-clause-rows
+returns-clause-rows c =
+    let e = c.in_ok-rows.ensures.ok in
+    params_read c.args.capture.now e.0 c.in_ok-rows.rows c.params_of.result e.1 e.2 c.params_of.ensures.complete c.params_of.ensures.rows

@@ -1,6 +1,6 @@
 use Rattle.std.proofs.Common.{◌∙◌, ap, List, drop}
 use Rattle.fints_syntax_segments.specs.Segment.{values_of}
-use Rattle.fints_syntax.specs.Reader.{segment_in}
+use Rattle.fints_syntax.specs.Reader.{read_segment}
 use Rattle.fints_syntax.specs.Cursor.{after_element}
 use Rattle.fints_syntax_segments.specs.Flat as flat
 use Rattle.fints_syntax_segments.specs.declared.item.OwnedItem.{OwnedItem}
@@ -16,13 +16,13 @@ pub loop-found-preserved-in-Continue-branch-2 : goal.loop-found-preserved-in-Con
 loop-found-preserved-in-Continue-branch-2 c =
     let f = c.loop-found in
     rw (c.in_ok-close.ensures.closed, c.in_ok-add.ensures.added)
-    (filled_other (drop 1 (values_of (segment_in c.args.source.now))) f.cursor c.step.new.self f.filling.elements f.filling.items c.in-Some.found f.invariant c.in-Some.ensures.taken c.if-found-ne58.true)
+    (filled_other (drop 1 (values_of (read_segment c.args.source.now))) f.cursor c.step.new.self f.filling.elements f.filling.items c.in-Some.found f.invariant c.in-Some.ensures.taken c.if-found-ne58.true)
 
 pub loop-found-preserved : goal.loop-found-preserved
 loop-found-preserved c =
     let f = c.loop-found in
     rw c.in_ok-add.ensures.added
-    (filled_colon (drop 1 (values_of (segment_in c.args.source.now))) f.cursor c.step.new.self f.filling.elements f.filling.items c.in-Some.found f.invariant c.in-Some.ensures.taken c.if-found-ne58.false)
+    (filled_colon (drop 1 (values_of (read_segment c.args.source.now))) f.cursor c.step.new.self f.filling.elements f.filling.items c.in-Some.found f.invariant c.in-Some.ensures.taken c.if-found-ne58.false)
 
 abbrev make : List (List OwnedItem) → List OwnedItem → flat.Filled
 make es is = record { elements = es; items = is }
@@ -30,5 +30,5 @@ make es is = record { elements = es; items = is }
 pub returns : goal.returns
 returns c =
     let f = c.loop-found in
-    let e = filled_end (drop 1 (values_of (segment_in c.args.source.now))) f.cursor f.filling.elements f.filling.items f.invariant c.in_default.ensures.end.0 in
-    ap (λ x. make x f.filling.items) e.0 ∙ ap (λ x. make (drop 1 (values_of (segment_in c.args.source.now))) x) e.1
+    let e = filled_end (drop 1 (values_of (read_segment c.args.source.now))) f.cursor f.filling.elements f.filling.items f.invariant c.in_default.ensures.end.0 in
+    ap (λ x. make x f.filling.items) e.0 ∙ ap (λ x. make (drop 1 (values_of (read_segment c.args.source.now))) x) e.1

@@ -1,7 +1,7 @@
 use Rattle.std.proofs.Common.{◌≡◌, ◌≤◌, ◌∙◌, length, take, Some, None, sym, ap, subst, inr, refl, arith}
 use Rattle.std.proofs.lemmas.List.{length-take}
 use Rattle.fints_syntax_segments.specs.Segment.{values_of, head_of}
-use Rattle.fints_syntax.specs.Reader.{segment_in}
+use Rattle.fints_syntax.specs.Reader.{read_segment}
 use Rattle.fints_syntax.specs.Window.{IsFrameOf}
 use Rattle.fints_syntax.specs.Faults.{IsUnfinished, BeginsWithSegment, BeginsFramed, window_of}
 use Rattle.fints_syntax.proofs.Parsed.{bad_only, too_many_only, frame_text, frame_count, frame_len, frame_segment, frame_begins, no_head, take_window}
@@ -16,7 +16,7 @@ invariant_of-result c =
     let w = c.window-window.result.now in
     let f : IsFrameOf w c.in-End.len c.in-End.elements = c.in-End.ensures in
     let e : c.split_at.result.0.now ≡ take c.in-End.len w = c.split_at.ensures.front in
-    let h : head_of (values_of (segment_in c.split_at.result.0.now)) ≡ Some c.in-Some.head = sym c.in-Some.ensures in
+    let h : head_of (values_of (read_segment c.split_at.result.0.now)) ≡ Some c.in-Some.head = sym c.in-Some.ensures in
     let t = frame_text w c.in-End.len c.in-End.elements f in
     record {
       segment = rw e (frame_segment w c.in-End.len c.in-End.elements c.in-Some.head f (rw e at h));
@@ -44,7 +44,7 @@ returns-in-Some-clause-found c =
     let w = c.window-window.result.now in
     let f : IsFrameOf w c.in-End.len c.in-End.elements = c.in-End.ensures in
     let e : c.split_at.result.0.now ≡ take c.in-End.len w = c.split_at.ensures.front in
-    let h : head_of (values_of (segment_in c.split_at.result.0.now)) ≡ Some c.in-Some.head = sym c.in-Some.ensures in
+    let h : head_of (values_of (read_segment c.split_at.result.0.now)) ≡ Some c.in-Some.head = sym c.in-Some.ensures in
     let le : c.in-End.len ≤ length w = frame_len w c.in-End.len c.in-End.elements f in
     let le' : c.in-End.len ≤ length (window_of c.args.input.now) = rw (← c.window-window.ensures.window) le in
     let t : take c.in-End.len c.args.input.now ≡ take c.in-End.len w = take_window c.args.input.now c.in-End.len le' ∙ ap (take c.in-End.len) (sym c.window-window.ensures.window) in (
@@ -56,13 +56,13 @@ returns-in-Some-clause-found c =
 pub returns-in-None-clause-only : goal.returns-in-None-clause-only
 returns-in-None-clause-only c =
     let w = c.window-window.result.now in
-    let none : head_of (values_of (segment_in (take c.in-End.len w))) ≡ None = sym (rw c.split_at.ensures.front at c.in-None.ensures) in
+    let none : head_of (values_of (read_segment (take c.in-End.len w))) ≡ None = sym (rw c.split_at.ensures.front at c.in-None.ensures) in
     subst (λ x. BeginsWithSegment x → ⊥) c.window-window.ensures.window (no_head w c.in-End.len c.in-End.elements c.in-End.ensures none)
 
 pub returns-in-None-clause-fault : goal.returns-in-None-clause-fault
 returns-in-None-clause-fault c =
     let w = c.window-window.result.now in
-    let none : head_of (values_of (segment_in (take c.in-End.len w))) ≡ None = sym (rw c.split_at.ensures.front at c.in-None.ensures) in (
+    let none : head_of (values_of (read_segment (take c.in-End.len w))) ≡ None = sym (rw c.split_at.ensures.front at c.in-None.ensures) in (
       refl,
       subst BeginsFramed c.window-window.ensures.window (frame_begins w c.in-End.len c.in-End.elements c.in-End.ensures),
       subst (λ x. BeginsWithSegment x → ⊥) c.window-window.ensures.window (no_head w c.in-End.len c.in-End.elements c.in-End.ensures none),

@@ -1,6 +1,6 @@
 use Rattle.std.proofs.Common.{◌≡◌, ◌<◌, ◌∷◌, ◌∙◌, List, length, sym, ap, subst, arith}
 use Rattle.fints_syntax_segments.specs.Segment.{Token}
-use Rattle.fints_syntax.specs.Reader.{tokens_in, item_in}
+use Rattle.fints_syntax.specs.Reader.{tokens_in, read_item}
 use Rattle.fints_syntax.specs.Items.{IsSpelledText}
 use Rattle.fints_syntax.specs.ItemIs.{IsItem}
 use Rattle.fints_syntax.proofs.Cursors.{next_of, run_there, none_left, read_run}
@@ -33,7 +33,7 @@ returns-in-Whole-clause-taken c =
     let some : 0 < length bs = grind arith in
     let n = next_of bs c.in-Whole.len c.in-Whole.after (tokens_in (length bs) bs) c.self.invariant.run c.self.invariant.text some c.in-Whole.ensures in
     let r = read_run c.split_at-in-Whole.result.1.now n.more n.run (c.split_at-in-Whole.ensures.back ∙ n.rest) in
-    let is = ap item_in c.split_at.ensures.front ∙ n.item in
+    let is = ap read_item c.split_at.ensures.front ∙ n.item in
     record {
       token = n.token;
       split = sym c.self.view_is ∙ n.split ∙ ap (λ (ts : List Token). n.token ∷ ts) (sym r.tokens);

@@ -1,6 +1,6 @@
 use Rattle.std.proofs.Common.{◌≡◌, ◌∙◌, true, false, [], ◌≤◌, ◌+◌, length, not, ap, refl, sym, subst, arith}
 use Rattle.fints_syntax.specs.Buffered.{Buffered}
-use Rattle.fints_syntax.specs.Feeding.{Fed, IsGiven, IsRefused}
+use Rattle.fints_syntax.specs.Feeding.{Fed, IsGiven, IsNotGiven}
 use Rattle.fints_syntax.specs.FeederFields.{fed_of, IsFeeder}
 use Rattle.fints_syntax.proofs.Feeds.{fault, fed_by, few, given, left_is, memory, nothing_begun, read_is, refused, stops, unfailed}
 use Rattle.fints_syntax.proofs.feeder.Feeder.feed.Goals as goal
@@ -47,4 +47,4 @@ returns-else-is_none-clause-refused c =
     let none = unfailed i.buffer.failed c.failure.result c.failure.ensures c.in_default.not-Some in
     let new = fed_by c.feed.new.self c.new.result.items in
     let made = stops i.buffer c.args.piece.now f c.feed.new.self i.places.items c.new.result.items c.failure-in-Err.result none c.self.invariant.rest c.in-Err.ensures.refused c.failure-in-Err.ensures (c.is_none.ensures ∙ ap not c.if-is_none.false) c.new.ensures.items in
-    subst (λ (fed : Fed). IsRefused fed.failed fed c.args.piece.now f new) c.self.view_is made
+    subst (λ (fed : Fed). IsNotGiven fed.failed fed c.args.piece.now f new) c.self.view_is made
