@@ -58,23 +58,18 @@ fn note(places: &mut IndexMap<Name, usize>, name: Name, place: usize) -> Result<
     Ok(())
 }
 
+// The place of each name. A field's name is one, as its type says: so a text that is none is no field's.
 fn places_of(alloc: Global, fields: &[NamedField]) -> Result<IndexMap<Name, usize>, Memory>
-    ensures { IfOk result (λ m. HoldsPlaces is_field_named fields.now (get bytes_eq m)) }
+    ensures places { IfOk result (λ m. HoldsPlaces is_field_named fields.now (get bytes_eq m)) }
+    ensures named { IfOk result (λ m. AreNamed fields.now) }
 {
     let mut places = IndexMap::new(alloc);
     for i in 0..fields.len() {
-        note(&mut places, fields[i].name, i)?;
+        let name = fields[i].name;
+        name.keeps();
+        note(&mut places, name, i)?;
     }
     Ok(places)
-}
-
-// A name is a name, as its type says: so a text that is none is no field's.
-fn are_named(fields: &[NamedField])
-    ensures { AreNamed fields.now }
-{
-    for field in fields {
-        field.name.keeps();
-    }
 }
 
 impl Fields {
@@ -82,7 +77,6 @@ impl Fields {
     pub fn new(alloc: Global, list: Vec<NamedField>) -> Result<Fields, Memory>
         ensures { IfOk result (λ f. f ≡ list.items) }
     {
-        are_named(list.as_slice());
         let places = places_of(alloc, list.as_slice())?;
         Ok(Fields { list, places })
     }
