@@ -6,7 +6,7 @@ use Rattle.std.specs.Str.{bytes_eq}
 use Rattle.fints_syntax_segments.specs.Segment.{item_value}
 use Rattle.fints_syntax_segments.specs.Values.{values_at}
 use Rattle.fints_script_rows.specs.declared.fields.NamedField.{NamedField}
-use Rattle.fints_rules.specs.Facts.{has_process as segment_process, is_end as segment_ends}
+use Rattle.fints_rules.specs.Facts.{has_tan_process as segment_process, ends_dialogue as segment_ends}
 use Rattle.fints_rules_permissions.specs.Kinds.{is_tan_order}
 use Rattle.fints_rules_permissions.specs.declared.orders.OrderRow.{OrderRow}
 use Rattle.fints_script.specs.Plans.{IsClosedTemplate, element_two, is_literal}

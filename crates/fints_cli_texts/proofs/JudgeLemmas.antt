@@ -12,13 +12,13 @@ use Rattle.fints_rules_permissions.specs.declared.orders.TableFault.TheVariants 
 use Rattle.fints_rules_messages.specs.declared.message.JudgeFault.{JudgeFault}
 use Rattle.fints_rules_messages.specs.declared.message.JudgeFault.TheVariants as message
 use Rattle.fints_rules_permissions.specs.Orders.{DenotesTable, IsTableFault}
-use Rattle.fints_rules_messages.specs.Read.{IsRefusal}
+use Rattle.fints_rules_messages.specs.Read.{IsJudgeFault}
 use Rattle.fints_cli_texts.specs.declared.fault.Fault.TheVariants.{Memory, Before, Answer, Message}
 use Rattle.fints_cli_texts.specs.Fault.{answer_fault_of, fault_of, order_fault_of, message_fault_of}
 use Rattle.fints_cli_texts.specs.Judge.{IsFirstRefusal, IsMessageRefusal, IsJudgeRefusal}
 use Rattle.fints_cli_texts.specs.JudgeAfter.{IsAnswerRefusal, IsBeforeRefusal, IsJudgeAfterRefusal, IsRefusalOfThree}
 use Rattle.fints_rules_messages.specs.Messages.{IsMessage, MessageView}
-use Rattle.fints_rules.specs.Breaks.{IsRefusalAfter}
+use Rattle.fints_rules.specs.Breaks.{IsJudgeFaultAfter}
 
 -- what a call answers is what is read of the capture
 pub read_of : (capture : List ℕ) (r : Result Rows ParamFault) → IfOk r (IsParamsOf capture) → IfErr r (IsMemoryOr (IsParamFault capture)) → IsReadOf capture r
@@ -45,7 +45,7 @@ orders_refused capture table P rows orders.UnknownKey h p = ((rows, h), p)
 orders_refused capture table P rows (orders.BadRow n) h p = ((rows, h), p)
 orders_refused capture table P rows (orders.TwoRows n) h p = ((rows, h), p)
 
-pub message_refused : (bytes : List ℕ) (f : JudgeFault) → IsRefusal bytes f → IsMessageRefusal bytes (message_fault_of f)
+pub message_refused : (bytes : List ℕ) (f : JudgeFault) → IsJudgeFault bytes f → IsMessageRefusal bytes (message_fault_of f)
 message_refused bytes message.Memory h = tt
 message_refused bytes (message.NotAMessage offset) h = h
 message_refused bytes (message.NotAMessageBefore offset) h = h
@@ -88,7 +88,7 @@ codes_refused answer params.NoBankParameters (inr p) = p
 codes_refused answer params.NoPinParameters (inl e) = absurd (cc)
 codes_refused answer params.NoPinParameters (inr p) = p
 
-pub judged_refused : (before answer bytes numbers : List ℕ) (m : MessageView) (f : JudgeFault) → IsMessage before m → IsCodesOf answer numbers → IsRefusalAfter before bytes f → IsRefusalOfThree before answer bytes (message_fault_of f)
+pub judged_refused : (before answer bytes numbers : List ℕ) (m : MessageView) (f : JudgeFault) → IsMessage before m → IsCodesOf answer numbers → IsJudgeFaultAfter before bytes f → IsRefusalOfThree before answer bytes (message_fault_of f)
 judged_refused before answer bytes numbers m message.Memory is of h = tt
 judged_refused before answer bytes numbers m (message.NotAMessage offset) is of h = (((m, is), (numbers, of)), h.1)
 judged_refused before answer bytes numbers m (message.NotAMessageBefore offset) is of h = h

@@ -1,22 +1,27 @@
 -- A message in which nothing is found is permitted.
-use Rattle.std.proofs.Common.{◌≡◌, ◌==◌, ℕ, List, [], ◌∷◌, length, Option, Some, None, true, subst, arith}
+use Rattle.std.proofs.Common.{◌≡◌, ◌==◌, ◌<◌, ℕ, List, [], ◌∷◌, ◌++◌, length, take, get_or, Some, true, refl, ap, ◌∙◌, sym, subst, arith, inl, inr, length-append}
+use Rattle.std.proofs.lemmas.Bool.{cases_lt}
 use Rattle.std.proofs.lemmas.Bool.Decides.{nat_tests}
-use Rattle.fints_example_outbox.specs.Outboxes.{IsPermittedBehind}
-use Rattle.std.specs.Prelude.{Contains}
-use Rattle.fints_rules.specs.Breaks.{BytesBreakRelease, IsJudged, IsJudgedAfter, Permitted, PermittedAfter}
+use Rattle.std.proofs.lemmas.List.{get_or_append_left, take-append-le}
+use Rattle.std.proofs.lemmas.Option.{slice_get_within, slice_get-get_or, get_or_from_slice_get}
+use Rattle.std.proofs.Math.Seq.{get_or-append_seam, take-append_seam}
+use Rattle.std.specs.Prelude.{Contains, slice_get}
+use Rattle.fints_example_outbox.specs.Outboxes.{EachWasPermitted, IsPermittedNext, SentValue}
+use Rattle.fints_rules.specs.Breaks.{IsJudged, IsJudgedAfter, Permitted, PermittedAfter}
 use Rattle.fints_rules.specs.declared.rule.Broken.{Broken}
-use Rattle.fints_rules.specs.declared.rule.Rule.{Rule}
-use Rattle.fints_rules_permissions.specs.Permits.{Granted}
-use Rattle.std.proofs.Common.{refl, inl, inr}
+use Rattle.fints_rules.specs.Permits.{Granted}
 use Rattle.fints_rules.specs.declared.rule.Rule.TheVariants.{Release}
 
 nothing_in : (broken : List Broken) (b : Broken) → broken ≡ [] → Contains broken b → ⊥
 nothing_in broken b none h = let has = subst (λ (xs : List Broken). Contains xs b) none h in let lt = has.1 in omega arith
 
-pub permitted : (granted : Granted) (bytes : List ℕ) (broken : List Broken) → IsJudged granted bytes broken → broken ≡ [] → Permitted granted bytes
+pub permitted : (granted : Granted) (bytes : List ℕ) (broken : List Broken) → IsJudged granted bytes broken
+    → broken ≡ [] → Permitted granted bytes
 permitted granted bytes broken h none = record { message = h.message; is = h.is; none = λ rule place b. nothing_in broken (record { rule = rule; segment = place }) none ((h.exactly rule place).1 b) }
 
-pub permitted_after : (granted : Granted) (before codes bytes : List ℕ) (broken : List Broken) → IsJudgedAfter granted before codes bytes broken → broken ≡ [] → PermittedAfter granted before codes bytes
+pub permitted_after : (granted : Granted) (before codes bytes : List ℕ) (broken : List Broken)
+    → IsJudgedAfter granted before codes bytes broken → broken ≡ []
+    → PermittedAfter granted before codes bytes
 permitted_after granted before codes bytes broken h none =
     record {
       alone = record {
@@ -27,11 +32,25 @@ permitted_after granted before codes bytes broken h none =
       released = λ b. nothing_in broken (record { rule = Release; segment = 0 }) none ((h.exactly Release 0).1 (inr (refl, refl, b)));
     }
 
--- what is permitted as the next one is permitted by itself
-pub alone : (granted : Granted) (before : Option (List ℕ)) (codes bytes : List ℕ) → IsPermittedBehind granted before codes bytes → Permitted granted bytes
-alone granted None codes bytes h = h
-alone granted (Some before) codes bytes h = h.alone
-
 pub nothing : {A : Type 0} (xs : List A) → (length xs == 0) ≡ true → xs ≡ []
 nothing [] e = refl
 nothing (x ∷ xs) e = grind (arith, nat_tests)
+
+-- one more that is permitted behind the others
+pub each_more : (granted : Granted) (sent : List SentValue) (x : SentValue) → EachWasPermitted granted sent
+    → IsPermittedNext granted sent x.heard x.message → EachWasPermitted granted (sent ++ x ∷ [])
+each_more granted sent x each next i s at =
+    let read : get_or (sent ++ x ∷ []) i s ≡ s = get_or_from_slice_get (sent ++ x ∷ []) i s s at in
+    let within : i < length (sent ++ x ∷ []) = slice_get_within (sent ++ x ∷ []) i s at in
+    elim (cases_lt i (length sent)) [
+      | inl lt ↦
+          let there : slice_get sent i ≡ Some s = slice_get-get_or sent i s lt ∙ ap Some (sym (get_or_append_left sent (x ∷ []) s i lt) ∙ read) in
+          let front : take i (sent ++ x ∷ []) ≡ take i sent = take-append-le i sent (x ∷ []) (omega arith) in
+          subst (λ (xs : List SentValue). IsPermittedNext granted xs s.heard s.message) (sym front) (each i s there)
+      | inr le ↦
+          let last : i ≡ length sent = omega (arith, within, length-append sent (x ∷ [])) in
+          let same : x ≡ s = sym (get_or-append_seam sent x [] s) ∙ ap (λ (n : ℕ). get_or (sent ++ x ∷ []) n s) (sym last) ∙ read in
+          let front : take i (sent ++ x ∷ []) ≡ sent = ap (λ (n : ℕ). take n (sent ++ x ∷ [])) last ∙ take-append_seam sent (x ∷ []) in
+          subst (λ (xs : List SentValue). IsPermittedNext granted xs s.heard s.message) (sym front)
+          (subst (λ (y : SentValue). IsPermittedNext granted sent y.heard y.message) same next)
+    ]

@@ -1,9 +1,9 @@
 -- What an outbox shows of its fields, and what it keeps of them. Its model alone cites these words.
-use Rattle.fints_example_outbox.specs.Outboxes.{Sent, EachIsPermitted}
+use Rattle.fints_example_outbox.specs.Outboxes.{OutboxValue, EachWasPermitted}
 use Rattle.fints_example_outbox.specs.declared.outbox.Outbox.TheInside.{Inside}
 
-abbrev pub sent_of : Inside → Sent
-sent_of o = record { granted = o.permissions.now; sent = o.sent.items; codes = o.codes.items }
+abbrev pub outbox_of : Inside → OutboxValue
+outbox_of o = record { granted = o.permissions.now; sent = o.sent.items; codes = o.codes.items }
 
 abbrev pub IsOutbox : Inside → Type 0
-IsOutbox o = EachIsPermitted o.permissions.now o.sent.items
+IsOutbox o = EachWasPermitted o.permissions.now o.sent.items

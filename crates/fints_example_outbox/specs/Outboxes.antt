@@ -1,26 +1,44 @@
 -- What an outbox has handed on, and when it hands a message on.
-use Rattle.std.specs.Prelude.{ℕ, List, [], Option, Some, None, slice_get, length, ◌-◌}
-use Rattle.std.specs.List.{All}
+use Rattle.std.specs.Prelude.{◌≡◌, ℕ, List, [], ◌∷◌, ◌++◌, Option, Some, None, slice_get, length, take, ◌-◌}
 use Rattle.fints_rules.specs.Breaks.{Permitted, PermittedAfter}
-use Rattle.fints_rules_permissions.specs.Permits.{Granted}
+use Rattle.fints_rules.specs.Permits.{Granted}
+
+-- a message that was handed on, and the codes of the bank's answer that was heard before it
+pub record SentValue : Type 0 where
+  pub message : List ℕ
+  pub heard : List ℕ
 
 -- what the bank permits, the messages that were handed on, and the codes of the bank's last answer
-pub record Sent : Type 0 where
+pub record OutboxValue : Type 0 where
   pub granted : Granted
-  pub sent : List (List ℕ)
+  pub sent : List SentValue
   pub codes : List ℕ
 
-abbrev pub nothing_sent : Granted → Sent
+abbrev pub nothing_sent : Granted → OutboxValue
 nothing_sent granted = record { granted = granted; sent = []; codes = [] }
 
+-- one more message was handed on, and this answer was heard before it
+abbrev pub with_sent : List SentValue → List ℕ → List ℕ → List SentValue
+with_sent sent message heard = sent ++ record { message = message; heard = heard } ∷ []
+
+abbrev pub after_sending : OutboxValue → List ℕ → OutboxValue
+after_sending o message = record o { sent = with_sent o.sent message o.codes }
+
 -- the bank permits a message behind another and its answer to that, or as the first one
-abbrev pub IsPermittedBehind : Granted → Option (List ℕ) → List ℕ → List ℕ → Type 0
-IsPermittedBehind granted None codes message = Permitted granted message
-IsPermittedBehind granted (Some before) codes message = PermittedAfter granted before codes message
+abbrev pub IsPermittedAfter : Granted → Option SentValue → List ℕ → List ℕ → Type 0
+IsPermittedAfter granted None codes message = Permitted granted message
+IsPermittedAfter granted (Some before) codes message = PermittedAfter granted before.message codes message
 
--- the bank permits a message as the next one
-abbrev pub IsNext : Sent → List ℕ → Type 0
-IsNext s message = IsPermittedBehind s.granted (slice_get s.sent (length s.sent - 1)) s.codes message
+-- the bank permits a message behind the last of these and its answer to that
+abbrev pub IsPermittedNext : Granted → List SentValue → List ℕ → List ℕ → Type 0
+IsPermittedNext granted sent codes message =
+    IsPermittedAfter granted (slice_get sent (length sent - 1)) codes message
 
-abbrev pub EachIsPermitted : Granted → List (List ℕ) → Type 0
-EachIsPermitted granted messages = All (Permitted granted) messages
+abbrev pub IsNextIn : OutboxValue → List ℕ → Type 0
+IsNextIn o message = IsPermittedNext o.granted o.sent o.codes message
+
+-- the bank permitted each of these behind those before it and the answer that was heard then
+abbrev pub EachWasPermitted : Granted → List SentValue → Type 0
+EachWasPermitted granted sent =
+    (i : ℕ) (s : SentValue) → slice_get sent i ≡ Some s
+    → IsPermittedNext granted (take i sent) s.heard s.message

@@ -1,7 +1,7 @@
 //! A client's outbox: what it hands on, the bank's parameters permit.
-ghost use Rattle.std.specs.Prelude.{◌≡◌, ◌++◌, ◌∷◌, [], OnOk, OnErr, IfOk, IfErr};
-ghost use Rattle.fints_rules_permissions.specs.Permits.{Granted};
-ghost use Rattle.fints_example_outbox.specs.Outboxes.{nothing_sent, EachIsPermitted, IsNext};
+ghost use Rattle.std.specs.Prelude.{◌≡◌, [], OnOk, OnErr, IfOk, IfErr};
+ghost use Rattle.fints_rules.specs.Permits.{Granted};
+ghost use Rattle.fints_example_outbox.specs.Outboxes.{nothing_sent, with_sent, after_sending, EachWasPermitted, IsNextIn};
 
 use fints_params::Code;
 use fints_rules::{Broken, JudgeFault, Memory, Permissions, judge, judge_after};
@@ -9,24 +9,56 @@ use fints_syntax::Bytes;
 use std::alloc::Global;
 use std::marker::Model;
 
+/// A message that was handed on, and the codes of the bank's answer that was heard before it.
+#[derive(Drop)]
+pub struct Sent {
+    message: Bytes,
+    heard: Vec<Code>,
+}
+
+impl Model for Sent {
+    ghost use Rattle.fints_example_outbox.specs.Outboxes.{SentValue};
+
+    ghost Value = { SentValue };
+
+    ghost view = { λ s. record { message = s.message; heard = s.heard.items } };
+}
+
+impl Sent {
+    pub fn message(&self) -> &[u8]
+        ensures { result.now ≡ self.now.message }
+    {
+        self.message.as_slice()
+    }
+
+    fn copied(alloc: Global, message: &[u8], heard: &[Code]) -> Result<Sent, Memory>
+        ensures { IfOk result (λ s. s ≡ record { message = message.now; heard = heard.now }) }
+    {
+        Ok(Sent {
+            message: Bytes::copied(alloc, message)?,
+            heard: heard.to_vec(alloc)?,
+        })
+    }
+}
+
 /// The messages of a dialogue that were handed on, and the codes of the bank's last answer; a
 /// contract sees them, with what the bank permits.
 #[derive(Drop)]
 pub struct Outbox<'a> {
     alloc: Global,
     permissions: &'a Permissions<'a>,
-    sent: Vec<Bytes>,
+    sent: Vec<Sent>,
     codes: Vec<Code>,
 }
 
 impl<'a> Model for Outbox<'a> {
-    ghost use Rattle.fints_example_outbox.specs.Outboxes.{Sent};
+    ghost use Rattle.fints_example_outbox.specs.Outboxes.{OutboxValue};
 
-    ghost Value = { Sent };
+    ghost Value = { OutboxValue };
 
-    ghost use Rattle.fints_example_outbox.specs.Inside.{sent_of, IsOutbox};
+    ghost use Rattle.fints_example_outbox.specs.Inside.{outbox_of, IsOutbox};
 
-    ghost view = { sent_of };
+    ghost view = { outbox_of };
 
     ghost invariant = { IsOutbox };
 }
@@ -50,11 +82,11 @@ impl From<Memory> for Held {
     }
 }
 
-fn keep(alloc: Global, sent: &mut Vec<Bytes>, message: &[u8]) -> Result<(), Memory>
-    ensures kept { OnOk result (sent.new.items ≡ sent.old.items ++ message.now ∷ []) }
+fn keep(alloc: Global, sent: &mut Vec<Sent>, message: &[u8], heard: &[Code]) -> Result<(), Memory>
+    ensures kept { OnOk result (sent.new.items ≡ with_sent sent.old.items message.now heard.now) }
     ensures full { OnErr result (sent.new.items ≡ sent.old.items) }
 {
-    sent.push(Bytes::copied(alloc, message)?)?;
+    sent.push(Sent::copied(alloc, message, heard)?)?;
     Ok(())
 }
 
@@ -73,13 +105,13 @@ impl<'a> Outbox<'a> {
 
     // The rules that the message breaks behind the last one and the bank's answer.
     fn broken(&self, message: &[u8]) -> Result<Vec<Broken>, JudgeFault>
-        ensures { IfOk result (λ broken. broken.items ≡ [] → IsNext self.now message.now) }
+        ensures { IfOk result (λ broken. broken.items ≡ [] → IsNextIn self.now message.now) }
     {
         match self.sent.last() {
             Some(before) => judge_after(
                 self.alloc,
                 self.permissions,
-                before.as_slice(),
+                before.message(),
                 self.codes.as_slice(),
                 message,
             ),
@@ -89,15 +121,15 @@ impl<'a> Outbox<'a> {
 
     /// Hands a message on, if the bank permits it behind the one before and the bank's answer to that.
     pub fn send(&mut self, message: &[u8]) -> Result<(), Held>
-        ensures permitted { OnOk result (IsNext self.old message.now) }
-        ensures sent { OnOk result (self.new ≡ record self.old { sent = self.old.sent ++ message.now ∷ [] }) }
+        ensures permitted { OnOk result (IsNextIn self.old message.now) }
+        ensures sent { OnOk result (self.new ≡ after_sending self.old message.now) }
         ensures held { IfErr result (λ why. self.new ≡ self.old) }
     {
         let broken = self.broken(message)?;
         if !broken.as_slice().is_empty() {
             return Err(Held::Broken(broken));
         }
-        keep(self.alloc, &mut self.sent, message)?;
+        keep(self.alloc, &mut self.sent, message, self.codes.as_slice())?;
         Ok(())
     }
 
@@ -108,10 +140,10 @@ impl<'a> Outbox<'a> {
         self.codes = codes;
     }
 
-    /// What was handed on, each message permitted.
-    pub fn sent(&self) -> &[Bytes]
+    /// What was handed on, each message permitted behind the one before it.
+    pub fn sent(&self) -> &[Sent]
         ensures sent { result.now ≡ self.now.sent }
-        ensures permitted { EachIsPermitted self.now.granted result.now }
+        ensures permitted { EachWasPermitted self.now.granted result.now }
     {
         self.sent.as_slice()
     }

@@ -4,7 +4,8 @@ use Rattle.fints_syntax_segments.specs.declared.item.OwnedSegment.{OwnedSegment}
 use Rattle.fints_rules_messages.specs.Messages.{IsNumbered}
 use Rattle.fints_rules.specs.Judging.{IsRising}
 
-number_of_place : (n : ℕ) (ss : List OwnedSegment) (k : ℕ) (d : OwnedSegment) → IsNumbered n ss → k < length ss → (get_or ss k d).head.number ≡ n + k
+number_of_place : (n : ℕ) (ss : List OwnedSegment) (k : ℕ) (d : OwnedSegment) → IsNumbered n ss
+    → k < length ss → (get_or ss k d).head.number ≡ n + k
 number_of_place n [] k d h lt = absurd (omega arith)
 number_of_place n (s ∷ ss) zero d h lt = h.0 ∙ omega arith
 number_of_place n (s ∷ ss) (suc k) d h lt = number_of_place (n + 1) ss k d h.1 (omega arith) ∙ omega arith

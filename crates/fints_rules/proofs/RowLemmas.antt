@@ -20,11 +20,14 @@ any_weaker P Q f xs (k, y, lt, at, h) = (k, y, lt, at, f y h)
 abbrev rows_for : SegmentFactsValue → List OrderParam → List OrderParam
 rows_for s rows = params_of s.kind s.version rows
 
-pub none_among : (P : OrderParam → Type 0) (s : SegmentFactsValue) (rows : List OrderParam) → rows_for s rows ≡ [] → Any P (rows_for s rows) → ⊥
+pub none_among : (P : OrderParam → Type 0) (s : SegmentFactsValue) (rows : List OrderParam)
+    → rows_for s rows ≡ [] → Any P (rows_for s rows) → ⊥
 none_among P s rows none (k, row, lt, at, h) = omega (arith, ap length none)
 
 -- P5 of an order
-pub version_of_order : (rows : Rows) (s : SegmentFactsValue) (limits : Option Limits) (r : Bool) → None ≡ own_version s.kind → LimitsAre (rows_for s rows.orders) limits → is_some limits ≡ not r → IsTrue r ↔ BreaksVersion rows s
+pub version_of_order : (rows : Rows) (s : SegmentFactsValue) (limits : Option Limits) (r : Bool)
+    → None ≡ own_version s.kind → LimitsAre (rows_for s rows.orders) limits → is_some limits ≡ not r
+    → IsTrue r ↔ BreaksVersion rows s
 version_of_order rows s None true own h is = (λ _. inr (ap (λ o. not (is_some o)) (sym own), h), λ _. refl)
 version_of_order rows s None false own h is = cc
 version_of_order rows s (Some l) true own h is = cc
@@ -40,7 +43,8 @@ version_of_order rows s (Some l) false own h is = (
 abbrev AllowsFewer : ℕ → OrderParam → Type 0
 AllowsFewer n row = (row.orders ≢ 0) × (row.orders < n)
 
-pub limit_allows : (s : SegmentFactsValue) (rows : List OrderParam) (n : ℕ) (l : Limits) → IsLimits (rows_for s rows) l → (l.orders ≢ 0) × (l.orders < n) ↔ Any (AllowsFewer n) (rows_for s rows)
+pub limit_allows : (s : SegmentFactsValue) (rows : List OrderParam) (n : ℕ) (l : Limits)
+    → IsLimits (rows_for s rows) l → (l.orders ≢ 0) × (l.orders < n) ↔ Any (AllowsFewer n) (rows_for s rows)
 limit_allows s rows n l h = (
   λ (ne, lt). any_weaker (λ row. row.orders ≡ l.orders) (AllowsFewer n) (λ row is. (λ e. ne (sym is ∙ e), omega arith)) (rows_for s rows) (h.orders.some ne),
   λ (k, row, lt, at, (ne, less)).
@@ -49,7 +53,8 @@ limit_allows s rows n l h = (
 )
 
 -- P8, first half
-pub limit_needs : (s : SegmentFactsValue) (rows : List OrderParam) (n : ℕ) (l : Limits) → IsLimits (rows_for s rows) l → (n < l.signatures) ↔ Any (λ row. n < row.signatures) (rows_for s rows)
+pub limit_needs : (s : SegmentFactsValue) (rows : List OrderParam) (n : ℕ) (l : Limits)
+    → IsLimits (rows_for s rows) l → (n < l.signatures) ↔ Any (λ row. n < row.signatures) (rows_for s rows)
 limit_needs s rows n l h = (
   λ lt. any_weaker (λ row. row.signatures ≡ l.signatures) (λ row. n < row.signatures) (λ row is. omega arith) (rows_for s rows) h.signatures.some,
   λ (k, row, lt, at, more). let most = All-contains (λ r. r.signatures ≤ l.signatures) (rows_for s rows) row h.signatures.greatest (k, lt, at) in omega arith,

@@ -43,9 +43,11 @@ pub number_at : (k : ℕ) (d : Rule) → k < length ALL → rule_number (get_or 
 number_at k d lt = ap rule_number (get_or_default ALL k d rule.Protocol lt) ∙ eqb-true (rule_number (get_or ALL k rule.Protocol)) (k + 1) (agree_below_at has_place (λ _. true) (length ALL) k each_has lt)
 
 -- what holds of each that stands there holds of each
-pub each_rule : (P : Rule → Type 0) → ((k : ℕ) (d : Rule) → k < length ALL → P (get_or ALL k d)) → (r : Rule) → P r
+pub each_rule : (P : Rule → Type 0) → ((k : ℕ) (d : Rule) → k < length ALL → P (get_or ALL k d)) → (r : Rule)
+    → P r
 each_rule P h r = let within = number_within r in subst P (rule_once (get_or ALL (rule_number r - 1) r) r (number_at (rule_number r - 1) r (omega arith) ∙ omega arith)) (h (rule_number r - 1) r (omega arith))
 
 -- the default of a look-up is of no matter
-pub rule_same : (P : Rule → Type 0) (i k : ℕ) (d e : Rule) → i ≡ k → k < length ALL → P (get_or ALL i d) → P (get_or ALL k e)
+pub rule_same : (P : Rule → Type 0) (i k : ℕ) (d e : Rule) → i ≡ k → k < length ALL → P (get_or ALL i d)
+    → P (get_or ALL k e)
 rule_same P i k d e same within h = subst P (ap (λ (n : ℕ). get_or ALL n d) same ∙ get_or_default ALL k d e within) h

@@ -8,4 +8,6 @@ use Rattle.fints_rules.specs.SegmentFacts.{SegmentFactsValue}
 
 abbrev pub AccountPermitIs : Granted → ℕ → SegmentFactsValue → Option Permit → Type 0
 AccountPermitIs granted signatures s None = (account : Account) → NamesAccount granted.orders s account → ⊥
-AccountPermitIs granted signatures s (Some permit) = (account : Account) × NamesAccount granted.orders s account × PermitIs granted.rows account s.kind signatures permit
+AccountPermitIs granted signatures s (Some permit) =
+    (account : Account) × NamesAccount granted.orders s account
+    × PermitIs granted.rows account s.kind signatures permit

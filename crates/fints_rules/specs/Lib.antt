@@ -1,3 +1,4 @@
+pub use Rattle.fints_rules_permissions.specs.Permits
 pub mod SegmentFacts
 pub mod Rules
 pub mod Facts

@@ -10,8 +10,8 @@ use Rattle.fints_syntax_segments.specs.declared.item.OwnedSegment.{OwnedSegment}
 use Rattle.fints_syntax_segments.specs.Number.{number_of}
 use Rattle.fints_syntax_segments.specs.Values.{is_named}
 use Rattle.fints_rules_messages.specs.Parts.{part_of}
-use Rattle.fints_rules_messages.specs.Messages.{IsNumbered, IsInner, IsLast, IsKey, IsPlainTail, IsSealedTail, IsTail}
-use Rattle.fints_rules_messages.specs.Front.{IsHalf, Follows, CanStand, BeginsBy, IsNumber}
+use Rattle.fints_rules_messages.specs.Messages.{IsNumbered, IsInner, IsLast, IsKey, Seals, IsTail}
+use Rattle.fints_rules_messages.specs.Front.{IsHalf, CanFollow, CanStand, BeginsBy, IsNumber}
 use Rattle.fints_rules_messages.specs.declared.part.Part.{Part}
 use Rattle.fints_rules_messages.specs.declared.part.Part.TheVariants.{Opener, Body, Ender, Other}
 use Rattle.fints_rules_messages.proofs.Ranks.{IsRanked, Fits, fits, balanced, none_3}
@@ -29,31 +29,37 @@ rank Other = 3
 abbrev pub rank_of : OwnedSegment → ℕ
 rank_of s = rank (part_of s)
 
-all_ranks : (p : Part) (c : ℕ) (ss : List OwnedSegment) → rank p ≡ c → AllByRecursion (λ s. part_of s ≡ p) ss → AllByRecursion (λ s. rank_of s ≡ c) ss
+all_ranks : (p : Part) (c : ℕ) (ss : List OwnedSegment) → rank p ≡ c → AllByRecursion (λ s. part_of s ≡ p) ss
+    → AllByRecursion (λ s. rank_of s ≡ c) ss
 all_ranks p c [] e h = tt
 all_ranks p c (s ∷ ss) e h = (ap rank h.0 ∙ e, all_ranks p c ss e h.1)
 
-follows : (p : Part) (k b e : ℕ) → Fits (rank p) k b e → Follows p k b e
+follows : (p : Part) (k b e : ℕ) → Fits (rank p) k b e → CanFollow p k b e
 follows Opener k b e f = f.at_0 refl
 follows Body k b e f = f.at_1 refl
 follows Ender k b e f = f.at_2 refl
 follows Other k b e f = f.at_3 refl
 
-half_ranked : (ss body ends : List OwnedSegment) (k : ℕ) (h : IsHalf ss body ends k) → IsRanked rank_of h.opened body ends
+half_ranked : (ss body ends : List OwnedSegment) (k : ℕ) (h : IsHalf ss body ends k)
+    → IsRanked rank_of h.opened body ends
 half_ranked ss body ends k h = record { first = all_ranks Opener 0 h.opened refl h.openers_are; second = all_ranks Body 1 body refl h.body_is; third = all_ranks Ender 2 ends refl h.ends_are }
 
-pub inner_ranked : (ss body ends : List OwnedSegment) (h : IsInner ss body ends) → IsRanked rank_of h.openers body ends
+pub inner_ranked : (ss body ends : List OwnedSegment) (h : IsInner ss body ends)
+    → IsRanked rank_of h.openers body ends
 inner_ranked ss body ends h = record { first = all_ranks Opener 0 h.openers refl h.openers_are; second = all_ranks Body 1 body refl h.body_is; third = all_ranks Ender 2 ends refl h.ends_are }
 
 -- ---- numbers
 
-pub number_at : (n : ℕ) (xs : List OwnedSegment) (s : OwnedSegment) (more : List OwnedSegment) → IsNumbered n (xs ++ s ∷ more) → s.head.number ≡ n + length xs
+pub number_at : (n : ℕ) (xs : List OwnedSegment) (s : OwnedSegment) (more : List OwnedSegment)
+    → IsNumbered n (xs ++ s ∷ more) → s.head.number ≡ n + length xs
 number_at n [] s more h = omega (arith, h.0)
 number_at n (x ∷ xs) s more h = omega (arith, number_at (n + 1) xs s more h.1)
 
 -- ---- an inner segment that follows
 
-pub stands : (ss body ends : List OwnedSegment) (k : ℕ) (s : OwnedSegment) (more b e : List OwnedSegment) → IsHalf ss body ends k → IsInner (ss ++ s ∷ more) b e → IsNumbered 2 (ss ++ s ∷ more) → CanStand s k (length body) (length ends)
+pub stands : (ss body ends : List OwnedSegment) (k : ℕ) (s : OwnedSegment) (more b e : List OwnedSegment)
+    → IsHalf ss body ends k → IsInner (ss ++ s ∷ more) b e → IsNumbered 2 (ss ++ s ∷ more)
+    → CanStand s k (length body) (length ends)
 stands ss body ends k s more b e h g n =
     let flat : (h.opened ++ (body ++ ends)) ++ s ∷ more ≡ h.opened ++ (body ++ (ends ++ s ∷ more)) = append_assoc h.opened (body ++ ends) (s ∷ more) ∙ ap (λ z. h.opened ++ z) (append_assoc body ends (s ∷ more)) in
     let joined : g.openers ++ (b ++ e) ≡ h.opened ++ (body ++ (ends ++ s ∷ more)) = sym g.together ∙ ap (λ z. z ++ s ∷ more) h.together ∙ flat in
@@ -62,11 +68,13 @@ stands ss body ends k s more b e h g n =
       follows (part_of s) k (length body) (length ends) (subst (λ z. Fits (rank_of s) z (length body) (length ends)) h.count f),
     )
 
-pub ends_all : (ss body ends : List OwnedSegment) (k : ℕ) (b e : List OwnedSegment) → IsHalf ss body ends k → IsInner ss b e → length ends ≡ k
+pub ends_all : (ss body ends : List OwnedSegment) (k : ℕ) (b e : List OwnedSegment) → IsHalf ss body ends k
+    → IsInner ss b e → length ends ≡ k
 ends_all ss body ends k b e h g =
     omega (arith, h.count, balanced rank_of h.opened body ends g.openers b e (half_ranked ss body ends k h) (inner_ranked ss b e g) g.as_many (sym g.together ∙ h.together))
 
-pub inner_half : (ss body ends : List OwnedSegment) (k : ℕ) → IsHalf ss body ends k → length ends ≡ k → IsInner ss body ends
+pub inner_half : (ss body ends : List OwnedSegment) (k : ℕ) → IsHalf ss body ends k → length ends ≡ k
+    → IsInner ss body ends
 inner_half ss body ends k h n = record { openers = h.opened; openers_are = h.openers_are; body_is = h.body_is; ends_are = h.ends_are; as_many = omega (arith, h.count, n); together = h.together }
 
 -- ---- segments of the frame are no inner ones
@@ -74,7 +82,8 @@ inner_half ss body ends k h n = record { openers = h.opened; openers_are = h.ope
 abbrev part_by : List ℕ → ℕ → Part
 part_by id version = part_of (record { head = record { id = id; number = 0; version = version; reference = None }; elements = [] })
 
-kind_is : (kind : List ℕ) (version : ℕ) (s : OwnedSegment) → IsTrue (is_named s kind version) → s.head.id ≡ kind
+kind_is : (kind : List ℕ) (version : ℕ) (s : OwnedSegment) → IsTrue (is_named s kind version)
+    → s.head.id ≡ kind
 kind_is kind version s h = (bytes_eq-Decides s.head.id kind).0 (and_parts (bytes_eq s.head.id kind) (s.head.version == version) h).0
 
 pub key_other : (s : OwnedSegment) → IsKey s → part_of s ≡ Other
@@ -88,15 +97,24 @@ key_not_last number s h g =
     let e : codes "HNVSK" ≡ codes "HNHBS" = sym (kind_is (codes "HNVSK") 3 s h.kind) ∙ kind_is (codes "HNHBS") 1 s g.kind in
     let f : false ≡ true = ap (λ id. bytes_eq id (codes "HNHBS")) e in cc
 
-half_no_other : (ss body ends : List OwnedSegment) (k : ℕ) (front : List OwnedSegment) (s : OwnedSegment) (more : List OwnedSegment) → IsHalf ss body ends k → ss ≡ front ++ s ∷ more → part_of s ≡ Other → ⊥
+half_no_other : (ss body ends : List OwnedSegment) (k : ℕ) (front : List OwnedSegment) (s : OwnedSegment) (more : List OwnedSegment)
+    → IsHalf ss body ends k → ss ≡ front ++ s ∷ more → part_of s ≡ Other → ⊥
 half_no_other ss body ends k front s more h e p = none_3 rank_of h.opened body ends front s more (half_ranked ss body ends k h) (sym e ∙ h.together) (ap rank p)
 
-pub half_not_tail : (number : ℕ) (ss body ends : List OwnedSegment) (k : ℕ) (b e : List OwnedSegment) → IsHalf ss body ends k → IsTail number ss b e → ⊥
-half_not_tail number ss body ends k b e h t =
-    elim t [
-      | inl p ↦ half_no_other ss body ends k p.inner p.last [] h p.together (last_other number p.last p.is_last)
-      | inr q ↦ half_no_other ss body ends k [] q.key (q.envelope ∷ q.last ∷ []) h q.together (key_other q.key q.is_key)
-    ]
+pub half_not_tail : (number : ℕ) (ss body ends : List OwnedSegment) (k : ℕ) (b e : List OwnedSegment)
+    → IsHalf ss body ends k → IsTail number ss b e → ⊥
+half_not_tail number ss body ends k b e h t = half_no_other ss body ends k t.outer t.last [] h t.together (last_other number t.last t.is_last)
+
+-- ---- the two forms
+
+pub plain_segments : (number : ℕ) (ss b e : List OwnedSegment) (t : IsTail number ss b e) → t.outer ≡ t.inner
+    → ss ≡ t.inner ++ t.last ∷ []
+plain_segments number ss b e t plain = t.together ∙ ap (λ z. z ++ t.last ∷ []) plain
+
+-- HNVSK, HNVSD and HNHBS
+pub sealed_segments : (number : ℕ) (ss b e : List OwnedSegment) (t : IsTail number ss b e) (q : Seals t.inner t.outer)
+    → ss ≡ q.key ∷ q.envelope ∷ t.last ∷ []
+sealed_segments number ss b e t q = t.together ∙ ap (λ z. z ++ t.last ∷ []) q.together
 
 -- ---- what follows some inner segments
 
@@ -105,7 +123,8 @@ pub data Split {X : Type 0} (xs : List X) (s : X) (more ys : List X) (l : X) : T
   at_end : more ≡ [] → s ≡ l → xs ≡ ys → Split xs s more ys l
   inside : (zs : List X) → ys ≡ xs ++ s ∷ zs → Split xs s more ys l
 
-pub split : {X : Type 0} (xs : List X) (s : X) (more ys : List X) (l : X) → xs ++ s ∷ more ≡ ys ++ l ∷ [] → Split xs s more ys l
+pub split : {X : Type 0} (xs : List X) (s : X) (more ys : List X) (l : X) → xs ++ s ∷ more ≡ ys ++ l ∷ []
+    → Split xs s more ys l
 split [] s more [] l e = at_end (cc) (cc) refl
 split [] s more (y ∷ ys) l e = inside ys (ap (λ z. z ∷ ys) (cc))
 split (x ∷ xs) s more [] l e = absurd (omega (arith, ap length e, length-append xs (s ∷ more)))
@@ -132,9 +151,11 @@ pub numbered_front : (n : ℕ) (xs ys : List OwnedSegment) → IsNumbered n (xs 
 numbered_front n [] ys h = tt
 numbered_front n (x ∷ xs) ys h = (h.0, numbered_front (n + 1) xs ys h.1)
 
-plain_next : (number : ℕ) (ss body ends : List OwnedSegment) (k : ℕ) (s : OwnedSegment) (more b e : List OwnedSegment) → IsHalf ss body ends k → IsPlainTail number (ss ++ s ∷ more) b e → Next number ss body ends k s more
-plain_next number ss body ends k s more b e h p =
-    elim (split ss s more p.inner p.last p.together) [
+plain_next : (number : ℕ) (ss body ends : List OwnedSegment) (k : ℕ) (s : OwnedSegment) (more b e : List OwnedSegment)
+    → IsHalf ss body ends k → (p : IsTail number (ss ++ s ∷ more) b e) → p.outer ≡ p.inner
+    → Next number ss body ends k s more
+plain_next number ss body ends k s more b e h p plain =
+    elim (split ss s more p.inner p.last (plain_segments number (ss ++ s ∷ more) b e p plain)) [
       | at_end none is same ↦
           let numbered : IsNumbered 2 (ss ++ s ∷ []) = subst (λ x. IsNumbered 2 (ss ++ x ∷ [])) (sym is) (subst (λ xs. IsNumbered 2 (xs ++ p.last ∷ [])) (sym same) p.numbered) in
           end (record { last = subst (IsLast number) (sym is) p.is_last; place = number_at 2 ss s [] numbered; all = ends_all ss body ends k b e h (subst (λ xs. IsInner xs b e) (sym same) p.is_inner); none = none })
@@ -143,17 +164,23 @@ plain_next number ss body ends k s more b e h p =
           inner (stands ss body ends k s zs b e h g (numbered_front 2 (ss ++ s ∷ zs) (p.last ∷ []) (subst (λ xs. IsNumbered 2 (xs ++ p.last ∷ [])) same p.numbered)))
     ]
 
-sealed_next : (number : ℕ) (ss body ends : List OwnedSegment) (k : ℕ) (s : OwnedSegment) (more b e : List OwnedSegment) → IsHalf ss body ends k → IsSealedTail number (ss ++ s ∷ more) b e → Next number ss body ends k s more
-sealed_next number [] body ends k s more b e h q = let e : s ≡ q.key = let t = q.together in cc in key refl (subst IsKey (sym e) q.is_key)
-sealed_next number (x ∷ ss) body ends k s more b e h q =
-    let e : x ≡ q.key = let t = q.together in cc in
-    absurd (half_no_other (x ∷ ss) body ends k [] x ss h refl (ap part_of e ∙ key_other q.key q.is_key))
+sealed_next : (number : ℕ) (ss body ends : List OwnedSegment) (k : ℕ) (s : OwnedSegment) (more b e : List OwnedSegment)
+    → IsHalf ss body ends k → (t : IsTail number (ss ++ s ∷ more) b e) → Seals t.inner t.outer
+    → Next number ss body ends k s more
+sealed_next number [] body ends k s more b e h t q =
+    let all = sealed_segments number (s ∷ more) b e t q in
+    let first : s ≡ q.key = cc in key refl (subst IsKey (sym first) q.is_key)
+sealed_next number (x ∷ ss) body ends k s more b e h t q =
+    let all = sealed_segments number (x ∷ (ss ++ s ∷ more)) b e t q in
+    let first : x ≡ q.key = cc in
+    absurd (half_no_other (x ∷ ss) body ends k [] x ss h refl (ap part_of first ∙ key_other q.key q.is_key))
 
-pub next : (number : ℕ) (ss body ends : List OwnedSegment) (k : ℕ) (s : OwnedSegment) (more b e : List OwnedSegment) → IsHalf ss body ends k → IsTail number (ss ++ s ∷ more) b e → Next number ss body ends k s more
+pub next : (number : ℕ) (ss body ends : List OwnedSegment) (k : ℕ) (s : OwnedSegment) (more b e : List OwnedSegment)
+    → IsHalf ss body ends k → IsTail number (ss ++ s ∷ more) b e → Next number ss body ends k s more
 next number ss body ends k s more b e h t =
-    elim t [
-      | inl p ↦ plain_next number ss body ends k s more b e h p
-      | inr q ↦ sealed_next number ss body ends k s more b e h q
+    elim t.stands [
+      | inl p ↦ plain_next number ss body ends k s more b e h t p
+      | inr q ↦ sealed_next number ss body ends k s more b e h t q
     ]
 
 -- ---- more segments that make it whole
@@ -183,7 +210,8 @@ length-enders n (suc j) = omega (arith, length-enders (n + 1) j)
 pub last_of : ℕ → List ℕ → OwnedSegment
 last_of n value = record { head = record { id = codes "HNHBS"; number = n; version = 1; reference = None }; elements = (Text value ∷ []) ∷ [] }
 
-pub last_is : (number n : ℕ) (value : List ℕ) → number_of value ≡ Some number → IsLast number (last_of n value)
+pub last_is : (number n : ℕ) (value : List ℕ) → number_of value ≡ Some number
+    → IsLast number (last_of n value)
 unfolding last_of
 last_is number n value h = record { kind = refl; number_is = h }
 
@@ -191,7 +219,8 @@ pub last_number : (n : ℕ) (value : List ℕ) → (last_of n value).head.number
 unfolding last_of
 last_number n value = refl
 
-pub begins_half : (number : ℕ) (ss body ends : List OwnedSegment) (k : ℕ) → IsNumber number → IsHalf ss body ends k → IsNumbered 2 ss → BeginsBy (IsTail number) ss
+pub begins_half : (number : ℕ) (ss body ends : List OwnedSegment) (k : ℕ) → IsNumber number
+    → IsHalf ss body ends k → IsNumbered 2 ss → BeginsBy (IsTail number) ss
 begins_half number ss body ends k v h n =
     let j : ℕ = k - length ends in
     let fill : List OwnedSegment = enders (2 + length ss) j in
@@ -201,8 +230,9 @@ begins_half number ss body ends k v h n =
       fill ++ last ∷ [],
       body,
       ends ++ fill,
-      inl (record {
+      record {
         inner = ss ++ fill;
+        outer = ss ++ fill;
         last = last;
         is_inner = record {
           openers = h.opened;
@@ -212,37 +242,47 @@ begins_half number ss body ends k v h n =
           as_many = omega (arith, h.count, h.at_most, length-append ends fill, length-enders (2 + length ss) j);
           together = ap (λ z. z ++ fill) h.together ∙ append_assoc h.opened (body ++ ends) fill ∙ ap (λ z. h.opened ++ z) (append_assoc body ends fill);
         };
+        stands = inl refl;
         is_last = last_is number (2 + length ss + j) v.value v.is;
         numbered = numbered-append 2 (ss ++ fill) (last ∷ []) filled (place, tt);
         together = sym (append_assoc ss fill (last ∷ []));
-      }),
+      },
     )
 
-pub tail_whole : (number : ℕ) (ss body ends : List OwnedSegment) (k : ℕ) (s : OwnedSegment) → IsHalf ss body ends k → IsNumbered 2 ss → length ends ≡ k → IsLast number s → s.head.number ≡ 2 + length ss → IsTail number (ss ++ s ∷ []) body ends
-tail_whole number ss body ends k s h n all last place = inl (record {
+pub tail_whole : (number : ℕ) (ss body ends : List OwnedSegment) (k : ℕ) (s : OwnedSegment)
+    → IsHalf ss body ends k → IsNumbered 2 ss → length ends ≡ k → IsLast number s
+    → s.head.number ≡ 2 + length ss → IsTail number (ss ++ s ∷ []) body ends
+tail_whole number ss body ends k s h n all last place = record {
   inner = ss;
+  outer = ss;
   last = s;
   is_inner = inner_half ss body ends k h all;
+  stands = inl refl;
   is_last = last;
   numbered = numbered-append 2 ss (s ∷ []) n (place, tt);
   together = refl;
-})
+}
 
 -- nothing follows HNHBS
-pub none_after : (number : ℕ) (ss body ends : List OwnedSegment) (k : ℕ) (s t : OwnedSegment) (more b e : List OwnedSegment) → IsHalf ss body ends k → IsLast number s → IsTail number (ss ++ s ∷ t ∷ more) b e → ⊥
+pub none_after : (number : ℕ) (ss body ends : List OwnedSegment) (k : ℕ) (s t : OwnedSegment) (more b e : List OwnedSegment)
+    → IsHalf ss body ends k → IsLast number s → IsTail number (ss ++ s ∷ t ∷ more) b e → ⊥
 none_after number ss body ends k s t more b e h last tail =
     elim (next number ss body ends k s (t ∷ more) b e h tail) [
-      | inner stand ↦ subst (λ p. Follows p k (length body) (length ends)) (last_other number s last) stand.1
+      | inner stand ↦ subst (λ p. CanFollow p k (length body) (length ends)) (last_other number s last) stand.1
       | end q ↦ let none = q.none in cc
       | key none is ↦ key_not_last number s is last
     ]
 
-inner_no_other : (ss body ends : List OwnedSegment) (s : OwnedSegment) (more : List OwnedSegment) → IsInner ss body ends → ss ≡ s ∷ more → part_of s ≡ Other → ⊥
+inner_no_other : (ss body ends : List OwnedSegment) (s : OwnedSegment) (more : List OwnedSegment)
+    → IsInner ss body ends → ss ≡ s ∷ more → part_of s ≡ Other → ⊥
 inner_no_other ss body ends s more h e p = none_3 rank_of h.openers body ends [] s more (inner_ranked ss body ends h) (sym e ∙ h.together) (ap rank p)
 
-key_first : (number : ℕ) (s : OwnedSegment) (ss inner b e : List OwnedSegment) (last : OwnedSegment) → IsKey s → IsInner inner b e → IsLast number last → s ∷ ss ≡ inner ++ last ∷ [] → ⊥
+key_first : (number : ℕ) (s : OwnedSegment) (ss inner b e : List OwnedSegment) (last : OwnedSegment) → IsKey s
+    → IsInner inner b e → IsLast number last → s ∷ ss ≡ inner ++ last ∷ [] → ⊥
 key_first number s ss [] b e last h i l q = let same : s ≡ last = cc in key_not_last number s h (subst (IsLast number) (sym same) l)
 key_first number s ss (x ∷ xs) b e last h i l q = let same : x ≡ s = cc in inner_no_other (x ∷ xs) b e x xs i refl (ap part_of same ∙ key_other s h)
 
-pub key_not_plain : (number : ℕ) (s : OwnedSegment) (ss b e : List OwnedSegment) → IsKey s → IsPlainTail number (s ∷ ss) b e → ⊥
-key_not_plain number s ss b e h p = key_first number s ss p.inner b e p.last h p.is_inner p.is_last p.together
+-- what begins with HNVSK is not plain
+pub key_not_plain : (number : ℕ) (s : OwnedSegment) (more ss b e : List OwnedSegment) → IsKey s
+    → (t : IsTail number ss b e) → ss ≡ s ∷ more → t.outer ≡ t.inner → ⊥
+key_not_plain number s more ss b e h t first plain = key_first number s more t.inner b e t.last h t.is_inner t.is_last (sym first ∙ plain_segments number ss b e t plain)

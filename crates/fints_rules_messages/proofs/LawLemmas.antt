@@ -1,9 +1,10 @@
 -- The laws, each with its proof, for the proofs of the crates above.
 use Rattle.std.specs.Prelude.{◌≡◌, ◌+◌, ℕ, List, length}
 use Rattle.fints_rules_messages.specs.Messages.{MessageView, IsMessage, IsNumbered}
-use Rattle.fints_rules_messages.specs.Laws.{OneStop, NoStopInMessage, OneRefusal}
+use Rattle.fints_rules_messages.specs.Laws.{OneStop, NoStopInMessage, MessageOrStop, OneRefusal}
 use Rattle.fints_rules_messages.proofs.Uniques.{message_one}
 use Rattle.fints_rules_messages.proofs.OneStop.{one_stop, no_stop, one_refusal}
+use Rattle.fints_rules_messages.proofs.SomeAnswer.{message_or_stop}
 use Rattle.fints_rules_messages.proofs.Numbers.{numbered_body}
 use Rattle.fints_syntax.proofs.LawLemmas.{one_segment_text}
 
@@ -19,5 +20,9 @@ one_stop_not_both = no_stop one_segment_text
 pub one_stop_refusal : OneRefusal
 one_stop_refusal = one_refusal one_segment_text
 
-pub numbered_bodies : (bytes : List ℕ) (m : MessageView) → IsMessage bytes m → IsNumbered (2 + length m.ends) m.body
+pub some_answer : MessageOrStop
+some_answer = message_or_stop
+
+pub numbered_bodies : (bytes : List ℕ) (m : MessageView) → IsMessage bytes m
+    → IsNumbered (2 + length m.ends) m.body
 numbered_bodies = numbered_body

@@ -9,4 +9,5 @@ pub mod Uniques
 pub mod Wholes
 pub mod Numbers
 pub mod OneStop
+pub mod SomeAnswer
 pub mod LawLemmas

@@ -10,24 +10,25 @@ use Rattle.fints_syntax_segments.specs.declared.item.OwnedItem.TheVariants.{Bin}
 use Rattle.fints_syntax_segments.specs.declared.item.OwnedSegment.{OwnedSegment}
 use Rattle.fints_syntax.specs.Laws.{OneSegmentText}
 use Rattle.fints_syntax.specs.Owned.{no_head, segment_of, segments_of}
-use Rattle.fints_rules_messages.specs.Segments.{text_of, IsText}
+use Rattle.fints_rules_messages.specs.Segments.{texts_of, IsText}
 use Rattle.fints_syntax_segments.specs.Values.{item_at}
 use Rattle.fints_syntax_segments.specs.Values.{is_named}
 use Rattle.fints_rules_messages.specs.Messages.{IsInner, IsTail, IsKey, IsEnvelope, IsLast, IsNumbered, Stops}
-use Rattle.fints_rules_messages.specs.Front.{IsFront, IsNext, HasNoNext, NoneStands, CanStand, IsNumber, IsEndOf, BeginsBy, IsWholeBy, IsReadBy, IsSealedRest, IsOpened}
+use Rattle.fints_rules_messages.specs.Front.{IsFront, IsNextSegment, HasNoNext, NoneStands, CanStand, IsNumber, IsEndOf, BeginsBy, IsWholeBy, IsReadBy, IsSealedRest, IsOpened}
 use Rattle.fints_rules_messages.proofs.Texts.{segment_positive, rest_of}
 use Rattle.fints_rules_messages.proofs.Fronts.{length-half, numbered-append}
-use Rattle.fints_rules_messages.proofs.Forms.{stands, ends_all, inner_half, number_at, last_of, last_is, last_number, key_not_plain, numbered_front}
+use Rattle.fints_rules_messages.proofs.Forms.{stands, ends_all, inner_half, number_at, last_of, last_is, last_number, sealed_segments, key_not_plain, numbered_front}
 
 -- ---- one list for a text
 
-no_text : (ts : List (List (List Spelled))) → AllByRecursion IsSegment ts → [] ≡ text_of ts → ts ≡ []
+no_text : (ts : List (List (List Spelled))) → AllByRecursion IsSegment ts → [] ≡ texts_of ts → ts ≡ []
 no_text [] h e = refl
-no_text (t ∷ ts) h e = absurd (omega (arith, segment_positive t h.0, ap length e, length-append (segment_bytes t) (text_of ts)))
+no_text (t ∷ ts) h e = absurd (omega (arith, segment_positive t h.0, ap length e, length-append (segment_bytes t) (texts_of ts)))
 
-pub text_one : OneSegmentText → (bytes : List ℕ) (xs ys : List OwnedSegment) → IsText bytes xs → IsText bytes ys → xs ≡ ys
+pub text_one : OneSegmentText → (bytes : List ℕ) (xs ys : List OwnedSegment) → IsText bytes xs
+    → IsText bytes ys → xs ≡ ys
 text_one law bytes xs ys h g =
-    let r = rest_of law h.trees g.trees [] h.each g.each (append-nil (text_of h.trees) ∙ sym h.text ∙ g.text) in
+    let r = rest_of law h.trees g.trees [] h.each g.each (append-nil (texts_of h.trees) ∙ sym h.text ∙ g.text) in
     let same : g.trees ≡ h.trees = r.together ∙ ap (λ z. h.trees ++ z) (no_text r.more r.each r.text) ∙ append-nil h.trees in
     sym h.values ∙ ap segments_of (sym same) ∙ g.values
 
@@ -37,17 +38,21 @@ pub record IsAll (bytes : List ℕ) (at ends k : ℕ) : Type 0 where
   pub all : length bytes ≤ at
   pub as_many : ends ≡ k
 
-data_all : (bytes : List ℕ) (at k : ℕ) (body ends : List (List (List Spelled))) (more : List (List (List Spelled))) (b e : List OwnedSegment) (f : IsFront bytes at k body ends) → NoneStands (drop at bytes) k (length body) (length ends)
-    → AllByRecursion IsSegment more → drop at bytes ≡ text_of more → IsInner (segments_of f.trees ++ segments_of more) b e → IsNumbered 2 (segments_of f.trees ++ segments_of more) → IsAll bytes at (length ends) k
+data_all : (bytes : List ℕ) (at k : ℕ) (body ends : List (List (List Spelled))) (more : List (List (List Spelled))) (b e : List OwnedSegment) (f : IsFront bytes at k body ends)
+    → NoneStands (drop at bytes) k (length body) (length ends) → AllByRecursion IsSegment more
+    → drop at bytes ≡ texts_of more → IsInner (segments_of f.trees ++ segments_of more) b e
+    → IsNumbered 2 (segments_of f.trees ++ segments_of more) → IsAll bytes at (length ends) k
 data_all bytes at k body ends [] b e f none each text g n = record {
   all = omega (arith, ap length text, length-drop at bytes);
   as_many = omega (arith, length-map ends segment_of, ends_all (segments_of f.trees) (segments_of body) (segments_of ends) k b e f.half (subst (λ z. IsInner z b e) (append-nil (segments_of f.trees)) g));
 }
 data_all bytes at k body ends (t ∷ ts) b e f none each text g n =
     let s : CanStand (segment_of t) k (length (segments_of body)) (length (segments_of ends)) = stands (segments_of f.trees) (segments_of body) (segments_of ends) k (segment_of t) (segments_of ts) b e f.half g n in
-    absurd (none t (text_of ts) each.0 text (subst (λ x. CanStand (segment_of t) k (length body) x) (length-map ends segment_of) (subst (λ x. CanStand (segment_of t) k x (length (segments_of ends))) (length-map body segment_of) s)))
+    absurd (none t (texts_of ts) each.0 text (subst (λ x. CanStand (segment_of t) k (length body) x) (length-map ends segment_of) (subst (λ x. CanStand (segment_of t) k x (length (segments_of ends))) (length-map body segment_of) s)))
 
-pub data_inner : OneSegmentText → (bytes : List ℕ) (at k : ℕ) (body ends : List (List (List Spelled))) (inner b e : List OwnedSegment) → IsFront bytes at k body ends → NoneStands (drop at bytes) k (length body) (length ends)
+pub data_inner : OneSegmentText
+    → (bytes : List ℕ) (at k : ℕ) (body ends : List (List (List Spelled))) (inner b e : List OwnedSegment)
+    → IsFront bytes at k body ends → NoneStands (drop at bytes) k (length body) (length ends)
     → IsText bytes inner → IsInner inner b e → IsNumbered 2 inner → IsAll bytes at (length ends) k
 data_inner law bytes at k body ends inner b e f none t g n =
     let r = rest_of law f.trees t.trees (drop at bytes) f.each t.each (sym f.text ∙ t.text) in
@@ -55,14 +60,17 @@ data_inner law bytes at k body ends inner b e f none t g n =
     data_all bytes at k body ends r.more b e f none r.each r.text (subst (λ z. IsInner z b e) same g) (subst (IsNumbered 2) same n)
 
 -- the data that the envelope has
-pub envelope_text : (inner : List OwnedSegment) (s : OwnedSegment) (bytes : List ℕ) → item_at s 2 1 ≡ Bin bytes → IsEnvelope inner s → IsText bytes inner
+pub envelope_text : (inner : List OwnedSegment) (s : OwnedSegment) (bytes : List ℕ)
+    → item_at s 2 1 ≡ Bin bytes → IsEnvelope inner s → IsText bytes inner
 envelope_text inner s bytes e h = let same : h.bytes ≡ bytes = let j = h.item in cc in subst (λ z. IsText z inner) same h.holds
 
-pub opened : (s : OwnedSegment) (bytes : List ℕ) (at k : ℕ) (body ends : List (List (List Spelled))) → IsTrue (is_named s (codes "HNVSD") 1) → s.head.number ≡ 999 → item_at s 2 1 ≡ Bin bytes → IsFront bytes at k body ends
-    → length bytes ≤ at → length ends ≡ k → IsOpened s k (segments_of body) (segments_of ends)
+pub opened : (s : OwnedSegment) (bytes : List ℕ) (at k : ℕ) (body ends : List (List (List Spelled)))
+    → IsTrue (is_named s (codes "HNVSD") 1) → s.head.number ≡ 999 → item_at s 2 1 ≡ Bin bytes
+    → IsFront bytes at k body ends → length bytes ≤ at → length ends ≡ k
+    → IsOpened s k (segments_of body) (segments_of ends)
 opened s bytes at k body ends kind place item f le n = record {
   inner = segments_of f.trees;
-  is_envelope = record { kind = kind; place = place; bytes = bytes; item = item; holds = record { trees = f.trees; each = f.each; text = f.text ∙ ap (λ z. text_of f.trees ++ z) (drop_all at bytes le) ∙ append-nil (text_of f.trees); values = refl } };
+  is_envelope = record { kind = kind; place = place; bytes = bytes; item = item; holds = record { trees = f.trees; each = f.each; text = f.text ∙ ap (λ z. texts_of f.trees ++ z) (drop_all at bytes le) ∙ append-nil (texts_of f.trees); values = refl } };
   is_inner = inner_half (segments_of f.trees) (segments_of body) (segments_of ends) k f.half (omega (arith, n, length-map ends segment_of));
   numbered = f.numbered;
   count = length-half (segments_of f.trees) (segments_of body) (segments_of ends) k f.half;
@@ -109,7 +117,9 @@ stop_start rest number v none = record {
 }
 
 -- the inner segments are those that were read
-rest_inner : OneSegmentText → (number : ℕ) (s : OwnedSegment) (k : ℕ) (body ends : List OwnedSegment) (last : OwnedSegment) (more b e : List OwnedSegment) → IsOpened s k body ends → IsSealedRest number (s ∷ last ∷ more) b e
+rest_inner : OneSegmentText
+    → (number : ℕ) (s : OwnedSegment) (k : ℕ) (body ends : List OwnedSegment) (last : OwnedSegment) (more b e : List OwnedSegment)
+    → IsOpened s k body ends → IsSealedRest number (s ∷ last ∷ more) b e
     → IsLast number last × (last.head.number ≡ 2 + (k + (length body + length ends))) × (more ≡ [])
 rest_inner law number s k body ends last more b e o w =
     let q = w.together in
@@ -124,7 +134,9 @@ rest_inner law number s k body ends last more b e o w =
       none,
     )
 
-sealed_rest : (number : ℕ) (s : OwnedSegment) (k : ℕ) (body ends : List OwnedSegment) (last : OwnedSegment) → IsOpened s k body ends → IsLast number last → last.head.number ≡ 2 + (k + (length body + length ends)) → IsSealedRest number (s ∷ last ∷ []) body ends
+sealed_rest : (number : ℕ) (s : OwnedSegment) (k : ℕ) (body ends : List OwnedSegment) (last : OwnedSegment)
+    → IsOpened s k body ends → IsLast number last → last.head.number ≡ 2 + (k + (length body + length ends))
+    → IsSealedRest number (s ∷ last ∷ []) body ends
 sealed_rest number s k body ends last o l place = record {
   envelope = s;
   inner = o.inner;
@@ -136,7 +148,10 @@ sealed_rest number s k body ends last o l place = record {
   together = refl;
 }
 
-pub stop_envelope : OneSegmentText → (rest : List ℕ) (n k number : ℕ) (body ends : List (List (List Spelled))) (t : List (List Spelled)) → IsNumber number → IsNext rest t n → IsOpened (segment_of t) k (segments_of body) (segments_of ends)
+pub stop_envelope : OneSegmentText
+    → (rest : List ℕ) (n k number : ℕ) (body ends : List (List (List Spelled))) (t : List (List Spelled))
+    → IsNumber number → IsNextSegment rest t n
+    → IsOpened (segment_of t) k (segments_of body) (segments_of ends)
     → ((u : List (List Spelled)) (more : List ℕ) → IsSegment u → drop n rest ≡ segment_bytes u ++ more → IsEndOf number (segment_of u) k (length body) (length ends) → ⊥)
     → Stops (BeginsBy (IsSealedRest number)) (IsWholeBy (IsSealedRest number)) rest n
 stop_envelope law rest n k number body ends t v is_next o none = record {
@@ -157,13 +172,17 @@ stop_envelope law rest n k number body ends t v is_next o none = record {
   unfinished = λ _ (b, c, w). let q = w.together in cc;
 }
 
-after_text : (rest : List ℕ) (n m : ℕ) (t u : List (List Spelled)) → IsNext rest t n → IsNext (drop n rest) u m → rest ≡ text_of (t ∷ u ∷ []) ++ drop (n + m) rest
+after_text : (rest : List ℕ) (n m : ℕ) (t u : List (List Spelled)) → IsNextSegment rest t n
+    → IsNextSegment (drop n rest) u m → rest ≡ texts_of (t ∷ u ∷ []) ++ drop (n + m) rest
 after_text rest n m t u h g =
     h.text ∙ ap (λ z. segment_bytes t ++ z) (g.text ∙ ap (λ z. segment_bytes u ++ z) (drop-drop m n rest))
     ∙ sym (append_assoc (segment_bytes t) (segment_bytes u) (drop (n + m) rest)) ∙ ap (λ z. (segment_bytes t ++ z) ++ drop (n + m) rest) (sym (append-nil (segment_bytes u)))
 
-pub stop_last : OneSegmentText → (rest : List ℕ) (n m k number : ℕ) (body ends : List (List (List Spelled))) (t u : List (List Spelled)) → IsNext rest t n → IsOpened (segment_of t) k (segments_of body) (segments_of ends)
-    → IsNext (drop n rest) u m → IsEndOf number (segment_of u) k (length body) (length ends) → n + m < length rest
+pub stop_last : OneSegmentText
+    → (rest : List ℕ) (n m k number : ℕ) (body ends : List (List (List Spelled))) (t u : List (List Spelled))
+    → IsNextSegment rest t n → IsOpened (segment_of t) k (segments_of body) (segments_of ends)
+    → IsNextSegment (drop n rest) u m → IsEndOf number (segment_of u) k (length body) (length ends)
+    → n + m < length rest
     → Stops (BeginsBy (IsSealedRest number)) (IsWholeBy (IsSealedRest number)) rest (n + m)
 stop_last law rest n m k number body ends t u h o g q lt = record {
   front = t ∷ u ∷ [];
@@ -177,41 +196,60 @@ stop_last law rest n m k number body ends t u h o g q lt = record {
   unfinished = λ e _. omega (arith, lt, ap length e, length-drop (n + m) rest);
 }
 
-pub whole_rest : (rest : List ℕ) (n m k number : ℕ) (body ends : List (List (List Spelled))) (t u : List (List Spelled)) → IsNext rest t n → IsOpened (segment_of t) k (segments_of body) (segments_of ends)
-    → IsNext (drop n rest) u m → IsEndOf number (segment_of u) k (length body) (length ends) → length rest ≤ n + m → IsReadBy (IsSealedRest number) rest body ends
+pub whole_rest : (rest : List ℕ) (n m k number : ℕ) (body ends : List (List (List Spelled))) (t u : List (List Spelled))
+    → IsNextSegment rest t n → IsOpened (segment_of t) k (segments_of body) (segments_of ends)
+    → IsNextSegment (drop n rest) u m → IsEndOf number (segment_of u) k (length body) (length ends)
+    → length rest ≤ n + m → IsReadBy (IsSealedRest number) rest body ends
 whole_rest rest n m k number body ends t u h o g q le = record {
   trees = t ∷ u ∷ [];
   each = (h.segment, (g.segment, tt));
-  text = after_text rest n m t u h g ∙ ap (λ z. text_of (t ∷ u ∷ []) ++ z) (drop_all (n + m) rest le) ∙ append-nil (text_of (t ∷ u ∷ []));
+  text = after_text rest n m t u h g ∙ ap (λ z. texts_of (t ∷ u ∷ []) ++ z) (drop_all (n + m) rest le) ∙ append-nil (texts_of (t ∷ u ∷ []));
   is = sealed_rest number (segment_of t) k (segments_of body) (segments_of ends) (segment_of u) o q.last (omega (arith, q.place, length-map body segment_of, length-map ends segment_of));
 }
 
 -- ---- with HNVSK before it
 
-with_key : (number : ℕ) (s : OwnedSegment) (ss b e : List OwnedSegment) → IsKey s → IsSealedRest number ss b e → IsTail number (s ∷ ss) b e
-with_key number s ss b e h w = inr (record { key = s; envelope = w.envelope; inner = w.inner; last = w.last; is_key = h; is_envelope = w.is_envelope; is_inner = w.is_inner; is_last = w.is_last; numbered = w.numbered; together = ap (λ z. s ∷ z) w.together })
+with_key : (number : ℕ) (s : OwnedSegment) (ss b e : List OwnedSegment) → IsKey s → IsSealedRest number ss b e
+    → IsTail number (s ∷ ss) b e
+with_key number s ss b e h w = record {
+  inner = w.inner;
+  outer = s ∷ w.envelope ∷ [];
+  last = w.last;
+  is_inner = w.is_inner;
+  stands = inr (record { key = s; envelope = w.envelope; is_key = h; is_envelope = w.is_envelope; together = refl });
+  is_last = w.is_last;
+  numbered = w.numbered;
+  together = ap (λ z. s ∷ z) w.together;
+}
 
-without_key : (number : ℕ) (s : OwnedSegment) (ss b e : List OwnedSegment) → IsKey s → IsTail number (s ∷ ss) b e → IsSealedRest number ss b e
+without_key : (number : ℕ) (s : OwnedSegment) (ss b e : List OwnedSegment) → IsKey s
+    → IsTail number (s ∷ ss) b e → IsSealedRest number ss b e
 without_key number s ss b e h t =
-    elim t [
-      | inl p ↦ absurd (key_not_plain number s ss b e h p)
-      | inr q ↦ record { envelope = q.envelope; inner = q.inner; last = q.last; is_envelope = q.is_envelope; is_inner = q.is_inner; is_last = q.is_last; numbered = q.numbered; together = let j = q.together in cc }
+    elim t.stands [
+      | inl p ↦ absurd (key_not_plain number s ss (s ∷ ss) b e h t refl p)
+      | inr q ↦
+          let all = sealed_segments number (s ∷ ss) b e t q in
+          record { envelope = q.envelope; inner = t.inner; last = t.last; is_envelope = q.is_envelope; is_inner = t.is_inner; is_last = t.is_last; numbered = t.numbered; together = cc }
     ]
 
-pub stops_key : (tail : List ℕ) (n at number : ℕ) (t : List (List Spelled)) → IsNext tail t n → IsKey (segment_of t) → Stops (BeginsBy (IsSealedRest number)) (IsWholeBy (IsSealedRest number)) (drop n tail) at
+pub stops_key : (tail : List ℕ) (n at number : ℕ) (t : List (List Spelled)) → IsNextSegment tail t n
+    → IsKey (segment_of t)
+    → Stops (BeginsBy (IsSealedRest number)) (IsWholeBy (IsSealedRest number)) (drop n tail) at
     → Stops (BeginsBy (IsTail number)) (IsWholeBy (IsTail number)) tail (n + at)
 stops_key tail n at number t h key s = record {
   front = t ∷ s.front;
   rest = s.rest;
   each = (h.segment, s.each);
-  text = h.text ∙ ap (λ z. segment_bytes t ++ z) s.text ∙ sym (append_assoc (segment_bytes t) (text_of s.front) s.rest);
-  offset_is = omega (arith, h.len_is, s.offset_is, length-append (segment_bytes t) (text_of s.front));
+  text = h.text ∙ ap (λ z. segment_bytes t ++ z) s.text ∙ sym (append_assoc (segment_bytes t) (texts_of s.front) s.rest);
+  offset_is = omega (arith, h.len_is, s.offset_is, length-append (segment_bytes t) (texts_of s.front));
   begins = (s.begins.0, s.begins.1, s.begins.2, with_key number (segment_of t) (segments_of s.front ++ s.begins.0) s.begins.1 s.begins.2 key s.begins.3);
   no_next = λ u more is e (after, b, c, w). s.no_next u more is e (after, b, c, without_key number (segment_of t) (segments_of (s.front ++ u ∷ []) ++ after) b c key w);
   unfinished = λ e (b, c, w). s.unfinished e (b, c, without_key number (segment_of t) (segments_of s.front) b c key w);
 }
 
-pub whole_key : (tail : List ℕ) (n number : ℕ) (body ends : List (List (List Spelled))) (t : List (List Spelled)) → IsNext tail t n → IsKey (segment_of t) → IsReadBy (IsSealedRest number) (drop n tail) body ends → IsReadBy (IsTail number) tail body ends
+pub whole_key : (tail : List ℕ) (n number : ℕ) (body ends : List (List (List Spelled))) (t : List (List Spelled))
+    → IsNextSegment tail t n → IsKey (segment_of t) → IsReadBy (IsSealedRest number) (drop n tail) body ends
+    → IsReadBy (IsTail number) tail body ends
 whole_key tail n number body ends t h key r = record {
   trees = t ∷ r.trees;
   each = (h.segment, r.each);
@@ -221,21 +259,29 @@ whole_key tail n number body ends t h key r = record {
 
 -- ---- as the code meets it
 
-pub head_number : (o : Option Head) (n : ℕ) → option_map (λ (h : Head). h.number) o ≡ Some n → (unwrap_or o no_head).number ≡ n
+pub head_number : (o : Option Head) (n : ℕ) → option_map (λ (h : Head). h.number) o ≡ Some n
+    → (unwrap_or o no_head).number ≡ n
 head_number None n e = cc
 head_number (Some h) n e = cc
 
-pub stop_first : (rest : List ℕ) (number : ℕ) → IsNumber number → HasNoNext rest → Stops (BeginsBy (IsSealedRest number)) (IsWholeBy (IsSealedRest number)) rest 0
+pub stop_first : (rest : List ℕ) (number : ℕ) → IsNumber number → HasNoNext rest
+    → Stops (BeginsBy (IsSealedRest number)) (IsWholeBy (IsSealedRest number)) rest 0
 stop_first rest number v none = stop_start rest number v (λ t more is e _ _ _ _ _ _. none t more is e)
 
-pub stop_closed : (rest : List ℕ) (n number : ℕ) (t : List (List Spelled)) → IsNumber number → IsNext rest t n → ((inner b e : List OwnedSegment) → IsEnvelope inner (segment_of t) → IsInner inner b e → IsNumbered 2 inner → ⊥)
+pub stop_closed : (rest : List ℕ) (n number : ℕ) (t : List (List Spelled)) → IsNumber number
+    → IsNextSegment rest t n
+    → ((inner b e : List OwnedSegment) → IsEnvelope inner (segment_of t) → IsInner inner b e → IsNumbered 2 inner → ⊥)
     → Stops (BeginsBy (IsSealedRest number)) (IsWholeBy (IsSealedRest number)) rest 0
 stop_closed rest n number t v h none = stop_start rest number v (λ u more is e inner b c env g num.
     let same : t ≡ u = h.only u more is e in
     none inner b c (subst (λ z. IsEnvelope inner (segment_of z)) (sym same) env) g num)
 
-pub stop_other : OneSegmentText → (rest : List ℕ) (n m k number : ℕ) (body ends : List (List (List Spelled))) (t u : List (List Spelled)) → IsNumber number → IsNext rest t n → IsOpened (segment_of t) k (segments_of body) (segments_of ends)
-    → IsNext (drop n rest) u m → (IsEndOf number (segment_of u) k (length body) (length ends) → ⊥) → Stops (BeginsBy (IsSealedRest number)) (IsWholeBy (IsSealedRest number)) rest n
+pub stop_other : OneSegmentText
+    → (rest : List ℕ) (n m k number : ℕ) (body ends : List (List (List Spelled))) (t u : List (List Spelled))
+    → IsNumber number → IsNextSegment rest t n
+    → IsOpened (segment_of t) k (segments_of body) (segments_of ends) → IsNextSegment (drop n rest) u m
+    → (IsEndOf number (segment_of u) k (length body) (length ends) → ⊥)
+    → Stops (BeginsBy (IsSealedRest number)) (IsWholeBy (IsSealedRest number)) rest n
 stop_other law rest n m k number body ends t u v h o g not_end = stop_envelope law rest n k number body ends t v h o (λ x more is e end.
     let same : u ≡ x = g.only x more is e in
     not_end (subst (λ z. IsEndOf number (segment_of z) k (length body) (length ends)) (sym same) end))

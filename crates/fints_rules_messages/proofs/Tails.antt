@@ -5,22 +5,26 @@ use Rattle.fints_syntax_segments.specs.Spelling.{Spelled}
 use Rattle.fints_syntax_segments.specs.Segment.{segment_bytes, IsSegment}
 use Rattle.fints_syntax_segments.specs.declared.item.OwnedSegment.{OwnedSegment}
 use Rattle.fints_syntax.specs.Owned.{segment_of, segments_of}
-use Rattle.fints_rules_messages.specs.Segments.{text_of}
+use Rattle.fints_rules_messages.specs.Segments.{texts_of}
 use Rattle.fints_rules_messages.specs.Messages.{IsTail, IsKey, Stops}
-use Rattle.fints_rules_messages.specs.Front.{IsFront, IsNext, HasNoNext, NoneStands, CanStand, IsNumber, IsEndOf, BeginsBy, IsWholeBy, IsReadBy}
+use Rattle.fints_rules_messages.specs.Front.{IsFront, IsNextSegment, HasNoNext, NoneStands, CanStand, IsNumber, IsEndOf, BeginsBy, IsWholeBy, IsReadBy}
 use Rattle.fints_rules_messages.proofs.Texts.{all_append, text-snoc, segments-snoc}
 use Rattle.fints_rules_messages.proofs.Fronts.{front_text, length-half}
 use Rattle.fints_rules_messages.proofs.Forms.{inner, end, key, next, half_not_tail, begins_half, tail_whole, none_after}
 
 -- the segments to come, by the text that is next
-with_next : (number : ℕ) (front : List (List (List Spelled))) (t : List (List Spelled)) (more b e : List OwnedSegment) → IsTail number (segments_of (front ++ t ∷ []) ++ more) b e → IsTail number (segments_of front ++ segment_of t ∷ more) b e
+with_next : (number : ℕ) (front : List (List (List Spelled))) (t : List (List Spelled)) (more b e : List OwnedSegment)
+    → IsTail number (segments_of (front ++ t ∷ []) ++ more) b e
+    → IsTail number (segments_of front ++ segment_of t ∷ more) b e
 with_next number front t more b e h =
     subst (λ z. IsTail number z b e) (ap (λ z. z ++ more) (segments-snoc front t) ∙ append_assoc (segments_of front) (segment_of t ∷ []) more) h
 
-nothing_next : (rest : List ℕ) (t : List (List Spelled)) (n : ℕ) → IsNext rest t n → rest ≡ [] → ⊥
+nothing_next : (rest : List ℕ) (t : List (List Spelled)) (n : ℕ) → IsNextSegment rest t n → rest ≡ [] → ⊥
 nothing_next rest t n h e = omega (arith, h.within, h.some, ap length e)
 
-pub stop_none : (tail : List ℕ) (at k number : ℕ) (body ends : List (List (List Spelled))) → IsNumber number → IsFront tail at k body ends → HasNoNext (drop at tail) → Stops (BeginsBy (IsTail number)) (IsWholeBy (IsTail number)) tail at
+pub stop_none : (tail : List ℕ) (at k number : ℕ) (body ends : List (List (List Spelled))) → IsNumber number
+    → IsFront tail at k body ends → HasNoNext (drop at tail)
+    → Stops (BeginsBy (IsTail number)) (IsWholeBy (IsTail number)) tail at
 stop_none tail at k number body ends v f h = record {
   front = f.trees;
   rest = drop at tail;
@@ -32,15 +36,18 @@ stop_none tail at k number body ends v f h = record {
   unfinished = λ _ (b, e, w). half_not_tail number (segments_of f.trees) (segments_of body) (segments_of ends) k b e f.half w;
 }
 
-empty : (ts : List (List (List Spelled))) → segments_of ts ≡ [] → length (text_of ts) ≡ 0
+empty : (ts : List (List (List Spelled))) → segments_of ts ≡ [] → length (texts_of ts) ≡ 0
 empty [] e = refl
 empty (t ∷ ts) e = absurd (omega (arith, ap length e))
 
-at_start : (tail : List ℕ) (at k : ℕ) (body ends : List (List (List Spelled))) (f : IsFront tail at k body ends) → segments_of f.trees ≡ [] → at ≡ 0
+at_start : (tail : List ℕ) (at k : ℕ) (body ends : List (List (List Spelled))) (f : IsFront tail at k body ends)
+    → segments_of f.trees ≡ [] → at ≡ 0
 at_start tail at k body ends f e = omega (arith, f.at_is, empty f.trees e)
 
-pub stop_here : (tail : List ℕ) (at k n number : ℕ) (body ends : List (List (List Spelled))) (t : List (List Spelled)) → IsNumber number → IsFront tail at k body ends → IsNext (drop at tail) t n
-    → NoneStands (drop at tail) k (length body) (length ends) → (at ≡ 0 → IsKey (segment_of t) → ⊥) → (IsEndOf number (segment_of t) k (length body) (length ends) → ⊥)
+pub stop_here : (tail : List ℕ) (at k n number : ℕ) (body ends : List (List (List Spelled))) (t : List (List Spelled))
+    → IsNumber number → IsFront tail at k body ends → IsNextSegment (drop at tail) t n
+    → NoneStands (drop at tail) k (length body) (length ends) → (at ≡ 0 → IsKey (segment_of t) → ⊥)
+    → (IsEndOf number (segment_of t) k (length body) (length ends) → ⊥)
     → Stops (BeginsBy (IsTail number)) (IsWholeBy (IsTail number)) tail at
 stop_here tail at k n number body ends t v f is_next none not_key not_end = record {
   front = f.trees;
@@ -59,25 +66,30 @@ stop_here tail at k n number body ends t v f is_next none not_key not_end = reco
   unfinished = λ _ (b, e, w). half_not_tail number (segments_of f.trees) (segments_of body) (segments_of ends) k b e f.half w;
 }
 
-end_whole : (tail : List ℕ) (at k n number : ℕ) (body ends : List (List (List Spelled))) (t : List (List Spelled)) (f : IsFront tail at k body ends) → IsEndOf number (segment_of t) k (length body) (length ends) → IsTail number (segments_of (f.trees ++ t ∷ [])) (segments_of body) (segments_of ends)
+end_whole : (tail : List ℕ) (at k n number : ℕ) (body ends : List (List (List Spelled))) (t : List (List Spelled)) (f : IsFront tail at k body ends)
+    → IsEndOf number (segment_of t) k (length body) (length ends)
+    → IsTail number (segments_of (f.trees ++ t ∷ [])) (segments_of body) (segments_of ends)
 end_whole tail at k n number body ends t f is_end =
     subst (λ z. IsTail number z (segments_of body) (segments_of ends)) (sym (segments-snoc f.trees t))
     (tail_whole number (segments_of f.trees) (segments_of body) (segments_of ends) k (segment_of t) f.half f.numbered (omega (arith, is_end.all, length-map ends segment_of)) is_end.last
     (omega (arith, is_end.place, length-half (segments_of f.trees) (segments_of body) (segments_of ends) k f.half, length-map body segment_of, length-map ends segment_of)))
 
-two : (front : List (List (List Spelled))) (t u : List (List Spelled)) (more : List OwnedSegment) → segments_of ((front ++ t ∷ []) ++ u ∷ []) ++ more ≡ segments_of front ++ segment_of t ∷ segment_of u ∷ more
+two : (front : List (List (List Spelled))) (t u : List (List Spelled)) (more : List OwnedSegment)
+    → segments_of ((front ++ t ∷ []) ++ u ∷ []) ++ more ≡ segments_of front ++ segment_of t ∷ segment_of u ∷ more
 two front t u more =
     ap (λ z. z ++ more) (segments-snoc (front ++ t ∷ []) u ∙ ap (λ z. z ++ segment_of u ∷ []) (segments-snoc front t))
     ∙ append_assoc (segments_of front ++ segment_of t ∷ []) (segment_of u ∷ []) more ∙ append_assoc (segments_of front) (segment_of t ∷ []) (segment_of u ∷ more)
 
-pub stop_after : (tail : List ℕ) (at k n number : ℕ) (body ends : List (List (List Spelled))) (t : List (List Spelled)) → IsNumber number → IsFront tail at k body ends → IsNext (drop at tail) t n
-    → IsEndOf number (segment_of t) k (length body) (length ends) → at + n < length tail → Stops (BeginsBy (IsTail number)) (IsWholeBy (IsTail number)) tail (at + n)
+pub stop_after : (tail : List ℕ) (at k n number : ℕ) (body ends : List (List (List Spelled))) (t : List (List Spelled))
+    → IsNumber number → IsFront tail at k body ends → IsNextSegment (drop at tail) t n
+    → IsEndOf number (segment_of t) k (length body) (length ends) → at + n < length tail
+    → Stops (BeginsBy (IsTail number)) (IsWholeBy (IsTail number)) tail (at + n)
 stop_after tail at k n number body ends t v f is_next is_end lt = record {
   front = f.trees ++ t ∷ [];
   rest = drop (at + n) tail;
   each = all_append IsSegment f.trees (t ∷ []) f.each (is_next.segment, tt);
   text = front_text tail at f.trees t n f.text is_next;
-  offset_is = omega (arith, f.at_is, ap length (text-snoc f.trees t), length-append (text_of f.trees) (segment_bytes t), is_next.len_is);
+  offset_is = omega (arith, f.at_is, ap length (text-snoc f.trees t), length-append (texts_of f.trees) (segment_bytes t), is_next.len_is);
   begins = ([], segments_of body, segments_of ends, subst (λ z. IsTail number z (segments_of body) (segments_of ends)) (sym (append-nil (segments_of (f.trees ++ t ∷ [])))) (end_whole tail at k n number body ends t f is_end));
   no_next = λ u more is e (after, b, c, w).
       none_after number (segments_of f.trees) (segments_of body) (segments_of ends) k (segment_of t) (segment_of u) after b c f.half is_end.last
@@ -85,11 +97,13 @@ stop_after tail at k n number body ends t v f is_next is_end lt = record {
   unfinished = λ e _. omega (arith, lt, ap length e, length-drop (at + n) tail);
 }
 
-pub whole : (tail : List ℕ) (at k n number : ℕ) (body ends : List (List (List Spelled))) (t : List (List Spelled)) → IsFront tail at k body ends → IsNext (drop at tail) t n
-    → IsEndOf number (segment_of t) k (length body) (length ends) → length tail ≤ at + n → IsReadBy (IsTail number) tail body ends
+pub whole : (tail : List ℕ) (at k n number : ℕ) (body ends : List (List (List Spelled))) (t : List (List Spelled))
+    → IsFront tail at k body ends → IsNextSegment (drop at tail) t n
+    → IsEndOf number (segment_of t) k (length body) (length ends) → length tail ≤ at + n
+    → IsReadBy (IsTail number) tail body ends
 whole tail at k n number body ends t f is_next is_end le = record {
   trees = f.trees ++ t ∷ [];
   each = all_append IsSegment f.trees (t ∷ []) f.each (is_next.segment, tt);
-  text = front_text tail at f.trees t n f.text is_next ∙ ap (λ z. text_of (f.trees ++ t ∷ []) ++ z) (drop_all (at + n) tail le) ∙ append-nil (text_of (f.trees ++ t ∷ []));
+  text = front_text tail at f.trees t n f.text is_next ∙ ap (λ z. texts_of (f.trees ++ t ∷ []) ++ z) (drop_all (at + n) tail le) ∙ append-nil (texts_of (f.trees ++ t ∷ []));
   is = end_whole tail at k n number body ends t f is_end;
 }

@@ -8,32 +8,34 @@ use Rattle.fints_syntax_segments.specs.declared.item.OwnedSegment.{OwnedSegment}
 use Rattle.fints_syntax.specs.Laws.{OneSegmentText}
 use Rattle.fints_syntax_segments.specs.Number.{number_of}
 use Rattle.fints_syntax.specs.Owned.{segment_of, segments_of}
-use Rattle.fints_rules_messages.specs.Segments.{text_of}
+use Rattle.fints_rules_messages.specs.Segments.{texts_of}
 use Rattle.fints_syntax_segments.specs.Values.{value_at}
-use Rattle.fints_rules_messages.specs.Messages.{MessageView, IsFirst, IsTail, IsForm, IsMessage, IsWhole, Begins, Stops, IsNoMessage}
-use Rattle.fints_rules_messages.specs.Front.{IsNext, HasNoNext, BeginsBy, IsWholeBy, IsReadBy}
+use Rattle.fints_rules_messages.specs.Messages.{MessageView, IsFirst, IsTail, IsForm, IsMessage, AreMessage, Begins, Stops, IsNoMessage}
+use Rattle.fints_rules_messages.specs.Front.{IsNextSegment, HasNoNext, BeginsBy, IsWholeBy, IsReadBy}
 use Rattle.fints_rules_messages.proofs.Texts.{segments-snoc, rest_of}
 
 -- ---- where it stops there is no message
 
-none_at : (size : ℕ) (bytes : List ℕ) (o : ℕ) (more : List (List (List Spelled))) (m : MessageView) (s : Stops (Begins size) (IsWhole size) bytes o) → AllByRecursion IsSegment more → s.rest ≡ text_of more → IsForm (segments_of s.front ++ segments_of more) m → m.size ≡ size → ⊥
+none_at : (size : ℕ) (bytes : List ℕ) (o : ℕ) (more : List (List (List Spelled))) (m : MessageView) (s : Stops (Begins size) (AreMessage size) bytes o)
+    → AllByRecursion IsSegment more → s.rest ≡ texts_of more
+    → IsForm (segments_of s.front ++ segments_of more) m → m.size ≡ size → ⊥
 none_at size bytes o [] m s each text form e = s.unfinished text (m, subst (λ z. IsForm z m) (append-nil (segments_of s.front)) form, e)
 none_at size bytes o (t ∷ ts) m s each text form e =
     let joined : segments_of s.front ++ segment_of t ∷ segments_of ts ≡ segments_of (s.front ++ t ∷ []) ++ segments_of ts = sym (ap (λ z. z ++ segments_of ts) (segments-snoc s.front t) ∙ append_assoc (segments_of s.front) (segment_of t ∷ []) (segments_of ts)) in
-    s.no_next t (text_of ts) each.0 text (inr (segments_of ts, (m, subst (λ z. IsForm z m) joined form, e)))
+    s.no_next t (texts_of ts) each.0 text (inr (segments_of ts, (m, subst (λ z. IsForm z m) joined form, e)))
 
-pub no_message : OneSegmentText → (bytes : List ℕ) (o : ℕ) → Stops (Begins (length bytes)) (IsWhole (length bytes)) bytes o → (m : MessageView) → IsMessage bytes m → ⊥
+pub no_message : OneSegmentText → (bytes : List ℕ) (o : ℕ) → IsNoMessage bytes o → (m : MessageView)
+    → IsMessage bytes m → ⊥
 no_message law bytes o s m h =
     let r = rest_of law s.front h.text.trees s.rest s.each h.text.each (sym s.text ∙ h.text.text) in
     let same : h.segments ≡ segments_of s.front ++ segments_of r.more = sym h.text.values ∙ ap segments_of r.together ∙ map-append segment_of s.front r.more in
     none_at (length bytes) bytes o r.more m s r.each r.text (subst (λ z. IsForm z m) same h.form) h.size
 
-refused : OneSegmentText → (bytes : List ℕ) (o : ℕ) → Stops (Begins (length bytes)) (IsWhole (length bytes)) bytes o → IsNoMessage bytes o
-refused law bytes o s = record { none = no_message law bytes o s; stops = s }
-
 -- ---- at the start
 
-stop_zero : (bytes : List ℕ) → ((t : List (List Spelled)) (more : List ℕ) → IsSegment t → bytes ≡ segment_bytes t ++ more → (n : ℕ) → IsFirst (length bytes) n (segment_of t) → ⊥) → Stops (Begins (length bytes)) (IsWhole (length bytes)) bytes 0
+stop_zero : (bytes : List ℕ)
+    → ((t : List (List Spelled)) (more : List ℕ) → IsSegment t → bytes ≡ segment_bytes t ++ more → (n : ℕ) → IsFirst (length bytes) n (segment_of t) → ⊥)
+    → IsNoMessage bytes 0
 stop_zero bytes none = record {
   front = [];
   rest = bytes;
@@ -52,23 +54,27 @@ stop_zero bytes none = record {
   unfinished = λ _ w. let q = w.1.together in cc;
 }
 
-pub refused_first : OneSegmentText → (bytes : List ℕ) → HasNoNext bytes → IsNoMessage bytes 0
-refused_first law bytes none = refused law bytes 0 (stop_zero bytes (λ t more is e _ _. none t more is e))
+pub refused_first : (bytes : List ℕ) → HasNoNext bytes → IsNoMessage bytes 0
+refused_first bytes none = stop_zero bytes (λ t more is e _ _. none t more is e)
 
-pub refused_head : OneSegmentText → (bytes : List ℕ) (t : List (List Spelled)) (n : ℕ) → IsNext bytes t n → ((k : ℕ) → IsFirst (length bytes) k (segment_of t) → ⊥) → IsNoMessage bytes 0
-refused_head law bytes t n h none = refused law bytes 0 (stop_zero bytes (λ u more is e k first.
+pub refused_head : (bytes : List ℕ) (t : List (List Spelled)) (n : ℕ) → IsNextSegment bytes t n
+    → ((k : ℕ) → IsFirst (length bytes) k (segment_of t) → ⊥) → IsNoMessage bytes 0
+refused_head bytes t n h none = stop_zero bytes (λ u more is e k first.
     let same : t ≡ u = h.only u more is e in
-    none k (subst (λ z. IsFirst (length bytes) k (segment_of z)) (sym same) first)))
+    none k (subst (λ z. IsFirst (length bytes) k (segment_of z)) (sym same) first))
 
 -- ---- after HNHBK
 
 abbrev view_with : ℕ → ℕ → OwnedSegment → List OwnedSegment → List OwnedSegment → MessageView
 view_with size number first body ends = record { size = size; protocol = number_of (value_at first 3 1); number = number; body = body; ends = ends }
 
-form_with : (size number : ℕ) (first : OwnedSegment) (tail body ends : List OwnedSegment) → IsFirst size number first → IsTail number tail body ends → IsForm (first ∷ tail) (view_with size number first body ends)
+form_with : (size number : ℕ) (first : OwnedSegment) (tail body ends : List OwnedSegment)
+    → IsFirst size number first → IsTail number tail body ends
+    → IsForm (first ∷ tail) (view_with size number first body ends)
 form_with size number first tail body ends f t = record { first = first; tail = tail; is_first = f; protocol = refl; is_tail = t; together = refl }
 
-tail_in : (size number : ℕ) (first : OwnedSegment) (tail : List OwnedSegment) (m : MessageView) → IsFirst size number first → IsForm (first ∷ tail) m → IsTail number tail m.body m.ends
+tail_in : (size number : ℕ) (first : OwnedSegment) (tail : List OwnedSegment) (m : MessageView)
+    → IsFirst size number first → IsForm (first ∷ tail) m → IsTail number tail m.body m.ends
 tail_in size number first tail m f form =
     let q = form.together in
     let head : form.first ≡ first = cc in
@@ -78,23 +84,28 @@ tail_in size number first tail m f form =
     let same : m.number ≡ number = cc in
     subst (λ x. IsTail x tail m.body m.ends) same (subst (λ z. IsTail m.number z m.body m.ends) rest form.is_tail)
 
-pub refused_tail : OneSegmentText → (bytes : List ℕ) (n at number : ℕ) (t : List (List Spelled)) → IsNext bytes t n → IsFirst (length bytes) number (segment_of t) → Stops (BeginsBy (IsTail number)) (IsWholeBy (IsTail number)) (drop n bytes) at → IsNoMessage bytes (n + at)
-refused_tail law bytes n at number t h f s = refused law bytes (n + at) (record {
+pub refused_tail : (bytes : List ℕ) (n at number : ℕ) (t : List (List Spelled)) → IsNextSegment bytes t n
+    → IsFirst (length bytes) number (segment_of t)
+    → Stops (BeginsBy (IsTail number)) (IsWholeBy (IsTail number)) (drop n bytes) at
+    → IsNoMessage bytes (n + at)
+refused_tail bytes n at number t h f s = record {
   front = t ∷ s.front;
   rest = s.rest;
   each = (h.segment, s.each);
-  text = h.text ∙ ap (λ z. segment_bytes t ++ z) s.text ∙ sym (append_assoc (segment_bytes t) (text_of s.front) s.rest);
-  offset_is = omega (arith, h.len_is, s.offset_is, length-append (segment_bytes t) (text_of s.front));
+  text = h.text ∙ ap (λ z. segment_bytes t ++ z) s.text ∙ sym (append_assoc (segment_bytes t) (texts_of s.front) s.rest);
+  offset_is = omega (arith, h.len_is, s.offset_is, length-append (segment_bytes t) (texts_of s.front));
   begins = inr (s.begins.0, (view_with (length bytes) number (segment_of t) s.begins.1 s.begins.2, form_with (length bytes) number (segment_of t) (segments_of s.front ++ s.begins.0) s.begins.1 s.begins.2 f s.begins.3, refl));
   no_next = λ u more is e b. elim b [
     | inl q ↦ cc
     | inr w ↦ s.no_next u more is e (w.0, w.1.0.body, w.1.0.ends, tail_in (length bytes) number (segment_of t) (segments_of (s.front ++ u ∷ []) ++ w.0) w.1.0 f w.1.1)
   ];
   unfinished = λ e w. s.unfinished e (w.0.body, w.0.ends, tail_in (length bytes) number (segment_of t) (segments_of s.front) w.0 f w.1);
-})
+}
 
-pub is_message : (bytes : List ℕ) (n number : ℕ) (protocol : Option ℕ) (body ends : List (List (List Spelled))) (t : List (List Spelled)) → IsNext bytes t n → IsFirst (length bytes) number (segment_of t) → protocol ≡ number_of (value_at (segment_of t) 3 1)
-    → IsReadBy (IsTail number) (drop n bytes) body ends → IsMessage bytes (record { size = length bytes; protocol = protocol; number = number; body = segments_of body; ends = segments_of ends })
+pub is_message : (bytes : List ℕ) (n number : ℕ) (protocol : Option ℕ) (body ends : List (List (List Spelled))) (t : List (List Spelled))
+    → IsNextSegment bytes t n → IsFirst (length bytes) number (segment_of t)
+    → protocol ≡ number_of (value_at (segment_of t) 3 1) → IsReadBy (IsTail number) (drop n bytes) body ends
+    → IsMessage bytes (record { size = length bytes; protocol = protocol; number = number; body = segments_of body; ends = segments_of ends })
 is_message bytes n number protocol body ends t h f p r = record {
   segments = segments_of (t ∷ r.trees);
   text = record { trees = t ∷ r.trees; each = (h.segment, r.each); text = h.text ∙ ap (λ z. segment_bytes t ++ z) r.text; values = refl };

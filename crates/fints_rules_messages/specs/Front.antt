@@ -6,7 +6,7 @@ use Rattle.fints_syntax_segments.specs.Segment.{segment_bytes, IsSegment}
 use Rattle.fints_syntax_segments.specs.declared.item.OwnedSegment.{OwnedSegment}
 use Rattle.fints_syntax_segments.specs.Number.{number_of}
 use Rattle.fints_syntax.specs.Owned.{segment_of, segments_of}
-use Rattle.fints_rules_messages.specs.Segments.{text_of}
+use Rattle.fints_rules_messages.specs.Segments.{texts_of}
 use Rattle.fints_rules_messages.specs.Parts.{part_of}
 use Rattle.fints_rules_messages.specs.Messages.{IsNumbered, IsInner, IsEnvelope, IsKey, IsLast, Stops}
 use Rattle.fints_rules_messages.specs.declared.front.Inner.{Inner}
@@ -26,23 +26,23 @@ pub record IsHalf (segments body ends : List OwnedSegment) (openers : ℕ) : Typ
   pub together : segments ≡ opened ++ (body ++ ends)
 
 -- a segment of this part can follow so many HNSHK, segments of the body and HNSHA
-abbrev pub Follows : Part → ℕ → ℕ → ℕ → Type 0
-Follows Opener openers body ends = (body ≡ 0) × (ends ≡ 0)
-Follows Body openers body ends = ends ≡ 0
-Follows Ender openers body ends = ends < openers
-Follows Other openers body ends = ⊥
+abbrev pub CanFollow : Part → ℕ → ℕ → ℕ → Type 0
+CanFollow Opener openers body ends = (body ≡ 0) × (ends ≡ 0)
+CanFollow Body openers body ends = ends ≡ 0
+CanFollow Ender openers body ends = ends < openers
+CanFollow Other openers body ends = ⊥
 
 -- the bytes begin with segments that can stand between HNHBK and HNHBS, and the next, if there is one, can't
 pub record IsFront (bytes : List ℕ) (at openers : ℕ) (body ends : List (List (List Spelled))) : Type 0 where
   pub trees : List (List (List Spelled))
   pub each : AllByRecursion IsSegment trees
-  pub text : bytes ≡ text_of trees ++ drop at bytes
-  pub at_is : at ≡ length (text_of trees)
+  pub text : bytes ≡ texts_of trees ++ drop at bytes
+  pub at_is : at ≡ length (texts_of trees)
   pub half : IsHalf (segments_of trees) (segments_of body) (segments_of ends) openers
   pub numbered : IsNumbered 2 (segments_of trees)
 
 -- the bytes begin with the text of this segment, of so many bytes, and of no other
-pub record IsNext (bytes : List ℕ) (t : List (List Spelled)) (len : ℕ) : Type 0 where
+pub record IsNextSegment (bytes : List ℕ) (t : List (List Spelled)) (len : ℕ) : Type 0 where
   pub segment : IsSegment t
   pub text : bytes ≡ segment_bytes t ++ drop len bytes
   pub len_is : len ≡ length (segment_bytes t)
@@ -51,28 +51,36 @@ pub record IsNext (bytes : List ℕ) (t : List (List Spelled)) (len : ℕ) : Typ
   pub only : (u : List (List Spelled)) (more : List ℕ) → IsSegment u → bytes ≡ segment_bytes u ++ more → t ≡ u
 
 abbrev pub HasNoNext : List ℕ → Type 0
-HasNoNext bytes = (t : List (List Spelled)) (more : List ℕ) → IsSegment t → bytes ≡ segment_bytes t ++ more → ⊥
+HasNoNext bytes =
+    (t : List (List Spelled)) (more : List ℕ) → IsSegment t → bytes ≡ segment_bytes t ++ more → ⊥
 
 -- the segment can stand next
 abbrev pub CanStand : OwnedSegment → ℕ → ℕ → ℕ → Type 0
-CanStand s openers body ends = (s.head.number ≡ 2 + (openers + (body + ends))) × Follows (part_of s) openers body ends
+CanStand s openers body ends =
+    (s.head.number ≡ 2 + (openers + (body + ends))) × CanFollow (part_of s) openers body ends
 
 -- no segment that can stand there follows
 abbrev pub NoneStands : List ℕ → ℕ → ℕ → ℕ → Type 0
-NoneStands bytes openers body ends = (t : List (List Spelled)) (more : List ℕ) → IsSegment t → bytes ≡ segment_bytes t ++ more → CanStand (segment_of t) openers body ends → ⊥
+NoneStands bytes openers body ends =
+    (t : List (List Spelled)) (more : List ℕ) → IsSegment t → bytes ≡ segment_bytes t ++ more
+    → CanStand (segment_of t) openers body ends → ⊥
+
+-- a form: which segments are one, with this body and these HNSHA
+abbrev pub Form : Type 1
+Form = List OwnedSegment → List OwnedSegment → List OwnedSegment → Type 0
 
 -- more segments make it a list of the form
-abbrev pub BeginsBy : (List OwnedSegment → List OwnedSegment → List OwnedSegment → Type 0) → List OwnedSegment → Type 0
+abbrev pub BeginsBy : Form → List OwnedSegment → Type 0
 BeginsBy form segments = (more body ends : List OwnedSegment) × form (segments ++ more) body ends
 
-abbrev pub IsWholeBy : (List OwnedSegment → List OwnedSegment → List OwnedSegment → Type 0) → List OwnedSegment → Type 0
+abbrev pub IsWholeBy : Form → List OwnedSegment → Type 0
 IsWholeBy form segments = (body ends : List OwnedSegment) × form segments body ends
 
 -- the bytes are the texts of segments of the form
-pub record IsReadBy (form : List OwnedSegment → List OwnedSegment → List OwnedSegment → Type 0) (bytes : List ℕ) (body ends : List (List (List Spelled))) : Type 0 where
+pub record IsReadBy (form : Form) (bytes : List ℕ) (body ends : List (List (List Spelled))) : Type 0 where
   pub trees : List (List (List Spelled))
   pub each : AllByRecursion IsSegment trees
-  pub text : bytes ≡ text_of trees
+  pub text : bytes ≡ texts_of trees
   pub is : form (segments_of trees) (segments_of body) (segments_of ends)
 
 -- what follows HNVSK in the sealed form
@@ -91,7 +99,7 @@ pub record IsNumber (number : ℕ) : Type 0 where
   pub value : List ℕ
   pub is : number_of value ≡ Some number
 
-abbrev pub TailIs : (List OwnedSegment → List OwnedSegment → List OwnedSegment → Type 0) → List ℕ → Tail → Type 0
+abbrev pub TailIs : Form → List ℕ → Tail → Type 0
 TailIs form bytes (Whole body ends) = IsReadBy form bytes body.items ends.items
 TailIs form bytes (Stop at) = Stops (BeginsBy form) (IsWholeBy form) bytes at
 
@@ -104,7 +112,7 @@ pub record IsEndOf (number : ℕ) (s : OwnedSegment) (openers body ends : ℕ) :
 -- the bytes begin with an HNVSK of so many bytes
 pub record HasKey (bytes : List ℕ) (len : ℕ) : Type 0 where
   pub tree : List (List Spelled)
-  pub is_next : IsNext bytes tree len
+  pub is_next : IsNextSegment bytes tree len
   pub is_key : IsKey (segment_of tree)
 
 -- the envelope holds the inner segments of a message
@@ -117,10 +125,12 @@ pub record IsOpened (s : OwnedSegment) (openers : ℕ) (body ends : List OwnedSe
   pub as_many : length ends ≡ openers
 
 abbrev pub EnvelopeIs : Option Inner → OwnedSegment → Type 0
-EnvelopeIs None s = (inner body ends : List OwnedSegment) → IsEnvelope inner s → IsInner inner body ends → IsNumbered 2 inner → ⊥
+EnvelopeIs None s =
+    (inner body ends : List OwnedSegment) → IsEnvelope inner s → IsInner inner body ends → IsNumbered 2 inner
+    → ⊥
 EnvelopeIs (Some i) s = IsOpened s i.openers (segments_of i.body.items) (segments_of i.ends.items)
 
 -- a stop within the bytes
-abbrev pub IsWithin : Tail → ℕ → Type 0
-IsWithin (Whole body ends) n = Unit {0}
-IsWithin (Stop at) n = at ≤ n
+abbrev pub StopsWithin : Tail → ℕ → Type 0
+StopsWithin (Whole body ends) n = Unit {0}
+StopsWithin (Stop at) n = at ≤ n

@@ -7,7 +7,7 @@ use Rattle.fints_syntax_segments.specs.declared.item.OwnedItem.TheVariants.{Bin}
 use Rattle.fints_syntax_segments.specs.declared.item.OwnedSegment.{OwnedSegment}
 use Rattle.fints_syntax_segments.specs.Number.{number_of}
 use Rattle.fints_syntax.specs.Owned.{segments_of}
-use Rattle.fints_rules_messages.specs.Segments.{text_of, IsText}
+use Rattle.fints_rules_messages.specs.Segments.{texts_of, IsText}
 use Rattle.fints_syntax_segments.specs.Values.{item_at, value_at}
 use Rattle.fints_syntax_segments.specs.Number.{number_in}
 use Rattle.fints_syntax_segments.specs.Values.{is_named}
@@ -61,30 +61,24 @@ pub record IsEnvelope (inner : List OwnedSegment) (s : OwnedSegment) : Type 0 wh
   pub item : item_at s 2 1 ≡ Bin bytes
   pub holds : IsText bytes inner
 
--- What follows HNHBK in the plain form: the inner segments and HNHBS, numbered on from 2.
-pub record IsPlainTail (number : ℕ) (segments body ends : List OwnedSegment) : Type 0 where
-  pub inner : List OwnedSegment
-  pub last : OwnedSegment
-  pub is_inner : IsInner inner body ends
-  pub is_last : IsLast number last
-  pub numbered : IsNumbered 2 (inner ++ last ∷ [])
-  pub together : segments ≡ inner ++ last ∷ []
-
--- What follows it in the sealed form: the inner segments stand in the envelope.
-pub record IsSealedTail (number : ℕ) (segments body ends : List OwnedSegment) : Type 0 where
+-- the inner segments as they stand in the sealed form: HNVSK, and HNVSD with them in it
+pub record Seals (inner outer : List OwnedSegment) : Type 0 where
   pub key : OwnedSegment
   pub envelope : OwnedSegment
-  pub inner : List OwnedSegment
-  pub last : OwnedSegment
   pub is_key : IsKey key
   pub is_envelope : IsEnvelope inner envelope
+  pub together : outer ≡ key ∷ envelope ∷ []
+
+-- What follows HNHBK: the inner segments, plain or sealed, and HNHBS. In both forms HNHBS has the number behind the last inner segment.
+pub record IsTail (number : ℕ) (segments body ends : List OwnedSegment) : Type 0 where
+  pub inner : List OwnedSegment
+  pub outer : List OwnedSegment
+  pub last : OwnedSegment
   pub is_inner : IsInner inner body ends
+  pub stands : (outer ≡ inner) ⊎ Seals inner outer
   pub is_last : IsLast number last
   pub numbered : IsNumbered 2 (inner ++ last ∷ [])
-  pub together : segments ≡ key ∷ envelope ∷ last ∷ []
-
-abbrev pub IsTail : ℕ → List OwnedSegment → List OwnedSegment → List OwnedSegment → Type 0
-IsTail number segments body ends = IsPlainTail number segments body ends ⊎ IsSealedTail number segments body ends
+  pub together : segments ≡ outer ++ last ∷ []
 
 -- the segments are a message of one of the two forms
 pub record IsForm (segments : List OwnedSegment) (m : MessageView) : Type 0 where
@@ -103,12 +97,12 @@ pub record IsMessage (bytes : List ℕ) (m : MessageView) : Type 0 where
   pub size : m.size ≡ length bytes
 
 -- the segments are a message of this size: the size in HNHBK, whatever the length of their texts
-abbrev pub IsWhole : ℕ → List OwnedSegment → Type 0
-IsWhole size segments = (m : MessageView) × IsForm segments m × (m.size ≡ size)
+abbrev pub AreMessage : ℕ → List OwnedSegment → Type 0
+AreMessage size segments = (m : MessageView) × IsForm segments m × (m.size ≡ size)
 
 -- There are no segments yet, or more of them make it a message of this size. The segments to come are values, so that a number may pass 999.
 abbrev pub Begins : ℕ → List OwnedSegment → Type 0
-Begins size segments = (segments ≡ []) ⊎ ((more : List OwnedSegment) × IsWhole size (segments ++ more))
+Begins size segments = (segments ≡ []) ⊎ ((more : List OwnedSegment) × AreMessage size (segments ++ more))
 
 -- The bytes begin with the texts of segments that begin a whole, and the offset is their end.
 -- No segment's text stands there, or that segment can't follow; and where the bytes end there, the whole isn't reached.
@@ -116,13 +110,14 @@ pub record Stops (BeginsOne IsOne : List OwnedSegment → Type 0) (bytes : List 
   pub front : List (List (List Spelled))
   pub rest : List ℕ
   pub each : AllByRecursion IsSegment front
-  pub text : bytes ≡ text_of front ++ rest
-  pub offset_is : offset ≡ length (text_of front)
+  pub text : bytes ≡ texts_of front ++ rest
+  pub offset_is : offset ≡ length (texts_of front)
   pub begins : BeginsOne (segments_of front)
-  pub no_next : (t : List (List Spelled)) (more : List ℕ) → IsSegment t → rest ≡ segment_bytes t ++ more → BeginsOne (segments_of (front ++ t ∷ [])) → ⊥
+  pub no_next :
+      (t : List (List Spelled)) (more : List ℕ) → IsSegment t → rest ≡ segment_bytes t ++ more
+      → BeginsOne (segments_of (front ++ t ∷ [])) → ⊥
   pub unfinished : rest ≡ [] → IsOne (segments_of front) → ⊥
 
--- the bytes are no message, and the offset is where they cease to be one
-pub record IsNoMessage (bytes : List ℕ) (offset : ℕ) : Type 0 where
-  pub none : (m : MessageView) → IsMessage bytes m → ⊥
-  pub stops : Stops (Begins (length bytes)) (IsWhole (length bytes)) bytes offset
+-- The bytes cease to be a message at the offset. By the laws they are none then, and cease nowhere else.
+abbrev pub IsNoMessage : List ℕ → ℕ → Type 0
+IsNoMessage bytes offset = Stops (Begins (length bytes)) (AreMessage (length bytes)) bytes offset

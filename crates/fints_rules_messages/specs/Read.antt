@@ -5,7 +5,7 @@ use Rattle.fints_rules_messages.specs.declared.message.JudgeFault.{JudgeFault}
 use Rattle.fints_rules_messages.specs.declared.message.JudgeFault.TheVariants.{Memory, NotAMessage, NotAMessageBefore}
 
 -- where memory didn't run out, the bytes are no message, and cease to be one at the offset; of one message nothing is said of one before
-abbrev pub IsRefusal : List ℕ → JudgeFault → Type 0
-IsRefusal bytes Memory = Unit {0}
-IsRefusal bytes (NotAMessage offset) = IsNoMessage bytes offset
-IsRefusal bytes (NotAMessageBefore offset) = ⊥
+abbrev pub IsJudgeFault : List ℕ → JudgeFault → Type 0
+IsJudgeFault bytes Memory = Unit {0}
+IsJudgeFault bytes (NotAMessage offset) = IsNoMessage bytes offset
+IsJudgeFault bytes (NotAMessageBefore offset) = ⊥

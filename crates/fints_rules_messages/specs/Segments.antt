@@ -6,12 +6,12 @@ use Rattle.fints_syntax_segments.specs.Segment.{segment_bytes, IsSegment}
 use Rattle.fints_syntax.specs.Owned.{segments_of}
 use Rattle.fints_syntax_segments.specs.declared.item.OwnedSegment.{OwnedSegment}
 
-abbrev pub text_of : List (List (List Spelled)) → List ℕ
-text_of trees = flat_map segment_bytes trees
+abbrev pub texts_of : List (List (List Spelled)) → List ℕ
+texts_of trees = flat_map segment_bytes trees
 
 -- the bytes are the texts of these segments
 pub record IsText (bytes : List ℕ) (segments : List OwnedSegment) : Type 0 where
   pub trees : List (List (List Spelled))
   pub each : AllByRecursion IsSegment trees
-  pub text : bytes ≡ text_of trees
+  pub text : bytes ≡ texts_of trees
   pub values : segments_of trees ≡ segments

@@ -1,7 +1,7 @@
 //! The segments between the first and the last of a message.
 ghost use Rattle.std.specs.Prelude.{◌≡◌, ◌↔◌, ◌+◌, ◌^◌, ◌<◌, ◌≤◌, IsTrue, IfOk, IfSome, IfNone, length, drop};
 ghost use Rattle.fints_syntax.specs.Owned.{segment_of};
-ghost use Rattle.fints_rules_messages.specs.Front.{IsNext, HasNoNext, CanStand, IsFront, NoneStands};
+ghost use Rattle.fints_rules_messages.specs.Front.{IsNextSegment, HasNoNext, CanStand, IsFront, NoneStands};
 
 use crate::front::Inner;
 use crate::part::{Part, part_of};
@@ -10,7 +10,7 @@ use std::alloc::{AllocError, Global};
 
 /// The segment that stands at the front, and its length.
 pub fn next_segment(bytes: &[u8]) -> Option<(SegmentView<'_>, usize)>
-    ensures some { IfSome result (λ r. IsNext bytes.now r.0 r.1) }
+    ensures some { IfSome result (λ r. IsNextSegment bytes.now r.0 r.1) }
     ensures none { IfNone result (HasNoNext bytes.now) }
 {
     match parse_segment(bytes) {
@@ -41,7 +41,8 @@ pub fn read_inner<'a>(alloc: Global, bytes: &'a [u8]) -> Result<Inner<'a>, Alloc
     ensures front { IfOk result (λ r. IsFront bytes.now r.at r.openers r.body.items r.ends.items) }
     ensures few { IfOk result (λ r. r.openers + (length r.body.items + length r.ends.items) < 2 ^ 16) }
     ensures within { IfOk result (λ r. r.at ≤ length bytes.now) }
-    ensures stopped { IfOk result (λ r. NoneStands (drop r.at bytes.now) r.openers (length r.body.items) (length r.ends.items)) }
+    ensures stopped { IfOk result (λ r.
+        NoneStands (drop r.at bytes.now) r.openers (length r.body.items) (length r.ends.items)) }
 {
     let mut at = 0;
     let mut openers = 0;
@@ -49,42 +50,27 @@ pub fn read_inner<'a>(alloc: Global, bytes: &'a [u8]) -> Result<Inner<'a>, Alloc
     let mut ends = Vec::new(alloc);
     loop {
         let (_, rest) = bytes.split_at(at);
-        match next_segment(rest) {
-            None => {
-                return Ok(Inner {
-                    at,
-                    openers,
-                    body,
-                    ends,
-                });
-            }
-            Some((view, len)) => {
-                if !can_stand(&view, openers, body.len(), ends.len()) {
-                    return Ok(Inner {
-                        at,
-                        openers,
-                        body,
-                        ends,
-                    });
-                }
-                match part_of(&view) {
-                    Part::Opener => {
-                        openers += 1;
-                        at += len;
-                        continue;
-                    }
-                    Part::Ender => {
-                        ends.push(view)?;
-                        at += len;
-                        continue;
-                    }
-                    _ => {
-                        body.push(view)?;
-                        at += len;
-                        continue;
-                    }
-                }
-            }
+        let Some((view, len)) = next_segment(rest) else {
+            return Ok(Inner {
+                at,
+                openers,
+                body,
+                ends,
+            });
+        };
+        if !can_stand(&view, openers, body.len(), ends.len()) {
+            return Ok(Inner {
+                at,
+                openers,
+                body,
+                ends,
+            });
+        }
+        at += len;
+        match part_of(&view) {
+            Part::Opener => openers += 1,
+            Part::Ender => ends.push(view)?,
+            _ => body.push(view)?,
         }
     }
 }

@@ -1,7 +1,7 @@
 //! Laws of messages: each function's contract is one.
 ghost use Rattle.std.specs.Prelude.{◌≡◌, ◌+◌, ℕ, List, length};
 ghost use Rattle.fints_rules_messages.specs.Messages.{MessageView, IsMessage, IsNumbered};
-ghost use Rattle.fints_rules_messages.specs.Laws.{OneStop, NoStopInMessage, OneRefusal};
+ghost use Rattle.fints_rules_messages.specs.Laws.{OneStop, NoStopInMessage, MessageOrStop, OneRefusal};
 
 /// The bytes determine what the message holds.
 pub fn one_message()
@@ -14,6 +14,11 @@ pub fn one_stop()
     ensures place { OneStop }
     ensures not_both { NoStopInMessage }
     ensures refusal { OneRefusal }
+{}
+
+/// Bytes are a message, or cease somewhere to be one: it can't be that they do neither.
+pub fn some_answer()
+    ensures { MessageOrStop }
 {}
 
 /// The segments of a body are numbered on from the one behind the message's HNSHK.

@@ -5,7 +5,7 @@ ghost use Rattle.fints_syntax.specs.Owned.{segment_of, segments_of};
 ghost use Rattle.fints_syntax_segments.specs.Values.{value_at};
 ghost use Rattle.fints_rules_messages.specs.Messages.{IsMessage, IsFirst};
 ghost use Rattle.fints_rules_messages.specs.Front.{IsNumber};
-ghost use Rattle.fints_rules_messages.specs.Read.{IsRefusal};
+ghost use Rattle.fints_rules_messages.specs.Read.{IsJudgeFault};
 
 use crate::inner::next_segment;
 use crate::part::is_named;
@@ -32,7 +32,13 @@ impl Model for Message {
 
     ghost Value = { MessageView };
 
-    ghost view = { λ m. record { size = m.size; protocol = m.protocol; number = m.number; body = m.body.items; ends = m.ends.items } };
+    ghost view = { λ m. record {
+      size = m.size;
+      protocol = m.protocol;
+      number = m.number;
+      body = m.body.items;
+      ends = m.ends.items;
+    } };
 }
 
 impl Message {
@@ -155,41 +161,37 @@ fn read_first(view: &SegmentView<'_>, size: usize) -> Option<u64>
     if view.number() != 1 {
         return None;
     }
-    match number_at(view, 2, 1, 12, 12) {
-        None => None,
-        Some(found) => {
-            if found != size as u64 {
-                return None;
-            }
-            number_at(view, 5, 1, 1, 9)
-        }
+    let Some(found) = number_at(view, 2, 1, 12, 12) else {
+        return None;
+    };
+    if found != size as u64 {
+        return None;
     }
+    number_at(view, 5, 1, 1, 9)
 }
 
 /// The message that the bytes are.
 pub fn read_message(alloc: Global, bytes: &[u8]) -> Result<Message, JudgeFault>
     ensures message { IfOk result (λ m. IsMessage bytes.now m) }
-    ensures refusal { IfErr result (λ f. IsRefusal bytes.now f) }
+    ensures refusal { IfErr result (λ f. IsJudgeFault bytes.now f) }
 {
-    match next_segment(bytes) {
-        None => Err(JudgeFault::NotAMessage { offset: 0 }),
-        Some((first, len)) => match read_first(&first, bytes.len()) {
-            None => Err(JudgeFault::NotAMessage { offset: 0 }),
-            Some(number) => {
-                let (_, rest) = bytes.split_at(len);
-                match read_tail(alloc, rest, number)? {
-                    Tail::Stop(at) => Err(JudgeFault::NotAMessage { offset: len + at }),
-                    Tail::Whole(body, ends) => {
-                        let protocol = number_at(&first, 3, 1, 1, 9);
-                        let frame = Frame {
-                            size: bytes.len(),
-                            protocol,
-                            number,
-                        };
-                        Ok(with_segments(alloc, frame, body.as_slice(), ends.as_slice())?)
-                    }
-                }
-            }
-        },
+    let Some((first, len)) = next_segment(bytes) else {
+        return Err(JudgeFault::NotAMessage { offset: 0 });
+    };
+    let Some(number) = read_first(&first, bytes.len()) else {
+        return Err(JudgeFault::NotAMessage { offset: 0 });
+    };
+    let (_, rest) = bytes.split_at(len);
+    match read_tail(alloc, rest, number)? {
+        Tail::Stop(at) => Err(JudgeFault::NotAMessage { offset: len + at }),
+        Tail::Whole(body, ends) => {
+            let protocol = number_at(&first, 3, 1, 1, 9);
+            let frame = Frame {
+                size: bytes.len(),
+                protocol,
+                number,
+            };
+            Ok(with_segments(alloc, frame, body.as_slice(), ends.as_slice())?)
+        }
     }
 }

@@ -2,7 +2,7 @@
 ghost use Rattle.std.specs.Prelude.{◌≡◌, ◌↔◌, ◌+◌, ◌^◌, ◌<◌, ◌≤◌, IsTrue, IfOk, length, drop};
 ghost use Rattle.fints_syntax.specs.Owned.{segment_of};
 ghost use Rattle.fints_rules_messages.specs.Messages.{IsTail, IsKey};
-ghost use Rattle.fints_rules_messages.specs.Front.{IsNumber, TailIs, IsWithin};
+ghost use Rattle.fints_rules_messages.specs.Front.{IsNumber, TailIs, StopsWithin};
 
 use crate::frame::{is_end, is_key};
 use crate::inner::{next_segment, read_inner};
@@ -22,29 +22,27 @@ fn is_key_at(view: &SegmentView<'_>, at: usize) -> bool
 pub fn read_tail<'a>(alloc: Global, tail: &'a [u8], number: u64) -> Result<Tail<'a>, AllocError>
     requires { IsNumber number }
     ensures tail { IfOk result (λ r. TailIs (IsTail number) tail.now r) }
-    ensures within { IfOk result (λ r. IsWithin r (length tail.now)) }
+    ensures within { IfOk result (λ r. StopsWithin r (length tail.now)) }
 {
     let inner = read_inner(alloc, tail)?;
     let (_, rest) = tail.split_at(inner.at);
-    match next_segment(rest) {
-        None => Ok(Tail::Stop(inner.at)),
-        Some((view, len)) => {
-            if is_key_at(&view, inner.at) {
-                return read_sealed(alloc, tail, len, number);
-            }
-            if !is_end(
-                &view,
-                number,
-                inner.openers,
-                inner.body.len(),
-                inner.ends.len(),
-            ) {
-                return Ok(Tail::Stop(inner.at));
-            }
-            if inner.at + len < tail.len() {
-                return Ok(Tail::Stop(inner.at + len));
-            }
-            Ok(Tail::Whole(inner.body, inner.ends))
-        }
+    let Some((view, len)) = next_segment(rest) else {
+        return Ok(Tail::Stop(inner.at));
+    };
+    if is_key_at(&view, inner.at) {
+        return read_sealed(alloc, tail, len, number);
     }
+    if !is_end(
+        &view,
+        number,
+        inner.openers,
+        inner.body.len(),
+        inner.ends.len(),
+    ) {
+        return Ok(Tail::Stop(inner.at));
+    }
+    if inner.at + len < tail.len() {
+        return Ok(Tail::Stop(inner.at + len));
+    }
+    Ok(Tail::Whole(inner.body, inner.ends))
 }

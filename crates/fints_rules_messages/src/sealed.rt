@@ -2,7 +2,7 @@
 ghost use Rattle.std.specs.Prelude.{◌≡◌, ◌+◌, ◌^◌, ◌<◌, ◌≤◌, IfOk, IfSome, length, drop};
 ghost use Rattle.fints_syntax.specs.Owned.{segment_of};
 ghost use Rattle.fints_rules_messages.specs.Messages.{IsTail};
-ghost use Rattle.fints_rules_messages.specs.Front.{IsNumber, TailIs, IsWithin, IsSealedRest, HasKey, EnvelopeIs};
+ghost use Rattle.fints_rules_messages.specs.Front.{IsNumber, TailIs, StopsWithin, IsSealedRest, HasKey, EnvelopeIs};
 
 use crate::frame::is_end;
 use crate::front::Inner;
@@ -16,7 +16,8 @@ use std::alloc::{AllocError, Global};
 /// The inner segments that an envelope holds, if it is one.
 fn open_envelope<'a>(alloc: Global, view: &SegmentView<'a>) -> Result<Option<Inner<'a>>, AllocError>
     ensures envelope { IfOk result (λ o. EnvelopeIs o (segment_of view.now)) }
-    ensures few { IfOk result (λ o. IfSome o (λ i. i.openers + (length i.body.items + length i.ends.items) < 2 ^ 16)) }
+    ensures few { IfOk result (λ o.
+        IfSome o (λ i. i.openers + (length i.body.items + length i.ends.items) < 2 ^ 16)) }
 {
     if !is_named(view, b"HNVSD", 1) {
         return Ok(None);
@@ -24,54 +25,48 @@ fn open_envelope<'a>(alloc: Global, view: &SegmentView<'a>) -> Result<Option<Inn
     if view.number() != 999 {
         return Ok(None);
     }
-    match data_at(view, 2, 1) {
-        None => Ok(None),
-        Some(data) => {
-            let inner = read_inner(alloc, data)?;
-            if inner.at < data.len() {
-                return Ok(None);
-            }
-            if inner.ends.len() != inner.openers {
-                return Ok(None);
-            }
-            Ok(Some(inner))
-        }
+    let Some(data) = data_at(view, 2, 1) else {
+        return Ok(None);
+    };
+    let inner = read_inner(alloc, data)?;
+    if inner.at < data.len() {
+        return Ok(None);
     }
+    if inner.ends.len() != inner.openers {
+        return Ok(None);
+    }
+    Ok(Some(inner))
 }
 
 /// What follows HNVSK.
 fn read_rest<'a>(alloc: Global, rest: &'a [u8], number: u64) -> Result<Tail<'a>, AllocError>
     requires { IsNumber number }
     ensures rest { IfOk result (λ r. TailIs (IsSealedRest number) rest.now r) }
-    ensures within { IfOk result (λ r. IsWithin r (length rest.now)) }
+    ensures within { IfOk result (λ r. StopsWithin r (length rest.now)) }
 {
-    match next_segment(rest) {
-        None => Ok(Tail::Stop(0)),
-        Some((view, len)) => match open_envelope(alloc, &view)? {
-            None => Ok(Tail::Stop(0)),
-            Some(inner) => {
-                let (_, end) = rest.split_at(len);
-                match next_segment(end) {
-                    None => Ok(Tail::Stop(len)),
-                    Some((last, n)) => {
-                        if !is_end(
-                            &last,
-                            number,
-                            inner.openers,
-                            inner.body.len(),
-                            inner.ends.len(),
-                        ) {
-                            return Ok(Tail::Stop(len));
-                        }
-                        if len + n < rest.len() {
-                            return Ok(Tail::Stop(len + n));
-                        }
-                        Ok(Tail::Whole(inner.body, inner.ends))
-                    }
-                }
-            }
-        },
+    let Some((view, len)) = next_segment(rest) else {
+        return Ok(Tail::Stop(0));
+    };
+    let Some(inner) = open_envelope(alloc, &view)? else {
+        return Ok(Tail::Stop(0));
+    };
+    let (_, end) = rest.split_at(len);
+    let Some((last, n)) = next_segment(end) else {
+        return Ok(Tail::Stop(len));
+    };
+    if !is_end(
+        &last,
+        number,
+        inner.openers,
+        inner.body.len(),
+        inner.ends.len(),
+    ) {
+        return Ok(Tail::Stop(len));
     }
+    if len + n < rest.len() {
+        return Ok(Tail::Stop(len + n));
+    }
+    Ok(Tail::Whole(inner.body, inner.ends))
 }
 
 /// What follows HNHBK, where it begins with an HNVSK, which has `len` bytes.
@@ -84,7 +79,7 @@ pub fn read_sealed<'a>(
     requires number { IsNumber number }
     requires key { HasKey tail.now len }
     ensures tail { IfOk result (λ r. TailIs (IsTail number) tail.now r) }
-    ensures within { IfOk result (λ r. IsWithin r (length tail.now)) }
+    ensures within { IfOk result (λ r. StopsWithin r (length tail.now)) }
 {
     let (_, rest) = tail.split_at(len);
     match read_rest(alloc, rest, number)? {

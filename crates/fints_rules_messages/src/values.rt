@@ -57,7 +57,8 @@ pub fn data_at<'a>(view: &SegmentView<'a>, element: usize, item: usize) -> Optio
     requires element { 1 < element }
     requires item { 0 < item }
     ensures some { IfSome result (λ d. item_at (segment_of view.now) element item ≡ BinItem d.now) }
-    ensures none { IfNone result ((bytes : List ℕ) → item_at (segment_of view.now) element item ≡ BinItem bytes → ⊥) }
+    ensures none { IfNone result
+        ((bytes : List ℕ) → item_at (segment_of view.now) element item ≡ BinItem bytes → ⊥) }
 {
     match view.item(element, item) {
         None => None,

@@ -14,7 +14,7 @@ use Rattle.fints_params.specs.declared.rows.OrderParam.{OrderParam}
 use Rattle.fints_params.specs.declared.rows.PinRow.{PinRow}
 use Rattle.fints_rules_permissions.specs.declared.limits.OrderKey.{OrderKey}
 use Rattle.fints_rules_permissions.specs.declared.limits.Limits.{Limits}
-use Rattle.fints_rules_permissions.specs.Permits.{is_param_of, params_of, IsLeastLimit, IsGreatestNeed, IsLimits, LimitsAre, IsListed, IsListedWithTan}
+use Rattle.fints_rules_permissions.specs.Permits.{is_param_of, params_of, IsLeastLimit, IsGreatestNeed, IsLimits, LimitsAre, IsListedKind, IsListedWithTan}
 use Rattle.fints_rules_permissions.specs.LimitMaps.{key_eq, lower, with_limits, with_pin, PinIs}
 
 pub key_decides : (a b : OrderKey) → Decides (key_eq a b) (a ≡ b)
@@ -49,7 +49,8 @@ lower_more m n h g le = grind (arith, nat_tests)
 
 -- ---- the least limit of one more row
 
-least_none : (rs : List OrderParam) (row : OrderParam) (m n : ℕ) → m ≡ 0 → row.orders ≡ n → IsLeastLimit rs m → IsLeastLimit (rs ++ row ∷ []) n
+least_none : (rs : List OrderParam) (row : OrderParam) (m n : ℕ) → m ≡ 0 → row.orders ≡ n → IsLeastLimit rs m
+    → IsLeastLimit (rs ++ row ∷ []) n
 least_none rs row m n z is h = record {
   some = λ ne. Any-push (λ r. r.orders ≡ n) rs row is;
   least = All-push (λ r. r.orders ≢ 0 → (n ≢ 0) × (n ≤ r.orders)) rs row
@@ -57,13 +58,15 @@ least_none rs row m n z is h = record {
       (λ ne. (λ e. ne (is ∙ e), omega arith));
 }
 
-least_same : (rs : List OrderParam) (row : OrderParam) (m : ℕ) → row.orders ≡ 0 ⊎ (m ≢ 0) × (m ≤ row.orders) → IsLeastLimit rs m → IsLeastLimit (rs ++ row ∷ []) m
+least_same : (rs : List OrderParam) (row : OrderParam) (m : ℕ) → row.orders ≡ 0 ⊎ (m ≢ 0) × (m ≤ row.orders)
+    → IsLeastLimit rs m → IsLeastLimit (rs ++ row ∷ []) m
 least_same rs row m is h = record {
   some = λ ne. any_more (λ r. r.orders ≡ m) rs row (h.some ne);
   least = All-push (λ r. r.orders ≢ 0 → (m ≢ 0) × (m ≤ r.orders)) rs row h.least (λ ne. elim is [ inl z ↦ absurd (ne z) | inr g ↦ g ]);
 }
 
-least_less : (rs : List OrderParam) (row : OrderParam) (m n : ℕ) → row.orders ≡ n → n ≢ 0 → n < m → IsLeastLimit rs m → IsLeastLimit (rs ++ row ∷ []) n
+least_less : (rs : List OrderParam) (row : OrderParam) (m n : ℕ) → row.orders ≡ n → n ≢ 0 → n < m
+    → IsLeastLimit rs m → IsLeastLimit (rs ++ row ∷ []) n
 least_less rs row m n is ne lt h = record {
   some = λ _. Any-push (λ r. r.orders ≡ n) rs row is;
   least = All-push (λ r. r.orders ≢ 0 → (n ≢ 0) × (n ≤ r.orders)) rs row
@@ -71,7 +74,8 @@ least_less rs row m n is ne lt h = record {
       (λ _. (ne, omega arith));
 }
 
-least_with : (rs : List OrderParam) (row : OrderParam) (m n : ℕ) → row.orders ≡ n → IsLeastLimit rs m → IsLeastLimit (rs ++ row ∷ []) (lower m n)
+least_with : (rs : List OrderParam) (row : OrderParam) (m n : ℕ) → row.orders ≡ n → IsLeastLimit rs m
+    → IsLeastLimit (rs ++ row ∷ []) (lower m n)
 least_with rs row zero n is h = rw (lower_none zero n refl) (least_none rs row zero n refl is h)
 least_with rs row (suc m) zero is h = let ne : suc m ≢ 0 = λ e. omega arith in rw (lower_same (suc m) zero ne refl) (least_same rs row (suc m) (inl is) h)
 least_with rs row (suc m) (suc n) is h =
@@ -84,7 +88,8 @@ least_with rs row (suc m) (suc n) is h =
 
 -- ---- the greatest number of signatures
 
-need_with : (rs : List OrderParam) (row : OrderParam) (m : ℕ) → IsGreatestNeed rs m → IsGreatestNeed (rs ++ row ∷ []) (max m row.signatures)
+need_with : (rs : List OrderParam) (row : OrderParam) (m : ℕ) → IsGreatestNeed rs m
+    → IsGreatestNeed (rs ++ row ∷ []) (max m row.signatures)
 need_with rs row m h = record {
   some = elim (cases_lt m row.signatures) [
     | inl lt ↦ Any-push (λ r. r.signatures ≡ max m row.signatures) rs row (omega arith)
@@ -109,7 +114,8 @@ one_limits row = record {
   };
 }
 
-limits_with : (rs : List OrderParam) (row : OrderParam) (found : Option Limits) → LimitsAre rs found → IsLimits (rs ++ row ∷ []) (with_limits found row)
+limits_with : (rs : List OrderParam) (row : OrderParam) (found : Option Limits) → LimitsAre rs found
+    → IsLimits (rs ++ row ∷ []) (with_limits found row)
 limits_with rs row None h = rw h (one_limits row)
 limits_with rs row (Some l) h = record { orders = least_with rs row l.orders row.orders refl h.orders; signatures = need_with rs row l.signatures h.signatures }
 
@@ -119,14 +125,18 @@ params_more : (q : OrderKey) (rows : List OrderParam) (i : ℕ) (d : OrderParam)
     → params_of q.kind q.version (take (i + 1) rows) ≡ params_of q.kind q.version (take i rows) ++ cond (is_param_of q.kind q.version (get_or rows i d)) (get_or rows i d ∷ []) []
 params_more q rows i d lt = ap (params_of q.kind q.version) (take_more rows i d lt) ∙ filter-append (is_param_of q.kind q.version) (take i rows) (get_or rows i d ∷ [])
 
-limits_chosen : (b : Bool) (rs : List OrderParam) (row : OrderParam) (found old now : Option Limits) (v : Limits) → (b ≡ true → LimitsAre rs found) → LimitsAre rs old → v ≡ with_limits found row → now ≡ cond b (Some v) old
-    → LimitsAre (rs ++ cond b (row ∷ []) []) now
+limits_chosen : (b : Bool) (rs : List OrderParam) (row : OrderParam) (found old now : Option Limits) (v : Limits)
+    → (b ≡ true → LimitsAre rs found) → LimitsAre rs old → v ≡ with_limits found row
+    → now ≡ cond b (Some v) old → LimitsAre (rs ++ cond b (row ∷ []) []) now
 limits_chosen true rs row found old now v f o is n = rw (n, is) (limits_with rs row found (f refl))
 limits_chosen false rs row found old now v f o is n = rw (n, append-nil rs) o
 
-pub limits_step : (q : OrderKey) (rows : List OrderParam) (i : ℕ) (row : OrderParam) (found old now : Option Limits) (v : Limits) → i < length rows → row ≡ get_or rows i row
-    → LimitsAre (params_of row.kind row.version (take i rows)) found → LimitsAre (params_of q.kind q.version (take i rows)) old → v ≡ with_limits found row
-    → now ≡ cond (is_param_of q.kind q.version row) (Some v) old → LimitsAre (params_of q.kind q.version (take (i + 1) rows)) now
+pub limits_step : (q : OrderKey) (rows : List OrderParam) (i : ℕ) (row : OrderParam) (found old now : Option Limits) (v : Limits)
+    → i < length rows → row ≡ get_or rows i row
+    → LimitsAre (params_of row.kind row.version (take i rows)) found
+    → LimitsAre (params_of q.kind q.version (take i rows)) old → v ≡ with_limits found row
+    → now ≡ cond (is_param_of q.kind q.version row) (Some v) old
+    → LimitsAre (params_of q.kind q.version (take (i + 1) rows)) now
 limits_step q rows i row found old now v lt at f o is n =
     let key : OrderKey = record { kind = row.kind; version = row.version } in
     let more : params_of q.kind q.version (take (i + 1) rows) ≡ params_of q.kind q.version (take i rows) ++ cond (is_param_of q.kind q.version row) (row ∷ []) [] =
@@ -143,17 +153,19 @@ IsOf kind pin = pin.kind ≡ kind
 abbrev IsOfTan : List ℕ → PinRow → Type 0
 IsOfTan kind pin = (pin.kind ≡ kind) × (pin.tan ≡ true)
 
-listed_of : (kind : List ℕ) (rs : List PinRow) → IsListedWithTan rs kind → IsListed rs kind
+listed_of : (kind : List ℕ) (rs : List PinRow) → IsListedWithTan rs kind → IsListedKind rs kind
 listed_of kind rs (k, y, lt, at, h) = (k, y, lt, at, h.0)
 
 -- a pair without J adds none with it
-no_tan : (rs : List PinRow) (row : PinRow) (kind : List ℕ) → row.tan ≡ false → (IsListedWithTan rs kind → ⊥) → IsListedWithTan (rs ++ row ∷ []) kind → ⊥
+no_tan : (rs : List PinRow) (row : PinRow) (kind : List ℕ) → row.tan ≡ false → (IsListedWithTan rs kind → ⊥)
+    → IsListedWithTan (rs ++ row ∷ []) kind → ⊥
 no_tan rs row kind is none any = elim (any_cases (IsOfTan kind) rs row any) [
   | inl a ↦ none a
   | inr h ↦ let j : row.tan ≡ true = h.1 in cc
 ]
 
-pin_with : (rs : List PinRow) (row : PinRow) (found : Option Bool) (b : Bool) → with_pin found row ≡ b → PinIs rs row.kind found → PinIs (rs ++ row ∷ []) row.kind (Some b)
+pin_with : (rs : List PinRow) (row : PinRow) (found : Option Bool) (b : Bool) → with_pin found row ≡ b
+    → PinIs rs row.kind found → PinIs (rs ++ row ∷ []) row.kind (Some b)
 pin_with rs row None true is h = Any-push (IsOfTan row.kind) rs row (refl, is)
 pin_with rs row None false is h = (Any-push (IsOf row.kind) rs row refl, no_tan rs row row.kind is (λ any. h (listed_of row.kind rs any)))
 pin_with rs row (Some true) true is h = any_more (IsOfTan row.kind) rs row h
@@ -162,25 +174,30 @@ pin_with rs row (Some false) true is h = Any-push (IsOfTan row.kind) rs row (ref
 pin_with rs row (Some false) false is h = (any_more (IsOf row.kind) rs row h.0, no_tan rs row row.kind is h.1)
 
 -- a pair of another kind changes nothing
-other_kind : (rs : List PinRow) (row : PinRow) (kind : List ℕ) → row.kind ≢ kind → IsListed (rs ++ row ∷ []) kind → IsListed rs kind
+other_kind : (rs : List PinRow) (row : PinRow) (kind : List ℕ) → row.kind ≢ kind
+    → IsListedKind (rs ++ row ∷ []) kind → IsListedKind rs kind
 other_kind rs row kind ne any = elim (any_cases (IsOf kind) rs row any) [ inl a ↦ a | inr e ↦ absurd (ne e) ]
 
-other_tan : (rs : List PinRow) (row : PinRow) (kind : List ℕ) → row.kind ≢ kind → IsListedWithTan (rs ++ row ∷ []) kind → IsListedWithTan rs kind
+other_tan : (rs : List PinRow) (row : PinRow) (kind : List ℕ) → row.kind ≢ kind
+    → IsListedWithTan (rs ++ row ∷ []) kind → IsListedWithTan rs kind
 other_tan rs row kind ne any = elim (any_cases (IsOfTan kind) rs row any) [ inl a ↦ a | inr h ↦ absurd (ne h.0) ]
 
-pin_other : (rs : List PinRow) (row : PinRow) (kind : List ℕ) (old : Option Bool) → row.kind ≢ kind → PinIs rs kind old → PinIs (rs ++ row ∷ []) kind old
+pin_other : (rs : List PinRow) (row : PinRow) (kind : List ℕ) (old : Option Bool) → row.kind ≢ kind
+    → PinIs rs kind old → PinIs (rs ++ row ∷ []) kind old
 pin_other rs row kind None ne h = λ any. h (other_kind rs row kind ne any)
 pin_other rs row kind (Some true) ne h = any_more (IsOfTan kind) rs row h
 pin_other rs row kind (Some false) ne h = (any_more (IsOf kind) rs row h.0, λ any. h.1 (other_tan rs row kind ne any))
 
-pins_chosen : (b : Bool) (rs : List PinRow) (row : PinRow) (kind : List ℕ) (found old now : Option Bool) (v : Bool) → Decides b (row.kind ≡ kind) → PinIs rs row.kind found → PinIs rs kind old → v ≡ with_pin found row
+pins_chosen : (b : Bool) (rs : List PinRow) (row : PinRow) (kind : List ℕ) (found old now : Option Bool) (v : Bool)
+    → Decides b (row.kind ≡ kind) → PinIs rs row.kind found → PinIs rs kind old → v ≡ with_pin found row
     → now ≡ cond b (Some v) old → PinIs (rs ++ row ∷ []) kind now
 pins_chosen true rs row kind found old now v same f o is n = rw n (subst (λ k. PinIs (rs ++ row ∷ []) k (Some v)) (same.0 refl) (pin_with rs row found v (sym is) f))
 pins_chosen false rs row kind found old now v same f o is n = rw n (pin_other rs row kind old (λ e. let no_match : false ≡ true = same.1 e in cc) o)
 
-pub pins_step : (kind : List ℕ) (rows : List PinRow) (i : ℕ) (row : PinRow) (found old now : Option Bool) (v : Bool) → i < length rows → row ≡ get_or rows i row
-    → PinIs (take i rows) row.kind found → PinIs (take i rows) kind old → v ≡ with_pin found row
-    → now ≡ cond (bytes_eq row.kind kind) (Some v) old → PinIs (take (i + 1) rows) kind now
+pub pins_step : (kind : List ℕ) (rows : List PinRow) (i : ℕ) (row : PinRow) (found old now : Option Bool) (v : Bool)
+    → i < length rows → row ≡ get_or rows i row → PinIs (take i rows) row.kind found
+    → PinIs (take i rows) kind old → v ≡ with_pin found row → now ≡ cond (bytes_eq row.kind kind) (Some v) old
+    → PinIs (take (i + 1) rows) kind now
 pins_step kind rows i row found old now v lt at f o is n =
     let more : take (i + 1) rows ≡ take i rows ++ row ∷ [] = take_more rows i row lt ∙ ap (λ (r : PinRow). take i rows ++ r ∷ []) (sym at) in
     subst (λ rs. PinIs rs kind now) (sym more) (pins_chosen (bytes_eq row.kind kind) (take i rows) row kind found old now v (bytes_eq-Decides row.kind kind) f o is n)

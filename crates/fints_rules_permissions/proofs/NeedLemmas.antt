@@ -39,7 +39,8 @@ key_total =
 pub seen_total : IsTotalOrder seen_cmp
 seen_total = then_total (on_total seen_key key_total) (on_total (λ (s : Seen). s.signatures) nat_cmp_total)
 
-pub weak : {X : Type 0} (seen : X → Seen) → IsStrictWeakOrder (λ (a b : X). is_lt (seen_cmp (seen a) (seen b)))
+pub weak : {X : Type 0} (seen : X → Seen)
+    → IsStrictWeakOrder (λ (a b : X). is_lt (seen_cmp (seen a) (seen b)))
 weak seen = ranks_by seen_total seen
 
 -- ---- orderings
@@ -100,7 +101,8 @@ keys_equal a b h =
 
 module _ {X : Type 0} (seen : X → Seen) (q : Key) where
   -- what isn't above something below q is below q
-  stays_before : (a b : Key) (o : Ordering) → key_cmp a q ≡ o → is_lt (key_cmp b a) ≡ false → is_lt (key_cmp b q) ≡ true → is_lt o ≡ true
+  stays_before : (a b : Key) (o : Ordering) → key_cmp a q ≡ o → is_lt (key_cmp b a) ≡ false
+      → is_lt (key_cmp b q) ≡ true → is_lt o ≡ true
   stays_before a b Less e up h = refl
   stays_before a b Equal e up h =
       let same : key_cmp b q ≡ key_cmp b a = alike_right key_total q a b (tied_back key_total a q e) in
@@ -112,7 +114,8 @@ module _ {X : Type 0} (seen : X → Seen) (q : Key) where
       let no' : is_lt (key_cmp b a) ≡ true = ap is_lt no in
       cc
 
-  pub parted : (xs : List X) → IsSortedByKey seen seen_cmp xs → IsPartitionedBy (λ n. is_lt (key_cmp (seen_key (seen n)) q)) xs
+  pub parted : (xs : List X) → IsSortedByKey seen seen_cmp xs
+      → IsPartitionedBy (λ n. is_lt (key_cmp (seen_key (seen n)) q)) xs
   parted xs up i j d le lt h =
       let a : Key = seen_key (seen (get_or xs i d)) in
       let b : Key = seen_key (seen (get_or xs j d)) in
@@ -120,7 +123,8 @@ module _ {X : Type 0} (seen : X → Seen) (q : Key) where
       stays_before a b (key_cmp a q) refl (first_not_less (key_cmp b a) _ far) h
 
   -- an entry of the key stands there or later
-  no_earlier : (xs : List X) (i j : ℕ) (d : X) → BeginsAt seen q xs i → j < length xs → seen_key (seen (get_or xs j d)) ≡ q → i ≤ j
+  no_earlier : (xs : List X) (i j : ℕ) (d : X) → BeginsAt seen q xs i → j < length xs
+      → seen_key (seen (get_or xs j d)) ≡ q → i ≤ j
   no_earlier xs i j d at lt e = elim (cases_lt j i) [
     | inl less ↦
         let yes : is_lt (key_cmp (seen_key (seen (get_or xs j d))) q) ≡ true = at.0 j d (omega arith) less in
@@ -131,7 +135,8 @@ module _ {X : Type 0} (seen : X → Seen) (q : Key) where
   ]
 
   -- and the first that stands there is of the key too, and needs no more
-  level_first : (a : Key) (o : Ordering) → key_cmp a q ≡ o → is_lt o ≡ false → is_lt (key_cmp q a) ≡ false → a ≡ q
+  level_first : (a : Key) (o : Ordering) → key_cmp a q ≡ o → is_lt o ≡ false → is_lt (key_cmp q a) ≡ false
+      → a ≡ q
   level_first a Less e h up = cc
   level_first a Equal e h up = keys_equal a q e
   level_first a Greater e h up =
@@ -139,7 +144,8 @@ module _ {X : Type 0} (seen : X → Seen) (q : Key) where
       let no : is_lt (key_cmp q a) ≡ true = ap is_lt below in
       cc
 
-  first_level : (xs : List X) (i j : ℕ) (d : X) → IsSortedByKey seen seen_cmp xs → BeginsAt seen q xs i → j < length xs → seen_key (seen (get_or xs j d)) ≡ q
+  first_level : (xs : List X) (i j : ℕ) (d : X) → IsSortedByKey seen seen_cmp xs → BeginsAt seen q xs i
+      → j < length xs → seen_key (seen (get_or xs j d)) ≡ q
       → (seen_key (seen (get_or xs i d)) ≡ q) × ((seen (get_or xs i d)).signatures ≤ (seen (get_or xs j d)).signatures)
   first_level xs i j d up at lt e =
       let le : i ≤ j = no_earlier xs i j d at lt e in
@@ -153,13 +159,15 @@ module _ {X : Type 0} (seen : X → Seen) (q : Key) where
 
 -- ---- entries and what is seen of them
 
-at_place : {X : Type 0} (seen : X → Seen) (xs : List X) (s : Seen) (d : X) → Contains (map seen xs) s → (j : ℕ) × (j < length xs) × (seen (get_or xs j d) ≡ s)
+at_place : {X : Type 0} (seen : X → Seen) (xs : List X) (s : Seen) (d : X) → Contains (map seen xs) s
+    → (j : ℕ) × (j < length xs) × (seen (get_or xs j d) ≡ s)
 at_place seen xs s d (k, lt, at) =
     let lt' : k < length xs = omega (arith, length-map xs seen) in
     (k, lt', sym (get_or-map seen xs k d s lt') ∙ at)
 
-pub least_found : {X : Type 0} (seen : X → Seen) (xs : List X) (q : Key) (i : ℕ) (x : X) → IsSortedByKey seen seen_cmp xs → BeginsAt seen q xs i
-    → i < length xs → x ≡ get_or xs i x → is_eq (key_cmp (seen_key (seen x)) q) ≡ true → IsLeastOf q (map seen xs) (Some (seen x).signatures)
+pub least_found : {X : Type 0} (seen : X → Seen) (xs : List X) (q : Key) (i : ℕ) (x : X)
+    → IsSortedByKey seen seen_cmp xs → BeginsAt seen q xs i → i < length xs → x ≡ get_or xs i x
+    → is_eq (key_cmp (seen_key (seen x)) q) ≡ true → IsLeastOf q (map seen xs) (Some (seen x).signatures)
 least_found seen xs q i x up at lt is same =
     let e : seen_key (seen x) ≡ q = keys_equal _ q (is_equal _ same) in (
       (seen x, (i, omega (arith, length-map xs seen), get_or-map seen xs i x (seen x) lt ∙ ap seen (sym is)), e, refl),
@@ -172,8 +180,9 @@ least_found seen xs q i x up at lt is same =
           omega arith,
     )
 
-pub none_there : {X : Type 0} (seen : X → Seen) (xs : List X) (q : Key) (i : ℕ) (x : X) → IsSortedByKey seen seen_cmp xs → BeginsAt seen q xs i
-    → x ≡ get_or xs i x → is_eq (key_cmp (seen_key (seen x)) q) ≡ false → IsLeastOf q (map seen xs) None
+pub none_there : {X : Type 0} (seen : X → Seen) (xs : List X) (q : Key) (i : ℕ) (x : X)
+    → IsSortedByKey seen seen_cmp xs → BeginsAt seen q xs i → x ≡ get_or xs i x
+    → is_eq (key_cmp (seen_key (seen x)) q) ≡ false → IsLeastOf q (map seen xs) None
 none_there seen xs q i x up at is other s among key =
     let (j, lt', here) = at_place seen xs s x among in
     let first = first_level seen q xs i j x up at lt' (ap seen_key here ∙ key) in
@@ -191,8 +200,10 @@ none_left seen (x ∷ xs) q i at le s among key =
 
 -- ---- a sort by what is seen
 
-pub sorted_by : {X F : Type 0} (seen : X → Seen) {g : Mut F (Bor X × (Bor X × Unit {0})) Ordering} {f : F} (xs : List X) → ((lt : X → X → Bool) → IsStrictWeakOrder lt → ComparesAs g lt f → IsSortedBy lt xs)
-    → ((a : Bor X × (Bor X × Unit {0})) (r : Ordering) (f' : F) → Called g f a r f' → (r ≡ seen_cmp (seen a.0.now) (seen a.1.0.now)) × (f' ≡ f)) → IsSortedByKey seen seen_cmp xs
+pub sorted_by : {X F : Type 0} (seen : X → Seen) {g : Mut F (Bor X × (Bor X × Unit {0})) Ordering} {f : F} (xs : List X)
+    → ((lt : X → X → Bool) → IsStrictWeakOrder lt → ComparesAs g lt f → IsSortedBy lt xs)
+    → ((a : Bor X × (Bor X × Unit {0})) (r : Ordering) (f' : F) → Called g f a r f' → (r ≡ seen_cmp (seen a.0.now) (seen a.1.0.now)) × (f' ≡ f))
+    → IsSortedByKey seen seen_cmp xs
 sorted_by seen {g = g} {f = f} xs up h =
     up (λ x y. is_lt (seen_cmp (seen x) (seen y))) (weak seen) (always_returns_same g (λ a r. is_lt r ≡ is_lt (seen_cmp (seen a.0.now) (seen a.1.0.now))) f (λ a r f' k. (ap is_lt (h a r f' k).0, (h a r f' k).1)))
 
@@ -201,11 +212,16 @@ sorted_by seen {g = g} {f = f} xs up h =
 abbrev place_of : Naming → ℕ → ℕ → Place
 place_of naming i j = record { naming = naming; row = i; entry = j }
 
-seen_there : (rows : List AccountRow) (naming : Naming) (i j : ℕ) (row : AccountRow) (e : Entry) → slice_get rows i ≡ Some row → slice_get row.entries j ≡ Some e → seen_at rows (place_of naming i j) ≡ seen_as naming row e
+seen_there : (rows : List AccountRow) (naming : Naming) (i j : ℕ) (row : AccountRow) (e : Entry)
+    → slice_get rows i ≡ Some row → slice_get row.entries j ≡ Some e
+    → seen_at rows (place_of naming i j) ≡ seen_as naming row e
 seen_there rows naming i j row e at within = ap (λ (r : Option AccountRow). seen_on naming r j) at ∙ ap (seen_of naming row) within
 
-pub row_more : (rows : List AccountRow) (i j : ℕ) (none : AccountRow) (places one two : List Place) (before : List Seen) → i < length rows → j < length (get_or rows i none).entries → one ≡ places ++ place_of Items i j ∷ [] → two ≡ one ++ place_of Iban i j ∷ []
-    → map (seen_at rows) places ≡ before ++ flat_map (seen_twice (get_or rows i none)) (take j (get_or rows i none).entries) → map (seen_at rows) two ≡ before ++ flat_map (seen_twice (get_or rows i none)) (take (j + 1) (get_or rows i none).entries)
+pub row_more : (rows : List AccountRow) (i j : ℕ) (none : AccountRow) (places one two : List Place) (before : List Seen)
+    → i < length rows → j < length (get_or rows i none).entries → one ≡ places ++ place_of Items i j ∷ []
+    → two ≡ one ++ place_of Iban i j ∷ []
+    → map (seen_at rows) places ≡ before ++ flat_map (seen_twice (get_or rows i none)) (take j (get_or rows i none).entries)
+    → map (seen_at rows) two ≡ before ++ flat_map (seen_twice (get_or rows i none)) (take (j + 1) (get_or rows i none).entries)
 row_more rows i j none places one two before less within first second is =
     let row : AccountRow = get_or rows i none in
     let d : Entry = record { kind = []; signatures = 0 } in
@@ -220,7 +236,9 @@ row_more rows i j none places one two before less within first second is =
     ∙ flat_map_more (seen_twice row) before (take j row.entries) e
     ∙ ap (λ (es : List Entry). before ++ flat_map (seen_twice row) es) (sym (take_more row.entries j d within))
 
-pub rows_more : (rows : List AccountRow) (i : ℕ) (none : AccountRow) (places new : List Place) → i < length rows → map (seen_at rows) new ≡ map (seen_at rows) places ++ seen_in_row (get_or rows i none) → map (seen_at rows) places ≡ flat_map seen_in_row (take i rows)
+pub rows_more : (rows : List AccountRow) (i : ℕ) (none : AccountRow) (places new : List Place)
+    → i < length rows → map (seen_at rows) new ≡ map (seen_at rows) places ++ seen_in_row (get_or rows i none)
+    → map (seen_at rows) places ≡ flat_map seen_in_row (take i rows)
     → map (seen_at rows) new ≡ flat_map seen_in_row (take (i + 1) rows)
 rows_more rows i none places new less added is =
     added ∙ ap (λ (ss : List Seen). ss ++ seen_in_row (get_or rows i none)) is ∙ flat_map_more seen_in_row [] (take i rows) (get_or rows i none) ∙ ap (flat_map seen_in_row) (sym (take_more rows i none less))

@@ -35,7 +35,8 @@ pub record Next (a b : List OrderRow) (entry : Data) : Type 0 where
   pub together : b ≡ a ++ row ∷ more
   pub is : row_of entry ≡ Some row
 
-next_row : (es : List Data) (entry : Data) (fs : List Data) (a b : List OrderRow) → map row_of es ≡ map Some a → map row_of (es ++ entry ∷ fs) ≡ map Some b → Next a b entry
+next_row : (es : List Data) (entry : Data) (fs : List Data) (a b : List OrderRow) → map row_of es ≡ map Some a
+    → map row_of (es ++ entry ∷ fs) ≡ map Some b → Next a b entry
 next_row [] entry fs [] [] e d = absurd cc
 next_row [] entry fs [] (y ∷ b) e d = let is : row_of entry ≡ Some y = cc in record { row = y; more = b; together = refl; is = is }
 next_row [] entry fs (x ∷ a) b e d = absurd cc
@@ -98,7 +99,8 @@ pub record Agree (Bad Worse : List OrderRow → Data → Type 0) (n m : ℕ) : T
   pub bad : Bad rows entry
   pub worse : Worse rows entry
 
-first_one : (Bad Worse : List OrderRow → Data → Type 0) (entries : List Data) (n m : ℕ) → IsOut Bad → IsOut Worse → IsFirstBad entries n Bad → IsFirstBad entries m Worse → Agree Bad Worse n m
+first_one : (Bad Worse : List OrderRow → Data → Type 0) (entries : List Data) (n m : ℕ) → IsOut Bad
+    → IsOut Worse → IsFirstBad entries n Bad → IsFirstBad entries m Worse → Agree Bad Worse n m
 first_one Bad Worse entries n m out never h g = elim (order_of h.earlier g.earlier h.entry g.entry h.later g.later (sym h.entries_are ∙ g.entries_are)) [
   | equal p q ↦
       let rows : h.rows ≡ g.rows = are_one g.earlier h.rows g.rows (subst (λ (es : List Data). AreRows es h.rows) p h.rows_are) g.rows_are in
@@ -113,7 +115,8 @@ first_one Bad Worse entries n m out never h g = elim (order_of h.earlier g.earli
   | after more p ↦ absurd (never g.earlier g.entry more g.rows h.rows g.rows_are (subst (λ (es : List Data). AreRows es h.rows) p h.rows_are) g.bad)
 ]
 
-no_first : (Bad : List OrderRow → Data → Type 0) (entries : List Data) (n : ℕ) (rows : List OrderRow) → IsOut Bad → AreRows entries rows → IsFirstBad entries n Bad → ⊥
+no_first : (Bad : List OrderRow → Data → Type 0) (entries : List Data) (n : ℕ) (rows : List OrderRow)
+    → IsOut Bad → AreRows entries rows → IsFirstBad entries n Bad → ⊥
 no_first Bad entries n rows out are h = out h.earlier h.entry h.later h.rows rows h.rows_are (subst (λ (es : List Data). AreRows es rows) h.entries_are are) h.bad
 
 -- ---- the value at `order`
@@ -186,7 +189,8 @@ pub one_table : (text : List ℕ) (a b : List OrderRow) → DenotesTable text a 
 one_table text a b h g = let r = both text (λ found. IsTableAt found a) (λ found. IsTableAt found b) h g in table_one r.found a b r.one r.other
 
 -- it has one first refusal at most
-pub one_table_fault : (text : List ℕ) (f g : TableFault) → IsTableFault text f → IsTableFault text g → f ≢ Memory → g ≢ Memory → f ≡ g
+pub one_table_fault : (text : List ℕ) (f g : TableFault) → IsTableFault text f → IsTableFault text g
+    → f ≢ Memory → g ≢ Memory → f ≡ g
 one_table_fault text Memory g h k n m = absurd (n refl)
 one_table_fault text f Memory h k n m = absurd (m refl)
 one_table_fault text NotToml NotToml h k n m = refl
@@ -207,7 +211,8 @@ one_table_fault text (TwoRows a) (BadRow b) h k n m = let r = both text (λ foun
 one_table_fault text (TwoRows a) (TwoRows b) h k n m = let r = both text (λ found. IsTwoRowsAt found a) (λ found. IsTwoRowsAt found b) h k in ap TwoRows (two_one r.found a b r.one r.other)
 
 -- it never has both
-pub no_table_at_fault : (text : List ℕ) (rows : List OrderRow) (f : TableFault) → DenotesTable text rows → IsTableFault text f → f ≢ Memory → ⊥
+pub no_table_at_fault : (text : List ℕ) (rows : List OrderRow) (f : TableFault) → DenotesTable text rows
+    → IsTableFault text f → f ≢ Memory → ⊥
 no_table_at_fault text rows NotToml h k n = no_orders text (λ found. IsTableAt found rows) h k
 no_table_at_fault text rows UnknownKey h k n = known text (λ found. IsTableAt found rows) h k
 no_table_at_fault text rows (BadRow a) h k n = let r = both text (λ found. IsTableAt found rows) (λ found. IsBadRowAt found a) h k in no_bad r.found rows a r.one r.other

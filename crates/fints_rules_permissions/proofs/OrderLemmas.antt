@@ -11,7 +11,7 @@ use Rattle.fints_rules_permissions.specs.declared.orders.OrderRow.{OrderRow}
 use Rattle.fints_rules_permissions.specs.declared.orders.TableFault.{TableFault}
 use Rattle.fints_rules_permissions.specs.declared.orders.TableFault.TheVariants as faults
 use Rattle.fints_rules_permissions.specs.Orders.{row_of, IsSameOrder, AreRows, IsFirstBad, IsTableAt}
-use Rattle.fints_rules_permissions.specs.OrderFaults.{IsRowFault, IsFaultAt}
+use Rattle.fints_rules_permissions.specs.OrderFaults.{IsEntryFault, IsFaultAt}
 
 -- the values of an array are its entries
 pub item_list-view : (vs : List Value) → item_list (items_view vs) ≡ map view vs
@@ -19,7 +19,8 @@ item_list-view [] = refl
 item_list-view (v ∷ vs) = ap (λ ds. view v ∷ ds) (item_list-view vs)
 
 -- one more row
-pub rows_more : (vs : List Value) (i : ℕ) (d : Value) (rows : List OrderRow) (row : OrderRow) → i < length vs → AreRows (map view (take i vs)) rows → row_of (view (get_or vs i d)) ≡ Some row
+pub rows_more : (vs : List Value) (i : ℕ) (d : Value) (rows : List OrderRow) (row : OrderRow) → i < length vs
+    → AreRows (map view (take i vs)) rows → row_of (view (get_or vs i d)) ≡ Some row
     → (Any (IsSameOrder row) rows → ⊥) → AreRows (map view (take (i + 1) vs)) (rows ++ row ∷ [])
 rows_more vs i d rows row lt are is none =
     let entries : map view (take (i + 1) vs) ≡ map view (take i vs) ++ view (get_or vs i d) ∷ [] = ap (map view) (take_more vs i d lt) ∙ map_push view (take i vs) (get_or vs i d) in
@@ -32,8 +33,9 @@ rows_more vs i d rows row lt are is none =
     }
 
 -- the entry at i, behind good rows, is bad
-pub first_bad : (vs : List Value) (i n : ℕ) (d : Value) (rows : List OrderRow) (Bad : List OrderRow → Data → Type 0) → i < length vs → n ≡ i + 1 → AreRows (map view (take i vs)) rows
-    → Bad rows (view (get_or vs i d)) → IsFirstBad (map view vs) n Bad
+pub first_bad : (vs : List Value) (i n : ℕ) (d : Value) (rows : List OrderRow) (Bad : List OrderRow → Data → Type 0)
+    → i < length vs → n ≡ i + 1 → AreRows (map view (take i vs)) rows → Bad rows (view (get_or vs i d))
+    → IsFirstBad (map view vs) n Bad
 first_bad vs i n d rows Bad lt is are bad = record {
   earlier = map view (take i vs);
   entry = view (get_or vs i d);
@@ -46,26 +48,33 @@ first_bad vs i n d rows Bad lt is are bad = record {
 }
 
 -- the same of an array
-pub table_at : (vs : List Value) (rows : List OrderRow) → length vs ≤ 1000 → AreRows (map view vs) rows → IsTableAt (Some (array (items_view vs))) rows
+pub table_at : (vs : List Value) (rows : List OrderRow) → length vs ≤ 1000 → AreRows (map view vs) rows
+    → IsTableAt (Some (array (items_view vs))) rows
 table_at vs rows le are = rw item_list-view (omega (arith, length-map vs view), are)
 
-fault_at : (vs : List Value) → length vs ≤ 1000 → (f : TableFault) → IsRowFault (map view vs) f → IsFaultAt (Some (array (items_view vs))) f
+fault_at : (vs : List Value) → length vs ≤ 1000 → (f : TableFault) → IsEntryFault (map view vs) f
+    → IsFaultAt (Some (array (items_view vs))) f
 fault_at vs le faults.NotToml h = h
 fault_at vs le faults.UnknownKey h = h
 fault_at vs le (faults.BadRow n) h = rw item_list-view (inr (omega (arith, length-map vs view), h))
 fault_at vs le (faults.TwoRows n) h = rw item_list-view (omega (arith, length-map vs view), h)
 fault_at vs le faults.Memory h = h
 
-if_err : {X : Type 0} (r : Result X TableFault) (P Q : TableFault → Type 0) → ((f : TableFault) → P f → Q f) → IfErr r P → IfErr r Q
+if_err : {X : Type 0} (r : Result X TableFault) (P Q : TableFault → Type 0) → ((f : TableFault) → P f → Q f)
+    → IfErr r P → IfErr r Q
 if_err (Ok x) P Q step h = h
 if_err (Err f) P Q step h = step f h
 
-if_ok : {X : Type 0} (r : Result X TableFault) (P Q : X → Type 0) → ((x : X) → P x → Q x) → IfOk r P → IfOk r Q
+if_ok : {X : Type 0} (r : Result X TableFault) (P Q : X → Type 0) → ((x : X) → P x → Q x) → IfOk r P
+    → IfOk r Q
 if_ok (Ok x) P Q step h = step x h
 if_ok (Err f) P Q step h = h
 
-pub faults_at : {X : Type 0} (vs : List Value) (r : Result X TableFault) → length vs ≤ 1000 → IfErr r (λ f. IsRowFault (map view vs) f) → IfErr r (λ f. IsFaultAt (Some (array (items_view vs))) f)
+pub faults_at : {X : Type 0} (vs : List Value) (r : Result X TableFault) → length vs ≤ 1000
+    → IfErr r (λ f. IsEntryFault (map view vs) f) → IfErr r (λ f. IsFaultAt (Some (array (items_view vs))) f)
 faults_at vs r le h = if_err r _ _ (fault_at vs le) h
 
-pub tables_at : {X : Type 0} (items : X → List OrderRow) (vs : List Value) (r : Result X TableFault) → length vs ≤ 1000 → IfOk r (λ x. AreRows (map view vs) (items x)) → IfOk r (λ x. IsTableAt (Some (array (items_view vs))) (items x))
+pub tables_at : {X : Type 0} (items : X → List OrderRow) (vs : List Value) (r : Result X TableFault)
+    → length vs ≤ 1000 → IfOk r (λ x. AreRows (map view vs) (items x))
+    → IfOk r (λ x. IsTableAt (Some (array (items_view vs))) (items x))
 tables_at items vs r le h = if_ok r _ _ (λ x. table_at vs (items x) le) h

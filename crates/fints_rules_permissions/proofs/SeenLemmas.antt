@@ -31,14 +31,16 @@ none_in x (k, lt, is) = absurd (omega arith)
 cons_first : {X : Type 0} (x : X) (xs : List X) → Contains (x ∷ xs) x
 cons_first x xs = (0, omega arith, refl)
 
-to_flat_map : {X A : Type 0} (f : X → List A) (xs : List X) (x : X) (a : A) → Contains xs x → Contains (f x) a → Contains (flat_map f xs) a
+to_flat_map : {X A : Type 0} (f : X → List A) (xs : List X) (x : X) (a : A) → Contains xs x → Contains (f x) a
+    → Contains (flat_map f xs) a
 to_flat_map f [] x a (k, lt, is) h = absurd (omega arith)
 to_flat_map f (y ∷ ys) x a among h = elim (cons_cases y ys x among) [
   | inl e ↦ Contains-append_left (f y) (flat_map f ys) a (subst (λ z. Contains (f z) a) (sym e) h)
   | inr c ↦ Contains-append_right (f y) (flat_map f ys) a (to_flat_map f ys x a c h)
 ]
 
-from_flat_map : {X A : Type 0} (f : X → List A) (xs : List X) (a : A) → Contains (flat_map f xs) a → (x : X) × Contains xs x × Contains (f x) a
+from_flat_map : {X A : Type 0} (f : X → List A) (xs : List X) (a : A) → Contains (flat_map f xs) a
+    → (x : X) × Contains xs x × Contains (f x) a
 from_flat_map f [] a (k, lt, is) = absurd (omega arith)
 from_flat_map f (y ∷ ys) a h = elim (Contains-append_cases (f y) (flat_map f ys) a h) [
   | inl c ↦ (y, cons_first y ys, c)
@@ -47,17 +49,20 @@ from_flat_map f (y ∷ ys) a h = elim (Contains-append_cases (f y) (flat_map f y
 
 -- ---- entries of rows
 
-naming_in_twice : (naming : Naming) (row : AccountRow) (e : Entry) → Contains (seen_twice row e) (seen_as naming row e)
+naming_in_twice : (naming : Naming) (row : AccountRow) (e : Entry)
+    → Contains (seen_twice row e) (seen_as naming row e)
 naming_in_twice Items row e = cons_first (seen_as Items row e) (seen_as Iban row e ∷ [])
 naming_in_twice Iban row e = cons_more (seen_as Items row e) (seen_as Iban row e ∷ []) (seen_as Iban row e) (cons_first (seen_as Iban row e) [])
 
-twice_naming : (row : AccountRow) (e : Entry) (s : Seen) → Contains (seen_twice row e) s → (naming : Naming) × (seen_as naming row e ≡ s)
+twice_naming : (row : AccountRow) (e : Entry) (s : Seen) → Contains (seen_twice row e) s
+    → (naming : Naming) × (seen_as naming row e ≡ s)
 twice_naming row e s h = elim (cons_cases (seen_as Items row e) (seen_as Iban row e ∷ []) s h) [
   | inl is ↦ (Items, is)
   | inr c ↦ elim (cons_cases (seen_as Iban row e) [] s c) [ inl is ↦ (Iban, is) | inr none ↦ absurd (none_in s none) ]
 ]
 
-seen_there : (rows : List AccountRow) (row : AccountRow) (e : Entry) (naming : Naming) → Contains rows row → Contains row.entries e → Contains (seen_in rows) (seen_as naming row e)
+seen_there : (rows : List AccountRow) (row : AccountRow) (e : Entry) (naming : Naming) → Contains rows row
+    → Contains row.entries e → Contains (seen_in rows) (seen_as naming row e)
 seen_there rows row e naming among within = to_flat_map seen_in_row rows row _ among (to_flat_map (seen_twice row) row.entries e _ within (naming_in_twice naming row e))
 
 -- an entry under one of the names of its account
@@ -81,13 +86,15 @@ named_matches : (naming : Naming) (row : AccountRow) → Matches (account_by nam
 named_matches Items row = (refl, refl, refl, refl)
 named_matches Iban row = refl
 
-naming_of : (account : Account) (row : AccountRow) → Matches account row → (naming : Naming) × (account_by naming row ≡ account)
+naming_of : (account : Account) (row : AccountRow) → Matches account row
+    → (naming : Naming) × (account_by naming row ≡ account)
 naming_of nobody row m = absurd m
 naming_of (by_items n s c b) row (p, q, r, t) = (Items, λ i. by_items (p i) (q i) (r i) (t i))
 naming_of (by_iban iban) row m = (Iban, λ i. by_iban (m i))
 
 -- accounts of one key are equal
-same_named : (naming : Naming) (row : AccountRow) (account : Account) (k l : List ℕ) → (account ≡ nobody → ⊥) → key_of (account_by naming row) k ≡ key_of account l → (account_by naming row ≡ account) × (k ≡ l)
+same_named : (naming : Naming) (row : AccountRow) (account : Account) (k l : List ℕ) → (account ≡ nobody → ⊥)
+    → key_of (account_by naming row) k ≡ key_of account l → (account_by naming row ≡ account) × (k ≡ l)
 same_named naming row nobody k l some e = absurd (some refl)
 same_named Items row (by_items n s c b) k l some e =
     let p = ap (λ (q : Key). q.account) e in
@@ -108,7 +115,8 @@ entry_seen rows account kind e i =
     let same : seen_as naming i.row e ≡ record { account = account; kind = kind; signatures = e.signatures } = λ z. record { account = is z; kind = i.kind_is z; signatures = e.signatures } in
     subst (Contains (seen_in rows.accounts)) same there
 
-seen_entry : (rows : Rows) (account : Account) (kind : List ℕ) (s : Seen) → (account ≡ nobody → ⊥) → Contains (seen_in rows.accounts) s → seen_key s ≡ key_of account kind
+seen_entry : (rows : Rows) (account : Account) (kind : List ℕ) (s : Seen) → (account ≡ nobody → ⊥)
+    → Contains (seen_in rows.accounts) s → seen_key s ≡ key_of account kind
     → (e : Entry) × IsEntryOf rows account kind e × (e.signatures ≡ s.signatures)
 seen_entry rows account kind s some among key =
     let at = stands rows.accounts s among in
@@ -118,7 +126,9 @@ seen_entry rows account kind s some among key =
       ap (λ (t : Seen). t.signatures) at.is,
     )
 
-pub least_need : (rows : Rows) (account : Account) (kind : List ℕ) (needs : List Seen) (o : Option ℕ) → (account ≡ nobody → ⊥) → IsPermutation (seen_in rows.accounts) needs → IsLeastOf (key_of account kind) needs o → IsLeastNeed rows account kind o
+pub least_need : (rows : Rows) (account : Account) (kind : List ℕ) (needs : List Seen) (o : Option ℕ)
+    → (account ≡ nobody → ⊥) → IsPermutation (seen_in rows.accounts) needs
+    → IsLeastOf (key_of account kind) needs o → IsLeastNeed rows account kind o
 least_need rows account kind needs None some p h = λ e i. h _ (Contains-permutation _ _ _ p (entry_seen rows account kind e i)) refl
 least_need rows account kind needs (Some n) some p h' =
     let ((s, among, key, is), h) = h' in

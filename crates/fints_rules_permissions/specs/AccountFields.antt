@@ -7,11 +7,12 @@ use Rattle.fints_rules_permissions.specs.declared.account.AccountKey.TheInside.{
 
 abbrev pub named_account : Named → Account
 named_account Nobody = nobody
-named_account (National number subaccount country bank) = by_items number.now subaccount.now country.now bank.now
+named_account (National number subaccount country bank) =
+    by_items number.now subaccount.now country.now bank.now
 named_account (Iban iban) = by_iban iban.now
 
-abbrev pub account_in : Inside → Account
-account_in key = named_account key.named
+abbrev pub key_account : Inside → Account
+key_account key = named_account key.named
 
 -- an account by its IBAN has one
 abbrev pub NamesIban : Named → Type 0

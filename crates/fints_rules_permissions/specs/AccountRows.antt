@@ -7,5 +7,6 @@ use Rattle.fints_rules_permissions.specs.Accounts.{Account, nobody, by_items, by
 abbrev pub Matches : Account → AccountRow → Type 0
 Matches nobody row = ⊥
 Matches (by_items number subaccount country bank) row =
-    (row.national.number ≡ number) × (row.national.subaccount ≡ subaccount) × (row.national.country ≡ country) × (row.national.bank ≡ bank)
+    (row.national.number ≡ number) × (row.national.subaccount ≡ subaccount) × (row.national.country ≡ country)
+    × (row.national.bank ≡ bank)
 Matches (by_iban iban) row = row.iban ≡ iban

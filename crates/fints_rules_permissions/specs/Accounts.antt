@@ -15,10 +15,16 @@ item_or_empty items i = slice_index_or items i []
 
 -- the account of four items, the first at this place
 abbrev pub national_of : List (List ℕ) → ℕ → Account
-national_of items first = by_items (item_or_empty items first) (item_or_empty items (first + 1)) (item_or_empty items (first + 2)) (item_or_empty items (first + 3))
+national_of items first =
+    by_items
+    (item_or_empty items first)
+    (item_or_empty items (first + 1))
+    (item_or_empty items (first + 2))
+    (item_or_empty items (first + 3))
 
 -- national: number, subaccount, country, bank code; international: IBAN, BIC, and then the same four, which count where the IBAN is empty
-abbrev pub account_of : AccountForm → List (List ℕ) → Account
-account_of Nameless items = nobody
-account_of National items = national_of items 0
-account_of International items = if length (item_or_empty items 0) == 0 then national_of items 2 else by_iban (item_or_empty items 0)
+abbrev pub account_named : AccountForm → List (List ℕ) → Account
+account_named Nameless items = nobody
+account_named National items = national_of items 0
+account_named International items =
+    if length (item_or_empty items 0) == 0 then national_of items 2 else by_iban (item_or_empty items 0)

@@ -11,8 +11,12 @@ OneTable = (text : List ℕ) (a b : List OrderRow) → DenotesTable text a → D
 
 -- it has one first refusal at most, but for want of memory
 abbrev pub OneTableFault : Type 0
-OneTableFault = (text : List ℕ) (f g : TableFault) → IsTableFault text f → IsTableFault text g → f ≢ Memory → g ≢ Memory → f ≡ g
+OneTableFault =
+    (text : List ℕ) (f g : TableFault) → IsTableFault text f → IsTableFault text g → f ≢ Memory → g ≢ Memory
+    → f ≡ g
 
 -- it never denotes a table and has a refusal
 abbrev pub NoTableAtFault : Type 0
-NoTableAtFault = (text : List ℕ) (rows : List OrderRow) (f : TableFault) → DenotesTable text rows → IsTableFault text f → f ≢ Memory → ⊥
+NoTableAtFault =
+    (text : List ℕ) (rows : List OrderRow) (f : TableFault) → DenotesTable text rows → IsTableFault text f
+    → f ≢ Memory → ⊥

@@ -8,15 +8,15 @@ use Rattle.fints_rules_permissions.specs.declared.limits.Limits.{Limits}
 use Rattle.fints_rules_permissions.specs.Orders.{form_of}
 use Rattle.fints_rules_permissions.specs.declared.orders.AccountForm.{AccountForm}
 use Rattle.fints_rules_permissions.specs.declared.orders.OrderRow.{OrderRow}
-use Rattle.fints_rules_permissions.specs.Permits.{LimitsAre, params_of, IsListed, IsListedWithTan}
+use Rattle.fints_rules_permissions.specs.Permits.{LimitsAre, params_of, IsListedKind, IsListedWithTan}
 
 -- of the same kind and version
 abbrev pub key_eq : OrderKey → OrderKey → Bool
 key_eq a b = bytes_eq a.kind b.kind && (a.version == b.version)
 
 -- the kind and version of a row
-abbrev pub key_of : OrderRow → OrderKey
-key_of row = record { kind = row.kind; version = row.version }
+abbrev pub order_key : OrderRow → OrderKey
+order_key row = record { kind = row.kind; version = row.version }
 
 -- the map has the form of each kind and version
 abbrev pub HoldsForms : List OrderRow → (OrderKey → Option AccountForm) → Type 0
@@ -28,9 +28,9 @@ HoldsLimits rows limits = (q : OrderKey) → LimitsAre (params_of q.kind q.versi
 
 -- what the map has at a kind
 abbrev pub PinIs : List PinRow → List ℕ → Option Bool → Type 0
-PinIs pins kind None = IsListed pins kind → ⊥
+PinIs pins kind None = IsListedKind pins kind → ⊥
 PinIs pins kind (Some true) = IsListedWithTan pins kind
-PinIs pins kind (Some false) = IsListed pins kind × (IsListedWithTan pins kind → ⊥)
+PinIs pins kind (Some false) = IsListedKind pins kind × (IsListedWithTan pins kind → ⊥)
 
 abbrev pub HoldsPins : List PinRow → (List ℕ → Option Bool) → Type 0
 HoldsPins pins found = (kind : List ℕ) → PinIs pins kind (found kind)
@@ -44,7 +44,8 @@ lower m n = if m == 0 then n else if n == 0 then m else if nat_lt n m then n els
 -- the limits after one more row
 abbrev pub with_limits : Option Limits → OrderParam → Limits
 with_limits None row = record { orders = row.orders; signatures = row.signatures }
-with_limits (Some l) row = record { orders = lower l.orders row.orders; signatures = max l.signatures row.signatures }
+with_limits (Some l) row =
+    record { orders = lower l.orders row.orders; signatures = max l.signatures row.signatures }
 
 -- whether a TAN is demanded after one more pair
 abbrev pub with_pin : Option Bool → PinRow → Bool

@@ -27,12 +27,28 @@ pub record Key : Type 0 where
   pub kind : List ℕ
 
 abbrev pub key_of : Account → List ℕ → Key
-key_of nobody kind = record { by_iban = false; account = []; subaccount = []; country = []; bank = []; kind = kind }
-key_of (by_items number subaccount country bank) kind = record { by_iban = false; account = number; subaccount = subaccount; country = country; bank = bank; kind = kind }
-key_of (by_iban iban) kind = record { by_iban = true; account = iban; subaccount = []; country = []; bank = []; kind = kind }
+key_of nobody kind =
+    record { by_iban = false; account = []; subaccount = []; country = []; bank = []; kind = kind }
+key_of (by_items number subaccount country bank) kind = record {
+  by_iban = false;
+  account = number;
+  subaccount = subaccount;
+  country = country;
+  bank = bank;
+  kind = kind;
+}
+key_of (by_iban iban) kind =
+    record { by_iban = true; account = iban; subaccount = []; country = []; bank = []; kind = kind }
 
 abbrev pub key_in : NeedKey → Key
-key_in k = record { by_iban = k.by_iban; account = k.account.now; subaccount = k.subaccount.now; country = k.country.now; bank = k.bank.now; kind = k.kind.now }
+key_in k = record {
+  by_iban = k.by_iban;
+  account = k.account.now;
+  subaccount = k.subaccount.now;
+  country = k.country.now;
+  bank = k.bank.now;
+  kind = k.kind.now;
+}
 
 -- the key of an account that isn't nobody's
 abbrev pub KeyIs : Account → List ℕ → Option NeedKey → Type 0
@@ -58,10 +74,12 @@ pub record Seen : Type 0 where
 
 abbrev pub account_by : Naming → AccountRow → Account
 account_by Iban row = by_iban row.iban
-account_by Items row = by_items row.national.number row.national.subaccount row.national.country row.national.bank
+account_by Items row =
+    by_items row.national.number row.national.subaccount row.national.country row.national.bank
 
 abbrev pub seen_as : Naming → AccountRow → Entry → Seen
-seen_as naming row entry = record { account = account_by naming row; kind = entry.kind; signatures = entry.signatures }
+seen_as naming row entry =
+    record { account = account_by naming row; kind = entry.kind; signatures = entry.signatures }
 
 -- what stands for no entry
 abbrev pub nothing : Seen
@@ -98,16 +116,24 @@ seen_in rows = flat_map seen_in_row rows
 
 -- the entries before place i are before the key, and the others aren't
 abbrev pub BeginsAt : {X : Type 0} → (X → Seen) → Key → List X → ℕ → Type 0
-BeginsAt seen key xs i = IsPartitionPoint (λ x. is_lt (key_cmp (seen_key (seen x)) key) ≡ true) (λ x. is_lt (key_cmp (seen_key (seen x)) key) ≡ false) xs i
+BeginsAt seen key xs i =
+    IsPartitionPoint
+    (λ x. is_lt (key_cmp (seen_key (seen x)) key) ≡ true)
+    (λ x. is_lt (key_cmp (seen_key (seen x)) key) ≡ false)
+    xs i
 
 -- ---- the least
 
 -- none of the key is there, or n is the least number of signatures that one needs
 abbrev pub IsLeastOf : Key → List Seen → Option ℕ → Type 0
 IsLeastOf key needs None = (s : Seen) → Contains needs s → seen_key s ≡ key → ⊥
-IsLeastOf key needs (Some n) = ((s : Seen) × Contains needs s × (seen_key s ≡ key) × (s.signatures ≡ n)) × ((s : Seen) → Contains needs s → seen_key s ≡ key → n ≤ s.signatures)
+IsLeastOf key needs (Some n) =
+    ((s : Seen) × Contains needs s × (seen_key s ≡ key) × (s.signatures ≡ n))
+    × ((s : Seen) → Contains needs s → seen_key s ≡ key → n ≤ s.signatures)
 
 -- no entry of the kind is there for the account, or n is the least number of signatures that one needs
 abbrev pub IsLeastNeed : Rows → Account → List ℕ → Option ℕ → Type 0
 IsLeastNeed rows account kind None = (e : Entry) → IsEntryOf rows account kind e → ⊥
-IsLeastNeed rows account kind (Some n) = ((e : Entry) × IsEntryOf rows account kind e × (e.signatures ≡ n)) × ((e : Entry) → IsEntryOf rows account kind e → n ≤ e.signatures)
+IsLeastNeed rows account kind (Some n) =
+    ((e : Entry) × IsEntryOf rows account kind e × (e.signatures ≡ n))
+    × ((e : Entry) → IsEntryOf rows account kind e → n ≤ e.signatures)

@@ -8,11 +8,11 @@ use Rattle.fints_syntax_toml.specs.Document.{only_keys}
 use Rattle.fints_rules_permissions.specs.Orders.{IsFirstBad, IsNoRow, IsSecondRow, IsTableAt, IsBadRowAt, IsTwoRowsAt, table_keys}
 
 -- of the entries
-abbrev pub IsRowFault : List Data → TableFault → Type 0
-IsRowFault entries (faults.BadRow n) = IsFirstBad entries n IsNoRow
-IsRowFault entries (faults.TwoRows n) = IsFirstBad entries n IsSecondRow
-IsRowFault entries faults.Memory = Unit {0}
-IsRowFault entries _ = ⊥
+abbrev pub IsEntryFault : List Data → TableFault → Type 0
+IsEntryFault entries (faults.BadRow n) = IsFirstBad entries n IsNoRow
+IsEntryFault entries (faults.TwoRows n) = IsFirstBad entries n IsSecondRow
+IsEntryFault entries faults.Memory = Unit {0}
+IsEntryFault entries _ = ⊥
 
 -- of the value at `order`
 abbrev pub IsFaultAt : Option Data → TableFault → Type 0
@@ -27,7 +27,9 @@ IsTableIn ms rows = (only_keys table_keys ms ≡ true) × IsTableAt (get_member 
 
 abbrev pub IsFaultIn : Members → TableFault → Type 0
 IsFaultIn ms faults.UnknownKey = only_keys table_keys ms ≡ false
-IsFaultIn ms (faults.BadRow n) = (only_keys table_keys ms ≡ true) × IsBadRowAt (get_member (codes "order") ms) n
-IsFaultIn ms (faults.TwoRows n) = (only_keys table_keys ms ≡ true) × IsTwoRowsAt (get_member (codes "order") ms) n
+IsFaultIn ms (faults.BadRow n) =
+    (only_keys table_keys ms ≡ true) × IsBadRowAt (get_member (codes "order") ms) n
+IsFaultIn ms (faults.TwoRows n) =
+    (only_keys table_keys ms ≡ true) × IsTwoRowsAt (get_member (codes "order") ms) n
 IsFaultIn ms faults.Memory = Unit {0}
 IsFaultIn ms faults.NotToml = ⊥

@@ -20,11 +20,13 @@ o >>= f = option_and_then f o
 
 -- five characters, the first two HK or DK; the administrative segments and HKTAN are no orders of the table
 abbrev pub is_order_kind : List ℕ → Bool
-is_order_kind text = ((length text == 5) && (bytes_eq (take 2 text) (codes "HK") || bytes_eq (take 2 text) (codes "DK"))) && is_plain_order text
+is_order_kind text =
+    ((length text == 5) && (bytes_eq (take 2 text) (codes "HK") || bytes_eq (take 2 text) (codes "DK")))
+    && is_plain_order text
 
-unfoldable pub order_kind : Data → Option (List ℕ)
-order_kind (string text) = if is_order_kind text then kind_from text else None
-order_kind _ = None
+unfoldable pub row_kind : Data → Option (List ℕ)
+row_kind (string text) = if is_order_kind text then kind_from text else None
+row_kind _ = None
 
 unfoldable pub account_form : Data → Option AccountForm
 account_form (string text) =
@@ -40,7 +42,7 @@ row_keys = codes "kind" ∷ codes "version" ∷ codes "account" ∷ []
 abbrev pub whole_row : Members → Option OrderRow
 whole_row ms = do
   k ← get_member (codes "kind") ms
-  kind ← order_kind k
+  kind ← row_kind k
   v ← get_member (codes "version") ms
   version ← number_between 1 999 v
   a ← get_member (codes "account") ms
@@ -88,7 +90,9 @@ IsTableAt (Some _) rows = ⊥
 -- row 0 is an `order` that is no array, and row 1,001 stands for too many
 abbrev pub IsBadRowAt : Option Data → ℕ → Type 0
 IsBadRowAt None n = ⊥
-IsBadRowAt (Some (array ds)) n = ((n ≡ MAX_ROWS + 1) × (MAX_ROWS < length (item_list ds))) ⊎ ((length (item_list ds) ≤ MAX_ROWS) × IsFirstBad (item_list ds) n IsNoRow)
+IsBadRowAt (Some (array ds)) n =
+    ((n ≡ MAX_ROWS + 1) × (MAX_ROWS < length (item_list ds)))
+    ⊎ ((length (item_list ds) ≤ MAX_ROWS) × IsFirstBad (item_list ds) n IsNoRow)
 IsBadRowAt (Some _) n = n ≡ 0
 
 abbrev pub IsTwoRowsAt : Option Data → ℕ → Type 0

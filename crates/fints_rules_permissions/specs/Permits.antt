@@ -53,8 +53,8 @@ LimitsAre rows (Some limits) = IsLimits rows limits
 
 -- ---- TAN
 
-abbrev pub IsListed : List PinRow → List ℕ → Type 0
-IsListed pins kind = Any (λ pin. pin.kind ≡ kind) pins
+abbrev pub IsListedKind : List PinRow → List ℕ → Type 0
+IsListedKind pins kind = Any (λ pin. pin.kind ≡ kind) pins
 
 -- J holds over N
 abbrev pub IsListedWithTan : List PinRow → List ℕ → Type 0
@@ -69,8 +69,8 @@ abbrev pub is_demanding : List PinRow → List ℕ → Bool
 is_demanding pins kind = is_plain_order kind && is_listed_with_tan pins kind
 
 abbrev pub DemandIs : List PinRow → List ℕ → Demand → Type 0
-DemandIs pins kind demand.Unlisted = IsListed pins kind → ⊥
-DemandIs pins kind demand.No = IsListed pins kind × (IsListedWithTan pins kind → ⊥)
+DemandIs pins kind demand.Unlisted = IsListedKind pins kind → ⊥
+DemandIs pins kind demand.No = IsListedKind pins kind × (IsListedWithTan pins kind → ⊥)
 DemandIs pins kind demand.Tan = IsListedWithTan pins kind
 
 -- ---- accounts
@@ -97,4 +97,5 @@ pub record IsLocked (rows : Rows) (account : Account) (kind : List ℕ) : Type 0
 abbrev pub PermitIs : Rows → Account → List ℕ → ℕ → Permit → Type 0
 PermitIs rows account kind signatures permit.Refused = IsLocked rows account kind
 PermitIs rows account kind signatures permit.MoreSignatures = AllNeedMore rows account kind signatures
-PermitIs rows account kind signatures permit.Allowed = (IsLocked rows account kind → ⊥) × (AllNeedMore rows account kind signatures → ⊥)
+PermitIs rows account kind signatures permit.Allowed =
+    (IsLocked rows account kind → ⊥) × (AllNeedMore rows account kind signatures → ⊥)

@@ -1,6 +1,6 @@
 //! The account that an order names.
 ghost use Rattle.std.specs.Prelude.{◌≡◌, ◌<◌, map, slice_index_or, []};
-ghost use Rattle.fints_rules_permissions.specs.Accounts.{account_of, national_of};
+ghost use Rattle.fints_rules_permissions.specs.Accounts.{account_named, national_of};
 ghost use Rattle.fints_rules_permissions.specs.AccountFields.{named_account};
 ghost use Rattle.fints_rules_permissions.specs.Needs.{KeyIs};
 
@@ -34,9 +34,9 @@ impl<'a> Model for AccountKey<'a> {
 
     ghost Value = { Account };
 
-    ghost use Rattle.fints_rules_permissions.specs.AccountFields.{account_in, HasIban};
+    ghost use Rattle.fints_rules_permissions.specs.AccountFields.{key_account, HasIban};
 
-    ghost view = { account_in };
+    ghost view = { key_account };
 
     ghost invariant = { HasIban };
 }
@@ -68,7 +68,7 @@ impl<'a> AccountKey<'a> {
     /// The account that the items of element 2 name. Further items are ignored, and absent ones
     /// are empty.
     pub fn of(form: AccountForm, items: &[&'a [u8]]) -> AccountKey<'a>
-        ensures { result ≡ account_of form (map (λ x. x.now) items.now) }
+        ensures { result ≡ account_named form (map (λ x. x.now) items.now) }
     {
         let named = match form {
             AccountForm::Nameless => Named::Nobody,

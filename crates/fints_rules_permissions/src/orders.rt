@@ -5,9 +5,9 @@ ghost use Rattle.std.specs.Str.{bytes_eq};
 ghost use Rattle.toml.specs.Data.{array};
 ghost use Rattle.toml.specs.View.{view, table_view, items_view};
 ghost use Rattle.fints_rules_permissions.specs.declared.orders.TableFault.TheVariants.{Memory};
-ghost use Rattle.fints_rules_permissions.specs.Orders.{row_of, order_kind, is_order_kind, account_form, AreRows, IsTableAt, DenotesTable, IsTableFault, form_of};
-ghost use Rattle.fints_rules_permissions.specs.LimitMaps.{key_of};
-ghost use Rattle.fints_rules_permissions.specs.OrderFaults.{IsRowFault, IsFaultAt, IsTableIn, IsFaultIn};
+ghost use Rattle.fints_rules_permissions.specs.Orders.{row_of, row_kind, is_order_kind, account_form, AreRows, IsTableAt, DenotesTable, IsTableFault, form_of};
+ghost use Rattle.fints_rules_permissions.specs.LimitMaps.{order_key};
+ghost use Rattle.fints_rules_permissions.specs.OrderFaults.{IsEntryFault, IsFaultAt, IsTableIn, IsFaultIn};
 
 use crate::kinds::is_plain_order;
 use crate::limits::OrderKey;
@@ -175,7 +175,7 @@ fn no_rows(alloc: Global) -> OrderTable
 fn rows_of(alloc: Global, entries: &[Value]) -> Result<OrderTable, TableFault>
     requires { length entries.now ≤ MAX_ROWS }
     ensures rows { IfOk result (λ t. AreRows (map view entries.now) t) }
-    ensures fault { IfErr result (λ f. IsRowFault (map view entries.now) f) }
+    ensures fault { IfErr result (λ f. IsEntryFault (map view entries.now) f) }
 {
     let mut rows = Vec::new(alloc);
     let mut forms = IndexMap::new(alloc);
@@ -185,7 +185,7 @@ fn rows_of(alloc: Global, entries: &[Value]) -> Result<OrderTable, TableFault>
         let Some(row) = row_of(entry) else {
             return Err(TableFault::BadRow { row: number });
         };
-        let key = key_of(&row);
+        let key = order_key(&row);
         if forms.contains_key(&key) {
             return Err(TableFault::TwoRows { row: number });
         }
@@ -196,8 +196,8 @@ fn rows_of(alloc: Global, entries: &[Value]) -> Result<OrderTable, TableFault>
 }
 
 // The kind and version of a row.
-fn key_of(row: &OrderRow) -> OrderKey
-    ensures { result ≡ key_of row.now }
+fn order_key(row: &OrderRow) -> OrderKey
+    ensures { result ≡ order_key row.now }
 {
     OrderKey {
         kind: row.kind,
@@ -214,7 +214,7 @@ fn row_of(value: &Value) -> Option<OrderRow>
     if !document::only_keys(table, &["kind", "version", "account"]) {
         return None;
     }
-    let kind = order_kind(document::member(table, "kind")?)?;
+    let kind = row_kind(document::member(table, "kind")?)?;
     let version = document::number_between(1, 999, document::member(table, "version")?)?;
     let form = account_form(document::member(table, "account")?)?;
     Some(OrderRow {
@@ -225,9 +225,9 @@ fn row_of(value: &Value) -> Option<OrderRow>
 }
 
 // The kind of an order.
-#[tactic(auto, unfolding(crate::specs::Orders::order_kind))]
-fn order_kind(value: &Value) -> Option<Kind>
-    ensures { result ≡ order_kind (view value.now) }
+#[tactic(auto, unfolding(crate::specs::Orders::row_kind))]
+fn row_kind(value: &Value) -> Option<Kind>
+    ensures { result ≡ row_kind (view value.now) }
 {
     let text = value.as_str()?;
     let kind = Kind::parse(text.as_bytes())?;

@@ -1,5 +1,6 @@
 -- What the segments of a message are: the frame, the signatures and the body, numbered on.
 use Rattle.std.proofs.Common.{◌≡◌, ℕ, ◌+◌, ◌^◌, ◌<◌, Bool, true, false, codes, List, [], ◌∷◌, ◌++◌, length, map, get_or, refl, ap, sym, ◌∙◌, arith, inl, inr}
+use Rattle.std.specs.Prelude.{◌⊎◌}
 use Rattle.std.specs.List.{All, AllByRecursion}
 use Rattle.std.specs.Str.{bytes_eq}
 use Rattle.std.proofs.lemmas.Bool.{cases_Bool}
@@ -9,7 +10,7 @@ use Rattle.std.proofs.lemmas.Slice.Eq.{bytes_eq-Decides}
 use Rattle.fints_syntax_segments.specs.declared.item.OwnedItem.{OwnedItem}
 use Rattle.fints_syntax_segments.specs.declared.item.OwnedItem.TheVariants.{Bin}
 use Rattle.fints_syntax_segments.specs.declared.item.OwnedSegment.{OwnedSegment}
-use Rattle.fints_rules_messages.specs.Messages.{IsFirst, IsInner, IsLast, IsNumbered, IsTail}
+use Rattle.fints_rules_messages.specs.Messages.{IsFirst, IsInner, IsLast, IsNumbered, IsTail, Seals}
 use Rattle.fints_rules_messages.specs.Parts.{part_of}
 use Rattle.fints_rules_messages.specs.Segments.{IsText}
 use Rattle.fints_rules_messages.specs.declared.part.Part.{Part}
@@ -118,27 +119,30 @@ module _ (script : ScriptValue) (step : StepValue) (filling : FillingValue) (sou
   inner_numbered : (number : ℕ) → IsNumbered 2 (inner_segments script step filling ++ last_segment (2 + length (templates_of script step)) number ∷ [])
   inner_numbered number = filled_numbered filling 2 (templates_of script step) (last_segment (2 + length (templates_of script step)) number) refl
 
+  -- the inner segments stand as they are, or in the envelope
+  stand_in : (sealed : Bool) (seal : List (List OwnedItem)) (inner : List OwnedSegment) → IsText (segments_text inner) inner
+      → (middle_segments sealed seal inner ≡ inner) ⊎ Seals inner (middle_segments sealed seal inner)
+  stand_in false seal inner text = inl refl
+  stand_in true seal inner text = inr (record {
+    key = make_segment (codes "HNVSK") 998 3 seal;
+    envelope = make_segment (codes "HNVSD") 999 1 ((Bin (segments_text inner) ∷ []) ∷ []);
+    is_key = record { kind = refl; place = refl };
+    is_envelope = record { kind = refl; place = refl; bytes = segments_text inner; item = refl; holds = text };
+    together = refl;
+  })
+
   pub tail_of : (sealed : Bool) (seal : List (List OwnedItem)) (number : ℕ) → number < 10 ^ 9 → IsText (segments_text (inner_segments script step filling)) (inner_segments script step filling)
       → IsTail number (middle_segments sealed seal (inner_segments script step filling) ++ last_segment (2 + length (templates_of script step)) number ∷ []) body_segments end_segments
-  tail_of false seal number small text =
-      let inner : List OwnedSegment = inner_segments script step filling in
-      let last : OwnedSegment = last_segment (2 + length (templates_of script step)) number in
-      inl (record { inner = inner; last = last; is_inner = inner_is; is_last = last_is (2 + length (templates_of script step)) number small; numbered = inner_numbered number; together = refl })
-  tail_of true seal number small text =
-      let inner : List OwnedSegment = inner_segments script step filling in
-      let last : OwnedSegment = last_segment (2 + length (templates_of script step)) number in
-      inr (record {
-        key = make_segment (codes "HNVSK") 998 3 seal;
-        envelope = make_segment (codes "HNVSD") 999 1 ((Bin (segments_text inner) ∷ []) ∷ []);
-        inner = inner;
-        last = last;
-        is_key = record { kind = refl; place = refl };
-        is_envelope = record { kind = refl; place = refl; bytes = segments_text inner; item = refl; holds = text };
-        is_inner = inner_is;
-        is_last = last_is (2 + length (templates_of script step)) number small;
-        numbered = inner_numbered number;
-        together = refl;
-      })
+  tail_of sealed seal number small text = record {
+    inner = inner_segments script step filling;
+    outer = middle_segments sealed seal (inner_segments script step filling);
+    last = last_segment (2 + length (templates_of script step)) number;
+    is_inner = inner_is;
+    stands = stand_in sealed seal (inner_segments script step filling) text;
+    is_last = last_is (2 + length (templates_of script step)) number small;
+    numbered = inner_numbered number;
+    together = refl;
+  }
 
 -- ---- the first segment
 

@@ -14,7 +14,7 @@ use Rattle.fints_syntax_segments.specs.Written.{written_segment, written_tree, I
 use Rattle.fints_syntax_segments.specs.declared.item.OwnedSegment.{OwnedSegment}
 use Rattle.fints_syntax_segments.specs.Number.{number_of}
 use Rattle.fints_syntax.specs.Owned.{no_head, segment_of, segments_of}
-use Rattle.fints_rules_messages.specs.Segments.{text_of, IsText}
+use Rattle.fints_rules_messages.specs.Segments.{texts_of, IsText}
 use Rattle.fints_wire.specs.Messages.{segments_text, twelve_digits}
 use Rattle.fints_wire.proofs.Counting.{twelve_digits-len}
 
@@ -35,7 +35,7 @@ module _ (spelled : WrittenIsSpelled) (values : WrittenHasValues) (head : Writte
   values_are [] h = refl
   values_are (s ∷ ss) h = let one = segment_is s h.0 in let ih = values_are ss h.1 in cc
 
-  text_is : (ss : List OwnedSegment) → segments_text ss ≡ text_of (map written_tree ss)
+  text_is : (ss : List OwnedSegment) → segments_text ss ≡ texts_of (map written_tree ss)
   text_is [] = refl
   text_is (s ∷ ss) = ap (λ (t : List ℕ). written_segment s ++ t) (text_is ss)
 

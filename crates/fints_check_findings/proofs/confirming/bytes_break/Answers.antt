@@ -1,10 +1,10 @@
 use Rattle.std.proofs.Common.{ℕ, List, sym, subst}
 use Rattle.std.specs.List.{Contains}
 use Rattle.fints_rules_messages.specs.Messages.{MessageView}
-use Rattle.fints_rules_messages.specs.Read.{IsRefusal}
+use Rattle.fints_rules_messages.specs.Read.{IsJudgeFault}
 use Rattle.fints_rules.specs.Breaks.{Breaks}
 use Rattle.fints_rules.specs.declared.rule.Broken.{Broken}
-use Rattle.fints_rules_messages.proofs.LawLemmas.{one_message}
+use Rattle.fints_rules_messages.proofs.LawLemmas.{one_message, one_stop_not_both}
 use Rattle.fints_check_findings.proofs.confirming.bytes_break.Goals as goal
 
 pub returns-in-Ok : goal.returns-in-Ok
@@ -24,9 +24,9 @@ returns-in-Ok c =
     )
 
 pub returns-in-NotAMessageBefore : goal.returns-in-NotAMessageBefore
-returns-in-NotAMessageBefore c = absurd (subst (IsRefusal c.args.bytes.now) c.in-NotAMessageBefore.is c.in-Err.ensures.refusal)
+returns-in-NotAMessageBefore c = absurd (subst (IsJudgeFault c.args.bytes.now) c.in-NotAMessageBefore.is c.in-Err.ensures.refusal)
 
 pub returns-in-NotAMessage : goal.returns-in-NotAMessage
 returns-in-NotAMessage c =
-    let none = (subst (IsRefusal c.args.bytes.now) c.in-NotAMessage.is c.in-Err.ensures.refusal).none in
-    (λ t. absurd cc, λ b. absurd (none b.message b.is))
+    let stops = subst (IsJudgeFault c.args.bytes.now) c.in-NotAMessage.is c.in-Err.ensures.refusal in
+    (λ t. absurd cc, λ b. absurd (one_stop_not_both c.args.bytes.now _ b.message stops b.is))
