@@ -1,9 +1,11 @@
 //! How many items the segments of a step have, and how much they weigh.
+ghost use Rattle.std.specs.Prelude.{◌<◌, ◌^◌};
+
 use fints_cli_hints_words::places::{Told, row_named, told};
 use fints_cli_hints_words::tables::rows_of;
 use fints_script_rows::NamedRows;
 use fints_script_rows::limits::{MAX_TEMPLATE_ITEMS, MAX_WEIGHT};
-use fints_syntax::Memory;
+use fints_syntax::{Memory, written_binary_len};
 use fints_syntax_toml::document::member;
 use fints_syntax_toml::entries::{is_named, text_at};
 use std::alloc::Global;
@@ -25,25 +27,12 @@ fn written(text: &str) -> u64 {
     (text.chars().count() as u64).saturating_add(marks as u64)
 }
 
-fn digit_count(number: u64) -> u64 {
-    match number {
-        0..=9 => 1,
-        10..=99 => 2,
-        100..=999 => 3,
-        1000..=9999 => 4,
-        10_000..=99_999 => 5,
-        100_000..=999_999 => 6,
-        _ => 7,
-    }
-}
-
-fn binary(len: u64) -> u64 {
-    len.saturating_add(digit_count(len)).saturating_add(2)
-}
-
-fn most_of(table: &Table) -> u64 {
+// A length beyond a `u32` has been refused before.
+fn most_of(table: &Table) -> u64
+    ensures { result < 2 ^ 32 }
+{
     match member(table, "max") {
-        Some(Value::Integer(max)) => u64::try_from(*max).unwrap_or(0),
+        Some(Value::Integer(max)) => u64::from(u32::try_from(*max).unwrap_or(0)),
         _ => 0,
     }
 }
@@ -95,7 +84,7 @@ fn table_figures(table: &Table) -> Figures {
     let max = most_of(table);
     let written = match text_at(table, "class") {
         Some("text") => max.saturating_mul(2),
-        Some("bin") => binary(max),
+        Some("bin") => written_binary_len(max),
         Some("digits") | Some("plain") => max,
         _ => return listed_figures(rows_of(member(table, "values"))),
     };
@@ -145,7 +134,7 @@ fn text_figures(measured: &Measured<'_, '_>, text: &str) -> Figures {
         };
     }
     let len = match text.strip_prefix('%') {
-        Some(digits) => binary(digits.len() as u64 / 2),
+        Some(digits) => written_binary_len(digits.len() as u64 / 2),
         None => written(text.strip_prefix('=').unwrap_or(text)),
     };
     Figures {
