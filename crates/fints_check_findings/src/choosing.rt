@@ -30,7 +30,9 @@ pub struct SetAccount {
 impl SetAccount {
     // The account of the field at a place, if it is the one that is set.
     fn account_of(self, field: usize) -> Option<usize>
-        ensures { MatchOption result (field ≢ self.field) (λ account. (field ≡ self.field) × (account ≡ self.account)) }
+        ensures { MatchOption result
+            (field ≢ self.field)
+            (λ account. (field ≡ self.field) × (account ≡ self.account)) }
     {
         if field == self.field {
             Some(self.account)
@@ -114,7 +116,8 @@ pub fn step_choice(
     place: usize,
 ) -> Option<SetAccount>
     requires { AreCounts step.now.templates facts.now.counts }
-    ensures { IsStepChoice permissions.now fields.now step.now (message_for facts.now (wants_tan rule)) rule place result }
+    ensures { IsStepChoice permissions.now fields.now step.now (message_for facts.now (wants_tan rule)) rule
+        place result }
 {
     let first = 2 + step.signers().len();
     if place < first {
@@ -143,7 +146,8 @@ fn push_value(
     field: &NamedField,
     account: Option<usize>,
 ) -> Result<(), Memory>
-    ensures { OnOk result (values.new ≡ values.old ++ value_of field.now (value_with field.now account) ∷ []) }
+    ensures { OnOk result (
+        values.new ≡ values.old ++ value_of field.now (value_with field.now account) ∷ []) }
 {
     if let Some(place) = account {
         if let Some(account) = field.class.accounts().get(place) {

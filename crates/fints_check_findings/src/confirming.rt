@@ -17,7 +17,8 @@ use fints_wire::{Sent, run};
 use std::alloc::Global;
 
 fn is_of(broken: &Broken, finding: &Finding) -> bool
-    ensures { IsTrue result ↔ (broken.now ≡ record { rule = finding.now.rule; segment = finding.now.segment }) }
+    ensures { IsTrue result ↔ (broken.now
+        ≡ record { rule = finding.now.rule; segment = finding.now.segment }) }
 {
     *broken
         == Broken {
@@ -27,7 +28,8 @@ fn is_of(broken: &Broken, finding: &Finding) -> bool
 }
 
 fn has_finding(broken: &[Broken], finding: &Finding) -> bool
-    ensures { IsTrue result ↔ Contains broken.now (record { rule = finding.now.rule; segment = finding.now.segment }) }
+    ensures { IsTrue result ↔ Contains broken.now
+        (record { rule = finding.now.rule; segment = finding.now.segment }) }
 {
     broken.iter().any(|one| is_of(one, finding))
 }
@@ -39,7 +41,8 @@ fn bytes_break(
     finding: &Finding,
     bytes: &[u8],
 ) -> Result<bool, Memory>
-    ensures { IfOk result (λ answer. IsTrue answer ↔ BytesBreak permissions.now bytes.now finding.now.rule finding.now.segment) }
+    ensures { IfOk result (λ answer.
+        IsTrue answer ↔ BytesBreak permissions.now bytes.now finding.now.rule finding.now.segment) }
 {
     match judge(alloc, permissions, bytes) {
         Ok(broken) => Ok(has_finding(broken.as_slice(), finding)),
@@ -61,7 +64,9 @@ fn bytes_break_after(
     codes: &[Code],
     bytes: &[u8],
 ) -> Result<bool, Memory>
-    ensures { IfOk result (λ answer. IsTrue answer ↔ BytesBreakAfter permissions.now before.now codes.now bytes.now finding.now.rule finding.now.segment) }
+    ensures { IfOk result (λ answer. IsTrue answer
+        ↔ BytesBreakAfter permissions.now before.now codes.now bytes.now finding.now.rule
+        finding.now.segment) }
 {
     match judge_after(alloc, permissions, before, codes, bytes) {
         Ok(broken) => Ok(has_finding(broken.as_slice(), finding)),
@@ -81,7 +86,9 @@ fn last_breaks(
 ) -> Result<bool, Memory>
     requires last { EndsWith sent.now last.now }
     requires enough { length sent.now ≤ length answers.now + 1 }
-    ensures { IfOk result (λ answer. IsTrue answer ↔ BreaksBehind permissions.now (came_after at_first sent.now answers.now) last.now finding.now.rule finding.now.segment) }
+    ensures { IfOk result (λ answer. IsTrue answer
+        ↔ BreaksBehind permissions.now (came_after at_first sent.now answers.now) last.now finding.now.rule
+        finding.now.segment) }
 {
     if sent.len() < 2 {
         return bytes_break(alloc, permissions, finding, last.bytes.as_slice());
@@ -109,7 +116,8 @@ fn shows(
 ) -> Result<bool, Memory>
     requires last { EndsWith sent.now last.now }
     requires enough { length sent.now ≤ length answers.now + 1 }
-    ensures { IfOk result (λ answer. IsTrue answer ↔ IsShownBy permissions.now finding.now (came_after at_first sent.now answers.now) last.now) }
+    ensures { IfOk result (λ answer. IsTrue answer
+        ↔ IsShownBy permissions.now finding.now (came_after at_first sent.now answers.now) last.now) }
 {
     if last.step != finding.step {
         return Ok(false);
@@ -145,8 +153,10 @@ pub fn confirm(
     finding: &Finding,
     case: &Case,
 ) -> Result<bool, Memory>
-    ensures shows { IfOk result (λ answer. IsTrue answer ↔ Shows permissions.now plan.now.script finding.now case.now.values case.now.answers.items) }
-    ensures real { IfOk result (λ answer. IsTrue answer → IsReal permissions.now plan.now.script finding.now) }
+    ensures shows { IfOk result (λ answer. IsTrue answer
+        ↔ Shows permissions.now plan.now.script finding.now case.now.values case.now.answers.items) }
+    ensures real { IfOk result (λ answer.
+        IsTrue answer → IsReal permissions.now plan.now.script finding.now) }
     ensures unadmitted { (Admits plan.now.script.fields case.now.values → ⊥) → result ≡ Ok false }
 {
     if !plan.admits(&case.values) {

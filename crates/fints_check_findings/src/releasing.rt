@@ -74,7 +74,8 @@ fn unreleased_at(plan: &Plan<'_>, t: usize, step: &Step, branch: usize) -> Optio
 
 /// For each step whether it submits an order.
 pub fn submitting(alloc: Global, plan: &Plan<'_>) -> Result<Vec<bool>, Memory>
-    ensures { IfOk result (λ marks. AreSubmittingTo plan.now.script.steps (length plan.now.script.steps) marks.items) }
+    ensures { IfOk result (λ marks.
+        AreSubmittingTo plan.now.script.steps (length plan.now.script.steps) marks.items) }
 {
     let count = plan.step_count();
     let mut marks = Vec::with_capacity(alloc, count)?;
@@ -100,8 +101,10 @@ pub fn holders(
     numbers: &Numbers,
 ) -> Result<Vec<Option<u16>>, Memory>
     requires marks { AreSubmittingTo plan.now.script.steps (length plan.now.script.steps) marks.now }
-    requires behind { AreBehind plan.now.script.steps numbers.now.greatest.items marks.now RELEASE numbers.now.behind.items }
-    ensures { IfOk result (λ holders. AreHolders plan.now.script.steps numbers.now.greatest.items holders.items) }
+    requires behind { AreBehind plan.now.script.steps numbers.now.greatest.items marks.now RELEASE
+        numbers.now.behind.items }
+    ensures { IfOk result (λ holders.
+        AreHolders plan.now.script.steps numbers.now.greatest.items holders.items) }
 {
     let count = plan.step_count();
     let mut holders = Vec::with_capacity(alloc, count)?;

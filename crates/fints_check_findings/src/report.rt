@@ -186,7 +186,8 @@ fn figures_at(plan: &Plan<'_>, n: usize, number: u32) -> Reached
     requires least { 1 ≤ number }
     requires most { number ≤ MAX_NUMBER }
     ensures number { result.number ≡ number }
-    ensures figures { (step : StepValue) → numbered plan.now.script.steps n ≡ Some step → AreFiguresAt plan.now.script step result }
+    ensures figures { (step : StepValue) → numbered plan.now.script.steps n ≡ Some step
+        → AreFiguresAt plan.now.script step result }
 {
     let size = worst_size(plan, n, number);
     Reached { number, size }
@@ -202,11 +203,14 @@ pub fn check<'a>(
     requires { permissions.now.orders ≡ plan.now.orders }
     ensures plan { IfOk result (λ report. report.plan ≡ plan.now) }
     ensures granted { IfOk result (λ report. report.granted ≡ permissions.now) }
-    ensures exactly { IfOk result (λ report. (f : FindingValue) → Contains report.findings f ↔ IsReal permissions.now plan.now.script f) }
+    ensures exactly { IfOk result (λ report.
+        (f : FindingValue) → Contains report.findings f ↔ IsReal permissions.now plan.now.script f) }
     ensures in_order { IfOk result (λ report. AllPairs IsBefore report.findings) }
     ensures figures { IfOk result (λ report. AreFigures plan.now.script report.figures) }
-    ensures visits { IfOk result (λ report. report.visits ≡ looked_at plan.now.script.steps (map is_some report.figures)) }
-    ensures permitted { IfOk result (λ report. report.findings ≡ [] → EachIsPermitted permissions.now plan.now.script) }
+    ensures visits { IfOk result (λ report.
+        report.visits ≡ looked_at plan.now.script.steps (map is_some report.figures)) }
+    ensures permitted { IfOk result (λ report.
+        report.findings ≡ [] → EachIsPermitted permissions.now plan.now.script) }
 {
     plan.keeps();
     let count = plan.step_count();

@@ -73,7 +73,8 @@ impl<'a> SentStep<'a> {
 
     // Whether the rule at the place is a finding of the step.
     fn is_real(&self, rule: Rule, place: usize) -> bool
-        ensures { IsTrue result ↔ IsReal self.now.at.granted self.now.at.script (record { step = self.now.at.n; rule = rule; segment = place }) }
+        ensures { IsTrue result ↔ IsReal self.now.at.granted self.now.at.script
+            (record { step = self.now.at.n; rule = rule; segment = place }) }
     {
         self.at.keeps();
         self.breaks_at_zero(rule, place) || self.at.breaks(rule, place)
@@ -81,8 +82,10 @@ impl<'a> SentStep<'a> {
 
     // Adds the findings of a rule.
     fn search_places(&self, rule: Rule, findings: &mut Vec<Finding>) -> Result<(), Memory>
-        requires { AreFoundTo self.now.at.granted self.now.at.script self.now.at.n (rule_number rule) 0 findings.old.items }
-        ensures { OnOk result (AreFoundTo self.now.at.granted self.now.at.script self.now.at.n (rule_number rule + 1) 0 findings.new.items) }
+        requires { AreFoundTo self.now.at.granted self.now.at.script self.now.at.n (rule_number rule) 0
+            findings.old.items }
+        ensures { OnOk result (AreFoundTo self.now.at.granted self.now.at.script self.now.at.n
+            (rule_number rule + 1) 0 findings.new.items) }
     {
         self.at.keeps();
         for place in 0..self.at.place_count() {
@@ -96,7 +99,8 @@ impl<'a> SentStep<'a> {
     /// Adds the findings of the step.
     pub fn search(&self, findings: &mut Vec<Finding>) -> Result<(), Memory>
         requires { AreFoundTo self.now.at.granted self.now.at.script self.now.at.n 1 0 findings.old.items }
-        ensures { OnOk result (AreFoundTo self.now.at.granted self.now.at.script (self.now.at.n + 1) 1 0 findings.new.items) }
+        ensures { OnOk result (
+            AreFoundTo self.now.at.granted self.now.at.script (self.now.at.n + 1) 1 0 findings.new.items) }
     {
         for rule in Rule::ALL {
             self.search_places(rule, findings)?;

@@ -41,7 +41,8 @@ pub fn account_breaks(
     count: usize,
     account: &AccountValue,
 ) -> bool
-    ensures { IsTrue result ↔ SegmentBreaks permissions.now facts.now rule (template_facts template.now count account.now) }
+    ensures { IsTrue result ↔ SegmentBreaks permissions.now facts.now rule
+        (template_facts template.now count account.now) }
 {
     let segment = listed_facts(template, count, account);
     segment_breaks(permissions, facts, rule, &segment)
@@ -55,7 +56,9 @@ fn some_account_breaks(
     count: usize,
     accounts: &[AccountValue],
 ) -> bool
-    ensures { IsTrue result ↔ Any (λ account. SegmentBreaks permissions.now facts.now rule (template_facts template.now count account)) accounts.now }
+    ensures { IsTrue result ↔ Any (λ account.
+        SegmentBreaks permissions.now facts.now rule (template_facts template.now count account))
+        accounts.now }
 {
     accounts.iter().any(|account| account_breaks(
         permissions,
@@ -102,7 +105,8 @@ fn template_breaks_at(
     number: usize,
 ) -> bool
     requires { AreCounts step.now.templates facts.now.counts }
-    ensures { IsTrue result ↔ TemplateBreaksAt permissions.now fields.now step.now (message_for facts.now (wants_tan rule)) rule number }
+    ensures { IsTrue result ↔ TemplateBreaksAt permissions.now fields.now step.now
+        (message_for facts.now (wants_tan rule)) rule number }
 {
     let first = 2 + step.signers().len();
     if number < first {
@@ -135,7 +139,8 @@ pub fn step_breaks(
     place: usize,
 ) -> bool
     requires { AreCounts step.now.templates facts.now.counts }
-    ensures { IsTrue result ↔ StepBreaks permissions.now fields.now step.now (message_for facts.now (wants_tan rule)) rule place }
+    ensures { IsTrue result ↔ StepBreaks permissions.now fields.now step.now
+        (message_for facts.now (wants_tan rule)) rule place }
 {
     (place == 0 && message_breaks(permissions, facts.message(rule), rule))
         || template_breaks_at(permissions, fields, step, facts, rule, place)

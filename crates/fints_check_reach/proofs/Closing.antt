@@ -7,14 +7,14 @@ use Rattle.fints_script.specs.Steps.{StepValue}
 use Rattle.fints_wire.specs.Runs.{start, Arrives, Reach}
 use Rattle.fints_wire.specs.Runs.Reach.{first}
 use Rattle.fints_wire.specs.declared.dialogue.Visit.{Visit}
-use Rattle.fints_check_reach.specs.Closed.{Covers, IsClosed}
+use Rattle.fints_check_reach.specs.Closed.{IsEnough, AreClosed}
 use Rattle.fints_check_reach.specs.Numbers.{Has, AreGreatest}
 use Rattle.fints_check_reach.proofs.PassLemmas.{reach_step, reach_repeated}
 use Rattle.fints_check_reach.proofs.Scripts.{IsScript}
 
 module _ (steps : List StepValue) (numbers : List (Option ℕ)) (script : IsScript steps) (runs : (v : Visit) → Arrives steps v ↔ Reach steps v) (greatest : AreGreatest steps numbers) where
   -- the greatest number of a step covers each with which it is entered
-  covered_by : (n e : ℕ) (step : StepValue) → numbered steps n ≡ Some step → Reach steps (record { step = n; number = e; times = 1 }) → (g : ℕ) → Has numbers n g → e ≤ g → Covers step e g
+  covered_by : (n e : ℕ) (step : StepValue) → numbered steps n ≡ Some step → Reach steps (record { step = n; number = e; times = 1 }) → (g : ℕ) → Has numbers n g → e ≤ g → IsEnough step e g
   covered_by n e step at r g has low = record {
     once = low;
     often = λ again.
@@ -27,7 +27,7 @@ module _ (steps : List StepValue) (numbers : List (Option ℕ)) (script : IsScri
         omega arith;
   }
 
-  pub greatest_closed : IsClosed steps numbers
+  pub greatest_closed : AreClosed steps numbers
   greatest_closed = record {
     long = greatest.long;
     first = λ step at.

@@ -14,7 +14,7 @@ use Rattle.std.proofs.lemmas.Bool.{cases_lt}
 use Rattle.std.proofs.lemmas.List.{length_push, length-replicate}
 use Rattle.fints_check_reach.specs.Leading.{Leads}
 use Rattle.fints_check_reach.specs.Numbers.{Has, AreGreatest}
-use Rattle.fints_check_reach.specs.Closed.{Covers, IsClosed}
+use Rattle.fints_check_reach.specs.Closed.{IsEnough, AreClosed}
 use Rattle.fints_check_reach.specs.Passes.{IsPassed, IsSameAt, IsSpare, AreRaised}
 use Rattle.fints_check_reach.specs.Sources.{EndsRow}
 use Rattle.fints_check_reach.proofs.Bounds.{closed_bounded}
@@ -45,7 +45,7 @@ reach_repeated steps n e step (suc k) at can less r =
 
 -- step n is still to be entered with m or more, or its number covers m
 pub record Due (steps : List StepValue) (entries figures : List (Option ℕ)) (i n m : ℕ) : Type 0 where
-  pub passed : n ≤ i → (g : ℕ) × Has figures n g × ((step : StepValue) → numbered steps n ≡ Some step → Covers step m g)
+  pub passed : n ≤ i → (g : ℕ) × Has figures n g × ((step : StepValue) → numbered steps n ≡ Some step → IsEnough step m g)
   pub ahead : i < n → (e : ℕ) × Has entries n e × (m ≤ e)
 
 -- the number with which step n is entered comes from step s, which has one less and was passed over
@@ -69,7 +69,7 @@ pub record Pass (steps : List StepValue) (entries sources figures : List (Option
   pub began : (n e : ℕ) → Has entries n e → ((n ≡ 1) × (e ≡ 1)) ⊎ ((s : ℕ) × Has sources n s)
   pub froms : (n s : ℕ) → Has sources n s → IsFrom steps entries figures n s
 
-covers_less : (step : StepValue) (m e f : ℕ) → m ≤ e → Covers step e f → Covers step m f
+covers_less : (step : StepValue) (m e f : ℕ) → m ≤ e → IsEnough step e f → IsEnough step m f
 covers_less step m e f less c = record { once = let h = c.once in omega arith; often = λ again. let h = c.often again in omega arith }
 
 module _ (steps : List StepValue) (entries new sources after figures : List (Option ℕ)) (cell : Option ℕ) (i n : ℕ) (step : StepValue) (next : n ≡ i + 1) (at : numbered steps n ≡ Some step) (p : IsPassed step n cell entries new sources after) (kept : length figures ≡ i) where
@@ -85,7 +85,7 @@ module _ (steps : List StepValue) (entries new sources after figures : List (Opt
             f.0,
             subst (λ j. Has (figures ++ cell ∷ []) j f.0) (sym same) (numbered_push_here figures cell n here ∙ ap (λ c. Some c) f.1),
             λ s h. let is : step ≡ s = same_Some step s (sym at ∙ subst (λ j. numbered steps j ≡ Some s) same h) in
-                subst (λ (s : StepValue). Covers s m f.0) is (covers_less step m e.0 f.0 e.2 f.2),
+                subst (λ (s : StepValue). IsEnough s m f.0) is (covers_less step m e.0 f.0 e.2 f.2),
           )
     ];
     ahead = λ above. let e = d.ahead (omega (arith, next)) in let f = p.up k e.0 e.1 in let low = e.2 in let high = f.2 in (f.0, f.1, omega arith);
@@ -179,7 +179,7 @@ module _ (steps : List StepValue) (entries new sources after figures : List (Opt
   }
 
 -- the numbers of a whole pass are closed
-pub pass_closed : (steps : List StepValue) (entries sources figures : List (Option ℕ)) → IsScript steps → Pass steps entries sources figures (length steps) → IsClosed steps figures
+pub pass_closed : (steps : List StepValue) (entries sources figures : List (Option ℕ)) → IsScript steps → Pass steps entries sources figures (length steps) → AreClosed steps figures
 pass_closed steps entries sources figures script s = record {
   long = s.kept;
   first = λ step at. let g = s.begun.passed (let h = script.some in omega arith) in (g.0, g.1, g.2 step at);

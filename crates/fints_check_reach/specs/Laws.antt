@@ -6,17 +6,17 @@ use Rattle.fints_script.specs.Sound.{IsSound}
 use Rattle.fints_script.specs.Steps.{StepValue}
 use Rattle.fints_wire.specs.Runs.{Arrives}
 use Rattle.fints_wire.specs.declared.dialogue.Visit.{Visit}
-use Rattle.fints_check_reach.specs.Closed.{IsClosed}
+use Rattle.fints_check_reach.specs.Closed.{AreClosed}
 use Rattle.fints_check_reach.specs.Following.{CarriesTo, IsFollowed}
 use Rattle.fints_check_reach.specs.Numbers.{AreGreatest, IsBounded, all_visits, looked_at, reached_visits}
 
 -- closed numbers bound every run, whoever computed them: each step that a run sends has one, and no message of the step has a greater one
 abbrev pub ClosedNumbersBound : Type 0
-ClosedNumbersBound = (script : ScriptValue) (numbers : List (Option ℕ)) (v : Visit) → IsSound script → IsClosed script.steps numbers → Arrives script.steps v → IsBounded numbers v
+ClosedNumbersBound = (script : ScriptValue) (numbers : List (Option ℕ)) (v : Visit) → IsSound script → AreClosed script.steps numbers → Arrives script.steps v → IsBounded numbers v
 
 -- greatest numbers are closed
 abbrev pub GreatestAreClosed : Type 0
-GreatestAreClosed = (script : ScriptValue) (numbers : List (Option ℕ)) → IsSound script → AreGreatest script.steps numbers → IsClosed script.steps numbers
+GreatestAreClosed = (script : ScriptValue) (numbers : List (Option ℕ)) → IsSound script → AreGreatest script.steps numbers → AreClosed script.steps numbers
 
 -- no more is looked at than all steps and all branches
 abbrev pub AtMostAllAreLookedAt : Type 0

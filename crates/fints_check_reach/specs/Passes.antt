@@ -5,7 +5,7 @@ use Rattle.fints_script_cases.specs.declared.answers.Target.{Target}
 use Rattle.fints_script_cases.specs.declared.answers.Target.TheVariants.{Step, Again}
 use Rattle.fints_script.specs.Numbered.{numbered}
 use Rattle.fints_script.specs.Steps.{StepValue}
-use Rattle.fints_check_reach.specs.Closed.{Covers}
+use Rattle.fints_check_reach.specs.Closed.{IsEnough}
 use Rattle.fints_check_reach.specs.Following.{CarriesTo, IsCarriedTo}
 use Rattle.fints_check_reach.specs.Leading.{Leads}
 use Rattle.fints_check_reach.specs.Numbers.{Has}
@@ -63,7 +63,7 @@ pub record IsPassed (step : StepValue) (n : ℕ) (cell : Option ℕ) (old new be
   pub long : length new ≡ length old
   pub wide : length after ≡ length before
   pub up : (k e : ℕ) → Has old k e → (f : ℕ) × Has new k f × (e ≤ f)
-  pub covers : (e : ℕ) → Has old n e → (f : ℕ) × (cell ≡ Some f) × Covers step e f
+  pub covers : (e : ℕ) → Has old n e → (f : ℕ) × (cell ≡ Some f) × IsEnough step e f
   pub led : (f to : ℕ) → cell ≡ Some f → Leads step (Step to) → (g : ℕ) × Has new to g × (f + 1 ≤ g)
   pub sent : (f : ℕ) → cell ≡ Some f → (e : ℕ) × Has old n e × ((f ≡ e) ⊎ (Leads step Again × (f ≡ e + (step.repeat - 1))))
   pub row : (f : ℕ) → cell ≡ Some f → (e : ℕ) × Has old n e × EndsRow step e f

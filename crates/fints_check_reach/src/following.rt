@@ -29,7 +29,9 @@ fn goes_to(step: &Step, t: usize, target: Target, s: usize) -> bool
 
 // The step that a target has sent next behind a message of step n.
 fn next_of(step: &Step, n: u16, target: Target) -> Option<u16>
-    ensures { MatchOption result ((s : ℕ) → GoesTo step.now n target s → ⊥) (λ s. GoesTo step.now n target s) }
+    ensures { MatchOption result
+        ((s : ℕ) → GoesTo step.now n target s → ⊥)
+        (λ s. GoesTo step.now n target s) }
 {
     match target {
         Target::Step(to) => Some(to),
@@ -44,7 +46,9 @@ pub fn carried_step(step: &Step, n: u16, branch: usize, code: Code) -> Option<u1
     requires from { 1 ≤ branch }
     requires to { branch ≤ length step.now.branches + 1 }
     requires fired { IsOpen step.now.branches branch }
-    ensures { MatchOption result ((s : ℕ) → IsCarriedTo step.now n branch code s → ⊥) (λ s. IsCarriedTo step.now n branch code s) }
+    ensures { MatchOption result
+        ((s : ℕ) → IsCarriedTo step.now n branch code s → ⊥)
+        (λ s. IsCarriedTo step.now n branch code s) }
 {
     match next_of(step, n, step.target(branch)) {
         Some(s) => {
@@ -58,11 +62,13 @@ pub fn carried_step(step: &Step, n: u16, branch: usize, code: Code) -> Option<u1
     }
 }
 
-/// The first branch of step t that carries the code and goes to step s, if one does: so a step may
-/// follow itself only where it may be sent more than once in a row. Branches count from 1, and the
-/// default counts as the last. It takes no memory.
-pub fn branch_to(step: &Step, t: usize, code: Code, s: usize) -> Option<usize>
-    ensures { MatchOption result (CarriesTo step.now t code s → ⊥) (λ branch. IsCarriedTo step.now t branch code s) }
+// The first branch of step t that carries the code and goes to step s, if one does: so a step may
+// follow itself only where it may be sent more than once in a row. Branches count from 1, and the
+// default counts as the last.
+fn branch_to(step: &Step, t: usize, code: Code, s: usize) -> Option<usize>
+    ensures { MatchOption result
+        (CarriesTo step.now t code s → ⊥)
+        (λ branch. IsCarriedTo step.now t branch code s) }
 {
     for branch in 1..step.branches().len() + 2 {
         if goes_to(step, t, step.target(branch), s) && step.carries(branch, code) {
@@ -109,7 +115,8 @@ pub fn way_behind(
     requires to { t ≤ length plan.now.script.steps }
     requires sources { AreSources plan.now.script.steps numbers.now.greatest.items numbers.now.sources.items }
     requires reached { (number : ℕ) × Has numbers.now.greatest.items t number }
-    requires carries { (step : StepValue) → numbered plan.now.script.steps t ≡ Some step → CarriesTo step t code s }
+    requires carries { (step : StepValue) → numbered plan.now.script.steps t ≡ Some step
+        → CarriesTo step t code s }
     ensures { IfOk result (λ answers. LeadsBehind plan.now.script.steps t code s answers.items) }
 {
     let step = plan.step(t);

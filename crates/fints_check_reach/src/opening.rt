@@ -20,7 +20,9 @@ fn is_open(flags: &[bool], b: usize) -> bool
 fn open_target(step: &Step, flags: &[bool], b: usize) -> Option<Target>
     requires flags { AreOpen step.now flags.now }
     requires to { b ≤ length step.now.branches }
-    ensures { MatchOption result (IsOpenAt step.now b → ⊥) (λ to. IsOpenAt step.now b × (target_at step.now b ≡ to)) }
+    ensures { MatchOption result
+        (IsOpenAt step.now b → ⊥)
+        (λ to. IsOpenAt step.now b × (target_at step.now b ≡ to)) }
 {
     if !is_open(flags, b) {
         return None;

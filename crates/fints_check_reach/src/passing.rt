@@ -88,7 +88,8 @@ fn raise(
     requires from { 1 ≤ to }
     requires to { to ≤ length entries.old.items }
     requires wide { length sources.old.items ≡ length entries.old.items }
-    ensures { IsRaised entries.old.items entries.new.items sources.old.items sources.new.items to number source }
+    ensures { IsRaised entries.old.items entries.new.items sources.old.items sources.new.items to number
+        source }
 {
     if is_greater(number, entries[to - 1]) {
         entries[to - 1] = Some(number);
@@ -108,7 +109,8 @@ fn raise_targets(
     requires flags { AreOpen step.now flags.now }
     requires onward { (to : Target) → Leads step.now to → IsOnward (length entries.old.items) n to }
     requires wide { length sources.old.items ≡ length entries.old.items }
-    ensures { AreRaised step.now entries.old.items entries.new.items sources.old.items sources.new.items number n }
+    ensures { AreRaised step.now entries.old.items entries.new.items sources.old.items sources.new.items
+        number n }
 {
     for b in 0..step.branches().len() + 1 {
         match later_step(step, flags, b) {
@@ -141,9 +143,11 @@ fn look_at_branch(
     requires step { 1 ≤ n }
     requires from { 1 ≤ branch }
     requires to { branch ≤ length step.now.branches + 1 }
-    requires within { (s : ℕ) → IsCarriedTo step.now n branch asked.now.code s → (1 ≤ s) × (s ≤ length behind.old.items) }
+    requires within { (s : ℕ) → IsCarriedTo step.now n branch asked.now.code s → (1 ≤ s)
+        × (s ≤ length behind.old.items) }
     ensures fired { IsTrue result ↔ IsOpen step.now.branches branch }
-    ensures kept { AreKept n (BranchAsks step.now asked.now.marks.now n asked.now.code branch) behind.old.items behind.new.items }
+    ensures kept { AreKept n (BranchAsks step.now asked.now.marks.now n asked.now.code branch)
+        behind.old.items behind.new.items }
 {
     if step.opener(branch).is_none() {
         return false;
@@ -169,9 +173,11 @@ fn look_at_branches(
     requires step { 1 ≤ n }
     requires few { length step.now.branches < 21 }
     requires room { visits.old < 2 ^ 62 }
-    requires within { (s : ℕ) → CarriesTo step.now n asked.now.code s → (1 ≤ s) × (s ≤ length behind.old.items) }
+    requires within { (s : ℕ) → CarriesTo step.now n asked.now.code s → (1 ≤ s)
+        × (s ≤ length behind.old.items) }
     ensures flags { AreOpen step.now result }
-    ensures kept { AreKept n (StepAsks step.now asked.now.marks.now n asked.now.code) behind.old.items behind.new.items }
+    ensures kept { AreKept n (StepAsks step.now asked.now.marks.now n asked.now.code) behind.old.items
+        behind.new.items }
     ensures counted { visits.new ≡ visits.old + branch_count step.now }
 {
     let mut flags = [false; MAX_BRANCHES];
@@ -202,9 +208,13 @@ fn pass_step(
     requires wide { length sources.old.items ≡ length plan.now.script.steps }
     requires kept { length behind.old.items ≡ length plan.now.script.steps }
     requires small { (e : ℕ) → Has entries.old.items n e → e < 100 * MAX_STEPS }
-    ensures passed { StepIsPassed plan.now.script.steps n result entries.old.items entries.new.items sources.old.items sources.new.items }
-    ensures behind { (step : StepValue) → numbered plan.now.script.steps n ≡ Some step → AreKept n (PassAsks step result asked.now.marks.now n asked.now.code) behind.old.items behind.new.items }
-    ensures counted { (step : StepValue) → numbered plan.now.script.steps n ≡ Some step → visits.new ≡ visits.old + visits_at step (is_some result) }
+    ensures passed { StepIsPassed plan.now.script.steps n result entries.old.items entries.new.items
+        sources.old.items sources.new.items }
+    ensures behind { (step : StepValue) → numbered plan.now.script.steps n ≡ Some step
+        → AreKept n (PassAsks step result asked.now.marks.now n asked.now.code) behind.old.items
+        behind.new.items }
+    ensures counted { (step : StepValue) → numbered plan.now.script.steps n ≡ Some step
+        → visits.new ≡ visits.old + visits_at step (is_some result) }
 {
     plan.keeps();
     *visits += 1;
@@ -242,9 +252,12 @@ pub fn greatest_numbers(
     code: Code,
 ) -> Result<Numbers, Memory>
     ensures greatest { IfOk result (λ numbers. AreGreatest plan.now.script.steps numbers.greatest.items) }
-    ensures sources { IfOk result (λ numbers. AreSources plan.now.script.steps numbers.greatest.items numbers.sources.items) }
-    ensures behind { IfOk result (λ numbers. AreBehind plan.now.script.steps numbers.greatest.items marks.now code numbers.behind.items) }
-    ensures visits { IfOk result (λ numbers. numbers.visits ≡ looked_at plan.now.script.steps (map is_some numbers.greatest.items)) }
+    ensures sources { IfOk result (λ numbers.
+        AreSources plan.now.script.steps numbers.greatest.items numbers.sources.items) }
+    ensures behind { IfOk result (λ numbers.
+        AreBehind plan.now.script.steps numbers.greatest.items marks.now code numbers.behind.items) }
+    ensures visits { IfOk result (λ numbers.
+        numbers.visits ≡ looked_at plan.now.script.steps (map is_some numbers.greatest.items)) }
 {
     let count = plan.step_count();
     let mut entries = blank(alloc, count)?;

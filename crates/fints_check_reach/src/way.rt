@@ -5,7 +5,6 @@ ghost use Rattle.fints_script.specs.Numbered.{numbered};
 ghost use Rattle.fints_script.specs.Steps.{StepValue};
 ghost use Rattle.fints_check_reach.specs.Leading.{Leads};
 ghost use Rattle.fints_check_reach.specs.Numbers.{Has};
-ghost use Rattle.fints_check_reach.specs.Passes.{IsOpenAt, target_at};
 ghost use Rattle.fints_check_reach.specs.Sources.{AreSources};
 ghost use Rattle.fints_check_reach.specs.Walking.{EndsTheRow, EntersTo, HasWay, IsCodeTo, IsWayBack, LeadsOn};
 ghost use Rattle.fints_check_reach.specs.Ways.{LeadsTo};
@@ -16,35 +15,15 @@ use fints_script::{Answer, Plan, Step, Target};
 use fints_syntax::Memory;
 use std::alloc::Global;
 
-fn is_same(a: Target, b: Target) -> bool
-    ensures { IsTrue result ↔ (a ≡ b) }
-{
-    a == b
-}
-
-// The code that fires a branch by itself, if the branch is open and leads to the target. Branches
-// count from 1, and the default counts as the last.
-fn code_at(step: &Step, branch: usize, to: Target) -> Option<Code>
-    requires from { 1 ≤ branch }
-    requires to { branch ≤ length step.now.branches + 1 }
-    ensures { MatchOption result ((b : ℕ) → branch ≡ b + 1 → IsOpenAt step.now b → target_at step.now b ≡ to → ⊥) (IsCodeTo step.now to) }
-{
-    if !is_same(step.target(branch), to) {
-        return None;
-    }
-    match step.opener(branch) {
-        Some(code) => Some(code),
-        None => None,
-    }
-}
-
 // The code that fires the first open branch to the target.
 fn code_to(step: &Step, to: Target) -> Option<Code>
     ensures { MatchOption result (Leads step.now to → ⊥) (IsCodeTo step.now to) }
 {
     for b in 0..step.branches().len() + 1 {
-        if let Some(code) = code_at(step, b + 1, to) {
-            return Some(code);
+        if step.target(b + 1) == to {
+            if let Some(code) = step.opener(b + 1) {
+                return Some(code);
+            }
         }
     }
     None
@@ -84,20 +63,12 @@ fn push_onward(
 ) -> Result<(), Memory>
     requires from { 1 ≤ n }
     requires last { n ≤ length plan.now.script.steps }
-    requires leads { (step : StepValue) → numbered plan.now.script.steps n ≡ Some step → Leads step (Target.Step to) }
+    requires leads { (step : StepValue) → numbered plan.now.script.steps n ≡ Some step
+        → Leads step (Target.Step to) }
     ensures { OnOk result (LeadsOn plan.now.script.steps n to answers.old.items answers.new.items) }
 {
     let code = code_to(plan.step(n), Target::Step(to)).unwrap();
     push_code(alloc, answers, code)
-}
-
-// The source that is kept for step n.
-fn source_at(sources: &[Option<u16>], n: u16) -> Option<u16>
-    requires from { 1 ≤ n }
-    requires to { n ≤ length sources.now }
-    ensures { numbered sources.now n ≡ Some result }
-{
-    sources[n as usize - 1]
 }
 
 // The steps of the way to step n that stand after step 1, from the last to the first.
@@ -107,7 +78,7 @@ fn way_back(alloc: Global, sources: &[Option<u16>], n: u16) -> Result<Vec<u16>, 
 {
     let mut later = Vec::new(alloc);
     let mut at = n;
-    while let Some(source) = source_at(sources, at) {
+    while let Some(source) = sources[at as usize - 1] {
         later.push(at)?;
         at = source;
     }
@@ -126,7 +97,8 @@ pub fn way_into(
     requires to { n ≤ length plan.now.script.steps }
     requires sources { AreSources plan.now.script.steps numbers.now.greatest.items numbers.now.sources.items }
     requires reached { (number : ℕ) × Has numbers.now.greatest.items n number }
-    ensures { IfOk result (λ answers. EntersTo plan.now.script.steps numbers.now.greatest.items n answers.items) }
+    ensures { IfOk result (λ answers.
+        EntersTo plan.now.script.steps numbers.now.greatest.items n answers.items) }
 {
     plan.keeps();
     let mut later = way_back(alloc, numbers.sources.as_slice(), n as u16)?;
@@ -153,7 +125,8 @@ pub fn longest_way(
     requires to { n ≤ length plan.now.script.steps }
     requires sources { AreSources plan.now.script.steps numbers.now.greatest.items numbers.now.sources.items }
     requires reached { (number : ℕ) × Has numbers.now.greatest.items n number }
-    ensures { IfOk result (λ answers. LeadsTo plan.now.script.steps numbers.now.greatest.items n answers.items) }
+    ensures { IfOk result (λ answers.
+        LeadsTo plan.now.script.steps numbers.now.greatest.items n answers.items) }
 {
     let mut answers = way_into(alloc, plan, numbers, n)?;
     push_row(alloc, plan, n, &mut answers)?;

@@ -4,3 +4,4 @@ pub mod Refusals
 pub mod ReportLemmas
 pub mod StepLemmas
 pub mod RunLemmas
+pub mod Endings

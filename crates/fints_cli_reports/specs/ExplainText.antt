@@ -1,7 +1,10 @@
 -- The text of `explain`: the report, and then for each finding a line that counts it from 1, and the text of its case.
 use Rattle.std.specs.Prelude.{◌≡◌, ℕ, ◌+◌, List, [], ◌∷◌, ◌++◌, codes, Option}
+use Rattle.std.specs.List.{AllZip}
 use Rattle.std.specs.Fmt.{decimal}
 use Rattle.fints_script_cases.specs.Cases.{case_text}
+use Rattle.fints_check_findings.specs.Cases.{AreChosenFor}
+use Rattle.fints_check_findings.specs.Reports.{LeadsFor}
 use Rattle.fints_check_findings.specs.Figures.{AreFigures}
 use Rattle.fints_check_findings.specs.declared.finding.Finding.{Finding}
 use Rattle.fints_check_findings.specs.declared.finding.Reached.{Reached}
@@ -25,6 +28,14 @@ abbrev pub cases_text : List StepValue → ℕ → List Finding → List CaseVal
 cases_text steps i (f ∷ fs) (c ∷ cs) = shown_case steps i f c ++ cases_text steps (i + 1) fs cs
 cases_text steps i _ _ = []
 
+-- which case of a finding it is: its answers lead to the greatest number of the finding's step, or for P11 to a message that leaves an order unreleased; and its values are those that are chosen for the finding
+pub record IsChosenCase (granted : Granted) (script : ScriptValue) (figures : List (Option Reached)) (f : Finding) (c : CaseValue) : Type 0 where
+  pub way : LeadsFor script figures f c.answers
+  pub values : AreChosenFor granted script f c.values
+
+abbrev pub AreCasesChosen : Granted → ScriptValue → List (Option Reached) → List Finding → List CaseValue → Type 0
+AreCasesChosen granted script figures findings cases = AllZip (IsChosenCase granted script figures) findings cases
+
 -- the text and the status tell the greatest figures of the steps, what the runs break, and a case of each finding
 pub record IsExplainedBy (granted : Granted) (script : ScriptValue) (status : ℕ) (text : List ℕ) : Type 0 where
   pub figures : List (Option Reached)
@@ -32,5 +43,6 @@ pub record IsExplainedBy (granted : Granted) (script : ScriptValue) (status : �
   pub cases : List CaseValue
   pub figures_are : AreFigures script figures
   pub headline : Headline granted script findings cases
+  pub chosen : AreCasesChosen granted script figures findings cases
   pub text_is : text ≡ report_text script.steps figures findings ++ cases_text script.steps 1 findings cases
   pub status_is : status ≡ report_status findings

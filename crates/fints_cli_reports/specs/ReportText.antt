@@ -53,7 +53,11 @@ report_status (f ∷ fs) = 1
 
 -- ---- what it tells
 
--- the text and the status tell the greatest figures of the steps, and what the runs break under these permissions; where that is nothing, and the text ends with `clean`, each message of each run is permitted
+-- it ends with `clean` and LF
+abbrev pub EndsClean : List ℕ → Type 0
+EndsClean text = (before : List ℕ) × (text ≡ before ++ codes "clean\n")
+
+-- the text and the status tell the greatest figures of the steps, and what the runs break under these permissions; where the text ends with `clean`, each message of each run is permitted
 pub record IsReportBy (granted : Granted) (script : ScriptValue) (status : ℕ) (text : List ℕ) : Type 0 where
   pub figures : List (Option Reached)
   pub findings : List Finding
@@ -61,4 +65,4 @@ pub record IsReportBy (granted : Granted) (script : ScriptValue) (status : ℕ) 
   pub findings_are : AreFindings granted script findings
   pub text_is : text ≡ report_text script.steps figures findings
   pub status_is : status ≡ report_status findings
-  pub permitted : findings ≡ [] → EachIsPermitted granted script
+  pub permitted : EndsClean text → EachIsPermitted granted script

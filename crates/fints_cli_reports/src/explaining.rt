@@ -64,8 +64,8 @@ fn way_to(
 ) -> Result<Vec<Answer>, Memory>
     requires finding { slice_get report.now.findings i ≡ Some finding }
     requires within { i < length report.now.findings }
-    requires at_hand { IsWayTo report.now.plan.script.steps report.now.numbers at way.items }
-    ensures { IfOk result (λ way. LeadsFor report.now finding way.items) }
+    requires at_hand { IsWayTo report.now.plan.script.steps report.now.figures at way.items }
+    ensures { IfOk result (λ way. LeadsFor report.now.plan.script report.now.figures finding way.items) }
 {
     if is_way_of(at, finding) {
         return Ok(way);
@@ -105,9 +105,9 @@ fn write_case(
     requires finding { slice_get report.now.findings (number - 1) ≡ Some finding }
     requires within { number ≤ length report.now.findings }
     requires of_step { IsFindingOf plan.now.script.steps finding }
-    requires way { LeadsFor report.now finding way.items }
+    requires way { LeadsFor report.now.plan.script report.now.figures finding way.items }
     ensures kept { IfOk result (λ kept. kept.items ≡ way.items) }
-    ensures written { OnOk result (IsCaseWritten report.now.granted plan.now.script number finding text.old.items text.new.items) }
+    ensures written { OnOk result (IsCaseWritten report.now.granted plan.now.script report.now.figures number finding text.old.items text.new.items) }
 {
     let step = plan.step(finding.step as usize);
     write_case_line(text, number, step.name(), &finding)?;
@@ -122,7 +122,7 @@ fn write_cases(
     report: &Report<'_>,
 ) -> Result<(), Memory>
     requires { report.now.plan ≡ plan.now }
-    ensures { OnOk result (AreCasesWritten report.now.granted plan.now.script report.now.findings text.old.items text.new.items) }
+    ensures { OnOk result (AreCasesWritten report.now.granted plan.now.script report.now.figures report.now.findings text.old.items text.new.items) }
 {
     let findings = report.findings();
     let mut way = Vec::new(alloc);

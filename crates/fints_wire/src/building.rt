@@ -28,7 +28,8 @@ fn write_part(
     number: u16,
 ) -> Result<(), Memory>
     requires { AreFilled filling.now part.now.elements }
-    ensures { OnOk result (out.new.items ≡ out.old.items ++ written_segment (filled_segment filling.now number part.now)) }
+    ensures { OnOk result (
+        out.new.items ≡ out.old.items ++ written_segment (filled_segment filling.now number part.now)) }
 {
     let elements = filled_elements(alloc, filling, part.elements.as_slice())?;
     write_segment(out, &segment(part.kind, number, part.version, elements))?;
@@ -44,7 +45,8 @@ fn inner_text<'a>(
 ) -> Result<Vec<u8>, Memory>
     requires step { IsSoundStep plan.now.script step.now }
     requires filled { TemplatesAreFilled filling.now (templates_of plan.now.script step.now) }
-    ensures { IfOk result (λ v. v.items ≡ segments_text (inner_segments plan.now.script step.now filling.now)) }
+    ensures { IfOk result (λ v.
+        v.items ≡ segments_text (inner_segments plan.now.script step.now filling.now)) }
 {
     let mut out = Vec::new(alloc);
     for i in 0..part_count(step) {
@@ -72,7 +74,8 @@ fn envelope_text(
     inner: Vec<u8>,
 ) -> Result<Vec<u8>, Memory>
     requires { AreFilled filling.now (seal_of plan.now.script) }
-    ensures { IfOk result (λ v. v.items ≡ envelope_text (filled_elements filling.now (seal_of plan.now.script)) inner.items) }
+    ensures { IfOk result (λ v.
+        v.items ≡ envelope_text (filled_elements filling.now (seal_of plan.now.script)) inner.items) }
 {
     let seal = seal_segment(seal_elements(alloc, plan, filling)?);
     let data = data_segment(alloc, inner)?;
@@ -92,7 +95,8 @@ fn middle_text(
     requires step { IsSoundStep plan.now.script step.now }
     requires filled { TemplatesAreFilled filling.now (templates_of plan.now.script step.now) }
     requires seal { AreFilled filling.now (seal_of plan.now.script) }
-    ensures { IfOk result (λ v. v.items ≡ segments_text (between_segments plan.now.script step.now filling.now)) }
+    ensures { IfOk result (λ v.
+        v.items ≡ segments_text (between_segments plan.now.script step.now filling.now)) }
 {
     let inner = inner_text(alloc, plan, step, filling)?;
     if !step.sealed() {
@@ -112,7 +116,8 @@ fn later_text(
     requires step { IsSoundStep plan.now.script step.now }
     requires filled { TemplatesAreFilled filling.now (templates_of plan.now.script step.now) }
     requires seal { AreFilled filling.now (seal_of plan.now.script) }
-    ensures { IfOk result (λ v. v.items ≡ segments_text (later_segments plan.now.script step.now filling.now number)) }
+    ensures { IfOk result (λ v.
+        v.items ≡ segments_text (later_segments plan.now.script step.now filling.now number)) }
 {
     let mut out = middle_text(alloc, plan, step, filling)?;
     let last = last_segment(alloc, part_count(step) as u16 + 2, number)?;
@@ -161,10 +166,13 @@ pub fn build(
     requires first { 1 ≤ number }
     requires last { number ≤ MAX_NUMBER }
     requires admits { Admits plan.now.script.fields values.now }
-    ensures bytes { OfStep plan.now.script.steps step (λ s. IfOk result (λ bytes. bytes.items ≡ message_bytes plan.now.script s number values.now)) }
-    ensures size { OfStep plan.now.script.steps step (λ s. IfOk result (λ bytes. length bytes.items ≡ size_under plan.now.script s number values.now)) }
+    ensures bytes { OfStep plan.now.script.steps step (λ s. IfOk result (λ bytes.
+        bytes.items ≡ message_bytes plan.now.script s number values.now)) }
+    ensures size { OfStep plan.now.script.steps step (λ s. IfOk result (λ bytes.
+        length bytes.items ≡ size_under plan.now.script s number values.now)) }
     ensures short { IfOk result (λ bytes. length bytes.items < MAX_BYTES) }
-    ensures view { OfStep plan.now.script.steps step (λ s. IfOk result (λ bytes. IsMessage bytes.items (message_view plan.now.script s number values.now))) }
+    ensures view { OfStep plan.now.script.steps step (λ s. IfOk result (λ bytes.
+        IsMessage bytes.items (message_view plan.now.script s number values.now))) }
 {
     let step = plan.step(step);
     let filling = Filling::new(alloc, plan.fields(), values.pairs(), number)?;

@@ -35,7 +35,9 @@ fn follow(plan: &Plan, here: Visit, answer: &Answer) -> Option<Visit>
     requires to { here.step ≤ length plan.now.script.steps }
     requires number { here.number < MAX_NUMBER }
     requires times { here.times ≤ 99 }
-    ensures { MatchOption result (Finishes plan.now.script.steps here answer.now) (Follows plan.now.script.steps here answer.now) }
+    ensures { MatchOption result
+        (Finishes plan.now.script.steps here answer.now)
+        (Follows plan.now.script.steps here answer.now) }
 {
     let step = plan.step(usize::from(here.step));
     match step.choose(answer.codes()) {

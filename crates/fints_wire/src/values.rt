@@ -13,7 +13,8 @@ fn push_longest<F: FieldClass>(
     name: Name,
     class: &F,
 ) -> Result<(), Memory>
-    ensures { OnOk result (values.new ≡ values.old ++ record { name = name; value = F.longest class.now } ∷ []) }
+    ensures { OnOk result (
+        values.new ≡ values.old ++ record { name = name; value = F.longest class.now } ∷ []) }
 {
     let value = class.longest(alloc)?;
     values.push(name, value.as_slice())?;
@@ -26,7 +27,8 @@ fn push_shortest<F: FieldClass>(
     name: Name,
     class: &F,
 ) -> Result<(), Memory>
-    ensures { OnOk result (values.new ≡ values.old ++ record { name = name; value = F.shortest class.now } ∷ []) }
+    ensures { OnOk result (
+        values.new ≡ values.old ++ record { name = name; value = F.shortest class.now } ∷ []) }
 {
     let value = class.shortest(alloc)?;
     values.push(name, value.as_slice())?;

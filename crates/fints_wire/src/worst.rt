@@ -76,8 +76,10 @@ fn count_element(plan: &Plan, number: u32, items: &[TemplateItem], before: u64) 
 }
 
 fn count_elements(plan: &Plan, number: u32, elements: &[Vec<TemplateItem>], before: u64) -> u64
-    requires { before + elements_len (longest_sizes plan.now.script.fields number) (map (λ v. v.items) elements.now) < 2 ^ 63 }
-    ensures { result ≡ before + elements_len (longest_sizes plan.now.script.fields number) (map (λ v. v.items) elements.now) }
+    requires { before + elements_len (longest_sizes plan.now.script.fields number)
+        (map (λ v. v.items) elements.now) < 2 ^ 63 }
+    ensures { result ≡ before + elements_len (longest_sizes plan.now.script.fields number)
+        (map (λ v. v.items) elements.now) }
 {
     let mut size = before;
     for items in elements {
@@ -115,7 +117,8 @@ fn segments_size<'a>(plan: &'a Plan<'a>, step: &'a Step, number: u32) -> u64
     requires sound { IsSound plan.now.script }
     requires step { IsSoundStep plan.now.script step.now }
     requires number { number ≤ MAX_NUMBER }
-    ensures { result ≡ segments_len (longest_sizes plan.now.script.fields number) 2 (templates_of plan.now.script step.now) }
+    ensures { result ≡ segments_len (longest_sizes plan.now.script.fields number) 2
+        (templates_of plan.now.script step.now) }
 {
     let mut size = 0u64;
     for i in 0..part_count(step) {
@@ -126,8 +129,10 @@ fn segments_size<'a>(plan: &'a Plan<'a>, step: &'a Step, number: u32) -> u64
 }
 
 fn seal_size(plan: &Plan, number: u32, before: u64) -> u64
-    requires { before + elements_len (longest_sizes plan.now.script.fields number) (seal_of plan.now.script) < 2 ^ 63 }
-    ensures { result ≡ before + elements_len (longest_sizes plan.now.script.fields number) (seal_of plan.now.script) }
+    requires { before + elements_len (longest_sizes plan.now.script.fields number)
+        (seal_of plan.now.script) < 2 ^ 63 }
+    ensures { result ≡ before + elements_len (longest_sizes plan.now.script.fields number)
+        (seal_of plan.now.script) }
 {
     match plan.seal() {
         Some(seal) => count_elements(plan, number, seal.as_slice(), before),
@@ -178,7 +183,8 @@ fn message_size<'a>(plan: &'a Plan<'a>, step: &'a Step, number: u32) -> u64
     requires sound { IsSound plan.now.script }
     requires step { IsSoundStep plan.now.script step.now }
     requires number { number ≤ MAX_NUMBER }
-    ensures { result ≡ message_len plan.now.script step.now (longest_sizes plan.now.script.fields number) number }
+    ensures { result ≡ message_len plan.now.script step.now (longest_sizes plan.now.script.fields number)
+        number }
 {
     let middle = middle_size(plan, step, number);
     let dialog = dialog_size(plan, number);
@@ -191,7 +197,8 @@ pub fn worst_size(plan: &Plan, step: usize, number: u32) -> u64
     requires to { step ≤ length plan.now.script.steps }
     requires first { 1 ≤ number }
     requires last { number ≤ MAX_NUMBER }
-    ensures attained { (s : StepValue) → numbered plan.now.script.steps step ≡ Some s → result ≡ length (longest_message plan.now.script s number) }
+    ensures attained { (s : StepValue) → numbered plan.now.script.steps step ≡ Some s
+        → result ≡ length (longest_message plan.now.script s number) }
     ensures most { NoneIsLonger plan.now.script step number result }
     ensures short { result < MAX_BYTES }
 {
