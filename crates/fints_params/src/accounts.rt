@@ -58,7 +58,8 @@ fn is_blank(items: &ElementRef<'_>) -> bool
 // Adds the entry that the element is. The answer is how many elements are skipped and counted: 1
 // where it is neither an entry nor empty.
 fn take_element(items: &ElementRef<'_>, entries: &mut Vec<Entry>) -> Result<usize, AllocError>
-    ensures entries { IfOk result (λ _. entries.new.items ≡ entries.old.items ++ cons_option (entry_of items.now) []) }
+    ensures entries { IfOk result
+        (λ _. entries.new.items ≡ entries.old.items ++ cons_option (entry_of items.now) []) }
     ensures skipped { IfOk result (λ n. n ≡ count_by is_odd_element (items.now ∷ [])) }
 {
     match read_entry(items) {

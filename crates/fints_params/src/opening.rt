@@ -12,6 +12,7 @@ use crate::placed::PlacedSegment;
 use fints_syntax::{
     Elements, ItemRef, OwnedSegment, SegmentView, SyntaxFault, parse_all, place_of,
 };
+use fints_syntax_segments::HNVSD_VERSION;
 use std::alloc::Global;
 
 /// What reads segments one after the other, until one is refused.
@@ -32,7 +33,7 @@ pub trait SegmentTaker {
 fn is_sealed(segment: &OwnedSegment) -> bool
     ensures { result ≡ is_sealed segment.now }
 {
-    segment.is_named(b"HNVSD", 1)
+    segment.is_named(b"HNVSD", HNVSD_VERSION)
 }
 
 // The data of an HNVSD, where item 1 of its element 2 is binary.
@@ -69,7 +70,8 @@ fn add_all<R: SegmentTaker>(
     reader: &mut R,
 ) -> Result<(), ParamFault>
     ensures ok { IfOk result (λ _. Continues R.good reader.old reader.new (segments_of views.now)) }
-    ensures stopped { IfErr result (λ f. IsMemoryOr (StopsIn R.rule R.good reader.old (segments_of views.now)) f) }
+    ensures stopped { IfErr result
+        (λ f. IsMemoryOr (StopsIn R.rule R.good reader.old (segments_of views.now)) f) }
 {
     let mut elements = Elements::new(alloc);
     for view in views {
@@ -88,7 +90,8 @@ fn add_sealed<R: SegmentTaker>(
 ) -> Result<Elements, ParamFault>
     requires { is_sealed placed.segment ≡ true }
     ensures ok { IfOk result (λ _. ContinuesOver R.good reader.old reader.new placed.segment) }
-    ensures stopped { IfErr result (λ f. IsMemoryOr (StopsAt R.rule R.good reader.old placed.segment placed.place) f) }
+    ensures stopped { IfErr result
+        (λ f. IsMemoryOr (StopsAt R.rule R.good reader.old placed.segment placed.place) f) }
 {
     let views = open(alloc, &placed)?;
     add_all(alloc, views.as_slice(), reader)?;
@@ -106,8 +109,10 @@ pub fn add_view<R: SegmentTaker>(
     reader: &mut R,
 ) -> Result<Elements, ParamFault>
     requires { EndsWithin (record { start = start; segment = view.now }) }
-    ensures ok { IfOk result (λ _. ReadsNext R.good reader.old reader.new (record { start = start; segment = view.now })) }
-    ensures stopped { IfErr result (λ f. IsMemoryOr (StopsNext R.rule R.good reader.old (record { start = start; segment = view.now })) f) }
+    ensures ok { IfOk result (λ _. ReadsNext R.good reader.old reader.new
+        (record { start = start; segment = view.now })) }
+    ensures stopped { IfErr result (λ f. IsMemoryOr
+        (StopsNext R.rule R.good reader.old (record { start = start; segment = view.now })) f) }
 {
     let segment = view.to_owned_in(elements)?;
     if !is_sealed(&segment) {

@@ -41,8 +41,10 @@ impl<R: SegmentTaker + Drop> Reading<R> {
     fn read(&mut self, start: usize, segment: &SegmentView<'_>) -> Result<(), ParamFault>
         requires { EndsWithin (record { start = start; segment = segment.now }) }
         ensures kept { self.new.refused ≡ self.old.refused }
-        ensures ok { IfOk result (λ _. ReadsNext R.good self.old.reader self.new.reader (record { start = start; segment = segment.now })) }
-        ensures stopped { IfErr result (λ f. IsMemoryOr (StopsNext R.rule R.good self.old.reader (record { start = start; segment = segment.now })) f) }
+        ensures ok { IfOk result (λ _. ReadsNext R.good self.old.reader self.new.reader
+            (record { start = start; segment = segment.now })) }
+        ensures stopped { IfErr result (λ f. IsMemoryOr
+            (StopsNext R.rule R.good self.old.reader (record { start = start; segment = segment.now })) f) }
     {
         let elements = replace(&mut self.elements, Elements::new(self.alloc));
         self.elements = add_view(self.alloc, start, segment, elements, &mut self.reader)?;

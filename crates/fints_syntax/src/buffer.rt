@@ -133,7 +133,8 @@ impl StreamBuffer {
 
     /// Forgets how far the bytes are read, so that the next piece has them read anew.
     pub fn read_anew(&mut self)
-        ensures kept { (self.new.bytes ≡ self.old.bytes) × (self.new.at ≡ self.old.at) × (self.new.failed ≡ self.old.failed) }
+        ensures kept { (self.new.bytes ≡ self.old.bytes) × (self.new.at ≡ self.old.at)
+            × (self.new.failed ≡ self.old.failed) }
         ensures unread { IsUnread self.new.to }
     {
         self.to = read_nothing();
@@ -166,7 +167,8 @@ impl StreamBuffer {
     /// Whether the stream may end behind the bytes, all of which are read, or where the segment begins
     /// that doesn't end in them.
     pub fn begun_at(&self) -> Option<usize>
-        ensures { MatchOption result (length self.now.bytes ≤ read_end self.now.to) (λ offset. (read_end self.now.to < length self.now.bytes) × (offset ≡ self.now.at + read_end self.now.to)) }
+        ensures { MatchOption result (length self.now.bytes ≤ read_end self.now.to) (λ offset.
+            (read_end self.now.to < length self.now.bytes) × (offset ≡ self.now.at + read_end self.now.to)) }
     {
         let end = self.to.whole + self.to.rest.gap;
         if end < self.bytes.len() {

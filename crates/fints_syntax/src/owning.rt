@@ -69,7 +69,8 @@ fn skip_element(cursor: &mut Cursor<'_>)
 /// The values of the elements after the head, in one pass, in place of what was held.
 pub fn fill(filling: &mut Filling, source: &[u8]) -> Result<(), Memory>
     requires { IsFrameText source.now }
-    ensures { OnOk result (filling.new ≡ record { elements = drop 1 (values_of (read_segment source.now)); items = [] }) }
+    ensures { OnOk result (filling.new
+        ≡ record { elements = drop 1 (values_of (read_segment source.now)); items = [] }) }
 {
     filling.clear();
     let mut cursor = cursor_over(source);

@@ -54,7 +54,8 @@ pub trait Taker {
     /// Takes a segment, and the offset in the stream at which it starts.
     fn take(&mut self, start: usize, segment: &SegmentView<'_>) -> Result<(), Memory>
         requires { start + length (segment_bytes segment.now) ≤ MAX_CAPTURE }
-        ensures { OnOk result ((seen : List Placed) → good seen self.old → good (seen ++ record { start = start; segment = segment.now } ∷ []) self.new) };
+        ensures { OnOk result ((seen : List Placed) → good seen self.old
+            → good (seen ++ record { start = start; segment = segment.now } ∷ []) self.new) };
 }
 
 /// The offset of item 1 of element 2 of a segment that starts at `start`, counted from where that

@@ -52,7 +52,8 @@ pub trait Valued {
         ensures kept { OnErr result (KeepsFront out.old.items out.new.items) };
 
     fn is_binary(&self) -> bool
-        ensures { owned self.now ≡ cond result (Bin (item_value (owned self.now))) (Text (item_value (owned self.now))) };
+        ensures { owned self.now ≡ cond result (Bin (item_value (owned self.now)))
+            (Text (item_value (owned self.now))) };
 }
 
 impl Filling {
@@ -80,7 +81,8 @@ impl Filling {
 
     /// Adds an item to the element that is not whole yet.
     pub fn add<V: Valued>(&mut self, item: &V) -> Result<(), Memory>
-        ensures added { OnOk result (self.new ≡ record { elements = self.old.elements; items = self.old.items ++ V.owned item.now ∷ [] }) }
+        ensures added { OnOk result (self.new
+            ≡ record { elements = self.old.elements; items = self.old.items ++ V.owned item.now ∷ [] }) }
         ensures unchanged { OnErr result (self.new ≡ self.old) }
     {
         let start = self.bytes.len();
@@ -94,7 +96,8 @@ impl Filling {
     /// The element is whole.
     pub fn close(&mut self) -> Result<(), Memory>
         requires { 0 < length self.old.items }
-        ensures closed { OnOk result (self.new ≡ record { elements = self.old.elements ++ self.old.items ∷ []; items = [] }) }
+        ensures closed { OnOk result (self.new
+            ≡ record { elements = self.old.elements ++ self.old.items ∷ []; items = [] }) }
         ensures unchanged { OnErr result (self.new ≡ self.old) }
     {
         let first = self.open;

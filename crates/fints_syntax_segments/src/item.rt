@@ -120,7 +120,8 @@ impl Elements {
 fn push_element(filling: &mut Filling, items: &[OwnedItem]) -> Result<(), Memory>
     requires some { 0 < length items.now }
     requires whole { filling.old.items ≡ [] }
-    ensures added { OnOk result (filling.new ≡ record { elements = filling.old.elements ++ items.now ∷ []; items = [] }) }
+    ensures added { OnOk result (filling.new
+        ≡ record { elements = filling.old.elements ++ items.now ∷ []; items = [] }) }
     ensures kept { OnErr result (filling.new.elements ≡ filling.old.elements) }
 {
     for item in items {

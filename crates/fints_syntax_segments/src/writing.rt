@@ -161,7 +161,8 @@ fn append_text_item(out: &mut Vec<u8>, value: &[u8], end: u8) -> Result<(), Memo
 }
 
 fn append_number(out: &mut Vec<u8>, n: u16, end: u8) -> Result<(), Memory>
-    ensures written { OnOk result (out.new.items ≡ out.old.items ++ (written (Text (decimal n)) ++ end ∷ [])) }
+    ensures written { OnOk result
+        (out.new.items ≡ out.old.items ++ (written (Text (decimal n)) ++ end ∷ [])) }
     ensures kept { OnErr result (KeepsFront out.old.items out.new.items) }
 {
     let mut buffer = Buffer::new();
