@@ -18,15 +18,19 @@ use Rattle.fints_params.proofs.Fine.{each_bad_element, each_bad_code, some_pins}
 use Rattle.fints_params.proofs.Refusing.{refused_later}
 use Rattle.fints_params.proofs.Viewed.{refused_among}
 
-pub codes_kept : (refused : Option ParamFault) (numbers : List ℕ) (s : OwnedSegment) → is_some refused ≡ true → (seen : List OwnedSegment) → CodesRead seen refused numbers → CodesRead (seen ++ s ∷ []) refused numbers
+pub codes_kept : (refused : Option ParamFault) (numbers : List ℕ) (s : OwnedSegment) → is_some refused ≡ true
+    → (seen : List OwnedSegment) → CodesRead seen refused numbers → CodesRead (seen ++ s ∷ []) refused numbers
 codes_kept None numbers s e = absurd cc
 codes_kept (Some f) numbers s e = λ seen h. refused_later feedback_fault [] [] seen (s ∷ []) f h
 
-pub codes_next : (refused : Option ParamFault) (old new : List ℕ) (s : OwnedSegment) → is_some refused ≡ false → Continues CodesSoFar old new (s ∷ []) → (seen : List OwnedSegment) → CodesRead seen refused old → CodesRead (seen ++ s ∷ []) refused new
+pub codes_next : (refused : Option ParamFault) (old new : List ℕ) (s : OwnedSegment) → is_some refused ≡ false
+    → Continues CodesSoFar old new (s ∷ []) → (seen : List OwnedSegment) → CodesRead seen refused old
+    → CodesRead (seen ++ s ∷ []) refused new
 codes_next None old new s e k = λ seen h. k seen h
 codes_next (Some f) old new s e k = absurd cc
 
-pub codes_refused : (refused : Option ParamFault) (old new : List ℕ) (s : OwnedSegment) (f : ParamFault) → is_some refused ≡ false → f ≢ Memory → IsMemoryOr (StopsIn feedback_fault CodesSoFar old (s ∷ [])) f
+pub codes_refused : (refused : Option ParamFault) (old new : List ℕ) (s : OwnedSegment) (f : ParamFault)
+    → is_some refused ≡ false → f ≢ Memory → IsMemoryOr (StopsIn feedback_fault CodesSoFar old (s ∷ [])) f
     → (seen : List OwnedSegment) → CodesRead seen refused old → CodesRead (seen ++ s ∷ []) (Some f) new
 codes_refused (Some g) old new s f e n m = absurd cc
 codes_refused None old new s f e n (inl m) = absurd (n m)
@@ -43,14 +47,19 @@ code_fault capture segments (Some g) numbers f e o h =
     let first = subst (λ (x : ParamFault). IsFirstRefused feedback_fault [] segments x) same h in
     inr (o.short, placed, v, refused_among feedback_fault [] placed [] segments f refl all first)
 
-pub params_of : (capture : List ℕ) (segments : List OwnedSegment) (g : Gathered) (rows : Rows) → AreSegmentsOf capture segments → ParamsSoFar segments g → end_fault segments ≡ None → IsRowsOf segments rows → IsParamsOf capture rows
+pub params_of : (capture : List ℕ) (segments : List OwnedSegment) (g : Gathered) (rows : Rows)
+    → AreSegmentsOf capture segments → ParamsSoFar segments g → end_fault segments ≡ None
+    → IsRowsOf segments rows → IsParamsOf capture rows
 params_of capture segments g rows o h complete are =
     record { segments = segments; opened = o; each = each_bad_element segments h.none; has_pins = some_pins segments complete; rows_are = are }
 
-pub missing : (capture : List ℕ) (segments : List OwnedSegment) (g : Gathered) (f : ParamFault) → AreSegmentsOf capture segments → ParamsSoFar segments g → end_fault segments ≡ Some f → IsParamFault capture f
+pub missing : (capture : List ℕ) (segments : List OwnedSegment) (g : Gathered) (f : ParamFault)
+    → AreSegmentsOf capture segments → ParamsSoFar segments g → end_fault segments ≡ Some f
+    → IsParamFault capture f
 missing capture segments g f o h e = inr (segments, o, h.none, e)
 
-pub codes_are : (message : List ℕ) (segments : List OwnedSegment) (numbers : List ℕ) → AreSegmentsOf message segments → CodesSoFar segments numbers → IsCodesOf message numbers
+pub codes_are : (message : List ℕ) (segments : List OwnedSegment) (numbers : List ℕ)
+    → AreSegmentsOf message segments → CodesSoFar segments numbers → IsCodesOf message numbers
 codes_are message segments numbers o h = record { segments = segments; opened = o; each = each_bad_code segments h.none; numbers_are = h.numbers_are }
 
 pub params_read : (capture : List ℕ) (segments : List OwnedSegment) (g : Gathered) (r : Result Rows ParamFault) → AreSegmentsOf capture segments → ParamsSoFar segments g
@@ -59,6 +68,8 @@ pub params_read : (capture : List ℕ) (segments : List OwnedSegment) (g : Gathe
 params_read capture segments g (Ok rows) o h complete are = params_of capture segments g rows o h (complete segments h.rows) (are segments h.rows)
 params_read capture segments g (Err f) o h complete are = complete
 
-pub codes_ended : (segments : List OwnedSegment) (refused : Option ParamFault) (numbers : List ℕ) → ((f : ParamFault) → refused ≡ Some f → ⊥) → CodesRead segments refused numbers → CodesSoFar segments numbers
+pub codes_ended : (segments : List OwnedSegment) (refused : Option ParamFault) (numbers : List ℕ)
+    → ((f : ParamFault) → refused ≡ Some f → ⊥) → CodesRead segments refused numbers
+    → CodesSoFar segments numbers
 codes_ended segments None numbers n h = h
 codes_ended segments (Some f) numbers n h = absurd (n f refl)

@@ -24,10 +24,12 @@ use Rattle.fints_syntax.proofs.Streams.{begun_goes_on, read_splits}
 use Rattle.fints_params.proofs.Viewed.{views_none, views_push, views_stopped, views_stay}
 
 -- how many bytes the whole segments take
-whole_is : (bytes : List ℕ) (placed : List Placed) (to : ReadTo) → IsReadTo bytes placed to → whole_len bytes (drop to.whole bytes) ≡ to.whole
+whole_is : (bytes : List ℕ) (placed : List Placed) (to : ReadTo) → IsReadTo bytes placed to
+    → whole_len bytes (drop to.whole bytes) ≡ to.whole
 whole_is bytes placed to h = omega (arith, h.within, length-drop to.whole bytes)
 
-pub read_on : (front more : List ℕ) (placed next : List Placed) (to read : ReadTo) → IsReadTo front placed to → IsReadTo (drop to.whole (front ++ more)) next read
+pub read_on : (front more : List ℕ) (placed next : List Placed) (to read : ReadTo) → IsReadTo front placed to
+    → IsReadTo (drop to.whole (front ++ more)) next read
     → IsReadTo (front ++ more) (placed ++ moved_by to.whole next) (record { whole = to.whole + read.whole; rest = read.rest })
 read_on front more placed next to read h g =
     let bytes = front ++ more in
@@ -44,7 +46,8 @@ read_on front more placed next to read h g =
       unended = subst (λ (xs : List ℕ). IsBegun (drop read.rest.gap xs)) left k.unended;
     }
 
-pub syntax_from : (kind : SyntaxKind) (o : ℕ) → kind ≢ kinds.Memory → fault_from kind o ≡ Syntax (record { kind = kind; offset = o })
+pub syntax_from : (kind : SyntaxKind) (o : ℕ) → kind ≢ kinds.Memory
+    → fault_from kind o ≡ Syntax (record { kind = kind; offset = o })
 syntax_from kinds.Memory o n = absurd (n refl)
 syntax_from kinds.BadBinary o n = refl
 syntax_from kinds.TooLong o n = refl
@@ -53,17 +56,22 @@ syntax_from kinds.BadHead o n = refl
 syntax_from kinds.CaptureTooLong o n = refl
 syntax_from kinds.Failed o n = refl
 
-rest_is : (front more bytes rest : List ℕ) (to : ReadTo) (placed : List Placed) → bytes ≡ front ++ more → rest ≡ drop to.whole bytes → IsReadTo front placed to → rest ≡ drop to.whole front ++ more
+rest_is : (front more bytes rest : List ℕ) (to : ReadTo) (placed : List Placed) → bytes ≡ front ++ more
+    → rest ≡ drop to.whole bytes → IsReadTo front placed to → rest ≡ drop to.whole front ++ more
 rest_is front more bytes rest to placed e back h = back ∙ ap (drop to.whole) e ∙ drop-append-le to.whole front more h.within
 
 -- what is looked at of the rest
-pub ready_at : (front more bytes rest : List ℕ) (to : ReadTo) (placed : List Placed) → bytes ≡ front ++ more → rest ≡ drop to.whole bytes → length front ≤ MAX_CAPTURE → IsReadTo front placed to → IsReady (take (MAX_CAPTURE - to.whole) rest) to.rest
+pub ready_at : (front more bytes rest : List ℕ) (to : ReadTo) (placed : List Placed) → bytes ≡ front ++ more
+    → rest ≡ drop to.whole bytes → length front ≤ MAX_CAPTURE → IsReadTo front placed to
+    → IsReady (take (MAX_CAPTURE - to.whole) rest) to.rest
 ready_at front more bytes rest to placed e back short h =
     let own = begun_goes_on (drop to.whole front) more (MAX_CAPTURE - to.whole) to.rest h.ready (omega (arith, short, length-drop to.whole front)) in
     subst (λ (xs : List ℕ). IsReady (take (MAX_CAPTURE - to.whole) xs) to.rest) (sym (rest_is front more bytes rest to placed e back h)) own
 
 -- no byte is read
-pub come_none : {S : Type 0} (rule : Rule) (Good : List OwnedSegment → S → Type 0) (state : S) (b : Begun) → ((rest : List ℕ) → IsReady rest b) → Good [] state → HasCome rule Good [] (record { whole = 0; rest = b }) None state
+pub come_none : {S : Type 0} (rule : Rule) (Good : List OwnedSegment → S → Type 0) (state : S) (b : Begun)
+    → ((rest : List ℕ) → IsReady rest b) → Good [] state
+    → HasCome rule Good [] (record { whole = 0; rest = b }) None state
 come_none rule Good state b fresh g =
     let e : drop {A = ℕ} b.gap [] ≡ [] = drop_all {X = ℕ} b.gap [] (omega arith) in
     record {
@@ -88,7 +96,8 @@ come_on rule Good front more bytes rest to read before after a b next e back h k
     }
 
 -- a fault of the rest with more bytes is the stream's
-pub piece_fault : (front more : List ℕ) (placed : List Placed) (to : ReadTo) (f : SyntaxFault) (o : ℕ) → length front ≤ MAX_CAPTURE → IsReadTo front placed to → f.offset ≡ to.whole + o
+pub piece_fault : (front more : List ℕ) (placed : List Placed) (to : ReadTo) (f : SyntaxFault) (o : ℕ)
+    → length front ≤ MAX_CAPTURE → IsReadTo front placed to → f.offset ≡ to.whole + o
     → PieceFaultAt (MAX_CAPTURE - to.whole) f.kind o (drop to.whole (front ++ more)) → PieceFaultAt MAX_CAPTURE f.kind f.offset (front ++ more)
 piece_fault front more placed to f o short h is p =
     let rest = drop to.whole front in
@@ -100,7 +109,8 @@ piece_fault front more placed to f o short h is p =
     let at : whole_len front rest + o ≡ f.offset = omega (arith, n, is) in
     subst (λ (k : ℕ). PieceFaultAt MAX_CAPTURE f.kind k (front ++ more)) at (subst (λ (k : ℕ). PieceFaultAt k f.kind (whole_len front rest + o) (front ++ more)) limit all)
 
-pub stream_fault : (front more : List ℕ) (placed : List Placed) (to : ReadTo) (f : SyntaxFault) → length front ≤ MAX_CAPTURE → IsReadTo front placed to
+pub stream_fault : (front more : List ℕ) (placed : List Placed) (to : ReadTo) (f : SyntaxFault)
+    → length front ≤ MAX_CAPTURE → IsReadTo front placed to
     → IsStreamFault to.whole (drop to.whole (front ++ more)) f → IsMemoryOr (IsPieceFault (front ++ more)) (as_param_fault f)
 stream_fault front more placed to f short h (inl m) = inl (ap as_param_fault m)
 stream_fault front more placed to f short h (inr (o, is, p)) =
@@ -138,7 +148,9 @@ end_refused rule Good bytes to (Some g) state f e h le =
     let same : g ≡ f = cc in
     subst (IsRefusedOf rule bytes) same (inr (h.short, h.placed, whole rule Good bytes to (Some g) state h le, h.segments))
 
-cut_faults : (bytes : List ℕ) (placed : List Placed) (gap begun : List ℕ) (o : ℕ) → ReadsPlaced bytes placed (gap ++ begun) → AllByRecursion IsBreak gap → IsBegun begun → 0 < length begun → o + length begun ≡ length bytes → FaultsAt bytes kinds.Incomplete o
+cut_faults : (bytes : List ℕ) (placed : List Placed) (gap begun : List ℕ) (o : ℕ)
+    → ReadsPlaced bytes placed (gap ++ begun) → AllByRecursion IsBreak gap → IsBegun begun → 0 < length begun
+    → o + length begun ≡ length bytes → FaultsAt bytes kinds.Incomplete o
 cut_faults bytes placed gap [] o r breaks u some at = absurd (omega (arith, some))
 cut_faults bytes placed gap (b ∷ bs) o r breaks u some at = record { placed = placed; gap = gap; first = b; more = bs; breaks = breaks; no_break = u.0; reads = r; at = 0; fault = u.1; offset_is = omega (arith, at) }
 

@@ -3,14 +3,17 @@ use Rattle.std.proofs.Common.{◌≡◌, ◌⊎◌, ℕ, ◌+◌, ◌<◌, List,
 use Rattle.std.proofs.lemmas.List.{take_more, drop_more, take-append-drop}
 
 -- the item at i
-pub split_at : {A : Type 0} (xs : List A) (i : ℕ) (x : A) → i < length xs → x ≡ get_or xs i x → xs ≡ take i xs ++ x ∷ drop (i + 1) xs
+pub split_at : {A : Type 0} (xs : List A) (i : ℕ) (x : A) → i < length xs → x ≡ get_or xs i x
+    → xs ≡ take i xs ++ x ∷ drop (i + 1) xs
 split_at xs i x lt e = sym (take-append-drop i xs) ∙ ap (λ ys. take i xs ++ ys) (drop_more xs i x lt ∙ ap (λ y. y ∷ drop (i + 1) xs) (sym e))
 
-pub next_is : {A : Type 0} (xs : List A) (i : ℕ) (x : A) → i < length xs → x ≡ get_or xs i x → take (i + 1) xs ≡ take i xs ++ x ∷ []
+pub next_is : {A : Type 0} (xs : List A) (i : ℕ) (x : A) → i < length xs → x ≡ get_or xs i x
+    → take (i + 1) xs ≡ take i xs ++ x ∷ []
 next_is xs i x lt e = take_more xs i x lt ∙ ap (λ y. take i xs ++ y ∷ []) (sym e)
 
 -- a place in a list with one more item is in the list, or is the item
-pub push_split : {A : Type 0} (xs before after : List A) (x at : A) → xs ++ x ∷ [] ≡ before ++ at ∷ after → ((before ≡ xs) × (at ≡ x)) ⊎ ((more : List A) × (xs ≡ before ++ at ∷ more))
+pub push_split : {A : Type 0} (xs before after : List A) (x at : A) → xs ++ x ∷ [] ≡ before ++ at ∷ after
+    → ((before ≡ xs) × (at ≡ x)) ⊎ ((more : List A) × (xs ≡ before ++ at ∷ more))
 push_split [] [] after x at e = inl (refl, cc)
 push_split [] (b ∷ []) after x at e = absurd cc
 push_split [] (b ∷ c ∷ bs) after x at e = absurd cc
@@ -42,7 +45,8 @@ pub data Order {A : Type 0} (bs cs : List A) (a c : A) : Type 0 where
   in_front : (more : List A) → cs ≡ bs ++ a ∷ more → Order bs cs a c
   behind : (more : List A) → bs ≡ cs ++ c ∷ more → Order bs cs a c
 
-pub order_of : {A : Type 0} (bs cs : List A) (a c : A) (x y : List A) → bs ++ a ∷ x ≡ cs ++ c ∷ y → Order bs cs a c
+pub order_of : {A : Type 0} (bs cs : List A) (a c : A) (x y : List A) → bs ++ a ∷ x ≡ cs ++ c ∷ y
+    → Order bs cs a c
 order_of [] [] a c x y e = let one : a ≡ c = cc in in_place refl one
 order_of [] (s ∷ cs) a c x y e = let one : a ≡ s = cc in in_front cs (ap (λ z. z ∷ cs) (sym one))
 order_of (s ∷ bs) [] a c x y e = let one : c ≡ s = cc in behind bs (ap (λ z. z ∷ bs) (sym one))

@@ -21,7 +21,8 @@ faults_within : (kind : SyntaxKind) (o : ℕ) (input : List ℕ) → FaultsAt in
 faults_within kind o input h = omega (arith, h.offset_is, kind_within kind h.at (h.first ∷ h.more) h.fault)
 
 -- a fault's offset lies in the bytes
-pub fault_within : (kind : SyntaxKind) (o : ℕ) (input : List ℕ) → CaptureFaultAt kind o input → o ≤ length input
+pub fault_within : (kind : SyntaxKind) (o : ℕ) (input : List ℕ) → CaptureFaultAt kind o input
+    → o ≤ length input
 fault_within Memory o input h = omega (arith, h)
 fault_within CaptureTooLong o input h = omega (arith, h.0, h.1)
 fault_within Failed o input h = absurd h.fault

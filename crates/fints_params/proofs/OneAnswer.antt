@@ -34,7 +34,8 @@ some_or_none (Some x) = inr (x, refl)
 
 -- ---- segments, none of which is refused, or the first that is
 
-pushed : (rule : Rule) (seen : List OwnedSegment) (s : OwnedSegment) (ss : List OwnedSegment) (f : ParamFault) → IsFirstRefused rule (seen ++ s ∷ []) ss f → IsFirstRefused rule seen (s ∷ ss) f
+pushed : (rule : Rule) (seen : List OwnedSegment) (s : OwnedSegment) (ss : List OwnedSegment) (f : ParamFault)
+    → IsFirstRefused rule (seen ++ s ∷ []) ss f → IsFirstRefused rule seen (s ∷ ss) f
 pushed rule seen s ss f r =
     let e = append_assoc seen (s ∷ []) r.before in
     record {
@@ -46,7 +47,8 @@ pushed rule seen s ss f r =
       fault = ap (λ (xs : List OwnedSegment). rule xs r.at) (sym e) ∙ r.fault;
     }
 
-among : (rule : Rule) (seen mine : List OwnedSegment) → NoneRefused rule seen → NoneRefused rule (seen ++ mine) ⊎ ((f : ParamFault) × IsFirstRefused rule seen mine f)
+among : (rule : Rule) (seen mine : List OwnedSegment) → NoneRefused rule seen
+    → NoneRefused rule (seen ++ mine) ⊎ ((f : ParamFault) × IsFirstRefused rule seen mine f)
 among rule seen [] none = inl (subst (NoneRefused rule) (sym (append-nil seen)) none)
 among rule seen (s ∷ ss) none =
     elim (some_or_none (rule seen s)) [
@@ -78,14 +80,16 @@ opens_among rule seen s place mine none o =
       | inr r ↦ inr (r.0, inl (mine, o, r.1))
     ]
 
-opens_data : (rule : Rule) (seen : List OwnedSegment) (s : OwnedSegment) (place : ℕ) (bytes : List ℕ) → NoneRefused rule seen → is_sealed s ≡ true → data_of s ≡ Some bytes → Opens rule seen s place
+opens_data : (rule : Rule) (seen : List OwnedSegment) (s : OwnedSegment) (place : ℕ) (bytes : List ℕ)
+    → NoneRefused rule seen → is_sealed s ≡ true → data_of s ≡ Some bytes → Opens rule seen s place
 opens_data rule seen s place bytes none e d =
     elim (capture_or_fault bytes) [
       | inl h ↦ opens_among rule seen s place (values_in h.1) none (inr (e, bytes, d, (map (λ p. p.segment) h.1, (h.1, h.2, refl), refl)))
       | inr h ↦ inr (Syntax (record { kind = h.0.kind; offset = place + h.0.offset }), inr (e, inr (bytes, h.0, d, (h.1, h.2), refl)))
     ]
 
-opens : (rule : Rule) (seen : List OwnedSegment) (s : OwnedSegment) (place : ℕ) → NoneRefused rule seen → Opens rule seen s place
+opens : (rule : Rule) (seen : List OwnedSegment) (s : OwnedSegment) (place : ℕ) → NoneRefused rule seen
+    → Opens rule seen s place
 opens rule seen s place none =
     elim (cases_Bool (is_sealed s)) [
       | inl e ↦ elim (some_or_none (data_of s)) [
@@ -98,7 +102,8 @@ opens rule seen s place none =
 abbrev Reads : Rule → List Placed → Type 0
 Reads rule placed = ((segments : List OwnedSegment) × OpenTo (values_in placed) segments × NoneRefused rule segments) ⊎ ((f : ParamFault) × IsRefusedIn rule placed f)
 
-reads : (rule : Rule) (front placed : List Placed) (seen : List OwnedSegment) → OpenTo (values_in front) seen → NoneRefused rule seen → Reads rule (front ++ placed)
+reads : (rule : Rule) (front placed : List Placed) (seen : List OwnedSegment) → OpenTo (values_in front) seen
+    → NoneRefused rule seen → Reads rule (front ++ placed)
 reads rule front [] seen o none = inl (seen, subst (λ (ps : List Placed). OpenTo (values_in ps) seen) (sym (append-nil front)) o, none)
 reads rule front (p ∷ ps) seen o none =
     elim (opens rule seen (segment_of p.segment) (data_place p) none) [
@@ -106,7 +111,8 @@ reads rule front (p ∷ ps) seen o none =
       | inr r ↦ inr (r.0, record { front = front; at = p; back = ps; split = refl; seen = seen; opened = o; none = none; refused = r.1 })
     ]
 
-accepted_or_refused : (rule : Rule) (capture : List ℕ) → ((segments : List OwnedSegment) × AreSegmentsOf capture segments × NoneRefused rule segments) ⊎ ((f : ParamFault) × IsRefusedOf rule capture f)
+accepted_or_refused : (rule : Rule) (capture : List ℕ)
+    → ((segments : List OwnedSegment) × AreSegmentsOf capture segments × NoneRefused rule segments) ⊎ ((f : ParamFault) × IsRefusedOf rule capture f)
 accepted_or_refused rule capture =
     elim (capture_or_fault capture) [
       | inl h ↦ elim (reads rule [] h.1 [] refl (none_nil rule)) [
@@ -130,29 +136,36 @@ longer : {A : Type 0} (xs ys : List A) → is_empty xs ≡ false → is_empty (x
 longer [] ys e = absurd cc
 longer (x ∷ xs) ys e = refl
 
-ends_some : (xs : List OwnedSegment) (s : OwnedSegment) → is_bank s ≡ true → is_empty (xs ++ filter is_bank (s ∷ [])) ≡ false
+ends_some : (xs : List OwnedSegment) (s : OwnedSegment) → is_bank s ≡ true
+    → is_empty (xs ++ filter is_bank (s ∷ [])) ≡ false
 ends_some [] s e = rw e refl
 ends_some (x ∷ xs) s e = refl
 
-has_bank : (banks pins : Bool) → (if banks then Some NoBankParameters else (if pins then Some NoPinParameters else None)) ≡ None → banks ≡ false
+has_bank : (banks pins : Bool)
+    → (if banks then Some NoBankParameters else (if pins then Some NoPinParameters else None)) ≡ None
+    → banks ≡ false
 has_bank true pins e = absurd cc
 has_bank false pins e = refl
 
-second : (b : Bool) (before : List OwnedSegment) (s : OwnedSegment) → is_bank s ≡ b → is_empty (filter is_bank before) ≡ false → fault_after before s ≡ None → b ≡ false
+second : (b : Bool) (before : List OwnedSegment) (s : OwnedSegment) → is_bank s ≡ b
+    → is_empty (filter is_bank before) ≡ false → fault_after before s ≡ None → b ≡ false
 second false before s e some none = refl
 second true before s e some none = let clash : Some TwoBankParameters ≡ None = rw (e, some) at none in cc
 
-some_still : (before : List OwnedSegment) (s : OwnedSegment) → is_empty (filter is_bank before) ≡ false → is_empty (filter is_bank (before ++ s ∷ [])) ≡ false
+some_still : (before : List OwnedSegment) (s : OwnedSegment) → is_empty (filter is_bank before) ≡ false
+    → is_empty (filter is_bank (before ++ s ∷ [])) ≡ false
 some_still before s some = ap is_empty (filter-append is_bank before (s ∷ [])) ∙ longer (filter is_bank before) (filter is_bank (s ∷ [])) some
 
 -- behind a bank there is none
-none_behind : (before ss : List OwnedSegment) → NoneRefused fault_after (before ++ ss) → is_empty (filter is_bank before) ≡ false → filter is_bank ss ≡ []
+none_behind : (before ss : List OwnedSegment) → NoneRefused fault_after (before ++ ss)
+    → is_empty (filter is_bank before) ≡ false → filter is_bank ss ≡ []
 none_behind before [] none some = refl
 none_behind before (s ∷ ss) none some =
     let no = second (is_bank s) before s refl some (none before ss s refl) in
     rw no (none_behind (before ++ s ∷ []) ss (subst (NoneRefused fault_after) (sym (append_assoc before (s ∷ []) ss)) none) (some_still before s some))
 
-one_bank : (before ss : List OwnedSegment) → NoneRefused fault_after (before ++ ss) → is_empty (filter is_bank ss) ≡ false → (s : OwnedSegment) × (filter is_bank ss ≡ s ∷ [])
+one_bank : (before ss : List OwnedSegment) → NoneRefused fault_after (before ++ ss)
+    → is_empty (filter is_bank ss) ≡ false → (s : OwnedSegment) × (filter is_bank ss ≡ s ∷ [])
 one_bank before [] none some = absurd cc
 one_bank before (s ∷ ss) none some =
     let later = subst (NoneRefused fault_after) (sym (append_assoc before (s ∷ []) ss)) none in

@@ -45,12 +45,14 @@ pub come_all : {S : Type 0} (rule : Rule) (Good : List OwnedSegment → S → Ty
     → HasComeIn rule Good new.bytes new.to refused state
 come_all rule Good old piece next new refused state k h = (old.bytes ++ piece, [], ap (λ (x : Buffered). x.bytes) k.new_is ∙ sym (append-nil (old.bytes ++ piece)), h)
 
-pub start_stays : (failed : Option ℕ) (old : Buffered) (piece : List ℕ) (f : SyntaxFault) (new : Buffered) → IsUnfed failed old piece f new → new.at ≡ old.at
+pub start_stays : (failed : Option ℕ) (old : Buffered) (piece : List ℕ) (f : SyntaxFault) (new : Buffered)
+    → IsUnfed failed old piece f new → new.at ≡ old.at
 start_stays (Some o) old piece f new (is, same) = ap (λ (x : Buffered). x.at) same
 start_stays None old piece f new (inl (m, same)) = ap (λ (x : Buffered). x.at) same
 start_stays None old piece f new (inr (o, at, p, s)) = s.at
 
-pub unfailed : (failed : Option ℕ) (r : Option SyntaxFault) → r ≡ option_map syntax_failed_at failed → ((f : SyntaxFault) → r ≡ Some f → ⊥) → failed ≡ None
+pub unfailed : (failed : Option ℕ) (r : Option SyntaxFault) → r ≡ option_map syntax_failed_at failed
+    → ((f : SyntaxFault) → r ≡ Some f → ⊥) → failed ≡ None
 unfailed None r e n = refl
 unfailed (Some o) r e n = absurd (n (syntax_failed_at o) e)
 
@@ -87,21 +89,26 @@ pub not_received : {S : Type 0} (rule : Rule) (Good : List OwnedSegment → S �
 not_received rule Good old piece f new before a start h u = not_received_by rule Good old.failed old piece f new before a start h u
 
 -- why there are no parameters at the end
-pub unfinished : (failed : Option ℕ) (r : Received) (bytes : List ℕ) (f : ParamFault) → failed ≡ None → bytes ≡ r.bytes → IsMemoryOr (IsParamFault bytes) f → HasNoParams failed r f
+pub unfinished : (failed : Option ℕ) (r : Received) (bytes : List ℕ) (f : ParamFault) → failed ≡ None
+    → bytes ≡ r.bytes → IsMemoryOr (IsParamFault bytes) f → HasNoParams failed r f
 unfinished (Some o) r bytes f none e h = absurd cc
 unfinished None r bytes f none e h = subst (λ (xs : List ℕ). IsMemoryOr (IsParamFault xs) f) e h
 
 -- ---- all pieces
 
-received_all : (old : Received) (pieces : List (List ℕ)) (new : Received) → old.failed ≡ None → AreReceived old pieces new → new ≡ record { bytes = old.bytes ++ flat_map (λ p. p) pieces; failed = None }
+received_all : (old : Received) (pieces : List (List ℕ)) (new : Received) → old.failed ≡ None
+    → AreReceived old pieces new
+    → new ≡ record { bytes = old.bytes ++ flat_map (λ p. p) pieces; failed = None }
 received_all old [] new sound e = e ∙ λ i. record { bytes = sym (append-nil old.bytes) i; failed = sound i }
 received_all old (p ∷ ps) new sound (next, h, more) =
     let failed : next.failed ≡ None = ap (λ (r : Received). r.failed) h.kept in
     let bytes : next.bytes ++ flat_map (λ p. p) ps ≡ old.bytes ++ (p ++ flat_map (λ p. p) ps) = ap (λ (r : Received). r.bytes ++ flat_map (λ p. p) ps) h.kept ∙ append_assoc old.bytes p (flat_map (λ p. p) ps) in
     received_all next ps new failed more ∙ λ i. record { bytes = bytes i; failed = None }
 
-pub any_cutting : (pieces : List (List ℕ)) (new : Received) → AreReceived unread pieces new → new ≡ record { bytes = flat_map (λ p. p) pieces; failed = None }
+pub any_cutting : (pieces : List (List ℕ)) (new : Received) → AreReceived unread pieces new
+    → new ≡ record { bytes = flat_map (λ p. p) pieces; failed = None }
 any_cutting pieces new h = received_all unread pieces new refl h
 
-pub param_fault_of : (stream more : List ℕ) (f : ParamFault) → IsPieceFault stream f → IsParamFault (stream ++ more) f
+pub param_fault_of : (stream more : List ℕ) (f : ParamFault) → IsPieceFault stream f
+    → IsParamFault (stream ++ more) f
 param_fault_of stream more f (fault, h, e) = inl (inl (syntax_fault (stream ++ more) f (fault, fault_lasts stream more MAX_CAPTURE fault.offset fault.kind h, e)))

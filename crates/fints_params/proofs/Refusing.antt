@@ -16,7 +16,8 @@ use Rattle.fints_params.proofs.Lists.{split_at, next_is, push_split}
 pub none_nil : (rule : Rule) → NoneRefused rule []
 none_nil rule = λ before after at e. absurd (omega (arith, ap length e, length-append before (at ∷ after)))
 
-pub none_push : (rule : Rule) (xs : List OwnedSegment) (x : OwnedSegment) → NoneRefused rule xs → rule xs x ≡ None → NoneRefused rule (xs ++ x ∷ [])
+pub none_push : (rule : Rule) (xs : List OwnedSegment) (x : OwnedSegment) → NoneRefused rule xs
+    → rule xs x ≡ None → NoneRefused rule (xs ++ x ∷ [])
 none_push rule xs x h n = λ before after at e.
     elim (push_split xs before after x at e) [
       | inl w ↦ ap (λ b. rule b at) w.0 ∙ ap (λ y. rule xs y) w.1 ∙ n
@@ -28,7 +29,8 @@ pub none_front : (rule : Rule) (xs ys : List OwnedSegment) → NoneRefused rule 
 none_front rule xs ys h = λ before after at e.
     h before (after ++ ys) at (ap (λ (zs : List OwnedSegment). zs ++ ys) e ∙ append_assoc before (at ∷ after) ys)
 
-pub memory_or : (P Q : ParamFault → Type 0) (f : ParamFault) → ((g : ParamFault) → P g → Q g) → IsMemoryOr P f → IsMemoryOr Q f
+pub memory_or : (P Q : ParamFault → Type 0) (f : ParamFault) → ((g : ParamFault) → P g → Q g) → IsMemoryOr P f
+    → IsMemoryOr Q f
 memory_or P Q f k (inl e) = inl e
 memory_or P Q f k (inr p) = inr (k f p)
 
@@ -39,7 +41,8 @@ pub continue_more : {S : Type 0} (Good : List OwnedSegment → S → Type 0) (a 
 continue_more Good a b c xs ys h k = λ seen g. subst (λ (zs : List OwnedSegment). Good zs c) (append_assoc seen xs ys) (k (seen ++ xs) (h seen g))
 
 -- a segment that is refused after those seen
-pub refused_here : (rule : Rule) (seen : List OwnedSegment) (s : OwnedSegment) (f : ParamFault) → NoneRefused rule seen → rule seen s ≡ Some f → IsFirstRefused rule seen (s ∷ []) f
+pub refused_here : (rule : Rule) (seen : List OwnedSegment) (s : OwnedSegment) (f : ParamFault)
+    → NoneRefused rule seen → rule seen s ≡ Some f → IsFirstRefused rule seen (s ∷ []) f
 refused_here rule seen s f none e =
     record {
       before = [];
@@ -86,14 +89,16 @@ continue_end Good a b segments i le h = subst (λ (xs : List OwnedSegment). Cont
 
 -- ---- over segments and what they stand for
 
-pub open_more : (ss segments : List OwnedSegment) (s : OwnedSegment) (mine : List OwnedSegment) → OpenTo ss segments → OpensTo s mine → OpenTo (ss ++ s ∷ []) (segments ++ mine)
+pub open_more : (ss segments : List OwnedSegment) (s : OwnedSegment) (mine : List OwnedSegment)
+    → OpenTo ss segments → OpensTo s mine → OpenTo (ss ++ s ∷ []) (segments ++ mine)
 open_more [] segments s mine h o = (mine, [], o, refl, ap (λ (x : List OwnedSegment). x ++ mine) h ∙ sym (append-nil mine))
 open_more (t ∷ ts) segments s mine (own, more, ot, rest, e) o =
     (own, more ++ mine, ot, open_more ts more s mine rest o, ap (λ (x : List OwnedSegment). x ++ mine) e ∙ append_assoc own more mine)
 
 -- ---- a segment, and an HNVSD
 
-pub single_ok : {S : Type 0} (Good : List OwnedSegment → S → Type 0) (a b : S) (s : OwnedSegment) → is_sealed s ≡ false → Continues Good a b (s ∷ []) → ContinuesOver Good a b s
+pub single_ok : {S : Type 0} (Good : List OwnedSegment → S → Type 0) (a b : S) (s : OwnedSegment)
+    → is_sealed s ≡ false → Continues Good a b (s ∷ []) → ContinuesOver Good a b s
 single_ok Good a b s e k = (s ∷ [], inl (e, refl), k)
 
 pub single_stop : {S : Type 0} (rule : Rule) (Good : List OwnedSegment → S → Type 0) (a : S) (s : OwnedSegment) (place : ℕ) (f : ParamFault)
@@ -115,7 +120,8 @@ pub closed_stop : {S : Type 0} (rule : Rule) (Good : List OwnedSegment → S →
 closed_stop rule Good a s place f e m = memory_or (StaysClosed s place) (StopsAt rule Good a s place) f (λ g k. λ seen h. inr (e, k)) m
 
 -- the fault of data, counted in the capture
-pub closed_by : (s : OwnedSegment) (place : ℕ) (bytes : List ℕ) (kind : SyntaxKind) (o : ℕ) → data_of s ≡ Some bytes → CaptureFaultAt kind o bytes
+pub closed_by : (s : OwnedSegment) (place : ℕ) (bytes : List ℕ) (kind : SyntaxKind) (o : ℕ)
+    → data_of s ≡ Some bytes → CaptureFaultAt kind o bytes
     → IsMemoryOr (StaysClosed s place) (fault_from kind (place + o))
 closed_by s place bytes kinds.Memory o e h = inl refl
 closed_by s place bytes kinds.BadBinary o e h = inr (inr (bytes, record { kind = kinds.BadBinary; offset = o }, e, (h, λ q. cc), refl))

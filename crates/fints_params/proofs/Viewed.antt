@@ -22,7 +22,8 @@ pub open_view : (views : List Placed) (segments : List OwnedSegment) (view : Pla
 open_view views segments view mine h o =
     subst (λ (ss : List OwnedSegment). OpenTo ss (segments ++ mine)) (sym (values_more views (view ∷ []))) (open_more (values_in views) segments (segment_of view.segment) mine h o)
 
-pub views_none : {S : Type 0} (Good : List OwnedSegment → S → Type 0) (a : S) → Good [] a → ReadsViews Good [] a
+pub views_none : {S : Type 0} (Good : List OwnedSegment → S → Type 0) (a : S) → Good [] a
+    → ReadsViews Good [] a
 views_none Good a g = ([], refl, g)
 
 -- one more view, which is read
@@ -36,7 +37,8 @@ views_stopped rule Good a views view f none (seen, opened, g) k =
     record { front = views; at = view; back = []; split = refl; seen = seen; opened = opened; none = none seen g; refused = k seen g }
 
 -- one behind the first refusal
-pub views_stay : (rule : Rule) (views : List Placed) (view : Placed) (f : ParamFault) → IsRefusedIn rule views f → IsRefusedIn rule (views ++ view ∷ []) f
+pub views_stay : (rule : Rule) (views : List Placed) (view : Placed) (f : ParamFault)
+    → IsRefusedIn rule views f → IsRefusedIn rule (views ++ view ∷ []) f
 views_stay rule views view f r =
     record {
       front = r.front;
@@ -50,14 +52,16 @@ views_stay rule views view f r =
     }
 
 -- the segment of the view at i
-pub segment_at : (views : List (List (List Spelled))) (i : ℕ) (view : List (List Spelled)) (s : OwnedSegment) → i < length views → view ≡ get_or views i view → s ≡ segment_of view
+pub segment_at : (views : List (List (List Spelled))) (i : ℕ) (view : List (List Spelled)) (s : OwnedSegment)
+    → i < length views → view ≡ get_or views i view → s ≡ segment_of view
     → (i < length (segments_of views)) × (s ≡ get_or (segments_of views) i s)
 segment_at views i view s lt e is =
     let size : length (map segment_of views) ≡ length views = length-map views segment_of in
     (omega (arith, size), is ∙ ap segment_of e ∙ sym (get_or-map segment_of views i view s lt))
 
 -- what is refused as the capture is read is its first refusal
-pub param_fault : (capture : List ℕ) (f : ParamFault) → IsRefusedOf fault_after capture f → IsParamFault capture f
+pub param_fault : (capture : List ℕ) (f : ParamFault) → IsRefusedOf fault_after capture f
+    → IsParamFault capture f
 param_fault capture f h = inl h
 
 -- ---- the place of what is refused

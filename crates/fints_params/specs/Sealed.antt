@@ -3,11 +3,12 @@ use Rattle.std.specs.Prelude.{ℕ, Bool, List, length, slice_get, codes, Option,
 use Rattle.std.specs.Option.{option_and_then, option_map_or}
 use Rattle.fints_syntax_segments.specs.declared.item.OwnedItem.{OwnedItem}
 use Rattle.fints_syntax_segments.specs.declared.item.OwnedItem.TheVariants.{Text, Bin}
+use Rattle.fints_syntax_segments.specs.declared.frames.TheConstants.{HNVSD_VERSION}
 use Rattle.fints_syntax_segments.specs.declared.item.OwnedSegment.{OwnedSegment}
 use Rattle.fints_syntax_segments.specs.Values.{is_named, items_in}
 
 abbrev pub is_sealed : OwnedSegment → Bool
-is_sealed s = is_named s (codes "HNVSD") 1
+is_sealed s = is_named s (codes "HNVSD") HNVSD_VERSION
 
 -- the bytes of a binary item
 abbrev pub binary_bytes : OwnedItem → Option (List ℕ)

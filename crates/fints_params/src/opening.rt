@@ -12,6 +12,7 @@ use crate::placed::PlacedSegment;
 use fints_syntax::{
     Elements, ItemRef, OwnedSegment, SegmentView, SyntaxFault, parse_all, place_of,
 };
+use fints_syntax_segments::HNVSD_VERSION;
 use std::alloc::Global;
 
 /// What reads segments one after the other, until one is refused.
@@ -32,7 +33,7 @@ pub trait SegmentTaker {
 fn is_sealed(segment: &OwnedSegment) -> bool
     ensures { result ≡ is_sealed segment.now }
 {
-    segment.is_named(b"HNVSD", 1)
+    segment.is_named(b"HNVSD", HNVSD_VERSION)
 }
 
 // The data of an HNVSD, where item 1 of its element 2 is binary.

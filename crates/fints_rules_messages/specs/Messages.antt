@@ -4,6 +4,7 @@ use Rattle.std.specs.List.{AllByRecursion}
 use Rattle.fints_syntax_segments.specs.Spelling.{Spelled}
 use Rattle.fints_syntax_segments.specs.Segment.{segment_bytes, IsSegment}
 use Rattle.fints_syntax_segments.specs.declared.item.OwnedItem.TheVariants.{Bin}
+use Rattle.fints_syntax_segments.specs.declared.frames.TheConstants.{HNHBK_NUMBER, HNHBK_VERSION, HNHBS_VERSION, HNVSD_NUMBER, HNVSD_VERSION, HNVSK_NUMBER, HNVSK_VERSION}
 use Rattle.fints_syntax_segments.specs.declared.item.OwnedSegment.{OwnedSegment}
 use Rattle.fints_syntax_segments.specs.Number.{number_of}
 use Rattle.fints_syntax.specs.Owned.{segments_of}
@@ -38,25 +39,25 @@ pub record IsInner (segments body ends : List OwnedSegment) : Type 0 where
 
 -- HNHBK, with the length of the whole message in 12 digits, and the number of the message
 pub record IsFirst (size number : ℕ) (s : OwnedSegment) : Type 0 where
-  pub kind : IsTrue (is_named s (codes "HNHBK") 3)
-  pub place : s.head.number ≡ 1
+  pub kind : IsTrue (is_named s (codes "HNHBK") HNHBK_VERSION)
+  pub place : s.head.number ≡ HNHBK_NUMBER
   pub size_is : number_in 12 12 (value_at s 2 1) ≡ Some size
   pub number_is : number_of (value_at s 5 1) ≡ Some number
 
 -- HNHBS, with the number of the message
 pub record IsLast (number : ℕ) (s : OwnedSegment) : Type 0 where
-  pub kind : IsTrue (is_named s (codes "HNHBS") 1)
+  pub kind : IsTrue (is_named s (codes "HNHBS") HNHBS_VERSION)
   pub number_is : number_of (value_at s 2 1) ≡ Some number
 
 -- HNVSK, numbered 998
 pub record IsKey (s : OwnedSegment) : Type 0 where
-  pub kind : IsTrue (is_named s (codes "HNVSK") 3)
-  pub place : s.head.number ≡ 998
+  pub kind : IsTrue (is_named s (codes "HNVSK") HNVSK_VERSION)
+  pub place : s.head.number ≡ HNVSK_NUMBER
 
 -- HNVSD, numbered 999, with the inner segments as the data of its item
 pub record IsEnvelope (inner : List OwnedSegment) (s : OwnedSegment) : Type 0 where
-  pub kind : IsTrue (is_named s (codes "HNVSD") 1)
-  pub place : s.head.number ≡ 999
+  pub kind : IsTrue (is_named s (codes "HNVSD") HNVSD_VERSION)
+  pub place : s.head.number ≡ HNVSD_NUMBER
   pub bytes : List ℕ
   pub item : item_at s 2 1 ≡ Bin bytes
   pub holds : IsText bytes inner

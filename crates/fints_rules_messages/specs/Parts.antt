@@ -2,14 +2,15 @@
 use Rattle.std.specs.Prelude.{codes, if◌then◌else◌}
 use Rattle.fints_syntax.specs.Kind.{is_frame_kind}
 use Rattle.fints_syntax_segments.specs.Values.{is_named}
+use Rattle.fints_syntax_segments.specs.declared.frames.TheConstants.{HNSHK_VERSION, HNSHA_VERSION}
 use Rattle.fints_syntax_segments.specs.declared.item.OwnedSegment.{OwnedSegment}
 use Rattle.fints_rules_messages.specs.declared.part.Part.{Part}
 use Rattle.fints_rules_messages.specs.declared.part.Part.TheVariants.{Opener, Body, Ender, Other}
 
--- HNSHK version 4, HNSHA version 2, or a kind that is not of the frame
+-- HNSHK, HNSHA, or a kind that is not of the frame
 abbrev pub part_of : OwnedSegment → Part
 part_of s =
-    if is_named s (codes "HNSHK") 4 then Opener
-    else if is_named s (codes "HNSHA") 2 then Ender
+    if is_named s (codes "HNSHK") HNSHK_VERSION then Opener
+    else if is_named s (codes "HNSHA") HNSHA_VERSION then Ender
     else if is_frame_kind s.head.id then Other
     else Body

@@ -7,12 +7,13 @@ ghost use Rattle.fints_rules_messages.specs.Front.{IsEndOf};
 use crate::part::is_named;
 use crate::values::number_at;
 use fints_syntax::SegmentView;
+use fints_syntax_segments::{HNHBS_VERSION, HNVSK_NUMBER, HNVSK_VERSION};
 
 /// Whether it is HNHBS with the number of the message.
 pub fn is_last(view: &SegmentView<'_>, number: u64) -> bool
     ensures { IsTrue result ↔ IsLast number (segment_of view.now) }
 {
-    if !is_named(view, b"HNHBS", 1) {
+    if !is_named(view, b"HNHBS", HNHBS_VERSION) {
         return false;
     }
     match number_at(view, 2, 1, 1, 9) {
@@ -25,7 +26,7 @@ pub fn is_last(view: &SegmentView<'_>, number: u64) -> bool
 pub fn is_key(view: &SegmentView<'_>) -> bool
     ensures { IsTrue result ↔ IsKey (segment_of view.now) }
 {
-    is_named(view, b"HNVSK", 3) && view.number() == 998
+    is_named(view, b"HNVSK", HNVSK_VERSION) && view.number() == HNVSK_NUMBER
 }
 
 /// Whether HNHBS stands behind so many HNSHK, segments of the body and HNSHA.

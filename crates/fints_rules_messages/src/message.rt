@@ -13,6 +13,7 @@ use crate::plain::read_tail;
 use crate::tail::Tail;
 use crate::values::number_at;
 use fints_syntax::{Memory, OwnedSegment, SegmentView, owned_segments};
+use fints_syntax_segments::{HNHBK_NUMBER, HNHBK_VERSION};
 use std::alloc::{AllocError, Global};
 use std::marker::Model;
 use thiserror::Error;
@@ -155,10 +156,10 @@ fn read_first(view: &SegmentView<'_>, size: usize) -> Option<u64>
     ensures some { IfSome result (λ n. IsFirst size n (segment_of view.now)) }
     ensures none { IfNone result ((n : ℕ) → IsFirst size n (segment_of view.now) → ⊥) }
 {
-    if !is_named(view, b"HNHBK", 3) {
+    if !is_named(view, b"HNHBK", HNHBK_VERSION) {
         return None;
     }
-    if view.number() != 1 {
+    if view.number() != HNHBK_NUMBER {
         return None;
     }
     let Some(found) = number_at(view, 2, 1, 12, 12) else {

@@ -7,6 +7,7 @@ ghost use Rattle.fints_syntax_segments.specs.Number.{number_in};
 ghost use Rattle.fints_rules_messages.specs.Parts.{part_of};
 
 use fints_syntax::{Item, Kind, SegmentView, is_frame_kind};
+use fints_syntax_segments::{HNSHA_VERSION, HNSHK_VERSION};
 
 /// A segment between the first and the last of a message.
 #[derive(Clone, Copy, PartialEq, Eq)]
@@ -33,9 +34,9 @@ pub fn is_named(view: &SegmentView<'_>, kind: &[u8], version: u16) -> bool
 pub fn part_of(view: &SegmentView<'_>) -> Part
     ensures { result ≡ part_of (segment_of view.now) }
 {
-    if is_named(view, b"HNSHK", 4) {
+    if is_named(view, b"HNSHK", HNSHK_VERSION) {
         Part::Opener
-    } else if is_named(view, b"HNSHA", 2) {
+    } else if is_named(view, b"HNSHA", HNSHA_VERSION) {
         Part::Ender
     } else if is_frame_kind(view.id().as_bytes()) {
         Part::Other

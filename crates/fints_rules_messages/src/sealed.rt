@@ -11,6 +11,7 @@ use crate::part::is_named;
 use crate::tail::Tail;
 use crate::values::data_at;
 use fints_syntax::SegmentView;
+use fints_syntax_segments::{HNVSD_NUMBER, HNVSD_VERSION};
 use std::alloc::{AllocError, Global};
 
 /// The inner segments that an envelope holds, if it is one.
@@ -19,10 +20,10 @@ fn open_envelope<'a>(alloc: Global, view: &SegmentView<'a>) -> Result<Option<Inn
     ensures few { IfOk result (λ o.
         IfSome o (λ i. i.openers + (length i.body.items + length i.ends.items) < 2 ^ 16)) }
 {
-    if !is_named(view, b"HNVSD", 1) {
+    if !is_named(view, b"HNVSD", HNVSD_VERSION) {
         return Ok(None);
     }
-    if view.number() != 999 {
+    if view.number() != HNVSD_NUMBER {
         return Ok(None);
     }
     let Some(data) = data_at(view, 2, 1) else {

@@ -60,7 +60,8 @@ look_data tail h =
       | inr le ↦ is_cut (cut_data tail h le)
     ]
 
-look_digits : (tail : List ℕ) → length (digits_in tail) ≤ 9 → length (digits_in tail) < length tail → Look (64 ∷ tail)
+look_digits : (tail : List ℕ) → length (digits_in tail) ≤ 9 → length (digits_in tail) < length tail
+    → Look (64 ∷ tail)
 look_digits tail short lt =
     let k = length (digits_in tail) in
     elim (cases_Bool (eqb (get_or tail k 0) 64)) [
@@ -104,7 +105,8 @@ opened after s q =
       | inr e ↦ colon after s q (other after 43 refl e)
     ]
 
-find_from : (fuel items at elements : ℕ) (w : List ℕ) → length w ≤ MAX_BYTES → items + fuel ≡ MAX_ITEMS → SoFar w items at elements → Find w
+find_from : (fuel items at elements : ℕ) (w : List ℕ) → length w ≤ MAX_BYTES → items + fuel ≡ MAX_ITEMS
+    → SoFar w items at elements → Find w
 find_from zero items at elements w short e s = has_many (too_many w at elements (subst (λ (n : ℕ). SoFar w n at elements) (omega (arith, e)) s))
 find_from (suc fuel) items at elements w short e s =
     elim (look (drop at w)) [
@@ -125,7 +127,8 @@ data Front (input : List ℕ) : Type 0 where
   is_segment : (es : List (List Spelled)) (len : ℕ) → IsSegment es → take len input ≡ segment_bytes es → len ≤ length input → Front input
   is_fault : (kind : SyntaxKind) (o : ℕ) → kind ≢ Memory → KindAt kind o input → Front input
 
-with_head : (input : List ℕ) (len count : ℕ) (o : Option Head) → IsFrameOf (window_of input) len count → head_of (values_of (read_segment (take len (window_of input)))) ≡ o → Front input
+with_head : (input : List ℕ) (len count : ℕ) (o : Option Head) → IsFrameOf (window_of input) len count
+    → head_of (values_of (read_segment (take len (window_of input)))) ≡ o → Front input
 with_head input len count None f e = is_fault BadHead 0 (λ q. cc) (refl, frame_begins (window_of input) len count f, no_head (window_of input) len count f e)
 with_head input len count (Some h) f e =
     let le = frame_len (window_of input) len count f in
@@ -180,7 +183,8 @@ data Runs (input : List ℕ) : Type 0 where
   to_end : (placed : List Placed) → IsPlacedCapture input placed → Runs input
   to_fault : (kind : SyntaxKind) (o : ℕ) → kind ≢ Memory → RunFaultAt kind o input → Runs input
 
-run_from : (fuel : ℕ) (input : List ℕ) (start : ℕ) (placed : List Placed) → Run input start placed → length input ≤ start + fuel → Runs input
+run_from : (fuel : ℕ) (input : List ℕ) (start : ℕ) (placed : List Placed) → Run input start placed
+    → length input ≤ start + fuel → Runs input
 run_from zero input start placed r le = to_end placed (run_end input start placed r (omega (arith, le)))
 run_from (suc fuel) input start placed r le =
     elim (cases_lt start (length input)) [

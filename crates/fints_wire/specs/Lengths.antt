@@ -1,4 +1,5 @@
 -- How long a message is: each item counts with the byte after it. Private contracts alone cite these words.
+use Rattle.fints_syntax_segments.specs.declared.frames.TheConstants.{HNHBK_NUMBER, HNHBK_VERSION, HNHBS_VERSION, HNVSD_NUMBER, HNVSD_VERSION, HNVSK_NUMBER, HNVSK_VERSION}
 use Rattle.std.specs.Prelude.{ℕ, ◌+◌, ◌==◌, if◌then◌else◌, codes, List, [], ◌∷◌, length, map, get_or, Bool, true, false}
 use Rattle.std.specs.Fmt.{decimal}
 use Rattle.fints_syntax_segments.specs.declared.item.OwnedItem.{OwnedItem}
@@ -67,7 +68,7 @@ binary_size n = 3 + length (decimal n) + n
 -- the inner segments, or the envelope round them
 abbrev pub middle_len : Bool → ℕ → ℕ → ℕ
 middle_len false seal inner = inner
-middle_len true seal inner = head_len (codes "HNVSK") 998 3 + seal + head_len (codes "HNVSD") 999 1 + binary_size inner
+middle_len true seal inner = head_len (codes "HNVSK") HNVSK_NUMBER HNVSK_VERSION + seal + head_len (codes "HNVSD") HNVSD_NUMBER HNVSD_VERSION + binary_size inner
 
 -- what stands between the first segment and the last
 abbrev pub between_len : ScriptValue → StepValue → Sizes → ℕ
@@ -79,6 +80,6 @@ number_len number = 1 + length (decimal number)
 -- the size of the message and the protocol version count 13 and 4
 abbrev pub message_len : ScriptValue → StepValue → Sizes → ℕ → ℕ
 message_len script step sizes number =
-    head_len (codes "HNHBK") 1 3 + 17 + sizes.dialog + number_len number
+    head_len (codes "HNHBK") HNHBK_NUMBER HNHBK_VERSION + 17 + sizes.dialog + number_len number
     + between_len script step sizes
-    + head_len (codes "HNHBS") (2 + length (templates_of script step)) 1 + number_len number
+    + head_len (codes "HNHBS") (2 + length (templates_of script step)) HNHBS_VERSION + number_len number

@@ -5,6 +5,7 @@ use Rattle.std.specs.List.{flat_map}
 use Rattle.std.specs.Fmt.{decimal}
 use Rattle.fints_syntax_segments.specs.declared.item.OwnedItem.{OwnedItem}
 use Rattle.fints_syntax_segments.specs.declared.item.OwnedItem.TheVariants.{Text, Bin}
+use Rattle.fints_syntax_segments.specs.declared.frames.TheConstants.{HNHBK_NUMBER, HNHBK_VERSION, HNHBS_VERSION, HNSHA_VERSION, HNSHK_VERSION, HNVSD_NUMBER, HNVSD_VERSION, HNVSK_NUMBER, HNVSK_VERSION}
 use Rattle.fints_syntax_segments.specs.declared.item.OwnedSegment.{OwnedSegment}
 use Rattle.fints_syntax_segments.specs.Written.{written_segment}
 use Rattle.fints_script.specs.Scripts.{ScriptValue}
@@ -25,10 +26,10 @@ abbrev pub signer_at : List Signer → ℕ → Signer
 signer_at signers place = get_or signers place no_signer
 
 abbrev pub head_template : Signer → Template
-head_template signer = record { kind = codes "HNSHK"; version = 4; elements = signer.head }
+head_template signer = record { kind = codes "HNSHK"; version = HNSHK_VERSION; elements = signer.head }
 
 abbrev pub end_template : Signer → Template
-end_template signer = record { kind = codes "HNSHA"; version = 2; elements = signer.end }
+end_template signer = record { kind = codes "HNSHA"; version = HNSHA_VERSION; elements = signer.end }
 
 abbrev pub signers_of : ScriptValue → StepValue → List Signer
 signers_of script step = map (signer_at script.signers) step.signers
@@ -52,7 +53,7 @@ seal_of script = elim script.seal [ None ↦ [] | Some seal ↦ seal ]
 
 -- HNVSK with the seal's elements, and HNVSD with the text of the inner segments
 abbrev pub envelope : List (List OwnedItem) → List OwnedSegment → List OwnedSegment
-envelope seal inner = make_segment (codes "HNVSK") 998 3 seal ∷ make_segment (codes "HNVSD") 999 1 ((Bin (segments_text inner) ∷ []) ∷ []) ∷ []
+envelope seal inner = make_segment (codes "HNVSK") HNVSK_NUMBER HNVSK_VERSION seal ∷ make_segment (codes "HNVSD") HNVSD_NUMBER HNVSD_VERSION ((Bin (segments_text inner) ∷ []) ∷ []) ∷ []
 
 -- between the first segment and the last: the inner segments, or the envelope round them
 abbrev pub middle_segments : Bool → List (List OwnedItem) → List OwnedSegment → List OwnedSegment
@@ -65,10 +66,10 @@ twelve_digits n = replicate (12 - length (decimal n)) 48 ++ decimal n
 
 -- size, protocol version, dialogue id, and number of the message
 abbrev pub first_segment : ℕ → List OwnedItem → ℕ → OwnedSegment
-first_segment size dialog number = make_segment (codes "HNHBK") 1 3 ((Text (twelve_digits size) ∷ []) ∷ (Text (codes "300") ∷ []) ∷ dialog ∷ (Text (decimal number) ∷ []) ∷ [])
+first_segment size dialog number = make_segment (codes "HNHBK") HNHBK_NUMBER HNHBK_VERSION ((Text (twelve_digits size) ∷ []) ∷ (Text (codes "300") ∷ []) ∷ dialog ∷ (Text (decimal number) ∷ []) ∷ [])
 
 abbrev pub last_segment : ℕ → ℕ → OwnedSegment
-last_segment n number = make_segment (codes "HNHBS") n 1 ((Text (decimal number) ∷ []) ∷ [])
+last_segment n number = make_segment (codes "HNHBS") n HNHBS_VERSION ((Text (decimal number) ∷ []) ∷ [])
 
 -- what a step sends between the first segment and the last
 abbrev pub between_segments : ScriptValue → StepValue → FillingValue → List OwnedSegment
@@ -109,7 +110,7 @@ OfStep steps n so = (s : StepValue) → slice_get steps (n - 1) ≡ Some s → s
 
 -- the text of the envelope round inner segments of this text
 abbrev pub envelope_text : List (List OwnedItem) → List ℕ → List ℕ
-envelope_text seal inner = written_segment (make_segment (codes "HNVSK") 998 3 seal) ++ written_segment (make_segment (codes "HNVSD") 999 1 ((Bin inner ∷ []) ∷ []))
+envelope_text seal inner = written_segment (make_segment (codes "HNVSK") HNVSK_NUMBER HNVSK_VERSION seal) ++ written_segment (make_segment (codes "HNVSD") HNVSD_NUMBER HNVSD_VERSION ((Bin inner ∷ []) ∷ []))
 
 -- the text of what follows the first segment behind that segment, which has the size of the whole; whatever the size, it has 12 digits
 abbrev pub text_with_first : List OwnedItem → ℕ → List ℕ → List ℕ

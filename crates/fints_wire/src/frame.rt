@@ -7,6 +7,10 @@ ghost use Rattle.fints_wire.specs.Filling.{make_segment};
 ghost use Rattle.fints_wire.specs.Messages.{twelve_digits, first_segment, last_segment};
 
 use fints_syntax::{Bytes, Elements, Head, Kind, Memory, OwnedItem, OwnedSegment, decimal_len};
+use fints_syntax_segments::{
+    HNHBK_NUMBER, HNHBK_VERSION, HNHBS_VERSION, HNVSD_NUMBER, HNVSD_VERSION, HNVSK_NUMBER,
+    HNVSK_VERSION,
+};
 use itoa::Buffer;
 use std::alloc::Global;
 use std::slice::from_ref;
@@ -99,7 +103,12 @@ pub fn first_segment(
 {
     let mut elements = Elements::new(alloc);
     push_first(alloc, &mut elements, size, dialog, number)?;
-    Ok(segment(Kind::parse(b"HNHBK").unwrap(), 1, 3, elements))
+    Ok(segment(
+        Kind::parse(b"HNHBK").unwrap(),
+        HNHBK_NUMBER,
+        HNHBK_VERSION,
+        elements,
+    ))
 }
 
 /// HNHBS of this segment number.
@@ -108,21 +117,31 @@ pub fn last_segment(alloc: Global, n: u16, number: u32) -> Result<OwnedSegment, 
 {
     let mut elements = Elements::new(alloc);
     push_number(alloc, &mut elements, number)?;
-    Ok(segment(Kind::parse(b"HNHBS").unwrap(), n, 1, elements))
+    Ok(segment(Kind::parse(b"HNHBS").unwrap(), n, HNHBS_VERSION, elements))
 }
 
 /// HNVSD with the text of the inner segments.
 pub fn data_segment(alloc: Global, inner: Vec<u8>) -> Result<OwnedSegment, Memory>
-    ensures { IfOk result (λ s. s ≡ make_segment (codes "HNVSD") 999 1 ((Bin inner.items ∷ []) ∷ [])) }
+    ensures { IfOk result (λ s. s ≡ make_segment (codes "HNVSD") HNVSD_NUMBER HNVSD_VERSION ((Bin inner.items ∷ []) ∷ [])) }
 {
     let mut elements = Elements::new(alloc);
     push_item(&mut elements, &OwnedItem::Bin(Bytes::new(inner)))?;
-    Ok(segment(Kind::parse(b"HNVSD").unwrap(), 999, 1, elements))
+    Ok(segment(
+        Kind::parse(b"HNVSD").unwrap(),
+        HNVSD_NUMBER,
+        HNVSD_VERSION,
+        elements,
+    ))
 }
 
 /// HNVSK with the elements of a seal.
 pub fn seal_segment(elements: Elements) -> OwnedSegment
-    ensures { result ≡ make_segment (codes "HNVSK") 998 3 elements }
+    ensures { result ≡ make_segment (codes "HNVSK") HNVSK_NUMBER HNVSK_VERSION elements }
 {
-    segment(Kind::parse(b"HNVSK").unwrap(), 998, 3, elements)
+    segment(
+        Kind::parse(b"HNVSK").unwrap(),
+        HNVSK_NUMBER,
+        HNVSK_VERSION,
+        elements,
+    )
 }

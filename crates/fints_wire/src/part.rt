@@ -6,6 +6,7 @@ ghost use Rattle.fints_wire.specs.Messages.{templates_of, signer_at, head_templa
 
 use fints_script::{Plan, Signer, Step, TemplateElements};
 use fints_syntax::Kind;
+use fints_syntax_segments::{HNSHA_VERSION, HNSHK_VERSION};
 use std::marker::Model;
 
 /// A segment of a step's message before it is filled; a contract sees the template.
@@ -42,7 +43,7 @@ fn head_part<'a>(signers: &'a [Signer], place: usize) -> Part<'a>
 {
     Part {
         kind: head_kind(),
-        version: 4,
+        version: HNSHK_VERSION,
         elements: &signers[place].head,
     }
 }
@@ -53,7 +54,7 @@ fn end_part<'a>(signers: &'a [Signer], place: usize) -> Part<'a>
 {
     Part {
         kind: end_kind(),
-        version: 2,
+        version: HNSHA_VERSION,
         elements: &signers[place].end,
     }
 }

@@ -16,6 +16,10 @@ ghost use Rattle.fints_syntax_segments.specs.declared.limits.TheConstants.{MAX_B
 use crate::part::{Part, part_at, part_count};
 use fints_script::{FieldClass, Plan, Step, TemplateItem};
 use fints_syntax::{Kind, OwnedItem, decimal_len, written_binary_len, written_len};
+use fints_syntax_segments::{
+    HNHBK_NUMBER, HNHBK_VERSION, HNHBS_VERSION, HNVSD_NUMBER, HNVSD_VERSION, HNVSK_NUMBER,
+    HNVSK_VERSION,
+};
 
 fn written_size(item: &OwnedItem) -> u64
     requires { length (written item.now) < 2 ^ 63 }
@@ -143,10 +147,18 @@ fn seal_size(plan: &Plan, number: u32, before: u64) -> u64
 // The envelope around inner segments of this size, without the seal's elements.
 fn envelope_size(inner: u64) -> u64
     requires { inner < 2 ^ 62 }
-    ensures { result ≡ head_len (codes "HNVSK") 998 3 + head_len (codes "HNVSD") 999 1 + binary_size inner }
+    ensures { result ≡ head_len (codes "HNVSK") HNVSK_NUMBER HNVSK_VERSION + head_len (codes "HNVSD") HNVSD_NUMBER HNVSD_VERSION + binary_size inner }
 {
-    let head = head_size(Kind::parse(b"HNVSK").unwrap(), 998, 3);
-    let data = head_size(Kind::parse(b"HNVSD").unwrap(), 999, 1);
+    let head = head_size(
+        Kind::parse(b"HNVSK").unwrap(),
+        u64::from(HNVSK_NUMBER),
+        u64::from(HNVSK_VERSION),
+    );
+    let data = head_size(
+        Kind::parse(b"HNVSD").unwrap(),
+        u64::from(HNVSD_NUMBER),
+        u64::from(HNVSD_VERSION),
+    );
     head + data + digit_count(inner) + 3 + inner
 }
 
@@ -168,14 +180,22 @@ fn middle_size<'a>(plan: &'a Plan<'a>, step: &'a Step, number: u32) -> u64
 fn frame_size(step: &Step, number: u32) -> u64
     requires few { length step.now.signers ≤ 9 }
     requires templates { length step.now.templates ≤ 100 }
-    ensures is { (script : ScriptValue) → result ≡ head_len (codes "HNHBK") 1 3 + 17 + number_len number
-        + (head_len (codes "HNHBS") (2 + length (templates_of script step.now)) 1 + number_len number) }
+    ensures is { (script : ScriptValue) → result ≡ head_len (codes "HNHBK") HNHBK_NUMBER HNHBK_VERSION + 17 + number_len number
+        + (head_len (codes "HNHBS") (2 + length (templates_of script step.now)) HNHBS_VERSION + number_len number) }
     ensures small { result ≤ 200 }
 {
     let digits = digit_count(u64::from(number)) + 1;
-    let first = head_size(Kind::parse(b"HNHBK").unwrap(), 1, 3);
+    let first = head_size(
+        Kind::parse(b"HNHBK").unwrap(),
+        u64::from(HNHBK_NUMBER),
+        u64::from(HNHBK_VERSION),
+    );
     let parts = part_count(step) as u64;
-    let last = head_size(Kind::parse(b"HNHBS").unwrap(), parts + 2, 1);
+    let last = head_size(
+        Kind::parse(b"HNHBS").unwrap(),
+        parts + 2,
+        u64::from(HNHBS_VERSION),
+    );
     first + last + digits + digits + 17
 }
 

@@ -18,4 +18,4 @@ returns-then-len-inner-clause-envelope c = λ inner b e is g n.
 pub returns-clause-envelope : goal.returns-clause-envelope
 returns-clause-envelope c =
     let i = c.in_ok-inner.inner in
-    opened _ c.in-Some.data.now i.at i.openers i.body.items i.ends.items (sym c.if-not-is_named.ensures) (head_number _ 999 (c.number.ensures ∙ ap Some c.if-number-ne999.false)) c.in-Some.ensures.some c.in_ok-inner.ensures.front (omega (arith, c.if-inner-data.false)) (omega (arith, c.if-len-inner.false, c.len.ensures))
+    opened _ c.in-Some.data.now i.at i.openers i.body.items i.ends.items (sym c.if-not-is_named.ensures) (head_number _ 999 (c.number.ensures ∙ ap Some c.if-number-ne-HNVSD_NUMBER.false)) c.in-Some.ensures.some c.in_ok-inner.ensures.front (omega (arith, c.if-inner-data.false)) (omega (arith, c.if-len-inner.false, c.len.ensures))
