@@ -2,8 +2,14 @@ use Rattle.std.proofs.Common.{ℕ, ◌≡◌, refl, subst, arith, inl, inr}
 use Rattle.std.proofs.lemmas.Bool.{both_ways, cases_lt}
 use Rattle.fints_check_findings.specs.Releases.{IsUnreleased}
 use Rattle.fints_script.specs.Numbered.{numbered_within}
+use Rattle.fints_script.proofs.LawLemmas.{sound_of}
 use Rattle.fints_check.specs.Certificates.{Names}
 use Rattle.fints_check.proofs.verifying.are_released.Goals as goal
+
+pub overflow_add-t-end : goal.overflow_add-t-end
+overflow_add-t-end c =
+    let few = (sound_of c.step_count-t-end.ensures.read).few_steps in
+    omega (arith, few, c.step_count-t-end.ensures.count)
 
 pub returns-then-not-is_released : goal.returns-then-not-is_released
 returns-then-not-is_released c = (λ h. absurd cc, λ all. absurd (both_ways _ c.if-not-is_released.true (c.is_released.ensures.1 (λ s figures. all c.loop-t.t s figures))))

@@ -1,4 +1,8 @@
+use Rattle.fints_script.proofs.LawLemmas.{sound_of}
 use Rattle.fints_check.proofs.verifying.is_closed.Goals as goal
+
+pub is_entered-requires-clause-last : goal.is_entered-requires-clause-last
+is_entered-requires-clause-last c = (sound_of c.keeps.ensures.read).some_steps
 
 pub returns : goal.returns
 returns c =

@@ -7,6 +7,7 @@ use Rattle.fints_check_findings.specs.Reports.{IsWayOf, LeadsFor, ReportValue}
 use Rattle.fints_check_findings.specs.declared.finding.Finding.{Finding}
 use Rattle.fints_check_findings.proofs.CaseLemmas.{if_ok, real_at, real_has, same_at}
 use Rattle.fints_check_findings.proofs.Checking.{real_within}
+use Rattle.fints_script.proofs.LawLemmas.{sound_of}
 use Rattle.fints_check_findings.proofs.report.Report.way.Goals as goal
 
 pub longest_way-requires-clause-from : goal.longest_way-requires-clause-from
@@ -14,7 +15,7 @@ longest_way-requires-clause-from c =
     let inside = c.self.inside in
     let script = inside.plan.now.script in
     let granted = inside.permissions.now in
-    let sound = c.keeps.ensures.sound in
+    let sound = sound_of c.keeps.ensures.read in
     let few : c.args.i < length inside.findings.items = subst (λ (m : ℕ). c.args.i < m) (sym (ap (λ (r : ReportValue). length r.findings) c.self.view_is)) c.requires in
     let real = real_at granted script inside.findings.items c.args.i c.index-finding.result.now c.self.invariant.1 few c.index-finding.ensures in
     (real_within granted script sound c.index-finding.result.now real).0
@@ -24,7 +25,7 @@ longest_way-requires-clause-to c =
     let inside = c.self.inside in
     let script = inside.plan.now.script in
     let granted = inside.permissions.now in
-    let sound = c.keeps.ensures.sound in
+    let sound = sound_of c.keeps.ensures.read in
     let few : c.args.i < length inside.findings.items = subst (λ (m : ℕ). c.args.i < m) (sym (ap (λ (r : ReportValue). length r.findings) c.self.view_is)) c.requires in
     let real = real_at granted script inside.findings.items c.args.i c.index-finding.result.now c.self.invariant.1 few c.index-finding.ensures in
     (real_within granted script sound c.index-finding.result.now real).1
@@ -34,7 +35,7 @@ longest_way-requires-clause-reached c =
     let inside = c.self.inside in
     let script = inside.plan.now.script in
     let granted = inside.permissions.now in
-    let sound = c.keeps.ensures.sound in
+    let sound = sound_of c.keeps.ensures.read in
     let few : c.args.i < length inside.findings.items = subst (λ (m : ℕ). c.args.i < m) (sym (ap (λ (r : ReportValue). length r.findings) c.self.view_is)) c.requires in
     let real = real_at granted script inside.findings.items c.args.i c.index-finding.result.now c.self.invariant.1 few c.index-finding.ensures in
     real_has script granted sound inside.numbers.greatest.items c.self.invariant.4 c.index-finding.result.now real
