@@ -152,7 +152,7 @@ holders_from steps numbers marks behind holders m b h = record {
 
 -- ---- where branches lead
 
-target_holds : (P : Target → Type 0) (branches : List Branch) (otherwise : Target) (b : ℕ) → All (λ (branch : Branch). P branch.to) branches → P otherwise → P (option_map_or (λ (branch : Branch). branch.to) (slice_get branches b) otherwise)
+pub target_holds : (P : Target → Type 0) (branches : List Branch) (otherwise : Target) (b : ℕ) → All (λ (branch : Branch). P branch.to) branches → P otherwise → P (option_map_or (λ (branch : Branch). branch.to) (slice_get branches b) otherwise)
 target_holds P [] otherwise b each o = o
 target_holds P (x ∷ xs) otherwise zero each o = All-head (λ (branch : Branch). P branch.to) x xs each
 target_holds P (x ∷ xs) otherwise (suc b) each o = target_holds P xs otherwise b (All-tail (λ (branch : Branch). P branch.to) x xs each) o

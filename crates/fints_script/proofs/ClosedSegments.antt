@@ -1,9 +1,9 @@
 -- The segments of a closed plan.
-use Rattle.std.proofs.Common.{◌≡◌, ℕ, zero, suc, Bool, true, false, ◌&&◌, ◌||◌, not, if◌then◌else◌, codes, List, Some, None, refl, sym}
+use Rattle.std.proofs.Common.{◌≡◌, ℕ, ◌+◌, zero, suc, length, Bool, true, false, ◌&&◌, ◌||◌, not, if◌then◌else◌, codes, List, Some, None, refl, sym}
 use Rattle.std.specs.List.{list_all, slice_get}
 use Rattle.std.specs.Str.{bytes_eq}
 use Rattle.std.proofs.lemmas.Bool.{or_cases}
-use Rattle.std.proofs.lemmas.Option.{none-some, slice_get_within}
+use Rattle.std.proofs.lemmas.Option.{none-some}
 use Rattle.fints_rules_permissions.specs.Orders.{form_of}
 use Rattle.fints_rules_permissions.specs.declared.orders.OrderRow.{OrderRow}
 use Rattle.fints_script_rows.specs.declared.fields.NamedField.{NamedField}
@@ -13,6 +13,7 @@ use Rattle.fints_script.specs.Scripts.{ScriptValue}
 use Rattle.fints_script.specs.Steps.{StepValue}
 use Rattle.fints_script.specs.declared.opens.Open.TheVariants as opens
 use Rattle.fints_script_templates.specs.declared.template.Template.{Template}
+use Rattle.fints_script.proofs.PlanLemmas.{none_at, none_open}
 
 -- where nothing is left open, neither test of it holds
 neither_open : (account process : Bool) → (if account then Some opens.Account else if process then Some opens.Process else None) ≡ None → (account ≡ false) × (process ≡ false)
@@ -37,4 +38,5 @@ closed_of fields orders t h =
 pub closed_segment : (s : ScriptValue) (orders : List OrderRow) → IsClosed s orders → (n i : ℕ) (step : StepValue) (t : Template) → numbered s.steps n ≡ Some step → slice_get step.templates i ≡ Some t → IsClosedTemplate s.fields orders t
 closed_segment s orders closed zero i step t at here = absurd (none-some step at)
 closed_segment s orders closed (suc n) i step t at here =
-    closed_of s.fields orders t (closed n step (slice_get_within s.steps n step at) at i t (slice_get_within step.templates i t here) here)
+    let none = none_at s.fields orders 1 s.steps n step closed at in
+    closed_of s.fields orders t (none_open s.fields orders none.0 (length step.signers + 2) step.templates i t none.1 here)

@@ -13,4 +13,5 @@ pub mod SoundSteps
 pub mod SoundScripts
 pub mod ClosedSegments
 pub mod OneScript
+pub mod DialogFields
 pub mod LawLemmas

@@ -5,9 +5,6 @@ use Rattle.std.proofs.lemmas.Bool.Decides.{nat_tests}
 use Rattle.std.proofs.lemmas.Option.{none-some, same_Some}
 use Rattle.toml.specs.Data.{Data, Members}
 use Rattle.fints_syntax_toml.specs.Document.{document}
-use Rattle.fints_script_fields.specs.declared.counted.Text.{Text}
-use Rattle.fints_script_fields.specs.declared.field.Field.{Field}
-use Rattle.fints_script_fields.specs.declared.field.Field.TheVariants as classes
 use Rattle.fints_script_rows.specs.Fields.{field_value}
 use Rattle.fints_script_rows.specs.Laws.{OneField}
 use Rattle.fints_script_rows.specs.Rows.{part_at}
@@ -15,7 +12,7 @@ use Rattle.fints_script_rows.specs.declared.fault.FaultKind.TheVariants as kinds
 use Rattle.fints_script_rows.specs.declared.fault.Place.TheVariants as places
 use Rattle.fints_script_rows.specs.declared.fault.ScriptFault.{ScriptFault}
 use Rattle.fints_script_rows.specs.declared.fields.NamedField.{NamedField}
-use Rattle.fints_script.specs.Scripts.{DenoteFields, Denotes, IsDialogClass, IsDialogField, IsFaultOf, IsFirstOf, IsScriptOf, ScriptValue, Top, at_top, fields_from, script_with, top_in}
+use Rattle.fints_script.specs.Scripts.{DenoteFields, Denotes, IsFaultOf, IsFirstOf, IsScriptOf, ScriptValue, Top, at_top, dialog_value, fields_from, script_with, top_in}
 use Rattle.fints_syntax_lines.specs.declared.lines.TheConstants.{MAX_TEXT}
 use Rattle.fints_script.proofs.ReadParts.{ok_err, same_err, same_ok}
 
@@ -40,19 +37,8 @@ one_stop found r q (f, is, r_is) (g, also, q_is) = r_is ∙ ap Err (same_err f g
 no_stop : {X : Type 0} (found : Result X ScriptFault) (x : X) (r : Outcome) → found ≡ Ok x → Stops found r → ⊥
 no_stop found x r is (f, stops, r_is) = ok_err x f (sym is ∙ stops)
 
-module _ (one_text : (c d : Text) → c.alphabet ≡ d.alphabet → c.min ≡ d.min → c.max ≡ d.max → c ≡ d) (one_field : OneField) where
+module _ (one_field : OneField) where
   -- ---- the fields of rows
-
-  one_dialog_class : (f g : Field) → IsDialogClass f → IsDialogClass g → f ≡ g
-  one_dialog_class (classes.Text c) (classes.Text d) h i = ap classes.Text (one_text c d (h.0 ∙ sym i.0) (h.1 ∙ sym i.1) (h.2 ∙ sym i.2))
-  one_dialog_class (classes.Text c) _ h i = absurd i
-  one_dialog_class _ _ h i = absurd h
-
-  one_dialog : (f g : NamedField) → IsDialogField f → IsDialogField g → f ≡ g
-  one_dialog f g h i =
-      let name : f.name ≡ g.name = h.0 ∙ sym i.0 in
-      let class : f.class ≡ g.class = one_dialog_class f.class g.class h.1 i.1 in
-      λ j. record { name = name j; class = class j }
 
   others_once : (fs gs : List NamedField) → map field_value fs ≡ map field_value gs → fs ≡ gs
   others_once [] [] e = refl
@@ -64,10 +50,7 @@ module _ (one_text : (c d : Text) → c.alphabet ≡ d.alphabet → c.min ≡ d.
       λ j. first j ∷ rest j
 
   one_fields : (rows : List Data) (fs gs : List NamedField) → DenoteFields rows fs → DenoteFields rows gs → fs ≡ gs
-  one_fields rows fs gs h i =
-      let first : h.dialog ≡ i.dialog = one_dialog h.dialog i.dialog h.built_in i.built_in in
-      let rest : h.others ≡ i.others = others_once h.others i.others (same_ok (map field_value h.others) (map field_value i.others) (sym h.each ∙ i.each)) in
-      h.all ∙ (λ j. first j ∷ rest j) ∙ sym i.all
+  one_fields rows fs gs h i = others_once fs gs (h.2 ∙ ap (λ others. dialog_value ∷ others) (same_ok h.0 i.0 (sym h.1 ∙ i.1)) ∙ sym i.2)
 
   -- ---- the rows
 
@@ -83,7 +66,7 @@ module _ (one_text : (c d : Text) → c.alphabet ≡ d.alphabet → c.min ≡ d.
 
   one_of_rows : (top : Top) (r q : Outcome) → RowsGive top r → RowsGive top q → r ≡ q
   one_of_rows top = one_of_two (Stops (fields_from top.fields)) (Later top) (one_stop (fields_from top.fields)) (one_later top)
-      (λ r q stops later. no_stop (fields_from top.fields) (map field_value later.1.others) r later.1.each stops)
+      (λ r q stops later. no_stop (fields_from top.fields) later.1.0 r later.1.1 stops)
 
   -- ---- the table
 

@@ -12,8 +12,8 @@ use Rattle.fints_script_rows.specs.FieldParts.{is_field}
 use Rattle.fints_script_rows.specs.Fields.{class_value, field_in, field_value}
 use Rattle.fints_script_rows.specs.declared.fault.Place.TheVariants as places
 use Rattle.fints_script_rows.specs.declared.fields.NamedField.{NamedField}
-use Rattle.fints_script.specs.Scripts.{IsDialogField, fields_from, steps_from}
-use Rattle.fints_script.specs.Sound.{FieldsAreApart, StepsAreApart}
+use Rattle.fints_script.specs.Scripts.{fields_from, steps_from}
+use Rattle.fints_script.specs.Sound.{FieldsAreApart, IsDialogField, StepsAreApart}
 use Rattle.fints_script.specs.Steps.{StepValue, Surroundings, step_in}
 use Rattle.fints_script.proofs.ReadParts.{row_of}
 use Rattle.fints_script.proofs.SoundSteps.{step_named}

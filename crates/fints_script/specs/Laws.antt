@@ -6,7 +6,7 @@ use Rattle.fints_script.specs.Plans.{IsClosed, IsClosedTemplate}
 use Rattle.fints_script.specs.Steps.{StepValue}
 use Rattle.fints_script_templates.specs.declared.template.Template.{Template}
 use Rattle.fints_script_rows.specs.declared.fault.ScriptFault.{ScriptFault}
-use Rattle.fints_script.specs.Scripts.{Denotes, IsFirstOf, ScriptValue}
+use Rattle.fints_script.specs.Scripts.{Denotes, IsFirstOf, IsRead, ScriptValue}
 use Rattle.fints_script.specs.Sound.{IsSound}
 
 -- a text denotes one script at most
@@ -25,6 +25,10 @@ OneTextFault = (text : List ℕ) (f g : ScriptFault) → IsFirstOf text f → Is
 abbrev pub ClosedSegments : Type 0
 ClosedSegments = (s : ScriptValue) (orders : List OrderRow) → IsClosed s orders → (n i : ℕ) (step : StepValue) (t : Template) → numbered s.steps n ≡ Some step → slice_get step.templates i ≡ Some t → IsClosedTemplate s.fields orders t
 
--- what a text denotes keeps what every read script keeps
+-- what every read script keeps
+abbrev pub ReadIsSound : Type 0
+ReadIsSound = (s : ScriptValue) → IsRead s → IsSound s
+
+-- what a text denotes keeps it
 abbrev pub DenotedIsSound : Type 0
 DenotedIsSound = (text : List ℕ) (s : ScriptValue) → Denotes text s → IsSound s

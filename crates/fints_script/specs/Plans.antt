@@ -1,6 +1,6 @@
 -- A script with an order table: which accounts and processes are open, and which values are admitted. Words of private contracts and proofs alone stand last, under a heading.
-use Rattle.std.specs.Prelude.{◌≡◌, ◌⊎◌, ℕ, ◌+◌, ◌<◌, Bool, true, false, ◌&&◌, ◌||◌, not, if◌then◌else◌, codes, List, [], ◌∷◌, length, slice_get, zip, All, Option, Some, None}
-use Rattle.std.specs.List.{list_all}
+use Rattle.std.specs.Prelude.{◌≡◌, ◌⊎◌, ℕ, ◌+◌, Bool, true, false, ◌&&◌, ◌||◌, not, if◌then◌else◌, codes, List, [], ◌∷◌, length, slice_get, zip, All, Option, Some, None, option_map}
+use Rattle.std.specs.List.{enumerate_from, filter_map, flat_map, list_all}
 use Rattle.std.specs.Str.{bytes_eq}
 use Rattle.fints_rules_permissions.specs.Orders.{form_of}
 use Rattle.fints_rules_permissions.specs.declared.orders.OrderRow.{OrderRow}
@@ -58,43 +58,31 @@ is_open_process t = bytes_eq t.kind (codes "HKTAN") && not (list_all is_literal 
 abbrev pub open_of : List NamedField → List OrderRow → Template → Option Open
 open_of fields orders t = if is_open_account fields orders t then Some opens.Account else if is_open_process t then Some opens.Process else None
 
--- the first n segments leave nothing open
-abbrev pub AreClosed : List NamedField → List OrderRow → List Template → ℕ → Type 0
-AreClosed fields orders templates n = (i : ℕ) (t : Template) → i < n → slice_get templates i ≡ Some t → open_of fields orders t ≡ None
-
--- this segment is the first that leaves something open; segments count from 0
-pub record IsFirstOpen (fields : List NamedField) (orders : List OrderRow) (templates : List Template) (i : ℕ) (left : Open) : Type 0 where
-  pub template : Template
-  pub stands : slice_get templates i ≡ Some template
-  pub is : open_of fields orders template ≡ Some left
-  pub earlier : AreClosed fields orders templates i
-
--- the first n steps leave nothing open
-abbrev pub StepsAreClosed : List NamedField → List OrderRow → List StepValue → ℕ → Type 0
-StepsAreClosed fields orders steps n = (i : ℕ) (step : StepValue) → i < n → slice_get steps i ≡ Some step → AreClosed fields orders step.templates (length step.templates)
-
--- steps count from 1, and segments as they are numbered in the message
+-- the fault of what is left open; steps count from 1, and segments as they are numbered in the message
 abbrev pub open_fault : Open → ℕ → ℕ → PlanFault
 open_fault opens.Account step segment = faults.OpenAccount step segment
 open_fault opens.Process step segment = faults.OpenProcess step segment
 
--- the first segment of a script that leaves something open; behind HNHBK the signers' HNSHK stand before the segments
-pub record IsFirstOpenStep (fields : List NamedField) (orders : List OrderRow) (steps : List StepValue) (f : PlanFault) : Type 0 where
-  pub step : ℕ
-  pub segment : ℕ
-  pub left : Open
-  pub value : StepValue
-  pub stands : slice_get steps step ≡ Some value
-  pub first : IsFirstOpen fields orders value.templates segment left
-  pub earlier : StepsAreClosed fields orders steps step
-  pub is : f ≡ open_fault left (step + 1) (segment + (length value.signers + 2))
+-- the faults of these segments of step n, in order; the first has this number in the message
+abbrev pub segment_faults : List NamedField → List OrderRow → ℕ → ℕ → List Template → List PlanFault
+segment_faults fields orders n first templates =
+    filter_map (λ (p : ℕ × Template). option_map (λ left. open_fault left n p.0) (open_of fields orders p.1)) (enumerate_from first templates)
 
+-- the faults of step n: before its segments stand HNHBK and the signers' HNSHK
+abbrev pub step_faults : List NamedField → List OrderRow → ℕ → StepValue → List PlanFault
+step_faults fields orders n step = segment_faults fields orders n (length step.signers + 2) step.templates
+
+-- the faults of the steps, in order
+abbrev pub steps_faults : List NamedField → List OrderRow → List StepValue → List PlanFault
+steps_faults fields orders steps = flat_map (λ (p : ℕ × StepValue). step_faults fields orders p.0 p.1) (enumerate_from 1 steps)
+
+-- the first of a script's faults
 abbrev pub IsPlanFault : ScriptValue → List OrderRow → PlanFault → Type 0
-IsPlanFault s orders f = IsFirstOpenStep s.fields orders s.steps f
+IsPlanFault s orders fault = (later : List PlanFault) × (steps_faults s.fields orders s.steps ≡ fault ∷ later)
 
--- no segment of the script leaves anything open
+-- the script has none: no segment of it leaves anything open
 abbrev pub IsClosed : ScriptValue → List OrderRow → Type 0
-IsClosed s orders = StepsAreClosed s.fields orders s.steps (length s.steps)
+IsClosed s orders = steps_faults s.fields orders s.steps ≡ []
 
 -- ---- values
 

@@ -1,11 +1,14 @@
--- What holds of every script that was read.
-use Rattle.std.specs.Prelude.{◌≡◌, ◌≢◌, ℕ, ◌+◌, ◌<◌, ◌≤◌, ◌⊎◌, false, IsTrue, List, length, map, slice_get, Some, All, AllPairs, [], IfSome, IsSome}
+-- What holds of every script that was read, as a law says. Laws, private contracts and models alone cite these words.
+use Rattle.std.specs.Prelude.{◌≡◌, ◌≢◌, codes, ℕ, ◌+◌, ◌<◌, ◌≤◌, ◌⊎◌, false, IsTrue, List, length, map, slice_get, Some, All, AllPairs, [], IfSome, IsSome}
 use Rattle.fints_syntax.specs.Kind.{IsKindText, frame_kinds}
 use Rattle.fints_script_templates.specs.Figures.{figures_of}
+use Rattle.fints_script_fields.specs.declared.alphabet.Alphabet.TheVariants.{Latin}
+use Rattle.fints_script_fields.specs.declared.field.Field.{Field as Class}
+use Rattle.fints_script_fields.specs.declared.field.Field.TheVariants as classes
 use Rattle.fints_script_rows.specs.NamedFields.{is_account_at}
 use Rattle.fints_script.specs.Numbered.{numbered}
 use Rattle.fints_script.specs.Plans.{is_account_field}
-use Rattle.fints_script.specs.Scripts.{ScriptValue, IsDialogField}
+use Rattle.fints_script.specs.Scripts.{ScriptValue}
 use Rattle.fints_script.specs.Steps.{StepValue, Surroundings, step_weight}
 use Rattle.fints_script_templates.specs.Weights.{items_in}
 use Rattle.fints_script_cases.specs.declared.answers.Branch.{Branch}
@@ -89,6 +92,14 @@ pub record IsSoundStep (s : ScriptValue) (step : StepValue) : Type 0 where
   pub templates : All (IsSoundTemplate s.fields) step.templates
   pub seal : IsTrue step.sealed → IsSome s.seal
   pub light : step_weight (surroundings_in s) step ≤ MAX_WEIGHT
+
+-- the class of the dialogue id: a text of 1 to 30 bytes
+abbrev pub IsDialogClass : Class → Type 0
+IsDialogClass (classes.Text c) = (c.alphabet ≡ Latin) × (c.min ≡ 1) × (c.max ≡ 30)
+IsDialogClass _ = ⊥
+
+abbrev pub IsDialogField : NamedField → Type 0
+IsDialogField field = (field.name ≡ codes "dialog") × IsDialogClass field.class
 
 -- the first field is `dialog`, a text of 1 to 30 bytes
 abbrev pub HasDialog : List NamedField → Type 0

@@ -1,8 +1,9 @@
 //! The fields of a script, read row by row.
 ghost use Rattle.std.specs.Prelude.{◌≡◌, ◌≤◌, ◌⊎◌, length, map, Err, IfErr, IfOk};
 ghost use Rattle.toml.specs.View.{view};
+ghost use Rattle.fints_script_rows.specs.Fields.{field_value};
 ghost use Rattle.fints_script_rows.specs.Rows.{no_memory};
-ghost use Rattle.fints_script.specs.Scripts.{DenoteFields, IsDialogField, fields_from};
+ghost use Rattle.fints_script.specs.Scripts.{DenoteFields, dialog_value, fields_from};
 
 use fints_script_fields::{Alphabet, Field, Text};
 use fints_script_rows::limits::MAX_FIELDS;
@@ -13,7 +14,7 @@ use toml::Value;
 
 // The built-in field `dialog`: a text of 1 to 30 bytes.
 fn dialog_field() -> NamedField
-    ensures { IsDialogField result }
+    ensures { field_value result ≡ dialog_value }
 {
     NamedField {
         name: dialog(),

@@ -1,7 +1,8 @@
 //! Accounts and TAN processes that a script leaves open.
-ghost use Rattle.std.specs.Prelude.{◌≡◌, ◌<◌, ◌^◌, length, slice_get, IfSome, IfNone};
+ghost use Rattle.std.specs.Prelude.{◌≡◌, ◌<◌, ◌^◌, List, [], ◌∷◌, slice_get, IfSome, IfNone};
 ghost use Rattle.std.specs.List.{list_all};
-ghost use Rattle.fints_script.specs.Plans.{is_literal, is_account_field, element_two, names_account, is_open_account, is_open_process, open_of, AreClosed, IsFirstOpen, open_fault, StepsAreClosed, IsFirstOpenStep};
+ghost use Rattle.fints_script.specs.Plans.{is_literal, is_account_field, element_two, names_account, is_open_account, is_open_process, open_of, open_fault, segment_faults, steps_faults};
+ghost use Rattle.fints_script.specs.declared.opens.PlanFault.{PlanFault};
 ghost use Rattle.fints_script_rows.specs.NamedFields.{is_account_at};
 
 use crate::steps::Step;
@@ -103,24 +104,6 @@ fn open_of(fields: &[NamedField], orders: &OrderTable, template: &Template) -> O
     None
 }
 
-// The first segment that leaves something open, by its place counted from 0.
-fn first_open(
-    fields: &[NamedField],
-    orders: &OrderTable,
-    templates: &[Template],
-) -> Option<(usize, Open)>
-    ensures none { IfNone result (AreClosed fields.now orders.now templates.now (length templates.now)) }
-    ensures some { IfSome result (λ p. IsFirstOpen fields.now orders.now templates.now p.0 p.1) }
-    ensures within { IfSome result (λ p. p.0 < length templates.now) }
-{
-    for i in 0..templates.len() {
-        if let Some(open) = open_of(fields, orders, &templates[i]) {
-            return Some((i, open));
-        }
-    }
-    None
-}
-
 // The fault of what is left open.
 fn open_fault(left: Open, step: usize, segment: usize) -> PlanFault
     ensures { result ≡ open_fault left step segment }
@@ -131,24 +114,36 @@ fn open_fault(left: Open, step: usize, segment: usize) -> PlanFault
     }
 }
 
-// The first segment of a step that leaves something open.
-fn first_in_step(fields: &[NamedField], orders: &OrderTable, step: &Step) -> Option<(usize, Open)>
-    ensures none { IfNone result (AreClosed fields.now orders.now step.now.templates (length step.now.templates)) }
-    ensures some { IfSome result (λ p. IsFirstOpen fields.now orders.now step.now.templates p.0 p.1) }
-    ensures within { IfSome result (λ p. p.0 < 2 ^ 63) }
+// The first fault of these segments of step n; the first of them has this number in the message.
+fn first_in_step(
+    fields: &[NamedField],
+    orders: &OrderTable,
+    n: usize,
+    first: usize,
+    templates: &[Template],
+) -> Option<PlanFault>
+    requires { first < 2 ^ 63 }
+    ensures { result ≡ slice_get (segment_faults fields.now orders.now n first templates.now) 0 }
 {
-    first_open(fields, orders, step.templates())
+    for i in 0..templates.len() {
+        if let Some(left) = open_of(fields, orders, &templates[i]) {
+            return Some(open_fault(left, n, first + i));
+        }
+    }
+    None
 }
 
 /// The fault of the first segment, in order of step and segment, that leaves something open.
 pub fn first_fault(fields: &[NamedField], orders: &OrderTable, steps: &[Step]) -> Option<PlanFault>
-    ensures none { IfNone result (StepsAreClosed fields.now orders.now steps.now (length steps.now)) }
-    ensures some { IfSome result (IsFirstOpenStep fields.now orders.now steps.now) }
+    ensures none { IfNone result (steps_faults fields.now orders.now steps.now ≡ []) }
+    ensures some { IfSome result (λ fault. (later : List PlanFault) × (steps_faults fields.now orders.now steps.now ≡ fault ∷ later)) }
 {
     for i in 0..steps.len() {
         let step = &steps[i];
-        if let Some((place, left)) = first_in_step(fields, orders, step) {
-            return Some(open_fault(left, i + 1, place + (step.signers().len() + 2)));
+        let first = step.signers().len() + 2;
+        let fault = first_in_step(fields, orders, i + 1, first, step.templates());
+        if let Some(fault) = fault {
+            return Some(fault);
         }
     }
     None

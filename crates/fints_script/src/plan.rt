@@ -3,7 +3,6 @@ ghost use Rattle.std.specs.Prelude.{◌≡◌, ◌↔◌, ◌<◌, ◌≤◌, �
 ghost use Rattle.fints_script.specs.Plans.{IsClosed, IsPlanFault, IsChosen, Admits};
 ghost use Rattle.fints_script.specs.Scripts.{IsRead};
 ghost use Rattle.fints_script.specs.Numbered.{numbered};
-ghost use Rattle.fints_script.specs.Sound.{IsSound, IsSoundStep};
 
 use crate::opens::{PlanFault, first_fault};
 use crate::script::Script;
@@ -75,7 +74,6 @@ impl<'a> Plan<'a> {
     pub fn step_count(&self) -> usize
         ensures count { result ≡ length self.now.script.steps }
         ensures read { IsRead self.now.script }
-        ensures sound { IsSound self.now.script }
     {
         self.script.steps().len()
     }
@@ -86,8 +84,7 @@ impl<'a> Plan<'a> {
         requires to { n ≤ length self.now.script.steps }
         ensures step { slice_get self.now.script.steps (n - 1) ≡ Some result.now }
         ensures numbered { numbered self.now.script.steps n ≡ Some result.now }
-        ensures sound { IsSound self.now.script }
-        ensures sound_step { IsSoundStep self.now.script result.now }
+        ensures read { IsRead self.now.script }
     {
         &self.script.steps()[n - 1]
     }
@@ -125,7 +122,6 @@ impl<'a> Plan<'a> {
     /// TAN process open.
     pub fn keeps(&self)
         ensures read { IsRead self.now.script }
-        ensures sound { IsSound self.now.script }
         ensures closed { IsClosed self.now.script self.now.orders }
     {
         let _ = self.script.steps();

@@ -7,14 +7,15 @@ use Rattle.fints_syntax_segments.specs.Segment.{item_value}
 use Rattle.fints_syntax_segments.specs.declared.item.OwnedItem.{OwnedItem}
 use Rattle.fints_script_fields.specs.declared.field.Field.{Field}
 use Rattle.fints_script_fields.specs.Lengths.{text_len}
-use Rattle.fints_script_fields.specs.Listed.{IsFirstOfGreatest, IsFirstOfLeast, account_text, account_len, first_longest, first_shortest}
+use Rattle.fints_script_fields.specs.Listed.{account_text, account_len, first_longest, first_shortest}
+use Rattle.fints_script_fields.specs.ListedLaws.{IsFirstOfGreatest, IsFirstOfLeast, longest_is_first, shortest_is_first}
 use Rattle.fints_script_fields.specs.declared.field.Field.TheVariants as fields
 use Rattle.fints_script_fields.specs.declared.counted.Bin.{Bin}
 use Rattle.fints_script_fields.specs.declared.counted.Text.{Text}
 use Rattle.fints_script_fields.specs.declared.listing.Account.{Account}
 use Rattle.fints_script_fields.specs.declared.listing.OneOf.{OneOf}
 use Rattle.std.proofs.Common.{[], length}
-use Rattle.fints_script_fields.proofs.FirstOf.{greatest_text, longest_is_first, least_text, shortest_is_first}
+use Rattle.fints_script_fields.proofs.FirstOf.{greatest_text, least_text}
 use Rattle.fints_script_fields.proofs.Telling.{found_is}
 use Rattle.fints_script_fields.proofs.Domains.{value_listed, listed_admitted, listed_items, one_item, empty_shortest, longest_alone, longest_empty}
 use Rattle.fints_script_fields.proofs.OneClass.{one_account, one_bin, one_oneof, one_text}

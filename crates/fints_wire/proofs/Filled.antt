@@ -19,8 +19,8 @@ use Rattle.fints_script_rows.specs.NamedFields.{is_account}
 use Rattle.fints_script_rows.specs.declared.fields.NamedField.{NamedField}
 use Rattle.fints_script_cases.specs.declared.values.NamedValue.{NamedValue}
 use Rattle.fints_script.specs.Plans.{Admits, IsChosen, is_literal}
-use Rattle.fints_script.specs.Scripts.{ScriptValue, IsDialogClass}
-use Rattle.fints_script.specs.Sound.{HasDialog, IsSound}
+use Rattle.fints_script.specs.Scripts.{ScriptValue}
+use Rattle.fints_script.specs.Sound.{HasDialog, IsDialogClass, IsSound}
 use Rattle.fints_script_templates.specs.declared.template.Template.{Template}
 use Rattle.fints_script_templates.specs.declared.template.TemplateItem.{TemplateItem}
 use Rattle.fints_script_templates.specs.declared.template.TemplateItem.TheVariants.{Literal, Dialog, Field}

@@ -14,8 +14,8 @@ use Rattle.fints_script_fields.specs.FieldLaws.{has_few_items}
 use Rattle.fints_script_fields.specs.Fields.{field_most_items}
 use Rattle.fints_script_templates.specs.Figures.{figures_of}
 use Rattle.fints_script.specs.Plans.{Admits, IsChosen}
-use Rattle.fints_script.specs.Scripts.{ScriptValue, IsDialogClass}
-use Rattle.fints_script.specs.Sound.{HasDialog, IsSound, IsSoundFrame, IsSoundStep}
+use Rattle.fints_script.specs.Scripts.{ScriptValue}
+use Rattle.fints_script.specs.Sound.{HasDialog, IsDialogClass, IsSound, IsSoundFrame, IsSoundStep}
 use Rattle.fints_script.specs.Steps.{StepValue}
 use Rattle.fints_script_templates.specs.Weights.{element_count, item_count, items_in, no_figures, total}
 use Rattle.fints_script_fields.specs.declared.field.Field.{Field}

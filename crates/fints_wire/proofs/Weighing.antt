@@ -18,8 +18,8 @@ use Rattle.fints_script_templates.specs.Figures.{figures_of}
 use Rattle.fints_script_fields.specs.Joined.{joined}
 use Rattle.fints_script_fields.specs.Lengths.{text_len}
 use Rattle.fints_script.specs.Plans.{Admits, IsChosen}
-use Rattle.fints_script.specs.Scripts.{ScriptValue, IsDialogClass}
-use Rattle.fints_script.specs.Sound.{HasDialog, IsSound, IsSoundStep}
+use Rattle.fints_script.specs.Scripts.{ScriptValue}
+use Rattle.fints_script.specs.Sound.{HasDialog, IsDialogClass, IsSound, IsSoundStep}
 use Rattle.fints_script.specs.Steps.{StepValue, seal_weight, signature_weight}
 use Rattle.fints_script_templates.specs.Weights.{element_weight, item_weight, no_figures, segment_weight, signer_weight, total}
 use Rattle.fints_script_fields.specs.declared.alphabet.Alphabet.{Alphabet}

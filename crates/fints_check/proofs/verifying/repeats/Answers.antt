@@ -7,7 +7,13 @@ use Rattle.fints_script_cases.specs.declared.answers.Target.TheVariants.{Again}
 use Rattle.fints_script.specs.Numbered.{numbered_from, numbered_within}
 use Rattle.fints_script_cases.specs.Answers.{IsOpenTo}
 use Rattle.fints_check.proofs.Numbered.{numbered_is, set_here, set_other}
+use Rattle.fints_script.proofs.LawLemmas.{sound_of}
 use Rattle.fints_check.proofs.verifying.repeats.Goals as goal
+
+pub bounds-flags-i : goal.bounds-flags-i
+bounds-flags-i c =
+    let few = (sound_of c.step_count-i-end.ensures.read).few_steps in
+    omega (arith, few, c.step_count-i-end.ensures.count, c.loop-i-test.true)
 
 pub loop-i-preserved : goal.loop-i-preserved
 loop-i-preserved c =
@@ -16,7 +22,7 @@ loop-i-preserved c =
     let i : ℕ = c.loop-i.i in
     let found = c.is_repeated.result in
     let long = c.loop-i.invariant.long in
-    let few = c.step_count-i-end.ensures.sound.few_steps in
+    let few = (sound_of c.step_count-i-end.ensures.read).few_steps in
     let count = c.step_count-i-end.ensures.count in
     let test = c.loop-i-test.true in
     let back : i + 1 - 1 ≡ i = omega arith in
@@ -42,7 +48,7 @@ loop-i-preserved c =
 pub returns : goal.returns
 returns c =
     let steps = c.args.plan.now.script.steps in
-    let few = c.step_count-i-end.ensures.sound.few_steps in
+    let few = (sound_of c.step_count-i-end.ensures.read).few_steps in
     let count = c.step_count-i-end.ensures.count in
     let done = c.loop-i-test.false in
     let long = c.loop-i.invariant.long in

@@ -19,13 +19,14 @@ use Rattle.fints_check_findings.proofs.CaseLemmas.{if_ok, number_not, number_val
 use Rattle.fints_check_findings.proofs.ChosenValues.{at_step_number, chosen_for, other_chosen, size_chosen}
 use Rattle.fints_check_findings.proofs.Reals.{real_breaks}
 use Rattle.fints_wire.proofs.LawLemmas.{extremes_are_admitted_shortest}
+use Rattle.fints_script.proofs.LawLemmas.{sound_of}
 use Rattle.fints_check_findings.proofs.casing.case_values.Goals as goal
 
 pub returns-in-Size : goal.returns-in-Size
 returns-in-Size c =
     let script = c.args.plan.now.script in
     let granted = c.args.permissions.now in
-    let sound = c.keeps.ensures.sound in
+    let sound = sound_of c.keeps.ensures.read in
     let breaks = size_values script granted c.args.finding sound c.in-Size.is in
     if_ok (λ v. v ≡ longest_choice script.fields) (AreCaseValues granted script c.args.finding) c.values_of.result
     (λ v is. record { admitted = λ r. absurd (size_not c.args.finding.rule c.in-Size.is r); greatest = λ other. subst (BreaksAtGreatest granted script c.args.finding) (sym is) breaks; chosen = λ number step at peak real. size_chosen granted script c.args.finding v c.in-Size.is is }) c.values_of.ensures
@@ -34,7 +35,7 @@ pub returns-in-Number : goal.returns-in-Number
 returns-in-Number c =
     let script = c.args.plan.now.script in
     let granted = c.args.permissions.now in
-    let sound = c.keeps.ensures.sound in
+    let sound = sound_of c.keeps.ensures.read in
     if_ok (λ v. v ≡ shortest_choice script.fields) (AreCaseValues granted script c.args.finding) c.values_of-in-Number.result
     (λ v is. record {
       admitted = λ r. absurd (number_not c.args.finding.rule c.in-Number.is r);
@@ -55,7 +56,7 @@ pub returns-in_default : goal.returns-in_default
 returns-in_default c =
     let script = c.args.plan.now.script in
     let granted = c.args.permissions.now in
-    let sound = c.keeps.ensures.sound in
+    let sound = sound_of c.keeps.ensures.read in
     let f = c.args.finding in
     let choice = c.choice-choice.result in
     let sort : c.chosen_sort.result ≡ chosen_sort (wants_tan f.rule) choice = c.chosen_sort.ensures ∙ ap (λ (most : Bool). chosen_sort most choice) c.wants_tan.ensures in

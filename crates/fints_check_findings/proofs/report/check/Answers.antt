@@ -18,6 +18,7 @@ use Rattle.fints_check_findings.proofs.Founds.{found_all, found_first, found_non
 use Rattle.fints_check_findings.proofs.Holding.{cell_tells}
 use Rattle.fints_check_findings.proofs.Reals.{figures_are, number_small}
 use Rattle.fints_check_findings.proofs.LawLemmas.{held_is_unreleased, release_is_left, unreleased_is_real}
+use Rattle.fints_script.proofs.LawLemmas.{sound_of}
 use Rattle.fints_check_findings.proofs.report.check.Goals as goal
 use Rattle.fints_check_findings.proofs.report.check.Goals.{in-None, in-Some+in_ok-search-in-Some}
 
@@ -25,7 +26,7 @@ pub loop-i-init : goal.loop-i-init
 loop-i-init c =
     let script = c.args.plan.now.script in
     let granted = c.args.permissions.now in
-    let sound = c.keeps.ensures.sound in
+    let sound = sound_of c.keeps.ensures.read in
     record {
       findings = subst (AreFoundTo granted script 1 1 0) (sym c.new-findings.ensures.items) (found_first granted script (λ f real. (real_within granted script sound f real).0));
       figures = figures_none script c.in_ok-figures.figures.items c.in_ok-figures.ensures.items;
@@ -36,7 +37,7 @@ pub figures_at-reached-requires-clause-least : goal.figures_at-reached-requires-
 figures_at-reached-requires-clause-least c =
     let script = c.args.plan.now.script in
     let granted = c.args.permissions.now in
-    let sound = c.keeps.ensures.sound in
+    let sound = sound_of c.keeps.ensures.read in
     let numbers = c.in_ok-numbers.numbers.greatest.items in
     let greatest = c.in_ok-numbers.ensures.greatest in
     let has : Has numbers (c.loop-i.i + 1) c.in-Some.number = cell_at numbers c.loop-i.i c.index.result.now (omega (arith, greatest.long, c.step_count-count.ensures.count)) c.index.ensures ∙ ap (λ x. Some x) c.in-Some.is in
@@ -46,7 +47,7 @@ pub figures_at-reached-requires-clause-most : goal.figures_at-reached-requires-c
 figures_at-reached-requires-clause-most c =
     let script = c.args.plan.now.script in
     let granted = c.args.permissions.now in
-    let sound = c.keeps.ensures.sound in
+    let sound = sound_of c.keeps.ensures.read in
     let numbers = c.in_ok-numbers.numbers.greatest.items in
     let greatest = c.in_ok-numbers.ensures.greatest in
     let has : Has numbers (c.loop-i.i + 1) c.in-Some.number = cell_at numbers c.loop-i.i c.index.result.now (omega (arith, greatest.long, c.step_count-count.ensures.count)) c.index.ensures ∙ ap (λ x. Some x) c.in-Some.is in
@@ -68,7 +69,7 @@ pub new-requires-clause-unreleased : goal.new-requires-clause-unreleased
 new-requires-clause-unreleased c =
     let script = c.args.plan.now.script in
     let granted = c.args.permissions.now in
-    let sound = c.keeps.ensures.sound in
+    let sound = sound_of c.keeps.ensures.read in
     let closed = subst (IsClosed script) (sym c.requires) c.keeps.ensures.closed in
     let numbers = c.in_ok-numbers.numbers.greatest.items in
     let holders = c.in_ok-holders.holders.items in
@@ -84,7 +85,7 @@ pub loop-i-preserved : goal.loop-i-preserved
 loop-i-preserved c =
     let script = c.args.plan.now.script in
     let granted = c.args.permissions.now in
-    let sound = c.keeps.ensures.sound in
+    let sound = sound_of c.keeps.ensures.read in
     let numbers = c.in_ok-numbers.numbers.greatest.items in
     let greatest = c.in_ok-numbers.ensures.greatest in
     let n : ℕ = c.loop-i.i + 1 in
@@ -119,7 +120,7 @@ pub invariant_of-result : goal.invariant_of-result
 invariant_of-result c =
     let script = c.args.plan.now.script in
     let granted = c.args.permissions.now in
-    let sound = c.keeps.ensures.sound in
+    let sound = sound_of c.keeps.ensures.read in
     let all : c.loop-i.i ≡ length script.steps = omega (arith, c.loop-i-test.false, c.loop-i.auto.i-end, c.step_count-count.ensures.count) in
     (c.requires, found_all granted script c.loop-i.i c.loop-i.findings.items (λ f real. subst (λ (k : ℕ). f.step ≤ k) (sym all) (real_within granted script sound f real).1) c.loop-i.invariant.findings, figures_all script c.loop-i.i c.loop-i.figures.items all c.loop-i.invariant.figures, visits_told script.steps c.loop-i.figures.items c.in_ok-numbers.numbers.greatest.items c.loop-i.i c.in_ok-numbers.numbers.visits (omega (arith, c.in_ok-numbers.ensures.greatest.long, all)) c.loop-i.invariant.reached c.in_ok-numbers.ensures.visits, c.in_ok-numbers.ensures.greatest, c.in_ok-numbers.ensures.sources, c.in_ok-holders.ensures)
 
@@ -127,7 +128,7 @@ pub returns-clause-exactly : goal.returns-clause-exactly
 returns-clause-exactly c =
     let script = c.args.plan.now.script in
     let granted = c.args.permissions.now in
-    let sound = c.keeps.ensures.sound in
+    let sound = sound_of c.keeps.ensures.read in
     let all : c.loop-i.i ≡ length script.steps = omega (arith, c.loop-i-test.false, c.loop-i.auto.i-end, c.step_count-count.ensures.count) in
     (found_all granted script c.loop-i.i c.loop-i.findings.items (λ f real. subst (λ (k : ℕ). f.step ≤ k) (sym all) (real_within granted script sound f real).1) c.loop-i.invariant.findings).exactly
 
@@ -135,7 +136,7 @@ pub returns-clause-permitted : goal.returns-clause-permitted
 returns-clause-permitted c =
     let script = c.args.plan.now.script in
     let granted = c.args.permissions.now in
-    let sound = c.keeps.ensures.sound in
+    let sound = sound_of c.keeps.ensures.read in
     let all : c.loop-i.i ≡ length script.steps = omega (arith, c.loop-i-test.false, c.loop-i.auto.i-end, c.step_count-count.ensures.count) in
     clean_permits granted script c.loop-i.findings.items sound
     (found_all granted script c.loop-i.i c.loop-i.findings.items (λ f real. subst (λ (k : ℕ). f.step ≤ k) (sym all) (real_within granted script sound f real).1) c.loop-i.invariant.findings).exactly

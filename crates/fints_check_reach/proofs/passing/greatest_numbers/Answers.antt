@@ -12,6 +12,7 @@ use Rattle.fints_check_reach.proofs.Blanks.{first_alone, first_there}
 use Rattle.fints_check_reach.proofs.Scripts.{script_of}
 use Rattle.fints_check_reach.proofs.Visits.{few_visits, looked_at_push, none_looked_at}
 use Rattle.fints_wire.proofs.RunLawLemmas.{runs_by_steps, visits_are_within}
+use Rattle.fints_script.proofs.LawLemmas.{sound_of}
 use Rattle.fints_check_reach.proofs.passing.greatest_numbers.Goals as goal
 
 pub loop-i-init : goal.loop-i-init
@@ -21,7 +22,7 @@ loop-i-init c =
     let count = c.step_count-count.result in
     let blank : List (Option ℕ) = replicate count None in
     let all : c.in_ok-entries.entries.items ≡ blank = c.in_ok-entries.ensures in
-    let some = c.step_count-count.ensures.sound.some_steps in
+    let some = (sound_of c.step_count-count.ensures.read).some_steps in
     let long : length (set blank 0 (Some 1)) ≡ length steps = length-set blank 0 (Some 1) ∙ (length-replicate count None ∙ c.step_count-count.ensures.count) in
     let first = pass_none steps count (set blank 0 (Some 1)) c.in_ok-sources.sources.items (sym c.step_count-count.ensures.count) long c.in_ok-sources.ensures (first_there count 1 (omega (arith, some, c.step_count-count.ensures.count))) (first_alone count 1) in
     record {
@@ -32,13 +33,19 @@ loop-i-init c =
       visits = sym (ap (λ (xs : List (Option ℕ)). looked_at steps (map is_some xs)) c.in_ok-greatest.ensures.items ∙ none_looked_at steps);
     }
 
+pub index_mut-requires : goal.index_mut-requires
+index_mut-requires c =
+    let some = (sound_of c.step_count-count.ensures.read).some_steps in
+    let long = ap length c.in_ok-entries.ensures ∙ length-replicate c.step_count-count.result None in
+    omega (arith, some, c.step_count-count.ensures.count, long)
+
 pub pass_step-number-requires-clause-small : goal.pass_step-number-requires-clause-small
-pass_step-number-requires-clause-small c e h = entered_small c.args.plan.now.script c.loop-i.entries.items c.loop-i.sources.items c.loop-i.greatest.items c.loop-i.i (c.loop-i.i + 1) e c.step_count-count.ensures.sound (runs_by_steps c.args.plan.now.script.steps) (λ v. visits_are_within c.args.plan.now.script v c.step_count-count.ensures.sound) c.loop-i.invariant.pass h
+pass_step-number-requires-clause-small c e h = entered_small c.args.plan.now.script c.loop-i.entries.items c.loop-i.sources.items c.loop-i.greatest.items c.loop-i.i (c.loop-i.i + 1) e (sound_of c.step_count-count.ensures.read) (runs_by_steps c.args.plan.now.script.steps) (λ v. visits_are_within c.args.plan.now.script v (sound_of c.step_count-count.ensures.read)) c.loop-i.invariant.pass h
 
 pub pass_step-number-requires-clause-room : goal.pass_step-number-requires-clause-room
 pass_step-number-requires-clause-room c =
     let script = c.args.plan.now.script in
-    let few = few_visits script (map is_some c.loop-i.greatest.items) c.step_count-count.ensures.sound (omega (arith, length-map c.loop-i.greatest.items is_some, c.loop-i.invariant.pass.kept, c.step_count-count.ensures.count)) in
+    let few = few_visits script (map is_some c.loop-i.greatest.items) (sound_of c.step_count-count.ensures.read) (omega (arith, length-map c.loop-i.greatest.items is_some, c.loop-i.invariant.pass.kept, c.step_count-count.ensures.count)) in
     omega (arith, few, c.loop-i.invariant.visits)
 
 pub pass_step-number-requires-clause-kept : goal.pass_step-number-requires-clause-kept
@@ -48,7 +55,7 @@ pub loop-i-preserved : goal.loop-i-preserved
 loop-i-preserved c =
     let steps = c.args.plan.now.script.steps in
     let at = c.step-step.ensures.numbered in
-    let more = pass_more steps c.loop-i.entries.items c.pass_step-number.new.entries.items c.loop-i.sources.items c.pass_step-number.new.sources.items c.loop-i.greatest.items c.pass_step-number.result c.loop-i.i (c.loop-i.i + 1) c.step-step.result.now refl at (c.pass_step-number.ensures.passed c.step-step.result.now at) c.loop-i.invariant.pass.kept (script_of c.args.plan.now.script c.step_count-count.ensures.sound) c.loop-i.invariant.pass in
+    let more = pass_more steps c.loop-i.entries.items c.pass_step-number.new.entries.items c.loop-i.sources.items c.pass_step-number.new.sources.items c.loop-i.greatest.items c.pass_step-number.result c.loop-i.i (c.loop-i.i + 1) c.step-step.result.now refl at (c.pass_step-number.ensures.passed c.step-step.result.now at) c.loop-i.invariant.pass.kept (script_of c.args.plan.now.script (sound_of c.step_count-count.ensures.read)) c.loop-i.invariant.pass in
     let there : slice_get steps (length (map is_some c.loop-i.greatest.items)) ≡ Some c.step-step.result.now = subst (λ (k : ℕ). slice_get steps k ≡ Some c.step-step.result.now) (omega (arith, length-map c.loop-i.greatest.items is_some, c.loop-i.invariant.pass.kept)) (numbered_from steps (c.loop-i.i + 1) c.step-step.result.now at) in
     record {
       pass = subst (λ (xs : List (Option ℕ)). Pass steps c.pass_step-number.new.entries.items c.pass_step-number.new.sources.items xs (c.loop-i.i + 1)) (sym c.in_ok-push.ensures.items) more;
@@ -64,11 +71,11 @@ loop-i-preserved c =
 pub returns-clause-greatest : goal.returns-clause-greatest
 returns-clause-greatest c =
     let last : c.loop-i.i ≡ length c.args.plan.now.script.steps = omega (arith, c.step_count-count.ensures.count) in
-    pass_greatest c.args.plan.now.script.steps c.loop-i.entries.items c.loop-i.sources.items c.loop-i.greatest.items (runs_by_steps c.args.plan.now.script.steps) (script_of c.args.plan.now.script c.step_count-count.ensures.sound)
+    pass_greatest c.args.plan.now.script.steps c.loop-i.entries.items c.loop-i.sources.items c.loop-i.greatest.items (runs_by_steps c.args.plan.now.script.steps) (script_of c.args.plan.now.script (sound_of c.step_count-count.ensures.read))
     (subst (λ i. Pass c.args.plan.now.script.steps c.loop-i.entries.items c.loop-i.sources.items c.loop-i.greatest.items i) last c.loop-i.invariant.pass)
 
 pub returns-clause-sources : goal.returns-clause-sources
 returns-clause-sources c =
     let last : c.loop-i.i ≡ length c.args.plan.now.script.steps = omega (arith, c.step_count-count.ensures.count) in
-    pass_sources c.args.plan.now.script.steps c.loop-i.entries.items c.loop-i.sources.items c.loop-i.greatest.items (script_of c.args.plan.now.script c.step_count-count.ensures.sound)
+    pass_sources c.args.plan.now.script.steps c.loop-i.entries.items c.loop-i.sources.items c.loop-i.greatest.items (script_of c.args.plan.now.script (sound_of c.step_count-count.ensures.read))
     (subst (λ i. Pass c.args.plan.now.script.steps c.loop-i.entries.items c.loop-i.sources.items c.loop-i.greatest.items i) last c.loop-i.invariant.pass)

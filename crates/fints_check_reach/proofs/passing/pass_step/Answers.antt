@@ -9,17 +9,29 @@ use Rattle.fints_check_reach.proofs.Keeping.{carried_within, none_asks, passed_a
 use Rattle.fints_check_reach.proofs.Lookups.{numbered_read}
 use Rattle.fints_check_reach.proofs.Scripts.{lead_forward, script_of}
 use Rattle.fints_script_cases.proofs.LawLemmas.{carrying_leads}
+use Rattle.fints_script.proofs.LawLemmas.{sound_of, sound_step_of}
 use Rattle.fints_check_reach.proofs.passing.pass_step.Goals as goal
 
 pub spare-requires-clause-once : goal.spare-requires-clause-once
-spare-requires-clause-once c = ((script_of c.args.plan.now.script c.keeps.ensures.sound).each c.args.n c.args.step.now c.requires.at).once
+spare-requires-clause-once c = ((script_of c.args.plan.now.script (sound_of c.keeps.ensures.read)).each c.args.n c.args.step.now c.requires.at).once
+
+pub overflow_cast-n : goal.overflow_cast-n
+overflow_cast-n c = omega (arith, (sound_of c.keeps.ensures.read).few_steps, c.requires.to)
+
+pub overflow_cast-n-in-Some : goal.overflow_cast-n-in-Some
+overflow_cast-n-in-Some c = omega (arith, (sound_of c.keeps.ensures.read).few_steps, c.requires.to)
+
+pub look_at_branches-flags-requires-clause-few : goal.look_at_branches-flags-requires-clause-few
+look_at_branches-flags-requires-clause-few c =
+    let step = sound_step_of c.args.n c.args.step.now c.keeps.ensures.read c.requires.at in
+    omega (arith, step.few_branches)
 
 pub overflow_add-number : goal.overflow_add-number
 overflow_add-number c =
     let old = c.args.entries.now.items in
     let is : numbered old c.args.n ≡ Some (Some c.in-Some.entry) = numbered_read old c.args.n c.index.result.now c.requires.from (omega (arith, c.requires.long)) c.index.ensures ∙ ap (λ x. Some x) c.in-Some.is in
     let small = c.requires.small c.in-Some.entry is in
-    let often = ((script_of c.args.plan.now.script c.keeps.ensures.sound).each c.args.n c.args.step.now c.requires.at).often in
+    let often = ((script_of c.args.plan.now.script (sound_of c.keeps.ensures.read)).each c.args.n c.args.step.now c.requires.at).often in
     let more = spare_small c.args.step.now c.spare.result c.spare.ensures often in
     omega arith
 
@@ -28,19 +40,19 @@ overflow_add-number-in-Some c =
     let old = c.args.entries.now.items in
     let is : numbered old c.args.n ≡ Some (Some c.in-Some.entry) = numbered_read old c.args.n c.index.result.now c.requires.from (omega (arith, c.requires.long)) c.index.ensures ∙ ap (λ x. Some x) c.in-Some.is in
     let small = c.requires.small c.in-Some.entry is in
-    let often = ((script_of c.args.plan.now.script c.keeps.ensures.sound).each c.args.n c.args.step.now c.requires.at).often in
+    let often = ((script_of c.args.plan.now.script (sound_of c.keeps.ensures.read)).each c.args.n c.args.step.now c.requires.at).often in
     let more = spare_small c.args.step.now c.spare.result c.spare.ensures often in
     omega arith
 
 pub look_at_branches-flags-requires-clause-within : goal.look_at_branches-flags-requires-clause-within
 look_at_branches-flags-requires-clause-within c s goes =
-    let within = carried_within carrying_leads c.args.plan.now.script.steps c.args.n c.args.asked.now.code s c.args.step.now (script_of c.args.plan.now.script c.keeps.ensures.sound) c.requires.at goes in
+    let within = carried_within carrying_leads c.args.plan.now.script.steps c.args.n c.args.asked.now.code s c.args.step.now (script_of c.args.plan.now.script (sound_of c.keeps.ensures.read)) c.requires.at goes in
     let high = within.1 in
     (within.0, omega (arith, high, c.requires.kept))
 
 pub raise_targets-requires-clause-onward : goal.raise_targets-requires-clause-onward
 raise_targets-requires-clause-onward c to can =
-    let script = script_of c.args.plan.now.script c.keeps.ensures.sound in
+    let script = script_of c.args.plan.now.script (sound_of c.keeps.ensures.read) in
     subst (λ k. IsOnward k c.args.n to) (sym c.requires.long) (lead_forward c.args.plan.now.script.steps c.args.n c.args.step.now to script c.requires.at can)
 
 pub returns-in-None-clause-passed : goal.returns-in-None-clause-passed

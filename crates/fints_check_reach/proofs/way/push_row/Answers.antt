@@ -1,7 +1,14 @@
 use Rattle.std.proofs.Common.{ℕ, ◌+◌, ◌-◌, ◌<◌, ◌≡◌, List, arith, sym, subst}
 use Rattle.fints_wire.specs.Runs.{RouteTo}
 use Rattle.fints_check_reach.proofs.WayLemmas.{row_full, row_more}
+use Rattle.fints_wire.proofs.RunLawLemmas.{routes_grow_more}
+use Rattle.fints_script.proofs.LawLemmas.{sound_step_of}
 use Rattle.fints_check_reach.proofs.way.push_row.Goals as goal
+
+pub overflow_sub-k-end : goal.overflow_sub-k-end
+overflow_sub-k-end c =
+    let step = sound_step_of c.args.n c.step-step.result.now c.step-step.ensures.read c.step-step.ensures.numbered in
+    omega (arith, step.once, c.repeat-k-end.ensures)
 
 pub loop-k-preserved : goal.loop-k-preserved
 loop-k-preserved c numbers e =

@@ -1,4 +1,4 @@
-use Rattle.std.proofs.Common.{ℕ, Option, List, sym, subst, ◌∙◌}
+use Rattle.std.proofs.Common.{ℕ, Option, List, sym, subst, ◌∙◌, arith}
 use Rattle.std.proofs.lemmas.Option.{same_Some}
 use Rattle.fints_script_cases.specs.declared.answers.Target.TheVariants.{Step}
 use Rattle.fints_script.specs.Numbered.{numbered_within}
@@ -7,6 +7,7 @@ use Rattle.fints_check_reach.specs.Leading.{Leads}
 use Rattle.fints_check_reach.specs.Walking.{EntersTo, IsWayBack}
 use Rattle.fints_check_reach.proofs.WayLemmas.{back_has, back_next, enters_first, enters_on}
 use Rattle.fints_wire.proofs.RunLawLemmas.{routes_grow_first}
+use Rattle.fints_script.proofs.LawLemmas.{sound_of}
 use Rattle.fints_check_reach.proofs.way.way_into.Goals as goal
 
 pub loop-next-init : goal.loop-next-init
@@ -16,7 +17,7 @@ loop-next-init c =
     let sources = c.args.numbers.now.sources.items in
     let back : IsWayBack sources c.args.n c.in_ok-later.later.items 1 = subst (λ (xs : List (Option ℕ)). IsWayBack xs c.args.n c.in_ok-later.later.items 1) c.as_slice.ensures.value c.in_ok-later.ensures in
     let first = back_has steps numbers sources c.requires.sources c.args.n c.in_ok-later.later.items 1 c.requires.reached.0 back c.requires.reached.1 in
-    let enters = enters_first steps numbers sources c.requires.sources first.0 first.1 c.keeps.ensures.sound.some_steps (routes_grow_first steps) in
+    let enters = enters_first steps numbers sources c.requires.sources first.0 first.1 (sound_of c.keeps.ensures.read).some_steps (routes_grow_first steps) in
     record {
       so_far = subst (λ (xs : List (List ℕ)). EntersTo steps numbers 1 xs) (sym c.new-answers.ensures.items) enters;
       rest = back;
@@ -27,6 +28,12 @@ push_row-requires-clause-from c = (numbered_within c.args.plan.now.script.steps 
 
 pub push_row-requires-clause-to : goal.push_row-requires-clause-to
 push_row-requires-clause-to c = (numbered_within c.args.plan.now.script.steps c.loop-next.at c.loop-next.invariant.so_far.step c.loop-next.invariant.so_far.at).1
+
+pub overflow_cast-n : goal.overflow_cast-n
+overflow_cast-n c = omega (arith, (sound_of c.keeps.ensures.read).few_steps, c.requires.to)
+
+pub push_onward-requires-clause-last : goal.push_onward-requires-clause-last
+push_onward-requires-clause-last c = (numbered_within c.args.plan.now.script.steps c.loop-next.at c.loop-next.invariant.so_far.step c.loop-next.invariant.so_far.at).1
 
 pub push_onward-requires-clause-leads : goal.push_onward-requires-clause-leads
 push_onward-requires-clause-leads c step at =

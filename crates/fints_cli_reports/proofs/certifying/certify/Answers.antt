@@ -10,6 +10,7 @@ use Rattle.fints_cli_texts.specs.declared.reply.Reply.{Reply}
 use Rattle.fints_script.specs.Plans.{PlanValue}
 use Rattle.fints_cli_reports.specs.Certified.{IsCertifiedBy}
 use Rattle.fints_cli_reports.proofs.CertifyLemmas.{both_ok, certified}
+use Rattle.fints_script.proofs.LawLemmas.{sound_of}
 use Rattle.fints_cli_reports.proofs.certifying.certify.Goals as goal
 
 pub returns-in-Some : goal.returns-in-Some
@@ -23,7 +24,7 @@ returns-in-Some c =
     let figures = subst (λ (found : Option (List Line)). IfSome found (λ certificate. AreFigures c.args.report.now.plan.script (line_figures certificate))) c.in-Some.is c.in_ok-certificate.ensures.figures in
     let of_plan = subst (λ (p : PlanValue). AreFindings granted p.script findings × EachIsPermitted granted p.script × IsClosedCertificate granted p.script lines × AreFigures p.script (line_figures lines)) c.requires
     (c.keeps.ensures.exactly, c.keeps.ensures.permitted none, closed, figures) in
-    let promise = closed_promises_promise granted script lines c.keeps-2.ensures.sound of_plan.2 in
+    let promise = closed_promises_promise granted script lines (sound_of c.keeps-2.ensures.read) of_plan.2 in
     both_ok (λ (reply : Reply). reply.status ≡ 0) (λ (reply : Reply). reply.text.items ≡ cert_text lines) (λ (reply : Reply). IsCertifiedBy granted script reply.status reply.text.items) c.certificate_reply.result
     c.certificate_reply.ensures.status c.certificate_reply.ensures.text
     (λ reply zero same. certified granted script lines findings reply.status reply.text.items none of_plan.0 of_plan.3 of_plan.2 promise of_plan.1 zero same)

@@ -56,10 +56,8 @@ pub returns-clause-fields : goal.returns-clause-fields
 returns-clause-fields c =
     let rows = c.args.rows.now in
     let all : length c.args.rows.now ≤ c.loop-i.i = omega arith in
-    record {
-      dialog = c.loop-i.invariant.dialog;
-      others = c.loop-i.invariant.others;
-      all = c.in_ok-new.ensures ∙ c.loop-i.invariant.all;
-      built_in = c.loop-i.invariant.built_in;
-      each = read_all (λ n. places.Field n) (λ i row. field_in (take i (map view rows)) row) rows c.loop-i.i (Ok (map field_value c.loop-i.invariant.others)) all c.loop-i.invariant.each;
-    }
+    let others = map field_value c.loop-i.invariant.others in (
+      others,
+      read_all (λ n. places.Field n) (λ i row. field_in (take i (map view rows)) row) rows c.loop-i.i (Ok others) all c.loop-i.invariant.each,
+      ap (map field_value) (c.in_ok-new.ensures ∙ c.loop-i.invariant.all) ∙ ap (λ first. first ∷ others) c.loop-i.invariant.built_in,
+    )

@@ -1,6 +1,6 @@
 use Rattle.std.proofs.Common.{◌≡◌, ◌+◌, List, ap, sym, ◌∙◌, drop, get_or, arith}
 use Rattle.std.proofs.lemmas.List.{drop_all}
-use Rattle.fints_script_fields.specs.Listed.{longest_from}
+use Rattle.fints_script_fields.specs.ListedLaws.{longest_from}
 use Rattle.fints_script_fields.proofs.Picks.{longest_init, longest_step, longest_stay}
 use Rattle.fints_script_fields.proofs.listed.longest_of.Goals as goal
 use Rattle.fints_script_fields.proofs.listed.longest_of.Goals.{then-size, else-size}

@@ -1,5 +1,6 @@
 use Rattle.std.proofs.Common.{◌≡◌, drop}
-use Rattle.fints_script_fields.specs.Listed.{longest_from, first_longest}
+use Rattle.fints_script_fields.specs.Listed.{first_longest}
+use Rattle.fints_script_fields.specs.ListedLaws.{longest_from}
 use Rattle.fints_script_fields.proofs.listed.longest_of.Given as goal
 
 abbrev pub invariant-loop-v : goal.invariant-loop-v

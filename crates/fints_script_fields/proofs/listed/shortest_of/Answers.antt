@@ -1,6 +1,6 @@
 use Rattle.std.proofs.Common.{◌≡◌, ◌+◌, List, ap, sym, ◌∙◌, drop, get_or, arith}
 use Rattle.std.proofs.lemmas.List.{drop_all}
-use Rattle.fints_script_fields.specs.Listed.{shortest_from}
+use Rattle.fints_script_fields.specs.ListedLaws.{shortest_from}
 use Rattle.fints_script_fields.proofs.Picks.{shortest_init, shortest_step, shortest_stay}
 use Rattle.fints_script_fields.proofs.listed.shortest_of.Goals as goal
 use Rattle.fints_script_fields.proofs.listed.shortest_of.Goals.{then-size, else-size}

@@ -1,5 +1,6 @@
 use Rattle.std.proofs.Common.{◌≡◌, drop}
-use Rattle.fints_script_fields.specs.Listed.{shortest_from, first_shortest}
+use Rattle.fints_script_fields.specs.Listed.{first_shortest}
+use Rattle.fints_script_fields.specs.ListedLaws.{shortest_from}
 use Rattle.fints_script_fields.proofs.listed.shortest_of.Given as goal
 
 abbrev pub invariant-loop-v : goal.invariant-loop-v

@@ -2,7 +2,7 @@ use Rattle.std.proofs.Common.{◌≡◌, ◌-◌, ◌<◌, List, ℕ, length, So
 use Rattle.std.specs.List.{slice_get}
 use Rattle.fints_rules_messages.specs.Messages.{IsMessage}
 use Rattle.fints_script.specs.Scripts.{ScriptValue}
-use Rattle.fints_script.specs.Sound.{IsSound, IsSoundStep}
+use Rattle.fints_script.specs.Numbered.{numbered_of}
 use Rattle.fints_script.specs.Steps.{StepValue}
 use Rattle.fints_wire.specs.Filling.{AreFilled, FillingValue, TemplatesAreFilled}
 use Rattle.fints_wire.specs.Messages.{later_segments, message_bytes, message_size, message_with, seal_of, segments_text, templates_of}
@@ -11,26 +11,26 @@ use Rattle.fints_wire.proofs.FilledLemmas.{dialog_some, filling_is, sealed_fille
 use Rattle.fints_wire.proofs.TextLemmas.{found_at, message_is}
 use Rattle.fints_wire.proofs.Weighing.{message_light}
 use Rattle.fints_wire.proofs.LawLemmas.{messages_are_read}
+use Rattle.fints_script.proofs.LawLemmas.{sound_of, sound_step_of}
 use Rattle.fints_wire.proofs.building.build.Goals as goal
+
+pub later_text-requires-clause-step : goal.later_text-requires-clause-step
+later_text-requires-clause-step c = sound_step_of c.args.step c.step-step.result.now c.step-step.ensures.read c.step-step.ensures.numbered
 
 pub later_text-requires-clause-filled : goal.later_text-requires-clause-filled
 later_text-requires-clause-filled c =
     let script = c.args.plan.now.script in
     let step = c.step-step.result.now in
-    let i : ℕ = c.args.step - 1 in
-    let from = c.requires.from in
-    let to = c.requires.to in
-    let within : i < length script.steps = omega arith in
-    let h : IsSoundStep script step = subst (IsSoundStep script) (found_at script.steps i step step c.step-step.ensures.step) (c.step-step.ensures.sound.steps i step within) in
-    subst (λ (f : FillingValue). TemplatesAreFilled f (templates_of script step)) (sym (filling_is c.in_ok-filling.filling c.fields.result.now c.args.plan.now.script.fields c.pairs.result.now c.args.values.now c.args.number c.in_ok-filling.ensures c.fields.ensures c.pairs.ensures)) (templates_filled script c.args.values.now c.args.number c.step-step.ensures.sound c.requires.admits step h)
+    let h = sound_step_of c.args.step step c.step-step.ensures.read c.step-step.ensures.numbered in
+    subst (λ (f : FillingValue). TemplatesAreFilled f (templates_of script step)) (sym (filling_is c.in_ok-filling.filling c.fields.result.now c.args.plan.now.script.fields c.pairs.result.now c.args.values.now c.args.number c.in_ok-filling.ensures c.fields.ensures c.pairs.ensures)) (templates_filled script c.args.values.now c.args.number (sound_of c.step-step.ensures.read) c.requires.admits step h)
 
 pub later_text-requires-clause-seal : goal.later_text-requires-clause-seal
 later_text-requires-clause-seal c =
-    subst (λ (f : FillingValue). AreFilled f (seal_of c.args.plan.now.script)) (sym (filling_is c.in_ok-filling.filling c.fields.result.now c.args.plan.now.script.fields c.pairs.result.now c.args.values.now c.args.number c.in_ok-filling.ensures c.fields.ensures c.pairs.ensures)) (sealed_filled c.args.plan.now.script c.args.values.now c.args.number c.step-step.ensures.sound c.requires.admits)
+    subst (λ (f : FillingValue). AreFilled f (seal_of c.args.plan.now.script)) (sym (filling_is c.in_ok-filling.filling c.fields.result.now c.args.plan.now.script.fields c.pairs.result.now c.args.values.now c.args.number c.in_ok-filling.ensures c.fields.ensures c.pairs.ensures)) (sealed_filled c.args.plan.now.script c.args.values.now c.args.number (sound_of c.step-step.ensures.read) c.requires.admits)
 
 pub message_text-requires : goal.message_text-requires
 message_text-requires c =
-    subst (λ (f : FillingValue). 0 < length f.dialog) (sym (filling_is c.in_ok-filling.filling c.fields.result.now c.args.plan.now.script.fields c.pairs.result.now c.args.values.now c.args.number c.in_ok-filling.ensures c.fields.ensures c.pairs.ensures)) (dialog_some c.args.plan.now.script c.args.values.now c.args.number c.step-step.ensures.sound c.requires.admits)
+    subst (λ (f : FillingValue). 0 < length f.dialog) (sym (filling_is c.in_ok-filling.filling c.fields.result.now c.args.plan.now.script.fields c.pairs.result.now c.args.values.now c.args.number c.in_ok-filling.ensures c.fields.ensures c.pairs.ensures)) (dialog_some c.args.plan.now.script c.args.values.now c.args.number (sound_of c.step-step.ensures.read) c.requires.admits)
 
 pub returns-clause-bytes : goal.returns-clause-bytes
 returns-clause-bytes c s found =
@@ -49,30 +49,19 @@ returns-clause-bytes c s found =
     ∙ ap (λ (f : FillingValue). segments_text (message_with script step f number (message_size script step f number))) full
     ∙ ap (λ (x : StepValue). message_bytes script x number c.args.values.now) same
 
-is_sound : (script : ScriptValue) (i : ℕ) (step : StepValue) → IsSound script → i < length script.steps → slice_get script.steps i ≡ Some step → IsSoundStep script step
-is_sound script i step h lt found = subst (IsSoundStep script) (found_at script.steps i step step found) (h.steps i step lt)
-
 pub returns-clause-size : goal.returns-clause-size
 returns-clause-size c s found =
     let script = c.args.plan.now.script in
-    let i : ℕ = c.args.step - 1 in
-    let from = c.requires.from in
-    let to = c.requires.to in
-    let within : i < length script.steps = omega arith in
-    let h = is_sound script i s c.step-step.ensures.sound within found in
-    let light = message_light script s c.args.values.now c.args.number c.step-step.ensures.sound h c.requires.admits c.requires.last in
+    let h = sound_step_of c.args.step s c.step-step.ensures.read (numbered_of script.steps c.args.step s c.requires.from found) in
+    let light = message_light script s c.args.values.now c.args.number (sound_of c.step-step.ensures.read) h c.requires.admits c.requires.last in
     ap length (returns-clause-bytes c s found) ∙ light.0
 
 pub returns-clause-short : goal.returns-clause-short
 returns-clause-short c =
     let script = c.args.plan.now.script in
-    let i : ℕ = c.args.step - 1 in
-    let from = c.requires.from in
-    let to = c.requires.to in
-    let within : i < length script.steps = omega arith in
     let step = c.step-step.result.now in
-    let h = is_sound script i step c.step-step.ensures.sound within c.step-step.ensures.step in
-    let light = message_light script step c.args.values.now c.args.number c.step-step.ensures.sound h c.requires.admits c.requires.last in
+    let h = sound_step_of c.args.step step c.step-step.ensures.read c.step-step.ensures.numbered in
+    let light = message_light script step c.args.values.now c.args.number (sound_of c.step-step.ensures.read) h c.requires.admits c.requires.last in
     let size = ap length (returns-clause-bytes c step c.step-step.ensures.step) in
     omega (arith, light.1)
 
@@ -82,5 +71,5 @@ returns-clause-view c s found =
     let i : ℕ = c.args.step - 1 in
     let number = c.args.number in
     let values = c.args.values.now in
-    let law = messages_are_read script i s number values c.step-step.ensures.sound found c.requires.first c.requires.last c.requires.admits in
+    let law = messages_are_read script i s number values (sound_of c.step-step.ensures.read) found c.requires.first c.requires.last c.requires.admits in
     subst (λ (bytes : List ℕ). IsMessage bytes (message_view script s number values)) (sym (returns-clause-bytes c s found)) law

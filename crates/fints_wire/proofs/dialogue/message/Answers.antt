@@ -1,6 +1,12 @@
-use Rattle.std.proofs.Common.{◌≡◌, ◌-◌, Some, ap, subst, sym, slice_get, ◌∙◌}
+use Rattle.std.proofs.Common.{◌≡◌, ◌-◌, Some, ap, subst, sym, slice_get, ◌∙◌, arith}
 use Rattle.fints_script.specs.Numbered.{numbered_at, numbered_from}
+use Rattle.fints_script.proofs.LawLemmas.{sound_of}
 use Rattle.fints_wire.proofs.dialogue.message.Goals as goal
+
+pub build-requires-clause-last : goal.build-requires-clause-last
+build-requires-clause-last c =
+    let few = (sound_of c.keeps.ensures.read).few_steps in
+    omega (arith, c.requires.within.last, c.requires.within.to, few)
 
 pub returns : goal.returns
 returns c =

@@ -13,6 +13,7 @@ use Rattle.fints_check_findings.proofs.CaseLemmas.{as_release, if_ok}
 use Rattle.fints_check_findings.proofs.Holding.{has_holder}
 use Rattle.fints_rules.specs.declared.release.TheConstants.{RELEASE}
 use Rattle.fints_check_findings.proofs.LawLemmas.{held_is_unreleased, release_is_left}
+use Rattle.fints_script.proofs.LawLemmas.{sound_of}
 use Rattle.fints_check_findings.proofs.report.Report.unreleased_way.Goals as goal
 
 pub holder_of-t-requires-clause-from : goal.holder_of-t-requires-clause-from
@@ -20,7 +21,7 @@ holder_of-t-requires-clause-from c =
     let inside = c.self.inside in
     let script = inside.plan.now.script in
     let granted = inside.permissions.now in
-    let sound = c.keeps.ensures.sound in
+    let sound = sound_of c.keeps.ensures.read in
     let numbers = inside.numbers.greatest.items in
     let holders = inside.holders.items in
     let f = c.args.finding in
@@ -38,7 +39,7 @@ holder_of-t-requires-clause-to c =
     let inside = c.self.inside in
     let script = inside.plan.now.script in
     let granted = inside.permissions.now in
-    let sound = c.keeps.ensures.sound in
+    let sound = sound_of c.keeps.ensures.read in
     let numbers = inside.numbers.greatest.items in
     let holders = inside.holders.items in
     let f = c.args.finding in
@@ -57,7 +58,7 @@ holder_of-t-requires-clause-noted c =
     let inside = c.self.inside in
     let script = inside.plan.now.script in
     let granted = inside.permissions.now in
-    let sound = c.keeps.ensures.sound in
+    let sound = sound_of c.keeps.ensures.read in
     let numbers = inside.numbers.greatest.items in
     let holders = inside.holders.items in
     let f = c.args.finding in
@@ -119,7 +120,7 @@ returns c =
     let f = c.args.finding in
     let noted : Has holders f.step c.holder_of-t.result = subst (λ (xs : List (Option ℕ)). Has xs f.step c.holder_of-t.result) c.as_slice.ensures.value c.holder_of-t.ensures in
     let h = c.self.invariant.6.each f.step c.holder_of-t.result noted in
-    let sound = c.keeps.ensures.sound in
+    let sound = sound_of c.keeps.ensures.read in
     let u = (held_is_unreleased script inside.plan.now.orders c.holder_of-t.result f.step sound c.keeps.ensures.closed).0 h.1 in
     subst (λ (r : ReportValue). IfOk c.way_behind.result (λ answers. LeadsUnreleased r.plan.script f.step answers.items)) c.self.view_is
     (if_ok (λ answers. LeadsBehind script.steps c.holder_of-t.result c.release_code.result f.step answers.items) (λ answers. LeadsUnreleased script f.step answers.items) c.way_behind.result

@@ -8,6 +8,7 @@ use Rattle.fints_check_findings.specs.Searching.{AreCaseValues}
 use Rattle.fints_check_findings.specs.declared.finding.Finding.{Finding}
 use Rattle.fints_check_findings.proofs.CaseLemmas.{case_shown, if_ok, real_at, real_has, same_at}
 use Rattle.fints_check_findings.proofs.Checking.{greatest_at, real_within}
+use Rattle.fints_script.proofs.LawLemmas.{sound_of}
 use Rattle.fints_check_findings.proofs.report.Report.values.Goals as goal
 
 pub case_values-requires-clause-from : goal.case_values-requires-clause-from
@@ -15,7 +16,7 @@ case_values-requires-clause-from c =
     let inside = c.self.inside in
     let script = inside.plan.now.script in
     let granted = inside.permissions.now in
-    let sound = c.keeps.ensures.sound in
+    let sound = sound_of c.keeps.ensures.read in
     let few : c.args.i < length inside.findings.items = subst (λ (m : ℕ). c.args.i < m) (sym (ap (λ (r : ReportValue). length r.findings) c.self.view_is)) c.requires in
     let real = real_at granted script inside.findings.items c.args.i c.index-finding.result.now c.self.invariant.1 few c.index-finding.ensures in
     (real_within granted script sound c.index-finding.result.now real).0
@@ -25,7 +26,7 @@ case_values-requires-clause-to c =
     let inside = c.self.inside in
     let script = inside.plan.now.script in
     let granted = inside.permissions.now in
-    let sound = c.keeps.ensures.sound in
+    let sound = sound_of c.keeps.ensures.read in
     let few : c.args.i < length inside.findings.items = subst (λ (m : ℕ). c.args.i < m) (sym (ap (λ (r : ReportValue). length r.findings) c.self.view_is)) c.requires in
     let real = real_at granted script inside.findings.items c.args.i c.index-finding.result.now c.self.invariant.1 few c.index-finding.ensures in
     (real_within granted script sound c.index-finding.result.now real).1
@@ -35,7 +36,7 @@ returns-clause-shown c =
     let inside = c.self.inside in
     let script = inside.plan.now.script in
     let granted = inside.permissions.now in
-    let sound = c.keeps.ensures.sound in
+    let sound = sound_of c.keeps.ensures.read in
     let few : c.args.i < length inside.findings.items = subst (λ (m : ℕ). c.args.i < m) (sym (ap (λ (r : ReportValue). length r.findings) c.self.view_is)) c.requires in
     let real = real_at granted script inside.findings.items c.args.i c.index-finding.result.now c.self.invariant.1 few c.index-finding.ensures in
     let report : ReportValue = record { plan = inside.plan.now; granted = granted; figures = inside.figures.items; findings = inside.findings.items; visits = inside.numbers.visits } in
@@ -53,7 +54,7 @@ returns-clause-chosen c =
     let inside = c.self.inside in
     let script = inside.plan.now.script in
     let granted = inside.permissions.now in
-    let sound = c.keeps.ensures.sound in
+    let sound = sound_of c.keeps.ensures.read in
     let few : c.args.i < length inside.findings.items = subst (λ (m : ℕ). c.args.i < m) (sym (ap (λ (r : ReportValue). length r.findings) c.self.view_is)) c.requires in
     let finding = c.index-finding.result.now in
     let real = real_at granted script inside.findings.items c.args.i finding c.self.invariant.1 few c.index-finding.ensures in
