@@ -3,7 +3,7 @@
 a name or without (`let _count = plan.step_count();`; one that may refuse, with `?`, is called for its
 refusal); and calls of functions that change nothing and give nothing. There are to be none: a proof
 cites the lemma of a law by its name, and what an object keeps is said by its method `keeps`, which alone
-may be called so.
+may be called so, and looks at a part of the object for it.
 
 Usage: tools/bodies.py
 """
@@ -36,8 +36,12 @@ found = []
 for path, text in sources.items():
     if "_tests/" in path:
         continue
+    inside = None
     for number, line in enumerate(text.split("\n"), 1):
         at = f"{path}:{number}"
+        inside = next(iter(re.findall(r"^ *(?:pub(?:\([a-z]+\))? )?fn (\w+)", line)), inside)
+        if inside == "keeps":
+            continue
         called = re.match(r"\s+(?:\w+(?:\.|::))*(\w+)\((.*)\);$", line)
         thrown = re.match(r"\s+let _(?:\w+)? = (?:\w+(?:\.|::))*(\w+)\((.*)\);$", line)
         if called and called[1] in laws:

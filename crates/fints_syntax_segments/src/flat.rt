@@ -114,8 +114,8 @@ impl Filling {
         self.spans.truncate(self.open);
     }
 
-    // Each whole element has an item.
-    pub(crate) fn each_has_an_item(&self)
+    // What each filling keeps: each whole element has an item.
+    pub(crate) fn keeps(&self)
         ensures { AllByRecursion (λ e. 0 < length e) self.now.elements }
     {
         let _ = &self.groups;

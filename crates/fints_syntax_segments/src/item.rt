@@ -90,7 +90,7 @@ impl Elements {
         requires { filling.items ≡ [] }
         ensures { result ≡ filling.elements }
     {
-        filling.each_has_an_item();
+        filling.keeps();
         Elements { filling }
     }
 
