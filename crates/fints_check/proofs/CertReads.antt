@@ -6,8 +6,8 @@ use Rattle.std.proofs.lemmas.List.Elements.{All-cons, All-nil, All-push}
 use Rattle.std.proofs.lemmas.List.Quantifiers.{all_pairs_push}
 use Rattle.fints_script_fields.specs.Names.{IsNameByte}
 use Rattle.fints_syntax_lines.specs.Lines.{text_of_lines, BeginsText}
-use Rattle.fints_syntax_lines.specs.LineLaws.{text_taken, length_taken, lines_long, same_lines, refused_at}
-use Rattle.fints_check.specs.CertTexts.{step_text, cert_lines, cert_text, IsStepLine, IsCertificate, IsCertificateOf, OneCertificate, AreCertLines, IsFirstBadLine}
+use Rattle.fints_syntax_lines.specs.LineLaws.{text_taken, length_taken, lines_long, same_lines, refused_at, some_answer}
+use Rattle.fints_check.specs.CertTexts.{step_text, cert_lines, cert_text, IsStepLine, IsCertificate, IsCertificateOf, OneCertificate, CertificateOrBadLine, AreCertLines, IsFirstBadLine}
 use Rattle.fints_check.specs.CertReading.{IsNew, IsBegun, IsLineTaken, HasNoLine}
 use Rattle.fints_check.specs.declared.certificate.Line.{Line}
 use Rattle.fints_syntax_lines.specs.declared.lines.TheConstants.{MAX_TEXT}
@@ -114,6 +114,12 @@ no_header text none =
     let same = b.good.same in
     let first : codes "fints-cert 2" ≡ line = cc in
     none more (is ∙ ap (λ (t : List ℕ). t ++ 10 ∷ more) (sym first)))
+
+pub certificate_or_bad_line : (text : List ℕ) → CertificateOrBadLine text
+certificate_or_bad_line text none never =
+    some_answer AreCertLines text
+    (record { later = cert_lines (least_line ∷ []); good = record { lines = least_line ∷ []; is = least; same = refl } })
+    (λ all good is. none good.lines (good.is, is ∙ ap text_of_lines good.same)) never
 
 -- ---- one certificate
 

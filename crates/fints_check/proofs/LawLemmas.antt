@@ -1,6 +1,6 @@
 -- The laws, each with its proof, for the proofs of the crates above.
 use Rattle.std.specs.Prelude.{◌≡◌, ℕ, List}
-use Rattle.fints_check.specs.CertTexts.{OneCertificate, IsFirstBadLine, AreCertLines}
+use Rattle.fints_check.specs.CertTexts.{CertificateOrBadLine, OneCertificate, IsFirstBadLine, AreCertLines}
 use Rattle.fints_check.specs.Laws.{ClosedIsPermitted, ClosedKeepsPromise, GreatestIsClosed, GreatestIsReadable}
 use Rattle.fints_syntax_lines.specs.LineLaws as texts
 use Rattle.fints_check.proofs.CertLines.{cert_without}
@@ -26,3 +26,6 @@ greatest_are_readable script lines sound same names figures = greatest_readable 
 
 pub one_certificate : (text : List ℕ) → OneCertificate text
 one_certificate = reads.one_certificate
+
+pub some_answer : (text : List ℕ) → CertificateOrBadLine text
+some_answer = reads.certificate_or_bad_line

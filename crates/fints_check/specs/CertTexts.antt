@@ -68,6 +68,11 @@ pub record AreCertLines (all : List (List ℕ)) : Type 0 where
 abbrev pub IsFirstBadLine : List ℕ → ℕ → Type 0
 IsFirstBadLine text n = IsFirstBadLineOf AreCertLines text n
 
+-- a text is a certificate, or some line of it is the first bad one: it can't be that it is neither
+abbrev pub CertificateOrBadLine : List ℕ → Type 0
+CertificateOrBadLine text =
+    ((lines : List Line) → IsCertificateOf text lines → ⊥) → ((n : ℕ) → IsFirstBadLine text n → ⊥) → ⊥
+
 abbrev pub IsRefusal : List ℕ → CertFault → Type 0
 IsRefusal text (Bad line) = IsFirstBadLine text line
 IsRefusal text Memory = Unit {0}

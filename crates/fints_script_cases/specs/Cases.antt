@@ -75,6 +75,12 @@ pub record AreCaseLines (lines : List (List ℕ)) : Type 0 where
 abbrev pub IsFirstBadLine : List ℕ → ℕ → Type 0
 IsFirstBadLine text n = IsFirstBadLineOf AreCaseLines text n
 
+-- a text is a case, or some line of it is the first bad one: it can't be that it is neither
+abbrev pub CaseOrBadLine : List ℕ → Type 0
+CaseOrBadLine text =
+    ((values : List NamedValue) (answers : List (List ℕ)) → IsCaseOf text values answers → ⊥)
+    → ((n : ℕ) → IsFirstBadLine text n → ⊥) → ⊥
+
 abbrev pub IsRefusal : List ℕ → CaseFault → Type 0
 IsRefusal text (Bad line) = IsFirstBadLine text line
 IsRefusal text Memory = Unit {0}

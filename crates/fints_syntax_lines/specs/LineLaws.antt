@@ -1,7 +1,7 @@
 -- What is known of texts of lines, with its proofs, for the proofs of the crates above. It defines nothing that a contract says.
 use Rattle.std.specs.Prelude.{ℕ, ◌+◌, ◌-◌, ◌<◌, ◌≡◌, ◌≢◌, ◌≤◌, ◌==◌, ◌⊎◌, not, true, List, [], ◌∷◌, ◌++◌, length, map, get_or, take}
 use Rattle.std.specs.List.{All, list_all}
-use Rattle.std.proofs.Common.{refl, ap, sym, subst, ◌∙◌, arith, inl, inr}
+use Rattle.std.proofs.Common.{zero, suc, refl, ap, sym, subst, ◌∙◌, arith, inl, inr}
 use Rattle.std.proofs.lemmas.List.{append_assoc, append-nil, length-append, map-append, take_more}
 use Rattle.std.proofs.lemmas.List.Elements.{All-cons, All-nil, All-head, All-tail, All-weaker, All-more}
 use Rattle.std.proofs.lemmas.List.Sums.{AllPass-from_list_all}
@@ -185,3 +185,49 @@ module _ (Good : List (List ℕ) → Type 0) (without : (all : List (List ℕ)) 
         | inl on ↦ same_front text n m f g on
         | inr on ↦ sym (same_front text m n g f on)
       ]
+
+-- ---- one answer always
+
+-- a text with a line feed in it isn't empty
+shorter : (rest line more : List ℕ) → rest ≡ line ++ 10 ∷ more → length more < length rest
+shorter rest line more is =
+    let size : length rest ≡ length line + length (10 ∷ more) = ap length is ∙ length-append line (10 ∷ more) in
+    omega (arith, size)
+
+-- Where some lines make a text of the kind, a text is one, or some line of it is the first that is none of one:
+-- it can't be that it is neither. It is read from the front, and `fuel` bounds what is left.
+some_answer_from :
+    (Good : List (List ℕ) → Type 0) (text : List ℕ)
+    → ((all : List (List ℕ)) → Good all → text ≢ text_of_lines all)
+    → ((n : ℕ) → IsFirstBadLineOf Good text n → ⊥)
+    → (fuel : ℕ) (lines : List (List ℕ)) (rest : List ℕ)
+    → length rest ≤ fuel → text ≡ text_of_lines lines ++ rest → BeginsText Good lines → ⊥
+some_answer_from Good text none never zero lines rest few is begins =
+    never (length lines + 1) (record {
+      lines = lines;
+      rest = rest;
+      text_is = is;
+      number = refl;
+      begins = begins;
+      bad = λ line more split b. omega (arith, few, shorter rest line more split);
+      no_text = none;
+    })
+some_answer_from Good text none never (suc n) lines rest few is begins =
+    never (length lines + 1) (record {
+      lines = lines;
+      rest = rest;
+      text_is = is;
+      number = refl;
+      begins = begins;
+      bad = λ line more split b.
+          some_answer_from Good text none never n (lines ++ line ∷ []) more
+          (omega (arith, few, shorter rest line more split)) (text_taken text rest line more lines is split) b;
+      no_text = none;
+    })
+
+pub some_answer :
+    (Good : List (List ℕ) → Type 0) (text : List ℕ) → BeginsText Good []
+    → ((all : List (List ℕ)) → Good all → text ≢ text_of_lines all)
+    → ((n : ℕ) → IsFirstBadLineOf Good text n → ⊥) → ⊥
+some_answer Good text begins none never =
+    some_answer_from Good text none never (length text) [] text (omega arith) refl begins
