@@ -122,7 +122,8 @@ pub fn last_segment(alloc: Global, n: u16, number: u32) -> Result<OwnedSegment, 
 
 /// HNVSD with the text of the inner segments.
 pub fn data_segment(alloc: Global, inner: Vec<u8>) -> Result<OwnedSegment, Memory>
-    ensures { IfOk result (λ s. s ≡ make_segment (codes "HNVSD") HNVSD_NUMBER HNVSD_VERSION ((Bin inner.items ∷ []) ∷ [])) }
+    ensures { IfOk result (λ s. s
+        ≡ make_segment (codes "HNVSD") HNVSD_NUMBER HNVSD_VERSION ((Bin inner.items ∷ []) ∷ [])) }
 {
     let mut elements = Elements::new(alloc);
     push_item(&mut elements, &OwnedItem::Bin(Bytes::new(inner)))?;

@@ -147,7 +147,8 @@ fn seal_size(plan: &Plan, number: u32, before: u64) -> u64
 // The envelope around inner segments of this size, without the seal's elements.
 fn envelope_size(inner: u64) -> u64
     requires { inner < 2 ^ 62 }
-    ensures { result ≡ head_len (codes "HNVSK") HNVSK_NUMBER HNVSK_VERSION + head_len (codes "HNVSD") HNVSD_NUMBER HNVSD_VERSION + binary_size inner }
+    ensures { result ≡ head_len (codes "HNVSK") HNVSK_NUMBER HNVSK_VERSION
+        + head_len (codes "HNVSD") HNVSD_NUMBER HNVSD_VERSION + binary_size inner }
 {
     let head = head_size(
         Kind::parse(b"HNVSK").unwrap(),
@@ -180,7 +181,8 @@ fn middle_size<'a>(plan: &'a Plan<'a>, step: &'a Step, number: u32) -> u64
 fn frame_size(step: &Step, number: u32) -> u64
     requires few { length step.now.signers ≤ 9 }
     requires templates { length step.now.templates ≤ 100 }
-    ensures is { (script : ScriptValue) → result ≡ head_len (codes "HNHBK") HNHBK_NUMBER HNHBK_VERSION + 17 + number_len number
+    ensures is { (script : ScriptValue)
+        → result ≡ head_len (codes "HNHBK") HNHBK_NUMBER HNHBK_VERSION + 17 + number_len number
         + (head_len (codes "HNHBS") (2 + length (templates_of script step.now)) HNHBS_VERSION + number_len number) }
     ensures small { result ≤ 200 }
 {
