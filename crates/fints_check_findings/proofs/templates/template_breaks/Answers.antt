@@ -1,5 +1,5 @@
 use Rattle.std.proofs.Common.{rules}
-use Rattle.fints_check_findings.proofs.templates.some_account_breaks.Goals as goal
+use Rattle.fints_check_findings.proofs.templates.template_breaks.Goals as goal
 
-pub returns : goal.returns
-returns c = search rules
+pub returns-else-is_empty : goal.returns-else-is_empty
+returns-else-is_empty c = search rules
