@@ -42,9 +42,11 @@ impl Certified for Report<'_> {
     fn certificate(&self, alloc: Global) -> Result<Option<Certificate>, Memory>
         ensures clean { IfOk result (λ found. IsSome found ↔ (self.now.findings ≡ [])) }
         ensures found { (self.now.findings ≡ [] → ⊥) → result ≡ Ok None }
-        ensures figures { IfOk result (λ found. IfSome found (λ certificate. AreFigures self.now.plan.script (line_figures certificate))) }
+        ensures figures { IfOk result (λ found.
+            IfSome found (λ certificate. AreFigures self.now.plan.script (line_figures certificate))) }
         ensures readable { IfOk result (λ found. IfSome found IsCertificate) }
-        ensures closed { IfOk result (λ found. IfSome found (IsClosedCertificate self.now.granted self.now.plan.script)) }
+        ensures closed { IfOk result (λ found.
+            IfSome found (IsClosedCertificate self.now.granted self.now.plan.script)) }
     {
         self.plan().keeps();
         self.keeps();

@@ -112,8 +112,10 @@ pub struct Taken {
 fn add(taken: &mut Taken, line: Line) -> Result<bool, Memory>
     requires names { HoldsNames (line_names taken.old.lines.items) taken.old.names }
     ensures added { IfOk result (λ added. IsTrue added ↔ IsNew taken.old.lines.items line) }
-    ensures lines { IfOk result (λ added. IsTrue added → taken.new.lines.items ≡ taken.old.lines.items ++ line ∷ []) }
-    ensures names { IfOk result (λ added. IsTrue added → HoldsNames (line_names taken.new.lines.items) taken.new.names) }
+    ensures lines { IfOk result (λ added.
+        IsTrue added → taken.new.lines.items ≡ taken.old.lines.items ++ line ∷ []) }
+    ensures names { IfOk result (λ added.
+        IsTrue added → HoldsNames (line_names taken.new.lines.items) taken.new.names) }
 {
     let fresh = taken.names.insert(line.name)?;
     if !fresh {
@@ -135,7 +137,8 @@ fn take_line<'a>(
     ensures line { IfOk result (λ found. MatchOption found
         (HasNoLine whole rest.now taken.old.lines.items)
         (λ more. IsLineTaken whole rest.now more.now taken.old.lines.items taken.new.lines.items)) }
-    ensures names { IfOk result (λ found. IfSome found (λ _. HoldsNames (line_names taken.new.lines.items) taken.new.names)) }
+    ensures names { IfOk result (λ found.
+        IfSome found (λ _. HoldsNames (line_names taken.new.lines.items) taken.new.names)) }
 {
     let Some((text, more)) = next_line(whole, rest) else {
         return Ok(None);

@@ -48,7 +48,8 @@ impl Certificate {
     /// certificate and it has at most 1,048,576 bytes.
     pub fn write(&self, alloc: Global) -> Result<Vec<u8>, Memory>
         ensures text { IfOk result (λ text. text.items ≡ cert_text self.now) }
-        ensures readable { IfOk result (λ text. IsCertificate self.now → IsCertificateOf text.items self.now) }
+        ensures readable { IfOk result (λ text.
+            IsCertificate self.now → IsCertificateOf text.items self.now) }
     {
         let mut out = Vec::new(alloc);
         out.extend_from_slice(b"fints-cert 2\n")?;

@@ -48,28 +48,6 @@ pub fn account_breaks(
     segment_breaks(permissions, facts, rule, &segment)
 }
 
-fn some_account_breaks(
-    permissions: &Permissions<'_>,
-    facts: &MessageFacts,
-    rule: Rule,
-    template: &Template,
-    count: usize,
-    accounts: &[AccountValue],
-) -> bool
-    ensures { IsTrue result ↔ Any (λ account.
-        SegmentBreaks permissions.now facts.now rule (template_facts template.now count account))
-        accounts.now }
-{
-    accounts.iter().any(|account| account_breaks(
-        permissions,
-        facts,
-        rule,
-        template,
-        count,
-        account,
-    ))
-}
-
 fn template_breaks(
     permissions: &Permissions<'_>,
     fields: &[NamedField],
@@ -84,7 +62,14 @@ fn template_breaks(
     if accounts.is_empty() {
         segment_breaks(permissions, facts, rule, &literal_facts(template, count))
     } else {
-        some_account_breaks(permissions, facts, rule, template, count, accounts)
+        accounts.iter().any(|account| account_breaks(
+            permissions,
+            facts,
+            rule,
+            template,
+            count,
+            account,
+        ))
     }
 }
 

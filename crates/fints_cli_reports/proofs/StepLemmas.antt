@@ -13,7 +13,7 @@ use Rattle.fints_script.specs.Steps.{StepValue}
 use Rattle.fints_wire.specs.Runs.{start, AreSent, EndsWith, IsSent, Run}
 use Rattle.fints_wire.specs.declared.dialogue.Sent.{Sent}
 use Rattle.fints_wire.specs.declared.dialogue.Visit.{Visit}
-use Rattle.fints_cli_reports.specs.StepNames.{step_name, IsFindingOf, IsMessageOf, IsWithin}
+use Rattle.fints_cli_reports.specs.StepNames.{step_name, IsFindingOf, IsMessageOf, HasStep}
 
 -- the step at a place has the number after it
 pub named : (steps : List StepValue) (n : ℕ) (step : StepValue) → 1 ≤ n → slice_get steps (n - 1) ≡ Some step → step_name steps n ≡ step.name
@@ -46,7 +46,7 @@ real_within : (granted : Granted) (script : ScriptValue) (f : Finding) → IsRea
 real_within granted script f real =
     let ends = real.shown.ends in
     let within : IsMessageOf script.steps real.shown.message = last_of_all (IsMessageOf script.steps) ends.sent real.shown.message (run_within script real.values real.answers ends.sent ends.run) ends.last in
-    subst (IsWithin script.steps) real.shown.of within
+    subst (HasStep script.steps) real.shown.of within
 
 every : (P : Finding → Type 0) (fs : List Finding) → ((f : Finding) → Contains fs f → P f) → All P fs
 every P [] each = All-nil P

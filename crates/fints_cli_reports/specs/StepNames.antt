@@ -13,13 +13,13 @@ step_name steps n = option_map_or (λ step. step.name) (numbered steps n) []
 -- ---- of private contracts and proofs alone
 
 -- there is a step of this number
-abbrev pub IsWithin : List StepValue → ℕ → Type 0
-IsWithin steps n = (1 ≤ n) × (n ≤ length steps)
+abbrev pub HasStep : List StepValue → ℕ → Type 0
+HasStep steps n = (1 ≤ n) × (n ≤ length steps)
 
 -- the message is of one of the steps
 abbrev pub IsMessageOf : List StepValue → Sent → Type 0
-IsMessageOf steps m = IsWithin steps m.step
+IsMessageOf steps m = HasStep steps m.step
 
 -- the finding is of one of the steps
 abbrev pub IsFindingOf : List StepValue → Finding → Type 0
-IsFindingOf steps f = IsWithin steps f.step
+IsFindingOf steps f = HasStep steps f.step

@@ -21,7 +21,8 @@ fn certificate_reply(alloc: Global, certificate: &Certificate) -> Result<Reply, 
 /// The certificate of a plan without findings, or else the report, with its status.
 pub fn certify(alloc: Global, plan: &Plan<'_>, report: &Report<'_>) -> Result<Reply, Memory>
     requires { report.now.plan ≡ plan.now }
-    ensures { IfOk result (λ reply. IsCertifiedBy report.now.granted plan.now.script reply.status reply.text.items) }
+    ensures { IfOk result (λ reply.
+        IsCertifiedBy report.now.granted plan.now.script reply.status reply.text.items) }
 {
     report.keeps();
     plan.keeps();

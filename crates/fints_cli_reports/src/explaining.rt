@@ -107,7 +107,8 @@ fn write_case(
     requires of_step { IsFindingOf plan.now.script.steps finding }
     requires way { LeadsFor report.now.plan.script report.now.figures finding way.items }
     ensures kept { IfOk result (λ kept. kept.items ≡ way.items) }
-    ensures written { OnOk result (IsCaseWritten report.now.granted plan.now.script report.now.figures number finding text.old.items text.new.items) }
+    ensures written { OnOk result (IsCaseWritten report.now.granted plan.now.script report.now.figures
+        number finding text.old.items text.new.items) }
 {
     let step = plan.step(finding.step as usize);
     write_case_line(text, number, step.name(), &finding)?;
@@ -122,7 +123,8 @@ fn write_cases(
     report: &Report<'_>,
 ) -> Result<(), Memory>
     requires { report.now.plan ≡ plan.now }
-    ensures { OnOk result (AreCasesWritten report.now.granted plan.now.script report.now.figures report.now.findings text.old.items text.new.items) }
+    ensures { OnOk result (AreCasesWritten report.now.granted plan.now.script report.now.figures
+        report.now.findings text.old.items text.new.items) }
 {
     let findings = report.findings();
     let mut way = Vec::new(alloc);
@@ -139,7 +141,8 @@ fn write_cases(
 /// The report on a plan and the cases of its findings, with its status.
 pub fn explain(alloc: Global, plan: &Plan<'_>, report: &Report<'_>) -> Result<Reply, Memory>
     requires { report.now.plan ≡ plan.now }
-    ensures { IfOk result (λ reply. IsExplainedBy report.now.granted plan.now.script reply.status reply.text.items) }
+    ensures { IfOk result (λ reply.
+        IsExplainedBy report.now.granted plan.now.script reply.status reply.text.items) }
 {
     report.keeps();
     let mut text = Vec::new(alloc);

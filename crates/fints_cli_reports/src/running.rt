@@ -100,8 +100,10 @@ fn run_admitted(
     only: Option<u32>,
 ) -> Result<Vec<u8>, Fault>
     requires { Admits plan.now.script.fields case.now.values }
-    ensures told { IfOk result (λ text. TellsRun plan.now.script case.now.values case.now.answers.items only text.items) }
-    ensures refused { IfErr result (λ f. IsAdmittedRefusal plan.now.script case.now.values case.now.answers.items only f) }
+    ensures told { IfOk result (λ text.
+        TellsRun plan.now.script case.now.values case.now.answers.items only text.items) }
+    ensures refused { IfErr result (λ f.
+        IsAdmittedRefusal plan.now.script case.now.values case.now.answers.items only f) }
 {
     let visits = visits(alloc, plan, case.answers.as_slice())?;
     let Some(number) = only else {

@@ -36,7 +36,9 @@ fn tell_plan(
     plan: &Plan<'_>,
     wanted: Wanted,
 ) -> Result<Reply, Memory>
-    ensures { IfOk result (λ reply. IsToldBy wanted (record { rows = params.now; orders = plan.now.orders }) plan.now.script reply.status reply.text.items) }
+    ensures { IfOk result (λ reply.
+        IsToldBy wanted (record { rows = params.now; orders = plan.now.orders }) plan.now.script
+        reply.status reply.text.items) }
 {
     let permissions = Permissions::build(alloc, params, plan.orders())?;
     let report = check(alloc, &permissions, plan)?;
@@ -57,7 +59,8 @@ pub fn tell(
     script: &[u8],
     wanted: Wanted,
 ) -> Result<Reply, Fault>
-    ensures told { IfOk result (λ reply. IsToldOn wanted params.now orders.now script.now reply.status reply.text.items) }
+    ensures told { IfOk result (λ reply.
+        IsToldOn wanted params.now orders.now script.now reply.status reply.text.items) }
     ensures refused { IfErr result (λ f. IsPlanRefusal orders.now script.now f) }
 {
     let inputs = read_inputs(alloc, orders, script)?;
@@ -78,7 +81,8 @@ pub fn tell_read(
     ensures status { IfOk result (λ reply. reply.status ≤ 1) }
     ensures told { IfOk result (λ reply. (capture : List ℕ) → IsReadOf capture params
         → IsToldOf wanted capture orders.now script.now reply.status reply.text.items) }
-    ensures refused { IfErr result (λ f. (capture : List ℕ) → IsReadOf capture params → IsRefused capture orders.now script.now f) }
+    ensures refused { IfErr result (λ f.
+        (capture : List ℕ) → IsReadOf capture params → IsRefused capture orders.now script.now f) }
     ensures params_first { (f : ParamFaultValue) → params ≡ Err f → result ≡ Err (fault_of f) }
 {
     let params = match params {
@@ -97,7 +101,8 @@ pub fn tell_script(
     script: &[u8],
     wanted: Wanted,
 ) -> Result<Reply, Fault>
-    ensures told { IfOk result (λ reply. IsToldOf wanted params.now orders.now script.now reply.status reply.text.items) }
+    ensures told { IfOk result (λ reply.
+        IsToldOf wanted params.now orders.now script.now reply.status reply.text.items) }
     ensures refused { IfErr result (λ f. IsRefused params.now orders.now script.now f) }
 {
     tell_read(alloc, Params::read(alloc, params), orders, script, wanted)

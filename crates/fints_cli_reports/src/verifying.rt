@@ -71,7 +71,8 @@ pub fn verify_certificate(
     script: &[u8],
     certificate: &[u8],
 ) -> Result<Reply, Fault>
-    ensures told { IfOk result (λ reply. IsVerifiedOn params.now orders.now script.now certificate.now reply.status reply.text.items) }
+    ensures told { IfOk result (λ reply.
+        IsVerifiedOn params.now orders.now script.now certificate.now reply.status reply.text.items) }
     ensures refused { IfErr result (λ f. IsVerifyRefusal orders.now script.now certificate.now f) }
 {
     let inputs = read_inputs(alloc, orders, script)?;
@@ -92,7 +93,8 @@ pub fn verify_read(
     ensures status { IfOk result (λ reply. reply.status ≤ 1) }
     ensures told { IfOk result (λ reply. (capture : List ℕ) → IsReadOf capture params
         → IsVerifiedOf capture orders.now script.now certificate.now reply.status reply.text.items) }
-    ensures refused { IfErr result (λ f. (capture : List ℕ) → IsReadOf capture params → IsUnverified capture orders.now script.now certificate.now f) }
+    ensures refused { IfErr result (λ f. (capture : List ℕ) → IsReadOf capture params
+        → IsUnverified capture orders.now script.now certificate.now f) }
     ensures params_first { (f : ParamFaultValue) → params ≡ Err f → result ≡ Err (fault_of f) }
 {
     let params = match params {
@@ -111,7 +113,8 @@ pub fn verify_script(
     script: &[u8],
     certificate: &[u8],
 ) -> Result<Reply, Fault>
-    ensures told { IfOk result (λ reply. IsVerifiedOf params.now orders.now script.now certificate.now reply.status reply.text.items) }
+    ensures told { IfOk result (λ reply.
+        IsVerifiedOf params.now orders.now script.now certificate.now reply.status reply.text.items) }
     ensures refused { IfErr result (λ f. IsUnverified params.now orders.now script.now certificate.now f) }
 {
     verify_read(

@@ -132,7 +132,8 @@ pub fn report_status(findings: &[Finding]) -> u8
 /// The report on a plan, with its status.
 pub fn reply(alloc: Global, plan: &Plan<'_>, report: &Report<'_>) -> Result<Reply, Memory>
     requires { report.now.plan ≡ plan.now }
-    ensures report { IfOk result (λ reply. IsReportBy report.now.granted plan.now.script reply.status reply.text.items) }
+    ensures report { IfOk result (λ reply.
+        IsReportBy report.now.granted plan.now.script reply.status reply.text.items) }
     ensures status { IfOk result (λ reply. reply.status ≡ report_status report.now.findings) }
 {
     report.keeps();
