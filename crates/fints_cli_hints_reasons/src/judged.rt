@@ -6,7 +6,7 @@ use crate::whole::{Whole, whole_text};
 use fints_params::{Params, feedback_codes};
 use fints_rules::kinds::is_plain_order;
 use fints_rules::{
-    Broken, JudgeFault, Message, OrderTable, Permissions, judge, judge_after, read_message,
+    Broken, JudgeFault, Message, OrderTable, Permissions, Rule, judge, judge_after, read_message,
 };
 use fints_syntax::{Kind, Memory, OwnedSegment};
 use std::alloc::Global;
@@ -74,16 +74,24 @@ fn demanding(permissions: &Permissions<'_>, body: &[OwnedSegment]) -> usize {
         .count()
 }
 
-fn seen<'a>(bank: &Bank<'_>, message: &Message, segment: &'a OwnedSegment) -> Seen<'a, 'static> {
-    Seen {
+fn segment_reason(
+    alloc: Global,
+    bank: &Bank<'_>,
+    message: &Message,
+    rule: Rule,
+    segment: &OwnedSegment,
+) -> Result<Option<String>, Memory> {
+    let body = message.body();
+    let seen = Seen {
         kind: segment.head.id,
         version: segment.head.version,
         items: items_of(segment),
-        count: count_of(message.body(), segment.head.id),
+        count: count_of(body, segment.head.id),
         signatures: message.ends().len(),
-        demanding: demanding(bank.permissions, message.body()),
+        demanding: demanding(bank.permissions, body),
         no_tan: "no HNSHA has a TAN",
-    }
+    };
+    segment_text(alloc, bank, rule, &seen)
 }
 
 fn reason(
@@ -94,7 +102,7 @@ fn reason(
 ) -> Result<Option<String>, Memory> {
     let body = message.body();
     match body.iter().find(|it| it.head.number == broken.segment) {
-        Some(segment) => segment_text(alloc, bank, broken.rule, &seen(bank, message, segment)),
+        Some(segment) => segment_reason(alloc, bank, message, broken.rule, segment),
         None => {
             let whole = Whole {
                 protocol: message.protocol(),
@@ -108,7 +116,8 @@ fn reason(
     }
 }
 
-const ANSWER: &str = "segments of the message begin with HI, as those of a bank: this is a bank's answer, and judge takes a message of the client";
+const ANSWER: &str =
+    "segments of the message begin with HI, as those of a bank: this is a bank's answer, and judge takes a message of the client";
 
 fn is_of_bank(segment: &OwnedSegment) -> bool {
     segment.head.id.as_bytes().starts_with(b"HI")

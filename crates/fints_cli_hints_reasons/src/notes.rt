@@ -1,7 +1,7 @@
 //! What is clean and may still be wrong: notes on a script, which are no findings.
 ghost use Rattle.std.specs.Prelude.{◌≤◌, ◌+◌, length, IfSome};
 
-use crate::step::{is_open, name_of};
+use crate::step::{figures_of, is_open, name_of};
 use fints_check::Report;
 use fints_cli_hints_words::places::written;
 use fints_script::{
@@ -109,7 +109,7 @@ fn unreached_text(
         };
         let from = step.name();
         let from = name_of(&from);
-        if report.reached(i + 1).is_none() {
+        if figures_of(report, i + 1).is_none() {
             return written(
                 alloc,
                 format_args!(
@@ -179,7 +179,7 @@ fn add_reached(
 ) -> Result<(), Memory> {
     let name = step.name();
     let name = name_of(&name);
-    if report.reached(n).is_none() {
+    if figures_of(report, n).is_none() {
         let note = unreached_text(alloc, report, steps, n, name)?;
         return add(text, note.as_str());
     }

@@ -4,7 +4,7 @@ ghost use Rattle.std.specs.Prelude.{◌<◌, length};
 use crate::lines::add;
 use crate::notes::add_notes;
 use crate::segment::{Bank, Seen, segment_text};
-use crate::step::{demanding, items_in, kind_count, kinds_of, name_of, no_tan};
+use crate::step::{demanding, figures_of, items_in, kind_count, kinds_of, name_of, no_tan};
 use crate::whole::{Whole, whole_text};
 use fints_check::{Finding, Report, check};
 use fints_cli_hints_words::places::written;
@@ -195,7 +195,7 @@ fn add_finding(
     };
     let values = report.values(alloc, i)?;
     let before = before_of(alloc, report, plan, steps, i)?;
-    let figures = match report.reached(n) {
+    let figures = match figures_of(report, n) {
         Some(reached) => (u64::from(reached.number), reached.size),
         None => (0, 0),
     };

@@ -2,6 +2,7 @@
 ghost use Rattle.std.specs.Prelude.{◌≤◌, ◌+◌, length};
 
 use crate::accounts::Items;
+use fints_check::{Reached, Report};
 use fints_cli_hints_words::places::written;
 use fints_rules::Permissions;
 use fints_rules::kinds::is_plain_order;
@@ -156,6 +157,14 @@ pub fn no_tan(alloc: Global, plan: &Plan<'_>, step: &Step) -> Result<String, Mem
 /// A name as a text.
 pub fn name_of(name: &Name) -> &str {
     std::str::from_utf8(name.as_bytes()).unwrap_or("")
+}
+
+/// The figures of step n, if it is one and some run sends it.
+pub fn figures_of(report: &Report<'_>, n: usize) -> Option<Reached> {
+    if n == 0 || n > report.plan().step_count() {
+        return None;
+    }
+    report.reached(n)
 }
 
 /// Whether some answer fires the branch; branches count from 1, and the default comes last.
