@@ -30,10 +30,12 @@ use Rattle.fints_script_templates.specs.declared.template.Signer.{Signer}
 use Rattle.fints_script_templates.specs.declared.template.Template.{Template}
 use Rattle.fints_script.specs.Scripts.{ScriptValue, surroundings}
 use Rattle.fints_script.specs.Sound.{IsBodyElement, IsOnward, IsSoundStep, IsSoundTemplate, LeadsOnward}
-use Rattle.fints_script.specs.Steps.{Course, Sent, StepValue, Surroundings, branch_in, branches_at, branches_in, course_in, default_at, has_large_segment, is_taken_step, is_too_large, is_word, parts_in, place_of_signer, repeat_at, sealed_at, sealed_in, segments_at, segments_in, sent_in, signature_in, signatures_at, signatures_in, sized_step, step_in, step_keys, step_of, step_weight, table_step, target_in, with_seal}
+use Rattle.fints_script.specs.StepParts.{Course, Sent, branches_at, course_in, default_at, parts_in, repeat_at, sealed_at, segments_at, sent_in, signatures_at, step_of, table_in_parts}
+use Rattle.fints_script.specs.Steps.{StepValue, Surroundings, branch_in, branches_in, has_large_segment, is_taken_step, is_too_large, is_word, place_of_signer, sealed_in, segments_in, signature_in, signatures_in, sized_step, step_in, step_keys, step_weight, table_step, target_in, with_seal}
 use Rattle.fints_script.proofs.ReadParts.{at_most_ok, failed, integer_ok, list_ok, not_empty_ok, not_past, optional_ok, passed, same_ok, seen_ok}
 use Rattle.fints_script.proofs.SoundElements.{IsBehindFirst, body_elements, place_within}
 use Rattle.fints_script_rows.specs.declared.limits.TheConstants.{MAX_TEMPLATE_ITEMS, MAX_WEIGHT}
+use Rattle.fints_script.proofs.StepTables.{step_tables}
 use Rattle.fints_script.proofs.SoundTargets.{branch_onward, target_onward}
 
 -- ---- kinds
@@ -168,8 +170,9 @@ module _ (around : Surroundings) (i : ℕ) (ms : Members) where
       record { name = is_name; templates = sends.0; sealed = signed.0; signers = signed.1; repeat = runs.0; branches = leads.0; otherwise = leads.1; size = size }
 
   step_is : (step : StepValue) → table_step around i ms ≡ Ok step → IsStep around i ms step
-  unfolding table_step
-  step_is step e =
+  unfolding table_in_parts
+  step_is step is =
+      let e = step_tables around i ms ∙ is in
       let parts = both (row_name (is_taken_step around.rows i) ms) (parts_in around i ms) in
       let whole = passed (only_keys step_keys ms) (seen step_of parts >>= sized_step around) kinds.UnknownKey step e in
       let read = bind_ok (seen step_of parts) (sized_step around) step whole.1 in

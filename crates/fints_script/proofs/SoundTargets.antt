@@ -1,5 +1,5 @@
 -- Where the targets of a read script lead.
-use Rattle.std.proofs.Common.{◌≡◌, ℕ, ◌+◌, ◌<◌, false, codes, List, length, Option, Some, None, Ok, refl, subst, inl, inr, arith}
+use Rattle.std.proofs.Common.{◌∙◌, ◌≡◌, ℕ, ◌+◌, ◌<◌, false, codes, List, length, Option, Some, None, Ok, refl, subst, inl, inr, arith}
 use Rattle.std.specs.Prelude.{nat_le, position}
 use Rattle.std.specs.Str.{bytes_eq}
 use Rattle.std.proofs.lemmas.Bool.Decides.{nat_tests}
@@ -12,8 +12,10 @@ use Rattle.fints_syntax_toml.specs.Entries.{is_named}
 use Rattle.fints_script_rows.specs.PartLaws.{bind_ok, both_ok, choice_ok}
 use Rattle.fints_script_rows.specs.Parts.{both, required, seen}
 use Rattle.fints_script_rows.specs.declared.fault.FaultKind.TheVariants as kinds
-use Rattle.fints_script.specs.Steps.{branch_in, branch_keys, branch_of, later_step, on_at, table_branch, target_at, target_in, target_named}
+use Rattle.fints_script.specs.StepParts.{branch_in_parts, branch_of, on_at, target_at}
+use Rattle.fints_script.specs.Steps.{branch_in, branch_keys, later_step, table_branch, target_in, target_named}
 use Rattle.fints_script.specs.Sound.{IsOnward}
+use Rattle.fints_script.proofs.StepTables.{branch_tables}
 use Rattle.fints_script.proofs.ReadParts.{failed, passed, same_ok, seen_ok}
 use Rattle.fints_script.proofs.SoundElements.{place_within}
 
@@ -41,8 +43,9 @@ module _ (rows : List Data) (i : ℕ) where
   target_onward _ target e = absurd cc
 
   members_onward : (ms : Members) (branch : Branch) → table_branch rows i ms ≡ Ok branch → IsOnward (length rows) (i + 1) branch.to
-  unfolding table_branch
-  members_onward ms branch e =
+  unfolding branch_in_parts
+  members_onward ms branch is =
+      let e = branch_tables rows i ms ∙ is in
       let parts = both (on_at ms) (target_at rows i ms) in
       let table = passed (only_keys branch_keys ms) (seen branch_of parts) kinds.UnknownKey branch e in
       let read = seen_ok branch_of parts branch table.1 in

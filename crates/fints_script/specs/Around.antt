@@ -6,7 +6,8 @@ use Rattle.toml.specs.View.{view}
 use Rattle.fints_script_cases.specs.declared.answers.Branch.{Branch}
 use Rattle.fints_script_cases.specs.declared.answers.Target.{Target}
 use Rattle.fints_script.specs.Scripts.{ScriptValue, Top as TopValue}
-use Rattle.fints_script.specs.Steps.{Course, Sent, Surroundings}
+use Rattle.fints_script.specs.StepParts.{Course, Sent}
+use Rattle.fints_script.specs.Steps.{Surroundings}
 use Rattle.fints_script.specs.declared.script.Body.{Body}
 use Rattle.fints_script.specs.declared.top.Top.{Top}
 use Rattle.fints_script_rows.specs.declared.fields.NamedField.{NamedField}

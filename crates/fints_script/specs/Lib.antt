@@ -1,4 +1,5 @@
 pub mod Steps
+pub mod StepParts
 pub mod Scripts
 pub mod Around
 pub mod Plans

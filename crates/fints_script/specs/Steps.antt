@@ -4,11 +4,11 @@ use Rattle.std.specs.Prelude.{codes, ℕ, ◌+◌, nat_le, nat_lt, Bool, true, f
 use Rattle.std.specs.List.{list_any}
 use Rattle.std.specs.Option.{option_map_or}
 use Rattle.std.specs.Str.{bytes_eq}
-use Rattle.toml.specs.Data.{Data, string, table, Members, get_member}
+use Rattle.toml.specs.Data.{Data, string, table, Members}
 use Rattle.fints_syntax_toml.specs.Document.{only_keys}
 use Rattle.fints_syntax_toml.specs.Entries.{is_named}
 use Rattle.fints_script_cases.specs.Patterns.{pattern_in}
-use Rattle.fints_script_rows.specs.Parts.{Part, ◌>>=◌, at_most, both, each, entries_of, flag_in, integer_in, not_empty, optional, required, seen}
+use Rattle.fints_script_rows.specs.Parts.{Part, ◌>>=◌, ◌<*>◌, at_most, each, entries_of, flag_in, integer_in, may, must, not_empty}
 use Rattle.fints_script_rows.specs.RowNames.{row_name}
 use Rattle.fints_script_templates.specs.Segments.{segment_in}
 use Rattle.fints_script_templates.specs.Weights.{total, segment_weight, signer_weight, items_in}
@@ -68,17 +68,13 @@ on_in _ = Err kinds.WrongKind
 abbrev pub branch_keys : List (List ℕ)
 branch_keys = codes "on" ∷ codes "to" ∷ []
 
-abbrev pub branch_of : List ℕ × Target → Branch
-branch_of (on, to) = record { on = on; to = to }
-
-abbrev pub on_at : Members → Part (List ℕ)
-on_at ms = required (codes "on") ms >>= on_in
-
-abbrev pub target_at : List Data → ℕ → Members → Part Target
-target_at rows i ms = required (codes "to") ms >>= target_in rows i
+abbrev pub branch_value : List ℕ → Target → Branch
+branch_value on to = record { on = on; to = to }
 
 unfoldable pub table_branch : List Data → ℕ → Members → Part Branch
-table_branch rows i ms = if only_keys branch_keys ms then seen branch_of (both (on_at ms) (target_at rows i ms)) else Err kinds.UnknownKey
+table_branch rows i ms =
+    if only_keys branch_keys ms then Ok branch_value <*> must ms (codes "on") on_in <*> must ms (codes "to") (target_in rows i)
+    else Err kinds.UnknownKey
 
 -- a branch of the step in row i
 abbrev pub branch_in : List Data → ℕ → Data → Part Branch
@@ -115,41 +111,6 @@ with_seal has_seal sealed = if sealed && not has_seal then Err kinds.Missing els
 abbrev pub sealed_in : Bool → Data → Part Bool
 sealed_in has_seal d = flag_in d >>= with_seal has_seal
 
-abbrev pub segments_at : List NamedField → Members → Part (List Template)
-segments_at fields ms = required (codes "segments") ms >>= segments_in fields
-
-abbrev pub sealed_at : Bool → Members → Part Bool
-sealed_at has_seal ms = optional false (sealed_in has_seal) (get_member (codes "sealed") ms)
-
-abbrev pub signatures_at : List Signer → Members → Part (List ℕ)
-signatures_at signers ms = optional [] (signatures_in signers) (get_member (codes "signers") ms)
-
--- its segments, whether it is sealed, and its signers
-abbrev pub Sent : Type 0
-Sent = List Template × (Bool × List ℕ)
-
-abbrev pub sent_in : Surroundings → Members → Part Sent
-sent_in around ms = both (segments_at around.fields ms) (both (sealed_at (is_some around.seal) ms) (signatures_at around.signers ms))
-
--- ---- how often it is sent, and where its answers lead
-
-abbrev pub repeat_at : Members → Part ℕ
-repeat_at ms = optional 1 (integer_in 1 MAX_REPEAT) (get_member (codes "repeat") ms)
-
-abbrev pub branches_at : List Data → ℕ → Members → Part (List Branch)
-branches_at rows i ms = optional [] (branches_in rows i) (get_member (codes "branches") ms)
-
--- without a default, an answer that no branch matches ends the run
-abbrev pub default_at : List Data → ℕ → Members → Part Target
-default_at rows i ms = optional targets.Stop (target_in rows i) (get_member (codes "default") ms)
-
--- its messages in a row at most, its branches and its default
-abbrev pub Course : Type 0
-Course = ℕ × (List Branch × Target)
-
-abbrev pub course_in : List Data → ℕ → Members → Part Course
-course_in rows i ms = both (repeat_at ms) (both (branches_at rows i ms) (default_at rows i ms))
-
 -- ---- its limits
 
 -- the weight of the signer at a place among those of the script
@@ -183,20 +144,27 @@ step_keys = codes "name" ∷ codes "segments" ∷ codes "sealed" ∷ codes "sign
 abbrev pub is_taken_step : List Data → ℕ → List ℕ → Bool
 is_taken_step rows i name = is_word name || list_any (is_named name) (take i rows)
 
-abbrev pub parts_in : Surroundings → ℕ → Members → Part (Sent × Course)
-parts_in around i ms = both (sent_in around ms) (course_in around.rows i ms)
-
-abbrev pub step_of : List ℕ × (Sent × Course) → StepValue
-step_of (name, ((templates, (sealed, signers)), (repeat, (branches, otherwise)))) =
+abbrev pub step_value : List ℕ → List Template → Bool → List ℕ → ℕ → List Branch → Target → StepValue
+step_value name templates sealed signers repeat branches otherwise =
     record { name = name; templates = templates; sealed = sealed; signers = signers; repeat = repeat; branches = branches; otherwise = otherwise }
 
 -- a step of a size that it may have
 abbrev pub sized_step : Surroundings → StepValue → Part StepValue
 sized_step around step = if is_too_large around step then Err kinds.Limit else Ok step
 
+-- without a default, an answer that no branch matches ends the run
 unfoldable pub table_step : Surroundings → ℕ → Members → Part StepValue
 table_step around i ms =
-    if only_keys step_keys ms then seen step_of (both (row_name (is_taken_step around.rows i) ms) (parts_in around i ms)) >>= sized_step around
+    if only_keys step_keys ms then
+        Ok step_value
+        <*> row_name (is_taken_step around.rows i) ms
+        <*> must ms (codes "segments") (segments_in around.fields)
+        <*> may ms (codes "sealed") false (sealed_in (is_some around.seal))
+        <*> may ms (codes "signers") [] (signatures_in around.signers)
+        <*> may ms (codes "repeat") 1 (integer_in 1 MAX_REPEAT)
+        <*> may ms (codes "branches") [] (branches_in around.rows i)
+        <*> may ms (codes "default") targets.Stop (target_in around.rows i)
+        >>= sized_step around
     else Err kinds.UnknownKey
 
 -- the step in row i

@@ -2,7 +2,8 @@
 ghost use Rattle.std.specs.Prelude.{◌≡◌, ◌<◌, length, map};
 ghost use Rattle.toml.specs.View.{view, table_view};
 ghost use Rattle.fints_script_rows.specs.Parts.{Gives, each};
-ghost use Rattle.fints_script.specs.Steps.{branch_in, branches_in, is_word, on_at, on_in, table_branch, target_at, target_in, target_named};
+ghost use Rattle.fints_script.specs.StepParts.{branch_in_parts, on_at, target_at};
+ghost use Rattle.fints_script.specs.Steps.{branch_in, branches_in, is_word, on_in, target_in, target_named};
 
 use fints_script_cases::{Branch, Pattern, Target};
 use fints_script_rows::limits::MAX_BRANCHES;
@@ -67,10 +68,10 @@ fn target_at(rows: &NamedRows<'_>, row: usize, table: &Table) -> Result<Target, 
     target_in(rows, row, required(table, "to")?)
 }
 
-#[tactic(auto, unfolding(crate::specs::Steps::table_branch))]
+#[tactic(auto, unfolding(crate::specs::StepParts::branch_in_parts))]
 fn table_branch(rows: &NamedRows<'_>, row: usize, table: &Table) -> Result<Branch, FaultKind>
     requires { length rows.now < 65535 }
-    ensures { result ≡ table_branch (map view rows.now) row (table_view table.now) }
+    ensures { result ≡ branch_in_parts (map view rows.now) row (table_view table.now) }
 {
     if !document::only_keys(table, &["on", "to"]) {
         return Err(FaultKind::UnknownKey);

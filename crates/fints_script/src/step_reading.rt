@@ -6,7 +6,8 @@ ghost use Rattle.fints_syntax_toml.specs.Document.{only_keys};
 ghost use Rattle.fints_script_rows.specs.Parts.{Gives, each};
 ghost use Rattle.fints_script_rows.specs.RowNames.{row_name};
 ghost use Rattle.fints_script_templates.specs.Segments.{segment_in};
-ghost use Rattle.fints_script.specs.Steps.{branches_at, course_in, default_at, is_taken_step, parts_in, place_of_signer, repeat_at, sealed_at, sealed_in, segments_at, segments_in, sent_in, signature_in, signatures_at, signatures_in, step_in, step_keys, table_step, with_seal};
+ghost use Rattle.fints_script.specs.StepParts.{branches_at, course_in, default_at, parts_in, repeat_at, sealed_at, segments_at, sent_in, signatures_at, table_in_parts};
+ghost use Rattle.fints_script.specs.Steps.{is_taken_step, place_of_signer, sealed_in, segments_in, signature_in, signatures_in, step_in, step_keys, with_seal};
 ghost use Rattle.fints_script.specs.Around.{seen_course, seen_parts, seen_sent, surroundings_of};
 
 use crate::around::Around;
@@ -227,7 +228,7 @@ fn parts_in(
     )
 }
 
-#[tactic(auto, unfolding(crate::specs::Steps::table_step))]
+#[tactic(auto, unfolding(crate::specs::StepParts::table_in_parts))]
 fn table_step(
     alloc: Global,
     around: &Around<'_, '_>,
@@ -235,7 +236,7 @@ fn table_step(
     table: &Table,
 ) -> Result<Step, FaultKind>
     requires { length around.now.rows.now < 65535 }
-    ensures { Gives (λ s. s) result (table_step (surroundings_of around.now) row (table_view table.now)) }
+    ensures { Gives (λ s. s) result (table_in_parts (surroundings_of around.now) row (table_view table.now)) }
 {
     if !only_step_keys(table) {
         return Err(FaultKind::UnknownKey);

@@ -3,7 +3,8 @@ ghost use Rattle.std.specs.Prelude.{◌≡◌, ◌≤◌, ◌+◌, ◌↔◌, le
 ghost use Rattle.fints_script_cases.specs.Answers.{leads, target_of, IsOpen, IsLeastOpener};
 ghost use Rattle.fints_script_cases.specs.Carrying.{Carries, IsCarrying};
 ghost use Rattle.fints_script_templates.specs.Weights.{Spends, total, segment_weight};
-ghost use Rattle.fints_script.specs.Steps.{seal_weight, signature_weight, sized_step, step_of, step_weight, has_large_segment, is_too_large};
+ghost use Rattle.fints_script.specs.StepParts.{step_of};
+ghost use Rattle.fints_script.specs.Steps.{seal_weight, signature_weight, sized_step, step_weight, has_large_segment, is_too_large};
 ghost use Rattle.fints_script.specs.Around.{seen_parts, surroundings_of};
 
 use crate::around::Around;

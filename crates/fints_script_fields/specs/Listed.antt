@@ -1,7 +1,7 @@
 -- Values that are listed one by one.
 use Rattle.fints_script_fields.specs.declared.counted.TheConstants.{MAX_LEN}
 use Rattle.fints_script_fields.specs.declared.listing.TheConstants.{MAX_ITEMS}
-use Rattle.std.specs.Prelude.{ℕ, ◌≡◌, ◌<◌, ◌≤◌, ◌⊎◌, max, nat_le, if◌then◌else◌, List, [], ◌∷◌, length, map, All}
+use Rattle.std.specs.Prelude.{ℕ, ◌≡◌, ◌≤◌, ◌⊎◌, max, nat_le, if◌then◌else◌, List, [], ◌∷◌, length, map, All}
 use Rattle.std.specs.List.{find, list_all}
 use Rattle.std.specs.Option.{unwrap_or}
 use Rattle.std.specs.Str.{bytes_eq}

@@ -62,7 +62,7 @@ chosen : (i j k : FaultKind) (a b c : ℕ) → rank i ≡ a → rank j ≡ b →
 chosen i j k a b c x y z = grind (arith, nat_tests)
 
 -- three kinds have one first
-first_of_three : (i j k : FaultKind) → first_of i (first_of j k) ≡ first_of (first_of i j) k
+pub first_of_three : (i j k : FaultKind) → first_of i (first_of j k) ≡ first_of (first_of i j) k
 first_of_three i j k = chosen i j k (rank i) (rank j) (rank k) refl refl refl
 
 -- ---- a part, or want of memory in its place

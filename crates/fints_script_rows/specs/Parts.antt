@@ -28,6 +28,11 @@ both (Ok x) (Err k) = Err k
 both (Err j) (Ok y) = Err j
 both (Err j) (Err k) = Err (first_of j k)
 
+-- f of the values of both, or the first of their faults
+infixl 10 ◌<*>◌
+abbrev pub ◌<*>◌ : {X Y : Type 0} → Part (X → Y) → Part X → Part Y
+p <*> q = both p q >>= λ v. Ok (v.0 v.1)
+
 -- the values of a list, or the first kind of fault in any of them
 abbrev pub each : {X Y : Type 0} → (Y → Part X) → List Y → Part (List X)
 each part [] = Ok []
@@ -45,6 +50,13 @@ required key ms = ok_or (get_member key ms) kinds.Missing
 abbrev pub optional : {X : Type 0} → X → (Data → Part X) → Option Data → Part X
 optional absent part None = Ok absent
 optional absent part (Some d) = part d
+
+-- the part at a key that must be there, and at one that may be absent
+abbrev pub must : {X : Type 0} → Members → List ℕ → (Data → Part X) → Part X
+must ms key part = required key ms >>= part
+
+abbrev pub may : {X : Type 0} → Members → List ℕ → X → (Data → Part X) → Part X
+may ms key absent part = optional absent part (get_member key ms)
 
 -- a list, unless it has more entries than so many
 abbrev pub at_most : {X : Type 0} → ℕ → List X → Part (List X)

@@ -3,7 +3,7 @@ use Rattle.toml.specs.View.{table_view, view}
 use Rattle.fints_script_rows.specs.PartLaws.{both_gives}
 use Rattle.fints_script_rows.specs.Parts.{Gives, both}
 use Rattle.fints_script.specs.Around.{seen_course}
-use Rattle.fints_script.specs.Steps.{branches_at, course_in, default_at, repeat_at}
+use Rattle.fints_script.specs.StepParts.{branches_at, course_in, default_at, repeat_at}
 use Rattle.fints_script.proofs.RowLemmas.{exact_gives}
 use Rattle.fints_script.proofs.step_reading.course_in.Goals as goal
 

@@ -3,7 +3,7 @@ use Rattle.toml.specs.View.{table_view}
 use Rattle.fints_script_rows.specs.PartLaws.{both_gives}
 use Rattle.fints_script_rows.specs.Parts.{Gives}
 use Rattle.fints_script.specs.Around.{seen_course, seen_parts, seen_sent, surroundings_of}
-use Rattle.fints_script.specs.Steps.{course_in, parts_in, sent_in}
+use Rattle.fints_script.specs.StepParts.{course_in, parts_in, sent_in}
 use Rattle.fints_script.proofs.step_reading.parts_in.Goals as goal
 
 pub returns : goal.returns

@@ -4,7 +4,7 @@ use Rattle.toml.specs.View.{table_view}
 use Rattle.fints_script_rows.specs.PartLaws.{both_gives}
 use Rattle.fints_script_rows.specs.Parts.{Gives, both}
 use Rattle.fints_script.specs.Around.{seen_sent, surroundings_of}
-use Rattle.fints_script.specs.Steps.{sealed_at, segments_at, sent_in, signatures_at}
+use Rattle.fints_script.specs.StepParts.{sealed_at, segments_at, sent_in, signatures_at}
 use Rattle.fints_script.proofs.RowLemmas.{exact_gives}
 use Rattle.fints_script.proofs.step_reading.sent_in.Goals as goal
 
