@@ -312,14 +312,20 @@ pub fn read_words<'a>(alloc: Global, words: &'a [&'a str]) -> Asked<'a>
         return usage(alloc, "error: a command is missing\n");
     };
     if words.iter().filter(|word| is_standard_input(word)).count() > 1 {
-        return usage(alloc, "error: standard input (-) can be the file of one option alone\n");
+        return usage(
+            alloc,
+            "error: standard input (-) can be the file of one option alone\n",
+        );
     }
     match named_request(name, options) {
         Some(request) => Asked::Run {
             request,
             hints: options.get_flag("hints"),
         },
-        None => usage(alloc, "error: a command has not the options that it needs\n"),
+        None => usage(
+            alloc,
+            "error: a command has not the options that it needs\n",
+        ),
     }
 }
 
