@@ -20,7 +20,10 @@ fn tell_run(rt: &HostRuntime, report: &Report<'_>, plan: &Plan<'_>, i: usize) ->
     let sent = run(rt.alloc(), plan, &case.values, case.answers.as_slice())?;
     for message in &sent {
         let size = message.bytes.as_slice().len();
-        println!(rt; "  message {} of step {}, {size} bytes", message.number, message.step)?;
+        println!(rt;
+            "  message {} of step {}, {size} bytes",
+            message.number, message.step
+        )?;
     }
     Ok(())
 }

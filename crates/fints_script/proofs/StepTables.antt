@@ -121,17 +121,17 @@ module _ (n : Part (List ℕ)) (s : Part (List Template)) (e : Part Bool) (g : P
       let K6 = kind_of b in
       let K7 = kind_of d in
       let two = both_kinds (both s (both e g)) (both r (both b d)) (earlier K2 (earlier K3 K4)) (earlier K5 (earlier K6 K7))
-          (both_kinds s (both e g) K2 (earlier K3 K4) refl (both_kinds e g K3 K4 refl refl))
-          (both_kinds r (both b d) K5 (earlier K6 K7) refl (both_kinds b d K6 K7 refl refl)) in
+      (both_kinds s (both e g) K2 (earlier K3 K4) refl (both_kinds e g K3 K4 refl refl))
+      (both_kinds r (both b d) K5 (earlier K6 K7) refl (both_kinds b d K6 K7 refl refl)) in
       let pairs = seen_kind step_of (both n rest) ∙ both_kinds n rest K1 (earlier (earlier K2 (earlier K3 K4)) (earlier K5 (earlier K6 K7))) refl two in
       let front : earlier K1 (earlier K2 (earlier K3 K4)) ≡ earlier (earlier (earlier K1 K2) K3) K4 = earlier_three K1 K2 (earlier K3 K4) ∙ earlier_three (earlier K1 K2) K3 K4 in
       let order = then_kinds (Ok step_value <*> n <*> s <*> e <*> g <*> r <*> b) d (earlier (earlier (earlier (earlier (earlier K1 K2) K3) K4) K5) K6)
-          (then_kinds (Ok step_value <*> n <*> s <*> e <*> g <*> r) b (earlier (earlier (earlier (earlier K1 K2) K3) K4) K5)
-          (then_kinds (Ok step_value <*> n <*> s <*> e <*> g) r (earlier (earlier (earlier K1 K2) K3) K4)
-          (then_kinds (Ok step_value <*> n <*> s <*> e) g (earlier (earlier K1 K2) K3)
-          (then_kinds (Ok step_value <*> n <*> s) e (earlier K1 K2)
-          (then_kinds (Ok step_value <*> n) s K1
-          (then_kinds (Ok step_value) n None refl)))))) in
+      (then_kinds (Ok step_value <*> n <*> s <*> e <*> g <*> r) b (earlier (earlier (earlier (earlier K1 K2) K3) K4) K5)
+      (then_kinds (Ok step_value <*> n <*> s <*> e <*> g) r (earlier (earlier (earlier K1 K2) K3) K4)
+      (then_kinds (Ok step_value <*> n <*> s <*> e) g (earlier (earlier K1 K2) K3)
+      (then_kinds (Ok step_value <*> n <*> s) e (earlier K1 K2)
+      (then_kinds (Ok step_value <*> n) s K1
+      (then_kinds (Ok step_value) n None refl)))))) in
       pairs
       ∙ earlier_three K1 (earlier K2 (earlier K3 K4)) (earlier K5 (earlier K6 K7))
       ∙ earlier_three (earlier K1 (earlier K2 (earlier K3 K4))) K5 (earlier K6 K7)

@@ -156,15 +156,15 @@ sized_step around step = if is_too_large around step then Err kinds.Limit else O
 unfoldable pub table_step : Surroundings → ℕ → Members → Part StepValue
 table_step around i ms =
     if only_keys step_keys ms then
-        Ok step_value
-        <*> row_name (is_taken_step around.rows i) ms
-        <*> must ms (codes "segments") (segments_in around.fields)
-        <*> may ms (codes "sealed") false (sealed_in (is_some around.seal))
-        <*> may ms (codes "signers") [] (signatures_in around.signers)
-        <*> may ms (codes "repeat") 1 (integer_in 1 MAX_REPEAT)
-        <*> may ms (codes "branches") [] (branches_in around.rows i)
-        <*> may ms (codes "default") targets.Stop (target_in around.rows i)
-        >>= sized_step around
+    Ok step_value
+    <*> row_name (is_taken_step around.rows i) ms
+    <*> must ms (codes "segments") (segments_in around.fields)
+    <*> may ms (codes "sealed") false (sealed_in (is_some around.seal))
+    <*> may ms (codes "signers") [] (signatures_in around.signers)
+    <*> may ms (codes "repeat") 1 (integer_in 1 MAX_REPEAT)
+    <*> may ms (codes "branches") [] (branches_in around.rows i)
+    <*> may ms (codes "default") targets.Stop (target_in around.rows i)
+    >>= sized_step around
     else Err kinds.UnknownKey
 
 -- the step in row i
