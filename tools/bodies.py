@@ -14,6 +14,9 @@ import sys
 
 os.chdir(os.path.dirname(os.path.dirname(os.path.abspath(__file__))))
 LAW_FILES = ("laws.rt", "run_laws.rt", "class_laws.rt")
+# What each element of a list keeps can only be had by going over the list: of a `Vec` that is handed in,
+# the checker knows nothing of its elements before they are read. These two do so, and nothing else.
+OF_LISTS = {"are_codes": "fints_script_cases/src/case.rt", "are_answers": "fints_check_findings/src/confirming.rt"}
 HEAD = re.compile(r"^ *(?:pub(?:\([a-z]+\))? )?(?:const )?(?:final )?fn (\w+)((?:.|\n)*?)(?:;|\{)$", re.M)
 
 sources = {path: open(path, encoding="utf-8").read() for path in sorted(glob.glob("crates/*/src/**/*.rt", recursive=True))}
@@ -32,7 +35,7 @@ for text in sources.values():
         if "&mut" in signature or re.search(r"\(\s*(?:mut )?self\b", signature):
             changing.add(name)
         (giving if "->" in signature else silent).add(name)
-found = []
+found, lists = [], 0
 for path, text in sources.items():
     if "_tests/" in path:
         continue
@@ -46,11 +49,13 @@ for path, text in sources.items():
         thrown = re.match(r"\s+let _(?:\w+)? = (?:\w+(?:\.|::))*(\w+)\((.*)\);$", line)
         if called and called[1] in laws:
             found.append(f"{at}: calls the law {called[1]}")
+        elif called and OF_LISTS.get(called[1]) and path.endswith(OF_LISTS[called[1]]):
+            lists += 1
         elif called and called[1] in silent and called[1] not in changing | {"keeps"}:
             found.append(f"{at}: {line.strip()}")
         elif thrown and (thrown[1] in giving - changing or re.match(r"\s+let _\w+ = ", line)):
             found.append(f"{at}: {line.strip()}")
 for line in found:
     print(line, file=sys.stderr)
-print(f"bodies: {len(laws)} laws, {len(found)} statements for a proof alone")
+print(f"bodies: {len(laws)} laws, {len(found)} statements for a proof alone, {lists} that learn what each element of a list keeps")
 sys.exit(1 if found or not laws else 0)

@@ -25,8 +25,8 @@ impl Model for Answer {
     ghost invariant = { λ a. IsAnswer a.codes.items };
 }
 
-// What each code keeps by itself, said of a whole list: it is below 10,000.
-fn read_all(codes: &[Code])
+// Each code is below 10,000, as it keeps by itself.
+fn are_codes(codes: &[Code])
     ensures { All (λ code. code < 10000) codes.now }
 {
     for code in codes {
@@ -39,7 +39,7 @@ impl Answer {
     pub fn new(codes: Vec<Code>) -> Option<Answer>
         ensures { SomeIff result (0 < length codes.items) codes.items }
     {
-        read_all(codes.as_slice());
+        are_codes(codes.as_slice());
         if codes.is_empty() {
             return None;
         }
@@ -52,7 +52,6 @@ impl Answer {
     {
         let mut codes = Vec::new(alloc);
         codes.push(code)?;
-        read_all(codes.as_slice());
         Ok(Answer { codes })
     }
 
@@ -63,7 +62,6 @@ impl Answer {
         let mut codes = Vec::new(alloc);
         codes.push(first)?;
         codes.push(second)?;
-        read_all(codes.as_slice());
         Ok(Answer { codes })
     }
 
