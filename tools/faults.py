@@ -213,7 +213,7 @@ def in_all_commands(lab):
             *(row(f"dialogue/{it}") for it in "explain explain-second-signature certify verify".split()),
         ],
     }
-    return {f"{group}: {run.words[0]}, {os.path.basename(run.folder)}": run for group, runs in groups.items() for run in runs}
+    return {f"{group}: {(run.words or ['report'])[0]}, {os.path.basename(run.folder)}": run for group, runs in groups.items() for run in runs}
 
 
 def refused_places(count, all_up_to=3000, first=300, between=250, last=50):
@@ -235,7 +235,7 @@ def growths(lab, label, run):
 
 
 def hinted(ran):
-    """What may come of a refusal with a hint: memory may lack for the line, or for the hint alone."""
+    """What may come of a refusal with a hint: memory may lack before the refusal, or for the hint alone."""
     return [WANT, ran._replace(err=ran.err.split(b"\n")[0] + b"\n"), ran]
 
 
