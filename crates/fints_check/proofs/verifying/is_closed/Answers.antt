@@ -1,9 +1,14 @@
-use Rattle.std.proofs.Common.{sym, subst}
+use Rattle.std.proofs.Common.{◌≤◌, length, sym, subst}
 use Rattle.std.specs.Prelude.{◌↔◌, IsTrue}
 use Rattle.std.proofs.lemmas.Bool.{both_ways}
 use Rattle.fints_check.specs.Certificates.{AreLinesTrue, AreReleased, IsEntered}
 use Rattle.fints_check.specs.Verifying.{ClaimsValue}
+use Rattle.fints_script.proofs.LawLemmas.{sound_of}
 use Rattle.fints_check.proofs.verifying.is_closed.Goals as goal
+
+pub is_entered-requires-clause-last : goal.is_entered-requires-clause-last
+is_entered-requires-clause-last c =
+    subst (λ (v : ClaimsValue). 1 ≤ length v.script.steps) (sym c.new-claims.ensures) (sound_of c.keeps.ensures.read).some_steps
 
 pub returns-then-not-is_entered : goal.returns-then-not-is_entered
 returns-then-not-is_entered c =
