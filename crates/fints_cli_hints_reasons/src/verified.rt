@@ -204,7 +204,8 @@ fn first_open(
     if let Some(why) = not_entered(alloc, lines, steps, 1, 1)? {
         return Ok(Some(why));
     }
-    for n in 1..plan.step_count() + 1 {
+    for i in 0..plan.step_count() {
+        let n = i + 1;
         let Some(figures) = reached(lines, n) else {
             continue;
         };
