@@ -34,8 +34,12 @@ fn is_report(
 ) -> Result<bool, Fail>
     requires { permissions.now.orders ≡ plan.now.orders }
 {
+    let count = plan.step_count();
+    if count == 0 {
+        return Ok(false);
+    }
     let report = check(alloc, permissions, plan)?;
-    let figures = (report.reached(plan.step_count()), report.visits());
+    let figures = (report.reached(count), report.visits());
     Ok(
         figures == (Some(last), visits)
             && (report.findings(), report.is_clean()) == (findings, findings.is_empty()),

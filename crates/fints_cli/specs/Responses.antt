@@ -1,5 +1,5 @@
 -- The status and the output of the words that were given.
-use Rattle.std.specs.Prelude.{codes, ◌≡◌, ◌≤◌, ◌⊎◌, ℕ, false, List, [], ◌∷◌, ◌++◌, Option, String, string_bytes}
+use Rattle.std.specs.Prelude.{codes, ◌≡◌, ◌≤◌, ◌⊎◌, ℕ, false, List, [], ◌∷◌, ◌++◌, Option, string_bytes}
 use Rattle.fints_cli_files.specs.Streams.{ReadCounts, Gets, GetsNothing, GetsPrefix, one_more}
 use Rattle.fints_cli_files.specs.Loading.{NoneFailed}
 use Rattle.fints_cli_words.specs.declared.words.Asked.{Asked}
@@ -95,10 +95,17 @@ AsksNoHint (Usage fault) = Unit {0}
 AsksNoHint NoMemory = Unit {0}
 AsksNoHint (Run request hints) = hints ≡ false
 
+-- the usage of bad words is told
+abbrev pub TellsUsage : Asked → (old new : Option (List ℕ)) (lost lost_after : ℕ) → Type 0
+TellsUsage (Help help) old new lost lost_after = Unit {0}
+TellsUsage (Usage fault) old new lost lost_after = Tells old new lost lost_after (string_bytes fault)
+TellsUsage NoMemory old new lost lost_after = Unit {0}
+TellsUsage (Run request hints) old new lost lost_after = Unit {0}
+
 -- What the errors got. Where no hint is asked for that is nothing up to status 1, and from 2 on one line, which a bad command
 -- line has from the usage, and want of memory as its own.
 pub record SaysWhy (asked : Asked) (status : ℕ) (old new : Option (List ℕ)) (lost lost_after : ℕ) : Type 0 where
   pub quiet : status ≤ 1 → AsksNoHint asked → IsUntold old new lost lost_after
-  pub usage : (text : String) → asked ≡ Usage text → Tells old new lost lost_after (string_bytes text)
+  pub usage : TellsUsage asked old new lost lost_after
   pub line : 2 ≤ status → AsksNoHint asked → (line : List ℕ) × Tells old new lost lost_after line
   pub memory : status ≡ 4 → Tells old new lost lost_after memory_line

@@ -9,10 +9,12 @@ returns-clause-responds g c = (
     usage = c.respond.ensures.only_usage;
     unread = c.respond.ensures.unread;
     refused = c.respond.ensures.refused;
+    memory = c.respond.ensures.memory;
     read = c.respond.ensures.read;
     within = c.respond.ensures.within;
     silent = c.respond.ensures.silent;
     fine = c.respond.ensures.fine;
     failed = c.respond.ensures.failed;
   },
+  c.respond.ensures.says,
 )
