@@ -24,10 +24,14 @@ pub record Read (text rest : List ℕ) (v : List Line) (n : ℕ) : Type 0 where
   pub text_is : text ≡ cert_text v ++ rest
   pub number : n ≡ length (cert_lines v) + 1
 
-read_line : (text rest more : List ℕ) (v : List Line) (line : Line) (n : ℕ) → Read text rest v n → IsStepLine line → IsNew v line → rest ≡ step_text line ++ 10 ∷ more → length text - length more ≤ MAX_TEXT → Read text more (v ++ line ∷ []) (n + 1)
+read_line : (text rest more : List ℕ) (v : List Line) (line : Line) (n : ℕ) → Read text rest v n
+    → IsStepLine line → IsNew v line → rest ≡ step_text line ++ 10 ∷ more
+    → length text - length more ≤ MAX_TEXT → Read text more (v ++ line ∷ []) (n + 1)
 read_line text rest more v line n read good next is within =
     let front : cert_lines v ++ step_text line ∷ [] ≡ cert_lines (v ++ line ∷ []) = sym (lines_with v line) in
-    let whole : text ≡ cert_text (v ++ line ∷ []) ++ more = text_taken text rest (step_text line) more (cert_lines v) read.text_is is ∙ ap (λ (ls : List (List ℕ)). text_of_lines ls ++ more) front in
+    let whole : text ≡ cert_text (v ++ line ∷ []) ++ more =
+    text_taken text rest (step_text line) more (cert_lines v) read.text_is is
+    ∙ ap (λ (ls : List (List ℕ)). text_of_lines ls ++ more) front in
     let size = length_taken text more (cert_lines (v ++ line ∷ [])) whole in
     let count : length (cert_lines (v ++ line ∷ [])) ≡ length (cert_lines v ++ step_text line ∷ []) = ap length (lines_with v line) in
     let one : length (cert_lines v ++ step_text line ∷ []) ≡ length (cert_lines v) + 1 = length-append (cert_lines v) (step_text line ∷ []) in
@@ -42,9 +46,12 @@ read_line text rest more v line n read good next is within =
       number = omega arith;
     }
 
-pub read_more : (text rest more : List ℕ) (v w : List Line) (n : ℕ) → Read text rest v n → IsLineTaken (length text) rest more v w → Read text more w (n + 1)
+pub read_more : (text rest more : List ℕ) (v w : List Line) (n : ℕ) → Read text rest v n
+    → IsLineTaken (length text) rest more v w → Read text more w (n + 1)
 read_more text rest more v w n read taken =
-    subst (λ (x : List Line). Read text more x (n + 1)) (sym taken.lines_are) (read_line text rest more v taken.line n read taken.is taken.next taken.stands.split.0 taken.stands.within)
+    subst (λ (x : List Line). Read text more x (n + 1)) (sym taken.lines_are)
+    (read_line text rest more v taken.line n read taken.is taken.next taken.stands.split.0
+    taken.stands.within)
 
 pub few_lines : (text rest : List ℕ) (v : List Line) (n : ℕ) → Read text rest v n → n ≤ MAX_TEXT + 1
 few_lines text rest v n read =
@@ -62,7 +69,8 @@ no_rest : (front rest : List ℕ) → length rest ≡ 0 → front ++ rest ≡ fr
 no_rest front [] none = append-nil front
 no_rest front (x ∷ rest) none = absurd (omega arith)
 
-pub read_all : (text rest : List ℕ) (v : List Line) (n : ℕ) → Read text rest v n → length rest ≡ 0 → 0 < length v → IsCertificateOf text v
+pub read_all : (text rest : List ℕ) (v : List Line) (n : ℕ) → Read text rest v n → length rest ≡ 0
+    → 0 < length v → IsCertificateOf text v
 read_all text rest v n read none some = (is_certificate v read.begun some, read.text_is ∙ no_rest (cert_text v) rest none)
 
 -- ---- a bad line
@@ -85,7 +93,16 @@ least =
 
 begins : (v : List Line) → IsBegun v → BeginsText AreCertLines (cert_lines v)
 begins [] begun = record { later = step_text least_line ∷ []; good = record { lines = least_line ∷ []; is = least; same = refl } }
-begins (x ∷ v) begun = record { later = []; good = record { lines = x ∷ v; is = is_certificate (x ∷ v) begun (omega arith); same = append-nil (cert_lines (x ∷ v)) } }
+begins (x ∷ v) begun =
+    record {
+      later = [];
+      good =
+          record {
+            lines = x ∷ v;
+            is = is_certificate (x ∷ v) begun (omega arith);
+            same = append-nil (cert_lines (x ∷ v));
+          };
+    }
 
 none_is_none : (v : List Line) → length v ≡ 0 → AreCertLines (cert_lines v) → ⊥
 none_is_none [] none c = no_lines c.lines c.is.some (let same = c.same in cc)
@@ -95,20 +112,33 @@ none_is_none [] none c = no_lines c.lines c.is.some (let same = c.same in cc)
     no_lines (x ∷ w) some e = cc
 none_is_none (x ∷ v) none c = omega arith
 
-pub refused : (text rest : List ℕ) (v : List Line) (n : ℕ) → Read text rest v n → HasNoLine (length text) rest v → (length rest ≡ 0 → length v ≡ 0) → IsFirstBadLine text n
+pub refused : (text rest : List ℕ) (v : List Line) (n : ℕ) → Read text rest v n
+    → HasNoLine (length text) rest v → (length rest ≡ 0 → length v ≡ 0) → IsFirstBadLine text n
 refused text rest v n read none ends =
-    refused_at AreCertLines cert_without text rest (cert_lines v) n (begins v read.begun) read.text_is read.number (λ done good. none_is_none v (ends done) good) bad
+    refused_at AreCertLines cert_without text rest (cert_lines v) n (begins v read.begun) read.text_is
+    read.number (λ done good. none_is_none v (ends done) good) bad
   where
-    bad : (line more : List ℕ) → rest ≡ line ++ 10 ∷ more → BeginsText AreCertLines (cert_lines v ++ line ∷ []) → ⊥
+    bad : (line more : List ℕ) → rest ≡ line ++ 10 ∷ more
+        → BeginsText AreCertLines (cert_lines v ++ line ∷ []) → ⊥
     bad line more is b =
         let on = onward v line read.begun b in
         let size = length_taken text more (cert_lines v ++ line ∷ []) (text_taken text rest line more (cert_lines v) read.text_is is) in
         let short = on.short in
-        none on.line more on.good on.next (record { split = (is ∙ ap (λ (t : List ℕ). t ++ 10 ∷ more) on.is, line_without on.line on.good); within = omega arith })
+        none on.line more on.good on.next
+        (record {
+          split = (is ∙ ap (λ (t : List ℕ). t ++ 10 ∷ more) on.is, line_without on.line on.good);
+          within = omega arith;
+        })
 
-pub no_header : (text : List ℕ) → ((rest : List ℕ) → text ≢ codes "fints-cert 2\n" ++ rest) → IsFirstBadLine text 1
+pub no_header : (text : List ℕ) → ((rest : List ℕ) → text ≢ codes "fints-cert 2\n" ++ rest)
+    → IsFirstBadLine text 1
 no_header text none =
-    refused_at AreCertLines cert_without text text [] 1 (record { later = cert_lines (least_line ∷ []); good = record { lines = least_line ∷ []; is = least; same = refl } }) refl refl
+    refused_at AreCertLines cert_without text text [] 1
+    (record {
+      later = cert_lines (least_line ∷ []);
+      good = record { lines = least_line ∷ []; is = least; same = refl };
+    })
+    refl refl
     (λ done good. let same = good.same in absurd cc)
     (λ line more is b.
     let same = b.good.same in
@@ -125,5 +155,9 @@ certificate_or_bad_line text none never =
 
 pub one_certificate : (text : List ℕ) → OneCertificate text
 one_certificate text lines others a b =
-    let same = same_lines (cert_lines lines) (cert_lines others) (cert_without (cert_lines lines) (record { lines = lines; is = a.0; same = refl })) (cert_without (cert_lines others) (record { lines = others; is = b.0; same = refl })) (sym a.1 ∙ b.1) in
+    let same =
+    same_lines (cert_lines lines) (cert_lines others)
+    (cert_without (cert_lines lines) (record { lines = lines; is = a.0; same = refl }))
+    (cert_without (cert_lines others) (record { lines = others; is = b.0; same = refl }))
+    (sym a.1 ∙ b.1) in
     lines_once lines others a.0.each b.0.each cc

@@ -35,24 +35,28 @@ use Rattle.fints_wire.proofs.LawLemmas.{extremes_are_admitted_longest, messages_
 -- ---- lines and their figures
 
 -- what is named stands among the figures
-named_figures : (lines : List Line) (n : ℕ) (figures : Reached) → Names lines n figures → numbered (line_figures lines) n ≡ Some (Some figures)
+named_figures : (lines : List Line) (n : ℕ) (figures : Reached) → Names lines n figures
+    → numbered (line_figures lines) n ≡ Some (Some figures)
 named_figures lines zero figures h = absurd cc
 named_figures [] (suc n) figures h = absurd cc
 named_figures (l ∷ lines) (suc zero) figures h = ap (λ (x : Option Reached). Some x) h
 named_figures (l ∷ lines) (suc (suc n)) figures h = named_figures lines (suc n) figures h
 
 -- and the other way
-figures_named : (lines : List Line) (n : ℕ) (figures : Reached) → numbered (line_figures lines) n ≡ Some (Some figures) → Names lines n figures
+figures_named : (lines : List Line) (n : ℕ) (figures : Reached)
+    → numbered (line_figures lines) n ≡ Some (Some figures) → Names lines n figures
 figures_named lines zero figures h = absurd cc
 figures_named [] (suc n) figures h = absurd cc
 figures_named (l ∷ lines) (suc zero) figures h = same_Some l.reached (Some figures) h
 figures_named (l ∷ lines) (suc (suc n)) figures h = figures_named lines (suc n) figures h
 
-nothing_real : (granted : Granted) (script : ScriptValue) → AreFindings granted script [] → (f : Finding) → IsReal granted script f → ⊥
+nothing_real : (granted : Granted) (script : ScriptValue) → AreFindings granted script [] → (f : Finding)
+    → IsReal granted script f → ⊥
 nothing_real granted script none f real = let has = (none.exactly f).1 real in let lt = has.1 in omega arith
 
 -- what is broken by itself is broken behind anything
-itself : (granted : Granted) (before : Before) (m : Sent) (r : Rule) (place : ℕ) → BytesBreak granted m.bytes r place → BreaksBehind granted before m r place
+itself : (granted : Granted) (before : Before) (m : Sent) (r : Rule) (place : ℕ)
+    → BytesBreak granted m.bytes r place → BreaksBehind granted before m r place
 itself granted at_first m r place b = b
 itself granted (behind x codes) m r place b = inl b
 
@@ -80,11 +84,25 @@ record Peak (script : ScriptValue) (n : ℕ) (step : StepValue) (f : Reached) : 
 
 module _ (granted : Granted) (script : ScriptValue) (lines : List Line) (sound : IsSound script) (figures : AreFigures script (line_figures lines)) where
   -- a visit's message with the longest values
-  sent_at : (v : Visit) (step : StepValue) → numbered script.steps v.step ≡ Some step → Arrives script.steps v → IsSentOf script v.step (record { step = v.step; number = v.number; bytes = message_bytes script step v.number (longest_choice script.fields) })
+  sent_at : (v : Visit) (step : StepValue) → numbered script.steps v.step ≡ Some step → Arrives script.steps v
+      → IsSentOf script v.step
+      (record {
+        step = v.step;
+        number = v.number;
+        bytes = message_bytes script step v.number (longest_choice script.fields);
+      })
   sent_at v step at arrives = record {
     values = longest_choice script.fields;
     admitted = extremes_are_admitted_longest script.fields;
-    sends = (last_messages script (longest_choice script.fields) (record { step = v.step; number = v.number; bytes = message_bytes script step v.number (longest_choice script.fields) }) sound).1 (v, arrives, record { at = step; of = at; is = refl });
+    sends =
+        (last_messages script (longest_choice script.fields)
+        (record {
+          step = v.step;
+          number = v.number;
+          bytes = message_bytes script step v.number (longest_choice script.fields);
+        })
+        sound).1
+        (v, arrives, record { at = step; of = at; is = refl });
     of = refl;
   }
 
@@ -98,18 +116,36 @@ module _ (granted : Granted) (script : ScriptValue) (lines : List Line) (sound :
       let cell = numbered_at (line_figures lines) v.step from (omega arith) in
       by step.0 step.1 cell.0 cell.1 (figures.each v.step cell.0 cell.1)
     where
-      by : (step : StepValue) → numbered script.steps v.step ≡ Some step → (cell : Option Reached) → numbered (line_figures lines) v.step ≡ Some cell → FiguresAre script v.step cell → Kept script lines v
-      by step at None there are = absurd (are (record { step = v.step; number = v.number; bytes = message_bytes script step v.number (longest_choice script.fields) }) (sent_at v step at arrives))
+      by : (step : StepValue) → numbered script.steps v.step ≡ Some step → (cell : Option Reached)
+          → numbered (line_figures lines) v.step ≡ Some cell → FiguresAre script v.step cell
+          → Kept script lines v
+      by step at None there are =
+          absurd
+          (are
+          (record {
+            step = v.step;
+            number = v.number;
+            bytes = message_bytes script step v.number (longest_choice script.fields);
+          })
+          (sent_at v step at arrives))
       by step at (Some f) there are = record {
         step = step;
         at = at;
         figures = f;
         named = figures_named lines v.step f there;
-        number = (are.most (record { step = v.step; number = v.number; bytes = message_bytes script step v.number (longest_choice script.fields) }) (sent_at v step at arrives)).0;
+        number =
+            (are.most
+            (record {
+              step = v.step;
+              number = v.number;
+              bytes = message_bytes script step v.number (longest_choice script.fields);
+            })
+            (sent_at v step at arrives)).0;
       }
 
   -- where runs enter a step, its number is enough
-  entered : (n e : ℕ) → Reach script.steps (record { step = n; number = e; times = 1 }) → IsEntered script.steps lines n e
+  entered : (n e : ℕ) → Reach script.steps (record { step = n; number = e; times = 1 })
+      → IsEntered script.steps lines n e
   entered n e r =
       let k = kept (record { step = n; number = e; times = 1 }) ((runs_by_steps script.steps (record { step = n; number = e; times = 1 })).1 r) in
       let once = (numbered_holds (IsSoundStep script) script.steps n k.step sound.steps k.at).once in
@@ -129,7 +165,8 @@ module _ (granted : Granted) (script : ScriptValue) (lines : List Line) (sound :
         };
       }
 
-  peak : (n : ℕ) (step : StepValue) (f : Reached) → numbered script.steps n ≡ Some step → Names lines n f → Peak script n step f
+  peak : (n : ℕ) (step : StepValue) (f : Reached) → numbered script.steps n ≡ Some step → Names lines n f
+      → Peak script n step f
   peak n step f at named =
       let g : AreGreatestFigures script n f = figures.each n (Some f) (named_figures lines n f named) in
       let way = (last_messages script g.sent.values g.message sound).0 g.sent.sends in
@@ -154,8 +191,11 @@ module _ (granted : Granted) (script : ScriptValue) (lines : List Line) (sound :
         most = λ m s. (g.most m s).1;
       }
 
-  module _ (none : (f : Finding) → IsReal granted script f → ⊥) (clean : SentStepsAreClean granted script) (n : ℕ) (step : StepValue) (f : Reached) (at : numbered script.steps n ≡ Some step) (p : Peak script n step f) where
-    view_is : IsMessage (message_bytes script step p.visit.number p.sent.values) (message_view script step p.visit.number p.sent.values)
+  module _ (none : (f : Finding) → IsReal granted script f → ⊥) (clean : SentStepsAreClean granted script)
+      (n : ℕ) (step : StepValue) (f : Reached) (at : numbered script.steps n ≡ Some step)
+      (p : Peak script n step f) where
+    view_is : IsMessage (message_bytes script step p.visit.number p.sent.values)
+        (message_view script step p.visit.number p.sent.values)
     view_is = messages_are_read script (n - 1) step p.visit.number p.sent.values sound (numbered_from script.steps n step at) p.low p.high p.sent.admitted
 
     -- the message that has both figures breaks no rule
@@ -179,7 +219,10 @@ module _ (granted : Granted) (script : ScriptValue) (lines : List Line) (sound :
         })
 
     -- what its figures break the message does
-    breaks_so : (r : Rule) → p.visit.number ≡ f.number → (message_view script step p.visit.number p.sent.values).size ≡ f.size → FiguresBreak granted.rows.bank (reached_figures f) r → BreaksByFigures granted (message_view script step p.visit.number p.sent.values) r
+    breaks_so : (r : Rule) → p.visit.number ≡ f.number
+        → (message_view script step p.visit.number p.sent.values).size ≡ f.size
+        → FiguresBreak granted.rows.bank (reached_figures f) r
+        → BreaksByFigures granted (message_view script step p.visit.number p.sent.values) r
     breaks_so Number number size (inl none) = inl (number ∙ none)
     breaks_so Number number size (inr past) = inr (omega (arith, past, number))
     breaks_so Size number size b = (b.0, omega (arith, b.1, size))
@@ -197,8 +240,22 @@ module _ (granted : Granted) (script : ScriptValue) (lines : List Line) (sound :
     holds =
         let number = p.number in
         let here : numbered script.steps p.visit.step ≡ Some step = ap (numbered script.steps) p.here ∙ at in
-        let worst = p.most (record { step = p.visit.step; number = p.visit.number; bytes = message_bytes script step p.visit.number (longest_choice script.fields) })
-        (subst (λ (k : ℕ). IsSentOf script k (record { step = p.visit.step; number = p.visit.number; bytes = message_bytes script step p.visit.number (longest_choice script.fields) })) p.here (sent_at p.visit step here p.arrives)) in
+        let worst =
+        p.most
+        (record {
+          step = p.visit.step;
+          number = p.visit.number;
+          bytes = message_bytes script step p.visit.number (longest_choice script.fields);
+        })
+        (subst
+        (λ (k : ℕ).
+        IsSentOf script k
+        (record {
+          step = p.visit.step;
+          number = p.visit.number;
+          bytes = message_bytes script step p.visit.number (longest_choice script.fields);
+        }))
+        p.here (sent_at p.visit step here p.arrives)) in
         let is : length (message_bytes script step p.visit.number p.sent.values) ≡ f.size = sym (ap length p.bytes) ∙ p.size in
         let whole = view_is.size in
         record {
@@ -208,7 +265,9 @@ module _ (granted : Granted) (script : ScriptValue) (lines : List Line) (sound :
           onward = λ branch is_open. goes_on (target_of step.branches step.otherwise branch) (record { branch = branch; is_open = is_open; to = refl });
         }
 
-  pub closes : line_names lines ≡ step_names script.steps → AreFindings granted script [] → SentStepsAreClean granted script → SentStepsAreReleased script → IsClosedCertificate granted script lines
+  pub closes : line_names lines ≡ step_names script.steps → AreFindings granted script []
+      → SentStepsAreClean granted script → SentStepsAreReleased script
+      → IsClosedCertificate granted script lines
   closes names none clean released = record {
     names = names;
     first = entered 1 1 first;

@@ -46,7 +46,9 @@ pub figure_once : (m n : ℕ) → IsFigure m → IsFigure n → decimal m ≡ de
 figure_once m n hm hn e = let a = hm.1 in let b = hn.1 in decimal_injective m n (omega arith) (omega arith) e
 
 -- what is parsed is a figure, and what isn't parsed is the text of none
-pub figure_parsed : {E : Type 0} (text : List ℕ) (r : Result ℕ E) → ParsesUnsigned 32 10 text r → 0 < length text → length text ≤ 9 → 49 ≤ get_or text 0 0 → MatchResult r (λ n. IsFigure n × (text ≡ decimal n)) (λ e. (n : ℕ) → IsFigure n → text ≢ decimal n)
+pub figure_parsed : {E : Type 0} (text : List ℕ) (r : Result ℕ E) → ParsesUnsigned 32 10 text r
+    → 0 < length text → length text ≤ 9 → 49 ≤ get_or text 0 0
+    → MatchResult r (λ n. IsFigure n × (text ≡ decimal n)) (λ e. (n : ℕ) → IsFigure n → text ≢ decimal n)
 figure_parsed {E = E} text (Ok x) p some short first =
     let read = parse_plain own {E = E} 32 text (Ok x) p (λ e. omega (arith, e)) in
     let below = digits_value_short own text 9 read.0.0 short in
@@ -61,19 +63,28 @@ figure_parsed {E = E} text (Ok x) p some short first =
           absurd (omega arith)
     ] in
     ((positive, omega arith), same)
-figure_parsed {E = E} text (Err e) p some short first = λ n h is. let small = h.1 in let both = parse-decimal {E = E} 32 n text (Err e) (omega arith) (omega arith) is p in absurd cc
+figure_parsed {E = E} text (Err e) p some short first =
+    λ n h is.
+    let small = h.1 in let both = parse-decimal {E = E} 32 n text (Err e) (omega arith) (omega arith) is
+    p in absurd cc
 
 -- ---- both figures, or `-`
 
 pub figures_without : (r : Option Reached) → AreShown r → All (λ x. x ≢ 10) (figures_text r)
 figures_without None h = plain (codes "-") refl
-figures_without (Some r) h = All-append (λ x. x ≢ 10) (decimal r.number) (32 ∷ decimal r.size) (figure_without 10 r.number (inr refl) h.0) (All-cons (λ x. x ≢ 10) 32 (decimal r.size) (λ e. omega (arith, e)) (figure_without 10 r.size (inr refl) h.1))
+figures_without (Some r) h =
+    All-append (λ x. x ≢ 10) (decimal r.number) (32 ∷ decimal r.size)
+    (figure_without 10 r.number (inr refl) h.0)
+    (All-cons (λ x. x ≢ 10) 32 (decimal r.size) (λ e. omega (arith, e))
+    (figure_without 10 r.size (inr refl) h.1))
 
 dash_no_figures : (r : Reached) → IsFigure r.number → codes "-" ≡ decimal r.number ++ 32 ∷ decimal r.size → ⊥
 dash_no_figures r h e =
     let some = figure_some r.number h in
     let long : length (codes "-") ≡ length (decimal r.number ++ 32 ∷ decimal r.size) = ap length e in
-    let parts : length (decimal r.number ++ 32 ∷ decimal r.size) ≡ length (decimal r.number) + length (32 ∷ decimal r.size) = length-append (decimal r.number) (32 ∷ decimal r.size) in
+    let parts : length (decimal r.number ++ 32 ∷ decimal r.size) ≡ length (decimal r.number) + length
+    (32 ∷ decimal r.size) =
+    length-append (decimal r.number) (32 ∷ decimal r.size) in
     omega arith
 
 pub figures_once : (a b : Option Reached) → AreShown a → AreShown b → figures_text a ≡ figures_text b → a ≡ b
@@ -81,20 +92,28 @@ figures_once None None ha hb e = refl
 figures_once None (Some r) ha hb e = absurd (dash_no_figures r hb.0 e)
 figures_once (Some r) None ha hb e = absurd (dash_no_figures r ha.0 (sym e))
 figures_once (Some p) (Some q) ha hb e =
-    let parts = split_same 32 (decimal p.number) (decimal p.size) (decimal q.number) (decimal q.size) (figure_without 32 p.number (inl refl) ha.0) (figure_without 32 q.number (inl refl) hb.0) e in
+    let parts =
+    split_same 32 (decimal p.number) (decimal p.size) (decimal q.number) (decimal q.size)
+    (figure_without 32 p.number (inl refl) ha.0) (figure_without 32 q.number (inl refl) hb.0) e in
     let number = figure_once p.number q.number ha.0 hb.0 parts.0 in
     let size = figure_once p.size q.size ha.1 hb.1 parts.1 in
     let make : ℕ → ℕ → Reached = λ n s. record { number = n; size = s } in
     ap (λ (n : ℕ). Some (make n p.size)) number ∙ ap (λ (s : ℕ). Some (make q.number s)) size
 
 -- a dash is no number and size
-pub dash_only : (text : List ℕ) → (text ≡ codes "-" → ⊥) → ((r : Reached) → AreShown (Some r) → text ≢ figures_text (Some r)) → (r : Option Reached) → AreShown r → text ≢ figures_text r
+pub dash_only : (text : List ℕ) → (text ≡ codes "-" → ⊥)
+    → ((r : Reached) → AreShown (Some r) → text ≢ figures_text (Some r)) → (r : Option Reached) → AreShown r
+    → text ≢ figures_text r
 dash_only text no_dash none None h e = no_dash e
 dash_only text no_dash none (Some r) h e = none r h e
 
-pub no_space : (text : List ℕ) → All (λ b. b ≢ 32) text → (r : Reached) → AreShown (Some r) → text ≢ figures_text (Some r)
+pub no_space : (text : List ℕ) → All (λ b. b ≢ 32) text → (r : Reached) → AreShown (Some r)
+    → text ≢ figures_text (Some r)
 no_space text none r h e = split_none 32 (decimal r.number) (decimal r.size) (subst (λ (t : List ℕ). All (λ b. b ≢ 32) t) e none)
 
 -- the parts of a text of figures
-pub figure_parts : (text number size : List ℕ) → IsSplit 32 text number size → (r : Reached) → AreShown (Some r) → text ≡ figures_text (Some r) → (number ≡ decimal r.number) × (size ≡ decimal r.size)
-figure_parts text number size split r h e = split_same 32 number size (decimal r.number) (decimal r.size) split.1 (figure_without 32 r.number (inl refl) h.0) (sym split.0 ∙ e)
+pub figure_parts : (text number size : List ℕ) → IsSplit 32 text number size → (r : Reached)
+    → AreShown (Some r) → text ≡ figures_text (Some r) → (number ≡ decimal r.number) × (size ≡ decimal r.size)
+figure_parts text number size split r h e =
+    split_same 32 number size (decimal r.number) (decimal r.size) split.1
+    (figure_without 32 r.number (inl refl) h.0) (sym split.0 ∙ e)

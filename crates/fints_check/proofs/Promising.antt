@@ -31,19 +31,24 @@ use Rattle.fints_wire.proofs.LawLemmas.{messages_are_read, none_is_longer_most}
 use Rattle.fints_check_findings.proofs.LawLemmas.{release_is_left}
 
 -- figures that break neither P2 nor P3 have a number that can be asked for
-pub numbers_asked : (granted : Granted) (f : Figures) → ((r : Rule) → FiguresBreak granted.rows.bank f r → ⊥) → (1 ≤ f.number) × (f.number ≤ LAST_NUMBER)
+pub numbers_asked : (granted : Granted) (f : Figures) → ((r : Rule) → FiguresBreak granted.rows.bank f r → ⊥)
+    → (1 ≤ f.number) × (f.number ≤ LAST_NUMBER)
 numbers_asked granted f none = (
   elim (cases_lt 0 f.number) [ inl above ↦ above | inr under ↦ absurd (none Number (inl (omega (arith, under)))) ],
   elim (cases_lt LAST_NUMBER f.number) [ inl past ↦ absurd (none Number (inr past)) | inr under ↦ under ],
 )
 
 -- a message of a number and a size within a line's figures breaks no rule
-permitted_view : (granted : Granted) (script : ScriptValue) (lines : List Line) (step : StepValue) (figures : Reached) (number : ℕ) (values : List NamedValue) → LineHolds granted script lines step figures → 1 ≤ number → number ≤ figures.number → (message_view script step number values).size ≤ figures.size → Admits script.fields values
+permitted_view : (granted : Granted) (script : ScriptValue) (lines : List Line) (step : StepValue)
+    (figures : Reached) (number : ℕ) (values : List NamedValue) → LineHolds granted script lines step figures
+    → 1 ≤ number → number ≤ figures.number → (message_view script step number values).size ≤ figures.size
+    → Admits script.fields values
     → (r : Rule) (place : ℕ) → Breaks granted (message_view script step number values) r place → ⊥
 permitted_view granted script lines step figures number values holds low high size admits r place (inr b) = holds.clean r number values place admits b
 permitted_view granted script lines step figures number values holds low high size admits r place (inl whole) = holds.permitted r (within r whole.1)
   where
-    within : (r : Rule) → BreaksByFigures granted (message_view script step number values) r → FiguresBreak granted.rows.bank (reached_figures figures) r
+    within : (r : Rule) → BreaksByFigures granted (message_view script step number values) r
+        → FiguresBreak granted.rows.bank (reached_figures figures) r
     within Number (inl none) = absurd (omega (arith, low, none))
     within Number (inr over) = inr (omega (arith, high, over))
     within Size b = (b.0, omega (arith, b.1, size))
@@ -51,17 +56,24 @@ permitted_view granted script lines step figures number values holds low high si
 
 module _ (granted : Granted) (script : ScriptValue) (lines : List Line) (sound : IsSound script) (closed : IsClosedCertificate granted script lines) where
   -- the last message of a run
-  kept : (values : List NamedValue) (m : Sent) → Admits script.fields values → SendsLast script values m → StaysWithin lines m × Permitted granted m.bytes
+  kept : (values : List NamedValue) (m : Sent) → Admits script.fields values → SendsLast script values m
+      → StaysWithin lines m × Permitted granted m.bytes
   kept values m admits sends =
       let way = (last_messages script values m sound).0 sends in
       let v = way.0 in
       let is = way.2 in
-      let b = reach_bounded script.steps lines v closed.first (λ n step figures at named. (closed.each n step figures at named).onward) ((runs_by_steps script.steps v).0 way.1) in
+      let b =
+      reach_bounded script.steps lines v closed.first
+      (λ n step figures at named. (closed.each n step figures at named).onward)
+      ((runs_by_steps script.steps v).0 way.1) in
       let holds = closed.each v.step is.at b.figures is.of b.named in
       let low = (visits_are_within script v sound way.1).first in
       let high = b.stays.now in
       let most = (numbers_asked granted (reached_figures b.figures) holds.permitted).1 in
-      let worst = none_is_longer_most script is.at values v.number b.figures.number sound (numbered_holds (IsSoundStep script) script.steps v.step is.at sound.steps is.of) admits low high (omega arith) in
+      let worst =
+      none_is_longer_most script is.at values v.number b.figures.number sound
+      (numbered_holds (IsSoundStep script) script.steps v.step is.at sound.steps is.of) admits low
+      high (omega arith) in
       let top = holds.size in
       let size : length (message_bytes script is.at v.number values) ≤ b.figures.size = omega arith in
       let view = messages_are_read script (v.step - 1) is.at v.number values sound (numbered_from script.steps v.step is.at is.of) low (omega arith) admits in
@@ -78,34 +90,57 @@ module _ (granted : Granted) (script : ScriptValue) (lines : List Line) (sound :
   pub promise : KeepsPromise script lines
   promise values answers sent admits good run = all sent (each_is_last script values answers sent sound good run)
     where
-      all : (sent : List Sent) → AllByRecursion (SendsLast script values) sent → AllByRecursion (StaysWithin lines) sent
+      all : (sent : List Sent) → AllByRecursion (SendsLast script values) sent
+          → AllByRecursion (StaysWithin lines) sent
       all [] h = tt
       all (m ∷ ms) h = ((kept values m admits h.0).0, all ms h.1)
 
-  last_of_run : (values : List NamedValue) (before : Before) (m : Sent) → SendsAfter script values before m → SendsLast script values m
+  last_of_run : (values : List NamedValue) (before : Before) (m : Sent) → SendsAfter script values before m
+      → SendsLast script values m
   last_of_run values before m s = record { answers = s.0; each = s.1.ends.each; sent = s.1.ends.sent; run = s.1.ends.run; last = s.1.ends.last }
 
   -- behind the message before it no message leaves an order unreleased
-  none_left : (values : List NamedValue) (b : Sent) (codes : List ℕ) (m : Sent) → Admits script.fields values → SendsAfter script values (behind b codes) m → BytesBreakRelease b.bytes codes m.bytes → ⊥
+  none_left : (values : List NamedValue) (b : Sent) (codes : List ℕ) (m : Sent) → Admits script.fields values
+      → SendsAfter script values (behind b codes) m → BytesBreakRelease b.bytes codes m.bytes → ⊥
   none_left values b codes m admits s breaks =
       let f : Finding = record { step = m.step; rule = Release; segment = 0 } in
       let real : IsReal granted script f = record {
         values = values;
         answers = s.0;
-        shown = record { admitted = admits; message = m; ends = s.1.ends; of = refl; breaks = subst (λ (x : Before). BreaksBehind granted x m Release 0) (sym s.1.after) (inr (refl, refl, breaks)) };
+        shown =
+            record {
+              admitted =
+                  admits;
+              message = m;
+              ends = s.1.ends;
+              of = refl;
+              breaks =
+                  subst (λ (x : Before). BreaksBehind granted x m Release 0) (sym s.1.after)
+                  (inr (refl, refl, breaks));
+            };
       } in
       let l = (release_is_left granted script f sound refl real).1 in
-      let stays = reach_bounded script.steps lines l.0 closed.first (λ n step figures at named. (closed.each n step figures at named).onward) ((runs_by_steps script.steps l.0).0 l.1) in
+      let stays =
+      reach_bounded script.steps lines l.0 closed.first
+      (λ n step figures at named. (closed.each n step figures at named).onward)
+      ((runs_by_steps script.steps l.0).0 l.1) in
       closed.released l.0.step m.step stays.figures stays.named l.2
 
-  kept_behind : (values : List NamedValue) (before : Before) (m : Sent) → Admits script.fields values → SendsAfter script values before m → IsPermittedBehind granted before m
+  kept_behind : (values : List NamedValue) (before : Before) (m : Sent) → Admits script.fields values
+      → SendsAfter script values before m → IsPermittedBehind granted before m
   kept_behind values at_first m admits s = (kept values m admits (last_of_run values at_first m s)).1
-  kept_behind values (behind b codes) m admits s = record { alone = (kept values m admits (last_of_run values (behind b codes) m s)).1; released = none_left values b codes m admits s }
+  kept_behind values (behind b codes) m admits s =
+      record {
+        alone = (kept values m admits (last_of_run values (behind b codes) m s)).1;
+        released = none_left values b codes m admits s;
+      }
 
   pub permits : EachIsPermitted granted script
   permits values answers sent admits good run = all at_first sent answers (each_is_last_after script values answers sent sound good run)
     where
-      all : (before : Before) (sent : List Sent) (answers : List (List ℕ)) → EachAfter (SendsAfter script values) before sent answers → EachAfter (IsPermittedBehind granted) before sent answers
+      all : (before : Before) (sent : List Sent) (answers : List (List ℕ))
+          → EachAfter (SendsAfter script values) before sent answers
+          → EachAfter (IsPermittedBehind granted) before sent answers
       all before [] answers h = tt
       all before (m ∷ []) answers h = kept_behind values before m admits h
       all before (m ∷ n ∷ ns) [] h = absurd h

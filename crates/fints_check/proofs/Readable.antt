@@ -38,7 +38,8 @@ there (x ∷ xs) zero h = (x, refl)
 there (x ∷ xs) (suc i) h = there xs i (omega (arith, h))
 
 -- where the names of one list are pairwise different, those of the other are
-pub names_apart : {X Y : Type 0} (f : X → List ℕ) (g : Y → List ℕ) (xs : List X) (ys : List Y) → map f xs ≡ map g ys → AllPairs (λ a b. g a ≢ g b) ys → AllPairs (λ a b. f a ≢ f b) xs
+pub names_apart : {X Y : Type 0} (f : X → List ℕ) (g : Y → List ℕ) (xs : List X) (ys : List Y)
+    → map f xs ≡ map g ys → AllPairs (λ a b. g a ≢ g b) ys → AllPairs (λ a b. f a ≢ f b) xs
 names_apart f g xs ys e apart i j d low within same =
     let long : length xs ≡ length ys = sym (length-map xs f) ∙ (ap length e ∙ length-map ys g) in
     let first : i < length xs = omega (arith, low, within) in
@@ -68,7 +69,8 @@ line_length line h =
     let whole = length-append (codes "step ") (line.name ++ 32 ∷ figures_text line.reached) in
     omega (arith, figures, name, both, whole)
 
-lines_length : (lines : List Line) → All IsStepLine lines → length (text_of_lines (map step_text lines)) ≤ 66 * length lines
+lines_length : (lines : List Line) → All IsStepLine lines
+    → length (text_of_lines (map step_text lines)) ≤ 66 * length lines
 lines_length [] h = omega arith
 lines_length (line ∷ lines) h =
     let first = line_length line (h 0 line (omega arith)) in
@@ -77,7 +79,8 @@ lines_length (line ∷ lines) h =
     let all = length-append (step_text line ++ 10 ∷ []) (text_of_lines (map step_text lines)) in
     omega (arith, first, rest, one, all)
 
-cert_length : (lines : List Line) → All IsStepLine lines → length lines ≤ MAX_STEPS → length (cert_text lines) ≤ MAX_TEXT
+cert_length : (lines : List Line) → All IsStepLine lines → length lines ≤ MAX_STEPS
+    → length (cert_text lines) ≤ MAX_TEXT
 cert_length lines h few =
     let rest = lines_length lines h in
     let all = length-append (codes "fints-cert 2" ++ 10 ∷ []) (text_of_lines (map step_text lines)) in
@@ -89,11 +92,14 @@ cons_some : (x : ℕ) (xs : List ℕ) → 1 ≤ length (x ∷ xs)
 cons_some x xs = omega arith
 
 -- a message begins with the letters HNHBK
-message_some : (script : ScriptValue) (step : StepValue) (number : ℕ) (values : List NamedValue) → 1 ≤ length (message_bytes script step number values)
+message_some : (script : ScriptValue) (step : StepValue) (number : ℕ) (values : List NamedValue)
+    → 1 ≤ length (message_bytes script step number values)
 message_some script step number values = cons_some 72 (drop 1 (message_bytes script step number values))
 
 module _ (script : ScriptValue) (sound : IsSound script) where
-  message_shown : (values : List NamedValue) (v : Visit) (m : Sent) → Admits script.fields values → IsWithin script.steps v → IsSent script values v m → (1 ≤ m.number) × (m.number ≤ MAX_NUMBER) × (1 ≤ length m.bytes) × (length m.bytes < 1048576)
+  message_shown : (values : List NamedValue) (v : Visit) (m : Sent) → Admits script.fields values
+      → IsWithin script.steps v → IsSent script values v m
+      → (1 ≤ m.number) × (m.number ≤ MAX_NUMBER) × (1 ≤ length m.bytes) × (length m.bytes < 1048576)
   message_shown values v m admits w is =
       let number : m.number ≡ v.number = ap (λ (x : Sent). x.number) is.is in
       let bytes : length m.bytes ≡ length (message_bytes script is.at v.number values) = ap (λ (x : Sent). length x.bytes) is.is in
@@ -103,7 +109,9 @@ module _ (script : ScriptValue) (sound : IsSound script) where
       let few = sound.few_steps in
       let top : v.number ≤ MAX_NUMBER = omega arith in
       let some = message_some script is.at v.number values in
-      let less = none_is_longer_short script is.at values v.number sound (numbered_holds (IsSoundStep script) script.steps v.step is.at sound.steps is.of) admits top in
+      let less =
+      none_is_longer_short script is.at values v.number sound
+      (numbered_holds (IsSoundStep script) script.steps v.step is.at sound.steps is.of) admits top in
       (omega (arith, number, low), omega (arith, number, top), omega (arith, bytes, some), omega (arith, bytes, less))
 
   figures_shown : (n : ℕ) (cell : Option Reached) → FiguresAre script n cell → AreShown cell
@@ -115,9 +123,13 @@ module _ (script : ScriptValue) (sound : IsSound script) where
       let size = is.size in
       ((omega (arith, number, shown), omega (arith, number, shown)), (omega (arith, size, shown), omega (arith, size, shown)))
 
-  pub greatest_readable : (lines : List Line) → line_names lines ≡ step_names script.steps → All (λ (line : Line). IsName line.name) lines → AreFigures script (line_figures lines) → IsCertificate lines
+  pub greatest_readable : (lines : List Line) → line_names lines ≡ step_names script.steps
+      → All (λ (line : Line). IsName line.name) lines → AreFigures script (line_figures lines)
+      → IsCertificate lines
   greatest_readable lines same names figures =
-      let long : length lines ≡ length script.steps = sym (length-map lines (λ (line : Line). line.name)) ∙ (ap length same ∙ length-map script.steps (λ (step : StepValue). step.name)) in
+      let long : length lines ≡ length script.steps =
+      sym (length-map lines (λ (line : Line). line.name))
+      ∙ (ap length same ∙ length-map script.steps (λ (step : StepValue). step.name)) in
       let some = sound.some_steps in
       let few = sound.few_steps in
       record {

@@ -72,7 +72,8 @@ BranchGoesOn steps lines number step branch = IsOpen step.branches branch → Go
 abbrev pub worst_len : ScriptValue → StepValue → ℕ → ℕ
 worst_len script step number = length (message_bytes script step number (longest_choice script.fields))
 
--- what holds of a step that is named as reached: its figures break neither P2 nor P3, the size is enough, what its messages hold breaks no rule, and each open branch goes on
+-- what holds of a step that is named as reached: its figures break neither P2 nor P3, the size is enough,
+-- what its messages hold breaks no rule, and each open branch goes on
 pub record LineHolds (granted : Granted) (script : ScriptValue) (lines : List Line) (step : StepValue) (figures : Reached) : Type 0 where
   pub permitted : (r : Rule) → FiguresBreak granted.rows.bank (reached_figures figures) r → ⊥
   pub size : worst_len script step figures.number ≤ figures.size
@@ -81,7 +82,9 @@ pub record LineHolds (granted : Granted) (script : ScriptValue) (lines : List Li
 
 -- what holds of each step that is named as reached
 abbrev pub AreLinesTrue : Granted → ScriptValue → List Line → Type 0
-AreLinesTrue granted script lines = (n : ℕ) (step : StepValue) (figures : Reached) → numbered script.steps n ≡ Some step → Names lines n figures → LineHolds granted script lines step figures
+AreLinesTrue granted script lines =
+    (n : ℕ) (step : StepValue) (figures : Reached) → numbered script.steps n ≡ Some step
+    → Names lines n figures → LineHolds granted script lines step figures
 
 -- no step leaves an order unreleased of one that is named as reached
 abbrev pub AreReleased : ScriptValue → List Line → Type 0
@@ -106,5 +109,6 @@ pub record StaysWithin (lines : List Line) (m : Sent) : Type 0 where
 -- in each run, for all admitted values and all answers, each message stays within the figures of its step; so no run sends a step that is named as unreached
 abbrev pub KeepsPromise : ScriptValue → List Line → Type 0
 KeepsPromise script lines =
-    (values : List NamedValue) (answers : List (List ℕ)) (sent : List Sent) → Admits script.fields values → AllByRecursion IsAnswer answers → Run script values answers sent
+    (values : List NamedValue) (answers : List (List ℕ)) (sent : List Sent) → Admits script.fields values
+    → AllByRecursion IsAnswer answers → Run script values answers sent
     → AllByRecursion (StaysWithin lines) sent

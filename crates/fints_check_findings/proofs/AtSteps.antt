@@ -15,23 +15,44 @@ use Rattle.fints_check_findings.specs.declared.step_facts.StepFacts.{StepFacts}
 use Rattle.fints_check_findings.proofs.Deciding.{message_is}
 use Rattle.fints_check_findings.proofs.LawLemmas.{templates_decide}
 
-pub decided : (granted : Granted) (script : ScriptValue) (n : ℕ) (step : StepValue) (facts : StepFacts) → IsAtStep granted script n step facts → (r : Rule) → Decides granted script step r (message_for facts (wants_tan r))
-decided granted script n step facts is r = templates_decide script granted step r (message_for facts (wants_tan r)) is.sound is.sound_step is.closed (message_is granted script step facts is.facts_are (wants_tan r))
+pub decided : (granted : Granted) (script : ScriptValue) (n : ℕ) (step : StepValue) (facts : StepFacts)
+    → IsAtStep granted script n step facts → (r : Rule)
+    → Decides granted script step r (message_for facts (wants_tan r))
+decided granted script n step facts is r =
+    templates_decide script granted step r (message_for facts (wants_tan r)) is.sound is.sound_step is.closed
+    (message_is granted script step facts is.facts_are (wants_tan r))
 
 -- what is known of the values of a choice
-pub chosen_at : (s : AtStepValue) (r : Rule) (f : MessageFacts) → Decides s.granted s.script s.step r f → (place : ℕ) (choice : Option SetAccount) (values : List NamedValue) → BreaksWith s.granted s.script.fields s.step f r place choice → IsChoice (wants_tan r) s.script.fields choice values
+pub chosen_at : (s : AtStepValue) (r : Rule) (f : MessageFacts) → Decides s.granted s.script s.step r f
+    → (place : ℕ) (choice : Option SetAccount) (values : List NamedValue)
+    → BreaksWith s.granted s.script.fields s.step f r place choice
+    → IsChoice (wants_tan r) s.script.fields choice values
     → AreChosenAt s r place values
 chosen_at s r f d place None values b is = let c = d.chosen place None values b is in record { admitted = c.0; breaks = c.1; chosen = inl is }
-chosen_at s r f d place (Some set) values b is = let c = d.chosen place (Some set) values b is in record { admitted = c.0; breaks = c.1; chosen = inr (d.set place set values b is) }
+chosen_at s r f d place (Some set) values b is =
+    let c = d.chosen place (Some set) values b is in
+    record { admitted = c.0; breaks = c.1; chosen = inr (d.set place set values b is) }
 
 -- ---- a step and what it was made of
 
-module _ (Q : Granted → ScriptValue → ℕ → Type 0) (s : AtStepValue) (granted : Granted) (script : ScriptValue) (n : ℕ) (of : s.granted ≡ granted) (in_script : s.script ≡ script) (number : s.n ≡ n) where
+module _ (Q : Granted → ScriptValue → ℕ → Type 0) (s : AtStepValue) (granted : Granted) (script : ScriptValue)
+    (n : ℕ) (of : s.granted ≡ granted) (in_script : s.script ≡ script) (number : s.n ≡ n) where
   pub to_step : Q granted script n → Q s.granted s.script s.n
-  to_step q = subst (λ (k : ℕ). Q s.granted s.script k) (sym number) (subst (λ (x : ScriptValue). Q s.granted x n) (sym in_script) (subst (λ (g : Granted). Q g script n) (sym of) q))
+  to_step q =
+      subst (λ (k : ℕ). Q s.granted s.script k) (sym number)
+      (subst (λ (x : ScriptValue). Q s.granted x n) (sym in_script)
+      (subst (λ (g : Granted). Q g script n) (sym of) q))
 
   pub from_step : Q s.granted s.script s.n → Q granted script n
-  from_step q = subst (λ (g : Granted). Q g script n) of (subst (λ (x : ScriptValue). Q s.granted x n) in_script (subst (λ (k : ℕ). Q s.granted s.script k) number q))
+  from_step q =
+      subst (λ (g : Granted). Q g script n) of
+      (subst (λ (x : ScriptValue). Q s.granted x n) in_script
+      (subst (λ (k : ℕ). Q s.granted s.script k) number q))
 
-pub from_same : (Q : Granted → ScriptValue → StepValue → Type 0) (s : AtStepValue) (granted : Granted) (script : ScriptValue) (step : StepValue) → s.granted ≡ granted → s.script ≡ script → s.step ≡ step → Q s.granted s.script s.step → Q granted script step
-from_same Q s granted script step of in_script same q = subst (λ (x : StepValue). Q granted script x) same (subst (λ (x : ScriptValue). Q granted x s.step) in_script (subst (λ (g : Granted). Q g s.script s.step) of q))
+pub from_same : (Q : Granted → ScriptValue → StepValue → Type 0) (s : AtStepValue) (granted : Granted)
+    (script : ScriptValue) (step : StepValue) → s.granted ≡ granted → s.script ≡ script → s.step ≡ step
+    → Q s.granted s.script s.step → Q granted script step
+from_same Q s granted script step of in_script same q =
+    subst (λ (x : StepValue). Q granted script x) same
+    (subst (λ (x : ScriptValue). Q granted x s.step) in_script
+    (subst (λ (g : Granted). Q g s.script s.step) of q))

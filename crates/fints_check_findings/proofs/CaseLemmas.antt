@@ -55,7 +55,8 @@ module _ (script : ScriptValue) (granted : Granted) (f : Finding) (sound : IsSou
   figures_of : StepValue → ℕ → Reached
   figures_of step number = record { number = number; size = length (message_bytes script step number (longest_choice script.fields)) }
 
-  are_figures : (number : ℕ) (step : StepValue) → IsGreatestAt script.steps f.step number → AreFiguresAt script step (figures_of step number)
+  are_figures : (number : ℕ) (step : StepValue) → IsGreatestAt script.steps f.step number
+      → AreFiguresAt script step (figures_of step number)
   unfolding figures_of
   are_figures number step peak = let top = number_small script granted sound f.step number peak in record { least = top.0; most = top.1; size = refl }
 
@@ -69,25 +70,31 @@ module _ (script : ScriptValue) (granted : Granted) (f : Finding) (sound : IsSou
       let lower = subst (λ (r : Rule). Breaks granted (message_view script step b.1 b.0) r f.segment) is b.5 in (
         extremes_are_admitted_longest script.fields,
         subst (λ (r : Rule). Breaks granted (message_view script step number (longest_choice script.fields)) r f.segment) (sym is)
-            (size_case granted script step f.step (figures_of step number) (are_figures number step peak) at sound (sound_at step at) f.segment b.1 b.0 b.2 b.3 b.4 lower),
+            (size_case granted script step f.step (figures_of step number) (are_figures number step peak) at
+            sound (sound_at step at) f.segment b.1 b.0 b.2 b.3 b.4 lower),
       )
 
-  pub number_values : (values : List NamedValue) → Admits script.fields values → f.rule ≡ rule.Number → BreaksAtGreatest granted script f values
+  pub number_values : (values : List NamedValue) → Admits script.fields values → f.rule ≡ rule.Number
+      → BreaksAtGreatest granted script f values
   unfolding figures_of
   number_values values admits is number step at peak real =
       let b = real_breaks script granted sound f number step (number_not f.rule is) at peak real in
       let lower = subst (λ (r : Rule). Breaks granted (message_view script step b.1 b.0) r f.segment) is b.5 in (
         admits,
         subst (λ (r : Rule). Breaks granted (message_view script step number values) r f.segment) (sym is)
-            (number_case granted script step f.step (figures_of step number) (are_figures number step peak) at sound (sound_at step at) f.segment b.1 b.0 values b.2 b.3 b.4 lower),
+            (number_case granted script step f.step (figures_of step number) (are_figures number step peak) at
+            sound (sound_at step at) f.segment b.1 b.0 values b.2 b.3 b.4 lower),
       )
 
 -- ---- findings by their place
 
-pub real_at : (granted : Granted) (script : ScriptValue) (findings : List Finding) (i : ℕ) (f : Finding) → AreFindings granted script findings → i < length findings → f ≡ get_or findings i f → IsReal granted script f
+pub real_at : (granted : Granted) (script : ScriptValue) (findings : List Finding) (i : ℕ) (f : Finding)
+    → AreFindings granted script findings → i < length findings → f ≡ get_or findings i f
+    → IsReal granted script f
 real_at granted script findings i f are within is = (are.exactly f).0 (i, within, sym is)
 
-pub same_at : (findings : List Finding) (i : ℕ) (f g : Finding) → i < length findings → f ≡ get_or findings i f → slice_get findings i ≡ Some g → f ≡ g
+pub same_at : (findings : List Finding) (i : ℕ) (f g : Finding) → i < length findings
+    → f ≡ get_or findings i f → slice_get findings i ≡ Some g → f ≡ g
 same_at findings i f g within is at = is ∙ same_Some (get_or findings i f) g (sym (slice_get-get_or findings i f within) ∙ at)
 
 -- ---- ways
@@ -105,7 +112,8 @@ module _ (script : ScriptValue) (granted : Granted) (sound : IsSound script) (nu
 
 module _ (script : ScriptValue) (sound : IsSound script) where
   -- the message of a visit that some run sends last
-  visit_sent : (v : Visit) → Arrives script.steps v → (m : Sent) × IsSentOf script v.step m × (m.number ≡ v.number)
+  visit_sent : (v : Visit) → Arrives script.steps v
+      → (m : Sent) × IsSentOf script v.step m × (m.number ≡ v.number)
   visit_sent v arrives =
       let w = visits_are_within script v sound arrives in
       let step = numbered_at script.steps v.step w.from w.to in
@@ -115,7 +123,8 @@ module _ (script : ScriptValue) (sound : IsSound script) where
       (m, record { values = values; admitted = extremes_are_admitted_longest script.fields; sends = sends; of = refl }, refl)
 
   -- the number of a step's greatest figures is its greatest number
-  pub figures_peak : (n : ℕ) (reached : Reached) → AreGreatestFigures script n reached → IsGreatestAt script.steps n reached.number
+  pub figures_peak : (n : ℕ) (reached : Reached) → AreGreatestFigures script n reached
+      → IsGreatestAt script.steps n reached.number
   figures_peak n reached are =
       let way = (last_messages script are.sent.values are.message sound).0 are.sent.sends in
       let here : way.0.step ≡ n = sym (ap (λ (x : Sent). x.step) way.2.is) ∙ are.sent.of in
@@ -137,7 +146,9 @@ module _ (script : ScriptValue) (sound : IsSound script) where
       omega (arith, low, high)
 
   -- a step that has a greatest number has figures of this number
-  figures_of_number : (n number : ℕ) (cell : Option Reached) → FiguresAre script n cell → IsGreatestAt script.steps n number → (reached : Reached) × (cell ≡ Some reached) × (reached.number ≡ number)
+  figures_of_number : (n number : ℕ) (cell : Option Reached) → FiguresAre script n cell
+      → IsGreatestAt script.steps n number
+      → (reached : Reached) × (cell ≡ Some reached) × (reached.number ≡ number)
   figures_of_number n number None none peak =
       let v = peak.attained in
       let sent = visit_sent v.0 v.1 in
@@ -145,7 +156,9 @@ module _ (script : ScriptValue) (sound : IsSound script) where
   figures_of_number n number (Some reached) are peak = (reached, refl, one_greatest n reached.number number (figures_peak n reached are) peak)
 
   -- a way to a step's greatest number, by its figures
-  pub by_figures : (numbers : List (Option ℕ)) (figures : List (Option Reached)) (n : ℕ) (answers : List (List ℕ)) → AreGreatest script.steps numbers → AreFigures script figures → LeadsTo script.steps numbers n answers → LeadsToGreatest script.steps figures n answers
+  pub by_figures : (numbers : List (Option ℕ)) (figures : List (Option Reached)) (n : ℕ)
+      (answers : List (List ℕ)) → AreGreatest script.steps numbers → AreFigures script figures
+      → LeadsTo script.steps numbers n answers → LeadsToGreatest script.steps figures n answers
   by_figures numbers figures n answers greatest are l =
       let peak = greatest_at script.steps numbers n l.number greatest l.has in
       let v = peak.attained in
@@ -166,7 +179,9 @@ module _ (script : ScriptValue) (sound : IsSound script) where
 -- ---- cases
 
 module _ (script : ScriptValue) (granted : Granted) (sound : IsSound script) (figures : List (Option Reached)) (figures_are : AreFigures script figures) where
-  pub shown_by : (f : Finding) (values : List NamedValue) (answers : List (List ℕ)) → IsReal granted script f → BreaksAtGreatest granted script f values → LeadsToGreatest script.steps figures f.step answers → Shows granted script f values answers
+  pub shown_by : (f : Finding) (values : List NamedValue) (answers : List (List ℕ)) → IsReal granted script f
+      → BreaksAtGreatest granted script f values → LeadsToGreatest script.steps figures f.step answers
+      → Shows granted script f values answers
   shown_by f values answers real breaks l =
       let inside = real_within granted script sound f real in
       let step = numbered_at script.steps f.step inside.0 inside.1 in
@@ -195,18 +210,31 @@ as_release f is whole =
     let make : Rule → ℕ → Finding = λ r p. record { step = f.step; rule = r; segment = p } in
     sym (ap (λ (r : Rule). make r f.segment) is ∙ ap (λ (p : ℕ). make rule.Release p) whole)
 
-module _ (report : ReportValue) (sound : IsSound report.plan.script) (closed : IsClosed report.plan.script report.granted.orders) (figures_are : AreFigures report.plan.script report.figures) where
-  pub case_shown : (f : Finding) (values : List NamedValue) (answers : List (List ℕ)) → IsReal report.granted report.plan.script f → AreCaseValues report.granted report.plan.script f values → LeadsFor report.plan.script report.figures f answers → Shows report.granted report.plan.script f values answers
+module _ (report : ReportValue) (sound : IsSound report.plan.script)
+    (closed : IsClosed report.plan.script report.granted.orders)
+    (figures_are : AreFigures report.plan.script report.figures) where
+  pub case_shown : (f : Finding) (values : List NamedValue) (answers : List (List ℕ))
+      → IsReal report.granted report.plan.script f → AreCaseValues report.granted report.plan.script f values
+      → LeadsFor report.plan.script report.figures f answers
+      → Shows report.granted report.plan.script f values answers
   case_shown f values answers real are leads =
       elim (rule_or f.rule rule.Release) [
-        | inl is ↦ subst (λ (x : Finding). Shows report.granted report.plan.script x values answers) (as_release f is (release_is_left report.granted report.plan.script f sound is real).0) (unreleased_is_shown report.granted report.plan.script f.step values answers sound closed (are.admitted is) (leads.unreleased is))
-        | inr other ↦ shown_by report.plan.script report.granted sound report.figures figures_are f values answers real (are.greatest other) (leads.longest other)
+        | inl is ↦
+            subst (λ (x : Finding). Shows report.granted report.plan.script x values answers)
+            (as_release f is (release_is_left report.granted report.plan.script f sound is real).0)
+            (unreleased_is_shown report.granted report.plan.script f.step values answers sound closed
+            (are.admitted is) (leads.unreleased is))
+        | inr other ↦
+            shown_by report.plan.script report.granted sound report.figures figures_are f values answers real
+            (are.greatest other) (leads.longest other)
       ]
 
 -- ---- sorts of values
 
 -- values of the sort that is chosen are the choice
-pub sort_is_choice : (most : Bool) (fields : List NamedField) (choice : Option SetAccount) (values : List NamedValue) → AreOfSort fields (chosen_sort most choice) values → IsChoice most fields choice values
+pub sort_is_choice : (most : Bool) (fields : List NamedField) (choice : Option SetAccount)
+    (values : List NamedValue) → AreOfSort fields (chosen_sort most choice) values
+    → IsChoice most fields choice values
 sort_is_choice true fields None values is = is
 sort_is_choice false fields None values is = is
 sort_is_choice true fields (Some s) values is = is

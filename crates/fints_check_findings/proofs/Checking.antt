@@ -29,12 +29,14 @@ use Rattle.fints_script.specs.Sound.{IsSound}
 -- ---- numbers
 
 -- what is read at a place is the cell of the number behind it
-pub cell_at : {X : Type 0} (xs : List X) (i : ℕ) (cell : X) → i < length xs → cell ≡ get_or xs i cell → numbered xs (i + 1) ≡ Some cell
+pub cell_at : {X : Type 0} (xs : List X) (i : ℕ) (cell : X) → i < length xs → cell ≡ get_or xs i cell
+    → numbered xs (i + 1) ≡ Some cell
 cell_at {X} xs i cell less h =
     let same : i ≡ (i + 1) - 1 = omega arith in
     numbered_of xs (i + 1) cell (omega arith) (subst (λ j. slice_get xs j ≡ Some cell) same (slice_get-get_or xs i cell less ∙ ap (λ (x : X). Some x) (sym h)))
 
-pub greatest_at : (steps : List StepValue) (numbers : List (Option ℕ)) (n number : ℕ) → AreGreatest steps numbers → Has numbers n number → IsGreatestAt steps n number
+pub greatest_at : (steps : List StepValue) (numbers : List (Option ℕ)) (n number : ℕ)
+    → AreGreatest steps numbers → Has numbers n number → IsGreatestAt steps n number
 greatest_at steps numbers n number greatest has = record {
   attained = greatest.attained n number has;
   most = λ v arrives here.
@@ -44,7 +46,9 @@ greatest_at steps numbers n number greatest has = record {
 }
 
 -- a step without a number is the last of no run
-pub unreached : (script : ScriptValue) (numbers : List (Option ℕ)) (n : ℕ) (values : List NamedValue) (m : Sent) → AreGreatest script.steps numbers → IsSound script → numbered numbers n ≡ Some None → SendsLast script values m → m.step ≡ n → ⊥
+pub unreached : (script : ScriptValue) (numbers : List (Option ℕ)) (n : ℕ) (values : List NamedValue)
+    (m : Sent) → AreGreatest script.steps numbers → IsSound script → numbered numbers n ≡ Some None
+    → SendsLast script values m → m.step ≡ n → ⊥
 unreached script numbers n values m greatest sound none sends of =
     let way = (last_messages script values m sound).0 sends in
     let here : way.0.step ≡ n = sym (ap (λ (x : Sent). x.step) way.2.is) ∙ of in
@@ -53,11 +57,15 @@ unreached script numbers n values m greatest sound none sends of =
     let clash : ◌≡◌ {A = Option (Option ℕ)} (Some None) (Some (Some most.0)) = sym none ∙ has in
     cc
 
-pub nothing_real : (granted : Granted) (script : ScriptValue) (numbers : List (Option ℕ)) (n : ℕ) → AreGreatest script.steps numbers → IsSound script → numbered numbers n ≡ Some None → (f : Finding) → f.step ≡ n → IsReal granted script f → ⊥
+pub nothing_real : (granted : Granted) (script : ScriptValue) (numbers : List (Option ℕ)) (n : ℕ)
+    → AreGreatest script.steps numbers → IsSound script → numbered numbers n ≡ Some None → (f : Finding)
+    → f.step ≡ n → IsReal granted script f → ⊥
 nothing_real granted script numbers n greatest sound none f here real =
-    unreached script numbers n real.values real.shown.message greatest sound none (sends_last script real.values real.answers real.shown.message real.shown.ends) (real.shown.of ∙ here)
+    unreached script numbers n real.values real.shown.message greatest sound none
+    (sends_last script real.values real.answers real.shown.message real.shown.ends) (real.shown.of ∙ here)
 
-pub real_within : (granted : Granted) (script : ScriptValue) → IsSound script → (f : Finding) → IsReal granted script f → (1 ≤ f.step) × (f.step ≤ length script.steps)
+pub real_within : (granted : Granted) (script : ScriptValue) → IsSound script → (f : Finding)
+    → IsReal granted script f → (1 ≤ f.step) × (f.step ≤ length script.steps)
 real_within granted script sound f real =
     let way = (last_messages script real.values real.shown.message sound).0 (sends_last script real.values real.answers real.shown.message real.shown.ends) in
     let here : way.0.step ≡ f.step = sym (ap (λ (x : Sent). x.step) way.2.is) ∙ real.shown.of in
@@ -72,20 +80,24 @@ pub record AreFiguresTo (script : ScriptValue) (n : ℕ) (figures : List (Option
   pub long : length figures ≡ n
   pub each : (k : ℕ) (cell : Option Reached) → numbered figures k ≡ Some cell → FiguresAre script k cell
 
-pub figures_none : (script : ScriptValue) (figures : List (Option Reached)) → figures ≡ [] → AreFiguresTo script 0 figures
+pub figures_none : (script : ScriptValue) (figures : List (Option Reached)) → figures ≡ []
+    → AreFiguresTo script 0 figures
 figures_none script figures e = subst (AreFiguresTo script 0) (sym e) (record { long = refl; each = λ k cell h. absurd (none_there k cell h) })
   where
     none_there : (k : ℕ) (cell : Option Reached) → numbered [] k ≡ Some cell → ⊥
     none_there zero cell h = cc
     none_there (suc k) cell h = cc
 
-push_cases : {X : Type 0} (xs : List X) (y : X) (k : ℕ) (x : X) → slice_get (xs ++ y ∷ []) k ≡ Some x → (slice_get xs k ≡ Some x) ⊎ ((k ≡ length xs) × (y ≡ x))
+push_cases : {X : Type 0} (xs : List X) (y : X) (k : ℕ) (x : X) → slice_get (xs ++ y ∷ []) k ≡ Some x
+    → (slice_get xs k ≡ Some x) ⊎ ((k ≡ length xs) × (y ≡ x))
 push_cases [] y zero x h = inr (refl, same_Some y x h)
 push_cases [] y (suc k) x h = absurd cc
 push_cases (z ∷ xs) y zero x h = inl h
 push_cases (z ∷ xs) y (suc k) x h = elim (push_cases xs y k x h) [ inl old ↦ inl old | inr new ↦ inr (ap suc new.0, new.1) ]
 
-pub figures_more : (script : ScriptValue) (n : ℕ) (figures new : List (Option Reached)) (cell : Option Reached) → new ≡ figures ++ cell ∷ [] → FiguresAre script (n + 1) cell → AreFiguresTo script n figures → AreFiguresTo script (n + 1) new
+pub figures_more : (script : ScriptValue) (n : ℕ) (figures new : List (Option Reached))
+    (cell : Option Reached) → new ≡ figures ++ cell ∷ [] → FiguresAre script (n + 1) cell
+    → AreFiguresTo script n figures → AreFiguresTo script (n + 1) new
 figures_more script n figures new cell e is a =
     subst (AreFiguresTo script (n + 1)) (sym e) (record { long = omega (arith, a.long, length-append figures (cell ∷ [])); each = each })
   where
@@ -98,20 +110,29 @@ figures_more script n figures new cell e is a =
           subst (λ j. FiguresAre script j c) same (subst (FiguresAre script (n + 1)) here.1 is)
     ]
 
-pub figures_all : (script : ScriptValue) (n : ℕ) (figures : List (Option Reached)) → n ≡ length script.steps → AreFiguresTo script n figures → AreFigures script figures
+pub figures_all : (script : ScriptValue) (n : ℕ) (figures : List (Option Reached)) → n ≡ length script.steps
+    → AreFiguresTo script n figures → AreFigures script figures
 figures_all script n figures e a = record { long = a.long ∙ e; each = a.each }
 
 -- which steps have figures, one more
-pub reached_more : (figures new : List (Option Reached)) (cell : Option Reached) (numbers : List (Option ℕ)) (i : ℕ) (number : Option ℕ) → new ≡ figures ++ cell ∷ [] → i < length numbers → number ≡ get_or numbers i number → is_some cell ≡ is_some number
-    → map is_some figures ≡ map is_some (take i numbers) → map is_some new ≡ map is_some (take (i + 1) numbers)
+pub reached_more : (figures new : List (Option Reached)) (cell : Option Reached) (numbers : List (Option ℕ))
+    (i : ℕ) (number : Option ℕ) → new ≡ figures ++ cell ∷ [] → i < length numbers
+    → number ≡ get_or numbers i number → is_some cell ≡ is_some number
+    → map is_some figures ≡ map is_some (take i numbers)
+    → map is_some new ≡ map is_some (take (i + 1) numbers)
 reached_more figures new cell numbers i number e lt at same h =
-    let more : take (i + 1) numbers ≡ take i numbers ++ number ∷ [] = take_more numbers i number lt ∙ ap (λ (x : Option ℕ). take i numbers ++ x ∷ []) (sym at) in
-    let left : map is_some new ≡ map is_some figures ++ is_some cell ∷ [] = ap (λ (xs : List (Option Reached)). map is_some xs) e ∙ map-append is_some figures (cell ∷ []) in
-    let right : map is_some (take (i + 1) numbers) ≡ map is_some (take i numbers) ++ is_some number ∷ [] = ap (λ (xs : List (Option ℕ)). map is_some xs) more ∙ map-append is_some (take i numbers) (number ∷ []) in
+    let more : take (i + 1) numbers ≡ take i numbers ++ number ∷ [] =
+    take_more numbers i number lt ∙ ap (λ (x : Option ℕ). take i numbers ++ x ∷ []) (sym at) in
+    let left : map is_some new ≡ map is_some figures ++ is_some cell ∷ [] =
+    ap (λ (xs : List (Option Reached)). map is_some xs) e ∙ map-append is_some figures (cell ∷ []) in
+    let right : map is_some (take (i + 1) numbers) ≡ map is_some (take i numbers) ++ is_some number ∷ [] =
+    ap (λ (xs : List (Option ℕ)). map is_some xs) more ∙ map-append is_some (take i numbers) (number ∷ []) in
     left ∙ (ap (λ (fs : List Bool). fs ++ is_some cell ∷ []) h ∙ (ap (λ (b : Bool). map is_some (take i numbers) ++ b ∷ []) same ∙ sym right))
 
 -- as much was looked at as the figures tell
-pub visits_told : (steps : List StepValue) (figures : List (Option Reached)) (numbers : List (Option ℕ)) (i visits : ℕ) → i ≡ length numbers → map is_some figures ≡ map is_some (take i numbers) → visits ≡ looked_at steps (map is_some numbers) → visits ≡ looked_at steps (map is_some figures)
+pub visits_told : (steps : List StepValue) (figures : List (Option Reached)) (numbers : List (Option ℕ))
+    (i visits : ℕ) → i ≡ length numbers → map is_some figures ≡ map is_some (take i numbers)
+    → visits ≡ looked_at steps (map is_some numbers) → visits ≡ looked_at steps (map is_some figures)
 visits_told steps figures numbers i visits last same told =
     let all : take i numbers ≡ numbers = take_all i numbers (omega (arith, last)) in
     told ∙ sym (ap (looked_at steps) (same ∙ ap (λ (xs : List (Option ℕ)). map is_some xs) all))
@@ -120,35 +141,69 @@ visits_told steps figures numbers i visits last same told =
 
 module _ (granted : Granted) (script : ScriptValue) where
   -- what a message breaks is real
-  real_of : (values : List NamedValue) (before : Before) (m : Sent) (r : Rule) (place : ℕ) → Admits script.fields values → SendsAfter script values before m → BreaksBehind granted before m r place → IsReal granted script (record { step = m.step; rule = r; segment = place })
+  real_of : (values : List NamedValue) (before : Before) (m : Sent) (r : Rule) (place : ℕ)
+      → Admits script.fields values → SendsAfter script values before m
+      → BreaksBehind granted before m r place
+      → IsReal granted script (record { step = m.step; rule = r; segment = place })
   real_of values before m r place admits s b = record {
     values = values;
     answers = s.0;
-    shown = record { admitted = admits; message = m; ends = s.1.ends; of = refl; breaks = subst (λ (x : Before). BreaksBehind granted x m r place) (sym s.1.after) b };
+    shown =
+        record {
+          admitted =
+              admits;
+          message = m;
+          ends = s.1.ends;
+          of = refl;
+          breaks = subst (λ (x : Before). BreaksBehind granted x m r place) (sym s.1.after) b;
+        };
   }
 
-  permitted_alone : (values : List NamedValue) (before : Before) (m : Sent) → Admits script.fields values → ((f : Finding) → IsReal granted script f → ⊥) → SendsAfter script values before m → IsReadAs script values m → Permitted granted m.bytes
+  permitted_alone : (values : List NamedValue) (before : Before) (m : Sent) → Admits script.fields values
+      → ((f : Finding) → IsReal granted script f → ⊥) → SendsAfter script values before m
+      → IsReadAs script values m → Permitted granted m.bytes
   permitted_alone values before m admits none s read = record {
     message = message_view script read.step m.number values;
     is = read.message;
     none = λ r place b. none (record { step = m.step; rule = r; segment = place })
-        (real_of values before m r place admits s (itself granted before m r place (record { message = message_view script read.step m.number values; is = read.message; breaks = b })));
+        (real_of values before m r place admits s
+        (itself granted before m r place
+        (record {
+          message = message_view script read.step m.number values;
+          is = read.message;
+          breaks = b;
+        })));
   }
 
-  permitted_behind : (values : List NamedValue) (before : Before) (m : Sent) → Admits script.fields values → ((f : Finding) → IsReal granted script f → ⊥) → SendsAfter script values before m → IsReadAs script values m → IsPermittedBehind granted before m
+  permitted_behind : (values : List NamedValue) (before : Before) (m : Sent) → Admits script.fields values
+      → ((f : Finding) → IsReal granted script f → ⊥) → SendsAfter script values before m
+      → IsReadAs script values m → IsPermittedBehind granted before m
   permitted_behind values at_first m admits none s read = permitted_alone values at_first m admits none s read
   permitted_behind values (behind x codes) m admits none s read = record {
     alone = permitted_alone values (behind x codes) m admits none s read;
     released = λ b. none (record { step = m.step; rule = Release; segment = 0 }) (real_of values (behind x codes) m Release 0 admits s (inr (refl, refl, b)));
   }
 
-  none_breaks : (values : List NamedValue) (before : Before) (sent : List Sent) (answers : List (List ℕ)) → Admits script.fields values → ((f : Finding) → IsReal granted script f → ⊥) → EachAfter (SendsAfter script values) before sent answers → AllByRecursion (IsReadAs script values) sent
+  none_breaks : (values : List NamedValue) (before : Before) (sent : List Sent) (answers : List (List ℕ))
+      → Admits script.fields values → ((f : Finding) → IsReal granted script f → ⊥)
+      → EachAfter (SendsAfter script values) before sent answers
+      → AllByRecursion (IsReadAs script values) sent
       → EachAfter (IsPermittedBehind granted) before sent answers
   none_breaks values before [] answers admits none all read = tt
   none_breaks values before (m ∷ []) answers admits none all read = permitted_behind values before m admits none all read.0
   none_breaks values before (m ∷ n ∷ ns) [] admits none all read = absurd all
-  none_breaks values before (m ∷ n ∷ ns) (codes ∷ answers) admits none all read = (permitted_behind values before m admits none all.0 read.0, none_breaks values (behind m codes) (n ∷ ns) answers admits none all.1 read.1)
+  none_breaks values before (m ∷ n ∷ ns) (codes ∷ answers) admits none all read = (
+    permitted_behind values before m admits none all.0 read.0,
+    none_breaks values (behind m codes) (n ∷ ns) answers admits none all.1 read.1,
+  )
 
-  pub clean_permits : (findings : List Finding) → IsSound script → ((f : Finding) → Contains findings f ↔ IsReal granted script f) → findings ≡ [] → EachIsPermitted granted script
+  pub clean_permits : (findings : List Finding) → IsSound script
+      → ((f : Finding) → Contains findings f ↔ IsReal granted script f) → findings ≡ []
+      → EachIsPermitted granted script
   clean_permits findings sound exactly clean values answers sent admits each run =
-      none_breaks values at_first sent answers admits (λ f real. let has = subst (λ (xs : List Finding). Contains xs f) clean ((exactly f).1 real) in let lt = has.1 in omega arith) (each_is_last_after script values answers sent sound each run) (sent_are_read script values answers sent sound admits run)
+      none_breaks values at_first sent answers admits
+      (λ f real.
+      let has = subst (λ (xs : List Finding). Contains xs f) clean ((exactly f).1 real) in let lt =
+      has.1 in omega arith)
+      (each_is_last_after script values answers sent sound each run)
+      (sent_are_read script values answers sent sound admits run)

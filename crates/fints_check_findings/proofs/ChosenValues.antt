@@ -33,24 +33,32 @@ wants_none _ h = refl
 
 -- of the number of a step nothing is said
 pub at_step_number : (s : AtStepValue) (n : ℕ) (r : Rule) (place : ℕ) (choice : Option SetAccount)
-    → ((other values : List NamedValue) (lower : ℕ) → Admits s.script.fields other → BreaksByContent s.granted (message_view s.script s.step lower other) r place → IsChoice (wants_tan r) s.script.fields choice values → AreChosenAt s r place values)
-    → (other values : List NamedValue) (lower : ℕ) → Admits s.script.fields other → BreaksByContent s.granted (message_view s.script s.step lower other) r place → IsChoice (wants_tan r) s.script.fields choice values
+    → ((other values : List NamedValue) (lower : ℕ) → Admits s.script.fields other
+    → BreaksByContent s.granted (message_view s.script s.step lower other) r place
+    → IsChoice (wants_tan r) s.script.fields choice values → AreChosenAt s r place values)
+    → (other values : List NamedValue) (lower : ℕ) → Admits s.script.fields other
+    → BreaksByContent s.granted (message_view s.script s.step lower other) r place
+    → IsChoice (wants_tan r) s.script.fields choice values
     → AreChosenAt (record { granted = s.granted; script = s.script; n = n; step = s.step }) r place values
 at_step_number s n r place choice h other values lower admits breaks is =
     let x = h other values lower admits breaks is in record { admitted = x.admitted; breaks = x.breaks; chosen = x.chosen }
 
 module _ (granted : Granted) (script : ScriptValue) (f : Finding) (values : List NamedValue) where
-  pub size_chosen : f.rule ≡ Size → values ≡ longest_choice script.fields → AreChosenFor granted script f values
+  pub size_chosen : f.rule ≡ Size → values ≡ longest_choice script.fields
+      → AreChosenFor granted script f values
   size_chosen size is = record { longest = λ _. is; shortest = λ not_size _. absurd (not_size size) }
 
-  pub other_chosen : (r : Rule) → f.rule ≡ r → (r ≡ Size → ⊥) → (r ≡ Procedure → ⊥) → values ≡ shortest_choice script.fields → AreChosenFor granted script f values
+  pub other_chosen : (r : Rule) → f.rule ≡ r → (r ≡ Size → ⊥) → (r ≡ Procedure → ⊥)
+      → values ≡ shortest_choice script.fields → AreChosenFor granted script f values
   other_chosen r same not_size not_procedure is = record {
     longest = λ h. absurd (elim h [ inl size ↦ not_size (sym same ∙ size) | inr procedure ↦ not_procedure (sym same ∙ procedure) ]);
     shortest = λ _ _. inl is;
   }
 
   pub chosen_for : (step : StepValue) → numbered script.steps f.step ≡ Some step → (f.rule ≡ Size → ⊥)
-      → (values ≡ extreme_choice (wants_tan f.rule) script.fields) ⊎ ((asks_account f.rule ≡ true) × HaveFirstAccount granted script step f.rule f.segment values) → AreChosenFor granted script f values
+      → (values ≡ extreme_choice (wants_tan f.rule) script.fields)
+      ⊎ ((asks_account f.rule ≡ true) × HaveFirstAccount granted script step f.rule f.segment values)
+      → AreChosenFor granted script f values
   chosen_for step at not_size chosen = record {
     longest = λ h. elim h [
       | inl size ↦ absurd (not_size size)
@@ -61,6 +69,12 @@ module _ (granted : Granted) (script : ScriptValue) (f : Finding) (values : List
     ];
     shortest = λ _ not_procedure. elim chosen [
       | inl is ↦ inl (is ∙ ap (λ (most : Bool). extreme_choice most script.fields) (wants_none f.rule not_procedure))
-      | inr set ↦ inr (asked_rules f.rule set.0, λ other there. subst (λ (x : StepValue). HaveFirstAccount granted script x f.rule f.segment values) (same_Some step other (sym at ∙ there)) set.1)
+      | inr set ↦
+          inr (
+            asked_rules f.rule set.0,
+            λ other there.
+                subst (λ (x : StepValue). HaveFirstAccount granted script x f.rule f.segment values)
+                (same_Some step other (sym at ∙ there)) set.1,
+          )
     ];
   }

@@ -54,17 +54,38 @@ facts_with granted step has = record {
 abbrev Tan : ScriptValue → StepValue → Bool → Type 0
 Tan script step most = TanUnder most script.fields script.signers step.signers
 
-facts_are : (granted : Granted) (script : ScriptValue) (step : StepValue) (most has : Bool) → (IsTrue has ↔ Tan script step most) → AreMessageFacts granted script step most (facts_with granted step has)
+facts_are : (granted : Granted) (script : ScriptValue) (step : StepValue) (most has : Bool)
+    → (IsTrue has ↔ Tan script step most)
+    → AreMessageFacts granted script step most (facts_with granted step has)
 unfolding facts_with
-facts_are granted script step most has tan = record { protocol = refl; kinds = refl; signatures = refl; submits = refl; sends = refl; ends = refl; has_tan = tan; has_tan_order = refl; demanding = refl }
+facts_are granted script step most has tan =
+    record {
+      protocol = refl;
+      kinds = refl;
+      signatures = refl;
+      submits = refl;
+      sends = refl;
+      ends = refl;
+      has_tan = tan;
+      has_tan_order = refl;
+      demanding = refl;
+    }
 
-facts_of : (granted : Granted) (script : ScriptValue) (step : StepValue) (most : Bool) → Tan script step most ⊎ (Tan script step most → ⊥) → (f : MessageFacts) × AreMessageFacts granted script step most f
+facts_of : (granted : Granted) (script : ScriptValue) (step : StepValue) (most : Bool)
+    → Tan script step most ⊎ (Tan script step most → ⊥)
+    → (f : MessageFacts) × AreMessageFacts granted script step most f
 facts_of granted script step most (inl some) = (facts_with granted step true, facts_are granted script step most true (λ _. some, λ _. refl))
-facts_of granted script step most (inr none) = (facts_with granted step false, facts_are granted script step most false (λ h. let clash : ◌≡◌ {A = Bool} false true = h in absurd cc, λ some. absurd (none some)))
+facts_of granted script step most (inr none) = (
+  facts_with granted step false,
+  facts_are granted script step most false
+      (λ h. let clash : ◌≡◌ {A = Bool} false true = h in absurd cc, λ some. absurd (none some)),
+)
 
 module _ (script : ScriptValue) (granted : Granted) (sound : IsSound script) where
   -- what the step's message can break, some run breaks
-  can_real : (n : ℕ) (step : StepValue) (m : Sent) (r : Rule) (place : ℕ) → numbered script.steps n ≡ Some step → IsSentOf script n m → CanBreak granted script step r place → IsReal granted script (record { step = n; rule = r; segment = place })
+  can_real : (n : ℕ) (step : StepValue) (m : Sent) (r : Rule) (place : ℕ)
+      → numbered script.steps n ≡ Some step → IsSentOf script n m → CanBreak granted script step r place
+      → IsReal granted script (record { step = n; rule = r; segment = place })
   can_real n step m r place at s can =
       let way = (last_messages script s.values m sound).0 s.sends in
       let v = way.0 in
@@ -75,7 +96,15 @@ module _ (script : ScriptValue) (granted : Granted) (sound : IsSound script) whe
       let to = w.to in
       let high = w.last in
       let there : numbered script.steps v.step ≡ Some step = ap (numbered script.steps) here ∙ at in
-      let sends = (last_messages script can.values (record { step = v.step; number = v.number; bytes = message_bytes script step v.number can.values }) sound).1 (v, way.1, record { at = step; of = there; is = refl }) in
+      let sends =
+      (last_messages script can.values
+      (record {
+        step = v.step;
+        number = v.number;
+        bytes = message_bytes script step v.number can.values;
+      })
+      sound).1
+      (v, way.1, record { at = step; of = there; is = refl }) in
       record {
         values = can.values;
         answers = sends.answers;
@@ -84,15 +113,25 @@ module _ (script : ScriptValue) (granted : Granted) (sound : IsSound script) whe
           message = record { step = v.step; number = v.number; bytes = message_bytes script step v.number can.values };
           ends = record { each = sends.each; sent = sends.sent; run = sends.run; last = sends.last };
           of = here;
-          breaks = itself granted (came_after at_first sends.sent sends.answers) (record { step = v.step; number = v.number; bytes = message_bytes script step v.number can.values }) r place (record {
-            message = message_view script step v.number can.values;
-            is = messages_are_read script (n - 1) step v.number can.values sound (numbered_from script.steps n step at) first (omega arith) can.admitted;
-            breaks = inr (can.breaks v.number);
-          });
+          breaks =
+              itself granted (came_after at_first sends.sent sends.answers)
+              (record {
+                step = v.step;
+                number = v.number;
+                bytes = message_bytes script step v.number can.values;
+              })
+              r place (record {
+                message = message_view script step v.number can.values;
+                is = messages_are_read script (n - 1) step v.number can.values sound (numbered_from script.steps n step at) first (omega arith) can.admitted;
+                breaks = inr (can.breaks v.number);
+              });
         };
       }
 
-  pub clean_steps : ((n i : ℕ) (step : StepValue) (t : Template) → numbered script.steps n ≡ Some step → slice_get step.templates i ≡ Some t → IsClosedTemplate script.fields granted.orders t) → ((f : Finding) → IsReal granted script f → ⊥) → SentStepsAreClean granted script
+  pub clean_steps :
+      ((n i : ℕ) (step : StepValue) (t : Template) → numbered script.steps n ≡ Some step
+      → slice_get step.templates i ≡ Some t → IsClosedTemplate script.fields granted.orders t)
+      → ((f : Finding) → IsReal granted script f → ⊥) → SentStepsAreClean granted script
   clean_steps closed none n step m at s r number values place admits b =
       either {P = Tan script step (wants_tan r)} (λ case.
       let f = facts_of granted script step (wants_tan r) case in
@@ -101,13 +140,17 @@ module _ (script : ScriptValue) (granted : Granted) (sound : IsSound script) whe
       none (record { step = n; rule = r; segment = place }) (can_real n step m r place at s (d.some place (d.each number values place admits b))))
 
 -- where nothing is real, nothing is left unreleased
-pub released_steps : (granted : Granted) (script : ScriptValue) → IsSound script → ((v : Visit) (s : ℕ) → Arrives script.steps v → IsUnreleased script v.step s → IsReal granted script (release_of s)) → ((f : Finding) → IsReal granted script f → ⊥) → SentStepsAreReleased script
+pub released_steps : (granted : Granted) (script : ScriptValue) → IsSound script
+    → ((v : Visit) (s : ℕ) → Arrives script.steps v → IsUnreleased script v.step s
+    → IsReal granted script (release_of s))
+    → ((f : Finding) → IsReal granted script f → ⊥) → SentStepsAreReleased script
 released_steps granted script sound law none t s m is u =
     let way = (last_messages script is.values m sound).0 is.sends in
     let here : way.0.step ≡ t = sym (ap (λ (x : Sent). x.step) way.2.is) ∙ is.of in
     none (release_of s) (law way.0 s way.1 (subst (λ (k : ℕ). IsUnreleased script k s) (sym here) u))
 
-pub nothing_real : (granted : Granted) (script : ScriptValue) (findings : List Finding) → AreFindings granted script findings → findings ≡ [] → (f : Finding) → IsReal granted script f → ⊥
+pub nothing_real : (granted : Granted) (script : ScriptValue) (findings : List Finding)
+    → AreFindings granted script findings → findings ≡ [] → (f : Finding) → IsReal granted script f → ⊥
 nothing_real granted script findings are clean f real =
     let has = subst (λ (xs : List Finding). Contains xs f) clean ((are.exactly f).1 real) in
     let lt = has.1 in

@@ -42,8 +42,11 @@ use Rattle.fints_wire.proofs.LawLemmas.{bodies_are_templates_count, bodies_are_t
 
 -- ---- the step
 
-module _ (script : ScriptValue) (granted : Granted) (step : StepValue) (r : Rule) (f : MessageFacts) (sound : IsSound script) (sound_step : IsSoundStep script step)
-    (closed : (i : ℕ) (t : Template) → slice_get step.templates i ≡ Some t → IsClosedTemplate script.fields granted.orders t) (facts : AreMessageFacts granted script step (wants_tan r) f) where
+module _ (script : ScriptValue) (granted : Granted) (step : StepValue) (r : Rule) (f : MessageFacts)
+    (sound : IsSound script) (sound_step : IsSoundStep script step)
+    (closed : (i : ℕ) (t : Template) → slice_get step.templates i ≡ Some t
+    → IsClosedTemplate script.fields granted.orders t)
+    (facts : AreMessageFacts granted script step (wants_tan r) f) where
   abbrev Sent : List NamedValue → ℕ → MessageView
   Sent values number = message_view script step number values
 
@@ -73,33 +76,57 @@ module _ (script : ScriptValue) (granted : Granted) (step : StepValue) (r : Rule
   facts_same : (values : List NamedValue) (number : ℕ) → f ≡ with_tan (Facts values number) f.has_tan
   facts_same values number =
       let g = Facts values number in
-      let process = λ (p : List ℕ). sym (processes_are elements_are_filled_values p (Fill values number) script.fields granted.orders first step.templates closed) in
+      let process =
+      λ (p : List ℕ).
+      sym (processes_are elements_are_filled_values p (Fill values number) script.fields
+      granted.orders first step.templates closed) in
       ap (λ (x : Option ℕ). made x f.kinds f.signatures f.submits f.sends f.ends f.has_tan_order f.demanding) facts.protocol
-      ∙ (ap (λ (x : ℕ). made g.protocol x f.signatures f.submits f.sends f.ends f.has_tan_order f.demanding) (facts.kinds ∙ sym (ap (distinct_count bytes_eq) (plain_kinds_are (Fill values number) first step.templates)))
-      ∙ (ap (λ (x : ℕ). made g.protocol g.kinds x f.submits f.sends f.ends f.has_tan_order f.demanding) (facts.signatures ∙ sym (bodies_are_templates_signatures script step number values))
+      ∙ (ap (λ (x : ℕ). made g.protocol x f.signatures f.submits f.sends f.ends f.has_tan_order f.demanding)
+      (facts.kinds
+      ∙ sym (ap (distinct_count bytes_eq) (plain_kinds_are (Fill values number) first step.templates)))
+      ∙ (ap (λ (x : ℕ). made g.protocol g.kinds x f.submits f.sends f.ends f.has_tan_order f.demanding)
+      (facts.signatures ∙ sym (bodies_are_templates_signatures script step number values))
       ∙ (ap (λ (x : Bool). made g.protocol g.kinds g.signatures x f.sends f.ends f.has_tan_order f.demanding) (facts.submits ∙ process (codes "4"))
       ∙ (ap (λ (x : Bool). made g.protocol g.kinds g.signatures g.submits x f.ends f.has_tan_order f.demanding) (facts.sends ∙ process (codes "2"))
-      ∙ (ap (λ (x : Bool). made g.protocol g.kinds g.signatures g.submits g.sends x f.has_tan_order f.demanding) (facts.ends ∙ sym (ends_are (Fill values number) first step.templates))
-      ∙ (ap (λ (x : Bool). made g.protocol g.kinds g.signatures g.submits g.sends g.ends x f.demanding) (facts.has_tan_order ∙ sym (tan_orders_are (Fill values number) first step.templates))
-      ∙ ap (λ (x : ℕ). made g.protocol g.kinds g.signatures g.submits g.sends g.ends g.has_tan_order x) (facts.demanding ∙ sym (demanding_is granted.rows.pins (Fill values number) first step.templates))))))))
+      ∙ (ap
+      (λ (x : Bool). made g.protocol g.kinds g.signatures g.submits g.sends x f.has_tan_order f.demanding)
+      (facts.ends ∙ sym (ends_are (Fill values number) first step.templates))
+      ∙ (ap (λ (x : Bool). made g.protocol g.kinds g.signatures g.submits g.sends g.ends x f.demanding)
+      (facts.has_tan_order ∙ sym (tan_orders_are (Fill values number) first step.templates))
+      ∙ ap (λ (x : ℕ). made g.protocol g.kinds g.signatures g.submits g.sends g.ends g.has_tan_order x)
+      (facts.demanding ∙ sym (demanding_is granted.rows.pins (Fill values number) first step.templates))))))))
 
   abbrev Has : List NamedValue → ℕ → Type 0
   Has values number = IsTrue (facts_of granted.rows.pins (Sent values number)).has_tan
 
-  tan_no_better : (most : Bool) (values : List NamedValue) (number : ℕ) → Admits script.fields values → (IsTrue f.has_tan ↔ TanUnder most script.fields script.signers step.signers) → HasTanAs most f.has_tan (Facts values number).has_tan
+  tan_no_better : (most : Bool) (values : List NamedValue) (number : ℕ) → Admits script.fields values
+      → (IsTrue f.has_tan ↔ TanUnder most script.fields script.signers step.signers)
+      → HasTanAs most f.has_tan (Facts values number).has_tan
   tan_no_better true values number admits has = λ h. has.1 (may_have_tan script values number sound admits step sound_step (first + length step.templates) h)
   tan_no_better false values number admits has = λ h. tan_stays script values number sound admits step sound_step (first + length step.templates) (has.0 h)
 
-  tan_as_bad : (most : Bool) (values : List NamedValue) (number : ℕ) → Admits script.fields values → IsExtreme most script.fields values → (IsTrue f.has_tan ↔ TanUnder most script.fields script.signers step.signers) → HasTanAs most (Facts values number).has_tan f.has_tan
-  tan_as_bad true values number admits extreme has = λ h. longest_tan script values number sound admits step sound_step (first + length step.templates) extreme (has.0 h)
-  tan_as_bad false values number admits extreme has = λ h. has.1 (shortest_tan script values number sound admits step sound_step (first + length step.templates) extreme h)
+  tan_as_bad : (most : Bool) (values : List NamedValue) (number : ℕ) → Admits script.fields values
+      → IsExtreme most script.fields values
+      → (IsTrue f.has_tan ↔ TanUnder most script.fields script.signers step.signers)
+      → HasTanAs most (Facts values number).has_tan f.has_tan
+  tan_as_bad true values number admits extreme has =
+      λ h.
+      longest_tan script values number sound admits step sound_step (first + length step.templates)
+      extreme (has.0 h)
+  tan_as_bad false values number admits extreme has =
+      λ h.
+      has.1
+      (shortest_tan script values number sound admits step sound_step (first + length step.templates)
+      extreme h)
 
   -- no message is worse than the step's facts..
-  facts_no_better : (values : List NamedValue) (number : ℕ) → Admits script.fields values → IsNoBetter (wants_tan r) f (Facts values number)
+  facts_no_better : (values : List NamedValue) (number : ℕ) → Admits script.fields values
+      → IsNoBetter (wants_tan r) f (Facts values number)
   facts_no_better values number admits = record { same = facts_same values number; tan = tan_no_better (wants_tan r) values number admits facts.has_tan }
 
   -- ..and those of extreme values are as bad
-  extreme_no_better : (values : List NamedValue) (number : ℕ) → Admits script.fields values → IsExtreme (wants_tan r) script.fields values → IsNoBetter (wants_tan r) (Facts values number) f
+  extreme_no_better : (values : List NamedValue) (number : ℕ) → Admits script.fields values
+      → IsExtreme (wants_tan r) script.fields values → IsNoBetter (wants_tan r) (Facts values number) f
   extreme_no_better values number admits extreme = record {
     same = sym (ap (λ (x : MessageFacts). with_tan x (Facts values number).has_tan) (facts_same values number));
     tan = tan_as_bad (wants_tan r) values number admits extreme facts.has_tan;
@@ -110,17 +137,30 @@ module _ (script : ScriptValue) (granted : Granted) (step : StepValue) (r : Rule
   abbrev Two : List NamedValue → ℕ → ℕ → Template → List (List ℕ)
   Two values number n t = values_at (filled_segment (Fill values number) n t) 2
 
-  count_same : (values : List NamedValue) (number : ℕ) (t : Template) → (segment_facts (Sent values number) (filled_segment (Fill values number) 0 t)).count ≡ template_count t.kind step.templates
+  count_same : (values : List NamedValue) (number : ℕ) (t : Template)
+      → (segment_facts (Sent values number) (filled_segment (Fill values number) 0 t)).count ≡ template_count
+      t.kind step.templates
   count_same values number t = count_is t.kind (Fill values number) first step.templates
 
-  segment_to : (values : List NamedValue) (number n : ℕ) (t : Template) → Admits script.fields values → BreaksAt granted (Sent values number) r (filled_segment (Fill values number) n t) → SegmentBreaks granted f r (template_facts t (template_count t.kind step.templates) (Two values number n t))
+  segment_to : (values : List NamedValue) (number n : ℕ) (t : Template) → Admits script.fields values
+      → BreaksAt granted (Sent values number) r (filled_segment (Fill values number) n t)
+      → SegmentBreaks granted f r
+      (template_facts t (template_count t.kind step.templates) (Two values number n t))
   segment_to values number n t admits b =
       subst (λ (count : ℕ). SegmentBreaks granted f r (template_facts t count (Two values number n t))) (count_same values number t)
-      (segment_no_better granted f (facts_of granted.rows.pins (Sent values number)) (segment_facts (Sent values number) (filled_segment (Fill values number) n t)) r (facts_no_better values number admits) b)
+      (segment_no_better granted f (facts_of granted.rows.pins (Sent values number))
+      (segment_facts (Sent values number) (filled_segment (Fill values number) n t)) r
+      (facts_no_better values number admits) b)
 
-  segment_from : (values : List NamedValue) (number n : ℕ) (t : Template) → Admits script.fields values → IsExtreme (wants_tan r) script.fields values → SegmentBreaks granted f r (template_facts t (template_count t.kind step.templates) (Two values number n t)) → BreaksAt granted (Sent values number) r (filled_segment (Fill values number) n t)
+  segment_from : (values : List NamedValue) (number n : ℕ) (t : Template) → Admits script.fields values
+      → IsExtreme (wants_tan r) script.fields values
+      → SegmentBreaks granted f r
+      (template_facts t (template_count t.kind step.templates) (Two values number n t))
+      → BreaksAt granted (Sent values number) r (filled_segment (Fill values number) n t)
   segment_from values number n t admits extreme b =
-      segment_no_better granted (facts_of granted.rows.pins (Sent values number)) f (segment_facts (Sent values number) (filled_segment (Fill values number) n t)) r (extreme_no_better values number admits extreme)
+      segment_no_better granted (facts_of granted.rows.pins (Sent values number)) f
+      (segment_facts (Sent values number) (filled_segment (Fill values number) n t)) r
+      (extreme_no_better values number admits extreme)
       (subst (λ (count : ℕ). SegmentBreaks granted f r (template_facts t count (Two values number n t))) (sym (count_same values number t)) b)
 
   -- ---- both ways
@@ -128,35 +168,61 @@ module _ (script : ScriptValue) (granted : Granted) (step : StepValue) (r : Rule
   abbrev Own : List NamedValue
   Own = extreme_choice (wants_tan r) script.fields
 
-  whole_broken : (place : ℕ) → place ≡ 0 → MessageBreaks granted f r → (number : ℕ) → BreaksByContent granted (Sent Own number) r place
+  whole_broken : (place : ℕ) → place ≡ 0 → MessageBreaks granted f r → (number : ℕ)
+      → BreaksByContent granted (Sent Own number) r place
   whole_broken place at b number =
-      inl (at, message_no_better granted (facts_of granted.rows.pins (Sent Own number)) f r (extreme_no_better Own number (extreme_admitted (wants_tan r) script.fields) (extreme_is (wants_tan r) script.fields)) b)
+      inl (
+        at,
+        message_no_better granted (facts_of granted.rows.pins (Sent Own number)) f r
+            (extreme_no_better Own number (extreme_admitted (wants_tan r) script.fields)
+            (extreme_is (wants_tan r) script.fields))
+            b,
+      )
 
-  segment_broken : (place i : ℕ) (t : Template) (there : slice_get step.templates i ≡ Some t) (values : List NamedValue) → place ≡ first + i
-      → IsBrokenBy script.fields granted f r t (template_count t.kind step.templates) (closed i t there) values → (number : ℕ) → BreaksByContent granted (Sent values number) r place
+  segment_broken : (place i : ℕ) (t : Template) (there : slice_get step.templates i ≡ Some t)
+      (values : List NamedValue) → place ≡ first + i
+      → IsBrokenBy script.fields granted f r t (template_count t.kind step.templates) (closed i t there)
+      values
+      → (number : ℕ) → BreaksByContent granted (Sent values number) r place
   segment_broken place i t there values at s number =
       let segment : OwnedSegment = filled_segment (Fill values number) (first + i) t in
-      inr (any_there (λ (x : OwnedSegment). (x.head.number ≡ place) × BreaksAt granted (Sent values number) r x) (Sent values number).body i segment (bodies_are_templates_segments script step number values i t there)
+      inr
+      (any_there
+      (λ (x : OwnedSegment). (x.head.number ≡ place) × BreaksAt granted (Sent values number) r x)
+      (Sent values number).body i segment
+      (bodies_are_templates_segments script step number values i t there)
       (sym at, segment_from values number (first + i) t s.admitted s.extreme (s.breaks number (first + i))))
 
-  step_some : (place : ℕ) → StepBreaks granted script.fields step f r place → CanBreak granted script step r place
+  step_some : (place : ℕ) → StepBreaks granted script.fields step f r place
+      → CanBreak granted script step r place
   step_some place (inl (at, b)) = record { values = Own; admitted = extreme_admitted (wants_tan r) script.fields; breaks = whole_broken place at b }
   step_some place (inr b) =
       let s = template_sound script.fields granted f r b.template (template_count b.template.kind step.templates) (closed b.i b.template b.there) b.breaks in
       record { values = s.0; admitted = s.1.admitted; breaks = segment_broken place b.i b.template b.there s.0 b.number_is s.1 }
 
-  step_chosen : (place : ℕ) (choice : Option SetAccount) (values : List NamedValue) → BreaksWith granted script.fields step f r place choice → IsChoice (wants_tan r) script.fields choice values
+  step_chosen : (place : ℕ) (choice : Option SetAccount) (values : List NamedValue)
+      → BreaksWith granted script.fields step f r place choice
+      → IsChoice (wants_tan r) script.fields choice values
       → Admits script.fields values × ((number : ℕ) → BreaksByContent granted (Sent values number) r place)
   step_chosen place choice values (inl (at, b, none)) is =
       let own : values ≡ Own = subst (λ (c : Option SetAccount). IsChoice (wants_tan r) script.fields c values) none is in
-      subst (λ (vs : List NamedValue). Admits script.fields vs × ((number : ℕ) → BreaksByContent granted (Sent vs number) r place)) (sym own) (extreme_admitted (wants_tan r) script.fields, whole_broken place at b)
+      subst
+      (λ (vs : List NamedValue).
+      Admits script.fields vs × ((number : ℕ) → BreaksByContent granted (Sent vs number) r place))
+      (sym own) (extreme_admitted (wants_tan r) script.fields, whole_broken place at b)
   step_chosen place choice values (inr b) is =
-      let s = template_with script.fields granted f r b.template (template_count b.template.kind step.templates) (closed b.i b.template b.there) choice values b.breaks is in
+      let s =
+      template_with script.fields granted f r b.template (template_count b.template.kind step.templates)
+      (closed b.i b.template b.there) choice values b.breaks is in
       (s.admitted, segment_broken place b.i b.template b.there values b.number_is s)
 
   -- none of the accounts before the one that is set breaks it there
-  step_first : (place : ℕ) (s : SetAccount) (b : BreaksWithAt granted script.fields step f r place (Some s)) (k number : ℕ) (other : List (List ℕ)) → k < s.account → slice_get (field_accounts b.breaks.field.class) k ≡ Some other
-      → BreaksByContent granted (Sent (with_account script.fields s.field b.breaks.field other) number) r place → ⊥
+  step_first : (place : ℕ) (s : SetAccount) (b : BreaksWithAt granted script.fields step f r place (Some s))
+      (k number : ℕ) (other : List (List ℕ)) → k < s.account
+      → slice_get (field_accounts b.breaks.field.class) k ≡ Some other
+      → BreaksByContent granted (Sent (with_account script.fields s.field b.breaks.field other) number) r
+      place
+      → ⊥
   step_first place s b k number other less listed (inl (at, h)) = absurd (omega (arith, at, b.number_is))
   step_first place s b k number other less listed (inr (i, x, lt, at, (number_is, h))) =
       let values = with_account script.fields s.field b.breaks.field other in
@@ -165,16 +231,24 @@ module _ (script : ScriptValue) (granted : Granted) (step : StepValue) (r : Rule
       let within : i < length step.templates = subst (λ (m : ℕ). i < m) (bodies_are_templates_count script step number values) lt in
       let (t, there) = slice_there step.templates i within in
       let same : x ≡ filled_segment (Fill values number) (first + i) t =
-      same_Some x (filled_segment (Fill values number) (first + i) t) (sym (there_of (Sent values number).body i x lt at) ∙ bodies_are_templates_segments script step number values i t there)
+      same_Some x (filled_segment (Fill values number) (first + i) t)
+      (sym (there_of (Sent values number).body i x lt at)
+      ∙ bodies_are_templates_segments script step number values i t there)
       in
       let number_at : place ≡ first + i = sym number_is ∙ ap (λ (y : OwnedSegment). y.head.number) same in
       let own : i ≡ b.i = omega (arith, number_at, b.number_is) in
       let one : t ≡ b.template = same_Some t b.template (sym there ∙ (ap (λ (j : ℕ). slice_get step.templates j) own ∙ b.there)) in
       let breaks = segment_to values number (first + i) t admits (subst (BreaksAt granted (Sent values number) r) same h) in
       template_first script.fields granted f r b.template count (closed b.i b.template b.there) s b.breaks k other less listed number (first + i)
-      (subst (λ (y : Template). SegmentBreaks granted f r (template_facts y (template_count y.kind step.templates) (Two values number (first + i) y))) one breaks)
+      (subst
+      (λ (y : Template).
+      SegmentBreaks granted f r
+      (template_facts y (template_count y.kind step.templates) (Two values number (first + i) y)))
+      one breaks)
 
-  step_set : (place : ℕ) (s : SetAccount) (values : List NamedValue) → BreaksWith granted script.fields step f r place (Some s) → IsChoiceWith script.fields s values → (asks_account r ≡ true) × HaveFirstAccount granted script step r place values
+  step_set : (place : ℕ) (s : SetAccount) (values : List NamedValue)
+      → BreaksWith granted script.fields step f r place (Some s) → IsChoiceWith script.fields s values
+      → (asks_account r ≡ true) × HaveFirstAccount granted script step r place values
   step_set place s values (inl (at, h, none)) is = absurd cc
   step_set place s values (inr b) is =
       let w = b.breaks in (
@@ -191,18 +265,31 @@ module _ (script : ScriptValue) (granted : Granted) (step : StepValue) (r : Rule
         },
       )
 
-  step_each : (number : ℕ) (values : List NamedValue) (place : ℕ) → Admits script.fields values → BreaksByContent granted (Sent values number) r place → StepBreaks granted script.fields step f r place
-  step_each number values place admits (inl (at, b)) = inl (at, message_no_better granted f (facts_of granted.rows.pins (Sent values number)) r (facts_no_better values number admits) b)
+  step_each : (number : ℕ) (values : List NamedValue) (place : ℕ) → Admits script.fields values
+      → BreaksByContent granted (Sent values number) r place → StepBreaks granted script.fields step f r place
+  step_each number values place admits (inl (at, b)) =
+      inl (
+        at,
+        message_no_better granted f (facts_of granted.rows.pins (Sent values number)) r
+            (facts_no_better values number admits) b,
+      )
   step_each number values place admits (inr (i, s, lt, at, (number_is, b))) =
       let within : i < length step.templates = subst (λ (m : ℕ). i < m) (bodies_are_templates_count script step number values) lt in
       let (t, there) = slice_there step.templates i within in
-      let same : s ≡ filled_segment (Fill values number) (first + i) t = same_Some s (filled_segment (Fill values number) (first + i) t) (sym (there_of (Sent values number).body i s lt at) ∙ bodies_are_templates_segments script step number values i t there) in
+      let same : s ≡ filled_segment (Fill values number) (first + i) t =
+      same_Some s (filled_segment (Fill values number) (first + i) t)
+      (sym (there_of (Sent values number).body i s lt at)
+      ∙ bodies_are_templates_segments script step number values i t there) in
       inr (record {
         i = i;
         template = t;
         there = there;
         number_is = sym number_is ∙ ap (λ (x : OwnedSegment). x.head.number) same;
-        breaks = template_complete script.fields granted f r t (template_count t.kind step.templates) (closed i t there) values number (first + i) admits (segment_to values number (first + i) t admits (subst (BreaksAt granted (Sent values number) r) same b));
+        breaks =
+            template_complete script.fields granted f r t (template_count t.kind step.templates)
+            (closed i t there) values number (first + i) admits
+            (segment_to values number (first + i) t admits
+            (subst (BreaksAt granted (Sent values number) r) same b));
       })
 
 pub decides : TemplatesDecide
@@ -213,6 +300,8 @@ decides script granted step r f sound sound_step closed facts = record {
   each = step_each script granted step r f sound sound_step closed facts;
 }
 
-pub message_is : (granted : Granted) (script : ScriptValue) (step : StepValue) (f : StepFacts) → AreStepFacts granted script step f → (most : Bool) → AreMessageFacts granted script step most (message_for f most)
+pub message_is : (granted : Granted) (script : ScriptValue) (step : StepValue) (f : StepFacts)
+    → AreStepFacts granted script step f → (most : Bool)
+    → AreMessageFacts granted script step most (message_for f most)
 message_is granted script step f h true = h.most
 message_is granted script step f h false = h.least

@@ -39,7 +39,8 @@ use Rattle.fints_wire.proofs.LawLemmas.{accounts_are_put_in, elements_are_filled
 
 -- ---- literals
 
-pub two_literal : (F : FillingValue) (n : ℕ) (t : Template) → list_all is_literal (element_two t) ≡ true → values_at (filled_segment F n t) 2 ≡ literals t
+pub two_literal : (F : FillingValue) (n : ℕ) (t : Template) → list_all is_literal (element_two t) ≡ true
+    → values_at (filled_segment F n t) 2 ≡ literals t
 two_literal = literal_two elements_are_filled_values
 
 -- ---- one account field
@@ -51,18 +52,23 @@ pub record AccountAt (fields : List NamedField) (items : List TemplateItem) : Ty
   pub there : slice_get fields place ≡ Some field
   pub account : is_account field.class ≡ true
 
-account_there : (o : Option NamedField) → is_account_at o ≡ true → (field : NamedField) × (o ≡ Some field) × (is_account field.class ≡ true)
+account_there : (o : Option NamedField) → is_account_at o ≡ true
+    → (field : NamedField) × (o ≡ Some field) × (is_account field.class ≡ true)
 account_there None h = absurd cc
 account_there (Some field) h = (field, refl, h)
 
-account_at : (fields : List NamedField) (items : List TemplateItem) → is_account_field fields items ≡ true → AccountAt fields items
+account_at : (fields : List NamedField) (items : List TemplateItem) → is_account_field fields items ≡ true
+    → AccountAt fields items
 account_at fields [] h = absurd cc
 account_at fields (Literal x ∷ items) h = absurd cc
 account_at fields (Dialog ∷ items) h = absurd cc
 account_at fields (Field f ∷ x ∷ items) h = absurd cc
-account_at fields (Field f ∷ []) h = let a = account_there (slice_get fields f) h in record { place = f; field = a.0; items_are = refl; there = a.1; account = a.2 }
+account_at fields (Field f ∷ []) h =
+    let a = account_there (slice_get fields f) h in
+    record { place = f; field = a.0; items_are = refl; there = a.1; account = a.2 }
 
-listed_are : (fields : List NamedField) (items : List TemplateItem) (a : AccountAt fields items) → listed_in fields items ≡ field_accounts a.field.class
+listed_are : (fields : List NamedField) (items : List TemplateItem) (a : AccountAt fields items)
+    → listed_in fields items ≡ field_accounts a.field.class
 listed_are fields items a = ap (listed_in fields) a.items_are ∙ ap accounts_at a.there
 
 class_listed : (class : Class) → 0 < length (field_accounts class) → is_account class ≡ true
@@ -75,14 +81,16 @@ listed_there : (o : Option NamedField) → 0 < length (accounts_at o) → is_acc
 listed_there None h = absurd (omega (arith, h))
 listed_there (Some field) h = class_listed field.class h
 
-listed_field : (fields : List NamedField) (items : List TemplateItem) → 0 < length (listed_in fields items) → is_account_field fields items ≡ true
+listed_field : (fields : List NamedField) (items : List TemplateItem) → 0 < length (listed_in fields items)
+    → is_account_field fields items ≡ true
 listed_field fields [] h = absurd (omega (arith, h))
 listed_field fields (Literal x ∷ items) h = absurd (omega (arith, h))
 listed_field fields (Dialog ∷ items) h = absurd (omega (arith, h))
 listed_field fields (Field f ∷ x ∷ items) h = absurd (omega (arith, h))
 listed_field fields (Field f ∷ []) h = listed_there (slice_get fields f) h
 
-asked_are : (fields : List NamedField) (r : Rule) (t : Template) → asks_account r ≡ true → accounts_asked fields r t ≡ listed_in fields (element_two t)
+asked_are : (fields : List NamedField) (r : Rule) (t : Template) → asks_account r ≡ true
+    → accounts_asked fields r t ≡ listed_in fields (element_two t)
 asked_are fields r t asks = ap (λ (b : Bool). cond b (listed_in fields (element_two t)) []) asks
 
 some_asked : {X : Type 0} (b : Bool) (xs : List X) → 0 < length (cond b xs []) → b ≡ true
@@ -95,7 +103,8 @@ pub record IsAsked (fields : List NamedField) (r : Rule) (t : Template) : Type 0
   pub at : AccountAt fields (element_two t)
   pub accounts : accounts_asked fields r t ≡ field_accounts at.field.class
 
-pub asked : (fields : List NamedField) (r : Rule) (t : Template) → 0 < length (accounts_asked fields r t) → IsAsked fields r t
+pub asked : (fields : List NamedField) (r : Rule) (t : Template) → 0 < length (accounts_asked fields r t)
+    → IsAsked fields r t
 asked fields r t some =
     let asks = some_asked (asks_account r) (listed_in fields (element_two t)) some in
     let listed : 0 < length (listed_in fields (element_two t)) = subst (λ (xs : List (List (List ℕ))). 0 < length xs) (asked_are fields r t asks) some in
@@ -106,11 +115,17 @@ asked fields r t some =
 
 -- each field that lists no accounts has its shortest value
 abbrev pub IsShortest : List NamedField → List NamedValue → Type 0
-IsShortest fields values = (f : ℕ) (field : NamedField) (value : NamedValue) → slice_get fields f ≡ Some field → is_account field.class ≡ false → slice_get values f ≡ Some value → value.value ≡ field_shortest field.class
+IsShortest fields values =
+    (f : ℕ) (field : NamedField) (value : NamedValue) → slice_get fields f ≡ Some field
+    → is_account field.class ≡ false → slice_get values f ≡ Some value
+    → value.value ≡ field_shortest field.class
 
 -- each has its longest one
 abbrev pub IsLongest : List NamedField → List NamedValue → Type 0
-IsLongest fields values = (f : ℕ) (field : NamedField) (value : NamedValue) → slice_get fields f ≡ Some field → is_account field.class ≡ false → slice_get values f ≡ Some value → value.value ≡ field_longest field.class
+IsLongest fields values =
+    (f : ℕ) (field : NamedField) (value : NamedValue) → slice_get fields f ≡ Some field
+    → is_account field.class ≡ false → slice_get values f ≡ Some value
+    → value.value ≡ field_longest field.class
 
 abbrev pub IsExtreme : Bool → List NamedField → List NamedValue → Type 0
 IsExtreme true fields values = IsLongest fields values
@@ -122,7 +137,8 @@ longest_is fields f field value at single there =
     let same : value ≡ with_longest field = same_Some value (with_longest field) (sym there ∙ stands) in
     ap (λ (v : NamedValue). v.value) same
 
-pub shortest_at : (fields : List NamedField) (f : ℕ) (field : NamedField) → slice_get fields f ≡ Some field → slice_get (shortest_choice fields) f ≡ Some (with_shortest field)
+pub shortest_at : (fields : List NamedField) (f : ℕ) (field : NamedField) → slice_get fields f ≡ Some field
+    → slice_get (shortest_choice fields) f ≡ Some (with_shortest field)
 shortest_at fields f field at = slice_get-map with_shortest fields f ∙ ap (option_map with_shortest) at
 
 pub shortest_is : (fields : List NamedField) → IsShortest fields (shortest_choice fields)
@@ -138,7 +154,9 @@ pub extreme_admitted : (most : Bool) (fields : List NamedField) → Admits field
 extreme_admitted true fields = extremes_are_admitted_longest fields
 extreme_admitted false fields = extremes_are_admitted_shortest fields
 
-with_account_is : (fields : List NamedField) (place : ℕ) (field : NamedField) (text : List ℕ) → slice_get fields place ≡ Some field → is_account field.class ≡ true → IsShortest fields (with_value (shortest_choice fields) place field text)
+with_account_is : (fields : List NamedField) (place : ℕ) (field : NamedField) (text : List ℕ)
+    → slice_get fields place ≡ Some field → is_account field.class ≡ true
+    → IsShortest fields (with_value (shortest_choice fields) place field text)
 with_account_is fields place field text at account f other value there single chosen =
     let apart : f ≢ place = λ e.
     let same : other ≡ field = same_Some other field (sym there ∙ (ap (λ (k : ℕ). slice_get fields k) e ∙ at)) in
@@ -168,19 +186,30 @@ module _ (fields : List NamedField) (t : Template) where
     listed_at : ℕ
     listed : slice_get (field_accounts a.field.class) listed_at ≡ Some X
 
-  standing : (values : List NamedValue) (number n : ℕ) → Admits fields values → (a : AccountAt fields (element_two t)) → IsStanding a (Items values number n)
+  standing : (values : List NamedValue) (number n : ℕ) → Admits fields values
+      → (a : AccountAt fields (element_two t)) → IsStanding a (Items values number n)
   standing values number n admits a =
       let (value, there, place, account, listed, is) = accounts_are_put_in fields values number n 2 a.place t a.field admits (two_field a) a.there a.account in
       record { listed_at = place; listed = listed.listed ∙ ap (λ (x : List (List ℕ)). Some x) (sym is) }
 
   -- the account that is set stands there
-  set_stands : (a : AccountAt fields (element_two t)) (k : ℕ) (account : List (List ℕ)) → slice_get (field_accounts a.field.class) k ≡ Some account → (number n : ℕ) → Items (with_value (shortest_choice fields) a.place a.field (account_text account)) number n ≡ account
+  set_stands : (a : AccountAt fields (element_two t)) (k : ℕ) (account : List (List ℕ))
+      → slice_get (field_accounts a.field.class) k ≡ Some account → (number n : ℕ)
+      → Items (with_value (shortest_choice fields) a.place a.field (account_text account)) number n ≡ account
   set_stands a k account at number n =
       let V = with_value (shortest_choice fields) a.place a.field (account_text account) in
-      let admits : Admits fields V = values_may_be_set_admitted fields (shortest_choice fields) a.place a.field (account_text account) (extremes_are_admitted_shortest fields) a.there (listed_accounts_are_values_admitted a.field.class k account at) in
+      let admits : Admits fields V =
+      values_may_be_set_admitted fields (shortest_choice fields) a.place a.field (account_text account)
+      (extremes_are_admitted_shortest fields) a.there
+      (listed_accounts_are_values_admitted a.field.class k account at) in
       let (value, there, place, stands, listed, is) = accounts_are_put_in fields V number n 2 a.place t a.field admits (two_field a) a.there a.account in
-      let within : a.place < length (shortest_choice fields) = subst (λ (m : ℕ). a.place < m) (sym (length-map fields with_shortest)) (slice_get_within fields a.place a.field a.there) in
-      let same : value ≡ value_of a.field (account_text account) = same_Some value (value_of a.field (account_text account)) (sym there ∙ set_here (shortest_choice fields) a.place (value_of a.field (account_text account)) within) in
+      let within : a.place < length (shortest_choice fields) =
+      subst (λ (m : ℕ). a.place < m) (sym (length-map fields with_shortest))
+      (slice_get_within fields a.place a.field a.there) in
+      let same : value ≡ value_of a.field (account_text account) =
+      same_Some value (value_of a.field (account_text account))
+      (sym there
+      ∙ set_here (shortest_choice fields) a.place (value_of a.field (account_text account)) within) in
       let items : account_items stands ≡ account_items account =
       sym listed.items ∙ (ap (λ (v : NamedValue). field_items a.field.class v.value) same ∙ (listed_accounts_are_values_items a.field.class k account at).items)
       in
@@ -189,10 +218,12 @@ module _ (fields : List NamedField) (t : Template) where
   module _ (orders : List OrderRow) (closed : IsClosedTemplate fields orders t) (r : Rule) where
     -- where the rule is asked for no account, and asks what stands there, its literals do
     record IsPlain (X : List (List ℕ)) : Type 0 where
-      account : asks_account r ≡ true → names_account (form_of orders t.kind t.version) ≡ true → X ≡ literals t
+      account : asks_account r ≡ true → names_account (form_of orders t.kind t.version) ≡ true
+          → X ≡ literals t
       process : is_tan_order t.kind ≡ true → X ≡ literals t
 
-    plain : (values : List NamedValue) (number n : ℕ) → Admits fields values → accounts_asked fields r t ≡ [] → IsPlain (Items values number n)
+    plain : (values : List NamedValue) (number n : ℕ) → Admits fields values → accounts_asked fields r t ≡ []
+        → IsPlain (Items values number n)
     plain values number n admits none = record {
       account = λ asks names. elim (closed.account names) [
         | inl literal ↦ two_literal (filling_of fields values number) n t literal
@@ -200,7 +231,9 @@ module _ (fields : List NamedField) (t : Template) where
             let a = account_at fields (element_two t) field in
             let s = standing values number n admits a in
             let empty : field_accounts a.field.class ≡ [] = sym (listed_are fields (element_two t) a) ∙ (sym (asked_are fields r t asks) ∙ none) in
-            let no_match : slice_get [] s.listed_at ≡ Some (Items values number n) = subst (λ (xs : List (List (List ℕ))). slice_get xs s.listed_at ≡ Some (Items values number n)) empty s.listed in
+            let no_match : slice_get [] s.listed_at ≡ Some (Items values number n) =
+            subst (λ (xs : List (List (List ℕ))). slice_get xs s.listed_at ≡ Some (Items values number n))
+            empty s.listed in
             absurd cc
       ];
       process = λ tan. two_literal (filling_of fields values number) n t (closed.process tan);
@@ -208,14 +241,16 @@ module _ (fields : List NamedField) (t : Template) where
 
 -- ---- both ways
 
-module _ (fields : List NamedField) (granted : Granted) (f : MessageFacts) (r : Rule) (t : Template) (count : ℕ) (closed : IsClosedTemplate fields granted.orders t) where
+module _ (fields : List NamedField) (granted : Granted) (f : MessageFacts) (r : Rule) (t : Template)
+    (count : ℕ) (closed : IsClosedTemplate fields granted.orders t) where
   abbrev With : List (List ℕ) → Type 0
   With items = SegmentBreaks granted f r (template_facts t count items)
 
   abbrev Two : List NamedValue → ℕ → ℕ → List (List ℕ)
   Two values number n = values_at (filled_segment (filling_of fields values number) n t) 2
 
-  pub template_complete : (values : List NamedValue) (number n : ℕ) → Admits fields values → With (Two values number n) → TemplateBreaks granted fields f r t count
+  pub template_complete : (values : List NamedValue) (number n : ℕ) → Admits fields values
+      → With (Two values number n) → TemplateBreaks granted fields f r t count
   template_complete values number n admits b =
       elim (none_or_some (accounts_asked fields r t)) [
         | inl none ↦
@@ -224,7 +259,10 @@ module _ (fields : List NamedField) (granted : Granted) (f : MessageFacts) (r : 
         | inr some ↦
             let a = asked fields r t some in
             let s = standing fields t values number n admits a.at in
-            inl (subst (λ (xs : List (List (List ℕ))). Any With xs) (sym a.accounts) (any_there With (field_accounts a.at.field.class) s.listed_at (Two values number n) s.listed b))
+            inl
+            (subst (λ (xs : List (List (List ℕ))). Any With xs) (sym a.accounts)
+            (any_there With (field_accounts a.at.field.class) s.listed_at (Two values number n)
+            s.listed b))
       ]
 
   abbrev Own : List NamedValue
@@ -245,10 +283,22 @@ module _ (fields : List NamedField) (granted : Granted) (f : MessageFacts) (r : 
         items_moved granted f t count (literals t) (Two Own number n) r (λ asks names. sym (p.account asks names)) (λ tan. sym (p.process tan)) own;
   }
 
-  set_broken : asks_account r ≡ true → (a : AccountAt fields (element_two t)) (k : ℕ) (account : List (List ℕ)) → slice_get (field_accounts a.field.class) k ≡ Some account → With account → IsBrokenBy (with_value (shortest_choice fields) a.place a.field (account_text account))
+  set_broken : asks_account r ≡ true
+      → (a : AccountAt fields (element_two t)) (k : ℕ) (account : List (List ℕ))
+      → slice_get (field_accounts a.field.class) k ≡ Some account → With account
+      → IsBrokenBy (with_value (shortest_choice fields) a.place a.field (account_text account))
   set_broken asks a k account at b = record {
-    admitted = values_may_be_set_admitted fields (shortest_choice fields) a.place a.field (account_text account) (extremes_are_admitted_shortest fields) a.there (listed_accounts_are_values_admitted a.field.class k account at);
-    extreme = subst (λ (most : Bool). IsExtreme most fields (with_value (shortest_choice fields) a.place a.field (account_text account))) (sym (asks_least r asks)) (with_account_is fields a.place a.field (account_text account) a.there a.account);
+    admitted =
+        values_may_be_set_admitted fields (shortest_choice fields) a.place a.field (account_text account)
+        (extremes_are_admitted_shortest fields) a.there
+        (listed_accounts_are_values_admitted a.field.class k account at);
+    extreme =
+        subst
+        (λ (most : Bool).
+        IsExtreme most fields
+        (with_value (shortest_choice fields) a.place a.field (account_text account)))
+        (sym (asks_least r asks))
+        (with_account_is fields a.place a.field (account_text account) a.there a.account);
     breaks = λ number n. subst With (sym (set_stands fields t a k account at number n)) b;
   }
 
@@ -260,28 +310,41 @@ module _ (fields : List NamedField) (granted : Granted) (f : MessageFacts) (r : 
       record { place = s.field; field = w.field; items_are = w.items_are; there = w.there; account = class_listed w.field.class (omega (arith, within)) }
 
   -- values with another listed account there are admitted
-  pub other_admitted : (s : SetAccount) (w : IsSetFor granted fields f r t count s) (k : ℕ) (other : List (List ℕ)) → slice_get (field_accounts w.field.class) k ≡ Some other → Admits fields (with_value (shortest_choice fields) s.field w.field (account_text other))
-  other_admitted s w k other listed = values_may_be_set_admitted fields (shortest_choice fields) s.field w.field (account_text other) (extremes_are_admitted_shortest fields) w.there (listed_accounts_are_values_admitted w.field.class k other listed)
+  pub other_admitted : (s : SetAccount) (w : IsSetFor granted fields f r t count s) (k : ℕ)
+      (other : List (List ℕ)) → slice_get (field_accounts w.field.class) k ≡ Some other
+      → Admits fields (with_value (shortest_choice fields) s.field w.field (account_text other))
+  other_admitted s w k other listed =
+      values_may_be_set_admitted fields (shortest_choice fields) s.field w.field (account_text other)
+      (extremes_are_admitted_shortest fields) w.there
+      (listed_accounts_are_values_admitted w.field.class k other listed)
 
   -- no account before the one that is set breaks it
-  pub template_first : (s : SetAccount) (w : IsSetFor granted fields f r t count s) (k : ℕ) (other : List (List ℕ)) → k < s.account → slice_get (field_accounts w.field.class) k ≡ Some other → (number n : ℕ)
+  pub template_first : (s : SetAccount) (w : IsSetFor granted fields f r t count s) (k : ℕ)
+      (other : List (List ℕ)) → k < s.account → slice_get (field_accounts w.field.class) k ≡ Some other
+      → (number n : ℕ)
       → With (Two (with_value (shortest_choice fields) s.field w.field (account_text other)) number n) → ⊥
   unfolding set_at
-  template_first s w k other less listed number n b = w.breaking.first k other less listed (subst With (set_stands fields t (set_at s w) k other listed number n) b)
+  template_first s w k other less listed number n b =
+      w.breaking.first k other less listed
+      (subst With (set_stands fields t (set_at s w) k other listed number n) b)
 
   -- the values with the account that is set
-  pub template_with : (choice : Option SetAccount) (values : List NamedValue) → TemplateBreaksWith granted fields f r t count choice → IsChoice (wants_tan r) fields choice values → IsBrokenBy values
+  pub template_with : (choice : Option SetAccount) (values : List NamedValue)
+      → TemplateBreaksWith granted fields f r t count choice → IsChoice (wants_tan r) fields choice values
+      → IsBrokenBy values
   unfolding set_at
   template_with None values (none, own) is = subst IsBrokenBy (sym is) (own_broken none own)
   template_with (Some s) values w is =
       let b = w.breaking in
       subst IsBrokenBy (sym (is w.field b.account w.there b.listed)) (set_broken w.asks (set_at s w) s.account b.account b.listed b.breaks)
 
-  pub template_sound : TemplateBreaks granted fields f r t count → (values : List NamedValue) × IsBrokenBy values
+  pub template_sound : TemplateBreaks granted fields f r t count
+      → (values : List NamedValue) × IsBrokenBy values
   template_sound (inl any) =
       let some : 0 < length (accounts_asked fields r t) = omega (arith, any.2) in
       let a = asked fields r t some in
       let found = subst (λ (xs : List (List (List ℕ))). Any With xs) a.accounts any in
-      let at : slice_get (field_accounts a.at.field.class) found.0 ≡ Some found.1 = there_of (field_accounts a.at.field.class) found.0 found.1 found.2 found.3 in
+      let at : slice_get (field_accounts a.at.field.class) found.0 ≡ Some found.1 =
+      there_of (field_accounts a.at.field.class) found.0 found.1 found.2 found.3 in
       (with_value (shortest_choice fields) a.at.place a.at.field (account_text found.1), set_broken a.asks a.at found.0 found.1 at found.4)
   template_sound (inr (none, own)) = (Own, own_broken none own)

@@ -44,12 +44,15 @@ ends_some (x ∷ sent) m a = omega arith
 
 -- ---- what it comes after
 
-pub came_first : (sent : List Sent) (answers : List (List ℕ)) → length sent < 2 → came_after at_first sent answers ≡ at_first
+pub came_first : (sent : List Sent) (answers : List (List ℕ)) → length sent < 2
+    → came_after at_first sent answers ≡ at_first
 came_first [] answers few = refl
 came_first (x ∷ []) answers few = refl
 came_first (x ∷ y ∷ ys) answers few = absurd (omega arith)
 
-came_at : (before : Before) (sent : List Sent) (answers : List (List ℕ)) (i : ℕ) (b : Sent) (codes : List ℕ) → slice_get sent i ≡ Some b → slice_get answers i ≡ Some codes → length sent ≡ i + 2 → came_after before sent answers ≡ behind b codes
+came_at : (before : Before) (sent : List Sent) (answers : List (List ℕ)) (i : ℕ) (b : Sent) (codes : List ℕ)
+    → slice_get sent i ≡ Some b → slice_get answers i ≡ Some codes → length sent ≡ i + 2
+    → came_after before sent answers ≡ behind b codes
 came_at before [] answers i b codes there answer long = absurd cc
 came_at before (x ∷ []) answers i b codes there answer long = absurd (omega arith)
 came_at before (x ∷ y ∷ ys) [] i b codes there answer long = absurd cc
@@ -60,11 +63,16 @@ came_at before (x ∷ y ∷ []) (c ∷ cs) zero b codes there answer long =
 came_at before (x ∷ y ∷ z ∷ zs) (c ∷ cs) zero b codes there answer long = absurd (omega arith)
 came_at before (x ∷ y ∷ ys) (c ∷ cs) (suc i) b codes there answer long = came_at (behind x c) (y ∷ ys) cs i b codes there answer (omega arith)
 
-pub came_behind : (sent : List Sent) (answers : List (List ℕ)) (i : ℕ) (b : Sent) (codes : List ℕ) → slice_get sent i ≡ Some b → slice_get answers i ≡ Some codes → length sent ≡ i + 2 → came_after at_first sent answers ≡ behind b codes
+pub came_behind : (sent : List Sent) (answers : List (List ℕ)) (i : ℕ) (b : Sent) (codes : List ℕ)
+    → slice_get sent i ≡ Some b → slice_get answers i ≡ Some codes → length sent ≡ i + 2
+    → came_after at_first sent answers ≡ behind b codes
 came_behind sent answers i b codes there answer long = came_at at_first sent answers i b codes there answer long
 
 -- a run sends at most one message more than there are answers
-pub enough_answers : (script : ScriptValue) (sent : List Sent) (answers : List (List ℕ)) → ((i : ℕ) (m n : Sent) → slice_get sent i ≡ Some m → slice_get sent (i + 1) ≡ Some n → (codes : List ℕ) × (slice_get answers i ≡ Some codes) × IsNext script.steps m codes n) → length sent ≤ length answers + 1
+pub enough_answers : (script : ScriptValue) (sent : List Sent) (answers : List (List ℕ))
+    → ((i : ℕ) (m n : Sent) → slice_get sent i ≡ Some m → slice_get sent (i + 1) ≡ Some n
+    → (codes : List ℕ) × (slice_get answers i ≡ Some codes) × IsNext script.steps m codes n)
+    → length sent ≤ length answers + 1
 enough_answers script sent answers law =
     elim (cases_lt (length sent) 2) [
       | inl few ↦ omega arith
@@ -77,21 +85,50 @@ enough_answers script sent answers law =
           omega arith
     ]
 
-module _ (granted : Granted) (script : ScriptValue) (f : Finding) (values : List NamedValue) (answers : List (List ℕ)) (one : (sent other : List Sent) → Run script values answers sent → Run script values answers other → sent ≡ other) where
+module _ (granted : Granted) (script : ScriptValue) (f : Finding) (values : List NamedValue)
+    (answers : List (List ℕ))
+    (one : (sent other : List Sent) → Run script values answers sent → Run script values answers other
+    → sent ≡ other) where
   -- what the last message shows the case shows, and nothing else
-  pub confirmed : (sent : List Sent) (m : Sent) (answer : Bool) → Admits script.fields values → All IsAnswer answers → Run script values answers sent → EndsWith sent m → (IsTrue answer ↔ IsShownBy granted f (came_after at_first sent answers) m)
+  pub confirmed : (sent : List Sent) (m : Sent) (answer : Bool) → Admits script.fields values
+      → All IsAnswer answers → Run script values answers sent → EndsWith sent m
+      → (IsTrue answer ↔ IsShownBy granted f (came_after at_first sent answers) m)
       → (IsTrue answer ↔ Shows granted script f values answers)
   confirmed sent m answer admits each run ends e = (
-    λ t. let s = e.0 t in record { admitted = admits; message = m; ends = record { each = recursion_from_All IsAnswer answers each; sent = sent; run = run; last = ends }; of = s.of; breaks = s.breaks },
+    λ t. let s =
+        e.0 t in
+        record {
+          admitted =
+              admits;
+          message = m;
+          ends =
+              record {
+                each =
+                    recursion_from_All IsAnswer answers each;
+                sent = sent;
+                run = run;
+                last = ends;
+              };
+          of = s.of;
+          breaks = s.breaks;
+        },
     λ k.
         let same = one k.ends.sent sent k.ends.run run in
         let message = ends_once sent k.message m (subst (λ (s : List Sent). EndsWith s k.message) same k.ends.last) ends in
         e.1 (subst (IsShownBy granted f (came_after at_first sent answers)) message
-        (record { of = k.of; breaks = subst (λ (s : List Sent). BreaksBehind granted (came_after at_first s answers) k.message f.rule f.segment) same k.breaks })),
+        (record {
+          of = k.of;
+          breaks =
+              subst
+              (λ (s : List Sent).
+              BreaksBehind granted (came_after at_first s answers) k.message f.rule f.segment)
+              same k.breaks;
+        })),
   )
 
   -- a run that sends nothing shows nothing
-  pub not_confirmed : (sent : List Sent) → Run script values answers sent → length sent ≡ 0 → Shows granted script f values answers → ⊥
+  pub not_confirmed : (sent : List Sent) → Run script values answers sent → length sent ≡ 0
+      → Shows granted script f values answers → ⊥
   not_confirmed sent run none k =
       let same = one k.ends.sent sent k.ends.run run in
       let some = ends_some sent k.message (subst (λ (s : List Sent). EndsWith s k.message) same k.ends.last) in

@@ -16,17 +16,21 @@ use Rattle.fints_check_findings.specs.declared.finding.Finding.{Finding}
 
 -- ---- order
 
-before_new : (n place : ℕ) (r : Rule) (f : Finding) → IsEarlier n (rule_number r) place f → IsBefore f (record { step = n; rule = r; segment = place })
+before_new : (n place : ℕ) (r : Rule) (f : Finding) → IsEarlier n (rule_number r) place f
+    → IsBefore f (record { step = n; rule = r; segment = place })
 before_new n place r f (inl less) = inl less
 before_new n place r f (inr (same, inl less)) = inr (same, inl less)
 before_new n place r f (inr (same, inr (rule, less))) = inr (same, inr (rule_once f.rule r rule, less))
 
 -- one more at the end, behind all the others
-pair_push : (fs : List Finding) (g : Finding) → AllPairs IsBefore fs → ((f : Finding) → Contains fs f → IsBefore f g) → AllPairs IsBefore (fs ++ g ∷ [])
+pair_push : (fs : List Finding) (g : Finding) → AllPairs IsBefore fs
+    → ((f : Finding) → Contains fs f → IsBefore f g) → AllPairs IsBefore (fs ++ g ∷ [])
 pair_push fs g pairs each i j d less lt =
     let long : length (fs ++ g ∷ []) ≡ length fs + 1 = length-append fs (g ∷ []) in
     elim (cases_lt j (length fs)) [
-      | inl inside ↦ along (get_or_append_left fs (g ∷ []) d i (omega (arith, less, inside))) (get_or_append_left fs (g ∷ []) d j inside) (pairs i j d less inside)
+      | inl inside ↦
+          along (get_or_append_left fs (g ∷ []) d i (omega (arith, less, inside)))
+          (get_or_append_left fs (g ∷ []) d j inside) (pairs i j d less inside)
       | inr last ↦
           let at : j ≡ length fs = omega (arith, last, lt, long) in
           let here : i < length fs = omega (arith, less, at) in
@@ -44,23 +48,31 @@ pair_push fs g pairs each i j d less lt =
 -- ---- one place more
 
 module _ (granted : Granted) (script : ScriptValue) (n place : ℕ) (r : Rule) where
-  earlier_cases : (f : Finding) → IsEarlier n (rule_number r) (place + 1) f → IsEarlier n (rule_number r) place f ⊎ (f ≡ record { step = n; rule = r; segment = place })
+  earlier_cases : (f : Finding) → IsEarlier n (rule_number r) (place + 1) f
+      → IsEarlier n (rule_number r) place f ⊎ (f ≡ record { step = n; rule = r; segment = place })
   earlier_cases f (inl less) = inl (inl less)
   earlier_cases f (inr (same, inl less)) = inl (inr (same, inl less))
   earlier_cases f (inr (same, inr (rule, less))) =
       elim (cases_order f.segment place) [
         | inl at ↦
             let make : ℕ → Rule → ℕ → Finding = λ s r p. record { step = s; rule = r; segment = p } in
-            inr (ap (λ (s : ℕ). make s f.rule f.segment) same ∙ (ap (λ (q : Rule). make n q f.segment) (rule_once f.rule r rule) ∙ ap (λ (p : ℕ). make n r p) at))
+            inr
+            (ap (λ (s : ℕ). make s f.rule f.segment) same
+            ∙ (ap (λ (q : Rule). make n q f.segment) (rule_once f.rule r rule)
+            ∙ ap (λ (p : ℕ). make n r p) at))
         | inr other ↦ elim other [ inl below ↦ inl (inr (same, inr (rule, below))) | inr above ↦ absurd (omega (arith, less, above)) ]
       ]
 
-  earlier_more : (f : Finding) → IsEarlier n (rule_number r) place f → IsEarlier n (rule_number r) (place + 1) f
+  earlier_more : (f : Finding) → IsEarlier n (rule_number r) place f
+      → IsEarlier n (rule_number r) (place + 1) f
   earlier_more f (inl less) = inl less
   earlier_more f (inr (same, inl less)) = inr (same, inl less)
   earlier_more f (inr (same, inr (rule, less))) = inr (same, inr (rule, omega (arith, less)))
 
-  pub found_skip : (findings : List Finding) → (IsReal granted script (record { step = n; rule = r; segment = place }) → ⊥) → AreFoundTo granted script n (rule_number r) place findings → AreFoundTo granted script n (rule_number r) (place + 1) findings
+  pub found_skip : (findings : List Finding)
+      → (IsReal granted script (record { step = n; rule = r; segment = place }) → ⊥)
+      → AreFoundTo granted script n (rule_number r) place findings
+      → AreFoundTo granted script n (rule_number r) (place + 1) findings
   found_skip findings none a = record {
     exactly = λ f. (
       λ has. let s = (a.exactly f).0 has in (earlier_more f s.0, s.1),
@@ -72,7 +84,11 @@ module _ (granted : Granted) (script : ScriptValue) (n place : ℕ) (r : Rule) w
     in_order = a.in_order;
   }
 
-  pub found_push : (findings : List Finding) → IsReal granted script (record { step = n; rule = r; segment = place }) → AreFoundTo granted script n (rule_number r) place findings → AreFoundTo granted script n (rule_number r) (place + 1) (findings ++ record { step = n; rule = r; segment = place } ∷ [])
+  pub found_push : (findings : List Finding)
+      → IsReal granted script (record { step = n; rule = r; segment = place })
+      → AreFoundTo granted script n (rule_number r) place findings
+      → AreFoundTo granted script n (rule_number r) (place + 1)
+      (findings ++ record { step = n; rule = r; segment = place } ∷ [])
   found_push findings real a =
       let g : Finding = record { step = n; rule = r; segment = place } in
       record {
@@ -98,14 +114,19 @@ module _ (granted : Granted) (script : ScriptValue) (n place : ℕ) (r : Rule) w
 -- ---- one rule more, one step more
 
 module _ (granted : Granted) (script : ScriptValue) where
-  moved : (n r p m q k : ℕ) (findings : List Finding) → ((f : Finding) → IsReal granted script f → IsEarlier n r p f → IsEarlier m q k f) → ((f : Finding) → IsReal granted script f → IsEarlier m q k f → IsEarlier n r p f) → AreFoundTo granted script n r p findings → AreFoundTo granted script m q k findings
+  moved : (n r p m q k : ℕ) (findings : List Finding)
+      → ((f : Finding) → IsReal granted script f → IsEarlier n r p f → IsEarlier m q k f)
+      → ((f : Finding) → IsReal granted script f → IsEarlier m q k f → IsEarlier n r p f)
+      → AreFoundTo granted script n r p findings → AreFoundTo granted script m q k findings
   moved n r p m q k findings to from a = record {
     exactly = λ f. (λ has. let s = (a.exactly f).0 has in (to f s.1 s.0, s.1), λ s. (a.exactly f).1 (from f s.1 s.0, s.1));
     in_order = a.in_order;
   }
 
   -- each real finding of the rule stands within the places
-  pub found_rule : (n r places : ℕ) (findings : List Finding) → ((f : Finding) → f.step ≡ n → IsReal granted script f → f.segment < places) → AreFoundTo granted script n r places findings → AreFoundTo granted script n (r + 1) 0 findings
+  pub found_rule : (n r places : ℕ) (findings : List Finding)
+      → ((f : Finding) → f.step ≡ n → IsReal granted script f → f.segment < places)
+      → AreFoundTo granted script n r places findings → AreFoundTo granted script n (r + 1) 0 findings
   found_rule n r places findings few a = moved n r places n (r + 1) 0 findings to from a
     where
       to : (f : Finding) → IsReal granted script f → IsEarlier n r places f → IsEarlier n (r + 1) 0 f
@@ -123,14 +144,17 @@ module _ (granted : Granted) (script : ScriptValue) where
           ]
 
   -- all rules of the step were looked at
-  pub found_step : (n : ℕ) (findings : List Finding) → AreFoundTo granted script n (length ALL + 1) 0 findings → AreFoundTo granted script (n + 1) 1 0 findings
+  pub found_step : (n : ℕ) (findings : List Finding) → AreFoundTo granted script n (length ALL + 1) 0 findings
+      → AreFoundTo granted script (n + 1) 1 0 findings
   found_step n findings a = moved n (length ALL + 1) 0 (n + 1) 1 0 findings to from a
     where
-      to : (f : Finding) → IsReal granted script f → IsEarlier n (length ALL + 1) 0 f → IsEarlier (n + 1) 1 0 f
+      to : (f : Finding) → IsReal granted script f → IsEarlier n (length ALL + 1) 0 f
+          → IsEarlier (n + 1) 1 0 f
       to f real (inl less) = inl (omega (arith, less))
       to f real (inr (same, rest)) = inl (omega (arith, same))
 
-      from : (f : Finding) → IsReal granted script f → IsEarlier (n + 1) 1 0 f → IsEarlier n (length ALL + 1) 0 f
+      from : (f : Finding) → IsReal granted script f → IsEarlier (n + 1) 1 0 f
+          → IsEarlier n (length ALL + 1) 0 f
       from f real (inl less) =
           elim (cases_order f.step n) [
             | inl at ↦ inr (at, inl (let high = (number_within f.rule).1 in omega (arith, high)))
@@ -140,7 +164,9 @@ module _ (granted : Granted) (script : ScriptValue) where
       from f real (inr (same, inr (rule, less))) = absurd (omega (arith, less))
 
   -- nothing of the step is real
-  pub found_none : (n : ℕ) (findings : List Finding) → ((f : Finding) → f.step ≡ n → IsReal granted script f → ⊥) → AreFoundTo granted script n 1 0 findings → AreFoundTo granted script (n + 1) 1 0 findings
+  pub found_none : (n : ℕ) (findings : List Finding)
+      → ((f : Finding) → f.step ≡ n → IsReal granted script f → ⊥) → AreFoundTo granted script n 1 0 findings
+      → AreFoundTo granted script (n + 1) 1 0 findings
   found_none n findings none a = moved n 1 0 (n + 1) 1 0 findings to from a
     where
       to : (f : Finding) → IsReal granted script f → IsEarlier n 1 0 f → IsEarlier (n + 1) 1 0 f
@@ -157,7 +183,8 @@ module _ (granted : Granted) (script : ScriptValue) where
       from f real (inr (same, inr (rule, less))) = absurd (omega (arith, less))
 
   -- before the first step
-  pub found_first : ((f : Finding) → IsReal granted script f → 1 ≤ f.step) → AreFoundTo granted script 1 1 0 []
+  pub found_first : ((f : Finding) → IsReal granted script f → 1 ≤ f.step)
+      → AreFoundTo granted script 1 1 0 []
   found_first some = record {
     exactly = λ f. (λ has. absurd (let lt = has.1 in omega (arith, lt)), λ s. absurd (early f s.1 s.0));
     in_order = λ i j d less lt. absurd (omega (arith, lt));
@@ -169,7 +196,9 @@ module _ (granted : Granted) (script : ScriptValue) where
       early f real (inr (same, inr (rule, less))) = omega (arith, less)
 
   -- behind the last step
-  pub found_all : (count : ℕ) (findings : List Finding) → ((f : Finding) → IsReal granted script f → f.step ≤ count) → AreFoundTo granted script (count + 1) 1 0 findings → AreFindings granted script findings
+  pub found_all : (count : ℕ) (findings : List Finding)
+      → ((f : Finding) → IsReal granted script f → f.step ≤ count)
+      → AreFoundTo granted script (count + 1) 1 0 findings → AreFindings granted script findings
   found_all count findings most a = record {
     exactly = λ f. (λ has. ((a.exactly f).0 has).1, λ real. (a.exactly f).1 (inl (let high = most f real in omega (arith, high)), real));
     in_order = a.in_order;

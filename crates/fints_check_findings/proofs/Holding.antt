@@ -33,26 +33,31 @@ push_here [] y (suc k) h = absurd (omega (arith, h))
 push_here (x ∷ xs) y zero h = absurd (omega (arith, h))
 push_here (x ∷ xs) y (suc k) h = push_here xs y k (omega (arith, h))
 
-push_old : {X : Type 0} (xs : List X) (y : X) (k : ℕ) (x : X) → slice_get xs k ≡ Some x → slice_get (xs ++ y ∷ []) k ≡ Some x
+push_old : {X : Type 0} (xs : List X) (y : X) (k : ℕ) (x : X) → slice_get xs k ≡ Some x
+    → slice_get (xs ++ y ∷ []) k ≡ Some x
 push_old [] y k x h = absurd cc
 push_old (z ∷ xs) y zero x h = h
 push_old (z ∷ xs) y (suc k) x h = push_old xs y k x h
 
-push_cases : {X : Type 0} (xs : List X) (y : X) (k : ℕ) (x : X) → slice_get (xs ++ y ∷ []) k ≡ Some x → (slice_get xs k ≡ Some x) ⊎ ((k ≡ length xs) × (y ≡ x))
+push_cases : {X : Type 0} (xs : List X) (y : X) (k : ℕ) (x : X) → slice_get (xs ++ y ∷ []) k ≡ Some x
+    → (slice_get xs k ≡ Some x) ⊎ ((k ≡ length xs) × (y ≡ x))
 push_cases [] y zero x h = inr (refl, same_Some y x h)
 push_cases [] y (suc k) x h = absurd cc
 push_cases (z ∷ xs) y zero x h = inl h
 push_cases (z ∷ xs) y (suc k) x h = elim (push_cases xs y k x h) [ inl old ↦ inl old | inr new ↦ inr (ap suc new.0, new.1) ]
 
-numbered_here : {X : Type 0} (xs : List X) (y : X) (n : ℕ) → n ≡ length xs + 1 → numbered (xs ++ y ∷ []) n ≡ Some y
+numbered_here : {X : Type 0} (xs : List X) (y : X) (n : ℕ) → n ≡ length xs + 1
+    → numbered (xs ++ y ∷ []) n ≡ Some y
 numbered_here xs y zero h = absurd (omega (arith, h))
 numbered_here xs y (suc k) h = push_here xs y k (omega (arith, h))
 
-numbered_old : {X : Type 0} (xs : List X) (y : X) (n : ℕ) (x : X) → numbered xs n ≡ Some x → numbered (xs ++ y ∷ []) n ≡ Some x
+numbered_old : {X : Type 0} (xs : List X) (y : X) (n : ℕ) (x : X) → numbered xs n ≡ Some x
+    → numbered (xs ++ y ∷ []) n ≡ Some x
 numbered_old xs y zero x h = h
 numbered_old xs y (suc k) x h = push_old xs y k x h
 
-numbered_cases : {X : Type 0} (xs : List X) (y : X) (n : ℕ) (x : X) → numbered (xs ++ y ∷ []) n ≡ Some x → (numbered xs n ≡ Some x) ⊎ ((n ≡ length xs + 1) × (y ≡ x))
+numbered_cases : {X : Type 0} (xs : List X) (y : X) (n : ℕ) (x : X) → numbered (xs ++ y ∷ []) n ≡ Some x
+    → (numbered xs n ≡ Some x) ⊎ ((n ≡ length xs + 1) × (y ≡ x))
 numbered_cases xs y zero x h = absurd cc
 numbered_cases xs y (suc k) x h = elim (push_cases xs y k x h) [ inl old ↦ inl old | inr new ↦ inr (omega (arith, new.0), new.1) ]
 
@@ -61,7 +66,8 @@ none_in_nil zero e h = cc
 none_in_nil (suc k) e h = cc
 
 -- what an index reads
-pub read_at : (xs : List (Option ℕ)) (n : ℕ) (x : Option ℕ) → 1 ≤ n → n ≤ length xs → x ≡ get_or xs (n - 1) x → numbered xs n ≡ Some x
+pub read_at : (xs : List (Option ℕ)) (n : ℕ) (x : Option ℕ) → 1 ≤ n → n ≤ length xs → x ≡ get_or xs (n - 1) x
+    → numbered xs n ≡ Some x
 read_at xs zero x low high h = absurd (omega arith)
 read_at xs (suc k) x low high h =
     let same : suc k - 1 ≡ k = omega arith in
@@ -73,7 +79,9 @@ read_at xs (suc k) x low high h =
 pub marks_none : (steps : List StepValue) → AreSubmittingTo steps 0 []
 marks_none steps = record { long = refl; each = λ t step low at. let within = numbered_within steps t step at in let some = within.0 in absurd (omega arith) }
 
-pub marks_more : (steps : List StepValue) (i : ℕ) (marks : List Bool) (step : StepValue) (mark : Bool) → numbered steps (i + 1) ≡ Some step → mark ≡ submits step → AreSubmittingTo steps i marks → AreSubmittingTo steps (i + 1) (marks ++ mark ∷ [])
+pub marks_more : (steps : List StepValue) (i : ℕ) (marks : List Bool) (step : StepValue) (mark : Bool)
+    → numbered steps (i + 1) ≡ Some step → mark ≡ submits step → AreSubmittingTo steps i marks
+    → AreSubmittingTo steps (i + 1) (marks ++ mark ∷ [])
 marks_more steps i marks step mark at is m = record {
   long = length_push marks mark ∙ ap (λ (n : ℕ). n + 1) m.long;
   each = λ t other low there. elim (cases_lt i t) [
@@ -87,10 +95,13 @@ marks_more steps i marks step mark at is m = record {
 
 -- ---- what is kept beside each step
 
-pub record HoldersFrom (steps : List StepValue) (behind : List (Option ℕ)) (i : ℕ) (holders : List (Option ℕ)) : Type 0 where
+pub record HoldersFrom (steps : List StepValue) (behind : List (Option ℕ)) (i : ℕ) (holders : List (Option ℕ))
+    : Type 0 where
   pub long : length holders ≡ i
-  pub each : (s t : ℕ) → Has holders s t → Has behind s t × ((to : StepValue) × (numbered steps s ≡ Some to) × (releases to ≡ false))
-  pub all : (s u : ℕ) (to : StepValue) → s ≤ i → Has behind s u → numbered steps s ≡ Some to → releases to ≡ false → Has holders s u
+  pub each : (s t : ℕ) → Has holders s t
+      → Has behind s t × ((to : StepValue) × (numbered steps s ≡ Some to) × (releases to ≡ false))
+  pub all : (s u : ℕ) (to : StepValue) → s ≤ i → Has behind s u → numbered steps s ≡ Some to
+      → releases to ≡ false → Has holders s u
 
 pub from_none : (steps : List StepValue) (behind : List (Option ℕ)) → HoldersFrom steps behind 0 []
 from_none steps behind = record {
@@ -99,15 +110,19 @@ from_none steps behind = record {
   all = λ s u to low has there. let within = numbered_within steps s to there in let some = within.0 in absurd (omega arith);
 }
 
-chosen : (b : Bool) (kept cell : Option ℕ) (t : ℕ) → cell ≡ cond b None kept → cell ≡ Some t → (b ≡ false) × (kept ≡ Some t)
+chosen : (b : Bool) (kept cell : Option ℕ) (t : ℕ) → cell ≡ cond b None kept → cell ≡ Some t
+    → (b ≡ false) × (kept ≡ Some t)
 chosen true kept cell t is some = let clash : ◌≡◌ {A = Option ℕ} None (Some t) = sym is ∙ some in absurd cc
 chosen false kept cell t is some = (refl, sym is ∙ some)
 
-taken : (b : Bool) (kept cell : Option ℕ) (u : ℕ) → cell ≡ cond b None kept → b ≡ false → kept ≡ Some u → cell ≡ Some u
+taken : (b : Bool) (kept cell : Option ℕ) (u : ℕ) → cell ≡ cond b None kept → b ≡ false → kept ≡ Some u
+    → cell ≡ Some u
 taken true kept cell u is free some = let clash : true ≡ false = free in absurd cc
 taken false kept cell u is free some = is ∙ some
 
-pub from_more : (steps : List StepValue) (behind : List (Option ℕ)) (i : ℕ) (kept cell : Option ℕ) (to : StepValue) (holders : List (Option ℕ)) → numbered steps (i + 1) ≡ Some to → numbered behind (i + 1) ≡ Some kept → cell ≡ cond (releases to) None kept
+pub from_more : (steps : List StepValue) (behind : List (Option ℕ)) (i : ℕ) (kept cell : Option ℕ)
+    (to : StepValue) (holders : List (Option ℕ)) → numbered steps (i + 1) ≡ Some to
+    → numbered behind (i + 1) ≡ Some kept → cell ≡ cond (releases to) None kept
     → HoldersFrom steps behind i holders → HoldersFrom steps behind (i + 1) (holders ++ cell ∷ [])
 from_more steps behind i kept cell to holders at here is h = record {
   long = length_push holders cell ∙ ap (λ (n : ℕ). n + 1) h.long;
@@ -124,11 +139,17 @@ from_more steps behind i kept cell to holders at here is h = record {
         let same : s ≡ i + 1 = omega (arith, last, low) in
         let is_to : x ≡ to = same_Some x to (sym (subst (λ (n : ℕ). numbered steps n ≡ Some x) same there) ∙ at) in
         let some : kept ≡ Some u = same_Some kept (Some u) (sym here ∙ subst (λ (n : ℕ). Has behind n u) same has) in
-        numbered_here holders cell s (omega (arith, same, h.long)) ∙ ap (λ (y : Option ℕ). Some y) (taken (releases to) kept cell u is (subst (λ (y : StepValue). releases y ≡ false) is_to free) some)
+        numbered_here holders cell s (omega (arith, same, h.long))
+        ∙ ap (λ (y : Option ℕ). Some y)
+        (taken (releases to) kept cell u is (subst (λ (y : StepValue). releases y ≡ false) is_to free)
+        some)
   ];
 }
 
-pub holders_from : (steps : List StepValue) (numbers : List (Option ℕ)) (marks : List Bool) (behind holders : List (Option ℕ)) → AreSubmittingTo steps (length steps) marks → AreBehind steps numbers marks RELEASE behind → HoldersFrom steps behind (length steps) holders → AreHolders steps numbers holders
+pub holders_from : (steps : List StepValue) (numbers : List (Option ℕ)) (marks : List Bool)
+    (behind holders : List (Option ℕ)) → AreSubmittingTo steps (length steps) marks
+    → AreBehind steps numbers marks RELEASE behind → HoldersFrom steps behind (length steps) holders
+    → AreHolders steps numbers holders
 holders_from steps numbers marks behind holders m b h = record {
   long = h.long;
   each = λ s t has.
@@ -146,41 +167,62 @@ holders_from steps numbers marks behind holders m b h = record {
       );
   all = λ s t number has held.
       let told = m.each t held.step (numbered_within steps t held.step held.at).1 held.at in
-      let u = b.some t s (record { step = held.step; at = held.at; number = number; has = has; marked = told ∙ ap (λ (x : Bool). Some x) held.submitted; carries = (held.branch, held.is.carried) }) in
+      let u =
+      b.some t s
+      (record {
+        step = held.step;
+        at = held.at;
+        number = number;
+        has = has;
+        marked = told ∙ ap (λ (x : Bool). Some x) held.submitted;
+        carries = (held.branch, held.is.carried);
+      }) in
       (u.0, h.all s u.0 held.is.to (numbered_within steps s held.is.to held.is.there).1 u.1 held.is.there held.is.unreleased);
 }
 
 -- ---- where branches lead
 
-pub target_holds : (P : Target → Type 0) (branches : List Branch) (otherwise : Target) (b : ℕ) → All (λ (branch : Branch). P branch.to) branches → P otherwise → P (option_map_or (λ (branch : Branch). branch.to) (slice_get branches b) otherwise)
+pub target_holds : (P : Target → Type 0) (branches : List Branch) (otherwise : Target) (b : ℕ)
+    → All (λ (branch : Branch). P branch.to) branches → P otherwise
+    → P (option_map_or (λ (branch : Branch). branch.to) (slice_get branches b) otherwise)
 target_holds P [] otherwise b each o = o
 target_holds P (x ∷ xs) otherwise zero each o = All-head (λ (branch : Branch). P branch.to) x xs each
 target_holds P (x ∷ xs) otherwise (suc b) each o = target_holds P xs otherwise b (All-tail (λ (branch : Branch). P branch.to) x xs each) o
 
-goes_within : (count t s : ℕ) (step : StepValue) (target : Target) → 1 ≤ t → t ≤ count → IsOnward count t target → GoesTo step t target s → (1 ≤ s) × (s ≤ count)
+goes_within : (count t s : ℕ) (step : StepValue) (target : Target) → 1 ≤ t → t ≤ count
+    → IsOnward count t target → GoesTo step t target s → (1 ≤ s) × (s ≤ count)
 goes_within count t s step (targets.Step n) low high on goes = (omega (arith, on.0, goes), omega (arith, on.1, goes))
 goes_within count t s step targets.Again low high on goes = (omega (arith, goes.0, low), omega (arith, goes.0, high))
 goes_within count t s step targets.Stop low high on goes = absurd goes
 
 -- a branch of a read script leads to a step that is there
-pub follower_within : (script : ScriptValue) (t branch s : ℕ) (step : StepValue) → IsSound script → numbered script.steps t ≡ Some step → GoesTo step t (target_of step.branches step.otherwise branch) s → (1 ≤ s) × (s ≤ length script.steps)
+pub follower_within : (script : ScriptValue) (t branch s : ℕ) (step : StepValue) → IsSound script
+    → numbered script.steps t ≡ Some step → GoesTo step t (target_of step.branches step.otherwise branch) s
+    → (1 ≤ s) × (s ≤ length script.steps)
 follower_within script t branch s step sound at goes =
     let within = numbered_within script.steps t step at in
     let on = sound.onward t step at in
-    goes_within (length script.steps) t s step (target_of step.branches step.otherwise branch) within.0 within.1 (target_holds (IsOnward (length script.steps) t) step.branches step.otherwise (branch - 1) on.branches on.otherwise) goes
+    goes_within (length script.steps) t s step (target_of step.branches step.otherwise branch) within.0
+    within.1
+    (target_holds (IsOnward (length script.steps) t) step.branches step.otherwise (branch - 1) on.branches
+    on.otherwise)
+    goes
 
-pub target_once : (t s k : ℕ) (step : StepValue) (target : Target) → GoesTo step t target s → GoesTo step t target k → k ≡ s
+pub target_once : (t s k : ℕ) (step : StepValue) (target : Target) → GoesTo step t target s
+    → GoesTo step t target k → k ≡ s
 target_once t s k step (targets.Step n) a b = sym b ∙ a
 target_once t s k step targets.Again a b = b.0 ∙ sym a.0
 target_once t s k step targets.Stop a b = absurd a
 
 -- one step alone
-pub follows_once : (steps : List StepValue) (t b s k : ℕ) (step : StepValue) → IsUnreleasedAt steps t step b s → IsUnreleasedAt steps t step b k → k ≡ s
+pub follows_once : (steps : List StepValue) (t b s k : ℕ) (step : StepValue) → IsUnreleasedAt steps t step b s
+    → IsUnreleasedAt steps t step b k → k ≡ s
 follows_once steps t b s k step a c = target_once t s k step (target_of step.branches step.otherwise b) a.carried.goes c.carried.goes
 
 -- ---- what the table tells
 
-module _ (granted : Granted) (script : ScriptValue) (numbers holders : List (Option ℕ)) (greatest : AreGreatest script.steps numbers) (are : AreHolders script.steps numbers holders)
+module _ (granted : Granted) (script : ScriptValue) (numbers holders : List (Option ℕ))
+    (greatest : AreGreatest script.steps numbers) (are : AreHolders script.steps numbers holders)
     (left : (s : ℕ) → IsReal granted script (release_of s) → (v : Visit) × Arrives script.steps v × IsUnreleased script v.step s)
     (same : (t s : ℕ) → IsHeld script.steps t s ↔ IsUnreleased script t s) where
   -- beside a step at which P11 is real stands one that runs send
@@ -190,13 +232,20 @@ module _ (granted : Granted) (script : ScriptValue) (numbers holders : List (Opt
       let most = greatest.most l.0 l.1 in
       are.all s l.0.step most.0 most.1 ((same l.0.step s).1 l.2)
 
-  holder_real : ((v : Visit) (s : ℕ) → Arrives script.steps v → IsUnreleased script v.step s → IsReal granted script (release_of s)) → (s t : ℕ) → Has holders s t → IsReal granted script (release_of s)
+  holder_real :
+      ((v : Visit) (s : ℕ) → Arrives script.steps v → IsUnreleased script v.step s
+      → IsReal granted script (release_of s))
+      → (s t : ℕ) → Has holders s t → IsReal granted script (release_of s)
   holder_real law s t has =
       let h = are.each s t has in
       let way = greatest.attained t h.0.0 h.0.1 in
       law way.0 s way.1 (subst (λ (k : ℕ). IsUnreleased script k s) (sym way.2) ((same t s).0 h.1))
 
-  pub cell_tells : ((v : Visit) (s : ℕ) → Arrives script.steps v → IsUnreleased script v.step s → IsReal granted script (release_of s)) → (s : ℕ) (cell : Option ℕ) → numbered holders s ≡ Some cell → IsTrue (is_some cell) ↔ IsReal granted script (release_of s)
+  pub cell_tells :
+      ((v : Visit) (s : ℕ) → Arrives script.steps v → IsUnreleased script v.step s
+      → IsReal granted script (release_of s))
+      → (s : ℕ) (cell : Option ℕ) → numbered holders s ≡ Some cell → IsTrue (is_some cell)
+      ↔ IsReal granted script (release_of s)
   cell_tells law s None at = (
     λ t. absurd (no_match t),
     λ real.

@@ -15,10 +15,12 @@ slice_there [] i h = absurd (omega (arith, h))
 slice_there (x ∷ xs) zero h = (x, refl)
 slice_there (x ∷ xs) (suc i) h = slice_there xs i (omega (arith, h))
 
-pub there_of : {X : Type 0} (xs : List X) (i : ℕ) (x : X) → i < length xs → get_or xs i x ≡ x → slice_get xs i ≡ Some x
+pub there_of : {X : Type 0} (xs : List X) (i : ℕ) (x : X) → i < length xs → get_or xs i x ≡ x
+    → slice_get xs i ≡ Some x
 there_of xs i x lt at = slice_get-get_or xs i x lt ∙ ap (λ y. Some y) at
 
-pub any_there : {X : Type 0} (P : X → Type 0) (xs : List X) (i : ℕ) (x : X) → slice_get xs i ≡ Some x → P x → Any P xs
+pub any_there : {X : Type 0} (P : X → Type 0) (xs : List X) (i : ℕ) (x : X) → slice_get xs i ≡ Some x → P x
+    → Any P xs
 any_there P [] i x h p = absurd cc
 any_there P (y ∷ ys) zero x h p = let same : y ≡ x = same_Some y x h in (0, x, omega arith, same, p)
 any_there P (y ∷ ys) (suc i) x h p = let r = any_there P ys i x h p in (suc r.0, r.1, omega (arith, r.2), r.3, r.4)
@@ -28,7 +30,8 @@ set_here xs i x low =
     let within : i < length (set xs i x) = subst (λ (n : ℕ). i < n) (sym (length-set xs i x)) low in
     slice_get-get_or (set xs i x) i x within ∙ ap (λ y. Some y) (get_or-set_same xs i x x low)
 
-pub set_elsewhere : {X : Type 0} (xs : List X) (i k : ℕ) (x : X) → k ≢ i → slice_get (set xs i x) k ≡ slice_get xs k
+pub set_elsewhere : {X : Type 0} (xs : List X) (i k : ℕ) (x : X) → k ≢ i
+    → slice_get (set xs i x) k ≡ slice_get xs k
 set_elsewhere xs i k x other =
     elim (cases_lt k (length xs)) [
       | inl within ↦

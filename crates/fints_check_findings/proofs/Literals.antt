@@ -27,14 +27,19 @@ first_is (e ∷ es) = refl
 pub two_is : (t : Template) → element_at t 2 ≡ element_two t
 two_is t = first_is t.elements
 
-literal_values : (F : FillingValue) (items : List TemplateItem) → list_all is_literal items ≡ true → map item_value (filled_element F items) ≡ map literal_value items
+literal_values : (F : FillingValue) (items : List TemplateItem) → list_all is_literal items ≡ true
+    → map item_value (filled_element F items) ≡ map literal_value items
 literal_values F [] h = refl
 literal_values F (Literal x ∷ items) h = ap (λ (vs : List (List ℕ)). item_value x ∷ vs) (literal_values F items h)
 literal_values F (Dialog ∷ items) h = absurd cc
 literal_values F (Field f ∷ items) h = absurd cc
 
-pub literal_two : ElementsAreFilled → (F : FillingValue) (n : ℕ) (t : Template) → list_all is_literal (element_two t) ≡ true → values_at (filled_segment F n t) 2 ≡ literals t
-literal_two filled F n t h = filled F n 2 t ∙ (ap (λ (items : List TemplateItem). map item_value (filled_element F items)) (two_is t) ∙ literal_values F (element_two t) h)
+pub literal_two : ElementsAreFilled → (F : FillingValue) (n : ℕ) (t : Template)
+    → list_all is_literal (element_two t) ≡ true → values_at (filled_segment F n t) 2 ≡ literals t
+literal_two filled F n t h =
+    filled F n 2 t
+    ∙ (ap (λ (items : List TemplateItem). map item_value (filled_element F items)) (two_is t)
+    ∙ literal_values F (element_two t) h)
 
 -- ---- processes
 
@@ -43,18 +48,26 @@ process_case true b c h = h refl
 process_case false b c h = refl
 
 -- the literal process of an HKTAN stands in its segment
-process_is : ElementsAreFilled → (process : List ℕ) (F : FillingValue) (n : ℕ) (t : Template) (fields : List NamedField) (orders : List OrderRow) → IsClosedTemplate fields orders t → segment_process process (filled_segment F n t) ≡ has_process process t
+process_is : ElementsAreFilled
+    → (process : List ℕ) (F : FillingValue) (n : ℕ) (t : Template) (fields : List NamedField)
+    (orders : List OrderRow)
+    → IsClosedTemplate fields orders t
+    → segment_process process (filled_segment F n t) ≡ has_process process t
 process_is filled process F n t fields orders closed =
     process_case (is_tan_order t.kind) (bytes_eq (get_or (values_at (filled_segment F n t) 2) 0 []) process) (bytes_eq (get_or (literals t) 0 []) process)
     (λ tan. ap (λ (vs : List (List ℕ)). bytes_eq (get_or vs 0 []) process) (literal_two filled F n t (closed.process tan)))
 
-pub processes_are : ElementsAreFilled → (process : List ℕ) (F : FillingValue) (fields : List NamedField) (orders : List OrderRow) (n : ℕ) (ts : List Template) → ((i : ℕ) (t : Template) → slice_get ts i ≡ Some t → IsClosedTemplate fields orders t)
+pub processes_are : ElementsAreFilled
+    → (process : List ℕ) (F : FillingValue) (fields : List NamedField) (orders : List OrderRow) (n : ℕ)
+    (ts : List Template)
+    → ((i : ℕ) (t : Template) → slice_get ts i ≡ Some t → IsClosedTemplate fields orders t)
     → list_any (segment_process process) (filled_segments F n ts) ≡ list_any (has_process process) ts
 processes_are filled process F fields orders n [] closed = refl
 processes_are filled process F fields orders n (t ∷ ts) closed =
     ap (λ (b : Bool). b || list_any (segment_process process) (filled_segments F (n + 1) ts)) (process_is filled process F n t fields orders (closed 0 t refl))
     ∙ ap (λ (b : Bool). has_process process t || b) (processes_are filled process F fields orders (n + 1) ts (λ i u at. closed (suc i) u at))
 
-pub ends_are : (F : FillingValue) (n : ℕ) (ts : List Template) → list_any segment_ends (filled_segments F n ts) ≡ list_any is_end ts
+pub ends_are : (F : FillingValue) (n : ℕ) (ts : List Template)
+    → list_any segment_ends (filled_segments F n ts) ≡ list_any is_end ts
 ends_are F n [] = refl
 ends_are F n (t ∷ ts) = ap (λ (b : Bool). is_end t || b) (ends_are F (n + 1) ts)

@@ -28,37 +28,50 @@ use Rattle.fints_wire.proofs.LawLemmas.{extremes_are_admitted_longest, messages_
 use Rattle.fints_rules_messages.proofs.LawLemmas.{one_message}
 
 -- no choice makes a message longer than the longest values
-pub longest_are_longest : (script : ScriptValue) → IsSound script → (step : StepValue) (values : List NamedValue) (lower number : ℕ) → IsSoundStep script step → Admits script.fields values → 1 ≤ lower → lower ≤ number → number ≤ MAX_NUMBER
-    → length (message_bytes script step lower values) ≤ length (message_bytes script step number (longest_choice script.fields))
-longest_are_longest script sound step values lower number sound_step admits low high small = none_is_longer_most script step values lower number sound sound_step admits low high small
+pub longest_are_longest : (script : ScriptValue) → IsSound script
+    → (step : StepValue) (values : List NamedValue) (lower number : ℕ) → IsSoundStep script step
+    → Admits script.fields values → 1 ≤ lower → lower ≤ number → number ≤ MAX_NUMBER
+    → length (message_bytes script step lower values) ≤ length
+    (message_bytes script step number (longest_choice script.fields))
+longest_are_longest script sound step values lower number sound_step admits low high small =
+    none_is_longer_most script step values lower number sound sound_step admits low high small
 
 -- a message of the step that a run sends last
-pub record Comes (script : ScriptValue) (step : StepValue) (number : ℕ) (m : Sent) (values : List NamedValue) : Type 0 where
+pub record Comes (script : ScriptValue) (step : StepValue) (number : ℕ) (m : Sent) (values : List NamedValue)
+    : Type 0 where
   pub low : 1 ≤ m.number
   pub high : m.number ≤ number
   pub bytes : m.bytes ≡ message_bytes script step m.number values
   pub read : IsMessage (message_bytes script step m.number values) (message_view script step m.number values)
 
-pub sends_last : (script : ScriptValue) (values : List NamedValue) (answers : List (List ℕ)) (m : Sent) → EndsIn script values answers m → SendsLast script values m
+pub sends_last : (script : ScriptValue) (values : List NamedValue) (answers : List (List ℕ)) (m : Sent)
+    → EndsIn script values answers m → SendsLast script values m
 sends_last script values answers m e = record { answers = answers; each = e.each; sent = e.sent; run = e.run; last = e.last }
 
 -- what is broken by itself is broken behind anything
-pub itself : (granted : Granted) (before : Before) (m : Sent) (r : Rule) (place : ℕ) → BytesBreak granted m.bytes r place → BreaksBehind granted before m r place
+pub itself : (granted : Granted) (before : Before) (m : Sent) (r : Rule) (place : ℕ)
+    → BytesBreak granted m.bytes r place → BreaksBehind granted before m r place
 itself granted at_first m r place b = b
 itself granted (behind x codes) m r place b = inl b
 
 -- a rule other than P11 is broken by itself
-pub by_itself : (granted : Granted) (before : Before) (m : Sent) (r : Rule) (place : ℕ) → (r ≡ Release → ⊥) → BreaksBehind granted before m r place → BytesBreak granted m.bytes r place
+pub by_itself : (granted : Granted) (before : Before) (m : Sent) (r : Rule) (place : ℕ) → (r ≡ Release → ⊥)
+    → BreaksBehind granted before m r place → BytesBreak granted m.bytes r place
 by_itself granted at_first m r place other b = b
 by_itself granted (behind x codes) m r place other (inl b) = b
 by_itself granted (behind x codes) m r place other (inr h) = absurd (other h.0)
 
 module _ (script : ScriptValue) (granted : Granted) (sound : IsSound script) where
-  pub read_at : (n number : ℕ) (step : StepValue) (values : List NamedValue) → numbered script.steps n ≡ Some step → 1 ≤ number → number ≤ MAX_NUMBER → Admits script.fields values → IsMessage (message_bytes script step number values) (message_view script step number values)
-  read_at n number step values at low high admits = messages_are_read script (n - 1) step number values sound (numbered_from script.steps n step at) low high admits
+  pub read_at : (n number : ℕ) (step : StepValue) (values : List NamedValue)
+      → numbered script.steps n ≡ Some step → 1 ≤ number → number ≤ MAX_NUMBER → Admits script.fields values
+      → IsMessage (message_bytes script step number values) (message_view script step number values)
+  read_at n number step values at low high admits =
+      messages_are_read script (n - 1) step number values sound (numbered_from script.steps n step at) low
+      high admits
 
   -- a greatest number is one that can be asked for
-  pub number_small : (n number : ℕ) → IsGreatestAt script.steps n number → (1 ≤ number) × (number ≤ MAX_NUMBER)
+  pub number_small : (n number : ℕ) → IsGreatestAt script.steps n number
+      → (1 ≤ number) × (number ≤ MAX_NUMBER)
   number_small n number greatest =
       let way = greatest.attained in
       let w = visits_are_within script way.0 sound way.1 in
@@ -69,7 +82,9 @@ module _ (script : ScriptValue) (granted : Granted) (sound : IsSound script) whe
       let high = w.last in
       (omega arith, omega arith)
 
-  pub comes : (n number : ℕ) (step : StepValue) (values : List NamedValue) (m : Sent) → numbered script.steps n ≡ Some step → IsGreatestAt script.steps n number → Admits script.fields values → SendsLast script values m → m.step ≡ n → Comes script step number m values
+  pub comes : (n number : ℕ) (step : StepValue) (values : List NamedValue) (m : Sent)
+      → numbered script.steps n ≡ Some step → IsGreatestAt script.steps n number → Admits script.fields values
+      → SendsLast script values m → m.step ≡ n → Comes script step number m values
   comes n number step values m at greatest admits sends of =
       let way = (last_messages script values m sound).0 sends in
       let v = way.0 in
@@ -92,8 +107,11 @@ module _ (script : ScriptValue) (granted : Granted) (sound : IsSound script) whe
       }
 
   -- what a real finding of a rule other than P11 breaks
-  pub real_breaks : (f : Finding) (number : ℕ) (step : StepValue) → (f.rule ≡ Release → ⊥) → numbered script.steps f.step ≡ Some step → IsGreatestAt script.steps f.step number → IsReal granted script f
-      → (values : List NamedValue) × (lower : ℕ) × Admits script.fields values × (1 ≤ lower) × (lower ≤ number) × Breaks granted (message_view script step lower values) f.rule f.segment
+  pub real_breaks : (f : Finding) (number : ℕ) (step : StepValue) → (f.rule ≡ Release → ⊥)
+      → numbered script.steps f.step ≡ Some step → IsGreatestAt script.steps f.step number
+      → IsReal granted script f
+      → (values : List NamedValue) × (lower : ℕ) × Admits script.fields values × (1 ≤ lower)
+      × (lower ≤ number) × Breaks granted (message_view script step lower values) f.rule f.segment
   real_breaks f number step other at greatest real =
       let s = real.shown in
       let m = s.message in
@@ -104,7 +122,9 @@ module _ (script : ScriptValue) (granted : Granted) (sound : IsSound script) whe
       (real.values, m.number, s.admitted, c.low, c.high, subst (λ (x : MessageView). Breaks granted x f.rule f.segment) same own.breaks)
 
   -- what is broken at the greatest number is real
-  pub broken_real : (f : Finding) (number : ℕ) (step : StepValue) → numbered script.steps f.step ≡ Some step → IsGreatestAt script.steps f.step number → BreaksUnder granted script step number f.rule f.segment → IsReal granted script f
+  pub broken_real : (f : Finding) (number : ℕ) (step : StepValue) → numbered script.steps f.step ≡ Some step
+      → IsGreatestAt script.steps f.step number → BreaksUnder granted script step number f.rule f.segment
+      → IsReal granted script f
   broken_real f number step at greatest b =
       let way = greatest.attained in
       let v = way.0 in
@@ -123,13 +143,17 @@ module _ (script : ScriptValue) (granted : Granted) (sound : IsSound script) whe
           of = way.2;
           breaks = itself granted (came_after at_first sends.sent sends.answers) m f.rule f.segment (record {
             message = message_view script step number b.values;
-            is = subst (λ t. IsMessage t (message_view script step number b.values)) (sym bytes) (read_at f.step number step b.values at top.0 top.1 b.admitted);
+            is =
+                subst (λ t. IsMessage t (message_view script step number b.values)) (sym bytes)
+                (read_at f.step number step b.values at top.0 top.1 b.admitted);
             breaks = b.breaks;
           });
         };
       }
 
-  pub figures_are : (n : ℕ) (step : StepValue) (figures : Reached) → numbered script.steps n ≡ Some step → IsGreatestAt script.steps n figures.number → AreFiguresAt script step figures → AreGreatestFigures script n figures
+  pub figures_are : (n : ℕ) (step : StepValue) (figures : Reached) → numbered script.steps n ≡ Some step
+      → IsGreatestAt script.steps n figures.number → AreFiguresAt script step figures
+      → AreGreatestFigures script n figures
   figures_are n step figures at greatest are =
       let way = greatest.attained in
       let v = way.0 in
@@ -139,7 +163,16 @@ module _ (script : ScriptValue) (granted : Granted) (sound : IsSound script) whe
       let sound_step = numbered_holds (IsSoundStep script) script.steps n step sound.steps at in
       record {
         message = m;
-        sent = record { values = values; admitted = extremes_are_admitted_longest script.fields; sends = (last_messages script values m sound).1 (v, way.1, record { at = step; of = there; is = refl }); of = way.2 };
+        sent =
+            record {
+              values =
+                  values;
+              admitted = extremes_are_admitted_longest script.fields;
+              sends =
+                  (last_messages script values m sound).1
+                  (v, way.1, record { at = step; of = there; is = refl });
+              of = way.2;
+            };
         number = way.3;
         size = ap (λ k. length (message_bytes script step k values)) way.3 ∙ sym are.size;
         most = λ x s.

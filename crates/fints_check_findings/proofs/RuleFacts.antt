@@ -42,27 +42,35 @@ pub record IsNoBetter (most : Bool) (f g : MessageFacts) : Type 0 where
   pub same : f ≡ with_tan g f.has_tan
   pub tan : HasTanAs most f.has_tan g.has_tan
 
-message_with_tan : (granted : Granted) (g : MessageFacts) (has : Bool) (r : Rule) → MessageBreaks granted g r → MessageBreaks granted (with_tan g has) r
+message_with_tan : (granted : Granted) (g : MessageFacts) (has : Bool) (r : Rule) → MessageBreaks granted g r
+    → MessageBreaks granted (with_tan g has) r
 message_with_tan granted g has rule.Protocol b = b
 message_with_tan granted g has _ b = b
 
-pub message_no_better : (granted : Granted) (f g : MessageFacts) (r : Rule) → IsNoBetter (wants_tan r) f g → MessageBreaks granted g r → MessageBreaks granted f r
+pub message_no_better : (granted : Granted) (f g : MessageFacts) (r : Rule) → IsNoBetter (wants_tan r) f g
+    → MessageBreaks granted g r → MessageBreaks granted f r
 message_no_better granted f g r w b = subst (λ (x : MessageFacts). MessageBreaks granted x r) (sym w.same) (message_with_tan granted g f.has_tan r b)
 
-carried : (g : MessageFacts) (has : Bool) → HasTanAs false has g.has_tan → CarriesTan (with_tan g has) → CarriesTan g
+carried : (g : MessageFacts) (has : Bool) → HasTanAs false has g.has_tan → CarriesTan (with_tan g has)
+    → CarriesTan g
 carried g has tan (inl h) = inl h
 carried g has tan (inr h) = inr (tan h)
 
 -- the rules that ask about a TAN
-segment_with_tan : (granted : Granted) (g : MessageFacts) (has : Bool) (s : SegmentFactsValue) (r : Rule) → HasTanAs (wants_tan r) has g.has_tan → SegmentBreaks granted g r s → SegmentBreaks granted (with_tan g has) r s
+segment_with_tan : (granted : Granted) (g : MessageFacts) (has : Bool) (s : SegmentFactsValue) (r : Rule)
+    → HasTanAs (wants_tan r) has g.has_tan → SegmentBreaks granted g r s
+    → SegmentBreaks granted (with_tan g has) r s
 segment_with_tan granted g has s rule.Tan tan (inl b) = inl (b.0, b.1, λ carries. b.2 (carried g has tan carries))
 segment_with_tan granted g has s rule.Tan tan (inr b) = inr (b.0, λ h. b.1 (tan h))
 segment_with_tan granted g has s rule.Procedure tan (inl b) = inl b
 segment_with_tan granted g has s rule.Procedure tan (inr (plain, listed, one, two)) = inr (plain, listed, (tan one.0, one.1), two)
 segment_with_tan granted g has s _ tan b = b
 
-pub segment_no_better : (granted : Granted) (f g : MessageFacts) (s : SegmentFactsValue) (r : Rule) → IsNoBetter (wants_tan r) f g → SegmentBreaks granted g r s → SegmentBreaks granted f r s
-segment_no_better granted f g s r w b = subst (λ (x : MessageFacts). SegmentBreaks granted x r s) (sym w.same) (segment_with_tan granted g f.has_tan s r w.tan b)
+pub segment_no_better : (granted : Granted) (f g : MessageFacts) (s : SegmentFactsValue) (r : Rule)
+    → IsNoBetter (wants_tan r) f g → SegmentBreaks granted g r s → SegmentBreaks granted f r s
+segment_no_better granted f g s r w b =
+    subst (λ (x : MessageFacts). SegmentBreaks granted x r s) (sym w.same)
+    (segment_with_tan granted g f.has_tan s r w.tan b)
 
 -- ---- items of a segment
 
@@ -71,13 +79,16 @@ names_form Nameless h = absurd (h refl)
 names_form National h = refl
 names_form International h = refl
 
-formed : (table : List OrderRow) (s : SegmentFactsValue) (who : Account) → NamesAccount table s who → names_account (form_of table s.kind s.version) ≡ true
+formed : (table : List OrderRow) (s : SegmentFactsValue) (who : Account) → NamesAccount table s who
+    → names_account (form_of table s.kind s.version) ≡ true
 formed table s who names = ap names_account names.form_is ∙ names_form names.form names.named
 
-pub items_moved : (granted : Granted) (f : MessageFacts) (t : Template) (count : ℕ) (X Y : List (List ℕ)) (r : Rule)
+pub items_moved : (granted : Granted) (f : MessageFacts) (t : Template) (count : ℕ) (X Y : List (List ℕ))
+    (r : Rule)
     → (asks_account r ≡ true → names_account (form_of granted.orders t.kind t.version) ≡ true → X ≡ Y)
     → (is_tan_order t.kind ≡ true → X ≡ Y)
-    → SegmentBreaks granted f r (template_facts t count X) → SegmentBreaks granted f r (template_facts t count Y)
+    → SegmentBreaks granted f r (template_facts t count X)
+    → SegmentBreaks granted f r (template_facts t count Y)
 items_moved granted f t count X Y rule.Signatures account process (inl b) = inl b
 items_moved granted f t count X Y rule.Signatures account process (inr (plain, (who, names, more))) =
     let same = account refl (formed granted.orders (template_facts t count X) who names) in
@@ -87,8 +98,10 @@ items_moved granted f t count X Y rule.Account account process (plain, inr (who,
     let same = account refl (formed granted.orders (template_facts t count X) who names) in
     (plain, inr (who, subst (λ (items : List (List ℕ)). NamesAccount granted.orders (template_facts t count items) who) same names, locked))
 items_moved granted f t count X Y rule.Tan account process (inl b) = inl b
-items_moved granted f t count X Y rule.Tan account process (inr ((tan, two), has)) = inr ((tan, ap (λ (items : List (List ℕ)). get_or items 0 []) (sym (process tan)) ∙ two), has)
-items_moved granted f t count X Y rule.Procedure account process (inl ((tan, four), takes, several)) = inl ((tan, ap (λ (items : List (List ℕ)). get_or items 0 []) (sym (process tan)) ∙ four), takes, several)
+items_moved granted f t count X Y rule.Tan account process (inr ((tan, two), has)) =
+    inr ((tan, ap (λ (items : List (List ℕ)). get_or items 0 []) (sym (process tan)) ∙ two), has)
+items_moved granted f t count X Y rule.Procedure account process (inl ((tan, four), takes, several)) =
+    inl ((tan, ap (λ (items : List (List ℕ)). get_or items 0 []) (sym (process tan)) ∙ four), takes, several)
 items_moved granted f t count X Y rule.Procedure account process (inr b) = inr b
 items_moved granted f t count X Y _ account process b = b
 

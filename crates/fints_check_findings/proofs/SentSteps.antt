@@ -23,9 +23,13 @@ use Rattle.fints_check_findings.proofs.Reals.{broken_real, real_breaks}
 
 -- what its message holds breaks the rule at the place, for some admitted values and at some number
 abbrev pub IsHeld : AtStepValue → Rule → ℕ → Type 0
-IsHeld s r place = (number : ℕ) × (values : List NamedValue) × Admits s.script.fields values × BreaksByContent s.granted (message_view s.script s.step number values) r place
+IsHeld s r place =
+    (number : ℕ) × (values : List NamedValue) × Admits s.script.fields values
+    × BreaksByContent s.granted (message_view s.script s.step number values) r place
 
-module _ (s : AtStepValue) (figures : Reached) (unreleased : Bool) (is : IsSentStep s figures unreleased) (at : numbered s.script.steps s.n ≡ Some s.step) (sound : IsSound s.script) (sound_step : IsSoundStep s.script s.step) where
+module _ (s : AtStepValue) (figures : Reached) (unreleased : Bool) (is : IsSentStep s figures unreleased)
+    (at : numbered s.script.steps s.n ≡ Some s.step) (sound : IsSound s.script)
+    (sound_step : IsSoundStep s.script s.step) where
   abbrev Real : Rule → ℕ → Type 0
   Real r place = IsReal s.granted s.script (record { step = s.n; rule = r; segment = place })
 
@@ -34,11 +38,23 @@ module _ (s : AtStepValue) (figures : Reached) (unreleased : Bool) (is : IsSentS
 
   pub sent_real : (r : Rule) (place : ℕ) → place ≡ 0 → BreaksSo r → Real r place
   sent_real r place zero (inl b) = broken_real s.script s.granted sound (record { step = s.n; rule = r; segment = place }) figures.number s.step at is.greatest
-      (record { values = longest_choice s.script.fields; admitted = extremes_are_admitted_longest s.script.fields; breaks = inl (zero, figures_some s.granted s.script s.step s.n figures is.figures_are at sound sound_step r b) })
+      (record {
+        values = longest_choice s.script.fields;
+        admitted = extremes_are_admitted_longest s.script.fields;
+        breaks =
+            inl (
+              zero,
+              figures_some s.granted s.script s.step s.n figures is.figures_are at sound sound_step r
+                  b,
+            );
+      })
   sent_real r place zero (inr (release, left)) = subst (λ (x : Rule). Real x place) (sym release) (subst (Real Release) (sym zero) (is.left.0 left))
 
   pub held_real : (r : Rule) (place : ℕ) → CanBreak s.granted s.script s.step r place → Real r place
-  held_real r place can = broken_real s.script s.granted sound (record { step = s.n; rule = r; segment = place }) figures.number s.step at is.greatest (record { values = can.values; admitted = can.admitted; breaks = inr (can.breaks figures.number) })
+  held_real r place can =
+      broken_real s.script s.granted sound (record { step = s.n; rule = r; segment = place }) figures.number
+      s.step at is.greatest
+      (record { values = can.values; admitted = can.admitted; breaks = inr (can.breaks figures.number) })
 
   pub real_sent : (r : Rule) (place : ℕ) → Real r place → ((place ≡ 0) × BreaksSo r) ⊎ IsHeld s r place
   real_sent r place real = elim (rule_or r Release) [
@@ -54,8 +70,15 @@ module _ (s : AtStepValue) (figures : Reached) (unreleased : Bool) (is : IsSentS
   ]
 
   -- each stands at a place of the step's message
-  pub few_places : (f : Finding) → f.step ≡ s.n → IsReal s.granted s.script f → f.segment < 2 + length s.step.signers + length s.step.templates
-  few_places f here real = elim (real_sent f.rule f.segment (subst (λ (k : ℕ). IsReal s.granted s.script (record { step = k; rule = f.rule; segment = f.segment })) here real)) [
-    | inl whole ↦ let zero = whole.0 in omega (arith, zero)
-    | inr held ↦ content_within s.granted s.script s.step held.0 held.1 f.rule f.segment held.3
-  ]
+  pub few_places : (f : Finding) → f.step ≡ s.n → IsReal s.granted s.script f
+      → f.segment < 2 + length s.step.signers + length s.step.templates
+  few_places f here real =
+      elim
+      (real_sent f.rule f.segment
+      (subst
+      (λ (k : ℕ).
+      IsReal s.granted s.script (record { step = k; rule = f.rule; segment = f.segment }))
+      here real)) [
+        | inl whole ↦ let zero = whole.0 in omega (arith, zero)
+        | inr held ↦ content_within s.granted s.script s.step held.0 held.1 f.rule f.segment held.3
+      ]

@@ -51,7 +51,8 @@ filled_flag (x ∷ xs) h = ap not (one_more_test (length xs))
 flag_filled : (v : List ℕ) → not (length v == 0) ≡ true → v ≡ [] → ⊥
 flag_filled v h e = let no_match : false ≡ true = subst (λ (x : List ℕ). not (length x == 0) ≡ true) e h in cc
 
-frame_at : (fields : List NamedField) (es : List (List TemplateItem)) → All (IsFrameElement fields) es → (i : ℕ) → All (IsInRange fields) (get_or es i []) × All (IsSingle fields) (get_or es i [])
+frame_at : (fields : List NamedField) (es : List (List TemplateItem)) → All (IsFrameElement fields) es
+    → (i : ℕ) → All (IsInRange fields) (get_or es i []) × All (IsSingle fields) (get_or es i [])
 frame_at fields es each i =
     elim (cases_lt i (length es)) [
       | inl lt ↦ let e = each i [] lt in (e.within, e.single)
@@ -89,7 +90,11 @@ module _ (script : ScriptValue) (values : List NamedValue) (number : ℕ) (sound
         may = λ e. subst AdmitsEmpty (sym at) (subst (λ (x : List ℕ). field_domain field.class x) (sym value_is ∙ e) v.chosen.1);
         is = λ shortest may. value_is ∙ (shortest f field v.value at plain v.there ∙ empty_is_shortest field.class (subst AdmitsEmpty at may));
         filled = λ h. subst AdmitsFilled (sym at) (λ none. h (value_is ∙ longest_is_empty_alone_alone field.class v.value.value v.chosen.1 none));
-        has = λ longest may e. (subst AdmitsFilled at may) (longest_is_empty_alone_empty field.class (sym (longest f field v.value at plain v.there) ∙ (sym value_is ∙ e)));
+        has =
+            λ longest may e.
+            (subst AdmitsFilled at may)
+            (longest_is_empty_alone_empty field.class
+            (sym (longest f field v.value at plain v.there) ∙ (sym value_is ∙ e)));
       }
 
   -- the value of an item, or of none
@@ -99,27 +104,38 @@ module _ (script : ScriptValue) (values : List NamedValue) (number : ℕ) (sound
     filled : (v ≡ [] → ⊥) → MayBeFilled script.fields o
     has : IsLongest script.fields values → MayBeFilled script.fields o → v ≡ [] → ⊥
 
-  value_of_item : (items : List TemplateItem) → All (IsInRange script.fields) items → All (IsSingle script.fields) items → (i : ℕ) → IsValueOf (slice_get items i) (get_or (map item_value (filled_element F items)) i [])
+  value_of_item : (items : List TemplateItem) → All (IsInRange script.fields) items
+      → All (IsSingle script.fields) items → (i : ℕ)
+      → IsValueOf (slice_get items i) (get_or (map item_value (filled_element F items)) i [])
   value_of_item [] within single i = record { may = λ e. tt; is = λ shortest may. refl; filled = λ h. h refl; has = λ longest may e. may }
   value_of_item (t ∷ ts) within single zero =
       let s = stands t (All-head (IsInRange script.fields) t ts within) (All-head (IsSingle script.fields) t ts single) in
-      subst (λ (xs : List OwnedItem). IsValueOf (Some t) (get_or (map item_value (xs ++ filled_element F ts)) zero [])) (sym s.items_are) (record { may = s.may; is = s.is; filled = s.filled; has = s.has })
+      subst
+      (λ (xs : List OwnedItem).
+      IsValueOf (Some t) (get_or (map item_value (xs ++ filled_element F ts)) zero []))
+      (sym s.items_are) (record { may = s.may; is = s.is; filled = s.filled; has = s.has })
   value_of_item (t ∷ ts) within single (suc i) =
       let s = stands t (All-head (IsInRange script.fields) t ts within) (All-head (IsSingle script.fields) t ts single) in
       subst (λ (xs : List OwnedItem). IsValueOf (slice_get ts i) (get_or (map item_value (xs ++ filled_element F ts)) (suc i) [])) (sym s.items_are)
       (value_of_item ts (All-tail (IsInRange script.fields) t ts within) (All-tail (IsSingle script.fields) t ts single) i)
 
-  tan_value : (signer : Signer) → IsSoundFrame script.fields signer.end → IsValueOf (tan_item signer) (value_at (filled_segment F 0 (end_template signer)) 4 2)
+  tan_value : (signer : Signer) → IsSoundFrame script.fields signer.end
+      → IsValueOf (tan_item signer) (value_at (filled_segment F 0 (end_template signer)) 4 2)
   tan_value signer h =
       let at = frame_at script.fields signer.end h.each 2 in
-      subst (λ (vs : List (List ℕ)). IsValueOf (tan_item signer) (get_or vs 1 [])) (sym (elements_are_filled_values F 0 4 (end_template signer))) (value_of_item (get_or signer.end 2 []) at.0 at.1 1)
+      subst (λ (vs : List (List ℕ)). IsValueOf (tan_item signer) (get_or vs 1 []))
+      (sym (elements_are_filled_values F 0 4 (end_template signer)))
+      (value_of_item (get_or signer.end 2 []) at.0 at.1 1)
 
   abbrev flag : ℕ → Bool
   flag p = has_tan (filled_segment F 0 (end_template (signer_at script.signers p)))
 
   -- ---- HNSHA of a step's signers
 
-  ends_flag : (n : ℕ) (places : List ℕ) → list_any has_tan (filled_segments F n (map end_template (map (signer_at script.signers) places))) ≡ list_any flag places
+  ends_flag : (n : ℕ) (places : List ℕ)
+      → list_any has_tan
+      (filled_segments F n (map end_template (map (signer_at script.signers) places))) ≡ list_any flag
+      places
   ends_flag n [] = refl
   ends_flag n (p ∷ ps) = ap (λ (b : Bool). flag p || b) (ends_flag (n + 1) ps)
 
@@ -145,12 +161,16 @@ module _ (script : ScriptValue) (values : List NamedValue) (number : ℕ) (sound
         let set : flag p ≡ true = filled_flag (value_at (filled_segment F 0 (end_template (signer_at script.signers p))) 4 2) (λ e. has (v.may e)) in
         ends_flag n step.signers ∙ list_any-from_Any flag step.signers (k, p, lt, at, set)
 
-    pub shortest_tan : (n : ℕ) → IsShortest script.fields values → IsTrue (Ends n) → SomeTan script.fields script.signers step.signers
+    pub shortest_tan : (n : ℕ) → IsShortest script.fields values → IsTrue (Ends n)
+        → SomeTan script.fields script.signers step.signers
     shortest_tan n shortest h =
         let (k, p, lt, at, set) = Any-from_list_any flag step.signers (sym (ends_flag n step.signers) ∙ h) in
         let s = signer_of k p lt at in
         let v = tan_value (signer_at script.signers p) s.good.end in
-        let has : AlwaysHasTan script.fields (signer_at script.signers p) = λ may. flag_filled (value_at (filled_segment F 0 (end_template (signer_at script.signers p))) 4 2) set (v.is shortest may) in
+        let has : AlwaysHasTan script.fields (signer_at script.signers p) =
+        λ may.
+        flag_filled (value_at (filled_segment F 0 (end_template (signer_at script.signers p))) 4 2)
+        set (v.is shortest may) in
         (k, p, lt, at, subst (HasTanAt script.fields) (sym s.there) has)
 
     pub may_have_tan : (n : ℕ) → IsTrue (Ends n) → MaybeTan script.fields script.signers step.signers
@@ -158,10 +178,14 @@ module _ (script : ScriptValue) (values : List NamedValue) (number : ℕ) (sound
         let (k, p, lt, at, set) = Any-from_list_any flag step.signers (sym (ends_flag n step.signers) ∙ h) in
         let s = signer_of k p lt at in
         let v = tan_value (signer_at script.signers p) s.good.end in
-        let may : MayHaveTanAt script.fields (Some (signer_at script.signers p)) = v.filled (flag_filled (value_at (filled_segment F 0 (end_template (signer_at script.signers p))) 4 2) set) in
+        let may : MayHaveTanAt script.fields (Some (signer_at script.signers p)) =
+        v.filled
+        (flag_filled (value_at (filled_segment F 0 (end_template (signer_at script.signers p))) 4 2)
+        set) in
         (k, p, lt, at, subst (MayHaveTanAt script.fields) (sym s.there) may)
 
-    pub longest_tan : (n : ℕ) → IsLongest script.fields values → MaybeTan script.fields script.signers step.signers → IsTrue (Ends n)
+    pub longest_tan : (n : ℕ) → IsLongest script.fields values
+        → MaybeTan script.fields script.signers step.signers → IsTrue (Ends n)
     longest_tan n longest (k, p, lt, at, may) =
         let s = signer_of k p lt at in
         let v = tan_value (signer_at script.signers p) s.good.end in

@@ -54,7 +54,9 @@ pub record IsSentStep (s : AtStepValue) (figures : Reached) (unreleased : Bool) 
 abbrev pub BreaksAsSent : SentStepValue → Rule → Type 0
 BreaksAsSent s r = FiguresBreak s.at.granted.rows.bank (reached_figures s.figures) r ⊎ ((r ≡ Release) × IsTrue s.unreleased)
 
--- the values are admitted, and what the step's message holds with them breaks the rule at the place, at every number; they are the extreme ones of which the rule is asked, or, for P8 and P9, have the first account that does
+-- the values are admitted, and what the step's message holds with them breaks the rule at the place, at every
+-- number; they are the extreme ones of which the rule is asked, or, for P8 and P9, have the first account
+-- that does
 pub record AreChosenAt (s : AtStepValue) (r : Rule) (place : ℕ) (values : List NamedValue) : Type 0 where
   pub admitted : Admits s.script.fields values
   pub breaks : (number : ℕ) → BreaksByContent s.granted (message_view s.script s.step number values) r place

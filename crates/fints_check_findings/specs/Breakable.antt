@@ -11,7 +11,9 @@ use Rattle.fints_wire.specs.Views.{message_view}
 
 -- what the step's message holds, for any admitted values and at any number, breaks the rule nowhere
 abbrev pub NeverBreaks : Granted → ScriptValue → StepValue → Rule → Type 0
-NeverBreaks granted script step r = (number : ℕ) (values : List NamedValue) (place : ℕ) → Admits script.fields values → BreaksByContent granted (message_view script step number values) r place → ⊥
+NeverBreaks granted script step r =
+    (number : ℕ) (values : List NamedValue) (place : ℕ) → Admits script.fields values
+    → BreaksByContent granted (message_view script step number values) r place → ⊥
 
 -- it breaks no rule
 abbrev pub IsCleanStep : Granted → ScriptValue → StepValue → Type 0

@@ -1,4 +1,5 @@
--- Which values a case has: the worst ones for a rule that a TAN breaks, and else the least ones, with at most one account set. Private contracts alone cite these words.
+-- Which values a case has: the worst ones for a rule that a TAN breaks, and else the least ones, with at most
+-- one account set. Private contracts alone cite these words.
 use Rattle.std.specs.Prelude.{ℕ, ◌≡◌, ◌<◌, ◌⊎◌, ◌+◌, Bool, true, false, List, [], ◌∷◌, length, Option, Some, None, Any, MatchOption}
 use Rattle.std.specs.List.{slice_get}
 use Rattle.fints_script_fields.specs.Fields.{field_accounts, field_shortest}
@@ -64,7 +65,8 @@ pub record HasBreaking (granted : Granted) (f : MessageFacts) (r : Rule) (t : Te
   pub account : List (List ℕ)
   pub listed : slice_get accounts place ≡ Some account
   pub breaks : SegmentBreaks granted f r (template_facts t count account)
-  pub first : (k : ℕ) (earlier : List (List ℕ)) → k < place → slice_get accounts k ≡ Some earlier → SegmentBreaks granted f r (template_facts t count earlier) → ⊥
+  pub first : (k : ℕ) (earlier : List (List ℕ)) → k < place → slice_get accounts k ≡ Some earlier
+      → SegmentBreaks granted f r (template_facts t count earlier) → ⊥
 
 -- at this place stands the first account with which the template's segment breaks the rule; none is told only where no account does
 abbrev pub IsBreakingPlace : Granted → MessageFacts → Rule → Template → ℕ → List (List (List ℕ)) → Option ℕ → Type 0
@@ -85,7 +87,8 @@ TemplateBreaksWith granted fields f r t count None = (accounts_asked fields r t 
 TemplateBreaksWith granted fields f r t count (Some s) = IsSetFor granted fields f r t count s
 
 -- the segment of this number does
-pub record BreaksWithAt (granted : Granted) (fields : List NamedField) (step : StepValue) (f : MessageFacts) (r : Rule) (number : ℕ) (choice : Option SetAccount) : Type 0 where
+pub record BreaksWithAt (granted : Granted) (fields : List NamedField) (step : StepValue) (f : MessageFacts)
+    (r : Rule) (number : ℕ) (choice : Option SetAccount) : Type 0 where
   pub i : ℕ
   pub template : Template
   pub there : slice_get step.templates i ≡ Some template
@@ -94,4 +97,6 @@ pub record BreaksWithAt (granted : Granted) (fields : List NamedField) (step : S
 
 -- the step's facts break the rule at the place with this account set, or with none
 abbrev pub BreaksWith : Granted → List NamedField → StepValue → MessageFacts → Rule → ℕ → Option SetAccount → Type 0
-BreaksWith granted fields step f r place choice = ((place ≡ 0) × MessageBreaks granted f r × (choice ≡ None)) ⊎ BreaksWithAt granted fields step f r place choice
+BreaksWith granted fields step f r place choice =
+    ((place ≡ 0) × MessageBreaks granted f r × (choice ≡ None))
+    ⊎ BreaksWithAt granted fields step f r place choice

@@ -1,4 +1,5 @@
--- What may stand in element 2 of a template's segment, and what the rules ask of it. Private contracts and, by Releases, the invariant of Report alone cite these words.
+-- What may stand in element 2 of a template's segment, and what the rules ask of it. Private contracts and,
+-- by Releases, the invariant of Report alone cite these words.
 use Rattle.std.specs.Prelude.{ℕ, Bool, true, false, ◌&&◌, if◌then◌else◌, List, [], ◌∷◌, map, get_or, slice_get, Option, Some, None}
 use Rattle.std.specs.Str.{bytes_eq}
 use Rattle.fints_syntax_segments.specs.Segment.{item_value}

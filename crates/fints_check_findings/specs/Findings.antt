@@ -28,7 +28,9 @@ abbrev pub IsPermittedBehind : Granted → Before → Sent → Type 0
 IsPermittedBehind granted at_first m = Permitted granted m.bytes
 IsPermittedBehind granted (behind b codes) m = PermittedAfter granted b.bytes codes m.bytes
 
--- the values are admitted, and with them the run of these answers ends with a message of the finding's step that, as bytes, breaks the finding's rule at its segment, by itself or behind the message before it and the answer between them
+-- the values are admitted, and with them the run of these answers ends with a message of the finding's step
+-- that, as bytes, breaks the finding's rule at its segment, by itself or behind the message before it and the
+-- answer between them
 pub record Shows (granted : Granted) (script : ScriptValue) (f : Finding) (values : List NamedValue) (answers : List (List ℕ)) : Type 0 where
   pub admitted : Admits script.fields values
   pub message : Sent
@@ -54,12 +56,15 @@ pub record AreFindings (granted : Granted) (script : ScriptValue) (findings : Li
 -- each message of each run, for all admitted values and all answers, is permitted, by itself and behind the message before it and the answer between them
 abbrev pub EachIsPermitted : Granted → ScriptValue → Type 0
 EachIsPermitted granted script =
-    (values : List NamedValue) (answers : List (List ℕ)) (sent : List Sent) → Admits script.fields values → AllByRecursion IsAnswer answers → Run script values answers sent
+    (values : List NamedValue) (answers : List (List ℕ)) (sent : List Sent) → Admits script.fields values
+    → AllByRecursion IsAnswer answers → Run script values answers sent
     → EachAfter (IsPermittedBehind granted) at_first sent answers
 
 -- what the messages of a step hold of which some run sends one breaks no rule, at any number
 abbrev pub SentStepsAreClean : Granted → ScriptValue → Type 0
-SentStepsAreClean granted script = (n : ℕ) (step : StepValue) (m : Sent) → numbered script.steps n ≡ Some step → IsSentOf script n m → IsCleanStep granted script step
+SentStepsAreClean granted script =
+    (n : ℕ) (step : StepValue) (m : Sent) → numbered script.steps n ≡ Some step → IsSentOf script n m
+    → IsCleanStep granted script step
 
 -- no step leaves an order unreleased that a step submits of which some run sends a message
 abbrev pub SentStepsAreReleased : ScriptValue → Type 0

@@ -25,14 +25,21 @@ ReleaseIsLeft =
 
 -- in a closed plan branches, heads and literals decide which orders are left unreleased
 abbrev pub HeldIsUnreleased : Type 0
-HeldIsUnreleased = (script : ScriptValue) (orders : List OrderRow) (t s : ℕ) → IsSound script → IsClosed script orders → (IsHeld script.steps t s ↔ IsUnreleased script t s)
+HeldIsUnreleased =
+    (script : ScriptValue) (orders : List OrderRow) (t s : ℕ) → IsSound script → IsClosed script orders
+    → (IsHeld script.steps t s ↔ IsUnreleased script t s)
 
 -- in a closed plan some run breaks P11 at each step that leaves an order unreleased of a step that some run sends
 abbrev pub UnreleasedIsReal : Type 0
-UnreleasedIsReal = (granted : Granted) (script : ScriptValue) (v : Visit) (s : ℕ) → IsSound script → IsClosed script granted.orders → Arrives script.steps v → IsUnreleased script v.step s → IsReal granted script (release_of s)
+UnreleasedIsReal =
+    (granted : Granted) (script : ScriptValue) (v : Visit) (s : ℕ) → IsSound script
+    → IsClosed script granted.orders → Arrives script.steps v → IsUnreleased script v.step s
+    → IsReal granted script (release_of s)
 
 -- answers that lead there show it, with any admitted values
 abbrev pub UnreleasedIsShown : Type 0
 UnreleasedIsShown =
-    (granted : Granted) (script : ScriptValue) (s : ℕ) (values : List NamedValue) (answers : List (List ℕ)) → IsSound script → IsClosed script granted.orders → Admits script.fields values → LeadsUnreleased script s answers
+    (granted : Granted) (script : ScriptValue) (s : ℕ) (values : List NamedValue) (answers : List (List ℕ))
+    → IsSound script → IsClosed script granted.orders → Admits script.fields values
+    → LeadsUnreleased script s answers
     → Shows granted script (release_of s) values answers

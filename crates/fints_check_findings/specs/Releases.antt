@@ -1,4 +1,6 @@
--- Which steps leave an order unreleased that another step submits. Steps count from 1; branches too, and the default counts as the last. Words of private contracts, proofs and the invariant of Report alone stand last, under a heading.
+-- Which steps leave an order unreleased that another step submits. Steps count from 1; branches too, and the
+-- default counts as the last. Words of private contracts, proofs and the invariant of Report alone stand
+-- last, under a heading.
 use Rattle.std.specs.Prelude.{codes, ◌≡◌, ◌||◌, ℕ, ◌≤◌, Bool, true, false, List, length, Option, Some}
 use Rattle.std.specs.List.{list_any}
 use Rattle.fints_script_cases.specs.declared.values.NamedValue.{NamedValue}

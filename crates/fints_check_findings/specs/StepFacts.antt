@@ -78,14 +78,20 @@ IsStepChoice granted fields step f r place choice = StepBreaks granted fields st
 
 -- ---- the law that joins the step's facts and its messages
 
--- where the facts break the rule some choice makes the message break it at every number, in particular the one that sets the first account with which they do; and what a choice at some number does the facts do
+-- where the facts break the rule some choice makes the message break it at every number, in particular the
+-- one that sets the first account with which they do; and what a choice at some number does the facts do
 pub record Decides (granted : Granted) (script : ScriptValue) (step : StepValue) (r : Rule) (f : MessageFacts) : Type 0 where
   pub some : (place : ℕ) → StepBreaks granted script.fields step f r place → CanBreak granted script step r place
-  pub chosen : (place : ℕ) (choice : Option SetAccount) (values : List NamedValue) → BreaksWith granted script.fields step f r place choice → IsChoice (wants_tan r) script.fields choice values
+  pub chosen : (place : ℕ) (choice : Option SetAccount) (values : List NamedValue)
+      → BreaksWith granted script.fields step f r place choice
+      → IsChoice (wants_tan r) script.fields choice values
       → Admits script.fields values × ((number : ℕ) → BreaksByContent granted (message_view script step number values) r place)
-  pub set : (place : ℕ) (s : SetAccount) (values : List NamedValue) → BreaksWith granted script.fields step f r place (Some s) → IsChoiceWith script.fields s values
+  pub set : (place : ℕ) (s : SetAccount) (values : List NamedValue)
+      → BreaksWith granted script.fields step f r place (Some s) → IsChoiceWith script.fields s values
       → (asks_account r ≡ true) × HaveFirstAccount granted script step r place values
-  pub each : (number : ℕ) (values : List NamedValue) (place : ℕ) → Admits script.fields values → BreaksByContent granted (message_view script step number values) r place → StepBreaks granted script.fields step f r place
+  pub each : (number : ℕ) (values : List NamedValue) (place : ℕ) → Admits script.fields values
+      → BreaksByContent granted (message_view script step number values) r place
+      → StepBreaks granted script.fields step f r place
 
 abbrev pub TemplatesDecide : Type 0
 TemplatesDecide =

@@ -27,10 +27,13 @@ pub record Bounded (steps : List StepValue) (numbers : List (Option ℕ)) (v : V
   pub within : IsWithin step v figure
 
 -- the first message of a step is within what covers its number
-within_first : (step : StepValue) (n number from f : ℕ) → number ≤ from → IsEnough step from f → IsWithin step (record { step = n; number = number; times = 1 }) f
+within_first : (step : StepValue) (n number from f : ℕ) → number ≤ from → IsEnough step from f
+    → IsWithin step (record { step = n; number = number; times = 1 }) f
 within_first step n number from f low covers = record { now = let h = covers.once in omega arith; later = λ again. let h = covers.often again in omega arith }
 
-enters_bounded : (steps : List StepValue) (numbers : List (Option ℕ)) (v w : Visit) (b : Bounded steps numbers v) (t : Target) → IsScript steps → AreClosed steps numbers → Leads b.step t → Enters b.step.repeat v t w → Bounded steps numbers w
+enters_bounded : (steps : List StepValue) (numbers : List (Option ℕ)) (v w : Visit)
+    (b : Bounded steps numbers v) (t : Target) → IsScript steps → AreClosed steps numbers → Leads b.step t
+    → Enters b.step.repeat v t w → Bounded steps numbers w
 enters_bounded steps numbers v w b (Step n) script closed can e =
     let forward = lead_forward steps v.step b.step (Step n) script b.at can in
     let next = numbered_at steps n (omega arith) forward.1 in
@@ -55,14 +58,16 @@ enters_bounded steps numbers v w b Again script closed can e =
     })
 enters_bounded steps numbers v w b Stop script closed can e = absurd e
 
-first_bounded : (steps : List StepValue) (numbers : List (Option ℕ)) → IsScript steps → AreClosed steps numbers → Bounded steps numbers start
+first_bounded : (steps : List StepValue) (numbers : List (Option ℕ)) → IsScript steps
+    → AreClosed steps numbers → Bounded steps numbers start
 first_bounded steps numbers script closed =
     let step = numbered_at steps 1 (omega arith) (let h = script.some in omega arith) in
     let goes = closed.first step.0 step.1 in
     record { step = step.0; at = step.1; figure = goes.0; has = goes.1; within = within_first step.0 1 1 1 goes.0 (omega arith) goes.2 }
 
 -- no run exceeds closed numbers
-pub closed_bounded : (steps : List StepValue) (numbers : List (Option ℕ)) (v : Visit) → IsScript steps → AreClosed steps numbers → Reach steps v → Bounded steps numbers v
+pub closed_bounded : (steps : List StepValue) (numbers : List (Option ℕ)) (v : Visit) → IsScript steps
+    → AreClosed steps numbers → Reach steps v → Bounded steps numbers v
 closed_bounded steps numbers _ script closed first = first_bounded steps numbers script closed
 closed_bounded steps numbers w script closed (onward {v} codes a r f) =
     let b = closed_bounded steps numbers v script closed r in
@@ -71,5 +76,7 @@ closed_bounded steps numbers w script closed (onward {v} codes a r f) =
     enters_bounded steps numbers v w b (answered b.step codes) script closed (record { codes = codes; answer = a; leads_to = refl }) enters
 
 -- said of the words that others read
-pub closed_bound : (steps : List StepValue) (numbers : List (Option ℕ)) → IsScript steps → ((v : Visit) → Arrives steps v ↔ Reach steps v) → AreClosed steps numbers → (v : Visit) → Arrives steps v → IsBounded numbers v
+pub closed_bound : (steps : List StepValue) (numbers : List (Option ℕ)) → IsScript steps
+    → ((v : Visit) → Arrives steps v ↔ Reach steps v) → AreClosed steps numbers → (v : Visit)
+    → Arrives steps v → IsBounded numbers v
 closed_bound steps numbers script runs closed v run = let b = closed_bounded steps numbers v script closed ((runs v).0 run) in (b.figure, b.has, b.within.now)

@@ -12,9 +12,12 @@ use Rattle.fints_check_reach.specs.Numbers.{Has, AreGreatest}
 use Rattle.fints_check_reach.proofs.PassLemmas.{reach_step, reach_repeated}
 use Rattle.fints_check_reach.proofs.Scripts.{IsScript}
 
-module _ (steps : List StepValue) (numbers : List (Option ℕ)) (script : IsScript steps) (runs : (v : Visit) → Arrives steps v ↔ Reach steps v) (greatest : AreGreatest steps numbers) where
+module _ (steps : List StepValue) (numbers : List (Option ℕ)) (script : IsScript steps)
+    (runs : (v : Visit) → Arrives steps v ↔ Reach steps v) (greatest : AreGreatest steps numbers) where
   -- the greatest number of a step covers each with which it is entered
-  covered_by : (n e : ℕ) (step : StepValue) → numbered steps n ≡ Some step → Reach steps (record { step = n; number = e; times = 1 }) → (g : ℕ) → Has numbers n g → e ≤ g → IsEnough step e g
+  covered_by : (n e : ℕ) (step : StepValue) → numbered steps n ≡ Some step
+      → Reach steps (record { step = n; number = e; times = 1 }) → (g : ℕ) → Has numbers n g → e ≤ g
+      → IsEnough step e g
   covered_by n e step at r g has low = record {
     once = low;
     often = λ again.

@@ -15,7 +15,9 @@ use Rattle.fints_wire.proofs.RunLawLemmas.{runs_by_steps}
 use Rattle.fints_check_reach.specs.Following.{CarriesTo, GoesTo, IsFollowed, StepsFollow}
 
 -- behind a message of step t, the first in a row where the target is the same step, the target has one of step s sent next
-goes_on : (step : StepValue) (t s : ℕ) (target : Target) (v : Visit) → v.step ≡ t → (target ≡ Again → v.times ≡ 1) → GoesTo step t target s → (w : Visit) × Enters step.repeat v target w × (w.step ≡ s)
+goes_on : (step : StepValue) (t s : ℕ) (target : Target) (v : Visit) → v.step ≡ t
+    → (target ≡ Again → v.times ≡ 1) → GoesTo step t target s
+    → (w : Visit) × Enters step.repeat v target w × (w.step ≡ s)
 goes_on step t s (Step to) v here once goes = (record { step = to; number = v.number + 1; times = 1 }, refl, goes)
 goes_on step t s Again v here once goes =
     let one = once refl in
@@ -24,7 +26,8 @@ goes_on step t s Again v here once goes =
 goes_on step t s Stop v here once goes = absurd goes
 
 -- where it has, it goes there
-went : (step : StepValue) (t s : ℕ) (target : Target) (v w : Visit) → v.step ≡ t → w.step ≡ s → 1 ≤ v.times → Enters step.repeat v target w → GoesTo step t target s
+went : (step : StepValue) (t s : ℕ) (target : Target) (v w : Visit) → v.step ≡ t → w.step ≡ s → 1 ≤ v.times
+    → Enters step.repeat v target w → GoesTo step t target s
 went step t s (Step to) v w here next some e = sym (ap (λ (x : Visit). x.step) e) ∙ next
 went step t s Again v w here next some e = let room = e.0 in (sym next ∙ ap (λ (x : Visit). x.step) e.1 ∙ here, omega (arith, room, some))
 went step t s Stop v w here next some e = absurd e
@@ -33,7 +36,8 @@ went step t s Stop v w here next some e = absurd e
 abbrev Begins : List StepValue → Visit → Type 0
 Begins steps v = (u : Visit) × Reach steps u × (u.step ≡ v.step) × (u.times ≡ 1)
 
-begins_on : (steps : List StepValue) (v w : Visit) (repeat : ℕ) (target : Target) → Reach steps w → Begins steps v → Enters repeat v target w → Begins steps w
+begins_on : (steps : List StepValue) (v w : Visit) (repeat : ℕ) (target : Target) → Reach steps w
+    → Begins steps v → Enters repeat v target w → Begins steps w
 begins_on steps v w repeat (Step n) r b e = (w, r, refl, ap (λ (x : Visit). x.times) e)
 begins_on steps v w repeat Again r b e = (b.0, b.1, b.2 ∙ sym (ap (λ (x : Visit). x.step) e.1), b.3)
 begins_on steps v w repeat Stop r b e = absurd e
@@ -43,8 +47,12 @@ begins steps _ first = (start, first, refl, refl)
 begins steps w (onward {v} codes a r f) = begins_on steps v w f.step.repeat (answered f.step codes) (onward codes a r f) (begins steps v r) f.enters
 
 -- an answer that fires a branch to step s behind a message of step t has one sent
-pub branch_follows : (steps : List StepValue) (t code s branch : ℕ) (step : StepValue) (v : Visit) (codes : List ℕ) → numbered steps t ≡ Some step → v.step ≡ t → (target_of step.branches step.otherwise branch ≡ Again → v.times ≡ 1)
-    → IsCarrying step.branches branch code codes → GoesTo step t (target_of step.branches step.otherwise branch) s → (w : Visit) × StepsFollow steps t code s v codes w
+pub branch_follows : (steps : List StepValue) (t code s branch : ℕ) (step : StepValue) (v : Visit)
+    (codes : List ℕ) → numbered steps t ≡ Some step → v.step ≡ t
+    → (target_of step.branches step.otherwise branch ≡ Again → v.times ≡ 1)
+    → IsCarrying step.branches branch code codes
+    → GoesTo step t (target_of step.branches step.otherwise branch) s
+    → (w : Visit) × StepsFollow steps t code s v codes w
 branch_follows steps t code s branch step v codes at here once c goes =
     let on = goes_on step t s (target_of step.branches step.otherwise branch) v here once goes in
     let there : answered step codes ≡ target_of step.branches step.otherwise branch = carrying_leads step.branches step.otherwise branch code codes c in (
@@ -53,13 +61,21 @@ branch_follows steps t code s branch step v codes at here once c goes =
         of = here;
         answer = c.answer;
         has = c.has;
-        follows = record { step = step; at = subst (λ (n : ℕ). numbered steps n ≡ Some step) (sym here) at; enters = subst (λ (target : Target). Enters step.repeat v target on.0) (sym there) on.1 };
+        follows =
+            record {
+              step =
+                  step;
+              at = subst (λ (n : ℕ). numbered steps n ≡ Some step) (sym here) at;
+              enters =
+                  subst (λ (target : Target). Enters step.repeat v target on.0) (sym there) on.1;
+            };
         next = on.2;
       },
     )
 
 module _ (steps : List StepValue) (t code s : ℕ) (step : StepValue) (at : numbered steps t ≡ Some step) where
-  pub follow : ((v : Visit) × Arrives steps v × (v.step ≡ t)) × CarriesTo step t code s → IsFollowed steps t code s
+  pub follow : ((v : Visit) × Arrives steps v × (v.step ≡ t)) × CarriesTo step t code s
+      → IsFollowed steps t code s
   follow ((v, arrives, here), (branch, carried)) =
       let u = begins steps v ((runs_by_steps steps v).0 arrives) in
       let (codes, c) = carried.carries in
@@ -67,12 +83,18 @@ module _ (steps : List StepValue) (t code s : ℕ) (step : StepValue) (at : numb
       record { from = u.0; codes = codes; to = on.0; arrives = (runs_by_steps steps u.0).1 u.1; are = on.1 }
 
 pub followed : (steps : List StepValue) (t code s : ℕ) (step : StepValue) → numbered steps t ≡ Some step
-    → ((v : Visit) → Arrives steps v → 1 ≤ v.times) → IsFollowed steps t code s → ((v : Visit) × Arrives steps v × (v.step ≡ t)) × CarriesTo step t code s
+    → ((v : Visit) → Arrives steps v → 1 ≤ v.times) → IsFollowed steps t code s
+    → ((v : Visit) × Arrives steps v × (v.step ≡ t)) × CarriesTo step t code s
 followed steps t code s step at some f =
-    let own : f.are.follows.step ≡ step = same_Some f.are.follows.step step (sym (subst (λ (n : ℕ). numbered steps n ≡ Some f.are.follows.step) f.are.of f.are.follows.at) ∙ at) in
+    let own : f.are.follows.step ≡ step =
+    same_Some f.are.follows.step step
+    (sym (subst (λ (n : ℕ). numbered steps n ≡ Some f.are.follows.step) f.are.of f.are.follows.at)
+    ∙ at) in
     let one = one_branch_fires step.branches step.otherwise f.codes in
-    let entered : Enters step.repeat f.from (answered step f.codes) f.to = subst (λ (x : StepValue). Enters x.repeat f.from (answered x f.codes) f.to) own f.are.follows.enters in
-    let there : Enters step.repeat f.from (target_of step.branches step.otherwise one.branch) f.to = subst (λ (target : Target). Enters step.repeat f.from target f.to) one.leads_to entered in (
+    let entered : Enters step.repeat f.from (answered step f.codes) f.to =
+    subst (λ (x : StepValue). Enters x.repeat f.from (answered x f.codes) f.to) own f.are.follows.enters in
+    let there : Enters step.repeat f.from (target_of step.branches step.otherwise one.branch) f.to =
+    subst (λ (target : Target). Enters step.repeat f.from target f.to) one.leads_to entered in (
       (f.from, f.arrives, f.are.of),
       (
         one.branch,

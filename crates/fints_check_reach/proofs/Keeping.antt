@@ -32,7 +32,8 @@ is_taken (Some x) b h e = (x, refl)
 pub stands : (old : List (Option ℕ)) (s n t : ℕ) → Has old s t → AreKept n (λ k. k ≡ s) old old
 stands old s n t has = record { long = refl; kept = λ k u h. h; there = λ k is. (t, subst (λ j. Has old j t) (sym is) has); each = λ k u h. inl h }
 
-pub put : (old : List (Option ℕ)) (s n : ℕ) → 1 ≤ s → s ≤ length old → numbered old s ≡ Some None → AreKept n (λ k. k ≡ s) old (set old (s - 1) (Some n))
+pub put : (old : List (Option ℕ)) (s n : ℕ) → 1 ≤ s → s ≤ length old → numbered old s ≡ Some None
+    → AreKept n (λ k. k ≡ s) old (set old (s - 1) (Some n))
 put old s n low high none =
     let new = set old (s - 1) (Some n) in
     let here : Has new s n = numbered_set_here old s (Some n) low high in
@@ -49,10 +50,12 @@ put old s n low high none =
       ];
     }
 
-pub kept_none : (n : ℕ) (Goes : ℕ → Type 0) (old : List (Option ℕ)) → ((s : ℕ) → Goes s → ⊥) → AreKept n Goes old old
+pub kept_none : (n : ℕ) (Goes : ℕ → Type 0) (old : List (Option ℕ)) → ((s : ℕ) → Goes s → ⊥)
+    → AreKept n Goes old old
 kept_none n Goes old none = record { long = refl; kept = λ k t h. h; there = λ s goes. absurd (none s goes); each = λ k t h. inl h }
 
-pub kept_as : (n : ℕ) (Goes Others : ℕ → Type 0) (old new : List (Option ℕ)) → ((s : ℕ) → Goes s → Others s) → ((s : ℕ) → Others s → Goes s) → AreKept n Goes old new → AreKept n Others old new
+pub kept_as : (n : ℕ) (Goes Others : ℕ → Type 0) (old new : List (Option ℕ)) → ((s : ℕ) → Goes s → Others s)
+    → ((s : ℕ) → Others s → Goes s) → AreKept n Goes old new → AreKept n Others old new
 kept_as n Goes Others old new to from k = record {
   long = k.long;
   kept = k.kept;
@@ -60,7 +63,8 @@ kept_as n Goes Others old new to from k = record {
   each = λ s t h. elim (k.each s t h) [ inl earlier ↦ inl earlier | inr here ↦ inr (here.0, to s here.1) ];
 }
 
-pub kept_both : (n : ℕ) (Goes Others : ℕ → Type 0) (old mid new : List (Option ℕ)) → AreKept n Goes old mid → AreKept n Others mid new → AreKept n (λ s. Goes s ⊎ Others s) old new
+pub kept_both : (n : ℕ) (Goes Others : ℕ → Type 0) (old mid new : List (Option ℕ)) → AreKept n Goes old mid
+    → AreKept n Others mid new → AreKept n (λ s. Goes s ⊎ Others s) old new
 kept_both n Goes Others old mid new k l = record {
   long = l.long ∙ k.long;
   kept = λ s t h. l.kept s t (k.kept s t h);
@@ -80,21 +84,33 @@ kept_both n Goes Others old mid new k l = record {
 abbrev pub SoFarAsks : StepValue → List Bool → ℕ → ℕ → ℕ → ℕ → Type 0
 SoFarAsks step marks n code b s = (branch : ℕ) × (1 ≤ branch) × (branch < b) × BranchAsks step marks n code branch s
 
-pub none_yet : (step : StepValue) (marks : List Bool) (n code : ℕ) (old : List (Option ℕ)) → AreKept n (SoFarAsks step marks n code 1) old old
+pub none_yet : (step : StepValue) (marks : List Bool) (n code : ℕ) (old : List (Option ℕ))
+    → AreKept n (SoFarAsks step marks n code 1) old old
 none_yet step marks n code old = kept_none n (SoFarAsks step marks n code 1) old (λ s (branch, low, high, asks). omega arith)
 
 -- a target determines where it goes
-goes_once : (step : StepValue) (n : ℕ) (target : Target) (s r : ℕ) → GoesTo step n target s → GoesTo step n target r → s ≡ r
+goes_once : (step : StepValue) (n : ℕ) (target : Target) (s r : ℕ) → GoesTo step n target s
+    → GoesTo step n target r → s ≡ r
 goes_once step n (Step to) s r g h = sym g ∙ h
 goes_once step n Again s r g h = g.0 ∙ sym h.0
 goes_once step n Stop s r g h = absurd g
 
 -- what is kept for the step that a branch goes to is kept for the branch
-pub kept_target : (step : StepValue) (marks : List Bool) (n code b s : ℕ) (old new : List (Option ℕ)) → Asks marks n → IsCarriedTo step n b code s → AreKept n (λ k. k ≡ s) old new → AreKept n (BranchAsks step marks n code b) old new
-kept_target step marks n code b s old new asks carried = kept_as n (λ k. k ≡ s) (BranchAsks step marks n code b) old new (λ r is. (asks, subst (λ j. IsCarriedTo step n b code j) (sym is) carried)) (λ r both. sym (goes_once step n (target_of step.branches step.otherwise b) s r carried.goes both.1.goes))
+pub kept_target : (step : StepValue) (marks : List Bool) (n code b s : ℕ) (old new : List (Option ℕ))
+    → Asks marks n → IsCarriedTo step n b code s → AreKept n (λ k. k ≡ s) old new
+    → AreKept n (BranchAsks step marks n code b) old new
+kept_target step marks n code b s old new asks carried =
+    kept_as n (λ k. k ≡ s) (BranchAsks step marks n code b) old new
+    (λ r is. (asks, subst (λ j. IsCarriedTo step n b code j) (sym is) carried))
+    (λ r both.
+    sym (goes_once step n (target_of step.branches step.otherwise b) s r carried.goes both.1.goes))
 
-pub kept_more : (step : StepValue) (marks : List Bool) (n code b : ℕ) (old mid new : List (Option ℕ)) → 1 ≤ b → AreKept n (SoFarAsks step marks n code b) old mid → AreKept n (BranchAsks step marks n code b) mid new → AreKept n (SoFarAsks step marks n code (b + 1)) old new
-kept_more step marks n code b old mid new low k l = kept_as n (λ s. SoFarAsks step marks n code b s ⊎ BranchAsks step marks n code b s) (SoFarAsks step marks n code (b + 1)) old new
+pub kept_more : (step : StepValue) (marks : List Bool) (n code b : ℕ) (old mid new : List (Option ℕ)) → 1 ≤ b
+    → AreKept n (SoFarAsks step marks n code b) old mid → AreKept n (BranchAsks step marks n code b) mid new
+    → AreKept n (SoFarAsks step marks n code (b + 1)) old new
+kept_more step marks n code b old mid new low k l =
+    kept_as n (λ s. SoFarAsks step marks n code b s ⊎ BranchAsks step marks n code b s)
+    (SoFarAsks step marks n code (b + 1)) old new
     (λ s goes. elim goes [
       | inl earlier ↦ (earlier.0, earlier.1, omega (arith, earlier.2), earlier.3)
       | inr here ↦ (b, low, omega arith, here)
@@ -105,43 +121,61 @@ kept_more step marks n code b old mid new low k l = kept_as n (λ s. SoFarAsks s
     ])
     (kept_both n (SoFarAsks step marks n code b) (BranchAsks step marks n code b) old mid new k l)
 
-pub kept_all : (step : StepValue) (marks : List Bool) (n code : ℕ) (old new : List (Option ℕ)) → AreKept n (SoFarAsks step marks n code (length step.branches + 2)) old new → AreKept n (StepAsks step marks n code) old new
+pub kept_all : (step : StepValue) (marks : List Bool) (n code : ℕ) (old new : List (Option ℕ))
+    → AreKept n (SoFarAsks step marks n code (length step.branches + 2)) old new
+    → AreKept n (StepAsks step marks n code) old new
 kept_all step marks n code old new = kept_as n (SoFarAsks step marks n code (length step.branches + 2)) (StepAsks step marks n code) old new
     (λ s (branch, from, to, asks). (asks.0, (branch, asks.1)))
     (λ s (marked, (branch, c)). let from = c.carries.1.fires.from in let to = c.carries.1.fires.to in (branch, from, omega arith, (marked, c)))
 
 -- ---- of one step
 
-pub passed_asks : (step : StepValue) (f : ℕ) (marks : List Bool) (n code : ℕ) (old new : List (Option ℕ)) → AreKept n (StepAsks step marks n code) old new → AreKept n (PassAsks step (Some f) marks n code) old new
-passed_asks step f marks n code old new = kept_as n (StepAsks step marks n code) (PassAsks step (Some f) marks n code) old new (λ s asks. ((f, refl), asks)) (λ s asks. asks.1)
+pub passed_asks : (step : StepValue) (f : ℕ) (marks : List Bool) (n code : ℕ) (old new : List (Option ℕ))
+    → AreKept n (StepAsks step marks n code) old new → AreKept n (PassAsks step (Some f) marks n code) old new
+passed_asks step f marks n code old new =
+    kept_as n (StepAsks step marks n code) (PassAsks step (Some f) marks n code) old new
+    (λ s asks. ((f, refl), asks)) (λ s asks. asks.1)
 
-pub none_asks : (step : StepValue) (marks : List Bool) (n code : ℕ) (old : List (Option ℕ)) → AreKept n (PassAsks step None marks n code) old old
+pub none_asks : (step : StepValue) (marks : List Bool) (n code : ℕ) (old : List (Option ℕ))
+    → AreKept n (PassAsks step None marks n code) old old
 none_asks step marks n code old = kept_none n (PassAsks step None marks n code) old (λ s asks. let clash = asks.0.1 in cc)
 
-onward_within : (count n s : ℕ) (step : StepValue) (target : Target) → 1 ≤ n → n ≤ count → IsOnward count n target → GoesTo step n target s → (1 ≤ s) × (s ≤ count)
+onward_within : (count n s : ℕ) (step : StepValue) (target : Target) → 1 ≤ n → n ≤ count
+    → IsOnward count n target → GoesTo step n target s → (1 ≤ s) × (s ≤ count)
 onward_within count n s step (Step to) low high on goes = let above = on.0 in let most = on.1 in (omega (arith, above, goes), omega (arith, most, goes))
 onward_within count n s step Again low high on goes = let same = goes.0 in (omega (arith, low, same), omega (arith, high, same))
 onward_within count n s step Stop low high on goes = absurd goes
 
 -- a branch goes to a step that is there
-pub carried_within : ((branches : List Branch) (otherwise : Target) → CarryingLeads branches otherwise) → (steps : List StepValue) (n code s : ℕ) (step : StepValue) → IsScript steps → numbered steps n ≡ Some step → CarriesTo step n code s → (1 ≤ s) × (s ≤ length steps)
+pub carried_within : ((branches : List Branch) (otherwise : Target) → CarryingLeads branches otherwise)
+    → (steps : List StepValue) (n code s : ℕ) (step : StepValue) → IsScript steps
+    → numbered steps n ≡ Some step → CarriesTo step n code s → (1 ≤ s) × (s ≤ length steps)
 carried_within leads_on steps n code s step script at (branch, c) =
     let (codes, k) = c.carries in
     let target = target_of step.branches step.otherwise branch in
-    let on = lead_forward steps n step target script at (record { codes = codes; answer = k.answer; leads_to = leads_on step.branches step.otherwise branch code codes k }) in
+    let on =
+    lead_forward steps n step target script at
+    (record {
+      codes = codes;
+      answer = k.answer;
+      leads_to = leads_on step.branches step.otherwise branch code codes k;
+    }) in
     let within = numbered_within steps n step at in
     onward_within (length steps) n s step target within.0 within.1 on c.goes
 
 -- ---- step by step
 
-pub behind_none : (steps : List StepValue) (marks : List Bool) (code count : ℕ) → count ≡ length steps → AreBehind steps [] marks code (replicate count None)
+pub behind_none : (steps : List StepValue) (marks : List Bool) (code count : ℕ) → count ≡ length steps
+    → AreBehind steps [] marks code (replicate count None)
 behind_none steps marks code count all = record {
   long = length-replicate count None ∙ all;
   some = λ t s a. absurd (none_in_nil t a.number a.has);
   each = λ t s h. absurd (none_in_blank count s t h);
 }
 
-pub behind_more : (steps : List StepValue) (numbers : List (Option ℕ)) (marks : List Bool) (code n : ℕ) (cell : Option ℕ) (old new : List (Option ℕ)) (step : StepValue) → n ≡ length numbers + 1 → numbered steps n ≡ Some step → AreKept n (PassAsks step cell marks n code) old new
+pub behind_more : (steps : List StepValue) (numbers : List (Option ℕ)) (marks : List Bool) (code n : ℕ)
+    (cell : Option ℕ) (old new : List (Option ℕ)) (step : StepValue) → n ≡ length numbers + 1
+    → numbered steps n ≡ Some step → AreKept n (PassAsks step cell marks n code) old new
     → AreBehind steps numbers marks code old → AreBehind steps (numbers ++ cell ∷ []) marks code new
 behind_more steps numbers marks code n cell old new step next at k b = record {
   long = k.long ∙ b.long;
@@ -158,7 +192,14 @@ behind_more steps numbers marks code n cell old new step next at k b = record {
   each = λ t s h. elim (k.each s t h) [
     | inl earlier ↦
         let a = b.each t s earlier in
-        record { step = a.step; at = a.at; number = a.number; has = numbered_push_old numbers cell t (Some a.number) a.has; marked = a.marked; carries = a.carries }
+        record {
+          step = a.step;
+          at = a.at;
+          number = a.number;
+          has = numbered_push_old numbers cell t (Some a.number) a.has;
+          marked = a.marked;
+          carries = a.carries;
+        }
     | inr here ↦
         let same : n ≡ t = sym here.0 in
         let f = here.1.0 in
@@ -177,12 +218,14 @@ behind_more steps numbers marks code n cell old new step next at k b = record {
 -- ---- flags
 
 -- one flag more
-pub flags_more : (step : StepValue) (flags : List Bool) (b k : ℕ) (flag : Bool) → b < length flags → k < b + 1 → IsTrue flag ↔ IsOpenAt step b → ((j : ℕ) → j < b → (slice_get flags j ≡ Some true) ↔ IsOpenAt step j)
+pub flags_more : (step : StepValue) (flags : List Bool) (b k : ℕ) (flag : Bool) → b < length flags → k < b + 1
+    → IsTrue flag ↔ IsOpenAt step b → ((j : ℕ) → j < b → (slice_get flags j ≡ Some true) ↔ IsOpenAt step j)
     → (slice_get (set flags b flag) k ≡ Some true) ↔ IsOpenAt step k
 flags_more step flags b k flag within le is each = elim (cases_eq k b) [
   | inl same ↦
       let here : slice_get (set flags b flag) b ≡ Some flag = slice_get_set_here flags b flag within in
-      subst (λ j. (slice_get (set flags b flag) j ≡ Some true) ↔ IsOpenAt step j) (sym same) (λ h. is.0 (same_Some flag true (sym here ∙ h)), λ h. here ∙ ap (λ x. Some x) (is.1 h))
+      subst (λ j. (slice_get (set flags b flag) j ≡ Some true) ↔ IsOpenAt step j) (sym same)
+      (λ h. is.0 (same_Some flag true (sym here ∙ h)), λ h. here ∙ ap (λ x. Some x) (is.1 h))
   | inr other ↦
       let there : slice_get (set flags b flag) k ≡ slice_get flags k = slice_get_set_other flags b k flag other in
       let before = each k (omega arith) in

@@ -34,23 +34,35 @@ script_of script sound = record {
       record { onward = sound.onward n step at; once = omega (arith, s.once); often = omega (arith, s.often) };
 }
 
-one_target : (P : Target → Type 0) (b : Bool) (x : Branch) (found : Option Branch) (otherwise : Target) → P x.to → P (option_map_or (λ (branch : Branch). branch.to) found otherwise) → P (option_map_or (λ (branch : Branch). branch.to) (cond b (Some x) found) otherwise)
+one_target : (P : Target → Type 0) (b : Bool) (x : Branch) (found : Option Branch) (otherwise : Target)
+    → P x.to → P (option_map_or (λ (branch : Branch). branch.to) found otherwise)
+    → P (option_map_or (λ (branch : Branch). branch.to) (cond b (Some x) found) otherwise)
 one_target P true x found otherwise here later = here
 one_target P false x found otherwise here later = later
 
 -- where the found branch leads, or the default
-found_target : (P : Target → Type 0) (p : Branch → Bool) (branches : List Branch) (otherwise : Target) → All (λ (branch : Branch). P branch.to) branches → P otherwise → P (option_map_or (λ (branch : Branch). branch.to) (find p branches) otherwise)
+found_target : (P : Target → Type 0) (p : Branch → Bool) (branches : List Branch) (otherwise : Target)
+    → All (λ (branch : Branch). P branch.to) branches → P otherwise
+    → P (option_map_or (λ (branch : Branch). branch.to) (find p branches) otherwise)
 found_target P p [] otherwise each o = o
 found_target P p (x ∷ xs) otherwise each o =
-    one_target P (p x) x (find p xs) otherwise (All-head (λ (branch : Branch). P branch.to) x xs each) (found_target P p xs otherwise (All-tail (λ (branch : Branch). P branch.to) x xs each) o)
+    one_target P (p x) x (find p xs) otherwise (All-head (λ (branch : Branch). P branch.to) x xs each)
+    (found_target P p xs otherwise (All-tail (λ (branch : Branch). P branch.to) x xs each) o)
 
-pub lead_forward : (steps : List StepValue) (n : ℕ) (step : StepValue) (t : Target) → IsScript steps → numbered steps n ≡ Some step → Leads step t → IsOnward (length steps) n t
+pub lead_forward : (steps : List StepValue) (n : ℕ) (step : StepValue) (t : Target) → IsScript steps
+    → numbered steps n ≡ Some step → Leads step t → IsOnward (length steps) n t
 lead_forward steps n step t script at can =
     let is = (script.each n step at).onward in
-    subst (IsOnward (length steps) n) can.leads_to (found_target (IsOnward (length steps) n) (matches_some can.codes) step.branches step.otherwise is.branches is.otherwise)
+    subst (IsOnward (length steps) n) can.leads_to
+    (found_target (IsOnward (length steps) n) (matches_some can.codes) step.branches step.otherwise
+    is.branches is.otherwise)
 
 -- the law of open branches, with branches from 0 on
-pub leads_by_branches : ((branches : List Branch) (otherwise target : Target) → CanLead branches otherwise target ↔ IsOpenTo branches otherwise target) → (step : StepValue) (to : Target) → Leads step to ↔ ((b : ℕ) × (b ≤ length step.branches) × IsOpenAt step b × (target_at step b ≡ to))
+pub leads_by_branches :
+    ((branches : List Branch) (otherwise target : Target) → CanLead branches otherwise target
+    ↔ IsOpenTo branches otherwise target)
+    → (step : StepValue) (to : Target) → Leads step to
+    ↔ ((b : ℕ) × (b ≤ length step.branches) × IsOpenAt step b × (target_at step b ≡ to))
 leads_by_branches law step to = (
   λ can.
       let o = (law step.branches step.otherwise to).0 can in

@@ -13,7 +13,8 @@ use Rattle.fints_check_reach.proofs.Scripts.{IsScript, lead_forward}
 pub one_number : (numbers : List (Option ℕ)) (n e f : ℕ) → Has numbers n e → Has numbers n f → e ≡ f
 one_number numbers n e f h k = same_Some e f (same_Some (Some e) (Some f) (sym h ∙ k))
 
-module _ (steps : List StepValue) (entries sources figures : List (Option ℕ)) (script : IsScript steps) (s : Pass steps entries sources figures (length steps)) where
+module _ (steps : List StepValue) (entries sources figures : List (Option ℕ)) (script : IsScript steps)
+    (s : Pass steps entries sources figures (length steps)) where
   -- an answer leads on, so the step that it leads to stands later
   come_from : (n t : ℕ) → Has sources n t → ComesFrom steps figures n t
   come_from n t h =
@@ -39,7 +40,8 @@ module _ (steps : List StepValue) (entries sources figures : List (Option ℕ)) 
       }
 
   -- nothing leads to the first step
-  first_row : (step : StepValue) (number : ℕ) → numbered steps 1 ≡ Some step → Has figures 1 number → EndsRow step 1 number
+  first_row : (step : StepValue) (number : ℕ) → numbered steps 1 ≡ Some step → Has figures 1 number
+      → EndsRow step 1 number
   first_row step number at has =
       let row = s.rows 1 number step at has in
       elim (s.began 1 row.0 row.1) [

@@ -14,7 +14,9 @@ none_looked_at [] = refl
 none_looked_at (step ∷ steps) = refl
 
 -- one step more
-pub looked_at_push : (steps : List StepValue) (flags : List Bool) (flag : Bool) (step : StepValue) → slice_get steps (length flags) ≡ Some step → looked_at steps (flags ++ flag ∷ []) ≡ looked_at steps flags + visits_at step flag
+pub looked_at_push : (steps : List StepValue) (flags : List Bool) (flag : Bool) (step : StepValue)
+    → slice_get steps (length flags) ≡ Some step
+    → looked_at steps (flags ++ flag ∷ []) ≡ looked_at steps flags + visits_at step flag
 looked_at_push [] flags flag step h = absurd cc
 looked_at_push (s ∷ steps) [] flag step h =
     let here : visits_at s flag ≡ visits_at step flag = ap (λ (x : StepValue). visits_at x flag) (same_Some s step h) in
@@ -25,7 +27,9 @@ pub visits_few : (step : StepValue) (flag : Bool) → length step.branches ≤ 2
 visits_few step false few = omega arith
 visits_few step true few = omega (arith, few)
 
-looked_at_few : (steps : List StepValue) (flags : List Bool) → ((i : ℕ) (step : StepValue) → slice_get steps i ≡ Some step → length step.branches ≤ 20) → looked_at steps flags ≤ 22 * length flags
+looked_at_few : (steps : List StepValue) (flags : List Bool)
+    → ((i : ℕ) (step : StepValue) → slice_get steps i ≡ Some step → length step.branches ≤ 20)
+    → looked_at steps flags ≤ 22 * length flags
 looked_at_few [] flags few = omega arith
 looked_at_few (s ∷ steps) [] few = omega arith
 looked_at_few (s ∷ steps) (n ∷ flags) few =
@@ -34,7 +38,8 @@ looked_at_few (s ∷ steps) (n ∷ flags) few =
     omega (arith, here, rest)
 
 -- of the steps of a script so little that no count passes its limit
-pub few_visits : (script : ScriptValue) (flags : List Bool) → IsSound script → length flags ≤ length script.steps → looked_at script.steps flags ≤ 22 * MAX_STEPS
+pub few_visits : (script : ScriptValue) (flags : List Bool) → IsSound script
+    → length flags ≤ length script.steps → looked_at script.steps flags ≤ 22 * MAX_STEPS
 few_visits script flags sound within =
     let few = looked_at_few script.steps flags (λ i step h. (numbered_holds (IsSoundStep script) script.steps (suc i) step sound.steps h).few_branches) in
     let steps = sound.few_steps in
@@ -55,7 +60,8 @@ here_least : (step : StepValue) (flag : Bool) → reached_at step flag ≤ visit
 here_least step false = omega arith
 here_least step true = omega arith
 
-pub at_least : (steps : List StepValue) (flags : List Bool) → reached_visits steps flags ≤ looked_at steps flags
+pub at_least : (steps : List StepValue) (flags : List Bool)
+    → reached_visits steps flags ≤ looked_at steps flags
 at_least [] flags = omega arith
 at_least (s ∷ steps) [] = omega arith
 at_least (s ∷ steps) (c ∷ flags) = let here = here_least s c in let rest = at_least steps flags in omega (arith, here, rest)

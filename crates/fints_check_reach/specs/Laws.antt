@@ -12,7 +12,9 @@ use Rattle.fints_check_reach.specs.Numbers.{AreGreatest, IsBounded, all_visits, 
 
 -- closed numbers bound every run, whoever computed them: each step that a run sends has one, and no message of the step has a greater one
 abbrev pub ClosedNumbersBound : Type 0
-ClosedNumbersBound = (script : ScriptValue) (numbers : List (Option ℕ)) (v : Visit) → IsSound script → AreClosed script.steps numbers → Arrives script.steps v → IsBounded numbers v
+ClosedNumbersBound =
+    (script : ScriptValue) (numbers : List (Option ℕ)) (v : Visit) → IsSound script
+    → AreClosed script.steps numbers → Arrives script.steps v → IsBounded numbers v
 
 -- greatest numbers are closed
 abbrev pub GreatestAreClosed : Type 0
@@ -26,7 +28,8 @@ AtMostAllAreLookedAt = (steps : List StepValue) (reached : List Bool) → looked
 abbrev pub ReachedAreLookedAt : Type 0
 ReachedAreLookedAt = (steps : List StepValue) (reached : List Bool) → reached_visits steps reached ≤ looked_at steps reached
 
--- a run sends a message of step s behind one of step t and an answer with a code exactly where runs send step t, and a branch of it that carries the code goes to step s
+-- a run sends a message of step s behind one of step t and an answer with a code exactly where runs send step
+-- t, and a branch of it that carries the code goes to step s
 abbrev pub FollowedWhereCarried : Type 0
 FollowedWhereCarried =
     (script : ScriptValue) (t code s : ℕ) (step : StepValue) → IsSound script → numbered script.steps t ≡ Some step

@@ -8,5 +8,9 @@ use Rattle.fints_cli_commands.specs.Commands.{AnswersTo}
 use Rattle.fints_cli.specs.Responses.{IsCutOff}
 use Rattle.fints_cli_commands.specs.Loading.{files_of, AreWithin}
 
-pub cut_answer : (asked : Asked) (request : Request) (hints : Bool) (holds : List ℕ → Option (List ℕ)) (status : ℕ) (text : List ℕ) (old new : Option (List ℕ)) → asked ≡ Run request hints → AnswersTo request holds status text → AreWithin (files_of request) holds → GetsPrefix old new text → IsCutOff asked holds old new
-cut_answer asked request hints holds status text old new is answers within prefix = subst (λ a. IsCutOff a holds old new) (sym is) (status, text, (answers, within), prefix)
+pub cut_answer : (asked : Asked) (request : Request) (hints : Bool) (holds : List ℕ → Option (List ℕ))
+    (status : ℕ) (text : List ℕ) (old new : Option (List ℕ)) → asked ≡ Run request hints
+    → AnswersTo request holds status text → AreWithin (files_of request) holds → GetsPrefix old new text
+    → IsCutOff asked holds old new
+cut_answer asked request hints holds status text old new is answers within prefix =
+    subst (λ a. IsCutOff a holds old new) (sym is) (status, text, (answers, within), prefix)

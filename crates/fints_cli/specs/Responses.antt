@@ -55,11 +55,14 @@ abbrev pub FailsToRead : Asked → (List ℕ → Option (List ℕ)) → ReadCoun
 FailsToRead (Help help) holds before after = ⊥
 FailsToRead (Usage fault) holds before after = ⊥
 FailsToRead NoMemory holds before after = ⊥
-FailsToRead (Run request hints) holds before after = (f : Failure) × (failure_status f ≡ 5) × FailsFor request holds f × FollowsReading (files_of request) holds before after f
+FailsToRead (Run request hints) holds before after =
+    (f : Failure) × (failure_status f ≡ 5) × FailsFor request holds f
+    × FollowsReading (files_of request) holds before after f
 
 -- The status, what the output got and how reads and writes went are those of what was asked for: up to status 1 the whole text,
 -- from 2 to 4 nothing, and at 5 nothing where a file couldn't be read, else a prefix of the text, after which a write failed.
-pub record IsResponse (asked : Asked) (holds : List ℕ → Option (List ℕ)) (before after : ReadCounts) (lost lost_after : ℕ) (status : ℕ) (old new : Option (List ℕ)) : Type 0 where
+pub record IsResponse (asked : Asked) (holds : List ℕ → Option (List ℕ)) (before after : ReadCounts)
+    (lost lost_after : ℕ) (status : ℕ) (old new : Option (List ℕ)) : Type 0 where
   pub answered : status ≤ 1 → IsAnswered asked holds status old new
   pub usage : status ≡ 2 → IsUsage asked ⊎ FailsWith 2 asked holds
   pub unread : IsUsage asked → after.calls ≡ before.calls

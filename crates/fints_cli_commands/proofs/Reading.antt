@@ -16,7 +16,8 @@ of_exit (Ok v) e P is p = tt
 of_exit (Err f) e P is p = subst P (sym is) p
 
 -- what holds of the bytes of a file holds of what it holds
-pub of_file : (P : List ℕ → Type 0) (held : Option (List ℕ)) (x : List ℕ) → IsFile held x → P x → IfSome held P
+pub of_file : (P : List ℕ → Type 0) (held : Option (List ℕ)) (x : List ℕ) → IsFile held x → P x
+    → IfSome held P
 of_file P None x h p = tt
 of_file P (Some a) x h p = subst P h p
 

@@ -14,47 +14,71 @@ use Rattle.fints_cli_files.specs.Captures.{AreKept, FedReader, HoldsCapture, Has
 
 -- ---- a piece more
 
-stopped_at : (old new : Received) (failed : Option ℕ) (piece : List ℕ) (f : ParamFault) → failed ≡ None → f ≢ Memory → IsNotReceived failed old piece f new → IsPieceFault (old.bytes ++ piece) f
+stopped_at : (old new : Received) (failed : Option ℕ) (piece : List ℕ) (f : ParamFault) → failed ≡ None
+    → f ≢ Memory → IsNotReceived failed old piece f new → IsPieceFault (old.bytes ++ piece) f
 stopped_at old new (Some o) piece f e n h = absurd cc
 stopped_at old new None piece f e n (inl (m, same)) = absurd (n m)
 stopped_at old new None piece f e n (inr (fault, at, is, now)) = (fault, at, is)
 
-pub fed_fault : (fault : Option ParamFault) (old new : Received) (piece : List ℕ) (f : ParamFault) → is_some fault ≡ false → f ≢ Memory → IsNotReceived old.failed old piece f new → (bytes : List ℕ) → HasTaken bytes old fault → HasTaken (bytes ++ piece) new (Some f)
+pub fed_fault : (fault : Option ParamFault) (old new : Received) (piece : List ℕ) (f : ParamFault)
+    → is_some fault ≡ false → f ≢ Memory → IsNotReceived old.failed old piece f new → (bytes : List ℕ)
+    → HasTaken bytes old fault → HasTaken (bytes ++ piece) new (Some f)
 fed_fault (Some g) old new piece f none n h bytes e = absurd cc
 fed_fault None old new piece f none n h bytes e =
     let met = stopped_at old new old.failed piece f (ap (λ (r : Received). r.failed) e) n h in
     (bytes ++ piece, [], sym (append-nil (bytes ++ piece)), subst (λ (xs : List ℕ). IsPieceFault (xs ++ piece) f) (ap (λ (r : Received). r.bytes) e) met)
 
 -- a piece that was received
-pub fed_more : (fault : Option ParamFault) (old new : Received) (piece : List ℕ) → is_some fault ≡ false → IsReceived old piece new → (bytes : List ℕ) → HasTaken bytes old fault → HasTaken (bytes ++ piece) new fault
+pub fed_more : (fault : Option ParamFault) (old new : Received) (piece : List ℕ) → is_some fault ≡ false
+    → IsReceived old piece new → (bytes : List ℕ) → HasTaken bytes old fault
+    → HasTaken (bytes ++ piece) new fault
 fed_more (Some f) old new piece none h bytes e = absurd cc
 fed_more None old new piece none h bytes e = h.kept ∙ ap (λ (r : Received). record { bytes = r.bytes ++ piece; failed = None }) e
 
-pub fed_after : (fault : Option ParamFault) (reader : Received) (piece : List ℕ) → is_some fault ≡ true → (bytes : List ℕ) → HasTaken bytes reader fault → HasTaken (bytes ++ piece) reader fault
+pub fed_after : (fault : Option ParamFault) (reader : Received) (piece : List ℕ) → is_some fault ≡ true
+    → (bytes : List ℕ) → HasTaken bytes reader fault → HasTaken (bytes ++ piece) reader fault
 fed_after None reader piece some bytes h = absurd cc
 fed_after (Some f) reader piece some bytes (front, more, e, h) = (front, more ++ piece, ap (λ (xs : List ℕ). xs ++ piece) e ∙ append_assoc front more piece, h)
 
-kept_more : (keeps : Bool) (bytes kept piece : List ℕ) → AreKept keeps bytes kept → AreKept keeps (bytes ++ piece) (kept_after keeps kept piece)
+kept_more : (keeps : Bool) (bytes kept piece : List ℕ) → AreKept keeps bytes kept
+    → AreKept keeps (bytes ++ piece) (kept_after keeps kept piece)
 kept_more true bytes kept piece h = ap (λ (xs : List ℕ). xs ++ piece) h
 kept_more false bytes kept piece h = h
 
 -- what held the bytes still does with a piece more
-pub with_piece : (old seen : FedReader) (reader : Received) (fault : Option ParamFault) (piece : List ℕ) → seen ≡ record { reader = old.reader; fault = old.fault; keeps = old.keeps; kept = kept_after old.keeps old.kept piece }
-    → ((bytes : List ℕ) → HasTaken bytes seen.reader seen.fault → HasTaken (bytes ++ piece) reader fault) → (bytes : List ℕ) → HoldsCapture bytes old → HoldsCapture (bytes ++ piece) (record { reader = reader; fault = fault; keeps = seen.keeps; kept = seen.kept })
+pub with_piece : (old seen : FedReader) (reader : Received) (fault : Option ParamFault) (piece : List ℕ)
+    → seen
+    ≡ record {
+      reader = old.reader;
+      fault = old.fault;
+      keeps = old.keeps;
+      kept = kept_after old.keeps old.kept piece;
+    }
+    → ((bytes : List ℕ) → HasTaken bytes seen.reader seen.fault → HasTaken (bytes ++ piece) reader fault)
+    → (bytes : List ℕ) → HoldsCapture bytes old
+    → HoldsCapture (bytes ++ piece)
+    (record { reader = reader; fault = fault; keeps = seen.keeps; kept = seen.kept })
 with_piece old seen reader fault piece is goes bytes h =
     let front : HasTaken bytes seen.reader seen.fault = subst (λ (f : FedReader). HasTaken bytes f.reader f.fault) (sym is) h.0 in
-    let kept : AreKept seen.keeps (bytes ++ piece) seen.kept = subst (λ (f : FedReader). AreKept f.keeps (bytes ++ piece) f.kept) (sym is) (kept_more old.keeps bytes old.kept piece h.1) in
+    let kept : AreKept seen.keeps (bytes ++ piece) seen.kept =
+    subst (λ (f : FedReader). AreKept f.keeps (bytes ++ piece) f.kept) (sym is)
+    (kept_more old.keeps bytes old.kept piece h.1) in
     (goes bytes front, kept)
 
 -- ---- the end
 
-pub read_fault : (law : PieceFaultIsParamFault) (reader : Received) (fault : Option ParamFault) (f : ParamFault) → fault ≡ Some f → (bytes : List ℕ) → HasTaken bytes reader fault → IsReadOf bytes (Err f)
+pub read_fault : (law : PieceFaultIsParamFault) (reader : Received) (fault : Option ParamFault)
+    (f : ParamFault) → fault ≡ Some f → (bytes : List ℕ) → HasTaken bytes reader fault
+    → IsReadOf bytes (Err f)
 read_fault law reader None f is bytes h = absurd cc
 read_fault law reader (Some g) f is bytes (front, more, e, h) =
     let same : g ≡ f = cc in
     let piece : IsPieceFault front f = subst (IsPieceFault front) same h in
     inr (subst (λ (xs : List ℕ). IsParamFault xs f) (sym e) (law front more f piece))
 
-pub read_end : (reader : Received) (read : Result Rows ParamFault) → IfOk read (λ rows. (reader.failed ≡ None) × IsParamsOf reader.bytes rows) → IfErr read (λ f. HasNoParams reader.failed reader f) → (bytes : List ℕ) → HasTaken bytes reader None → IsReadOf bytes read
+pub read_end : (reader : Received) (read : Result Rows ParamFault)
+    → IfOk read (λ rows. (reader.failed ≡ None) × IsParamsOf reader.bytes rows)
+    → IfErr read (λ f. HasNoParams reader.failed reader f) → (bytes : List ℕ) → HasTaken bytes reader None
+    → IsReadOf bytes read
 read_end reader (Ok rows) good bad bytes e = subst (λ (xs : List ℕ). IsParamsOf xs rows) (ap (λ (r : Received). r.bytes) e) good.1
 read_end reader (Err f) good bad bytes e = subst (λ (r : Received). HasNoParams r.failed r f) e bad

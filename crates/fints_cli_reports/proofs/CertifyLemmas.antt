@@ -14,21 +14,41 @@ use Rattle.fints_cli_reports.specs.Certified.{IsCertifiedBy}
 use Rattle.fints_cli_reports.specs.ReportText.{report_status, IsReportBy}
 use Rattle.fints_cli_reports.specs.Verified.{IsVerifiedBy, TellsWhether}
 
-pub certified : (granted : Granted) (script : ScriptValue) (lines : List Line) (findings : List Finding) (status : ℕ) (text : List ℕ) → findings ≡ [] → AreFindings granted script findings → AreFigures script (line_figures lines) → IsClosedCertificate granted script lines → KeepsPromise script lines → EachIsPermitted granted script → status ≡ 0 → text ≡ cert_text lines
+pub certified : (granted : Granted) (script : ScriptValue) (lines : List Line) (findings : List Finding)
+    (status : ℕ) (text : List ℕ) → findings ≡ [] → AreFindings granted script findings
+    → AreFigures script (line_figures lines) → IsClosedCertificate granted script lines
+    → KeepsPromise script lines → EachIsPermitted granted script → status ≡ 0 → text ≡ cert_text lines
     → IsCertifiedBy granted script status text
 certified granted script lines findings status text none are figures closed promise permitted zero same =
-    inl (zero, record { lines = lines; clean = subst (λ (fs : List Finding). AreFindings granted script fs) none are; figures_are = figures; closed = closed; text_is = same; promise = promise; permitted = permitted })
+    inl (
+      zero,
+      record {
+        lines = lines;
+        clean = subst (λ (fs : List Finding). AreFindings granted script fs) none are;
+        figures_are = figures;
+        closed = closed;
+        text_is = same;
+        promise = promise;
+        permitted = permitted;
+      },
+    )
 
 found_status : (findings : List Finding) → (findings ≡ [] → ⊥) → report_status findings ≡ 1
 found_status [] some = absurd (some refl)
 found_status (f ∷ fs) some = refl
 
-pub reported : (granted : Granted) (script : ScriptValue) (findings : List Finding) (status : ℕ) (text : List ℕ) → (findings ≡ [] → ⊥) → status ≡ report_status findings → IsReportBy granted script status text → IsCertifiedBy granted script status text
+pub reported : (granted : Granted) (script : ScriptValue) (findings : List Finding) (status : ℕ)
+    (text : List ℕ) → (findings ≡ [] → ⊥) → status ≡ report_status findings
+    → IsReportBy granted script status text → IsCertifiedBy granted script status text
 reported granted script findings status text some same report = inr (same ∙ found_status findings some, report)
 
 -- what `verify` tells, by permissions that have these rows and this order table
-pub verified_by : (p : Granted) (rows : Rows) (orders : List OrderRow) (script : ScriptValue) (lines : List Line) (certificate : List ℕ) (valid : Bool) (status : ℕ) (text : List ℕ) → p.rows ≡ rows → p.orders ≡ orders
-    → IsCertificateOf certificate lines → IsTrue valid ↔ IsClosedCertificate p script lines → (IsTrue valid → KeepsPromise script lines) → (IsTrue valid → EachIsPermitted p script) → TellsWhether valid status text
+pub verified_by : (p : Granted) (rows : Rows) (orders : List OrderRow) (script : ScriptValue)
+    (lines : List Line) (certificate : List ℕ) (valid : Bool) (status : ℕ) (text : List ℕ) → p.rows ≡ rows
+    → p.orders ≡ orders
+    → IsCertificateOf certificate lines → IsTrue valid ↔ IsClosedCertificate p script lines
+    → (IsTrue valid → KeepsPromise script lines) → (IsTrue valid → EachIsPermitted p script)
+    → TellsWhether valid status text
     → IsVerifiedBy (record { rows = rows; orders = orders }) script certificate status text
 verified_by p rows orders script lines certificate valid status text same table is closed promise permitted told =
     subst (λ (r : Rows). IsVerifiedBy (record { rows = r; orders = orders }) script certificate status text) same
@@ -36,6 +56,7 @@ verified_by p rows orders script lines certificate valid status text same table 
     (record { lines = lines; certificate_is = is; valid = valid; closed = closed; told = told; promise = promise; permitted = permitted }))
 
 -- two facts of an answer
-pub both_ok : {X E : Type 0} (P Q R : X → Type 0) (r : Result X E) → IfOk r P → IfOk r Q → ((x : X) → P x → Q x → R x) → IfOk r R
+pub both_ok : {X E : Type 0} (P Q R : X → Type 0) (r : Result X E) → IfOk r P → IfOk r Q
+    → ((x : X) → P x → Q x → R x) → IfOk r R
 both_ok P Q R (Ok x) p q h = h x p q
 both_ok P Q R (Err e) p q h = tt

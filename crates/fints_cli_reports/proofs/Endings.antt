@@ -54,19 +54,24 @@ glyph_not false d small e = omega (arith, small, e)
 
 -- ---- the last line
 
-clean_no_digit : (before lines ds : List ℕ) → before ++ codes "clean\n" ≡ lines ++ (codes "findings " ++ ds ++ codes "\n") → 110 ≡ last_of 32 ds
+clean_no_digit : (before lines ds : List ℕ)
+    → before ++ codes "clean\n" ≡ lines ++ (codes "findings " ++ ds ++ codes "\n") → 110 ≡ last_of 32 ds
 clean_no_digit before lines ds e =
     sym (before_over 0 0 99 108 before (101 ∷ 97 ∷ 110 ∷ 10 ∷ []))
     ∙ (ap (before_last 0 0) e
     ∙ (before_over 0 0 102 105 lines (codes "ndings " ++ ds ++ codes "\n")
     ∙ before_one 115 32 10 ds))
 
-ends_clean : (findings : List Finding) (before lines : List ℕ) → before ++ codes "clean\n" ≡ lines ++ last_line findings → findings ≡ []
+ends_clean : (findings : List Finding) (before lines : List ℕ)
+    → before ++ codes "clean\n" ≡ lines ++ last_line findings → findings ≡ []
 unfolding last_line
 ends_clean [] before lines e = refl
 ends_clean (f ∷ fs) before lines e =
     let n = length (f ∷ fs) in
     absurd (glyph_not _ (n % 10) (mod-lt n (omega arith)) (sym (clean_no_digit before lines (decimal n) e ∙ last_digit n 32)))
 
-pub clean_is_none : (steps : List StepValue) (figures : List (Option Reached)) (findings : List Finding) (text : List ℕ) → text ≡ report_text steps figures findings → EndsClean text → findings ≡ []
-clean_is_none steps figures findings text is (before, ends) = ends_clean findings before (step_lines steps figures ++ flat_map (finding_line steps) findings) (sym ends ∙ is)
+pub clean_is_none : (steps : List StepValue) (figures : List (Option Reached)) (findings : List Finding)
+    (text : List ℕ) → text ≡ report_text steps figures findings → EndsClean text → findings ≡ []
+clean_is_none steps figures findings text is (before, ends) =
+    ends_clean findings before (step_lines steps figures ++ flat_map (finding_line steps) findings)
+    (sym ends ∙ is)

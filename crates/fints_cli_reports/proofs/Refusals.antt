@@ -30,40 +30,50 @@ use Rattle.fints_cli_reports.specs.Verified.{IsCertificateRefusal, IsUnverified,
 
 -- ---- order tables and scripts
 
-pub table_refused : (table script : List ℕ) (f : TableFault) → IsTableFault table f → IsPlanRefusal table script (order_fault_of f)
+pub table_refused : (table script : List ℕ) (f : TableFault) → IsTableFault table f
+    → IsPlanRefusal table script (order_fault_of f)
 table_refused table script orders.Memory p = tt
 table_refused table script orders.NotToml p = p
 table_refused table script orders.UnknownKey p = p
 table_refused table script (orders.BadRow n) p = p
 table_refused table script (orders.TwoRows n) p = p
 
-script_placed : (table script : List ℕ) (rows : List OrderRow) (kind : FaultKind) (f : ScriptFault) → DenotesTable table rows → IsFirstOf script f → IsPlanRefusal table script (kind_fault_of kind f)
+script_placed : (table script : List ℕ) (rows : List OrderRow) (kind : FaultKind) (f : ScriptFault)
+    → DenotesTable table rows → IsFirstOf script f → IsPlanRefusal table script (kind_fault_of kind f)
 script_placed table script rows kinds.Memory f h p = tt
 script_placed table script rows _ f h p = ((rows, h), p)
 
-pub script_refused : (table script : List ℕ) (rows : List OrderRow) (f : ScriptFault) → DenotesTable table rows → Refuses script f → IsPlanRefusal table script (script_fault_of f)
+pub script_refused : (table script : List ℕ) (rows : List OrderRow) (f : ScriptFault)
+    → DenotesTable table rows → Refuses script f → IsPlanRefusal table script (script_fault_of f)
 script_refused table script rows f h (inl e) = subst (λ g. IsPlanRefusal table script (script_fault_of g)) (sym e) tt
 script_refused table script rows f h (inr p) = script_placed table script rows f.kind f h p
 
 -- ---- runs
 
-pub case_refused : (script : ScriptValue) (case : List ℕ) (only : Option ℕ) (f : CaseFault) → IsRefusal case f → IsCaseRefusal script case only (case_fault_of f)
+pub case_refused : (script : ScriptValue) (case : List ℕ) (only : Option ℕ) (f : CaseFault) → IsRefusal case f
+    → IsCaseRefusal script case only (case_fault_of f)
 case_refused script case only cases.Memory p = tt
 case_refused script case only (cases.Bad line) p = p
 
-pub admitted_refused : (script : ScriptValue) (case : List ℕ) (values : List NamedValue) (answers : List (List ℕ)) (only : Option ℕ) (f : Fault) → IsCaseOf case values answers → Admits script.fields values → IsAdmittedRefusal script values answers only f → IsCaseRefusal script case only f
+pub admitted_refused : (script : ScriptValue) (case : List ℕ) (values : List NamedValue)
+    (answers : List (List ℕ)) (only : Option ℕ) (f : Fault) → IsCaseOf case values answers
+    → Admits script.fields values → IsAdmittedRefusal script values answers only f
+    → IsCaseRefusal script case only f
 admitted_refused script case values answers only Memory h i p = tt
 admitted_refused script case values answers only (NoMessage number) h i p =
     (p.0, record { values = values; answers = answers; case_is = h; admitted = i; not_reached = p.1 })
 admitted_refused script case values answers only _ h i p = absurd p
 
-pub unsent_refused : (script : ScriptValue) (values : List NamedValue) (answers : List (List ℕ)) (sent : List Sent) (number : ℕ) (f : Fault) → Run script values answers sent → IsUnsentRefusal sent number f → IsAdmittedRefusal script values answers (Some number) f
+pub unsent_refused : (script : ScriptValue) (values : List NamedValue) (answers : List (List ℕ))
+    (sent : List Sent) (number : ℕ) (f : Fault) → Run script values answers sent
+    → IsUnsentRefusal sent number f → IsAdmittedRefusal script values answers (Some number) f
 unsent_refused script values answers sent number Memory h p = tt
 unsent_refused script values answers sent number (NoMessage n) h p =
     (ap Some (sym p.0), record { sent = sent; run = h; unsent = subst (IsUnsent sent) (sym p.0) p.1 })
 unsent_refused script values answers sent number _ h p = absurd p
 
-pub planned_refused : (table script case : List ℕ) (value : ScriptValue) (only : Option ℕ) (f : Fault) → ArePlan table script value → IsCaseRefusal value case only f → IsRunRefusal table script case only f
+pub planned_refused : (table script case : List ℕ) (value : ScriptValue) (only : Option ℕ) (f : Fault)
+    → ArePlan table script value → IsCaseRefusal value case only f → IsRunRefusal table script case only f
 planned_refused table script case value only Memory h p = tt
 planned_refused table script case value only (Case f) h p = ((value, h), p)
 planned_refused table script case value only NotAdmitted h p = (value, h, p)
@@ -71,7 +81,8 @@ planned_refused table script case value only (NoMessage number) h p = (p.0, (val
 planned_refused table script case value only _ h p = absurd p
 
 -- no plan, no run
-pub unplanned_run : (table script case : List ℕ) (only : Option ℕ) (f : Fault) → IsPlanRefusal table script f → IsRunRefusal table script case only f
+pub unplanned_run : (table script case : List ℕ) (only : Option ℕ) (f : Fault) → IsPlanRefusal table script f
+    → IsRunRefusal table script case only f
 unplanned_run table script case only (Case f) p = absurd p
 unplanned_run table script case only NotAdmitted p = absurd p
 unplanned_run table script case only (NoMessage number) p = absurd p
@@ -79,7 +90,8 @@ unplanned_run table script case only _ p = p
 
 -- ---- reports
 
-pub params_refused : (capture table script : List ℕ) (f : ParamFault) → IsMemoryOr (IsParamFault capture) f → IsRefused capture table script (fault_of f)
+pub params_refused : (capture table script : List ℕ) (f : ParamFault) → IsMemoryOr (IsParamFault capture) f
+    → IsRefused capture table script (fault_of f)
 params_refused capture table script params.Memory h = tt
 params_refused capture table script (params.Syntax s) (inl e) = absurd (cc)
 params_refused capture table script (params.Syntax s) (inr p) = p
@@ -93,29 +105,34 @@ params_refused capture table script params.NoPinParameters (inl e) = absurd (cc)
 params_refused capture table script params.NoPinParameters (inr p) = p
 
 -- no plan, no report
-pub unplanned_report : (capture table script : List ℕ) (rows : Rows) (f : Fault) → IsParamsOf capture rows → IsPlanRefusal table script f → IsRefused capture table script f
+pub unplanned_report : (capture table script : List ℕ) (rows : Rows) (f : Fault) → IsParamsOf capture rows
+    → IsPlanRefusal table script f → IsRefused capture table script f
 unplanned_report capture table script rows Memory h p = tt
 unplanned_report capture table script rows (Params f) h p = absurd p
 unplanned_report capture table script rows _ h p = ((rows, h), p)
 
 -- ---- certificates
 
-pub planned_verify : (table script cert : List ℕ) (value : ScriptValue) (f : Fault) → ArePlan table script value → IsCertificateRefusal cert f → IsVerifyRefusal table script cert f
+pub planned_verify : (table script cert : List ℕ) (value : ScriptValue) (f : Fault)
+    → ArePlan table script value → IsCertificateRefusal cert f → IsVerifyRefusal table script cert f
 planned_verify table script cert value Memory h p = tt
 planned_verify table script cert value (Certificate line) h p = ((value, h), p)
 planned_verify table script cert value _ h p = absurd p
 
 -- no plan, no verdict
-pub unplanned_verify : (table script cert : List ℕ) (f : Fault) → IsPlanRefusal table script f → IsVerifyRefusal table script cert f
+pub unplanned_verify : (table script cert : List ℕ) (f : Fault) → IsPlanRefusal table script f
+    → IsVerifyRefusal table script cert f
 unplanned_verify table script cert (Certificate line) p = absurd p
 unplanned_verify table script cert _ p = p
 
-pub unread_verify : (capture table script cert : List ℕ) (rows : Rows) (f : Fault) → IsParamsOf capture rows → IsVerifyRefusal table script cert f → IsUnverified capture table script cert f
+pub unread_verify : (capture table script cert : List ℕ) (rows : Rows) (f : Fault) → IsParamsOf capture rows
+    → IsVerifyRefusal table script cert f → IsUnverified capture table script cert f
 unread_verify capture table script cert rows Memory h p = tt
 unread_verify capture table script cert rows (Params f) h p = absurd p
 unread_verify capture table script cert rows _ h p = ((rows, h), p)
 
 -- no rows, no verdict
-pub params_unverified : (capture table script cert : List ℕ) (f : ParamFault) → IsMemoryOr (IsParamFault capture) f → IsUnverified capture table script cert (fault_of f)
+pub params_unverified : (capture table script cert : List ℕ) (f : ParamFault)
+    → IsMemoryOr (IsParamFault capture) f → IsUnverified capture table script cert (fault_of f)
 params_unverified capture table script cert params.Memory h = tt
 params_unverified capture table script cert f h = params_refused capture table script f h

@@ -18,7 +18,8 @@ use Rattle.fints_cli_reports.specs.Verified.{IsVerifiedBy, IsVerifiedOn}
 use Rattle.fints_cli_reports.specs.declared.telling.Wanted.{Wanted}
 
 -- one step more has its line after those before it
-pub line_more : (steps : List StepValue) (figures : List (Option Reached)) (i : ℕ) (step : StepValue) (cell : Option Reached) → slice_get steps i ≡ Some step → slice_get figures i ≡ Some cell
+pub line_more : (steps : List StepValue) (figures : List (Option Reached)) (i : ℕ) (step : StepValue)
+    (cell : Option Reached) → slice_get steps i ≡ Some step → slice_get figures i ≡ Some cell
     → step_lines (take (suc i) steps) figures ≡ step_lines (take i steps) figures ++ step_line step.name cell
 line_more [] figures i step cell at has = absurd cc
 line_more (s ∷ ss) [] i step cell at has = absurd cc
@@ -31,21 +32,31 @@ line_more (s ∷ ss) (f ∷ fs) (suc i) step cell at has =
     ∙ sym (append_assoc (step_line s.name f) (step_lines (take i ss) fs) (step_line step.name cell))
 
 -- what holds of a plan holds of the plan of two good texts
-on_plan : (P : Granted → ScriptValue → Type 0) (rows : Rows) (table text : List ℕ) (orders : List OrderRow) (value : ScriptValue) (plan : PlanValue) → DenotesTable table orders → Denotes text value → IsClosed value orders → plan.script ≡ value → plan.orders ≡ orders
-    → P (record { rows = rows; orders = plan.orders }) plan.script → (are : ArePlan table text value) × P (record { rows = rows; orders = are.table }) value
+on_plan : (P : Granted → ScriptValue → Type 0) (rows : Rows) (table text : List ℕ) (orders : List OrderRow)
+    (value : ScriptValue) (plan : PlanValue) → DenotesTable table orders → Denotes text value
+    → IsClosed value orders → plan.script ≡ value → plan.orders ≡ orders
+    → P (record { rows = rows; orders = plan.orders }) plan.script
+    → (are : ArePlan table text value) × P (record { rows = rows; orders = are.table }) value
 on_plan P rows table text orders value plan t s closed same made p = (
   record { table = orders; table_is = t; script_is = s; closed = closed },
-  subst (λ (rs : List OrderRow). P (record { rows = rows; orders = rs }) value) made (subst (λ (v : ScriptValue). P (record { rows = rows; orders = plan.orders }) v) same p),
+  subst (λ (rs : List OrderRow). P (record { rows = rows; orders = rs }) value) made
+      (subst (λ (v : ScriptValue). P (record { rows = rows; orders = plan.orders }) v) same p),
 )
 
-pub told_on : (wanted : Wanted) (rows : Rows) (table text : List ℕ) (orders : List OrderRow) (value : ScriptValue) (plan : PlanValue) (status : ℕ) (told : List ℕ) → DenotesTable table orders → Denotes text value → IsClosed value orders → plan.script ≡ value → plan.orders ≡ orders
-    → IsToldBy wanted (record { rows = rows; orders = plan.orders }) plan.script status told → IsToldOn wanted rows table text status told
+pub told_on : (wanted : Wanted) (rows : Rows) (table text : List ℕ) (orders : List OrderRow)
+    (value : ScriptValue) (plan : PlanValue) (status : ℕ) (told : List ℕ) → DenotesTable table orders
+    → Denotes text value → IsClosed value orders → plan.script ≡ value → plan.orders ≡ orders
+    → IsToldBy wanted (record { rows = rows; orders = plan.orders }) plan.script status told
+    → IsToldOn wanted rows table text status told
 told_on wanted rows table text orders value plan status told t s closed same made p =
     let on = on_plan (λ g v. IsToldBy wanted g v status told) rows table text orders value plan t s closed same made p in
     record { value = value; plan = on.0; told = on.1 }
 
-pub verified_on : (rows : Rows) (table text cert : List ℕ) (orders : List OrderRow) (value : ScriptValue) (plan : PlanValue) (status : ℕ) (told : List ℕ) → DenotesTable table orders → Denotes text value → IsClosed value orders → plan.script ≡ value → plan.orders ≡ orders
-    → IsVerifiedBy (record { rows = rows; orders = plan.orders }) plan.script cert status told → IsVerifiedOn rows table text cert status told
+pub verified_on : (rows : Rows) (table text cert : List ℕ) (orders : List OrderRow) (value : ScriptValue)
+    (plan : PlanValue) (status : ℕ) (told : List ℕ) → DenotesTable table orders → Denotes text value
+    → IsClosed value orders → plan.script ≡ value → plan.orders ≡ orders
+    → IsVerifiedBy (record { rows = rows; orders = plan.orders }) plan.script cert status told
+    → IsVerifiedOn rows table text cert status told
 verified_on rows table text cert orders value plan status told t s closed same made p =
     let on = on_plan (λ g v. IsVerifiedBy g v cert status told) rows table text orders value plan t s closed same made p in
     record { value = value; plan = on.0; told = on.1 }

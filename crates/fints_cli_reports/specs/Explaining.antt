@@ -16,14 +16,16 @@ IsWayTo steps figures None answers = Unit {0}
 IsWayTo steps figures (Some n) answers = LeadsToGreatest steps figures n answers
 
 -- behind the old text stands a case that shows this finding, which counts from 1
-pub record IsCaseWritten (granted : Granted) (script : ScriptValue) (figures : List (Option Reached)) (number : ℕ) (f : Finding) (old new : List ℕ) : Type 0 where
+pub record IsCaseWritten (granted : Granted) (script : ScriptValue) (figures : List (Option Reached))
+    (number : ℕ) (f : Finding) (old new : List ℕ) : Type 0 where
   pub case : CaseValue
   pub shows : Shows granted script f case.values case.answers
   pub chosen : IsChosenCase granted script figures f case
   pub text_is : new ≡ old ++ shown_case script.steps number f case
 
 -- behind the old text stands a case of each finding
-pub record AreCasesWritten (granted : Granted) (script : ScriptValue) (figures : List (Option Reached)) (findings : List Finding) (old new : List ℕ) : Type 0 where
+pub record AreCasesWritten (granted : Granted) (script : ScriptValue) (figures : List (Option Reached))
+    (findings : List Finding) (old new : List ℕ) : Type 0 where
   pub cases : List CaseValue
   pub are : AreCases granted script findings cases
   pub chosen : AreCasesChosen granted script figures findings cases

@@ -57,7 +57,8 @@ report_status (f ∷ fs) = 1
 abbrev pub EndsClean : List ℕ → Type 0
 EndsClean text = (before : List ℕ) × (text ≡ before ++ codes "clean\n")
 
--- the text and the status tell the greatest figures of the steps, and what the runs break under these permissions; where the text ends with `clean`, each message of each run is permitted
+-- the text and the status tell the greatest figures of the steps, and what the runs break under these
+-- permissions; where the text ends with `clean`, each message of each run is permitted
 pub record IsReportBy (granted : Granted) (script : ScriptValue) (status : ℕ) (text : List ℕ) : Type 0 where
   pub figures : List (Option Reached)
   pub findings : List Finding

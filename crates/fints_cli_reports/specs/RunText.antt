@@ -1,4 +1,5 @@
--- The text of `run`: the messages that a client sends under a case, each behind a line that tells it, with LF at the ends. Words of private contracts and proofs alone stand last, under a heading.
+-- The text of `run`: the messages that a client sends under a case, each behind a line that tells it, with LF
+-- at the ends. Words of private contracts and proofs alone stand last, under a heading.
 use Rattle.std.specs.Prelude.{◌≡◌, ℕ, List, ◌++◌, length, codes, Contains, Option, None, Some}
 use Rattle.std.specs.List.{flat_map, All}
 use Rattle.std.specs.Fmt.{decimal}
@@ -99,7 +100,9 @@ pub record IsCaseWithout (script : ScriptValue) (case : List ℕ) (number : ℕ)
 abbrev pub IsRunRefusal : List ℕ → List ℕ → List ℕ → Option ℕ → Fault → Type 0
 IsRunRefusal orders script case only (Case f) = ((value : ScriptValue) × ArePlan orders script value) × IsBadCase case f
 IsRunRefusal orders script case only NotAdmitted = (value : ScriptValue) × ArePlan orders script value × IsNotAdmitted value case
-IsRunRefusal orders script case only (NoMessage number) = (only ≡ Some number) × ((value : ScriptValue) × ArePlan orders script value × IsCaseWithout value case number)
+IsRunRefusal orders script case only (NoMessage number) =
+    (only ≡ Some number)
+    × ((value : ScriptValue) × ArePlan orders script value × IsCaseWithout value case number)
 IsRunRefusal orders script case only f = IsPlanRefusal orders script f
 
 -- ---- of private contracts and proofs alone

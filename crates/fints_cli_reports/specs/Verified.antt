@@ -20,7 +20,8 @@ abbrev pub TellsWhether : Bool → ℕ → List ℕ → Type 0
 TellsWhether true status text = (status ≡ 0) × (text ≡ codes "valid\n")
 TellsWhether false status text = (status ≡ 1) × (text ≡ codes "invalid\n")
 
--- the text of a certificate is good, and the status and the text tell whether it is closed; where they say `valid` it keeps its promise, and each message of each run is permitted
+-- the text of a certificate is good, and the status and the text tell whether it is closed; where they say
+-- `valid` it keeps its promise, and each message of each run is permitted
 pub record IsVerifiedBy (granted : Granted) (script : ScriptValue) (certificate : List ℕ) (status : ℕ) (text : List ℕ) : Type 0 where
   pub lines : List Line
   pub certificate_is : IsCertificateOf certificate lines
@@ -51,7 +52,8 @@ IsVerifyRefusal orders script certificate f = IsPlanRefusal orders script f
 
 -- want of memory, or the first refusal: of the capture, or else of the others
 abbrev pub IsUnverified : List ℕ → List ℕ → List ℕ → List ℕ → Fault → Type 0
-IsUnverified params orders script certificate (Certificate line) = ((rows : Rows) × IsParamsOf params rows) × IsVerifyRefusal orders script certificate (Certificate line)
+IsUnverified params orders script certificate (Certificate line) =
+    ((rows : Rows) × IsParamsOf params rows) × IsVerifyRefusal orders script certificate (Certificate line)
 IsUnverified params orders script certificate f = IsRefused params orders script f
 
 -- ---- of private contracts and proofs alone

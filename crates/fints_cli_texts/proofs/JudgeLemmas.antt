@@ -21,11 +21,13 @@ use Rattle.fints_rules_messages.specs.Messages.{IsMessage, MessageView}
 use Rattle.fints_rules.specs.Breaks.{IsJudgeFaultAfter}
 
 -- what a call answers is what is read of the capture
-pub read_of : (capture : List ℕ) (r : Result Rows ParamFault) → IfOk r (IsParamsOf capture) → IfErr r (IsMemoryOr (IsParamFault capture)) → IsReadOf capture r
+pub read_of : (capture : List ℕ) (r : Result Rows ParamFault) → IfOk r (IsParamsOf capture)
+    → IfErr r (IsMemoryOr (IsParamFault capture)) → IsReadOf capture r
 read_of capture (Ok rows) h k = h
 read_of capture (Err f) h k = k
 
-pub params_refused : (capture table : List ℕ) (IsLater : Fault → Type 0) (f : ParamFault) → IsMemoryOr (IsParamFault capture) f → IsFirstRefusal capture table IsLater (fault_of f)
+pub params_refused : (capture table : List ℕ) (IsLater : Fault → Type 0) (f : ParamFault)
+    → IsMemoryOr (IsParamFault capture) f → IsFirstRefusal capture table IsLater (fault_of f)
 params_refused capture table P params.Memory h = tt
 params_refused capture table P (params.Syntax s) (inl e) = absurd (cc)
 params_refused capture table P (params.Syntax s) (inr p) = p
@@ -38,25 +40,31 @@ params_refused capture table P params.NoBankParameters (inr p) = p
 params_refused capture table P params.NoPinParameters (inl e) = absurd (cc)
 params_refused capture table P params.NoPinParameters (inr p) = p
 
-pub orders_refused : (capture table : List ℕ) (IsLater : Fault → Type 0) (rows : Rows) (f : TableFault) → IsParamsOf capture rows → IsTableFault table f → IsFirstRefusal capture table IsLater (order_fault_of f)
+pub orders_refused : (capture table : List ℕ) (IsLater : Fault → Type 0) (rows : Rows) (f : TableFault)
+    → IsParamsOf capture rows → IsTableFault table f → IsFirstRefusal capture table IsLater (order_fault_of f)
 orders_refused capture table P rows orders.Memory h p = tt
 orders_refused capture table P rows orders.NotToml h p = ((rows, h), p)
 orders_refused capture table P rows orders.UnknownKey h p = ((rows, h), p)
 orders_refused capture table P rows (orders.BadRow n) h p = ((rows, h), p)
 orders_refused capture table P rows (orders.TwoRows n) h p = ((rows, h), p)
 
-pub message_refused : (bytes : List ℕ) (f : JudgeFault) → IsJudgeFault bytes f → IsMessageRefusal bytes (message_fault_of f)
+pub message_refused : (bytes : List ℕ) (f : JudgeFault) → IsJudgeFault bytes f
+    → IsMessageRefusal bytes (message_fault_of f)
 message_refused bytes message.Memory h = tt
 message_refused bytes (message.NotAMessage offset) h = h
 message_refused bytes (message.NotAMessageBefore offset) h = h
 
 -- a refusal of what is read after a good capture and a good order table
-pub refused_whole : (capture table bytes : List ℕ) (rows : Rows) (orders : List OrderRow) (f : Fault) → IsParamsOf capture rows → DenotesTable table orders → IsMessageRefusal bytes f → IsJudgeRefusal capture table bytes f
+pub refused_whole : (capture table bytes : List ℕ) (rows : Rows) (orders : List OrderRow) (f : Fault)
+    → IsParamsOf capture rows → DenotesTable table orders → IsMessageRefusal bytes f
+    → IsJudgeRefusal capture table bytes f
 refused_whole capture table bytes rows orders Memory h i p = tt
 refused_whole capture table bytes rows orders (Message f) h i p = (record { rows = rows; table = orders; rows_are = h; table_is = i }, p)
 refused_whole capture table bytes rows orders _ h i p = absurd p
 
-pub refused_three : (capture table before answer bytes : List ℕ) (rows : Rows) (orders : List OrderRow) (f : Fault) → IsParamsOf capture rows → DenotesTable table orders → IsRefusalOfThree before answer bytes f → IsJudgeAfterRefusal capture table before answer bytes f
+pub refused_three : (capture table before answer bytes : List ℕ) (rows : Rows) (orders : List OrderRow)
+    (f : Fault) → IsParamsOf capture rows → DenotesTable table orders → IsRefusalOfThree before answer bytes f
+    → IsJudgeAfterRefusal capture table before answer bytes f
 refused_three capture table before answer bytes rows orders Memory h i p = tt
 refused_three capture table before answer bytes rows orders (Before offset) h i p = (record { rows = rows; table = orders; rows_are = h; table_is = i }, p)
 refused_three capture table before answer bytes rows orders (Answer f) h i p = (record { rows = rows; table = orders; rows_are = h; table_is = i }, p)
@@ -65,17 +73,20 @@ refused_three capture table before answer bytes rows orders _ h i p = absurd p
 
 -- ---- of a message behind another one
 
-pub before_refused : (before answer bytes : List ℕ) (f : Fault) → IsBeforeRefusal before f → IsRefusalOfThree before answer bytes f
+pub before_refused : (before answer bytes : List ℕ) (f : Fault) → IsBeforeRefusal before f
+    → IsRefusalOfThree before answer bytes f
 before_refused before answer bytes Memory p = tt
 before_refused before answer bytes (Before offset) p = p
 before_refused before answer bytes _ p = absurd p
 
-pub answer_refused : (before answer bytes : List ℕ) (m : MessageView) (f : Fault) → IsMessage before m → IsAnswerRefusal answer f → IsRefusalOfThree before answer bytes f
+pub answer_refused : (before answer bytes : List ℕ) (m : MessageView) (f : Fault) → IsMessage before m
+    → IsAnswerRefusal answer f → IsRefusalOfThree before answer bytes f
 answer_refused before answer bytes m Memory is p = tt
 answer_refused before answer bytes m (Answer f) is p = ((m, is), p)
 answer_refused before answer bytes m _ is p = absurd p
 
-pub codes_refused : (answer : List ℕ) (f : ParamFault) → IsMemoryOr (IsCodeFault answer) f → IsAnswerRefusal answer (answer_fault_of f)
+pub codes_refused : (answer : List ℕ) (f : ParamFault) → IsMemoryOr (IsCodeFault answer) f
+    → IsAnswerRefusal answer (answer_fault_of f)
 codes_refused answer params.Memory h = tt
 codes_refused answer (params.Syntax s) (inl e) = absurd (cc)
 codes_refused answer (params.Syntax s) (inr p) = p
@@ -88,7 +99,9 @@ codes_refused answer params.NoBankParameters (inr p) = p
 codes_refused answer params.NoPinParameters (inl e) = absurd (cc)
 codes_refused answer params.NoPinParameters (inr p) = p
 
-pub judged_refused : (before answer bytes numbers : List ℕ) (m : MessageView) (f : JudgeFault) → IsMessage before m → IsCodesOf answer numbers → IsJudgeFaultAfter before bytes f → IsRefusalOfThree before answer bytes (message_fault_of f)
+pub judged_refused : (before answer bytes numbers : List ℕ) (m : MessageView) (f : JudgeFault)
+    → IsMessage before m → IsCodesOf answer numbers → IsJudgeFaultAfter before bytes f
+    → IsRefusalOfThree before answer bytes (message_fault_of f)
 judged_refused before answer bytes numbers m message.Memory is of h = tt
 judged_refused before answer bytes numbers m (message.NotAMessage offset) is of h = (((m, is), (numbers, of)), h.1)
 judged_refused before answer bytes numbers m (message.NotAMessageBefore offset) is of h = h

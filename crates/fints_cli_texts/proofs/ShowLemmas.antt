@@ -7,7 +7,8 @@ use Rattle.fints_params.specs.Captures.{IsEitherFault}
 use Rattle.fints_cli_texts.specs.Fault.{fault_of}
 use Rattle.fints_cli_texts.specs.Show.{IsMemoryOrShowFault}
 
-pub kept : (capture : List ℕ) (f : ParamFault) → IsMemoryOr (IsEitherFault capture) f → IsMemoryOrShowFault capture (fault_of f)
+pub kept : (capture : List ℕ) (f : ParamFault) → IsMemoryOr (IsEitherFault capture) f
+    → IsMemoryOrShowFault capture (fault_of f)
 kept capture params.Memory h = tt
 kept capture (params.Syntax s) (inl e) = absurd (cc)
 kept capture (params.Syntax s) (inr p) = p

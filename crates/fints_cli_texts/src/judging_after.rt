@@ -48,7 +48,9 @@ fn judge_behind(
     answer: &[u8],
     message: &[u8],
 ) -> Result<Reply, Fault>
-    ensures judged { IfOk result (λ reply. IsVerdictAfterBy permissions.now.rows permissions.now.orders before.now answer.now message.now reply.status reply.text.items) }
+    ensures judged { IfOk result (λ reply.
+        IsVerdictAfterBy permissions.now.rows permissions.now.orders before.now answer.now message.now
+        reply.status reply.text.items) }
     ensures refused { IfErr result (λ f. IsRefusalOfThree before.now answer.now message.now f) }
 {
     let _earlier = read_before(alloc, before)?;

@@ -17,7 +17,14 @@ nothing_in broken b none h = let has = subst (λ (xs : List Broken). Contains xs
 
 pub permitted : (granted : Granted) (bytes : List ℕ) (broken : List Broken) → IsJudged granted bytes broken
     → broken ≡ [] → Permitted granted bytes
-permitted granted bytes broken h none = record { message = h.message; is = h.is; none = λ rule place b. nothing_in broken (record { rule = rule; segment = place }) none ((h.exactly rule place).1 b) }
+permitted granted bytes broken h none =
+    record {
+      message = h.message;
+      is = h.is;
+      none =
+          λ rule place b.
+          nothing_in broken (record { rule = rule; segment = place }) none ((h.exactly rule place).1 b);
+    }
 
 pub permitted_after : (granted : Granted) (before codes bytes : List ℕ) (broken : List Broken)
     → IsJudgedAfter granted before codes bytes broken → broken ≡ []
@@ -27,7 +34,10 @@ permitted_after granted before codes bytes broken h none =
       alone = record {
         message = h.message;
         is = h.is;
-        none = λ rule place b. nothing_in broken (record { rule = rule; segment = place }) none ((h.exactly rule place).1 (inl (record { message = h.message; is = h.is; breaks = b })));
+        none =
+            λ rule place b.
+            nothing_in broken (record { rule = rule; segment = place }) none
+            ((h.exactly rule place).1 (inl (record { message = h.message; is = h.is; breaks = b })));
       };
       released = λ b. nothing_in broken (record { rule = Release; segment = 0 }) none ((h.exactly Release 0).1 (inr (refl, refl, b)));
     }

@@ -38,7 +38,9 @@ codes_refused None old new s f e n (inr k) = λ seen h. refused_later feedback_f
 
 -- ---- at the end
 
-pub code_fault : (capture : List ℕ) (segments : List OwnedSegment) (refused : Option ParamFault) (numbers : List ℕ) (f : ParamFault) → refused ≡ Some f → AreSegmentsOf capture segments → CodesRead segments refused numbers → IsCodeFault capture f
+pub code_fault : (capture : List ℕ) (segments : List OwnedSegment) (refused : Option ParamFault)
+    (numbers : List ℕ) (f : ParamFault) → refused ≡ Some f → AreSegmentsOf capture segments
+    → CodesRead segments refused numbers → IsCodeFault capture f
 code_fault capture segments None numbers f e o h = absurd cc
 code_fault capture segments (Some g) numbers f e o h =
     let same : g ≡ f = cc in
@@ -62,8 +64,10 @@ pub codes_are : (message : List ℕ) (segments : List OwnedSegment) (numbers : L
     → AreSegmentsOf message segments → CodesSoFar segments numbers → IsCodesOf message numbers
 codes_are message segments numbers o h = record { segments = segments; opened = o; each = each_bad_code segments h.none; numbers_are = h.numbers_are }
 
-pub params_read : (capture : List ℕ) (segments : List OwnedSegment) (g : Gathered) (r : Result Rows ParamFault) → AreSegmentsOf capture segments → ParamsSoFar segments g
-    → IfOk r (λ p. (ss : List OwnedSegment) → IsGathered ss g → end_fault ss ≡ None) → IfOk r (λ p. (ss : List OwnedSegment) → IsGathered ss g → IsRowsOf ss p)
+pub params_read : (capture : List ℕ) (segments : List OwnedSegment) (g : Gathered)
+    (r : Result Rows ParamFault) → AreSegmentsOf capture segments → ParamsSoFar segments g
+    → IfOk r (λ p. (ss : List OwnedSegment) → IsGathered ss g → end_fault ss ≡ None)
+    → IfOk r (λ p. (ss : List OwnedSegment) → IsGathered ss g → IsRowsOf ss p)
     → IfOk r (λ p. IsParamsOf capture p)
 params_read capture segments g (Ok rows) o h complete are = params_of capture segments g rows o h (complete segments h.rows) (are segments h.rows)
 params_read capture segments g (Err f) o h complete are = complete

@@ -32,12 +32,15 @@ within_from at (p ∷ ps) h =
 pub all_within : (capture : List ℕ) (views : List Placed) → length capture ≤ MAX_CAPTURE
     → IsPlacedCapture capture views → AllByRecursion EndsWithin views
 all_within capture views le (tail, breaks, r) =
-    subst (λ (vs : List Placed). AllByRecursion EndsWithin vs) r.placed_are (within_from 0 r.pieces (omega (arith, ap length r.text, length-append (flat_map piece_bytes r.pieces) tail)))
+    subst (λ (vs : List Placed). AllByRecursion EndsWithin vs) r.placed_are
+    (within_from 0 r.pieces
+    (omega (arith, ap length r.text, length-append (flat_map piece_bytes r.pieces) tail)))
 
 -- ---- what is skipped
 
 trees_within : (at : ℕ) (ps : List Piece) → AllByRecursion IsPiece ps
-    → skipped_in (map segment_of (map (λ p. p.segment) (placed_from at ps))) ≤ length (flat_map piece_bytes ps)
+    → skipped_in (map segment_of (map (λ p. p.segment) (placed_from at ps))) ≤ length
+    (flat_map piece_bytes ps)
 trees_within at [] each = omega arith
 trees_within at (p ∷ ps) each =
     let rest = map segment_of (map (λ p. p.segment) (placed_from (at + length (piece_bytes p)) ps)) in

@@ -35,11 +35,18 @@ own_of false o e = e
 pub each_bad_element : (segments : List OwnedSegment) → NoneRefused fault_after segments
     → AllByRecursion (λ s. bad_element s ≡ None) segments
 each_bad_element segments none =
-    each_of (λ s. bad_element s ≡ None) fault_after (λ before s e. unmapped (λ n. BadElement s.head.number n) (bad_element s) (own_of (is_bank s && not (is_empty (filter is_bank before))) (option_map (λ n. BadElement s.head.number n) (bad_element s)) e)) [] segments none
+    each_of (λ s. bad_element s ≡ None) fault_after
+    (λ before s e.
+    unmapped (λ n. BadElement s.head.number n) (bad_element s)
+    (own_of (is_bank s && not (is_empty (filter is_bank before)))
+    (option_map (λ n. BadElement s.head.number n) (bad_element s)) e))
+    [] segments none
 
 pub each_bad_code : (segments : List OwnedSegment) → NoneRefused feedback_fault segments
     → AllByRecursion (λ s. bad_code s ≡ None) segments
-each_bad_code segments none = each_of (λ s. bad_code s ≡ None) feedback_fault (λ before s e. unmapped (λ n. BadElement s.head.number n) (bad_code s) e) [] segments none
+each_bad_code segments none =
+    each_of (λ s. bad_code s ≡ None) feedback_fault
+    (λ before s e. unmapped (λ n. BadElement s.head.number n) (bad_code s) e) [] segments none
 
 no_end : (bank pins : Bool) → pins ≡ true
     → (if bank then Some NoBankParameters else (if pins then Some NoPinParameters else None)) ≡ None → ⊥
@@ -74,8 +81,16 @@ one_bank : (segments before after : List OwnedSegment) (at : OwnedSegment) (bank
     → read_each is_bank bank_row segments ≡ bank ∷ [] → segments ≡ before ++ at ∷ after
     → (is_bank at && not (is_empty (filter is_bank before))) ≡ false
 one_bank segments before after at bank one e =
-    let all : filter is_bank segments ≡ filter is_bank before ++ filter is_bank (at ∷ after) = ap (filter is_bank) e ∙ filter-append is_bank before (at ∷ after) in
-    no_two (is_bank at) (filter is_bank before) after at refl (omega (arith, ap length one, length-map (filter is_bank segments) bank_row, ap length all, length-append (filter is_bank before) (filter is_bank (at ∷ after))))
+    let all : filter is_bank segments ≡ filter is_bank before ++ filter is_bank (at ∷ after) =
+    ap (filter is_bank) e ∙ filter-append is_bank before (at ∷ after) in
+    no_two (is_bank at) (filter is_bank before) after at refl
+    (omega (
+      arith,
+      ap length one,
+      length-map (filter is_bank segments) bank_row,
+      ap length all,
+      length-append (filter is_bank before) (filter is_bank (at ∷ after)),
+    ))
 
 pub none_of_rows : (segments : List OwnedSegment) (bank : BankRow)
     → AllByRecursion (λ s. bad_element s ≡ None) segments → read_each is_bank bank_row segments ≡ bank ∷ []
@@ -86,7 +101,9 @@ none_of_rows segments bank each one = λ before after at e.
     rw (first, fine) refl
 
 ended : (banks pins : List OwnedSegment) → length banks ≡ 1 → (pins ≡ [] → ⊥)
-    → (if is_empty banks then Some NoBankParameters else (if is_empty pins then Some NoPinParameters else None)) ≡ None
+    → (if is_empty banks then Some NoBankParameters else
+    (if is_empty pins then Some NoPinParameters else None))
+    ≡ None
 ended [] pins one some = absurd (omega (arith, one))
 ended (b ∷ bs) [] one some = absurd (some refl)
 ended (b ∷ bs) (p ∷ ps) one some = refl
@@ -94,4 +111,6 @@ ended (b ∷ bs) (p ∷ ps) one some = refl
 pub complete_of : (segments : List OwnedSegment) (bank : BankRow)
     → read_each is_bank bank_row segments ≡ bank ∷ [] → (filter is_pins segments ≡ [] → ⊥)
     → end_fault segments ≡ None
-complete_of segments bank one pins = ended (filter is_bank segments) (filter is_pins segments) (omega (arith, ap length one, length-map (filter is_bank segments) bank_row)) pins
+complete_of segments bank one pins =
+    ended (filter is_bank segments) (filter is_pins segments)
+    (omega (arith, ap length one, length-map (filter is_bank segments) bank_row)) pins

@@ -24,7 +24,8 @@ pub left_start : (vs : List (List ℕ)) (old : List ℕ) → Left vs 0 old old
 left_start vs old = record { good = λ k lt. absurd (omega arith); codes_are = sym (append-nil old) }
 
 one_more : (vs : List (List ℕ)) (i : ℕ) → i < length vs
-    → filter_map code_in (take (i + 1) vs) ≡ filter_map code_in (take i vs) ++ cons_option (code_in (get_or vs i [])) []
+    → filter_map code_in (take (i + 1) vs) ≡ filter_map code_in (take i vs) ++ cons_option
+    (code_in (get_or vs i [])) []
 one_more vs i lt = ap (λ (x : List (List ℕ)). filter_map code_in x) (take_more vs i [] lt) ∙ filter_map-append code_in (take i vs) (get_or vs i [] ∷ [])
 
 good_more : (vs : List (List ℕ)) (i : ℕ) → ((k : ℕ) → k < i → is_bad_code (get_or vs k []) ≡ false)
@@ -53,7 +54,12 @@ left_skip vs i codes old v l lt e z =
     let c : code_in (get_or vs i []) ≡ None = ap code_in e ∙ empty_none v z in
     record {
       good = good_more vs i l.good (ap is_bad_code e ∙ empty_good v z);
-      codes_are = l.codes_are ∙ ap (λ (x : List ℕ). old ++ x) (sym (append-nil (filter_map code_in (take i vs))) ∙ ap (λ (o : Option ℕ). filter_map code_in (take i vs) ++ cons_option o []) (sym c) ∙ sym (one_more vs i lt));
+      codes_are =
+          l.codes_are
+          ∙ ap (λ (x : List ℕ). old ++ x)
+          (sym (append-nil (filter_map code_in (take i vs)))
+          ∙ ap (λ (o : Option ℕ). filter_map code_in (take i vs) ++ cons_option o []) (sym c)
+          ∙ sym (one_more vs i lt));
     }
 
 pub left_more : (vs : List (List ℕ)) (i : ℕ) (codes old v : List ℕ) (n : ℕ) → Left vs i codes old
@@ -77,14 +83,23 @@ pub left_bad : (vs : List (List ℕ)) (i : ℕ) (codes old v : List ℕ) → Lef
     → get_or vs i [] ≡ v → 0 < length v → code_in v ≡ None → position is_bad_code vs ≡ Some i
 left_bad vs i codes old v l lt e z h =
     let bad : is_bad_code (get_or vs i []) ≡ true = ap is_bad_code e ∙ none_bad v z h in
-    let at : position_or_len is_bad_code vs ≡ i = prefix_len_is (λ x. not (is_bad_code x)) vs i [] (omega arith) (λ k less. not_false (is_bad_code (get_or vs k [])) (l.good k less)) (λ less. not_true (is_bad_code (get_or vs i [])) bad) in
+    let at : position_or_len is_bad_code vs ≡ i =
+    prefix_len_is (λ x. not (is_bad_code x)) vs i [] (omega arith)
+    (λ k less. not_false (is_bad_code (get_or vs k [])) (l.good k less))
+    (λ less. not_true (is_bad_code (get_or vs i [])) bad) in
     rw (at, lt-ltb i (length vs) lt) refl
 
 pub left_end : (vs : List (List ℕ)) (i : ℕ) (codes old : List ℕ) → Left vs i codes old → length vs ≡ i
     → (position is_bad_code vs ≡ None) × (codes ≡ old ++ filter_map code_in vs)
 left_end vs i codes old l e =
-    let at : position_or_len is_bad_code vs ≡ length vs = prefix_len_is (λ x. not (is_bad_code x)) vs (length vs) [] (omega arith) (λ k less. not_false (is_bad_code (get_or vs k [])) (l.good k (omega arith))) (λ less. absurd (omega arith)) in
-    (rw (at, le-ltb (length vs) (length vs) (omega arith)) refl, l.codes_are ∙ ap (λ (x : List (List ℕ)). old ++ filter_map code_in x) (take_all i vs (omega arith)))
+    let at : position_or_len is_bad_code vs ≡ length vs =
+    prefix_len_is (λ x. not (is_bad_code x)) vs (length vs) [] (omega arith)
+    (λ k less. not_false (is_bad_code (get_or vs k [])) (l.good k (omega arith)))
+    (λ less. absurd (omega arith)) in (
+      rw (at, le-ltb (length vs) (length vs) (omega arith)) refl,
+      l.codes_are
+          ∙ ap (λ (x : List (List ℕ)). old ++ filter_map code_in x) (take_all i vs (omega arith)),
+    )
 
 -- ---- after the segments that were seen
 
@@ -94,14 +109,19 @@ codes_more s old new fine e = λ seen h.
     record {
       none = none_push feedback_fault seen s h.none (rw fine refl);
       numbers_are = e ∙ ap (λ (x : List ℕ). x ++ codes_in (s ∷ [])) h.numbers_are
-          ∙ sym (ap (λ xs. flat_map codes_of xs) (filter-append is_feedback seen (s ∷ [])) ∙ flat_map-append codes_of (filter is_feedback seen) (filter is_feedback (s ∷ [])));
+          ∙ sym (ap (λ xs. flat_map codes_of xs) (filter-append is_feedback seen (s ∷ []))
+          ∙ flat_map-append codes_of (filter is_feedback seen) (filter is_feedback (s ∷ [])));
     }
 
 pub codes_stop : (s : OwnedSegment) (old : List ℕ) (f : ParamFault) → IsBad s (bad_code s) f
     → IsMemoryOr (StopsIn feedback_fault CodesSoFar old (s ∷ [])) f
 codes_stop s old Memory h = inl refl
 codes_stop s old (Syntax x) h = absurd h
-codes_stop s old (BadElement n m) h = inr (λ seen k. refused_here feedback_fault seen s (BadElement n m) k.none (rw h.0 (ap (λ (y : ℕ). Some (BadElement y m)) (sym h.1))))
+codes_stop s old (BadElement n m) h =
+    inr
+    (λ seen k.
+    refused_here feedback_fault seen s (BadElement n m) k.none
+    (rw h.0 (ap (λ (y : ℕ). Some (BadElement y m)) (sym h.1))))
 codes_stop s old TwoBankParameters h = absurd h
 codes_stop s old NoBankParameters h = absurd h
 codes_stop s old NoPinParameters h = absurd h

@@ -30,13 +30,16 @@ whole_is bytes placed to h = omega (arith, h.within, length-drop to.whole bytes)
 
 pub read_on : (front more : List ℕ) (placed next : List Placed) (to read : ReadTo) → IsReadTo front placed to
     → IsReadTo (drop to.whole (front ++ more)) next read
-    → IsReadTo (front ++ more) (placed ++ moved_by to.whole next) (record { whole = to.whole + read.whole; rest = read.rest })
+    → IsReadTo (front ++ more) (placed ++ moved_by to.whole next)
+    (record { whole = to.whole + read.whole; rest = read.rest })
 read_on front more placed next to read h g =
     let bytes = front ++ more in
     let rest = drop to.whole front in
     let e : drop to.whole bytes ≡ rest ++ more = drop-append-le to.whole front more h.within in
     let k : IsReadTo (rest ++ more) next read = subst (λ (xs : List ℕ). IsReadTo xs next read) e g in
-    let both = cut_segments front more placed next rest (drop read.whole (rest ++ more)) (read_splits front placed to h) (read_splits (rest ++ more) next read k) in
+    let both =
+    cut_segments front more placed next rest (drop read.whole (rest ++ more))
+    (read_splits front placed to h) (read_splits (rest ++ more) next read k) in
     let left : drop read.whole (rest ++ more) ≡ drop (to.whole + read.whole) bytes = ap (drop read.whole) (sym e) ∙ drop-drop read.whole to.whole bytes in
     let here = subst (λ (n : ℕ). ReadsPlaced bytes (placed ++ moved_by n next) (drop read.whole (rest ++ more))) (whole_is front placed to h) both.reads in
     record {
@@ -77,14 +80,26 @@ come_none rule Good state b fresh g =
     record {
       short = omega arith;
       placed = [];
-      read = record { within = omega arith; reads = record { pieces = []; each = tt; placed_are = refl; text = refl }; ready = fresh []; unended = subst IsBegun (sym e) tt };
+      read =
+          record {
+            within =
+                omega arith;
+            reads = record { pieces = []; each = tt; placed_are = refl; text = refl };
+            ready = fresh [];
+            unended = subst IsBegun (sym e) tt;
+          };
       segments = views_none Good state g;
     }
 
 -- more of them are
-pub come_on : {S : Type 0} (rule : Rule) (Good : List OwnedSegment → S → Type 0) (front more bytes rest : List ℕ) (to read : ReadTo) (before after : Option ParamFault) (a b : S) (next : List Placed)
-    → bytes ≡ front ++ more → rest ≡ drop to.whole bytes → HasCome rule Good front to before a → IsReadTo rest next read → to.whole + length rest ≤ MAX_CAPTURE
-    → ((seen : List Placed) → HasRead rule Good seen before a → HasRead rule Good (seen ++ moved_by to.whole next) after b) → HasCome rule Good bytes (record { whole = to.whole + read.whole; rest = read.rest }) after b
+pub come_on : {S : Type 0} (rule : Rule) (Good : List OwnedSegment → S → Type 0)
+    (front more bytes rest : List ℕ) (to read : ReadTo) (before after : Option ParamFault) (a b : S)
+    (next : List Placed)
+    → bytes ≡ front ++ more → rest ≡ drop to.whole bytes → HasCome rule Good front to before a
+    → IsReadTo rest next read → to.whole + length rest ≤ MAX_CAPTURE
+    → ((seen : List Placed) → HasRead rule Good seen before a
+    → HasRead rule Good (seen ++ moved_by to.whole next) after b)
+    → HasCome rule Good bytes (record { whole = to.whole + read.whole; rest = read.rest }) after b
 come_on rule Good front more bytes rest to read before after a b next e back h k le goes =
     let own : IsReadTo (drop to.whole (front ++ more)) next read = subst (λ (xs : List ℕ). IsReadTo xs next read) (back ∙ ap (drop to.whole) e) k in
     let all = read_on front more h.placed next to read h.read own in
@@ -98,7 +113,8 @@ come_on rule Good front more bytes rest to read before after a b next e back h k
 -- a fault of the rest with more bytes is the stream's
 pub piece_fault : (front more : List ℕ) (placed : List Placed) (to : ReadTo) (f : SyntaxFault) (o : ℕ)
     → length front ≤ MAX_CAPTURE → IsReadTo front placed to → f.offset ≡ to.whole + o
-    → PieceFaultAt (MAX_CAPTURE - to.whole) f.kind o (drop to.whole (front ++ more)) → PieceFaultAt MAX_CAPTURE f.kind f.offset (front ++ more)
+    → PieceFaultAt (MAX_CAPTURE - to.whole) f.kind o (drop to.whole (front ++ more))
+    → PieceFaultAt MAX_CAPTURE f.kind f.offset (front ++ more)
 piece_fault front more placed to f o short h is p =
     let rest = drop to.whole front in
     let e : drop to.whole (front ++ more) ≡ rest ++ more = drop-append-le to.whole front more h.within in
@@ -107,18 +123,22 @@ piece_fault front more placed to f o short h is p =
     let n = whole_is front placed to h in
     let limit : whole_len front rest + (MAX_CAPTURE - to.whole) ≡ MAX_CAPTURE = omega (arith, n, h.within, short) in
     let at : whole_len front rest + o ≡ f.offset = omega (arith, n, is) in
-    subst (λ (k : ℕ). PieceFaultAt MAX_CAPTURE f.kind k (front ++ more)) at (subst (λ (k : ℕ). PieceFaultAt k f.kind (whole_len front rest + o) (front ++ more)) limit all)
+    subst (λ (k : ℕ). PieceFaultAt MAX_CAPTURE f.kind k (front ++ more)) at
+    (subst (λ (k : ℕ). PieceFaultAt k f.kind (whole_len front rest + o) (front ++ more)) limit all)
 
 pub stream_fault : (front more : List ℕ) (placed : List Placed) (to : ReadTo) (f : SyntaxFault)
     → length front ≤ MAX_CAPTURE → IsReadTo front placed to
-    → IsStreamFault to.whole (drop to.whole (front ++ more)) f → IsMemoryOr (IsPieceFault (front ++ more)) (as_param_fault f)
+    → IsStreamFault to.whole (drop to.whole (front ++ more)) f
+    → IsMemoryOr (IsPieceFault (front ++ more)) (as_param_fault f)
 stream_fault front more placed to f short h (inl m) = inl (ap as_param_fault m)
 stream_fault front more placed to f short h (inr (o, is, p)) =
     let here = piece_fault front more placed to f o short h is p in
     inr (f, here, syntax_from f.kind f.offset (piece_fault_is_capture_fault (front ++ more) f here).1)
 
-pub come_fault : {S : Type 0} (rule : Rule) (Good : List OwnedSegment → S → Type 0) (front more bytes rest : List ℕ) (to : ReadTo) (before : Option ParamFault) (a : S) (f : SyntaxFault)
-    → bytes ≡ front ++ more → rest ≡ drop to.whole bytes → HasCome rule Good front to before a → IsStreamFault to.whole rest f → IsMemoryOr (IsPieceFault bytes) (as_param_fault f)
+pub come_fault : {S : Type 0} (rule : Rule) (Good : List OwnedSegment → S → Type 0)
+    (front more bytes rest : List ℕ) (to : ReadTo) (before : Option ParamFault) (a : S) (f : SyntaxFault)
+    → bytes ≡ front ++ more → rest ≡ drop to.whole bytes → HasCome rule Good front to before a
+    → IsStreamFault to.whole rest f → IsMemoryOr (IsPieceFault bytes) (as_param_fault f)
 come_fault rule Good front more bytes rest to before a f e back h k =
     let own : IsStreamFault to.whole (drop to.whole (front ++ more)) f = subst (λ (xs : List ℕ). IsStreamFault to.whole xs f) (back ∙ ap (drop to.whole) e) k in
     subst (λ (xs : List ℕ). IsMemoryOr (IsPieceFault xs) (as_param_fault f)) (sym e) (stream_fault front more h.placed to f h.short h.read own)
@@ -129,20 +149,39 @@ syntax_fault bytes f (fault, h, e) = let l = piece_fault_is_capture_fault bytes 
 
 -- ---- where the bytes are all
 
-whole : {S : Type 0} (rule : Rule) (Good : List OwnedSegment → S → Type 0) (bytes : List ℕ) (to : ReadTo) (refused : Option ParamFault) (state : S) (h : HasCome rule Good bytes to refused state)
+whole : {S : Type 0} (rule : Rule) (Good : List OwnedSegment → S → Type 0) (bytes : List ℕ) (to : ReadTo)
+    (refused : Option ParamFault) (state : S) (h : HasCome rule Good bytes to refused state)
     → length bytes ≤ to.whole + to.rest.gap → IsPlacedCapture bytes h.placed
 whole rule Good bytes to refused state h le =
     let rest = drop to.whole bytes in
     let all : take to.rest.gap rest ≡ rest = take_all to.rest.gap rest (omega (arith, length-drop to.whole bytes, h.read.within, le)) in
     (rest, subst (AllByRecursion IsBreak) all h.read.ready.breaks, h.read.reads)
 
-pub ended : {S : Type 0} (rule : Rule) (Good : List OwnedSegment → S → Type 0) (bytes : List ℕ) (to : ReadTo) (refused : Option ParamFault) (state : S) → refused ≡ None → HasCome rule Good bytes to refused state → length bytes ≤ to.whole + to.rest.gap → ReadsCapture Good bytes state
+pub ended : {S : Type 0} (rule : Rule) (Good : List OwnedSegment → S → Type 0) (bytes : List ℕ) (to : ReadTo)
+    (refused : Option ParamFault) (state : S) → refused ≡ None → HasCome rule Good bytes to refused state
+    → length bytes ≤ to.whole + to.rest.gap → ReadsCapture Good bytes state
 ended rule Good bytes to (Some f) state e h le = absurd cc
 ended rule Good bytes to None state e h le =
-    let (segments, opened, g) = h.segments in
-    (segments, record { short = h.short; outer = values_in h.placed; reads = (map (λ p. p.segment) h.placed, (h.placed, whole rule Good bytes to None state h le, refl), refl); opened = opened }, g)
+    let (segments, opened, g) = h.segments in (
+      segments,
+      record {
+        short =
+            h.short;
+        outer = values_in h.placed;
+        reads = (
+          map (λ p. p.segment) h.placed,
+          (h.placed, whole rule Good bytes to None state h le, refl),
+          refl,
+        );
+        opened = opened;
+      },
+      g,
+    )
 
-pub end_refused : {S : Type 0} (rule : Rule) (Good : List OwnedSegment → S → Type 0) (bytes : List ℕ) (to : ReadTo) (refused : Option ParamFault) (state : S) (f : ParamFault) → refused ≡ Some f → HasCome rule Good bytes to refused state → length bytes ≤ to.whole + to.rest.gap → IsRefusedOf rule bytes f
+pub end_refused : {S : Type 0} (rule : Rule) (Good : List OwnedSegment → S → Type 0) (bytes : List ℕ)
+    (to : ReadTo) (refused : Option ParamFault) (state : S) (f : ParamFault) → refused ≡ Some f
+    → HasCome rule Good bytes to refused state → length bytes ≤ to.whole + to.rest.gap
+    → IsRefusedOf rule bytes f
 end_refused rule Good bytes to None state f e h le = absurd cc
 end_refused rule Good bytes to (Some g) state f e h le =
     let same : g ≡ f = cc in
@@ -152,10 +191,24 @@ cut_faults : (bytes : List ℕ) (placed : List Placed) (gap begun : List ℕ) (o
     → ReadsPlaced bytes placed (gap ++ begun) → AllByRecursion IsBreak gap → IsBegun begun → 0 < length begun
     → o + length begun ≡ length bytes → FaultsAt bytes kinds.Incomplete o
 cut_faults bytes placed gap [] o r breaks u some at = absurd (omega (arith, some))
-cut_faults bytes placed gap (b ∷ bs) o r breaks u some at = record { placed = placed; gap = gap; first = b; more = bs; breaks = breaks; no_break = u.0; reads = r; at = 0; fault = u.1; offset_is = omega (arith, at) }
+cut_faults bytes placed gap (b ∷ bs) o r breaks u some at =
+    record {
+      placed = placed;
+      gap = gap;
+      first = b;
+      more = bs;
+      breaks = breaks;
+      no_break = u.0;
+      reads = r;
+      at = 0;
+      fault = u.1;
+      offset_is = omega (arith, at);
+    }
 
 -- a segment has begun and doesn't end
-pub end_cut : {S : Type 0} (rule : Rule) (Good : List OwnedSegment → S → Type 0) (bytes : List ℕ) (to : ReadTo) (refused : Option ParamFault) (state : S) → HasCome rule Good bytes to refused state → to.whole + to.rest.gap < length bytes
+pub end_cut : {S : Type 0} (rule : Rule) (Good : List OwnedSegment → S → Type 0) (bytes : List ℕ)
+    (to : ReadTo) (refused : Option ParamFault) (state : S) → HasCome rule Good bytes to refused state
+    → to.whole + to.rest.gap < length bytes
     → IsRefusedOf rule bytes (Syntax (record { kind = kinds.Incomplete; offset = to.whole + to.rest.gap }))
 end_cut rule Good bytes to refused state h lt =
     let rest = drop to.whole bytes in
@@ -164,22 +217,31 @@ end_cut rule Good bytes to refused state h lt =
     let size = length-drop to.whole bytes in
     let left = length-drop to.rest.gap rest in
     let reads = subst (λ (xs : List ℕ). ReadsPlaced bytes h.placed xs) (sym (take-append-drop to.rest.gap rest)) h.read.reads in
-    let fault = cut_faults bytes h.placed gap begun (to.whole + to.rest.gap) reads h.read.ready.breaks h.read.unended (omega (arith, lt, size, left)) (omega (arith, lt, size, left)) in
+    let fault =
+    cut_faults bytes h.placed gap begun (to.whole + to.rest.gap) reads h.read.ready.breaks h.read.unended
+    (omega (arith, lt, size, left)) (omega (arith, lt, size, left)) in
     inl (record { kind = kinds.Incomplete; offset = to.whole + to.rest.gap }, ((h.short, fault), (λ e. cc)), refl)
 
 -- ---- one more segment
 
-pub read_past : {S : Type 0} (rule : Rule) (Good : List OwnedSegment → S → Type 0) (refused : Option ParamFault) (state : S) (view : Placed) → is_some refused ≡ true
-    → (seen : List Placed) → HasRead rule Good seen refused state → HasRead rule Good (seen ++ view ∷ []) refused state
+pub read_past : {S : Type 0} (rule : Rule) (Good : List OwnedSegment → S → Type 0)
+    (refused : Option ParamFault) (state : S) (view : Placed) → is_some refused ≡ true
+    → (seen : List Placed) → HasRead rule Good seen refused state
+    → HasRead rule Good (seen ++ view ∷ []) refused state
 read_past rule Good None state view e = absurd cc
 read_past rule Good (Some f) state view e = λ seen h. views_stay rule seen view f h
 
-pub read_next : {S : Type 0} (rule : Rule) (Good : List OwnedSegment → S → Type 0) (refused : Option ParamFault) (a b : S) (view : Placed) → is_some refused ≡ false → ReadsNext Good a b view
-    → (seen : List Placed) → HasRead rule Good seen refused a → HasRead rule Good (seen ++ view ∷ []) refused b
+pub read_next : {S : Type 0} (rule : Rule) (Good : List OwnedSegment → S → Type 0)
+    (refused : Option ParamFault) (a b : S) (view : Placed) → is_some refused ≡ false
+    → ReadsNext Good a b view
+    → (seen : List Placed) → HasRead rule Good seen refused a
+    → HasRead rule Good (seen ++ view ∷ []) refused b
 read_next rule Good None a b view e k = λ seen h. views_push Good a b seen view h k
 read_next rule Good (Some f) a b view e k = absurd cc
 
-pub read_stop : {S : Type 0} (rule : Rule) (Good : List OwnedSegment → S → Type 0) (refused : Option ParamFault) (a : S) (view : Placed) (f : ParamFault) → ((seen : List OwnedSegment) → Good seen a → NoneRefused rule seen)
+pub read_stop : {S : Type 0} (rule : Rule) (Good : List OwnedSegment → S → Type 0)
+    (refused : Option ParamFault) (a : S) (view : Placed) (f : ParamFault)
+    → ((seen : List OwnedSegment) → Good seen a → NoneRefused rule seen)
     → is_some refused ≡ false → f ≢ Memory → IsMemoryOr (StopsNext rule Good a view) f
     → (seen : List Placed) → HasRead rule Good seen refused a → IsRefusedIn rule (seen ++ view ∷ []) f
 read_stop rule Good (Some g) a view f none e n k = absurd cc

@@ -28,7 +28,8 @@ push_split (y ∷ ys) (b ∷ bs) after x at e =
 
 -- an item of two lists stands in the first or in the second
 pub two_lists : {A : Type 0} (xs ys before after : List A) (at : A) → xs ++ ys ≡ before ++ at ∷ after
-    → ((more : List A) × (xs ≡ before ++ at ∷ more)) ⊎ ((more : List A) × (before ≡ xs ++ more) × (ys ≡ more ++ at ∷ after))
+    → ((more : List A) × (xs ≡ before ++ at ∷ more))
+    ⊎ ((more : List A) × (before ≡ xs ++ more) × (ys ≡ more ++ at ∷ after))
 two_lists [] ys before after at e = inr (before, refl, e)
 two_lists (x ∷ xs) ys [] after at e = let h : x ≡ at = cc in inl (xs, ap (λ z. z ∷ xs) h)
 two_lists (x ∷ xs) ys (b ∷ bs) after at e =

@@ -73,7 +73,8 @@ among rule seen (s ∷ ss) none =
 abbrev Opens : Rule → List OwnedSegment → OwnedSegment → ℕ → Type 0
 Opens rule seen s place = ((mine : List OwnedSegment) × OpensTo s mine × NoneRefused rule (seen ++ mine)) ⊎ ((f : ParamFault) × IsRefusedAt rule seen s place f)
 
-opens_among : (rule : Rule) (seen : List OwnedSegment) (s : OwnedSegment) (place : ℕ) (mine : List OwnedSegment) → NoneRefused rule seen → OpensTo s mine → Opens rule seen s place
+opens_among : (rule : Rule) (seen : List OwnedSegment) (s : OwnedSegment) (place : ℕ)
+    (mine : List OwnedSegment) → NoneRefused rule seen → OpensTo s mine → Opens rule seen s place
 opens_among rule seen s place mine none o =
     elim (among rule seen mine none) [
       | inl h ↦ inl (mine, o, h)
@@ -100,7 +101,9 @@ opens rule seen s place none =
     ]
 
 abbrev Reads : Rule → List Placed → Type 0
-Reads rule placed = ((segments : List OwnedSegment) × OpenTo (values_in placed) segments × NoneRefused rule segments) ⊎ ((f : ParamFault) × IsRefusedIn rule placed f)
+Reads rule placed =
+    ((segments : List OwnedSegment) × OpenTo (values_in placed) segments × NoneRefused rule segments)
+    ⊎ ((f : ParamFault) × IsRefusedIn rule placed f)
 
 reads : (rule : Rule) (front placed : List Placed) (seen : List OwnedSegment) → OpenTo (values_in front) seen
     → NoneRefused rule seen → Reads rule (front ++ placed)
@@ -112,7 +115,8 @@ reads rule front (p ∷ ps) seen o none =
     ]
 
 accepted_or_refused : (rule : Rule) (capture : List ℕ)
-    → ((segments : List OwnedSegment) × AreSegmentsOf capture segments × NoneRefused rule segments) ⊎ ((f : ParamFault) × IsRefusedOf rule capture f)
+    → ((segments : List OwnedSegment) × AreSegmentsOf capture segments × NoneRefused rule segments)
+    ⊎ ((f : ParamFault) × IsRefusedOf rule capture f)
 accepted_or_refused rule capture =
     elim (capture_or_fault capture) [
       | inl h ↦ elim (reads rule [] h.1 [] refl (none_nil rule)) [
@@ -170,7 +174,14 @@ one_bank before [] none some = absurd cc
 one_bank before (s ∷ ss) none some =
     let later = subst (NoneRefused fault_after) (sym (append_assoc before (s ∷ []) ss)) none in
     elim (cases_Bool (is_bank s)) [
-      | inl e ↦ (s, rw e (ap (λ (xs : List OwnedSegment). s ∷ xs) (none_behind (before ++ s ∷ []) ss later (ap is_empty (filter-append is_bank before (s ∷ [])) ∙ ends_some (filter is_bank before) s e))))
+      | inl e ↦ (
+        s,
+        rw e
+            (ap (λ (xs : List OwnedSegment). s ∷ xs)
+            (none_behind (before ++ s ∷ []) ss later
+            (ap is_empty (filter-append is_bank before (s ∷ []))
+            ∙ ends_some (filter is_bank before) s e))),
+      )
       | inr e ↦ let r = one_bank (before ++ s ∷ []) ss later (rw e at some) in (r.0, rw e r.1)
     ]
 
@@ -178,7 +189,16 @@ pub params_or_fault : ParamsOrFault
 params_or_fault = λ capture. elim (accepted_or_refused fault_after capture) [
   | inl r ↦ elim (some_or_none (end_fault r.0)) [
     | inl e ↦ let bank = one_bank [] r.0 r.2 (has_bank (is_empty (filter is_bank r.0)) (is_empty (filter is_pins r.0)) e) in
-        let rows : Rows = record { bank = bank_row bank.0; orders = filter_map order_in r.0; pins = flat_map pin_rows (filter is_pins r.0); tans = filter_map tan_in r.0; usage = usage_in r.0; accounts = read_each is_account account_row r.0; skipped = skipped_in r.0 } in
+        let rows : Rows =
+        record {
+          bank = bank_row bank.0;
+          orders = filter_map order_in r.0;
+          pins = flat_map pin_rows (filter is_pins r.0);
+          tans = filter_map tan_in r.0;
+          usage = usage_in r.0;
+          accounts = read_each is_account account_row r.0;
+          skipped = skipped_in r.0;
+        } in
         inl (
           rows,
           record {
@@ -186,7 +206,17 @@ params_or_fault = λ capture. elim (accepted_or_refused fault_after capture) [
             opened = r.1;
             each = each_bad_element r.0 r.2;
             has_pins = some_pins r.0 e;
-            rows_are = record { bank = ap (λ (ss : List OwnedSegment). map bank_row ss) bank.1; orders = refl; pins = refl; tans = refl; usage = refl; accounts = refl; skipped = refl };
+            rows_are =
+                record {
+                  bank =
+                      ap (λ (ss : List OwnedSegment). map bank_row ss) bank.1;
+                  orders = refl;
+                  pins = refl;
+                  tans = refl;
+                  usage = refl;
+                  accounts = refl;
+                  skipped = refl;
+                };
           },
         )
     | inr f ↦ inr (f.0, inr (r.0, r.1, r.2, f.1))

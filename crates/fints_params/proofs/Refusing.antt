@@ -37,7 +37,9 @@ memory_or P Q f k (inr p) = inr (k f p)
 pub continue_nil : {S : Type 0} (Good : List OwnedSegment → S → Type 0) (a : S) → Continues Good a a []
 continue_nil Good a = λ seen g. subst (λ (xs : List OwnedSegment). Good xs a) (sym (append-nil seen)) g
 
-pub continue_more : {S : Type 0} (Good : List OwnedSegment → S → Type 0) (a b c : S) (xs ys : List OwnedSegment) → Continues Good a b xs → Continues Good b c ys → Continues Good a c (xs ++ ys)
+pub continue_more : {S : Type 0} (Good : List OwnedSegment → S → Type 0) (a b c : S)
+    (xs ys : List OwnedSegment) → Continues Good a b xs → Continues Good b c ys
+    → Continues Good a c (xs ++ ys)
 continue_more Good a b c xs ys h k = λ seen g. subst (λ (zs : List OwnedSegment). Good zs c) (append_assoc seen xs ys) (k (seen ++ xs) (h seen g))
 
 -- a segment that is refused after those seen
@@ -61,30 +63,43 @@ refused_later rule seen xs segments more f r =
       before = xs ++ r.before;
       at = r.at;
       after = r.after ++ more;
-      split = ap (λ (ss : List OwnedSegment). xs ++ (ss ++ more)) r.split ∙ ap (λ (ss : List OwnedSegment). xs ++ ss) (append_assoc r.before (r.at ∷ r.after) more)
+      split =
+          ap (λ (ss : List OwnedSegment). xs ++ (ss ++ more)) r.split
+          ∙ ap (λ (ss : List OwnedSegment). xs ++ ss) (append_assoc r.before (r.at ∷ r.after) more)
           ∙ sym (append_assoc xs r.before (r.at ∷ (r.after ++ more)));
       none = subst (NoneRefused rule) e r.none;
       fault = ap (λ (zs : List OwnedSegment). rule zs r.at) (sym e) ∙ r.fault;
     }
 
-pub stop_later : {S : Type 0} (rule : Rule) (Good : List OwnedSegment → S → Type 0) (a b : S) (xs segments more : List OwnedSegment) (f : ParamFault)
-    → Continues Good a b xs → StopsIn rule Good b segments f → StopsIn rule Good a (xs ++ (segments ++ more)) f
+pub stop_later : {S : Type 0} (rule : Rule) (Good : List OwnedSegment → S → Type 0) (a b : S)
+    (xs segments more : List OwnedSegment) (f : ParamFault)
+    → Continues Good a b xs → StopsIn rule Good b segments f
+    → StopsIn rule Good a (xs ++ (segments ++ more)) f
 stop_later rule Good a b xs segments more f h s = λ seen g. refused_later rule seen xs segments more f (s (seen ++ xs) (h seen g))
 
 -- one more segment of a list
-pub continue_next : {S : Type 0} (Good : List OwnedSegment → S → Type 0) (a b c : S) (segments : List OwnedSegment) (i : ℕ) (s : OwnedSegment) → i < length segments → s ≡ get_or segments i s
-    → Continues Good a b (take i segments) → Continues Good b c (s ∷ []) → Continues Good a c (take (i + 1) segments)
-continue_next Good a b c segments i s lt e h k = subst (λ (xs : List OwnedSegment). Continues Good a c xs) (sym (next_is segments i s lt e)) (continue_more Good a b c (take i segments) (s ∷ []) h k)
+pub continue_next : {S : Type 0} (Good : List OwnedSegment → S → Type 0) (a b c : S)
+    (segments : List OwnedSegment) (i : ℕ) (s : OwnedSegment) → i < length segments → s ≡ get_or segments i s
+    → Continues Good a b (take i segments) → Continues Good b c (s ∷ [])
+    → Continues Good a c (take (i + 1) segments)
+continue_next Good a b c segments i s lt e h k =
+    subst (λ (xs : List OwnedSegment). Continues Good a c xs) (sym (next_is segments i s lt e))
+    (continue_more Good a b c (take i segments) (s ∷ []) h k)
 
-pub stop_next : {S : Type 0} (rule : Rule) (Good : List OwnedSegment → S → Type 0) (a b : S) (segments : List OwnedSegment) (i : ℕ) (s : OwnedSegment) (f : ParamFault) → i < length segments → s ≡ get_or segments i s
-    → Continues Good a b (take i segments) → IsMemoryOr (StopsIn rule Good b (s ∷ [])) f → IsMemoryOr (StopsIn rule Good a segments) f
+pub stop_next : {S : Type 0} (rule : Rule) (Good : List OwnedSegment → S → Type 0) (a b : S)
+    (segments : List OwnedSegment) (i : ℕ) (s : OwnedSegment) (f : ParamFault) → i < length segments
+    → s ≡ get_or segments i s
+    → Continues Good a b (take i segments) → IsMemoryOr (StopsIn rule Good b (s ∷ [])) f
+    → IsMemoryOr (StopsIn rule Good a segments) f
 stop_next rule Good a b segments i s f lt e h m =
     let rest = drop (i + 1) segments in
     let split : take i segments ++ ((s ∷ []) ++ rest) ≡ segments = sym (split_at segments i s lt e) in
     memory_or (StopsIn rule Good b (s ∷ [])) (StopsIn rule Good a segments) f
     (λ g k. subst (λ (ss : List OwnedSegment). StopsIn rule Good a ss g) split (stop_later rule Good a b (take i segments) (s ∷ []) rest g h k)) m
 
-pub continue_end : {S : Type 0} (Good : List OwnedSegment → S → Type 0) (a b : S) (segments : List OwnedSegment) (i : ℕ) → length segments ≤ i → Continues Good a b (take i segments) → Continues Good a b segments
+pub continue_end : {S : Type 0} (Good : List OwnedSegment → S → Type 0) (a b : S)
+    (segments : List OwnedSegment) (i : ℕ) → length segments ≤ i → Continues Good a b (take i segments)
+    → Continues Good a b segments
 continue_end Good a b segments i le h = subst (λ (xs : List OwnedSegment). Continues Good a b xs) (take_all i segments le) h
 
 -- ---- over segments and what they stand for
@@ -101,21 +116,28 @@ pub single_ok : {S : Type 0} (Good : List OwnedSegment → S → Type 0) (a b : 
     → is_sealed s ≡ false → Continues Good a b (s ∷ []) → ContinuesOver Good a b s
 single_ok Good a b s e k = (s ∷ [], inl (e, refl), k)
 
-pub single_stop : {S : Type 0} (rule : Rule) (Good : List OwnedSegment → S → Type 0) (a : S) (s : OwnedSegment) (place : ℕ) (f : ParamFault)
-    → is_sealed s ≡ false → IsMemoryOr (StopsIn rule Good a (s ∷ [])) f → IsMemoryOr (StopsAt rule Good a s place) f
+pub single_stop : {S : Type 0} (rule : Rule) (Good : List OwnedSegment → S → Type 0) (a : S)
+    (s : OwnedSegment) (place : ℕ) (f : ParamFault)
+    → is_sealed s ≡ false → IsMemoryOr (StopsIn rule Good a (s ∷ [])) f
+    → IsMemoryOr (StopsAt rule Good a s place) f
 single_stop rule Good a s place f e m =
     memory_or (StopsIn rule Good a (s ∷ [])) (StopsAt rule Good a s place) f (λ g k. λ seen h. inl (s ∷ [], inl (e, refl), k seen h)) m
 
-pub opened_ok : {S : Type 0} (Good : List OwnedSegment → S → Type 0) (a b : S) (s : OwnedSegment) (mine : List OwnedSegment) → is_sealed s ≡ true → HasInside s mine → Continues Good a b mine → ContinuesOver Good a b s
+pub opened_ok : {S : Type 0} (Good : List OwnedSegment → S → Type 0) (a b : S) (s : OwnedSegment)
+    (mine : List OwnedSegment) → is_sealed s ≡ true → HasInside s mine → Continues Good a b mine
+    → ContinuesOver Good a b s
 opened_ok Good a b s mine e (bytes, d, r) k = (mine, inr (e, bytes, d, r), k)
 
-pub opened_stop : {S : Type 0} (rule : Rule) (Good : List OwnedSegment → S → Type 0) (a : S) (s : OwnedSegment) (place : ℕ) (mine : List OwnedSegment) (f : ParamFault)
-    → is_sealed s ≡ true → HasInside s mine → IsMemoryOr (StopsIn rule Good a mine) f → IsMemoryOr (StopsAt rule Good a s place) f
+pub opened_stop : {S : Type 0} (rule : Rule) (Good : List OwnedSegment → S → Type 0) (a : S)
+    (s : OwnedSegment) (place : ℕ) (mine : List OwnedSegment) (f : ParamFault)
+    → is_sealed s ≡ true → HasInside s mine → IsMemoryOr (StopsIn rule Good a mine) f
+    → IsMemoryOr (StopsAt rule Good a s place) f
 opened_stop rule Good a s place mine f e (bytes, d, r) m =
     memory_or (StopsIn rule Good a mine) (StopsAt rule Good a s place) f (λ g k. λ seen h. inl (mine, inr (e, bytes, d, r), k seen h)) m
 
 -- data that can't be opened
-pub closed_stop : {S : Type 0} (rule : Rule) (Good : List OwnedSegment → S → Type 0) (a : S) (s : OwnedSegment) (place : ℕ) (f : ParamFault)
+pub closed_stop : {S : Type 0} (rule : Rule) (Good : List OwnedSegment → S → Type 0) (a : S)
+    (s : OwnedSegment) (place : ℕ) (f : ParamFault)
     → is_sealed s ≡ true → IsMemoryOr (StaysClosed s place) f → IsMemoryOr (StopsAt rule Good a s place) f
 closed_stop rule Good a s place f e m = memory_or (StaysClosed s place) (StopsAt rule Good a s place) f (λ g k. λ seen h. inr (e, k)) m
 

@@ -39,10 +39,26 @@ pub data_within : (es : List (List Spelled)) (s : OwnedSegment) (bytes : List �
 data_within [] s bytes o e = absurd (let k = sym e ∙ data_first s [] (elements_are [] s o) in cc)
 data_within (h ∷ []) s bytes o e = absurd (let k = sym e ∙ data_first s [] (elements_are (h ∷ []) s o) in cc)
 data_within (h ∷ [] ∷ rest) s bytes o e = absurd (let k = sym e ∙ data_first s ([] ∷ values_of rest) (elements_are (h ∷ [] ∷ rest) s o) in cc)
-data_within (h ∷ (text us ∷ ss) ∷ rest) s bytes o e = absurd (let k = sym e ∙ data_first s (values_of ((text us ∷ ss) ∷ rest)) (elements_are (h ∷ (text us ∷ ss) ∷ rest) s o) in cc)
+data_within (h ∷ (text us ∷ ss) ∷ rest) s bytes o e =
+    absurd
+    (let k = sym e
+    ∙ data_first s (values_of ((text us ∷ ss) ∷ rest))
+    (elements_are (h ∷ (text us ∷ ss) ∷ rest) s o) in cc)
 data_within (h ∷ (binary digits data' ∷ ss) ∷ rest) s bytes o e =
-    let same : bytes ≡ data' = some_same bytes data' (sym e ∙ data_first s (values_of ((binary digits data' ∷ ss) ∷ rest)) (elements_are (h ∷ (binary digits data' ∷ ss) ∷ rest) s o)) in
-    omega (arith, ap length same, segment_size (h ∷ (binary digits data' ∷ ss) ∷ rest), length-append digits (64 ∷ data'), sum_by-cons items_size h ((binary digits data' ∷ ss) ∷ rest), sum_by-cons items_size (binary digits data' ∷ ss) rest, sum_by-cons item_size (binary digits data') ss)
+    let same : bytes ≡ data' =
+    some_same bytes data'
+    (sym e
+    ∙ data_first s (values_of ((binary digits data' ∷ ss) ∷ rest))
+    (elements_are (h ∷ (binary digits data' ∷ ss) ∷ rest) s o)) in
+    omega (
+      arith,
+      ap length same,
+      segment_size (h ∷ (binary digits data' ∷ ss) ∷ rest),
+      length-append digits (64 ∷ data'),
+      sum_by-cons items_size h ((binary digits data' ∷ ss) ∷ rest),
+      sum_by-cons items_size (binary digits data' ∷ ss) rest,
+      sum_by-cons item_size (binary digits data') ss,
+    )
 
 elements_within : (es : List (List Spelled)) → AllByRecursion (λ e. 0 < length e) es
     → length es ≤ elements_size es

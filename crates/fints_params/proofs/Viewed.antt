@@ -18,20 +18,27 @@ pub values_more : (xs ys : List Placed) → values_in (xs ++ ys) ≡ values_in x
 values_more xs ys = ap segments_of (map-append (λ p. p.segment) xs ys) ∙ map-append segment_of (map (λ p. p.segment) xs) (map (λ p. p.segment) ys)
 
 -- one more view is opened
-pub open_view : (views : List Placed) (segments : List OwnedSegment) (view : Placed) (mine : List OwnedSegment) → OpenTo (values_in views) segments → OpensTo (segment_of view.segment) mine → OpenTo (values_in (views ++ view ∷ [])) (segments ++ mine)
+pub open_view : (views : List Placed) (segments : List OwnedSegment) (view : Placed)
+    (mine : List OwnedSegment) → OpenTo (values_in views) segments → OpensTo (segment_of view.segment) mine
+    → OpenTo (values_in (views ++ view ∷ [])) (segments ++ mine)
 open_view views segments view mine h o =
-    subst (λ (ss : List OwnedSegment). OpenTo ss (segments ++ mine)) (sym (values_more views (view ∷ []))) (open_more (values_in views) segments (segment_of view.segment) mine h o)
+    subst (λ (ss : List OwnedSegment). OpenTo ss (segments ++ mine)) (sym (values_more views (view ∷ [])))
+    (open_more (values_in views) segments (segment_of view.segment) mine h o)
 
 pub views_none : {S : Type 0} (Good : List OwnedSegment → S → Type 0) (a : S) → Good [] a
     → ReadsViews Good [] a
 views_none Good a g = ([], refl, g)
 
 -- one more view, which is read
-pub views_push : {S : Type 0} (Good : List OwnedSegment → S → Type 0) (a b : S) (views : List Placed) (view : Placed) → ReadsViews Good views a → ReadsNext Good a b view → ReadsViews Good (views ++ view ∷ []) b
+pub views_push : {S : Type 0} (Good : List OwnedSegment → S → Type 0) (a b : S) (views : List Placed)
+    (view : Placed) → ReadsViews Good views a → ReadsNext Good a b view
+    → ReadsViews Good (views ++ view ∷ []) b
 views_push Good a b views view (seen, opened, g) (mine, own, k) = (seen ++ mine, open_view views seen view mine opened own, k seen g)
 
 -- one that stops the reader
-pub views_stopped : {S : Type 0} (rule : Rule) (Good : List OwnedSegment → S → Type 0) (a : S) (views : List Placed) (view : Placed) (f : ParamFault) → ((seen : List OwnedSegment) → Good seen a → NoneRefused rule seen)
+pub views_stopped : {S : Type 0} (rule : Rule) (Good : List OwnedSegment → S → Type 0) (a : S)
+    (views : List Placed) (view : Placed) (f : ParamFault)
+    → ((seen : List OwnedSegment) → Good seen a → NoneRefused rule seen)
     → ReadsViews Good views a → StopsNext rule Good a view f → IsRefusedIn rule (views ++ view ∷ []) f
 views_stopped rule Good a views view f none (seen, opened, g) k =
     record { front = views; at = view; back = []; split = refl; seen = seen; opened = opened; none = none seen g; refused = k seen g }
@@ -67,7 +74,9 @@ param_fault capture f h = inl h
 -- ---- the place of what is refused
 
 -- the first of all segments that is refused stands for a part of one of these, or is one
-pub refused_among : (rule : Rule) (front placed : List Placed) (seen segments : List OwnedSegment) (f : ParamFault) → OpenTo (values_in front) seen → OpenTo (values_in placed) segments → IsFirstRefused rule seen segments f
+pub refused_among : (rule : Rule) (front placed : List Placed) (seen segments : List OwnedSegment)
+    (f : ParamFault) → OpenTo (values_in front) seen → OpenTo (values_in placed) segments
+    → IsFirstRefused rule seen segments f
     → IsRefusedIn rule (front ++ placed) f
 refused_among rule front [] seen segments f h k r = absurd (omega (arith, ap length (sym k ∙ r.split), length-append r.before (r.at ∷ r.after)))
 refused_among rule front (p ∷ ps) seen segments f h (mine, more, own, rest, e) r =
@@ -83,6 +92,16 @@ refused_among rule front (p ∷ ps) seen segments f h (mine, more, own, rest, e)
         refused = inl (mine, own, record { before = r.before; at = r.at; after = w.0; split = w.1; none = r.none; fault = r.fault });
       }
       | inr w ↦ let same : seen ++ r.before ≡ (seen ++ mine) ++ w.0 = ap (λ (xs : List OwnedSegment). seen ++ xs) w.1 ∙ sym (append_assoc seen mine w.0) in
-          let later : IsFirstRefused rule (seen ++ mine) more f = record { before = w.0; at = r.at; after = r.after; split = w.2; none = subst (NoneRefused rule) same r.none; fault = ap (λ (xs : List OwnedSegment). rule xs r.at) (sym same) ∙ r.fault } in
-          subst (λ (qs : List Placed). IsRefusedIn rule qs f) (append_assoc front (p ∷ []) ps) (refused_among rule (front ++ p ∷ []) ps (seen ++ mine) more f (open_view front seen p mine h own) rest later)
+          let later : IsFirstRefused rule (seen ++ mine) more f =
+          record {
+            before = w.0;
+            at = r.at;
+            after = r.after;
+            split = w.2;
+            none = subst (NoneRefused rule) same r.none;
+            fault = ap (λ (xs : List OwnedSegment). rule xs r.at) (sym same) ∙ r.fault;
+          } in
+          subst (λ (qs : List Placed). IsRefusedIn rule qs f) (append_assoc front (p ∷ []) ps)
+          (refused_among rule (front ++ p ∷ []) ps (seen ++ mine) more f
+          (open_view front seen p mine h own) rest later)
     ]

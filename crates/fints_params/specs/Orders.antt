@@ -1,4 +1,6 @@
--- HIabcS and DIabcS, but for HIPINS, are for order HKabc or DKabc of the segment's version: element 2 greatest number of orders, 3 least number of signatures. One without these two numbers is skipped and counted.
+-- HIabcS and DIabcS, but for HIPINS, are for order HKabc or DKabc of the segment's version: element 2
+-- greatest number of orders, 3 least number of signatures. One without these two numbers is skipped and
+-- counted.
 use Rattle.std.specs.Prelude.{ℕ, ◌==◌, ◌||◌, ◌&&◌, Bool, not, List, [], ◌∷◌, length, get_or, codes, if◌then◌else◌, Option, None}
 use Rattle.std.specs.Option.{is_some, option_and_then, option_map}
 use Rattle.std.specs.Str.{bytes_eq}
@@ -26,7 +28,11 @@ kind_of_orders id =
 -- what the segment says of the kind, if it has both numbers
 abbrev pub order_of : OwnedSegment → List ℕ → Option OrderParam
 order_of s kind =
-    option_and_then (λ n. option_map (λ k. record { kind = kind; version = s.head.version; orders = n; signatures = k }) (number_of (value_at s 3 1))) (number_of (value_at s 2 1))
+    option_and_then
+    (λ n.
+    option_map (λ k. record { kind = kind; version = s.head.version; orders = n; signatures = k })
+    (number_of (value_at s 3 1)))
+    (number_of (value_at s 2 1))
 
 -- of a parameter segment
 abbrev pub order_in : OwnedSegment → Option OrderParam

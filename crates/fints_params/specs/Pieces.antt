@@ -1,4 +1,5 @@
--- A reader of parameters: what it keeps of a capture that comes in pieces, and why a piece or the end is refused. Words of private contracts and proofs alone stand last, under a heading.
+-- A reader of parameters: what it keeps of a capture that comes in pieces, and why a piece or the end is
+-- refused. Words of private contracts and proofs alone stand last, under a heading.
 use Rattle.std.specs.Prelude.{◌≡◌, ◌⊎◌, ◌≤◌, ℕ, List, [], ◌∷◌, ◌++◌, length, Option, Some, None}
 use Rattle.fints_syntax.specs.Streams.{SplitsInto, PieceFaultAt}
 use Rattle.fints_syntax.specs.declared.capture.Placed.{Placed}
@@ -40,7 +41,8 @@ answer_after offset = Syntax (record { kind = Failed; offset = offset })
 abbrev pub RefusesPiece : Received → List ℕ → ParamFault → Received → Type 0
 RefusesPiece old piece f new =
     ((f ≡ Memory) × (new ≡ old))
-    ⊎ ((fault : SyntaxFault) × PieceFaultAt MAX_CAPTURE fault.kind fault.offset (old.bytes ++ piece) × (f ≡ Syntax fault) × (new ≡ record { bytes = []; failed = Some fault.offset }))
+    ⊎ ((fault : SyntaxFault) × PieceFaultAt MAX_CAPTURE fault.kind fault.offset (old.bytes ++ piece)
+    × (f ≡ Syntax fault) × (new ≡ record { bytes = []; failed = Some fault.offset }))
 
 -- why a piece is refused, and what the reader keeps then
 abbrev pub IsNotReceived : Option ℕ → Received → List ℕ → ParamFault → Received → Type 0

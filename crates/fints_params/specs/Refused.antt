@@ -1,4 +1,5 @@
--- Why a capture is refused: it is no list of segments; or behind segments that are accepted one is refused, or an HNVSD doesn't open. A rule says why a segment is refused after those before it.
+-- Why a capture is refused: it is no list of segments; or behind segments that are accepted one is refused,
+-- or an HNVSD doesn't open. A rule says why a segment is refused after those before it.
 use Rattle.std.specs.Prelude.{◌≡◌, ◌≢◌, ◌⊎◌, ℕ, ◌+◌, ◌≤◌, true, List, ◌∷◌, ◌++◌, length, map, Option, Some, None}
 use Rattle.fints_syntax.specs.Capture.{IsPlacedCapture, IsCaptureFault}
 use Rattle.fints_syntax.specs.Owned.{segment_of, segments_of}
@@ -28,7 +29,8 @@ AreNoSegments bytes fault = IsCaptureFault bytes fault × (fault.kind ≢ kinds.
 abbrev pub IsSyntaxFault : List ℕ → ParamFault → Type 0
 IsSyntaxFault capture f = (fault : SyntaxFault) × AreNoSegments capture fault × (f ≡ Syntax fault)
 
--- why an HNVSD doesn't open: item 1 of its element 2 isn't binary, or its data are no segments, with their fault's offset in the capture, in which they start at this place
+-- why an HNVSD doesn't open: item 1 of its element 2 isn't binary, or its data are no segments, with their
+-- fault's offset in the capture, in which they start at this place
 abbrev pub StaysClosed : OwnedSegment → ℕ → ParamFault → Type 0
 StaysClosed s place f =
     ((data_of s ≡ None) × (f ≡ BadElement s.head.number 2))

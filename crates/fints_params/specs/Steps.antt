@@ -1,4 +1,5 @@
--- What a reader that goes from segment to segment has read so far, and where it stops. Private contracts and, by `Inside`, the invariant of `ParamReader` alone cite these words.
+-- What a reader that goes from segment to segment has read so far, and where it stops. Private contracts and,
+-- by `Inside`, the invariant of `ParamReader` alone cite these words.
 use Rattle.std.specs.Prelude.{◌≡◌, ◌+◌, ◌≤◌, ℕ, ◌++◌, List, length, Option, Some, None}
 use Rattle.fints_syntax_segments.specs.Segment.{segment_bytes}
 use Rattle.fints_syntax.specs.Owned.{segment_of}
@@ -52,7 +53,8 @@ HasRead rule Good views None state = ReadsViews Good views state
 HasRead rule Good views (Some f) state = IsRefusedIn rule views f
 
 -- the bytes are read so far, and so are the segments of theirs that are whole
-pub record HasCome {S : Type 0} (rule : Rule) (Good : List OwnedSegment → S → Type 0) (bytes : List ℕ) (to : ReadTo) (refused : Option ParamFault) (state : S) : Type 0 where
+pub record HasCome {S : Type 0} (rule : Rule) (Good : List OwnedSegment → S → Type 0) (bytes : List ℕ)
+    (to : ReadTo) (refused : Option ParamFault) (state : S) : Type 0 where
   pub short : length bytes ≤ MAX_CAPTURE
   pub placed : List Placed
   pub read : IsReadTo bytes placed to

@@ -40,12 +40,19 @@ each_has : agree_below has_place (λ _. true) (length ALL) ≡ true
 each_has = refl
 
 pub number_at : (k : ℕ) (d : Rule) → k < length ALL → rule_number (get_or ALL k d) ≡ k + 1
-number_at k d lt = ap rule_number (get_or_default ALL k d rule.Protocol lt) ∙ eqb-true (rule_number (get_or ALL k rule.Protocol)) (k + 1) (agree_below_at has_place (λ _. true) (length ALL) k each_has lt)
+number_at k d lt =
+    ap rule_number (get_or_default ALL k d rule.Protocol lt)
+    ∙ eqb-true (rule_number (get_or ALL k rule.Protocol)) (k + 1)
+    (agree_below_at has_place (λ _. true) (length ALL) k each_has lt)
 
 -- what holds of each that stands there holds of each
 pub each_rule : (P : Rule → Type 0) → ((k : ℕ) (d : Rule) → k < length ALL → P (get_or ALL k d)) → (r : Rule)
     → P r
-each_rule P h r = let within = number_within r in subst P (rule_once (get_or ALL (rule_number r - 1) r) r (number_at (rule_number r - 1) r (omega arith) ∙ omega arith)) (h (rule_number r - 1) r (omega arith))
+each_rule P h r =
+    let within = number_within r in subst P
+    (rule_once (get_or ALL (rule_number r - 1) r) r
+    (number_at (rule_number r - 1) r (omega arith) ∙ omega arith))
+    (h (rule_number r - 1) r (omega arith))
 
 -- the default of a look-up is of no matter
 pub rule_same : (P : Rule → Type 0) (i k : ℕ) (d e : Rule) → i ≡ k → k < length ALL → P (get_or ALL i d)

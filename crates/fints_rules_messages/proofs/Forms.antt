@@ -42,11 +42,21 @@ follows Other k b e f = f.at_3 refl
 
 half_ranked : (ss body ends : List OwnedSegment) (k : ℕ) (h : IsHalf ss body ends k)
     → IsRanked rank_of h.opened body ends
-half_ranked ss body ends k h = record { first = all_ranks Opener 0 h.opened refl h.openers_are; second = all_ranks Body 1 body refl h.body_is; third = all_ranks Ender 2 ends refl h.ends_are }
+half_ranked ss body ends k h =
+    record {
+      first = all_ranks Opener 0 h.opened refl h.openers_are;
+      second = all_ranks Body 1 body refl h.body_is;
+      third = all_ranks Ender 2 ends refl h.ends_are;
+    }
 
 pub inner_ranked : (ss body ends : List OwnedSegment) (h : IsInner ss body ends)
     → IsRanked rank_of h.openers body ends
-inner_ranked ss body ends h = record { first = all_ranks Opener 0 h.openers refl h.openers_are; second = all_ranks Body 1 body refl h.body_is; third = all_ranks Ender 2 ends refl h.ends_are }
+inner_ranked ss body ends h =
+    record {
+      first = all_ranks Opener 0 h.openers refl h.openers_are;
+      second = all_ranks Body 1 body refl h.body_is;
+      third = all_ranks Ender 2 ends refl h.ends_are;
+    }
 
 -- ---- numbers
 
@@ -61,7 +71,9 @@ pub stands : (ss body ends : List OwnedSegment) (k : ℕ) (s : OwnedSegment) (mo
     → IsHalf ss body ends k → IsInner (ss ++ s ∷ more) b e → IsNumbered 2 (ss ++ s ∷ more)
     → CanStand s k (length body) (length ends)
 stands ss body ends k s more b e h g n =
-    let flat : (h.opened ++ (body ++ ends)) ++ s ∷ more ≡ h.opened ++ (body ++ (ends ++ s ∷ more)) = append_assoc h.opened (body ++ ends) (s ∷ more) ∙ ap (λ z. h.opened ++ z) (append_assoc body ends (s ∷ more)) in
+    let flat : (h.opened ++ (body ++ ends)) ++ s ∷ more ≡ h.opened ++ (body ++ (ends ++ s ∷ more)) =
+    append_assoc h.opened (body ++ ends) (s ∷ more)
+    ∙ ap (λ z. h.opened ++ z) (append_assoc body ends (s ∷ more)) in
     let joined : g.openers ++ (b ++ e) ≡ h.opened ++ (body ++ (ends ++ s ∷ more)) = sym g.together ∙ ap (λ z. z ++ s ∷ more) h.together ∙ flat in
     let f = fits rank_of h.opened body ends g.openers b e s more (half_ranked ss body ends k h) (inner_ranked (ss ++ s ∷ more) b e g) g.as_many joined in (
       omega (arith, number_at 2 ss s more n, length-half ss body ends k h),
@@ -71,11 +83,24 @@ stands ss body ends k s more b e h g n =
 pub ends_all : (ss body ends : List OwnedSegment) (k : ℕ) (b e : List OwnedSegment) → IsHalf ss body ends k
     → IsInner ss b e → length ends ≡ k
 ends_all ss body ends k b e h g =
-    omega (arith, h.count, balanced rank_of h.opened body ends g.openers b e (half_ranked ss body ends k h) (inner_ranked ss b e g) g.as_many (sym g.together ∙ h.together))
+    omega (
+      arith,
+      h.count,
+      balanced rank_of h.opened body ends g.openers b e (half_ranked ss body ends k h)
+          (inner_ranked ss b e g) g.as_many (sym g.together ∙ h.together),
+    )
 
 pub inner_half : (ss body ends : List OwnedSegment) (k : ℕ) → IsHalf ss body ends k → length ends ≡ k
     → IsInner ss body ends
-inner_half ss body ends k h n = record { openers = h.opened; openers_are = h.openers_are; body_is = h.body_is; ends_are = h.ends_are; as_many = omega (arith, h.count, n); together = h.together }
+inner_half ss body ends k h n =
+    record {
+      openers = h.opened;
+      openers_are = h.openers_are;
+      body_is = h.body_is;
+      ends_are = h.ends_are;
+      as_many = omega (arith, h.count, n);
+      together = h.together;
+    }
 
 -- ---- segments of the frame are no inner ones
 
@@ -97,7 +122,8 @@ key_not_last number s h g =
     let e : codes "HNVSK" ≡ codes "HNHBS" = sym (kind_is (codes "HNVSK") 3 s h.kind) ∙ kind_is (codes "HNHBS") 1 s g.kind in
     let f : false ≡ true = ap (λ id. bytes_eq id (codes "HNHBS")) e in cc
 
-half_no_other : (ss body ends : List OwnedSegment) (k : ℕ) (front : List OwnedSegment) (s : OwnedSegment) (more : List OwnedSegment)
+half_no_other : (ss body ends : List OwnedSegment) (k : ℕ) (front : List OwnedSegment) (s : OwnedSegment)
+    (more : List OwnedSegment)
     → IsHalf ss body ends k → ss ≡ front ++ s ∷ more → part_of s ≡ Other → ⊥
 half_no_other ss body ends k front s more h e p = none_3 rank_of h.opened body ends front s more (half_ranked ss body ends k h) (sym e ∙ h.together) (ap rank p)
 
@@ -112,7 +138,8 @@ pub plain_segments : (number : ℕ) (ss b e : List OwnedSegment) (t : IsTail num
 plain_segments number ss b e t plain = t.together ∙ ap (λ z. z ++ t.last ∷ []) plain
 
 -- HNVSK, HNVSD and HNHBS
-pub sealed_segments : (number : ℕ) (ss b e : List OwnedSegment) (t : IsTail number ss b e) (q : Seals t.inner t.outer)
+pub sealed_segments : (number : ℕ) (ss b e : List OwnedSegment) (t : IsTail number ss b e)
+    (q : Seals t.inner t.outer)
     → ss ≡ q.key ∷ q.envelope ∷ t.last ∷ []
 sealed_segments number ss b e t q = t.together ∙ ap (λ z. z ++ t.last ∷ []) q.together
 
@@ -142,7 +169,9 @@ pub record IsEnd (number : ℕ) (s : OwnedSegment) (before ends k : ℕ) (more :
   pub all : ends ≡ k
   pub none : more ≡ []
 
-pub data Next (number : ℕ) (ss body ends : List OwnedSegment) (k : ℕ) (s : OwnedSegment) (more : List OwnedSegment) : Type 0 where
+pub data Next (number : ℕ) (ss body ends : List OwnedSegment) (k : ℕ) (s : OwnedSegment)
+    (more : List OwnedSegment) : Type
+    0 where
   inner : CanStand s k (length body) (length ends) → Next number ss body ends k s more
   end : IsEnd number s (length ss) (length ends) k more → Next number ss body ends k s more
   key : ss ≡ [] → IsKey s → Next number ss body ends k s more
@@ -151,20 +180,33 @@ pub numbered_front : (n : ℕ) (xs ys : List OwnedSegment) → IsNumbered n (xs 
 numbered_front n [] ys h = tt
 numbered_front n (x ∷ xs) ys h = (h.0, numbered_front (n + 1) xs ys h.1)
 
-plain_next : (number : ℕ) (ss body ends : List OwnedSegment) (k : ℕ) (s : OwnedSegment) (more b e : List OwnedSegment)
+plain_next : (number : ℕ) (ss body ends : List OwnedSegment) (k : ℕ) (s : OwnedSegment)
+    (more b e : List OwnedSegment)
     → IsHalf ss body ends k → (p : IsTail number (ss ++ s ∷ more) b e) → p.outer ≡ p.inner
     → Next number ss body ends k s more
 plain_next number ss body ends k s more b e h p plain =
     elim (split ss s more p.inner p.last (plain_segments number (ss ++ s ∷ more) b e p plain)) [
       | at_end none is same ↦
-          let numbered : IsNumbered 2 (ss ++ s ∷ []) = subst (λ x. IsNumbered 2 (ss ++ x ∷ [])) (sym is) (subst (λ xs. IsNumbered 2 (xs ++ p.last ∷ [])) (sym same) p.numbered) in
-          end (record { last = subst (IsLast number) (sym is) p.is_last; place = number_at 2 ss s [] numbered; all = ends_all ss body ends k b e h (subst (λ xs. IsInner xs b e) (sym same) p.is_inner); none = none })
+          let numbered : IsNumbered 2 (ss ++ s ∷ []) =
+          subst (λ x. IsNumbered 2 (ss ++ x ∷ [])) (sym is)
+          (subst (λ xs. IsNumbered 2 (xs ++ p.last ∷ [])) (sym same) p.numbered) in
+          end
+          (record {
+            last = subst (IsLast number) (sym is) p.is_last;
+            place = number_at 2 ss s [] numbered;
+            all = ends_all ss body ends k b e h (subst (λ xs. IsInner xs b e) (sym same) p.is_inner);
+            none = none;
+          })
       | inside zs same ↦
           let g : IsInner (ss ++ s ∷ zs) b e = subst (λ xs. IsInner xs b e) same p.is_inner in
-          inner (stands ss body ends k s zs b e h g (numbered_front 2 (ss ++ s ∷ zs) (p.last ∷ []) (subst (λ xs. IsNumbered 2 (xs ++ p.last ∷ [])) same p.numbered)))
+          inner
+          (stands ss body ends k s zs b e h g
+          (numbered_front 2 (ss ++ s ∷ zs) (p.last ∷ [])
+          (subst (λ xs. IsNumbered 2 (xs ++ p.last ∷ [])) same p.numbered)))
     ]
 
-sealed_next : (number : ℕ) (ss body ends : List OwnedSegment) (k : ℕ) (s : OwnedSegment) (more b e : List OwnedSegment)
+sealed_next : (number : ℕ) (ss body ends : List OwnedSegment) (k : ℕ) (s : OwnedSegment)
+    (more b e : List OwnedSegment)
     → IsHalf ss body ends k → (t : IsTail number (ss ++ s ∷ more) b e) → Seals t.inner t.outer
     → Next number ss body ends k s more
 sealed_next number [] body ends k s more b e h t q =
@@ -175,7 +217,8 @@ sealed_next number (x ∷ ss) body ends k s more b e h t q =
     let first : x ≡ q.key = cc in
     absurd (half_no_other (x ∷ ss) body ends k [] x ss h refl (ap part_of first ∙ key_other q.key q.is_key))
 
-pub next : (number : ℕ) (ss body ends : List OwnedSegment) (k : ℕ) (s : OwnedSegment) (more b e : List OwnedSegment)
+pub next : (number : ℕ) (ss body ends : List OwnedSegment) (k : ℕ) (s : OwnedSegment)
+    (more b e : List OwnedSegment)
     → IsHalf ss body ends k → IsTail number (ss ++ s ∷ more) b e → Next number ss body ends k s more
 next number ss body ends k s more b e h t =
     elim t.stands [
@@ -225,7 +268,13 @@ begins_half number ss body ends k v h n =
     let j : ℕ = k - length ends in
     let fill : List OwnedSegment = enders (2 + length ss) j in
     let last : OwnedSegment = last_of (2 + length ss + j) v.value in
-    let place : last.head.number ≡ 2 + length (ss ++ fill) = omega (arith, last_number (2 + length ss + j) v.value, length-append ss fill, length-enders (2 + length ss) j) in
+    let place : last.head.number ≡ 2 + length (ss ++ fill) =
+    omega (
+      arith,
+      last_number (2 + length ss + j) v.value,
+      length-append ss fill,
+      length-enders (2 + length ss) j,
+    ) in
     let filled : IsNumbered 2 (ss ++ fill) = numbered-append 2 ss fill n (enders_numbered (2 + length ss) j) in (
       fill ++ last ∷ [],
       body,
@@ -264,7 +313,8 @@ tail_whole number ss body ends k s h n all last place = record {
 }
 
 -- nothing follows HNHBS
-pub none_after : (number : ℕ) (ss body ends : List OwnedSegment) (k : ℕ) (s t : OwnedSegment) (more b e : List OwnedSegment)
+pub none_after : (number : ℕ) (ss body ends : List OwnedSegment) (k : ℕ) (s t : OwnedSegment)
+    (more b e : List OwnedSegment)
     → IsHalf ss body ends k → IsLast number s → IsTail number (ss ++ s ∷ t ∷ more) b e → ⊥
 none_after number ss body ends k s t more b e h last tail =
     elim (next number ss body ends k s (t ∷ more) b e h tail) [
@@ -285,4 +335,6 @@ key_first number s ss (x ∷ xs) b e last h i l q = let same : x ≡ s = cc in i
 -- what begins with HNVSK is not plain
 pub key_not_plain : (number : ℕ) (s : OwnedSegment) (more ss b e : List OwnedSegment) → IsKey s
     → (t : IsTail number ss b e) → ss ≡ s ∷ more → t.outer ≡ t.inner → ⊥
-key_not_plain number s more ss b e h t first plain = key_first number s more t.inner b e t.last h t.is_inner t.is_last (sym first ∙ plain_segments number ss b e t plain)
+key_not_plain number s more ss b e h t first plain =
+    key_first number s more t.inner b e t.last h t.is_inner t.is_last
+    (sym first ∙ plain_segments number ss b e t plain)

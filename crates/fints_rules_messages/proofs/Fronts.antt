@@ -35,7 +35,8 @@ front_start bytes = record {
   numbered = tt;
 }
 
-pub front_text : (bytes : List ℕ) (at : ℕ) (trees : List (List (List Spelled))) (t : List (List Spelled)) (n : ℕ)
+pub front_text : (bytes : List ℕ) (at : ℕ) (trees : List (List (List Spelled))) (t : List (List Spelled))
+    (n : ℕ)
     → bytes ≡ texts_of trees ++ drop at bytes → IsNextSegment (drop at bytes) t n
     → bytes ≡ texts_of (trees ++ t ∷ []) ++ drop (at + n) bytes
 front_text bytes at trees t n e next =
@@ -65,7 +66,9 @@ half_body ss body [] k s h e p = record {
   ends_are = tt;
   count = h.count;
   at_most = h.at_most;
-  together = ap (λ z. z ++ s ∷ []) (h.together ∙ ap (λ z. h.opened ++ z) (append-nil body)) ∙ append_assoc h.opened body (s ∷ []) ∙ ap (λ z. h.opened ++ z) (sym (append-nil (body ++ s ∷ [])));
+  together =
+      ap (λ z. z ++ s ∷ []) (h.together ∙ ap (λ z. h.opened ++ z) (append-nil body))
+      ∙ append_assoc h.opened body (s ∷ []) ∙ ap (λ z. h.opened ++ z) (sym (append-nil (body ++ s ∷ [])));
 }
 half_body ss body (x ∷ xs) k s h e p = absurd (omega arith)
 
@@ -82,7 +85,8 @@ half_ender ss body ends k s h lt p = record {
 }
 
 -- one more segment, whatever it is
-front_with : (bytes : List ℕ) (at k k' n : ℕ) (body ends body' ends' : List (List (List Spelled))) (t : List (List Spelled))
+front_with : (bytes : List ℕ) (at k k' n : ℕ) (body ends body' ends' : List (List (List Spelled)))
+    (t : List (List Spelled))
     → (f : IsFront bytes at k body ends) → IsNextSegment (drop at bytes) t n
     → (segment_of t).head.number ≡ 2 + (k + (length body + length ends))
     → IsHalf (segments_of f.trees ++ segment_of t ∷ []) (segments_of body') (segments_of ends') k'
@@ -93,18 +97,29 @@ front_with bytes at k k' n body ends body' ends' t f next number half = record {
   text = front_text bytes at f.trees t n f.text next;
   at_is = omega (arith, f.at_is, ap length (text-snoc f.trees t), length-append (texts_of f.trees) (segment_bytes t), next.len_is);
   half = subst (λ z. IsHalf z (segments_of body') (segments_of ends') k') (sym (segments-snoc f.trees t)) half;
-  numbered = subst (IsNumbered 2) (sym (segments-snoc f.trees t)) (numbered-append 2 (segments_of f.trees) (segment_of t ∷ []) f.numbered
-      (omega (arith, number, length-half (segments_of f.trees) (segments_of body) (segments_of ends) k f.half, length-map body segment_of, length-map ends segment_of), tt));
+  numbered = subst (IsNumbered 2) (sym (segments-snoc f.trees t)) (numbered-append 2 (segments_of f.trees) (segment_of t ∷ []) f.numbered (
+    omega (
+      arith,
+      number,
+      length-half (segments_of f.trees) (segments_of body) (segments_of ends) k f.half,
+      length-map body segment_of,
+      length-map ends segment_of,
+    ),
+    tt,
+  ));
 }
 
-pub front_opener : (bytes : List ℕ) (at k n : ℕ) (body ends : List (List (List Spelled))) (t : List (List Spelled))
+pub front_opener : (bytes : List ℕ) (at k n : ℕ) (body ends : List (List (List Spelled)))
+    (t : List (List Spelled))
     → IsFront bytes at k body ends → IsNextSegment (drop at bytes) t n
     → (segment_of t).head.number ≡ 2 + (k + (length body + length ends)) → part_of (segment_of t) ≡ Opener
     → length body ≡ 0 → length ends ≡ 0 → IsFront bytes (at + n) (k + 1) body ends
 front_opener bytes at k n body ends t f next number p b e = front_with bytes at k (k + 1) n body ends body ends t f next number
-    (half_opener (segments_of f.trees) (segments_of body) (segments_of ends) k (segment_of t) f.half (omega (arith, b, length-map body segment_of)) (omega (arith, e, length-map ends segment_of)) p)
+    (half_opener (segments_of f.trees) (segments_of body) (segments_of ends) k (segment_of t) f.half
+    (omega (arith, b, length-map body segment_of)) (omega (arith, e, length-map ends segment_of)) p)
 
-pub front_body : (bytes : List ℕ) (at k n : ℕ) (body ends : List (List (List Spelled))) (t : List (List Spelled))
+pub front_body : (bytes : List ℕ) (at k n : ℕ) (body ends : List (List (List Spelled)))
+    (t : List (List Spelled))
     → IsFront bytes at k body ends → IsNextSegment (drop at bytes) t n
     → (segment_of t).head.number ≡ 2 + (k + (length body + length ends)) → part_of (segment_of t) ≡ Body
     → length ends ≡ 0 → IsFront bytes (at + n) k (body ++ t ∷ []) ends
@@ -112,7 +127,8 @@ front_body bytes at k n body ends t f next number p e = front_with bytes at k k 
     (subst (λ z. IsHalf (segments_of f.trees ++ segment_of t ∷ []) z (segments_of ends) k) (sym (segments-snoc body t))
     (half_body (segments_of f.trees) (segments_of body) (segments_of ends) k (segment_of t) f.half (omega (arith, e, length-map ends segment_of)) p))
 
-pub front_ender : (bytes : List ℕ) (at k n : ℕ) (body ends : List (List (List Spelled))) (t : List (List Spelled))
+pub front_ender : (bytes : List ℕ) (at k n : ℕ) (body ends : List (List (List Spelled)))
+    (t : List (List Spelled))
     → IsFront bytes at k body ends → IsNextSegment (drop at bytes) t n
     → (segment_of t).head.number ≡ 2 + (k + (length body + length ends)) → part_of (segment_of t) ≡ Ender
     → length ends < k → IsFront bytes (at + n) k body (ends ++ t ∷ [])
@@ -129,7 +145,14 @@ pub next_from : OneSegmentText → (bytes : List ℕ) (t : List (List Spelled)) 
 next_from law bytes t n h e le =
     let len : n ≡ length (segment_bytes t) = sym (length-take-le n bytes le) ∙ ap length e in
     let text : bytes ≡ segment_bytes t ++ drop n bytes = sym (take-append-drop n bytes) ∙ ap (λ z. z ++ drop n bytes) e in
-    record { segment = h; text = text; len_is = len; some = omega (arith, len, segment_positive t h); within = le; only = λ u more is q. law t u (drop n bytes) more h.framed is.framed (sym text ∙ q) }
+    record {
+      segment = h;
+      text = text;
+      len_is = len;
+      some = omega (arith, len, segment_positive t h);
+      within = le;
+      only = λ u more is q. law t u (drop n bytes) more h.framed is.framed (sym text ∙ q);
+    }
 
 pub none_stands : (bs : List ℕ) (t : List (List Spelled)) (n k b e : ℕ) → IsNextSegment bs t n
     → (CanStand (segment_of t) k b e → ⊥) → NoneStands bs k b e

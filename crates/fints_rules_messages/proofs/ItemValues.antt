@@ -40,13 +40,15 @@ value_in (s ∷ ss) zero = refl
 value_in (s ∷ ss) (suc i) = value_in ss i
 
 item_in_element : (xs : List (List Spelled)) (e i : ℕ)
-    → get_or (get_or (map (map item_of) xs) e []) i (Text []) ≡ or_empty (option_and_then (λ items. slice_get items i) (slice_get xs e))
+    → get_or (get_or (map (map item_of) xs) e []) i (Text []) ≡ or_empty
+    (option_and_then (λ items. slice_get items i) (slice_get xs e))
 item_in_element [] e i = refl
 item_in_element (x ∷ xs) zero i = item_in x i
 item_in_element (x ∷ xs) (suc e) i = item_in_element xs e i
 
 value_in_element : (xs : List (List Spelled)) (e i : ℕ)
-    → get_or (map item_value (get_or (map (map item_of) xs) e [])) i [] ≡ item_value (or_empty (option_and_then (λ items. slice_get items i) (slice_get xs e)))
+    → get_or (map item_value (get_or (map (map item_of) xs) e [])) i [] ≡ item_value
+    (or_empty (option_and_then (λ items. slice_get items i) (slice_get xs e)))
 value_in_element [] e i = refl
 value_in_element (x ∷ xs) zero i = value_in x i
 value_in_element (x ∷ xs) (suc e) i = value_in_element xs e i
@@ -160,7 +162,9 @@ data-bin tree e i slice h g is = item_at-place tree e i h g ∙ bin_some slice (
 pub number-none : (tree : List (List Spelled)) (e i least most : ℕ) → 1 < e → 0 < i → 0 < least
     → ItemIs None (place_of tree e i) → number_in least most (value_at (segment_of tree) e i) ≡ None
 number-none tree e i least most h g l is =
-    ap (number_in least most) (value_at-place tree e i h g) ∙ ap (number_in least most) (value-none (place_of tree e i) is) ∙ number_in-short least most [] (omega arith)
+    ap (number_in least most) (value_at-place tree e i h g)
+    ∙ ap (number_in least most) (value-none (place_of tree e i) is)
+    ∙ number_in-short least most [] (omega arith)
 
 pub number-some : (tree : List (List Spelled)) (e i least most : ℕ) (item : Item) → 1 < e → 0 < i
     → ItemIs (Some item) (place_of tree e i)

@@ -6,7 +6,9 @@ use Rattle.fints_rules_messages.proofs.Forms.{numbered_front}
 
 numbered_back : (n : ℕ) (xs ys : List OwnedSegment) → IsNumbered n (xs ++ ys) → IsNumbered (n + length xs) ys
 numbered_back n [] ys h = let e : n ≡ n + 0 = omega arith in subst (λ k. IsNumbered k ys) e h
-numbered_back n (x ∷ xs) ys h = let e : (n + 1) + length xs ≡ n + suc (length xs) = omega arith in subst (λ k. IsNumbered k ys) e (numbered_back (n + 1) xs ys h.1)
+numbered_back n (x ∷ xs) ys h =
+    let e : (n + 1) + length xs ≡ n + suc (length xs) = omega arith in subst (λ k. IsNumbered k ys) e
+    (numbered_back (n + 1) xs ys h.1)
 
 numbered_inner : (inner body ends : List OwnedSegment) → IsInner inner body ends → IsNumbered 2 inner
     → IsNumbered (2 + length ends) body

@@ -36,19 +36,32 @@ fronts_one : OneSegmentText → (Good : List Tree → Type 0) → ((xs ys : List
     → (xs ys : List Tree) (r s : List ℕ) → AllByRecursion IsSegment xs → AllByRecursion IsSegment ys → Good xs
     → Good ys → Ends Good xs r → Ends Good ys s → texts_of xs ++ r ≡ texts_of ys ++ s → xs ≡ ys
 fronts_one law Good less [] [] r s h g p q n m e = refl
-fronts_one law Good less [] (y ∷ ys) r s h g p q n m e = absurd (n y (texts_of ys ++ s) g.0 (e ∙ append_assoc (segment_bytes y) (texts_of ys) s) (less (y ∷ []) ys q))
-fronts_one law Good less (x ∷ xs) [] r s h g p q n m e = absurd (m x (texts_of xs ++ r) h.0 (sym e ∙ append_assoc (segment_bytes x) (texts_of xs) r) (less (x ∷ []) xs p))
+fronts_one law Good less [] (y ∷ ys) r s h g p q n m e =
+    absurd
+    (n y (texts_of ys ++ s) g.0 (e ∙ append_assoc (segment_bytes y) (texts_of ys) s) (less (y ∷ []) ys q))
+fronts_one law Good less (x ∷ xs) [] r s h g p q n m e =
+    absurd
+    (m x (texts_of xs ++ r) h.0 (sym e ∙ append_assoc (segment_bytes x) (texts_of xs) r)
+    (less (x ∷ []) xs p))
 fronts_one law Good less (x ∷ xs) (y ∷ ys) r s h g p q n m e =
-    let joined : segment_bytes x ++ (texts_of xs ++ r) ≡ segment_bytes y ++ (texts_of ys ++ s) = sym (append_assoc (segment_bytes x) (texts_of xs) r) ∙ e ∙ append_assoc (segment_bytes y) (texts_of ys) s in
+    let joined : segment_bytes x ++ (texts_of xs ++ r) ≡ segment_bytes y ++ (texts_of ys ++ s) =
+    sym (append_assoc (segment_bytes x) (texts_of xs) r) ∙ e
+    ∙ append_assoc (segment_bytes y) (texts_of ys) s in
     let same : x ≡ y = law x y (texts_of xs ++ r) (texts_of ys ++ s) h.0.framed g.0.framed joined in
-    let tail : texts_of xs ++ r ≡ texts_of ys ++ s = append_cancel_left (segment_bytes x) (texts_of xs ++ r) (texts_of ys ++ s) (joined ∙ ap (λ (z : Tree). segment_bytes z ++ (texts_of ys ++ s)) (sym same)) in
+    let tail : texts_of xs ++ r ≡ texts_of ys ++ s =
+    append_cancel_left (segment_bytes x) (texts_of xs ++ r) (texts_of ys ++ s)
+    (joined ∙ ap (λ (z : Tree). segment_bytes z ++ (texts_of ys ++ s)) (sym same)) in
     let good : Good (x ∷ ys) = subst (λ (z : Tree). Good (z ∷ ys)) (sym same) q in
-    let rest = fronts_one law (λ zs. Good (x ∷ zs)) (λ as' bs. less (x ∷ as') bs) xs ys r s h.1 g.1 p good n (λ t more is d w. m t more is d (subst (λ (z : Tree). Good (z ∷ (ys ++ t ∷ []))) same w)) tail in
+    let rest =
+    fronts_one law (λ zs. Good (x ∷ zs)) (λ as' bs. less (x ∷ as') bs) xs ys r s h.1 g.1 p good n
+    (λ t more is d w. m t more is d (subst (λ (z : Tree). Good (z ∷ (ys ++ t ∷ []))) same w)) tail in
     ap (λ (zs : List Tree). x ∷ zs) rest ∙ ap (λ (z : Tree). z ∷ ys) same
 
 pub one_stop : OneSegmentText → (bytes : List ℕ) (a b : ℕ) → IsNoMessage bytes a → IsNoMessage bytes b → a ≡ b
 one_stop law bytes a b s t =
-    let same = fronts_one law (λ zs. Begins (length bytes) (segments_of zs)) (begins_front (length bytes)) s.front t.front s.rest t.rest s.each t.each s.begins t.begins s.no_next t.no_next (sym s.text ∙ t.text) in
+    let same =
+    fronts_one law (λ zs. Begins (length bytes) (segments_of zs)) (begins_front (length bytes)) s.front
+    t.front s.rest t.rest s.each t.each s.begins t.begins s.no_next t.no_next (sym s.text ∙ t.text) in
     s.offset_is ∙ ap (λ (zs : List Tree). length (texts_of zs)) same ∙ sym t.offset_is
 
 pub no_stop : OneSegmentText → (bytes : List ℕ) (a : ℕ) (m : MessageView) → IsNoMessage bytes a

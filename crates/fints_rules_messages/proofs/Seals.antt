@@ -38,17 +38,30 @@ pub record IsAll (bytes : List ℕ) (at ends k : ℕ) : Type 0 where
   pub all : length bytes ≤ at
   pub as_many : ends ≡ k
 
-data_all : (bytes : List ℕ) (at k : ℕ) (body ends : List (List (List Spelled))) (more : List (List (List Spelled))) (b e : List OwnedSegment) (f : IsFront bytes at k body ends)
+data_all : (bytes : List ℕ) (at k : ℕ) (body ends : List (List (List Spelled)))
+    (more : List (List (List Spelled))) (b e : List OwnedSegment) (f : IsFront bytes at k body ends)
     → NoneStands (drop at bytes) k (length body) (length ends) → AllByRecursion IsSegment more
     → drop at bytes ≡ texts_of more → IsInner (segments_of f.trees ++ segments_of more) b e
     → IsNumbered 2 (segments_of f.trees ++ segments_of more) → IsAll bytes at (length ends) k
 data_all bytes at k body ends [] b e f none each text g n = record {
   all = omega (arith, ap length text, length-drop at bytes);
-  as_many = omega (arith, length-map ends segment_of, ends_all (segments_of f.trees) (segments_of body) (segments_of ends) k b e f.half (subst (λ z. IsInner z b e) (append-nil (segments_of f.trees)) g));
+  as_many =
+      omega (
+        arith,
+        length-map ends segment_of,
+        ends_all (segments_of f.trees) (segments_of body) (segments_of ends) k b e f.half
+            (subst (λ z. IsInner z b e) (append-nil (segments_of f.trees)) g),
+      );
 }
 data_all bytes at k body ends (t ∷ ts) b e f none each text g n =
-    let s : CanStand (segment_of t) k (length (segments_of body)) (length (segments_of ends)) = stands (segments_of f.trees) (segments_of body) (segments_of ends) k (segment_of t) (segments_of ts) b e f.half g n in
-    absurd (none t (texts_of ts) each.0 text (subst (λ x. CanStand (segment_of t) k (length body) x) (length-map ends segment_of) (subst (λ x. CanStand (segment_of t) k x (length (segments_of ends))) (length-map body segment_of) s)))
+    let s : CanStand (segment_of t) k (length (segments_of body)) (length (segments_of ends)) =
+    stands (segments_of f.trees) (segments_of body) (segments_of ends) k (segment_of t) (segments_of ts) b
+    e f.half g n in
+    absurd
+    (none t (texts_of ts) each.0 text
+    (subst (λ x. CanStand (segment_of t) k (length body) x) (length-map ends segment_of)
+    (subst (λ x. CanStand (segment_of t) k x (length (segments_of ends)))
+    (length-map body segment_of) s)))
 
 pub data_inner : OneSegmentText
     → (bytes : List ℕ) (at k : ℕ) (body ends : List (List (List Spelled))) (inner b e : List OwnedSegment)
@@ -70,7 +83,23 @@ pub opened : (s : OwnedSegment) (bytes : List ℕ) (at k : ℕ) (body ends : Lis
     → IsOpened s k (segments_of body) (segments_of ends)
 opened s bytes at k body ends kind place item f le n = record {
   inner = segments_of f.trees;
-  is_envelope = record { kind = kind; place = place; bytes = bytes; item = item; holds = record { trees = f.trees; each = f.each; text = f.text ∙ ap (λ z. texts_of f.trees ++ z) (drop_all at bytes le) ∙ append-nil (texts_of f.trees); values = refl } };
+  is_envelope =
+      record {
+        kind =
+            kind;
+        place = place;
+        bytes = bytes;
+        item = item;
+        holds =
+            record {
+              trees = f.trees;
+              each = f.each;
+              text =
+                  f.text ∙ ap (λ z. texts_of f.trees ++ z) (drop_all at bytes le)
+                  ∙ append-nil (texts_of f.trees);
+              values = refl;
+            };
+      };
   is_inner = inner_half (segments_of f.trees) (segments_of body) (segments_of ends) k f.half (omega (arith, n, length-map ends segment_of));
   numbered = f.numbered;
   count = length-half (segments_of f.trees) (segments_of body) (segments_of ends) k f.half;
@@ -87,7 +116,9 @@ unfolding no_data
 no_data_is = record { kind = refl; place = refl; bytes = []; item = refl; holds = record { trees = []; each = tt; text = refl; values = refl } }
 
 pub stop_start : (rest : List ℕ) (number : ℕ) → IsNumber number
-    → ((t : List (List Spelled)) (more : List ℕ) → IsSegment t → rest ≡ segment_bytes t ++ more → (inner b e : List OwnedSegment) → IsEnvelope inner (segment_of t) → IsInner inner b e → IsNumbered 2 inner → ⊥)
+    → ((t : List (List Spelled)) (more : List ℕ) → IsSegment t → rest ≡ segment_bytes t ++ more
+    → (inner b e : List OwnedSegment) → IsEnvelope inner (segment_of t) → IsInner inner b e
+    → IsNumbered 2 inner → ⊥)
     → Stops (BeginsBy (IsSealedRest number)) (IsWholeBy (IsSealedRest number)) rest 0
 stop_start rest number v none = record {
   front = [];
@@ -118,7 +149,8 @@ stop_start rest number v none = record {
 
 -- the inner segments are those that were read
 rest_inner : OneSegmentText
-    → (number : ℕ) (s : OwnedSegment) (k : ℕ) (body ends : List OwnedSegment) (last : OwnedSegment) (more b e : List OwnedSegment)
+    → (number : ℕ) (s : OwnedSegment) (k : ℕ) (body ends : List OwnedSegment) (last : OwnedSegment)
+    (more b e : List OwnedSegment)
     → IsOpened s k body ends → IsSealedRest number (s ∷ last ∷ more) b e
     → IsLast number last × (last.head.number ≡ 2 + (k + (length body + length ends))) × (more ≡ [])
 rest_inner law number s k body ends last more b e o w =
@@ -127,7 +159,9 @@ rest_inner law number s k body ends last more b e o w =
     let end : w.last ≡ last = cc in
     let none : more ≡ [] = cc in
     let h : IsEnvelope w.inner s = subst (IsEnvelope w.inner) env w.is_envelope in
-    let same : w.inner ≡ o.inner = text_one law o.is_envelope.bytes w.inner o.inner (envelope_text w.inner s o.is_envelope.bytes o.is_envelope.item h) o.is_envelope.holds in
+    let same : w.inner ≡ o.inner =
+    text_one law o.is_envelope.bytes w.inner o.inner
+    (envelope_text w.inner s o.is_envelope.bytes o.is_envelope.item h) o.is_envelope.holds in
     let place : w.last.head.number ≡ 2 + length w.inner = number_at 2 w.inner w.last [] w.numbered in (
       subst (IsLast number) end w.is_last,
       ap (λ (x : OwnedSegment). x.head.number) (sym end) ∙ omega (arith, place, ap length same, o.count),
@@ -152,7 +186,8 @@ pub stop_envelope : OneSegmentText
     → (rest : List ℕ) (n k number : ℕ) (body ends : List (List (List Spelled))) (t : List (List Spelled))
     → IsNumber number → IsNextSegment rest t n
     → IsOpened (segment_of t) k (segments_of body) (segments_of ends)
-    → ((u : List (List Spelled)) (more : List ℕ) → IsSegment u → drop n rest ≡ segment_bytes u ++ more → IsEndOf number (segment_of u) k (length body) (length ends) → ⊥)
+    → ((u : List (List Spelled)) (more : List ℕ) → IsSegment u → drop n rest ≡ segment_bytes u ++ more
+    → IsEndOf number (segment_of u) k (length body) (length ends) → ⊥)
     → Stops (BeginsBy (IsSealedRest number)) (IsWholeBy (IsSealedRest number)) rest n
 stop_envelope law rest n k number body ends t v is_next o none = record {
   front = t ∷ [];
@@ -164,11 +199,18 @@ stop_envelope law rest n k number body ends t v is_next o none = record {
     last_of (2 + (k + (length (segments_of body) + length (segments_of ends)))) v.value ∷ [],
     segments_of body,
     segments_of ends,
-    sealed_rest number (segment_of t) k (segments_of body) (segments_of ends) _ o (last_is number (2 + (k + (length (segments_of body) + length (segments_of ends)))) v.value v.is) (last_number (2 + (k + (length (segments_of body) + length (segments_of ends)))) v.value),
+    sealed_rest number (segment_of t) k (segments_of body) (segments_of ends) _ o
+        (last_is number (2 + (k + (length (segments_of body) + length (segments_of ends)))) v.value v.is)
+        (last_number (2 + (k + (length (segments_of body) + length (segments_of ends)))) v.value),
   );
   no_next = λ u more is e (after, b, c, w).
       let r = rest_inner law number (segment_of t) k (segments_of body) (segments_of ends) (segment_of u) after b c o w in
-      none u more is e (record { last = r.0; place = omega (arith, r.1, length-map body segment_of, length-map ends segment_of); all = omega (arith, o.as_many, length-map ends segment_of) });
+      none u more is e
+      (record {
+        last = r.0;
+        place = omega (arith, r.1, length-map body segment_of, length-map ends segment_of);
+        all = omega (arith, o.as_many, length-map ends segment_of);
+      });
   unfinished = λ _ (b, c, w). let q = w.together in cc;
 }
 
@@ -176,7 +218,8 @@ after_text : (rest : List ℕ) (n m : ℕ) (t u : List (List Spelled)) → IsNex
     → IsNextSegment (drop n rest) u m → rest ≡ texts_of (t ∷ u ∷ []) ++ drop (n + m) rest
 after_text rest n m t u h g =
     h.text ∙ ap (λ z. segment_bytes t ++ z) (g.text ∙ ap (λ z. segment_bytes u ++ z) (drop-drop m n rest))
-    ∙ sym (append_assoc (segment_bytes t) (segment_bytes u) (drop (n + m) rest)) ∙ ap (λ z. (segment_bytes t ++ z) ++ drop (n + m) rest) (sym (append-nil (segment_bytes u)))
+    ∙ sym (append_assoc (segment_bytes t) (segment_bytes u) (drop (n + m) rest))
+    ∙ ap (λ z. (segment_bytes t ++ z) ++ drop (n + m) rest) (sym (append-nil (segment_bytes u)))
 
 pub stop_last : OneSegmentText
     → (rest : List ℕ) (n m k number : ℕ) (body ends : List (List (List Spelled))) (t u : List (List Spelled))
@@ -190,13 +233,23 @@ stop_last law rest n m k number body ends t u h o g q lt = record {
   each = (h.segment, (g.segment, tt));
   text = after_text rest n m t u h g;
   offset_is = omega (arith, h.len_is, g.len_is, length-append (segment_bytes t) (segment_bytes u ++ []), length-append (segment_bytes u) []);
-  begins = ([], segments_of body, segments_of ends, sealed_rest number (segment_of t) k (segments_of body) (segments_of ends) (segment_of u) o q.last (omega (arith, q.place, length-map body segment_of, length-map ends segment_of)));
+  begins = (
+    [],
+    segments_of body,
+    segments_of ends,
+    sealed_rest number (segment_of t) k (segments_of body) (segments_of ends) (segment_of u) o q.last
+        (omega (arith, q.place, length-map body segment_of, length-map ends segment_of)),
+  );
   no_next = λ x more is e (after, b, c, w).
-      let r = rest_inner law number (segment_of t) k (segments_of body) (segments_of ends) (segment_of u) (segment_of x ∷ after) b c o w in let none = r.2 in cc;
+      let r =
+      rest_inner law number (segment_of t) k (segments_of body) (segments_of ends) (segment_of u)
+      (segment_of x ∷ after) b c o w in
+      let none = r.2 in cc;
   unfinished = λ e _. omega (arith, lt, ap length e, length-drop (n + m) rest);
 }
 
-pub whole_rest : (rest : List ℕ) (n m k number : ℕ) (body ends : List (List (List Spelled))) (t u : List (List Spelled))
+pub whole_rest : (rest : List ℕ) (n m k number : ℕ) (body ends : List (List (List Spelled)))
+    (t u : List (List Spelled))
     → IsNextSegment rest t n → IsOpened (segment_of t) k (segments_of body) (segments_of ends)
     → IsNextSegment (drop n rest) u m → IsEndOf number (segment_of u) k (length body) (length ends)
     → length rest ≤ n + m → IsReadBy (IsSealedRest number) rest body ends
@@ -204,7 +257,9 @@ whole_rest rest n m k number body ends t u h o g q le = record {
   trees = t ∷ u ∷ [];
   each = (h.segment, (g.segment, tt));
   text = after_text rest n m t u h g ∙ ap (λ z. texts_of (t ∷ u ∷ []) ++ z) (drop_all (n + m) rest le) ∙ append-nil (texts_of (t ∷ u ∷ []));
-  is = sealed_rest number (segment_of t) k (segments_of body) (segments_of ends) (segment_of u) o q.last (omega (arith, q.place, length-map body segment_of, length-map ends segment_of));
+  is =
+      sealed_rest number (segment_of t) k (segments_of body) (segments_of ends) (segment_of u) o q.last
+      (omega (arith, q.place, length-map body segment_of, length-map ends segment_of));
 }
 
 -- ---- with HNVSK before it
@@ -229,7 +284,16 @@ without_key number s ss b e h t =
       | inl p ↦ absurd (key_not_plain number s ss (s ∷ ss) b e h t refl p)
       | inr q ↦
           let all = sealed_segments number (s ∷ ss) b e t q in
-          record { envelope = q.envelope; inner = t.inner; last = t.last; is_envelope = q.is_envelope; is_inner = t.is_inner; is_last = t.is_last; numbered = t.numbered; together = cc }
+          record {
+            envelope = q.envelope;
+            inner = t.inner;
+            last = t.last;
+            is_envelope = q.is_envelope;
+            is_inner = t.is_inner;
+            is_last = t.is_last;
+            numbered = t.numbered;
+            together = cc;
+          }
     ]
 
 pub stops_key : (tail : List ℕ) (n at number : ℕ) (t : List (List Spelled)) → IsNextSegment tail t n
@@ -243,11 +307,19 @@ stops_key tail n at number t h key s = record {
   text = h.text ∙ ap (λ z. segment_bytes t ++ z) s.text ∙ sym (append_assoc (segment_bytes t) (texts_of s.front) s.rest);
   offset_is = omega (arith, h.len_is, s.offset_is, length-append (segment_bytes t) (texts_of s.front));
   begins = (s.begins.0, s.begins.1, s.begins.2, with_key number (segment_of t) (segments_of s.front ++ s.begins.0) s.begins.1 s.begins.2 key s.begins.3);
-  no_next = λ u more is e (after, b, c, w). s.no_next u more is e (after, b, c, without_key number (segment_of t) (segments_of (s.front ++ u ∷ []) ++ after) b c key w);
+  no_next =
+      λ u more is e (after, b, c, w).
+      s.no_next u more is e (
+        after,
+        b,
+        c,
+        without_key number (segment_of t) (segments_of (s.front ++ u ∷ []) ++ after) b c key w,
+      );
   unfinished = λ e (b, c, w). s.unfinished e (b, c, without_key number (segment_of t) (segments_of s.front) b c key w);
 }
 
-pub whole_key : (tail : List ℕ) (n number : ℕ) (body ends : List (List (List Spelled))) (t : List (List Spelled))
+pub whole_key : (tail : List ℕ) (n number : ℕ) (body ends : List (List (List Spelled)))
+    (t : List (List Spelled))
     → IsNextSegment tail t n → IsKey (segment_of t) → IsReadBy (IsSealedRest number) (drop n tail) body ends
     → IsReadBy (IsTail number) tail body ends
 whole_key tail n number body ends t h key r = record {
@@ -270,7 +342,8 @@ stop_first rest number v none = stop_start rest number v (λ t more is e _ _ _ _
 
 pub stop_closed : (rest : List ℕ) (n number : ℕ) (t : List (List Spelled)) → IsNumber number
     → IsNextSegment rest t n
-    → ((inner b e : List OwnedSegment) → IsEnvelope inner (segment_of t) → IsInner inner b e → IsNumbered 2 inner → ⊥)
+    → ((inner b e : List OwnedSegment) → IsEnvelope inner (segment_of t) → IsInner inner b e
+    → IsNumbered 2 inner → ⊥)
     → Stops (BeginsBy (IsSealedRest number)) (IsWholeBy (IsSealedRest number)) rest 0
 stop_closed rest n number t v h none = stop_start rest number v (λ u more is e inner b c env g num.
     let same : t ≡ u = h.only u more is e in

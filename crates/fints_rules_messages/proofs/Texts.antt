@@ -28,7 +28,9 @@ element_positive end (s ∷ t ∷ ss) ts h = token_positive (record { item = s; 
 
 pub segment_positive : (es : List (List Spelled)) → IsSegment es → 0 < length (segment_bytes es)
 segment_positive [] h = absurd (omega (arith, h.framed.some))
-segment_positive (e ∷ []) h = subst (λ (ts : List Token). 0 < length (tokens_bytes ts)) (append-nil (element_tokens 39 e)) (element_positive 39 e [] h.framed.nonempty.0)
+segment_positive (e ∷ []) h =
+    subst (λ (ts : List Token). 0 < length (tokens_bytes ts)) (append-nil (element_tokens 39 e))
+    (element_positive 39 e [] h.framed.nonempty.0)
 segment_positive (e ∷ f ∷ es) h = element_positive 43 e _ h.framed.nonempty.0
 
 -- ---- one way to read
@@ -45,11 +47,20 @@ pub rest_of : OneSegmentText → (xs ys : List (List (List Spelled))) (rest : Li
     → IsRest xs ys rest
 rest_of law [] ys rest h g e = record { more = ys; each = g; together = refl; text = e }
 rest_of law (x ∷ xs) [] rest h g e =
-    absurd (omega (arith, segment_positive x h.0, ap length e, length-append (segment_bytes x ++ texts_of xs) rest, length-append (segment_bytes x) (texts_of xs)))
+    absurd
+    (omega (
+      arith,
+      segment_positive x h.0,
+      ap length e,
+      length-append (segment_bytes x ++ texts_of xs) rest,
+      length-append (segment_bytes x) (texts_of xs),
+    ))
 rest_of law (x ∷ xs) (y ∷ ys) rest h g e =
     let joined : segment_bytes x ++ (texts_of xs ++ rest) ≡ segment_bytes y ++ texts_of ys = sym (append_assoc (segment_bytes x) (texts_of xs) rest) ∙ e in
     let same : x ≡ y = law x y (texts_of xs ++ rest) (texts_of ys) h.0.framed g.0.framed joined in
-    let tail : texts_of xs ++ rest ≡ texts_of ys = append_cancel_left (segment_bytes x) (texts_of xs ++ rest) (texts_of ys) (joined ∙ ap (λ z. segment_bytes z ++ texts_of ys) (sym same)) in
+    let tail : texts_of xs ++ rest ≡ texts_of ys =
+    append_cancel_left (segment_bytes x) (texts_of xs ++ rest) (texts_of ys)
+    (joined ∙ ap (λ z. segment_bytes z ++ texts_of ys) (sym same)) in
     let r = rest_of law xs ys rest h.1 g.1 tail in
     record { more = r.more; each = r.each; together = ap (λ z. z ∷ ys) (sym same) ∙ ap (λ zs. x ∷ zs) r.together; text = r.text }
 

@@ -21,10 +21,14 @@ keep-append : {X : Type 0} (r : X → ℕ) (c : ℕ) (xs ys : List X)
     → keep r c (xs ++ ys) ≡ keep r c xs ++ keep r c ys
 unfolding keep
 keep-append r c [] ys = refl
-keep-append r c (x ∷ xs) ys = elim (r x == c) as (λ b. cond b (x ∷ keep r c (xs ++ ys)) (keep r c (xs ++ ys)) ≡ cond b (x ∷ keep r c xs) (keep r c xs) ++ keep r c ys) [
-  | true ↦ ap (λ zs. x ∷ zs) (keep-append r c xs ys)
-  | false ↦ keep-append r c xs ys
-]
+keep-append r c (x ∷ xs) ys =
+    elim (r x == c) as
+    (λ b.
+    cond b (x ∷ keep r c (xs ++ ys)) (keep r c (xs ++ ys)) ≡ cond b (x ∷ keep r c xs)
+    (keep r c xs) ++ keep r c ys) [
+      | true ↦ ap (λ zs. x ∷ zs) (keep-append r c xs ys)
+      | false ↦ keep-append r c xs ys
+    ]
 
 same_test : (n c : ℕ) → n ≡ c → (n == c) ≡ true
 same_test n c h = grind (arith, nat_tests)
@@ -58,8 +62,12 @@ keep_third r xs ys zs h =
 
 inner_one : (inner a b c d : List OwnedSegment) → IsInner inner a b → IsInner inner c d → (a ≡ c) × (b ≡ d)
 inner_one inner a b c d h g = (
-  sym (keep_second rank_of h.openers a b (inner_ranked inner a b h)) ∙ ap (keep rank_of 1) (sym h.together ∙ g.together) ∙ keep_second rank_of g.openers c d (inner_ranked inner c d g),
-  sym (keep_third rank_of h.openers a b (inner_ranked inner a b h)) ∙ ap (keep rank_of 2) (sym h.together ∙ g.together) ∙ keep_third rank_of g.openers c d (inner_ranked inner c d g),
+  sym (keep_second rank_of h.openers a b (inner_ranked inner a b h))
+      ∙ ap (keep rank_of 1) (sym h.together ∙ g.together)
+      ∙ keep_second rank_of g.openers c d (inner_ranked inner c d g),
+  sym (keep_third rank_of h.openers a b (inner_ranked inner a b h))
+      ∙ ap (keep rank_of 2) (sym h.together ∙ g.together)
+      ∙ keep_third rank_of g.openers c d (inner_ranked inner c d g),
 )
 
 snoc_one : (xs ys : List OwnedSegment) (x y : OwnedSegment) → xs ++ x ∷ [] ≡ ys ++ y ∷ [] → xs ≡ ys
@@ -94,9 +102,14 @@ form_one law ss m n h g size =
     let both = sym h.together ∙ g.together in
     let first : g.first ≡ h.first = cc in
     let tail : g.tail ≡ h.tail = cc in
-    let number : Some m.number ≡ Some n.number = sym h.is_first.number_is ∙ ap (λ (s : OwnedSegment). number_of (value_at s 5 1)) (sym first) ∙ g.is_first.number_is in
+    let number : Some m.number ≡ Some n.number =
+    sym h.is_first.number_is ∙ ap (λ (s : OwnedSegment). number_of (value_at s 5 1)) (sym first)
+    ∙ g.is_first.number_is in
     let same : n.number ≡ m.number = cc in
-    let parts = tail_one law m.number h.tail m.body m.ends n.body n.ends h.is_tail (subst (λ z. IsTail m.number z n.body n.ends) tail (subst (λ k. IsTail k g.tail n.body n.ends) same g.is_tail)) in
+    let parts =
+    tail_one law m.number h.tail m.body m.ends n.body n.ends h.is_tail
+    (subst (λ z. IsTail m.number z n.body n.ends) tail
+    (subst (λ k. IsTail k g.tail n.body n.ends) same g.is_tail)) in
     let protocol : m.protocol ≡ n.protocol = sym h.protocol ∙ ap (λ (s : OwnedSegment). number_of (value_at s 3 1)) (sym first) ∙ g.protocol in
     let body = parts.0 in
     let ends = parts.1 in

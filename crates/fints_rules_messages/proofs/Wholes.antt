@@ -16,12 +16,16 @@ use Rattle.fints_rules_messages.proofs.Texts.{segments-snoc, rest_of}
 
 -- ---- where it stops there is no message
 
-none_at : (size : ℕ) (bytes : List ℕ) (o : ℕ) (more : List (List (List Spelled))) (m : MessageView) (s : Stops (Begins size) (AreMessage size) bytes o)
+none_at : (size : ℕ) (bytes : List ℕ) (o : ℕ) (more : List (List (List Spelled))) (m : MessageView)
+    (s : Stops (Begins size) (AreMessage size) bytes o)
     → AllByRecursion IsSegment more → s.rest ≡ texts_of more
     → IsForm (segments_of s.front ++ segments_of more) m → m.size ≡ size → ⊥
 none_at size bytes o [] m s each text form e = s.unfinished text (m, subst (λ z. IsForm z m) (append-nil (segments_of s.front)) form, e)
 none_at size bytes o (t ∷ ts) m s each text form e =
-    let joined : segments_of s.front ++ segment_of t ∷ segments_of ts ≡ segments_of (s.front ++ t ∷ []) ++ segments_of ts = sym (ap (λ z. z ++ segments_of ts) (segments-snoc s.front t) ∙ append_assoc (segments_of s.front) (segment_of t ∷ []) (segments_of ts)) in
+    let joined : segments_of s.front ++ segment_of t ∷ segments_of ts ≡ segments_of
+    (s.front ++ t ∷ []) ++ segments_of ts =
+    sym (ap (λ z. z ++ segments_of ts) (segments-snoc s.front t)
+    ∙ append_assoc (segments_of s.front) (segment_of t ∷ []) (segments_of ts)) in
     s.no_next t (texts_of ts) each.0 text (inr (segments_of ts, (m, subst (λ z. IsForm z m) joined form, e)))
 
 pub no_message : OneSegmentText → (bytes : List ℕ) (o : ℕ) → IsNoMessage bytes o → (m : MessageView)
@@ -34,7 +38,8 @@ no_message law bytes o s m h =
 -- ---- at the start
 
 stop_zero : (bytes : List ℕ)
-    → ((t : List (List Spelled)) (more : List ℕ) → IsSegment t → bytes ≡ segment_bytes t ++ more → (n : ℕ) → IsFirst (length bytes) n (segment_of t) → ⊥)
+    → ((t : List (List Spelled)) (more : List ℕ) → IsSegment t → bytes ≡ segment_bytes t ++ more → (n : ℕ)
+    → IsFirst (length bytes) n (segment_of t) → ⊥)
     → IsNoMessage bytes 0
 stop_zero bytes none = record {
   front = [];
@@ -94,18 +99,42 @@ refused_tail bytes n at number t h f s = record {
   each = (h.segment, s.each);
   text = h.text ∙ ap (λ z. segment_bytes t ++ z) s.text ∙ sym (append_assoc (segment_bytes t) (texts_of s.front) s.rest);
   offset_is = omega (arith, h.len_is, s.offset_is, length-append (segment_bytes t) (texts_of s.front));
-  begins = inr (s.begins.0, (view_with (length bytes) number (segment_of t) s.begins.1 s.begins.2, form_with (length bytes) number (segment_of t) (segments_of s.front ++ s.begins.0) s.begins.1 s.begins.2 f s.begins.3, refl));
+  begins =
+      inr (
+        s.begins.0,
+        (
+          view_with (length bytes) number (segment_of t) s.begins.1 s.begins.2,
+          form_with (length bytes) number (segment_of t) (segments_of s.front ++ s.begins.0)
+              s.begins.1 s.begins.2 f s.begins.3,
+          refl,
+        ),
+      );
   no_next = λ u more is e b. elim b [
     | inl q ↦ cc
-    | inr w ↦ s.no_next u more is e (w.0, w.1.0.body, w.1.0.ends, tail_in (length bytes) number (segment_of t) (segments_of (s.front ++ u ∷ []) ++ w.0) w.1.0 f w.1.1)
+    | inr w ↦
+        s.no_next u more is e (
+          w.0,
+          w.1.0.body,
+          w.1.0.ends,
+          tail_in (length bytes) number (segment_of t) (segments_of (s.front ++ u ∷ []) ++ w.0) w.1.0 f
+              w.1.1,
+        )
   ];
   unfinished = λ e w. s.unfinished e (w.0.body, w.0.ends, tail_in (length bytes) number (segment_of t) (segments_of s.front) w.0 f w.1);
 }
 
-pub is_message : (bytes : List ℕ) (n number : ℕ) (protocol : Option ℕ) (body ends : List (List (List Spelled))) (t : List (List Spelled))
+pub is_message : (bytes : List ℕ) (n number : ℕ) (protocol : Option ℕ)
+    (body ends : List (List (List Spelled))) (t : List (List Spelled))
     → IsNextSegment bytes t n → IsFirst (length bytes) number (segment_of t)
     → protocol ≡ number_of (value_at (segment_of t) 3 1) → IsReadBy (IsTail number) (drop n bytes) body ends
-    → IsMessage bytes (record { size = length bytes; protocol = protocol; number = number; body = segments_of body; ends = segments_of ends })
+    → IsMessage bytes
+    (record {
+      size = length bytes;
+      protocol = protocol;
+      number = number;
+      body = segments_of body;
+      ends = segments_of ends;
+    })
 is_message bytes n number protocol body ends t h f p r = record {
   segments = segments_of (t ∷ r.trees);
   text = record { trees = t ∷ r.trees; each = (h.segment, r.each); text = h.text ∙ ap (λ z. segment_bytes t ++ z) r.text; values = refl };

@@ -30,7 +30,8 @@ pushed p [] row none = refl
 pushed p (x ∷ rows) row none = pushed_step (p x) (p row) x row (find p rows) (find p (rows ++ row ∷ [])) none (pushed p rows row)
 
 form_chosen : (c : Bool) (row : OrderRow) (old : Option OrderRow)
-    → option_map (λ (r : OrderRow). r.form) (cond c (Some row) old) ≡ cond c (Some row.form) (option_map (λ (r : OrderRow). r.form) old)
+    → option_map (λ (r : OrderRow). r.form) (cond c (Some row) old) ≡ cond c (Some row.form)
+    (option_map (λ (r : OrderRow). r.form) old)
 form_chosen true row old = refl
 form_chosen false row old = refl
 
@@ -48,7 +49,9 @@ forms_more rows row forms more holds fresh updates q =
     let none : p row ≡ true → find p rows ≡ None = λ h.
     let same : order_key row ≡ q = (key_decides (order_key row) q).0 h in
     no_form (find p rows) (sym (holds q) ∙ subst (λ k. forms k ≡ None) same (is_none (forms (order_key row)) fresh)) in
-    updates q ∙ ap (λ o. cond (p row) (Some row.form) o) (holds q) ∙ sym (ap (option_map (λ (r : OrderRow). r.form)) (pushed p rows row none) ∙ form_chosen (p row) row (find p rows))
+    updates q ∙ ap (λ o. cond (p row) (Some row.form) o) (holds q)
+    ∙ sym (ap (option_map (λ (r : OrderRow). r.form)) (pushed p rows row none)
+    ∙ form_chosen (p row) row (find p rows))
   where
     is_none : (o : Option AccountForm) → is_some o ≡ false → o ≡ None
     is_none None h = refl
@@ -65,7 +68,9 @@ found_step false x o rest h = h
 found_any : (kind : List ℕ) (version : ℕ) (rows : List OrderRow)
     → is_some (form_of rows kind version) ≡ list_any (is_order_of kind version) rows
 found_any kind version [] = refl
-found_any kind version (x ∷ rows) = found_step (is_order_of kind version x) x (find (is_order_of kind version) rows) (list_any (is_order_of kind version) rows) (found_any kind version rows)
+found_any kind version (x ∷ rows) =
+    found_step (is_order_of kind version x) x (find (is_order_of kind version) rows)
+    (list_any (is_order_of kind version) rows) (found_any kind version rows)
 
 order_decides : (row x : OrderRow) → Decides (is_order_of row.kind row.version x) (IsSameOrder row x)
 order_decides row x =

@@ -70,7 +70,9 @@ least_less : (rs : List OrderParam) (row : OrderParam) (m n : ℕ) → row.order
 least_less rs row m n is ne lt h = record {
   some = λ _. Any-push (λ r. r.orders ≡ n) rs row is;
   least = All-push (λ r. r.orders ≢ 0 → (n ≢ 0) × (n ≤ r.orders)) rs row
-      (All-weaker (λ r. r.orders ≢ 0 → (m ≢ 0) × (m ≤ r.orders)) (λ r. r.orders ≢ 0 → (n ≢ 0) × (n ≤ r.orders)) (λ r g q. let le = (g q).1 in (ne, omega arith)) rs h.least)
+      (All-weaker (λ r. r.orders ≢ 0 → (m ≢ 0) × (m ≤ r.orders))
+      (λ r. r.orders ≢ 0 → (n ≢ 0) × (n ≤ r.orders)) (λ r g q. let le = (g q).1 in (ne, omega arith)) rs
+      h.least)
       (λ _. (ne, omega arith));
 }
 
@@ -102,7 +104,8 @@ need_with rs row m h = record {
       (omega arith);
 }
 
-one_limits : (row : OrderParam) → IsLimits (row ∷ []) (record { orders = row.orders; signatures = row.signatures })
+one_limits : (row : OrderParam)
+    → IsLimits (row ∷ []) (record { orders = row.orders; signatures = row.signatures })
 one_limits row = record {
   orders = record {
     some = λ _. Any-push (λ r. r.orders ≡ row.orders) [] row refl;
@@ -122,16 +125,21 @@ limits_with rs row (Some l) h = record { orders = least_with rs row l.orders row
 -- ---- the rows of a kind and version, one more
 
 params_more : (q : OrderKey) (rows : List OrderParam) (i : ℕ) (d : OrderParam) → i < length rows
-    → params_of q.kind q.version (take (i + 1) rows) ≡ params_of q.kind q.version (take i rows) ++ cond (is_param_of q.kind q.version (get_or rows i d)) (get_or rows i d ∷ []) []
-params_more q rows i d lt = ap (params_of q.kind q.version) (take_more rows i d lt) ∙ filter-append (is_param_of q.kind q.version) (take i rows) (get_or rows i d ∷ [])
+    → params_of q.kind q.version (take (i + 1) rows) ≡ params_of q.kind q.version (take i rows) ++ cond
+    (is_param_of q.kind q.version (get_or rows i d)) (get_or rows i d ∷ []) []
+params_more q rows i d lt =
+    ap (params_of q.kind q.version) (take_more rows i d lt)
+    ∙ filter-append (is_param_of q.kind q.version) (take i rows) (get_or rows i d ∷ [])
 
-limits_chosen : (b : Bool) (rs : List OrderParam) (row : OrderParam) (found old now : Option Limits) (v : Limits)
+limits_chosen : (b : Bool) (rs : List OrderParam) (row : OrderParam) (found old now : Option Limits)
+    (v : Limits)
     → (b ≡ true → LimitsAre rs found) → LimitsAre rs old → v ≡ with_limits found row
     → now ≡ cond b (Some v) old → LimitsAre (rs ++ cond b (row ∷ []) []) now
 limits_chosen true rs row found old now v f o is n = rw (n, is) (limits_with rs row found (f refl))
 limits_chosen false rs row found old now v f o is n = rw (n, append-nil rs) o
 
-pub limits_step : (q : OrderKey) (rows : List OrderParam) (i : ℕ) (row : OrderParam) (found old now : Option Limits) (v : Limits)
+pub limits_step : (q : OrderKey) (rows : List OrderParam) (i : ℕ) (row : OrderParam)
+    (found old now : Option Limits) (v : Limits)
     → i < length rows → row ≡ get_or rows i row
     → LimitsAre (params_of row.kind row.version (take i rows)) found
     → LimitsAre (params_of q.kind q.version (take i rows)) old → v ≡ with_limits found row
@@ -139,11 +147,18 @@ pub limits_step : (q : OrderKey) (rows : List OrderParam) (i : ℕ) (row : Order
     → LimitsAre (params_of q.kind q.version (take (i + 1) rows)) now
 limits_step q rows i row found old now v lt at f o is n =
     let key : OrderKey = record { kind = row.kind; version = row.version } in
-    let more : params_of q.kind q.version (take (i + 1) rows) ≡ params_of q.kind q.version (take i rows) ++ cond (is_param_of q.kind q.version row) (row ∷ []) [] =
-    params_more q rows i row lt ∙ ap (λ (r : OrderParam). params_of q.kind q.version (take i rows) ++ cond (is_param_of q.kind q.version r) (r ∷ []) []) (sym at) in
+    let more : params_of q.kind q.version (take (i + 1) rows) ≡ params_of q.kind q.version
+    (take i rows) ++ cond (is_param_of q.kind q.version row) (row ∷ []) [] =
+    params_more q rows i row lt
+    ∙ ap
+    (λ (r : OrderParam).
+    params_of q.kind q.version (take i rows) ++ cond (is_param_of q.kind q.version r) (r ∷ []) [])
+    (sym at) in
     let same : is_param_of q.kind q.version row ≡ true → LimitsAre (params_of q.kind q.version (take i rows)) found = λ h.
     let e : key ≡ q = (key_decides key q).0 h in subst (λ (k : OrderKey). LimitsAre (params_of k.kind k.version (take i rows)) found) e f in
-    subst (λ rs. LimitsAre rs now) (sym more) (limits_chosen (is_param_of q.kind q.version row) (params_of q.kind q.version (take i rows)) row found old now v same o is n)
+    subst (λ rs. LimitsAre rs now) (sym more)
+    (limits_chosen (is_param_of q.kind q.version row) (params_of q.kind q.version (take i rows)) row found
+    old now v same o is n)
 
 -- ---- demands
 
@@ -188,16 +203,21 @@ pin_other rs row kind None ne h = λ any. h (other_kind rs row kind ne any)
 pin_other rs row kind (Some true) ne h = any_more (IsOfTan kind) rs row h
 pin_other rs row kind (Some false) ne h = (any_more (IsOf kind) rs row h.0, λ any. h.1 (other_tan rs row kind ne any))
 
-pins_chosen : (b : Bool) (rs : List PinRow) (row : PinRow) (kind : List ℕ) (found old now : Option Bool) (v : Bool)
+pins_chosen : (b : Bool) (rs : List PinRow) (row : PinRow) (kind : List ℕ) (found old now : Option Bool)
+    (v : Bool)
     → Decides b (row.kind ≡ kind) → PinIs rs row.kind found → PinIs rs kind old → v ≡ with_pin found row
     → now ≡ cond b (Some v) old → PinIs (rs ++ row ∷ []) kind now
-pins_chosen true rs row kind found old now v same f o is n = rw n (subst (λ k. PinIs (rs ++ row ∷ []) k (Some v)) (same.0 refl) (pin_with rs row found v (sym is) f))
+pins_chosen true rs row kind found old now v same f o is n =
+    rw n (subst (λ k. PinIs (rs ++ row ∷ []) k (Some v)) (same.0 refl) (pin_with rs row found v (sym is) f))
 pins_chosen false rs row kind found old now v same f o is n = rw n (pin_other rs row kind old (λ e. let no_match : false ≡ true = same.1 e in cc) o)
 
-pub pins_step : (kind : List ℕ) (rows : List PinRow) (i : ℕ) (row : PinRow) (found old now : Option Bool) (v : Bool)
+pub pins_step : (kind : List ℕ) (rows : List PinRow) (i : ℕ) (row : PinRow) (found old now : Option Bool)
+    (v : Bool)
     → i < length rows → row ≡ get_or rows i row → PinIs (take i rows) row.kind found
     → PinIs (take i rows) kind old → v ≡ with_pin found row → now ≡ cond (bytes_eq row.kind kind) (Some v) old
     → PinIs (take (i + 1) rows) kind now
 pins_step kind rows i row found old now v lt at f o is n =
     let more : take (i + 1) rows ≡ take i rows ++ row ∷ [] = take_more rows i row lt ∙ ap (λ (r : PinRow). take i rows ++ r ∷ []) (sym at) in
-    subst (λ rs. PinIs rs kind now) (sym more) (pins_chosen (bytes_eq row.kind kind) (take i rows) row kind found old now v (bytes_eq-Decides row.kind kind) f o is n)
+    subst (λ rs. PinIs rs kind now) (sym more)
+    (pins_chosen (bytes_eq row.kind kind) (take i rows) row kind found old now v
+    (bytes_eq-Decides row.kind kind) f o is n)

@@ -146,7 +146,8 @@ module _ {X : Type 0} (seen : X → Seen) (q : Key) where
 
   first_level : (xs : List X) (i j : ℕ) (d : X) → IsSortedByKey seen seen_cmp xs → BeginsAt seen q xs i
       → j < length xs → seen_key (seen (get_or xs j d)) ≡ q
-      → (seen_key (seen (get_or xs i d)) ≡ q) × ((seen (get_or xs i d)).signatures ≤ (seen (get_or xs j d)).signatures)
+      → (seen_key (seen (get_or xs i d)) ≡ q)
+      × ((seen (get_or xs i d)).signatures ≤ (seen (get_or xs j d)).signatures)
   first_level xs i j d up at lt e =
       let le : i ≤ j = no_earlier xs i j d at lt e in
       let a : Key = seen_key (seen (get_or xs i d)) in
@@ -200,12 +201,16 @@ none_left seen (x ∷ xs) q i at le s among key =
 
 -- ---- a sort by what is seen
 
-pub sorted_by : {X F : Type 0} (seen : X → Seen) {g : Mut F (Bor X × (Bor X × Unit {0})) Ordering} {f : F} (xs : List X)
+pub sorted_by : {X F : Type 0} (seen : X → Seen) {g : Mut F (Bor X × (Bor X × Unit {0})) Ordering} {f : F}
+    (xs : List X)
     → ((lt : X → X → Bool) → IsStrictWeakOrder lt → ComparesAs g lt f → IsSortedBy lt xs)
-    → ((a : Bor X × (Bor X × Unit {0})) (r : Ordering) (f' : F) → Called g f a r f' → (r ≡ seen_cmp (seen a.0.now) (seen a.1.0.now)) × (f' ≡ f))
+    → ((a : Bor X × (Bor X × Unit {0})) (r : Ordering) (f' : F) → Called g f a r f'
+    → (r ≡ seen_cmp (seen a.0.now) (seen a.1.0.now)) × (f' ≡ f))
     → IsSortedByKey seen seen_cmp xs
 sorted_by seen {g = g} {f = f} xs up h =
-    up (λ x y. is_lt (seen_cmp (seen x) (seen y))) (weak seen) (always_returns_same g (λ a r. is_lt r ≡ is_lt (seen_cmp (seen a.0.now) (seen a.1.0.now))) f (λ a r f' k. (ap is_lt (h a r f' k).0, (h a r f' k).1)))
+    up (λ x y. is_lt (seen_cmp (seen x) (seen y))) (weak seen)
+    (always_returns_same g (λ a r. is_lt r ≡ is_lt (seen_cmp (seen a.0.now) (seen a.1.0.now))) f
+    (λ a r f' k. (ap is_lt (h a r f' k).0, (h a r f' k).1)))
 
 -- ---- the places of a row's entries
 
@@ -217,21 +222,29 @@ seen_there : (rows : List AccountRow) (naming : Naming) (i j : ℕ) (row : Accou
     → seen_at rows (place_of naming i j) ≡ seen_as naming row e
 seen_there rows naming i j row e at within = ap (λ (r : Option AccountRow). seen_on naming r j) at ∙ ap (seen_of naming row) within
 
-pub row_more : (rows : List AccountRow) (i j : ℕ) (none : AccountRow) (places one two : List Place) (before : List Seen)
+pub row_more : (rows : List AccountRow) (i j : ℕ) (none : AccountRow) (places one two : List Place)
+    (before : List Seen)
     → i < length rows → j < length (get_or rows i none).entries → one ≡ places ++ place_of Items i j ∷ []
     → two ≡ one ++ place_of Iban i j ∷ []
-    → map (seen_at rows) places ≡ before ++ flat_map (seen_twice (get_or rows i none)) (take j (get_or rows i none).entries)
-    → map (seen_at rows) two ≡ before ++ flat_map (seen_twice (get_or rows i none)) (take (j + 1) (get_or rows i none).entries)
+    → map (seen_at rows) places ≡ before ++ flat_map (seen_twice (get_or rows i none))
+    (take j (get_or rows i none).entries)
+    → map (seen_at rows) two ≡ before ++ flat_map (seen_twice (get_or rows i none))
+    (take (j + 1) (get_or rows i none).entries)
 row_more rows i j none places one two before less within first second is =
     let row : AccountRow = get_or rows i none in
     let d : Entry = record { kind = []; signatures = 0 } in
     let e : Entry = get_or row.entries j d in
     let at : slice_get rows i ≡ Some row = slice_get-get_or rows i none less in
     let at' : slice_get row.entries j ≡ Some e = slice_get-get_or row.entries j d within in
-    let both : two ≡ places ++ (place_of Items i j ∷ place_of Iban i j ∷ []) = second ∙ ap (λ (ps : List Place). ps ++ place_of Iban i j ∷ []) first ∙ append_assoc places (place_of Items i j ∷ []) (place_of Iban i j ∷ []) in
+    let both : two ≡ places ++ (place_of Items i j ∷ place_of Iban i j ∷ []) =
+    second ∙ ap (λ (ps : List Place). ps ++ place_of Iban i j ∷ []) first
+    ∙ append_assoc places (place_of Items i j ∷ []) (place_of Iban i j ∷ []) in
     let twice : map (seen_at rows) (place_of Items i j ∷ place_of Iban i j ∷ []) ≡ seen_twice row e =
-    ap (λ (s : Seen). s ∷ seen_at rows (place_of Iban i j) ∷ []) (seen_there rows Items i j row e at at') ∙ ap (λ (s : Seen). seen_as Items row e ∷ s ∷ []) (seen_there rows Iban i j row e at at') in
-    ap (map (seen_at rows)) both ∙ map-append (seen_at rows) places (place_of Items i j ∷ place_of Iban i j ∷ []) ∙ ap (λ (ss : List Seen). ss ++ map (seen_at rows) (place_of Items i j ∷ place_of Iban i j ∷ [])) is
+    ap (λ (s : Seen). s ∷ seen_at rows (place_of Iban i j) ∷ []) (seen_there rows Items i j row e at at')
+    ∙ ap (λ (s : Seen). seen_as Items row e ∷ s ∷ []) (seen_there rows Iban i j row e at at') in
+    ap (map (seen_at rows)) both
+    ∙ map-append (seen_at rows) places (place_of Items i j ∷ place_of Iban i j ∷ [])
+    ∙ ap (λ (ss : List Seen). ss ++ map (seen_at rows) (place_of Items i j ∷ place_of Iban i j ∷ [])) is
     ∙ ap (λ (ss : List Seen). (before ++ flat_map (seen_twice row) (take j row.entries)) ++ ss) twice
     ∙ flat_map_more (seen_twice row) before (take j row.entries) e
     ∙ ap (λ (es : List Entry). before ++ flat_map (seen_twice row) es) (sym (take_more row.entries j d within))
@@ -241,4 +254,6 @@ pub rows_more : (rows : List AccountRow) (i : ℕ) (none : AccountRow) (places n
     → map (seen_at rows) places ≡ flat_map seen_in_row (take i rows)
     → map (seen_at rows) new ≡ flat_map seen_in_row (take (i + 1) rows)
 rows_more rows i none places new less added is =
-    added ∙ ap (λ (ss : List Seen). ss ++ seen_in_row (get_or rows i none)) is ∙ flat_map_more seen_in_row [] (take i rows) (get_or rows i none) ∙ ap (flat_map seen_in_row) (sym (take_more rows i none less))
+    added ∙ ap (λ (ss : List Seen). ss ++ seen_in_row (get_or rows i none)) is
+    ∙ flat_map_more seen_in_row [] (take i rows) (get_or rows i none)
+    ∙ ap (flat_map seen_in_row) (sym (take_more rows i none less))

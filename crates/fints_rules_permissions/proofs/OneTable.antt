@@ -67,7 +67,10 @@ second_row_out es entry fs a b h g (row, is, (k, x, lt, at, same)) =
     let far : length a < length b = omega (arith, ap length n.together, length-append a (n.row ∷ n.more)) in
     let left : get_or b k x ≡ x = ap (λ (xs : List OrderRow). get_or xs k x) n.together ∙ get_or_append_left a (n.row ∷ n.more) x k lt ∙ at in
     let right : get_or b (length a) x ≡ row = ap (λ (xs : List OrderRow). get_or xs (length a) x) n.together ∙ get_or-append_seam a n.row n.more x ∙ sym one in
-    let apart : IsSameOrder x row → ⊥ = subst (λ (z : OrderRow). IsSameOrder x z → ⊥) right (subst (λ (z : OrderRow). IsSameOrder z (get_or b (length a) x) → ⊥) left (g.distinct k (length a) x lt far)) in
+    let apart : IsSameOrder x row → ⊥ =
+    subst (λ (z : OrderRow). IsSameOrder x z → ⊥) right
+    (subst (λ (z : OrderRow). IsSameOrder z (get_or b (length a) x) → ⊥) left
+    (g.distinct k (length a) x lt far)) in
     apart (sym same.0, sym same.1)
 
 -- ---- the first bad entry
@@ -117,7 +120,9 @@ first_one Bad Worse entries n m out never h g = elim (order_of h.earlier g.earli
 
 no_first : (Bad : List OrderRow → Data → Type 0) (entries : List Data) (n : ℕ) (rows : List OrderRow)
     → IsOut Bad → AreRows entries rows → IsFirstBad entries n Bad → ⊥
-no_first Bad entries n rows out are h = out h.earlier h.entry h.later h.rows rows h.rows_are (subst (λ (es : List Data). AreRows es rows) h.entries_are are) h.bad
+no_first Bad entries n rows out are h =
+    out h.earlier h.entry h.later h.rows rows h.rows_are
+    (subst (λ (es : List Data). AreRows es rows) h.entries_are are) h.bad
 
 -- ---- the value at `order`
 
@@ -145,7 +150,9 @@ no_both rows entry h g = let e : None ≡ Some g.0 = sym h ∙ g.1 in cc
 bad_or_two : (found : Option Data) (n m : ℕ) → IsBadRowAt found n → IsTwoRowsAt found m → ⊥
 bad_or_two None n m h g = h
 bad_or_two (Some (array ds)) n m (inl h) g = omega (arith, h.1, g.0)
-bad_or_two (Some (array ds)) n m (inr h) g = let r = first_one IsNoRow IsSecondRow (item_list ds) n m no_row_out second_row_out h.1 g.1 in no_both r.rows r.entry r.bad r.worse
+bad_or_two (Some (array ds)) n m (inr h) g =
+    let r = first_one IsNoRow IsSecondRow (item_list ds) n m no_row_out second_row_out h.1 g.1 in no_both
+    r.rows r.entry r.bad r.worse
 bad_or_two (Some d) n m h g = g
 
 no_bad : (found : Option Data) (rows : List OrderRow) (n : ℕ) → IsTableAt found rows → IsBadRowAt found n → ⊥
@@ -203,18 +210,30 @@ one_table_fault text UnknownKey (BadRow b) h k n m = absurd (known text (λ foun
 one_table_fault text UnknownKey (TwoRows b) h k n m = absurd (known text (λ found. IsTwoRowsAt found b) k h)
 one_table_fault text (BadRow a) NotToml h k n m = absurd (no_orders text (λ found. IsBadRowAt found a) h k)
 one_table_fault text (BadRow a) UnknownKey h k n m = absurd (known text (λ found. IsBadRowAt found a) h k)
-one_table_fault text (BadRow a) (BadRow b) h k n m = let r = both text (λ found. IsBadRowAt found a) (λ found. IsBadRowAt found b) h k in ap BadRow (bad_one r.found a b r.one r.other)
-one_table_fault text (BadRow a) (TwoRows b) h k n m = let r = both text (λ found. IsBadRowAt found a) (λ found. IsTwoRowsAt found b) h k in absurd (bad_or_two r.found a b r.one r.other)
+one_table_fault text (BadRow a) (BadRow b) h k n m =
+    let r = both text (λ found. IsBadRowAt found a) (λ found. IsBadRowAt found b) h k in ap BadRow
+    (bad_one r.found a b r.one r.other)
+one_table_fault text (BadRow a) (TwoRows b) h k n m =
+    let r = both text (λ found. IsBadRowAt found a) (λ found. IsTwoRowsAt found b) h k in absurd
+    (bad_or_two r.found a b r.one r.other)
 one_table_fault text (TwoRows a) NotToml h k n m = absurd (no_orders text (λ found. IsTwoRowsAt found a) h k)
 one_table_fault text (TwoRows a) UnknownKey h k n m = absurd (known text (λ found. IsTwoRowsAt found a) h k)
-one_table_fault text (TwoRows a) (BadRow b) h k n m = let r = both text (λ found. IsBadRowAt found b) (λ found. IsTwoRowsAt found a) k h in absurd (bad_or_two r.found b a r.one r.other)
-one_table_fault text (TwoRows a) (TwoRows b) h k n m = let r = both text (λ found. IsTwoRowsAt found a) (λ found. IsTwoRowsAt found b) h k in ap TwoRows (two_one r.found a b r.one r.other)
+one_table_fault text (TwoRows a) (BadRow b) h k n m =
+    let r = both text (λ found. IsBadRowAt found b) (λ found. IsTwoRowsAt found a) k h in absurd
+    (bad_or_two r.found b a r.one r.other)
+one_table_fault text (TwoRows a) (TwoRows b) h k n m =
+    let r = both text (λ found. IsTwoRowsAt found a) (λ found. IsTwoRowsAt found b) h k in ap TwoRows
+    (two_one r.found a b r.one r.other)
 
 -- it never has both
 pub no_table_at_fault : (text : List ℕ) (rows : List OrderRow) (f : TableFault) → DenotesTable text rows
     → IsTableFault text f → f ≢ Memory → ⊥
 no_table_at_fault text rows NotToml h k n = no_orders text (λ found. IsTableAt found rows) h k
 no_table_at_fault text rows UnknownKey h k n = known text (λ found. IsTableAt found rows) h k
-no_table_at_fault text rows (BadRow a) h k n = let r = both text (λ found. IsTableAt found rows) (λ found. IsBadRowAt found a) h k in no_bad r.found rows a r.one r.other
-no_table_at_fault text rows (TwoRows a) h k n = let r = both text (λ found. IsTableAt found rows) (λ found. IsTwoRowsAt found a) h k in no_two r.found rows a r.one r.other
+no_table_at_fault text rows (BadRow a) h k n =
+    let r = both text (λ found. IsTableAt found rows) (λ found. IsBadRowAt found a) h k in no_bad r.found rows
+    a r.one r.other
+no_table_at_fault text rows (TwoRows a) h k n =
+    let r = both text (λ found. IsTableAt found rows) (λ found. IsTwoRowsAt found a) h k in no_two r.found
+    rows a r.one r.other
 no_table_at_fault text rows Memory h k n = n refl

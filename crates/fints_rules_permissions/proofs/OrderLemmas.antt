@@ -23,24 +23,37 @@ pub rows_more : (vs : List Value) (i : ℕ) (d : Value) (rows : List OrderRow) (
     → AreRows (map view (take i vs)) rows → row_of (view (get_or vs i d)) ≡ Some row
     → (Any (IsSameOrder row) rows → ⊥) → AreRows (map view (take (i + 1) vs)) (rows ++ row ∷ [])
 rows_more vs i d rows row lt are is none =
-    let entries : map view (take (i + 1) vs) ≡ map view (take i vs) ++ view (get_or vs i d) ∷ [] = ap (map view) (take_more vs i d lt) ∙ map_push view (take i vs) (get_or vs i d) in
+    let entries : map view (take (i + 1) vs) ≡ map view (take i vs) ++ view (get_or vs i d) ∷ [] =
+    ap (map view) (take_more vs i d lt) ∙ map_push view (take i vs) (get_or vs i d) in
     let each : map row_of (map view (take (i + 1) vs)) ≡ map Some (rows ++ row ∷ []) =
     ap (map row_of) entries ∙ map_push row_of (map view (take i vs)) (view (get_or vs i d)) ∙ ap (λ os. os ++ row_of (view (get_or vs i d)) ∷ []) are.each
     ∙ ap (λ o. map Some rows ++ o ∷ []) is ∙ sym (map_push Some rows row) in
     record {
       each = each;
-      distinct = all_pairs_push (λ a b. IsSameOrder a b → ⊥) rows row are.distinct (λ k x lt' same. none (k, get_or rows k x, lt', get_or_default rows k (get_or rows k x) x lt', (sym same.0, sym same.1)));
+      distinct =
+          all_pairs_push (λ a b. IsSameOrder a b → ⊥) rows row are.distinct
+          (λ k x lt' same.
+          none (
+            k,
+            get_or rows k x,
+            lt',
+            get_or_default rows k (get_or rows k x) x lt',
+            (sym same.0, sym same.1),
+          ));
     }
 
 -- the entry at i, behind good rows, is bad
-pub first_bad : (vs : List Value) (i n : ℕ) (d : Value) (rows : List OrderRow) (Bad : List OrderRow → Data → Type 0)
+pub first_bad : (vs : List Value) (i n : ℕ) (d : Value) (rows : List OrderRow)
+    (Bad : List OrderRow → Data → Type 0)
     → i < length vs → n ≡ i + 1 → AreRows (map view (take i vs)) rows → Bad rows (view (get_or vs i d))
     → IsFirstBad (map view vs) n Bad
 first_bad vs i n d rows Bad lt is are bad = record {
   earlier = map view (take i vs);
   entry = view (get_or vs i d);
   later = map view (drop (i + 1) vs);
-  entries_are = ap (map view) (sym (take-append-drop i vs) ∙ ap (λ ws. take i vs ++ ws) (drop_more vs i d lt)) ∙ map-append view (take i vs) (get_or vs i d ∷ drop (i + 1) vs);
+  entries_are =
+      ap (map view) (sym (take-append-drop i vs) ∙ ap (λ ws. take i vs ++ ws) (drop_more vs i d lt))
+      ∙ map-append view (take i vs) (get_or vs i d ∷ drop (i + 1) vs);
   number = omega (arith, length-map (take i vs) view, length-take-le i vs (omega arith));
   rows = rows;
   rows_are = are;

@@ -63,7 +63,9 @@ twice_naming row e s h = elim (cons_cases (seen_as Items row e) (seen_as Iban ro
 
 seen_there : (rows : List AccountRow) (row : AccountRow) (e : Entry) (naming : Naming) → Contains rows row
     → Contains row.entries e → Contains (seen_in rows) (seen_as naming row e)
-seen_there rows row e naming among within = to_flat_map seen_in_row rows row _ among (to_flat_map (seen_twice row) row.entries e _ within (naming_in_twice naming row e))
+seen_there rows row e naming among within =
+    to_flat_map seen_in_row rows row _ among
+    (to_flat_map (seen_twice row) row.entries e _ within (naming_in_twice naming row e))
 
 -- an entry under one of the names of its account
 record Stands (rows : List AccountRow) (s : Seen) : Type 0 where
@@ -108,11 +110,13 @@ same_named Iban row (by_iban iban) k l some e = (ap by_iban (ap (λ (q : Key). q
 
 -- ---- the least need
 
-entry_seen : (rows : Rows) (account : Account) (kind : List ℕ) (e : Entry) → IsEntryOf rows account kind e → Contains (seen_in rows.accounts) (record { account = account; kind = kind; signatures = e.signatures })
+entry_seen : (rows : Rows) (account : Account) (kind : List ℕ) (e : Entry) → IsEntryOf rows account kind e
+    → Contains (seen_in rows.accounts) (record { account = account; kind = kind; signatures = e.signatures })
 entry_seen rows account kind e i =
     let (naming, is) = naming_of account i.row i.matches in
     let there = seen_there rows.accounts i.row e naming i.among i.within in
-    let same : seen_as naming i.row e ≡ record { account = account; kind = kind; signatures = e.signatures } = λ z. record { account = is z; kind = i.kind_is z; signatures = e.signatures } in
+    let same : seen_as naming i.row e ≡ record { account = account; kind = kind; signatures = e.signatures } =
+    λ z. record { account = is z; kind = i.kind_is z; signatures = e.signatures } in
     subst (Contains (seen_in rows.accounts)) same there
 
 seen_entry : (rows : Rows) (account : Account) (kind : List ℕ) (s : Seen) → (account ≡ nobody → ⊥)
@@ -122,7 +126,14 @@ seen_entry rows account kind s some among key =
     let at = stands rows.accounts s among in
     let (name, of_kind) = same_named at.naming at.row account at.entry.kind kind some (ap seen_key at.is ∙ key) in (
       at.entry,
-      record { row = at.row; among = at.among; matches = subst (λ a. Matches a at.row) name (named_matches at.naming at.row); within = at.within; kind_is = of_kind },
+      record {
+        row =
+            at.row;
+        among = at.among;
+        matches = subst (λ a. Matches a at.row) name (named_matches at.naming at.row);
+        within = at.within;
+        kind_is = of_kind;
+      },
       ap (λ (t : Seen). t.signatures) at.is,
     )
 

@@ -16,7 +16,9 @@ use Rattle.fints_script_templates.specs.declared.template.Template.{Template}
 use Rattle.fints_script.proofs.PlanLemmas.{none_at, none_open}
 
 -- where nothing is left open, neither test of it holds
-neither_open : (account process : Bool) → (if account then Some opens.Account else if process then Some opens.Process else None) ≡ None → (account ≡ false) × (process ≡ false)
+neither_open : (account process : Bool)
+    → (if account then Some opens.Account else if process then Some opens.Process else None) ≡ None
+    → (account ≡ false) × (process ≡ false)
 neither_open true process h = absurd (none-some opens.Account (sym h))
 neither_open false true h = absurd (none-some opens.Process (sym h))
 neither_open false false h = (refl, refl)
@@ -27,15 +29,23 @@ not_without true true h e = refl
 not_without true false h e = cc
 not_without false b h e = cc
 
-closed_of : (fields : List NamedField) (orders : List OrderRow) (t : Template) → open_of fields orders t ≡ None → IsClosedTemplate fields orders t
+closed_of : (fields : List NamedField) (orders : List OrderRow) (t : Template)
+    → open_of fields orders t ≡ None → IsClosedTemplate fields orders t
 closed_of fields orders t h =
     let none = neither_open _ _ h in
     record {
       process = not_without (bytes_eq t.kind (codes "HKTAN")) (list_all is_literal (element_two t)) none.1;
-      account = λ named. or_cases (list_all is_literal (element_two t)) (is_account_field fields (element_two t)) (not_without (names_account (form_of orders t.kind t.version)) (list_all is_literal (element_two t) || is_account_field fields (element_two t)) none.0 named);
+      account =
+          λ named.
+          or_cases (list_all is_literal (element_two t)) (is_account_field fields (element_two t))
+          (not_without (names_account (form_of orders t.kind t.version))
+          (list_all is_literal (element_two t) || is_account_field fields (element_two t)) none.0
+          named);
     }
 
-pub closed_segment : (s : ScriptValue) (orders : List OrderRow) → IsClosed s orders → (n i : ℕ) (step : StepValue) (t : Template) → numbered s.steps n ≡ Some step → slice_get step.templates i ≡ Some t → IsClosedTemplate s.fields orders t
+pub closed_segment : (s : ScriptValue) (orders : List OrderRow) → IsClosed s orders
+    → (n i : ℕ) (step : StepValue) (t : Template) → numbered s.steps n ≡ Some step
+    → slice_get step.templates i ≡ Some t → IsClosedTemplate s.fields orders t
 closed_segment s orders closed zero i step t at here = absurd (none-some step at)
 closed_segment s orders closed (suc n) i step t at here =
     let none = none_at s.fields orders 1 s.steps n step closed at in

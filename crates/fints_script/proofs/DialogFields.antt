@@ -26,7 +26,8 @@ is_dialog_class (Account c) e = absurd cc
 is_dialog : (f : NamedField) → field_value f ≡ dialog_value → IsDialogField f
 is_dialog f e = (ap (λ (v : List ℕ × ClassValue). v.0) e, is_dialog_class f.class (ap (λ (v : List ℕ × ClassValue). v.1) e))
 
-pub has_fields : (rows : List Data) (fields : List NamedField) → DenoteFields rows fields → HasFields rows fields
+pub has_fields : (rows : List Data) (fields : List NamedField) → DenoteFields rows fields
+    → HasFields rows fields
 has_fields rows [] (others, each, same) = absurd cc
 has_fields rows (f ∷ fs) (others, each, same) =
     let first : field_value f ≡ dialog_value = cc in

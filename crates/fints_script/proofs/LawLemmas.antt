@@ -27,7 +27,8 @@ pub sound_of : {s : ScriptValue} → IsRead s → IsSound s
 sound_of {s} read = sound s read
 
 -- what is known of its step of this number
-pub sound_step_of : {s : ScriptValue} (n : ℕ) (step : StepValue) → IsRead s → numbered s.steps n ≡ Some step → IsSoundStep s step
+pub sound_step_of : {s : ScriptValue} (n : ℕ) (step : StepValue) → IsRead s → numbered s.steps n ≡ Some step
+    → IsSoundStep s step
 sound_step_of {s} n step read at = numbered_holds (IsSoundStep s) s.steps n step (sound s read).steps at
 
 pub denoted_is_sound : DenotedIsSound

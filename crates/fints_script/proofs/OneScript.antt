@@ -21,7 +21,9 @@ abbrev Outcome : Type 0
 Outcome = Result ScriptValue ScriptFault
 
 -- an outcome of one of two sorts is one, where the sorts exclude one another
-one_of_two : (A B : Outcome → Type 0) → ((r q : Outcome) → A r → A q → r ≡ q) → ((r q : Outcome) → B r → B q → r ≡ q) → ((r q : Outcome) → A r → B q → ⊥) → (r q : Outcome) → A r ⊎ B r → A q ⊎ B q → r ≡ q
+one_of_two : (A B : Outcome → Type 0) → ((r q : Outcome) → A r → A q → r ≡ q)
+    → ((r q : Outcome) → B r → B q → r ≡ q) → ((r q : Outcome) → A r → B q → ⊥) → (r q : Outcome) → A r ⊎ B r
+    → A q ⊎ B q → r ≡ q
 one_of_two A B one_a one_b apart r q (inl x) (inl y) = one_a r q x y
 one_of_two A B one_a one_b apart r q (inl x) (inr y) = absurd (apart r q x y)
 one_of_two A B one_a one_b apart r q (inr x) (inl y) = absurd (apart q r y x)
@@ -49,7 +51,8 @@ module _ (one_field : OneField) where
       let rest : fs ≡ gs = others_once fs gs cc in
       λ j. first j ∷ rest j
 
-  one_fields : (rows : List Data) (fs gs : List NamedField) → DenoteFields rows fs → DenoteFields rows gs → fs ≡ gs
+  one_fields : (rows : List Data) (fs gs : List NamedField) → DenoteFields rows fs → DenoteFields rows gs
+      → fs ≡ gs
   one_fields rows fs gs h i = others_once fs gs (h.2 ∙ ap (λ others. dialog_value ∷ others) (same_ok h.0 i.0 (sym h.1 ∙ i.1)) ∙ sym i.2)
 
   -- ---- the rows
@@ -74,7 +77,8 @@ module _ (one_field : OneField) where
   Behind ms r = (top : Top) × (top_in ms ≡ Ok top) × RowsGive top r
 
   one_behind : (ms : Members) (r q : Outcome) → Behind ms r → Behind ms q → r ≡ q
-  one_behind ms r q (top, is, r_is) (other, also, q_is) = one_of_rows other r q (subst (λ (t : Top). RowsGive t r) (same_ok top other (sym is ∙ also)) r_is) q_is
+  one_behind ms r q (top, is, r_is) (other, also, q_is) =
+      one_of_rows other r q (subst (λ (t : Top). RowsGive t r) (same_ok top other (sym is ∙ also)) r_is) q_is
 
   abbrev TableGives : Members → Outcome → Type 0
   TableGives ms r = Stops (part_at places.Top (top_in ms)) r ⊎ Behind ms r
@@ -114,9 +118,12 @@ module _ (one_field : OneField) where
   ]
 
   one_table : (text : List ℕ) (r q : Outcome) → IsTable text r → IsTable text q → r ≡ q
-  one_table text r q (ms, is, r_is) (other, also, q_is) = one_of_table other r q (subst (λ (m : Members). TableGives m r) (same_Some ms other (sym is ∙ also)) r_is) q_is
+  one_table text r q (ms, is, r_is) (other, also, q_is) =
+      one_of_table other r q
+      (subst (λ (m : Members). TableGives m r) (same_Some ms other (sym is ∙ also)) r_is) q_is
 
-  from_toml : (text : List ℕ) (r q : Outcome) → NoToml text r ⊎ IsTable text r → NoToml text q ⊎ IsTable text q → r ≡ q
+  from_toml : (text : List ℕ) (r q : Outcome) → NoToml text r ⊎ IsTable text r
+      → NoToml text q ⊎ IsTable text q → r ≡ q
   from_toml text = one_of_two (NoToml text) (IsTable text) (λ r q h i. h.2 ∙ sym i.2) (one_table text) (λ r q h i. none-some i.0 (sym h.1 ∙ i.1))
 
   long_and_later : (text : List ℕ) (r q : Outcome) → TooLong text r → NoToml text q ⊎ IsTable text q → ⊥

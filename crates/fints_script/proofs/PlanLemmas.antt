@@ -18,7 +18,8 @@ pub none_first : {X : Type 0} (xs : List X) → None ≡ slice_get xs 0 → xs �
 none_first [] h = refl
 none_first (x ∷ xs) h = cc
 
-pub some_first : {X : Type 0} (xs : List X) (x : X) → Some x ≡ slice_get xs 0 → (later : List X) × (xs ≡ x ∷ later)
+pub some_first : {X : Type 0} (xs : List X) (x : X) → Some x ≡ slice_get xs 0
+    → (later : List X) × (xs ≡ x ∷ later)
 some_first [] x h = cc
 some_first (y ∷ xs) x h = (xs, ap (λ z. z ∷ xs) (same h))
   where
@@ -51,24 +52,32 @@ module _ (fields : List NamedField) (orders : List OrderRow) where
     with_fault at left others = cons_option (option_map (λ left. open_fault left n at) left) others
 
     one_more : (first i : ℕ) (ts : List Template) (d : Template) → i < length ts
-        → segment_faults fields orders n (first + i) (drop i ts) ≡ with_fault (first + i) (open_of fields orders (get_or ts i d)) (segment_faults fields orders n (first + (i + 1)) (drop (i + 1) ts))
+        → segment_faults fields orders n (first + i) (drop i ts) ≡ with_fault (first + i)
+        (open_of fields orders (get_or ts i d))
+        (segment_faults fields orders n (first + (i + 1)) (drop (i + 1) ts))
     one_more first i ts d lt =
         let next : first + i + 1 ≡ first + (i + 1) = omega arith in
         ap (segment_faults fields orders n (first + i)) (drop_more ts i d lt)
         ∙ ap (λ k. with_fault (first + i) (open_of fields orders (get_or ts i d)) (segment_faults fields orders n k (drop (i + 1) ts))) next
 
-    pub segment_open : (first i : ℕ) (ts : List Template) (d : Template) (left : Open) → i < length ts → open_of fields orders (get_or ts i d) ≡ Some left
-        → segment_faults fields orders n (first + i) (drop i ts) ≡ open_fault left n (first + i) ∷ segment_faults fields orders n (first + (i + 1)) (drop (i + 1) ts)
+    pub segment_open : (first i : ℕ) (ts : List Template) (d : Template) (left : Open) → i < length ts
+        → open_of fields orders (get_or ts i d) ≡ Some left
+        → segment_faults fields orders n (first + i) (drop i ts) ≡ open_fault left n
+        (first + i) ∷ segment_faults fields orders n (first + (i + 1)) (drop (i + 1) ts)
     segment_open first i ts d left lt is =
         one_more first i ts d lt ∙ ap (λ o. with_fault (first + i) o (segment_faults fields orders n (first + (i + 1)) (drop (i + 1) ts))) is
 
-    pub segment_closed : (first i : ℕ) (ts : List Template) (d : Template) → i < length ts → open_of fields orders (get_or ts i d) ≡ None
-        → segment_faults fields orders n (first + i) (drop i ts) ≡ segment_faults fields orders n (first + (i + 1)) (drop (i + 1) ts)
+    pub segment_closed : (first i : ℕ) (ts : List Template) (d : Template) → i < length ts
+        → open_of fields orders (get_or ts i d) ≡ None
+        → segment_faults fields orders n (first + i) (drop i ts) ≡ segment_faults fields orders n
+        (first + (i + 1)) (drop (i + 1) ts)
     segment_closed first i ts d lt is =
         one_more first i ts d lt ∙ ap (λ o. with_fault (first + i) o (segment_faults fields orders n (first + (i + 1)) (drop (i + 1) ts))) is
 
     -- of segments without a fault none leaves anything open
-    pub none_open : (first : ℕ) (ts : List Template) (i : ℕ) (t : Template) → segment_faults fields orders n first ts ≡ [] → slice_get ts i ≡ Some t → open_of fields orders t ≡ None
+    pub none_open : (first : ℕ) (ts : List Template) (i : ℕ) (t : Template)
+        → segment_faults fields orders n first ts ≡ [] → slice_get ts i ≡ Some t
+        → open_of fields orders t ≡ None
     none_open first [] i t none at = absurd cc
     none_open first (x ∷ ts) zero t none at =
         let here = cons_none (option_map (λ left. open_fault left n first) (open_of fields orders x)) (segment_faults fields orders n (first + 1) ts) none in
@@ -82,15 +91,18 @@ module _ (fields : List NamedField) (orders : List OrderRow) where
   abbrev pub faults_from : ℕ → List StepValue → List PlanFault
   faults_from k steps = flat_map (λ (p : ℕ × StepValue). step_faults fields orders p.0 p.1) (enumerate_from k steps)
 
-  first_more : (k : ℕ) (step : StepValue) (steps : List StepValue) → faults_from k (step ∷ steps) ≡ step_faults fields orders k step ++ faults_from (k + 1) steps
+  first_more : (k : ℕ) (step : StepValue) (steps : List StepValue)
+      → faults_from k (step ∷ steps) ≡ step_faults fields orders k step ++ faults_from (k + 1) steps
   first_more k step steps = flat_map-cons (λ (p : ℕ × StepValue). step_faults fields orders p.0 p.1) (k, step) (enumerate_from (k + 1) steps)
 
   pub step_more : (i : ℕ) (steps : List StepValue) (d : StepValue) → i < length steps
-      → faults_from (i + 1) (drop i steps) ≡ step_faults fields orders (i + 1) (get_or steps i d) ++ faults_from (i + 1 + 1) (drop (i + 1) steps)
+      → faults_from (i + 1) (drop i steps) ≡ step_faults fields orders (i + 1)
+      (get_or steps i d) ++ faults_from (i + 1 + 1) (drop (i + 1) steps)
   step_more i steps d lt = ap (faults_from (i + 1)) (drop_more steps i d lt) ∙ first_more (i + 1) (get_or steps i d) (drop (i + 1) steps)
 
   -- of steps without a fault none has one
-  pub none_at : (k : ℕ) (steps : List StepValue) (i : ℕ) (step : StepValue) → faults_from k steps ≡ [] → slice_get steps i ≡ Some step → (n : ℕ) × (step_faults fields orders n step ≡ [])
+  pub none_at : (k : ℕ) (steps : List StepValue) (i : ℕ) (step : StepValue) → faults_from k steps ≡ []
+      → slice_get steps i ≡ Some step → (n : ℕ) × (step_faults fields orders n step ≡ [])
   none_at k [] i step none at = absurd cc
   none_at k (x ∷ steps) zero step none at =
       let here = append_none (step_faults fields orders k x) (faults_from (k + 1) steps) (sym (first_more k x steps) ∙ none) in

@@ -25,21 +25,26 @@ pub ok_err : {X F : Type 0} (x : X) (f : F) → ◌≡◌ {A = Result X F} (Ok x
 ok_err x f e = cc
 
 -- a test that is to pass, and passed
-pub passed : {X F : Type 0} (b : Bool) (p : Result X F) (fault : F) (x : X) → cond b p (Err fault) ≡ Ok x → (b ≡ true) × (p ≡ Ok x)
+pub passed : {X F : Type 0} (b : Bool) (p : Result X F) (fault : F) (x : X) → cond b p (Err fault) ≡ Ok x
+    → (b ≡ true) × (p ≡ Ok x)
 passed true p fault x e = (refl, e)
 passed false p fault x e = absurd cc
 
 -- a test that is to fail, and failed
-pub failed : {X F : Type 0} (b : Bool) (p : Result X F) (fault : F) (x : X) → cond b (Err fault) p ≡ Ok x → (b ≡ false) × (p ≡ Ok x)
+pub failed : {X F : Type 0} (b : Bool) (p : Result X F) (fault : F) (x : X) → cond b (Err fault) p ≡ Ok x
+    → (b ≡ false) × (p ≡ Ok x)
 failed true p fault x e = absurd cc
 failed false p fault x e = (refl, e)
 
-pub seen_ok : {X Y F : Type 0} (see : X → Y) (r : Result X F) (y : Y) → seen see r ≡ Ok y → (x : X) × (r ≡ Ok x) × (see x ≡ y)
+pub seen_ok : {X Y F : Type 0} (see : X → Y) (r : Result X F) (y : Y) → seen see r ≡ Ok y
+    → (x : X) × (r ≡ Ok x) × (see x ≡ y)
 seen_ok see (Ok x) y e = (x, refl, same_ok (see x) y e)
 seen_ok see (Err fault) y e = absurd cc
 
 -- what stands for an absent part, and what the part gives
-pub optional_ok : {X : Type 0} (absent : X) (part : Data → Part X) (P : X → Type 0) → P absent → ((d : Data) (x : X) → part d ≡ Ok x → P x) → (o : Option Data) (x : X) → optional absent part o ≡ Ok x → P x
+pub optional_ok : {X : Type 0} (absent : X) (part : Data → Part X) (P : X → Type 0) → P absent
+    → ((d : Data) (x : X) → part d ≡ Ok x → P x) → (o : Option Data) (x : X) → optional absent part o ≡ Ok x
+    → P x
 optional_ok absent part P none some None x e = subst P (same_ok absent x e) none
 optional_ok absent part P none some (Some d) x e = some d x e
 
@@ -63,7 +68,8 @@ pub integer_ok : (low high : ℕ) (d : Data) (n : ℕ) → integer_in low high d
 integer_ok low high (integer (pos m)) n e = between low high m n (or_ok (number_between low high (integer (pos m))) kinds.Limit n e)
 integer_ok low high _ n e = absurd cc
 
-pub at_most_ok : {X : Type 0} (most : ℕ) (xs ys : List X) → at_most most xs ≡ Ok ys → (xs ≡ ys) × (length ys ≤ most)
+pub at_most_ok : {X : Type 0} (most : ℕ) (xs ys : List X) → at_most most xs ≡ Ok ys
+    → (xs ≡ ys) × (length ys ≤ most)
 at_most_ok most xs ys e =
     let few = failed (nat_lt most (length xs)) (Ok xs) kinds.Limit ys e in
     let is = same_ok xs ys few.1 in
@@ -74,7 +80,9 @@ not_empty_ok [] ys e = absurd cc
 not_empty_ok (x ∷ xs) ys e = let is = same_ok (x ∷ xs) ys e in (is, subst (λ (zs : List _). 0 < length zs) is (omega arith))
 
 -- what holds of each value of a part holds of the values of a list, and they are no more than they may be
-pub list_ok : {X : Type 0} (most : ℕ) (part : Data → Part X) (P : X → Type 0) → ((d : Data) (x : X) → part d ≡ Ok x → P x) → (d : Data) (xs : List X) → (entries_of d >>= each part >>= at_most most) ≡ Ok xs → All P xs × (length xs ≤ most)
+pub list_ok : {X : Type 0} (most : ℕ) (part : Data → Part X) (P : X → Type 0)
+    → ((d : Data) (x : X) → part d ≡ Ok x → P x) → (d : Data) (xs : List X)
+    → (entries_of d >>= each part >>= at_most most) ≡ Ok xs → All P xs × (length xs ≤ most)
 list_ok most part P has d xs e =
     let read = bind_ok (entries_of d >>= each part) (at_most most) xs e in
     let entries = bind_ok (entries_of d) (each part) read.0 read.1 in
@@ -89,7 +97,8 @@ placed_ok place (Err kind) x e = absurd cc
 
 module _ {X : Type 0} (place : ℕ → Place) (part : ℕ → Data → Part X) where
   -- the row that has the value at a place
-  pub row_of : (ds : List Data) (xs : List X) (i : ℕ) (x : X) → rows_from place part 0 ds ≡ Ok xs → slice_get xs i ≡ Some x → (d : Data) × (slice_get ds i ≡ Some d) × (part i d ≡ Ok x)
+  pub row_of : (ds : List Data) (xs : List X) (i : ℕ) (x : X) → rows_from place part 0 ds ≡ Ok xs
+      → slice_get xs i ≡ Some x → (d : Data) × (slice_get ds i ≡ Some d) × (part i d ≡ Ok x)
   row_of ds xs i x h is =
       let within = slice_get_within xs i x is in
       let same = rows_length place part ds xs h in
@@ -98,7 +107,8 @@ module _ {X : Type 0} (place : ℕ → Place) (part : ℕ → Data → Part X) w
       (row.0, row.1, given.2 ∙ ap Ok (same_Some given.0 x (sym given.1 ∙ is)))
 
   -- what holds of what each row gives
-  pub rows_all : (P : X → Type 0) → ((i : ℕ) (d : Data) (x : X) → part i d ≡ Ok x → P x) → (ds : List Data) (xs : List X) → rows_from place part 0 ds ≡ Ok xs → All P xs
+  pub rows_all : (P : X → Type 0) → ((i : ℕ) (d : Data) (x : X) → part i d ≡ Ok x → P x)
+      → (ds : List Data) (xs : List X) → rows_from place part 0 ds ≡ Ok xs → All P xs
   rows_all P has ds xs h k x within =
       let row = row_of ds xs k (get_or xs k x) h (slice_get-get_or xs k x within) in
       has k row.0 (get_or xs k x) row.2

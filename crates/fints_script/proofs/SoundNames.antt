@@ -29,7 +29,8 @@ own_name (table ms) q h = own_text (get_member (codes "name") ms) q h
 own_name _ q h = cc
 
 -- where none of the first j passes, each before j fails
-not_any : {X : Type 0} (p : X → Bool) (xs : List X) (i j : ℕ) (x : X) → i < j → slice_get xs i ≡ Some x → list_any p (take j xs) ≡ false → p x ≡ false
+not_any : {X : Type 0} (p : X → Bool) (xs : List X) (i j : ℕ) (x : X) → i < j → slice_get xs i ≡ Some x
+    → list_any p (take j xs) ≡ false → p x ≡ false
 not_any p [] i j x lt e h = cc
 not_any p (y ∷ ys) i zero x lt e h = absurd (omega (arith, lt))
 not_any p (y ∷ ys) zero (suc j) x lt e h = subst (λ z. p z ≡ false) (same_Some y x e) (or_parts (p y) (list_any p (take j ys)) h).0
@@ -40,7 +41,9 @@ abbrev IsNamedRow : List Data → ℕ → List ℕ → Type 0
 IsNamedRow rows k name = (row : Data) × (slice_get rows k ≡ Some row) × (name_in row ≡ Some name) × (list_any (is_named name) (take k rows) ≡ false)
 
 -- what rows name is pairwise different, where no earlier row has a row's name
-apart : {X : Type 0} (name : X → List ℕ) (rows : List Data) (xs : List X) → ((k : ℕ) (x : X) → slice_get xs k ≡ Some x → IsNamedRow rows k (name x)) → AllPairs (λ (x y : X). name x ≢ name y) xs
+apart : {X : Type 0} (name : X → List ℕ) (rows : List Data) (xs : List X)
+    → ((k : ℕ) (x : X) → slice_get xs k ≡ Some x → IsNamedRow rows k (name x))
+    → AllPairs (λ (x y : X). name x ≢ name y) xs
 apart name rows xs each i j d lt within e =
     let first = each i (get_or xs i d) (slice_get-get_or xs i d (omega (arith, lt, within))) in
     let second = each j (get_or xs j d) (slice_get-get_or xs j d within) in
@@ -52,9 +55,12 @@ apart name rows xs each i j d lt within e =
 
 module _ (rows : List Data) (others : List NamedField) (each : fields_from rows ≡ Ok (map field_value others)) where
   -- the row of a field tells its name, which is not the built-in one's
-  field_named : (k : ℕ) (f : NamedField) → slice_get others k ≡ Some f → IsNamedRow rows k f.name × (f.name ≢ codes "dialog")
+  field_named : (k : ℕ) (f : NamedField) → slice_get others k ≡ Some f
+      → IsNamedRow rows k f.name × (f.name ≢ codes "dialog")
   field_named k f e =
-      let row = row_of (λ n. places.Field n) (λ i entry. field_in (take i rows) entry) rows (map field_value others) k (field_value f) each (slice_get-map field_value others k ∙ ap (option_map field_value) e) in
+      let row =
+      row_of (λ n. places.Field n) (λ i entry. field_in (take i rows) entry) rows (map field_value others)
+      k (field_value f) each (slice_get-map field_value others k ∙ ap (option_map field_value) e) in
       let is = is_field (take k rows) row.0 f.name (class_value f.class) row.2 in
       ((row.0, row.1, is.named, is.new), is.no_dialog)
 
@@ -66,7 +72,8 @@ module _ (rows : List Data) (others : List NamedField) (each : fields_from rows 
 
 -- ---- steps
 
-pub steps_apart : (around : Surroundings) (steps : List StepValue) → steps_from around ≡ Ok steps → StepsAreApart steps
+pub steps_apart : (around : Surroundings) (steps : List StepValue) → steps_from around ≡ Ok steps
+    → StepsAreApart steps
 steps_apart around steps each =
     apart (λ (s : StepValue). s.name) around.rows steps
     (λ k step e.

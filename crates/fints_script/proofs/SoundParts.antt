@@ -41,48 +41,61 @@ one_item (classes.Bin c) h = refl
 one_item (classes.OneOf c) h = refl
 one_item (classes.Account c) h = absurd (false≢true (sym h))
 
-no_account : (fields : List NamedField) (f : ℕ) (d : NamedField) → f < length fields → is_account_at (slice_get fields f) ≡ false → is_account (get_or fields f d).class ≡ false
+no_account : (fields : List NamedField) (f : ℕ) (d : NamedField) → f < length fields
+    → is_account_at (slice_get fields f) ≡ false → is_account (get_or fields f d).class ≡ false
 no_account fields f d h no' = ap is_account_at (sym (slice_get-get_or fields f d h)) ∙ no'
 
 first_of : (fields : List NamedField) (f : ℕ) → f < length fields → NamedField
 first_of [] f h = absurd (omega (arith, h))
 first_of (x ∷ xs) f h = x
 
-counts_one : (fields : List NamedField) (item : TemplateItem) → IsInRange fields item → IsSingle fields item → item_count (map figures_of fields) item ≡ 1
+counts_one : (fields : List NamedField) (item : TemplateItem) → IsInRange fields item → IsSingle fields item
+    → item_count (map figures_of fields) item ≡ 1
 counts_one fields (items.Literal x) within single = refl
 counts_one fields items.Dialog within single = refl
 counts_one fields (items.Field f) within single =
     let d = first_of fields f within.1 in
     ap (λ fig. fig.items) (get_or-map figures_of fields f d no_figures within.1) ∙ one_item (get_or fields f d).class (no_account fields f d within.1 single)
 
-element_counts : (fields : List NamedField) (es : List TemplateItem) → All (IsInRange fields) es → All (IsSingle fields) es → element_count (map figures_of fields) es ≡ length es
+element_counts : (fields : List NamedField) (es : List TemplateItem) → All (IsInRange fields) es
+    → All (IsSingle fields) es → element_count (map figures_of fields) es ≡ length es
 element_counts fields [] within single = refl
 element_counts fields (x ∷ xs) within single =
     let here = counts_one fields x (All-head (IsInRange fields) x xs within) (All-head (IsSingle fields) x xs single) in
     let rest = element_counts fields xs (All-tail (IsInRange fields) x xs within) (All-tail (IsSingle fields) x xs single) in
     omega (arith, here, rest)
 
-list_counts : (fields : List NamedField) (es : List (List TemplateItem)) → All (IsFrameElement fields) es → items_in (map figures_of fields) es ≡ total length es
+list_counts : (fields : List NamedField) (es : List (List TemplateItem)) → All (IsFrameElement fields) es
+    → items_in (map figures_of fields) es ≡ total length es
 list_counts fields [] each = refl
 list_counts fields (e ∷ es) each =
     let here = All-head (IsFrameElement fields) e es each in
-    ap (λ n. n + items_in (map figures_of fields) es) (element_counts fields e here.within here.single) ∙ ap (λ n. length e + n) (list_counts fields es (All-tail (IsFrameElement fields) e es each))
+    ap (λ n. n + items_in (map figures_of fields) es) (element_counts fields e here.within here.single)
+    ∙ ap (λ n. length e + n) (list_counts fields es (All-tail (IsFrameElement fields) e es each))
 
 -- ---- frames, signers and the seal
 
 module _ (fields : List NamedField) (behind : IsBehindFirst fields) where
-  sound_frame : (d : Data) (elements : List (List TemplateItem)) → frame_in fields d ≡ Ok elements → IsSoundFrame fields elements
+  sound_frame : (d : Data) (elements : List (List TemplateItem)) → frame_in fields d ≡ Ok elements
+      → IsSoundFrame fields elements
   sound_frame d elements e =
       let read = bind_ok (elements_in fields false d) few_items elements e in
       let few = failed (nat_lt MAX_TEMPLATE_ITEMS (total length read.0)) (Ok read.0) kinds.Limit elements read.2 in
       let each = frame_elements fields behind d read.0 read.1 in
       subst (IsSoundFrame fields) (same_ok read.0 elements few.1)
-      (record { each = each; few = subst (λ n. n ≤ MAX_TEMPLATE_ITEMS) (sym (list_counts fields read.0 each)) (not_past MAX_TEMPLATE_ITEMS (total length read.0) few.0) })
+      (record {
+        each = each;
+        few =
+            subst (λ n. n ≤ MAX_TEMPLATE_ITEMS) (sym (list_counts fields read.0 each))
+            (not_past MAX_TEMPLATE_ITEMS (total length read.0) few.0);
+      })
 
-  frame_at_key : (key : List ℕ) (ms : Members) (elements : List (List TemplateItem)) → frame_at key fields ms ≡ Ok elements → IsSoundFrame fields elements
+  frame_at_key : (key : List ℕ) (ms : Members) (elements : List (List TemplateItem))
+      → frame_at key fields ms ≡ Ok elements → IsSoundFrame fields elements
   frame_at_key key ms elements e = let value = bind_ok (required key ms) (frame_in fields) elements e in sound_frame value.0 elements value.2
 
-  sound_table : (earlier : List Data) (ms : Members) (signer : Signer) → table_signer fields earlier ms ≡ Ok signer → IsSoundSigner fields signer
+  sound_table : (earlier : List Data) (ms : Members) (signer : Signer)
+      → table_signer fields earlier ms ≡ Ok signer → IsSoundSigner fields signer
   unfolding table_signer
   sound_table earlier ms signer e =
       let parts = both (row_name (λ name. list_any (is_named name) earlier) ms) (frames_in fields ms) in
@@ -90,14 +103,22 @@ module _ (fields : List NamedField) (behind : IsBehindFirst fields) where
       let read = seen_ok signer_of parts signer table.1 in
       let named = both_ok (row_name (λ name. list_any (is_named name) earlier) ms) (frames_in fields ms) read.0 read.1 in
       let ends = both_ok (frame_at (codes "head") fields ms) (frame_at (codes "end") fields ms) read.0.1 named.1 in
-      subst (IsSoundSigner fields) read.2 (record { head = frame_at_key (codes "head") ms read.0.1.0 ends.0; end = frame_at_key (codes "end") ms read.0.1.1 ends.1 })
+      subst (IsSoundSigner fields) read.2
+      (record {
+        head = frame_at_key (codes "head") ms read.0.1.0 ends.0;
+        end = frame_at_key (codes "end") ms read.0.1.1 ends.1;
+      })
 
-  pub sound_signer : (earlier : List Data) (row : Data) (signer : Signer) → signer_in fields earlier row ≡ Ok signer → IsSoundSigner fields signer
+  pub sound_signer : (earlier : List Data) (row : Data) (signer : Signer)
+      → signer_in fields earlier row ≡ Ok signer → IsSoundSigner fields signer
   sound_signer earlier (table ms) signer e = sound_table earlier ms signer e
   sound_signer earlier _ signer e = absurd cc
 
-  pub sound_seal : (o : Option Data) (seal : Option (List (List TemplateItem))) → seal_from fields o ≡ Ok seal → IfSome seal (IsSoundFrame fields)
+  pub sound_seal : (o : Option Data) (seal : Option (List (List TemplateItem))) → seal_from fields o ≡ Ok seal
+      → IfSome seal (IsSoundFrame fields)
   sound_seal None seal e = subst (λ (s : Option (List (List TemplateItem))). IfSome s (IsSoundFrame fields)) (same_ok None seal e) tt
   sound_seal (Some d) seal e =
       let read = bind_ok (part_at places.Seal (frame_in fields d)) (λ elements. Ok (Some elements)) seal e in
-      subst (λ (s : Option (List (List TemplateItem))). IfSome s (IsSoundFrame fields)) (same_ok (Some read.0) seal read.2) (sound_frame d read.0 (placed_ok places.Seal (frame_in fields d) read.0 read.1))
+      subst (λ (s : Option (List (List TemplateItem))). IfSome s (IsSoundFrame fields))
+      (same_ok (Some read.0) seal read.2)
+      (sound_frame d read.0 (placed_ok places.Seal (frame_in fields d) read.0 read.1))

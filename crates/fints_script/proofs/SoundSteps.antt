@@ -50,12 +50,21 @@ kind_text text kind h = elim (cases_Bool (list_all (λ b. is_ascii_uppercase b |
       let outer = and_parts (list_all (λ b. is_ascii_uppercase b || is_ascii_digit b) text && nat_le 1 (length text)) (nat_le (length text) 6) e in
       let inner = and_parts (list_all (λ b. is_ascii_uppercase b || is_ascii_digit b) text) (nat_le 1 (length text)) outer.0 in
       let low : nat_le 1 (length text) ≡ true = inner.1 in
-      let high : nat_le (length text) 6 ≡ true = outer.1 in
-      (same_Some text kind (ap (λ b. cond b (Some text) None) (sym e) ∙ h), (grind (arith, nat_tests), grind (arith, nat_tests), λ k d lt. kind_byte _ (AllPass-from_list_all (λ b. is_ascii_uppercase b || is_ascii_digit b) text inner.0 k d lt)))
+      let high : nat_le (length text) 6 ≡ true = outer.1 in (
+        same_Some text kind (ap (λ b. cond b (Some text) None) (sym e) ∙ h),
+        (
+          grind (arith, nat_tests),
+          grind (arith, nat_tests),
+          λ k d lt.
+              kind_byte _
+              (AllPass-from_list_all (λ b. is_ascii_uppercase b || is_ascii_digit b) text inner.0 k d lt),
+        ),
+      )
   | inr e ↦ absurd (none-some kind (ap (λ b. cond b (Some text) None) (sym e) ∙ h))
 ]
 
-no_frame_of : (text : List ℕ) (frames : List (List ℕ)) → list_any (bytes_eq text) frames ≡ false → All (λ frame. frame ≡ text → ⊥) frames
+no_frame_of : (text : List ℕ) (frames : List (List ℕ)) → list_any (bytes_eq text) frames ≡ false
+    → All (λ frame. frame ≡ text → ⊥) frames
 no_frame_of text [] h = All-nil (λ frame. frame ≡ text → ⊥)
 no_frame_of text (f ∷ fs) h =
     let parts = or_parts (bytes_eq text f) (list_any (bytes_eq text) fs) h in
@@ -79,7 +88,8 @@ kind_ok _ kind e = absurd cc
 -- ---- segments
 
 -- tests that fail one and all
-none_past : {X : Type 0} (most : ℕ) (count : X → ℕ) (xs : List X) → list_any (λ x. nat_lt most (count x)) xs ≡ false → All (λ x. count x ≤ most) xs
+none_past : {X : Type 0} (most : ℕ) (count : X → ℕ) (xs : List X)
+    → list_any (λ x. nat_lt most (count x)) xs ≡ false → All (λ x. count x ≤ most) xs
 none_past most count [] h = All-nil (λ x. count x ≤ most)
 none_past most count (x ∷ xs) h =
     let parts = or_parts (nat_lt most (count x)) (list_any (λ y. nat_lt most (count y)) xs) h in
@@ -89,7 +99,8 @@ module _ (fields : List NamedField) (behind : IsBehindFirst fields) where
   abbrev IsFew : Template → Type 0
   IsFew t = items_in (map figures_of fields) t.elements ≤ MAX_TEMPLATE_ITEMS
 
-  sound_members : (ms : Members) (t : Template) → table_segment fields ms ≡ Ok t → IsFew t → IsSoundTemplate fields t
+  sound_members : (ms : Members) (t : Template) → table_segment fields ms ≡ Ok t → IsFew t
+      → IsSoundTemplate fields t
   unfolding table_segment
   sound_members ms t e =
       let head = both (kind_at ms) (version_at ms) in
@@ -107,7 +118,10 @@ module _ (fields : List NamedField) (behind : IsBehindFirst fields) where
         no_frame = kind.no_frame;
         least = version.0;
         most = version.1;
-        each = optional_ok [] (elements_in fields true) (All (IsBodyElement fields)) (All-nil (IsBodyElement fields)) (body_elements fields behind) (get_member (codes "elements") ms) read.0.1 body.1;
+        each =
+            optional_ok [] (elements_in fields true) (All (IsBodyElement fields))
+            (All-nil (IsBodyElement fields)) (body_elements fields behind)
+            (get_member (codes "elements") ms) read.0.1 body.1;
         few = few;
       })
 
@@ -116,7 +130,9 @@ module _ (fields : List NamedField) (behind : IsBehindFirst fields) where
   sound_template _ t e few = absurd cc
 
   -- 1 to 100 segments, where none has too many items
-  pub sound_templates : (d : Data) (ts : List Template) → segments_in fields d ≡ Ok ts → has_large_segment (map figures_of fields) ts ≡ false → (1 ≤ length ts) × (length ts ≤ 100) × All (IsSoundTemplate fields) ts
+  pub sound_templates : (d : Data) (ts : List Template) → segments_in fields d ≡ Ok ts
+      → has_large_segment (map figures_of fields) ts ≡ false
+      → (1 ≤ length ts) × (length ts ≤ 100) × All (IsSoundTemplate fields) ts
   sound_templates d ts e small =
       let outer = bind_ok (entries_of d >>= not_empty >>= each (segment_in fields)) (at_most 100) ts e in
       let read = bind_ok (entries_of d >>= not_empty) (each (segment_in fields)) outer.0 outer.1 in
@@ -131,8 +147,11 @@ module _ (fields : List NamedField) (behind : IsBehindFirst fields) where
 
 -- ---- signatures and the seal
 
-signature_within : (signers : List Signer) (d : Data) (place : ℕ) → signature_in signers d ≡ Ok place → place < length signers
-signature_within signers (string name) place e = place_within (λ (s : Signer). bytes_eq s.name name) signers place (or_ok (place_of_signer signers name) kinds.NoSuchName place e)
+signature_within : (signers : List Signer) (d : Data) (place : ℕ) → signature_in signers d ≡ Ok place
+    → place < length signers
+signature_within signers (string name) place e =
+    place_within (λ (s : Signer). bytes_eq s.name name) signers place
+    (or_ok (place_of_signer signers name) kinds.NoSuchName place e)
 signature_within signers _ place e = absurd cc
 
 -- a seal that is asked for is there
@@ -140,7 +159,8 @@ seal_there : (there sealed : Bool) → (sealed && not there) ≡ false → seale
 seal_there there true h e = not-false there h
 seal_there there false h e = absurd (false≢true e)
 
-sealed_kept : (there : Bool) (d : Data) (sealed : Bool) → sealed_in there d ≡ Ok sealed → sealed ≡ true → there ≡ true
+sealed_kept : (there : Bool) (d : Data) (sealed : Bool) → sealed_in there d ≡ Ok sealed → sealed ≡ true
+    → there ≡ true
 sealed_kept there d sealed e =
     let read = bind_ok (flag_in d) (with_seal there) sealed e in
     let kept = failed (read.0 && not there) (Ok read.0) kinds.Missing sealed read.2 in
@@ -160,14 +180,26 @@ record IsStep (around : Surroundings) (i : ℕ) (ms : Members) (step : StepValue
   pub size : is_too_large around step ≡ false
 
 module _ (around : Surroundings) (i : ℕ) (ms : Members) where
-  of_parts : (name : List ℕ) (sent : Sent) (course : Course) → row_name (is_taken_step around.rows i) ms ≡ Ok name → sent_in around ms ≡ Ok sent → course_in around.rows i ms ≡ Ok course
-      → is_too_large around (step_of (name, (sent, course))) ≡ false → IsStep around i ms (step_of (name, (sent, course)))
+  of_parts : (name : List ℕ) (sent : Sent) (course : Course)
+      → row_name (is_taken_step around.rows i) ms ≡ Ok name → sent_in around ms ≡ Ok sent
+      → course_in around.rows i ms ≡ Ok course
+      → is_too_large around (step_of (name, (sent, course))) ≡ false
+      → IsStep around i ms (step_of (name, (sent, course)))
   of_parts name sent course is_name is_sent is_course size =
       let sends = both_ok (segments_at around.fields ms) (both (sealed_at (is_some around.seal) ms) (signatures_at around.signers ms)) sent is_sent in
       let signed = both_ok (sealed_at (is_some around.seal) ms) (signatures_at around.signers ms) sent.1 sends.1 in
       let runs = both_ok (repeat_at ms) (both (branches_at around.rows i ms) (default_at around.rows i ms)) course is_course in
       let leads = both_ok (branches_at around.rows i ms) (default_at around.rows i ms) course.1 runs.1 in
-      record { name = is_name; templates = sends.0; sealed = signed.0; signers = signed.1; repeat = runs.0; branches = leads.0; otherwise = leads.1; size = size }
+      record {
+        name = is_name;
+        templates = sends.0;
+        sealed = signed.0;
+        signers = signed.1;
+        repeat = runs.0;
+        branches = leads.0;
+        otherwise = leads.1;
+        size = size;
+      }
 
   step_is : (step : StepValue) → table_step around i ms ≡ Ok step → IsStep around i ms step
   unfolding table_in_parts
@@ -184,12 +216,15 @@ module _ (around : Surroundings) (i : ℕ) (ms : Members) where
       (of_parts all.0.0 all.0.1.0 all.0.1.1 named.0 rest.0 rest.1 (subst (λ s. is_too_large around s ≡ false) (sym all.2) size.0))
 
 -- the row of a step is a table that has its parts
-step_row : (around : Surroundings) (i : ℕ) (row : Data) (step : StepValue) → step_in around i row ≡ Ok step → (ms : Members) × (row ≡ table ms) × IsStep around i ms step
+step_row : (around : Surroundings) (i : ℕ) (row : Data) (step : StepValue) → step_in around i row ≡ Ok step
+    → (ms : Members) × (row ≡ table ms) × IsStep around i ms step
 step_row around i (table ms) step e = (ms, refl, step_is around i ms step e)
 step_row around i _ step e = absurd cc
 
 -- the row of a step tells its name, which no earlier row has
-pub step_named : (around : Surroundings) (i : ℕ) (row : Data) (step : StepValue) → step_in around i row ≡ Ok step → (name_in row ≡ Some step.name) × (list_any (is_named step.name) (take i around.rows) ≡ false)
+pub step_named : (around : Surroundings) (i : ℕ) (row : Data) (step : StepValue)
+    → step_in around i row ≡ Ok step
+    → (name_in row ≡ Some step.name) × (list_any (is_named step.name) (take i around.rows) ≡ false)
 step_named around i row step e =
     let read = step_row around i row step e in
     let named = row_named (is_taken_step around.rows i) read.0 step.name read.2.name in
@@ -197,34 +232,51 @@ step_named around i row step e =
 
 -- ---- what its parts keep
 
-branches_kept : (rows : List Data) (i : ℕ) (ms : Members) (branches : List Branch) → branches_at rows i ms ≡ Ok branches → All (λ (branch : Branch). IsOnward (length rows) (i + 1) branch.to) branches × (length branches ≤ 20)
+branches_kept : (rows : List Data) (i : ℕ) (ms : Members) (branches : List Branch)
+    → branches_at rows i ms ≡ Ok branches
+    → All (λ (branch : Branch). IsOnward (length rows) (i + 1) branch.to) branches × (length branches ≤ 20)
 branches_kept rows i ms branches e =
     let onward : Branch → Type 0 = λ branch. IsOnward (length rows) (i + 1) branch.to in
-    optional_ok [] (branches_in rows i) (λ bs. All onward bs × (length bs ≤ 20)) (All-nil onward, omega arith) (list_ok 20 (branch_in rows i) onward (branch_onward rows i)) (get_member (codes "branches") ms) branches e
+    optional_ok [] (branches_in rows i) (λ bs. All onward bs × (length bs ≤ 20)) (All-nil onward, omega arith)
+    (list_ok 20 (branch_in rows i) onward (branch_onward rows i)) (get_member (codes "branches") ms)
+    branches e
 
-signatures_kept : (signers : List Signer) (ms : Members) (places : List ℕ) → signatures_at signers ms ≡ Ok places → All (λ place. place < length signers) places × (length places ≤ 9)
+signatures_kept : (signers : List Signer) (ms : Members) (places : List ℕ)
+    → signatures_at signers ms ≡ Ok places
+    → All (λ place. place < length signers) places × (length places ≤ 9)
 signatures_kept signers ms places e =
     let within : ℕ → Type 0 = λ place. place < length signers in
-    optional_ok [] (signatures_in signers) (λ ns. All within ns × (length ns ≤ 9)) (All-nil within, omega arith) (list_ok 9 (signature_in signers) within (signature_within signers)) (get_member (codes "signers") ms) places e
+    optional_ok [] (signatures_in signers) (λ ns. All within ns × (length ns ≤ 9))
+    (All-nil within, omega arith) (list_ok 9 (signature_in signers) within (signature_within signers))
+    (get_member (codes "signers") ms) places e
 
 repeat_kept : (ms : Members) (n : ℕ) → repeat_at ms ≡ Ok n → (1 ≤ n) × (n ≤ 99)
 repeat_kept ms n e = optional_ok 1 (integer_in 1 99) (λ m. (1 ≤ m) × (m ≤ 99)) (omega arith, omega arith) (integer_ok 1 99) (get_member (codes "repeat") ms) n e
 
-seal_kept : (there : Bool) (ms : Members) (sealed : Bool) → sealed_at there ms ≡ Ok sealed → sealed ≡ true → there ≡ true
-seal_kept there ms sealed e = optional_ok false (sealed_in there) (λ b. b ≡ true → there ≡ true) (λ set. absurd (false≢true set)) (sealed_kept there) (get_member (codes "sealed") ms) sealed e
+seal_kept : (there : Bool) (ms : Members) (sealed : Bool) → sealed_at there ms ≡ Ok sealed → sealed ≡ true
+    → there ≡ true
+seal_kept there ms sealed e =
+    optional_ok false (sealed_in there) (λ b. b ≡ true → there ≡ true) (λ set. absurd (false≢true set))
+    (sealed_kept there) (get_member (codes "sealed") ms) sealed e
 
 -- ---- the whole step
 
 -- a step that was read leads to later ones
-pub step_onward : (around : Surroundings) (i : ℕ) (row : Data) (step : StepValue) → step_in around i row ≡ Ok step → LeadsOnward (length around.rows) (i + 1) step
+pub step_onward : (around : Surroundings) (i : ℕ) (row : Data) (step : StepValue)
+    → step_in around i row ≡ Ok step → LeadsOnward (length around.rows) (i + 1) step
 step_onward around i row step e =
     let read = step_row around i row step e in
     record {
       branches = (branches_kept around.rows i read.0 step.branches read.2.branches).0;
-      otherwise = optional_ok targets.Stop (target_in around.rows i) (IsOnward (length around.rows) (i + 1)) tt (target_onward around.rows i) (get_member (codes "default") read.0) step.otherwise read.2.otherwise;
+      otherwise =
+          optional_ok targets.Stop (target_in around.rows i) (IsOnward (length around.rows) (i + 1)) tt
+          (target_onward around.rows i) (get_member (codes "default") read.0) step.otherwise
+          read.2.otherwise;
     }
 
-pub sound_step : (s : ScriptValue) → IsBehindFirst s.fields → (rows : List Data) (i : ℕ) (row : Data) (step : StepValue) → step_in (surroundings rows s.fields s.signers s.seal) i row ≡ Ok step → IsSoundStep s step
+pub sound_step : (s : ScriptValue) → IsBehindFirst s.fields
+    → (rows : List Data) (i : ℕ) (row : Data) (step : StepValue)
+    → step_in (surroundings rows s.fields s.signers s.seal) i row ≡ Ok step → IsSoundStep s step
 sound_step s behind rows i row step e =
     let around = surroundings rows s.fields s.signers s.seal in
     let read = step_row around i row step e in

@@ -21,7 +21,8 @@ use Rattle.fints_script.proofs.SoundElements.{place_within}
 
 -- the step in row i
 module _ (rows : List Data) (i : ℕ) where
-  later_onward : (o : Option ℕ) (target : Target) → ((row : ℕ) → o ≡ Some row → row < length rows) → later_step i o ≡ Ok target → IsOnward (length rows) (i + 1) target
+  later_onward : (o : Option ℕ) (target : Target) → ((row : ℕ) → o ≡ Some row → row < length rows)
+      → later_step i o ≡ Ok target → IsOnward (length rows) (i + 1) target
   later_onward None target within e = absurd cc
   later_onward (Some row) target within e =
       let behind = failed (nat_le row i) (Ok (targets.Step (row + 1))) kinds.BackwardJump target e in
@@ -29,7 +30,8 @@ module _ (rows : List Data) (i : ℕ) where
       let inside = within row refl in
       subst (IsOnward (length rows) (i + 1)) (same_ok (targets.Step (row + 1)) target behind.1) (grind (arith, nat_tests), omega (arith, inside))
 
-  text_onward : (text : List ℕ) (target : Target) → target_named rows i text ≡ Ok target → IsOnward (length rows) (i + 1) target
+  text_onward : (text : List ℕ) (target : Target) → target_named rows i text ≡ Ok target
+      → IsOnward (length rows) (i + 1) target
   text_onward text target e = elim (choice_ok (bytes_eq text (codes "again")) (Ok targets.Again) _ target e) [
     | inl again ↦ subst (IsOnward (length rows) (i + 1)) (same_ok targets.Again target again.1) tt
     | inr other ↦ elim (choice_ok (bytes_eq text (codes "stop")) (Ok targets.Stop) (later_step i (position (is_named text) rows)) target other.1) [
@@ -38,11 +40,13 @@ module _ (rows : List Data) (i : ℕ) where
     ]
   ]
 
-  pub target_onward : (d : Data) (target : Target) → target_in rows i d ≡ Ok target → IsOnward (length rows) (i + 1) target
+  pub target_onward : (d : Data) (target : Target) → target_in rows i d ≡ Ok target
+      → IsOnward (length rows) (i + 1) target
   target_onward (string text) target e = text_onward text target e
   target_onward _ target e = absurd cc
 
-  members_onward : (ms : Members) (branch : Branch) → table_branch rows i ms ≡ Ok branch → IsOnward (length rows) (i + 1) branch.to
+  members_onward : (ms : Members) (branch : Branch) → table_branch rows i ms ≡ Ok branch
+      → IsOnward (length rows) (i + 1) branch.to
   unfolding branch_in_parts
   members_onward ms branch is =
       let e = branch_tables rows i ms ∙ is in
@@ -53,6 +57,7 @@ module _ (rows : List Data) (i : ℕ) where
       let to = bind_ok (required (codes "to") ms) (target_in rows i) read.0.1 keys.1 in
       subst (λ (b : Branch). IsOnward (length rows) (i + 1) b.to) read.2 (target_onward to.0 read.0.1 to.2)
 
-  pub branch_onward : (d : Data) (branch : Branch) → branch_in rows i d ≡ Ok branch → IsOnward (length rows) (i + 1) branch.to
+  pub branch_onward : (d : Data) (branch : Branch) → branch_in rows i d ≡ Ok branch
+      → IsOnward (length rows) (i + 1) branch.to
   branch_onward (table ms) branch e = members_onward ms branch e
   branch_onward _ branch e = absurd cc

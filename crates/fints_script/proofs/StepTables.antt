@@ -43,17 +43,20 @@ pair_kind (Ok x) (Err k) = refl
 pair_kind (Err j) (Ok y) = refl
 pair_kind (Err j) (Err k) = refl
 
-both_kinds : {X Y : Type 0} (p : Part X) (q : Part Y) (j k : Option FaultKind) → kind_of p ≡ j → kind_of q ≡ k → kind_of (both p q) ≡ earlier j k
+both_kinds : {X Y : Type 0} (p : Part X) (q : Part Y) (j k : Option FaultKind) → kind_of p ≡ j → kind_of q ≡ k
+    → kind_of (both p q) ≡ earlier j k
 both_kinds p q j k is also = pair_kind p q ∙ ap (λ m. earlier m (kind_of q)) is ∙ ap (earlier j) also
 
-next_kind : {X Y : Type 0} (p : Part (X → Y)) (q : Part X) → kind_of (p <*> q) ≡ earlier (kind_of p) (kind_of q)
+next_kind : {X Y : Type 0} (p : Part (X → Y)) (q : Part X)
+    → kind_of (p <*> q) ≡ earlier (kind_of p) (kind_of q)
 unfolding kind_of earlier
 next_kind (Ok x) (Ok y) = refl
 next_kind (Ok x) (Err k) = refl
 next_kind (Err j) (Ok y) = refl
 next_kind (Err j) (Err k) = refl
 
-then_kinds : {X Y : Type 0} (p : Part (X → Y)) (q : Part X) (j : Option FaultKind) → kind_of p ≡ j → kind_of (p <*> q) ≡ earlier j (kind_of q)
+then_kinds : {X Y : Type 0} (p : Part (X → Y)) (q : Part X) (j : Option FaultKind) → kind_of p ≡ j
+    → kind_of (p <*> q) ≡ earlier j (kind_of q)
 then_kinds p q j is = next_kind p q ∙ ap (λ m. earlier m (kind_of q)) is
 
 seen_kind : {X Y : Type 0} (view : X → Y) (p : Part X) → kind_of (seen view p) ≡ kind_of p
@@ -70,13 +73,15 @@ same_part (Err j) (Err k) ok same = ap Err (same_Some j k same)
 
 -- ---- two parts
 
-two_in_order : (p : Part (List ℕ)) (q : Part Target) → seen branch_of (both p q) ≡ (Ok branch_value <*> p <*> q)
+two_in_order : (p : Part (List ℕ)) (q : Part Target)
+    → seen branch_of (both p q) ≡ (Ok branch_value <*> p <*> q)
 two_in_order (Ok x) (Ok y) = refl
 two_in_order (Ok x) (Err k) = refl
 two_in_order (Err j) (Ok y) = refl
 two_in_order (Err j) (Err k) = refl
 
-pub branch_tables : (rows : List Data) (i : ℕ) (ms : Members) → branch_in_parts rows i ms ≡ table_branch rows i ms
+pub branch_tables : (rows : List Data) (i : ℕ) (ms : Members)
+    → branch_in_parts rows i ms ≡ table_branch rows i ms
 unfolding branch_in_parts table_branch
 branch_tables rows i ms = ap (λ (p : Part Branch). if only_keys branch_keys ms then p else Err kinds.UnknownKey) (two_in_order (on_at ms) (target_at rows i ms))
 
@@ -92,8 +97,10 @@ module _ (n : Part (List ℕ)) (s : Part (List Template)) (e : Part Bool) (g : P
   in_pairs : Part StepValue
   in_pairs = seen step_of (both n rest)
 
-  of_values : (name : List ℕ) (templates : List Template) (sealed : Bool) (signers : List ℕ) (repeat : ℕ) (branches : List Branch) (otherwise : Target)
-      → n ≡ Ok name → s ≡ Ok templates → e ≡ Ok sealed → g ≡ Ok signers → r ≡ Ok repeat → b ≡ Ok branches → d ≡ Ok otherwise
+  of_values : (name : List ℕ) (templates : List Template) (sealed : Bool) (signers : List ℕ) (repeat : ℕ)
+      (branches : List Branch) (otherwise : Target)
+      → n ≡ Ok name → s ≡ Ok templates → e ≡ Ok sealed → g ≡ Ok signers → r ≡ Ok repeat → b ≡ Ok branches
+      → d ≡ Ok otherwise
       → in_order ≡ Ok (step_value name templates sealed signers repeat branches otherwise)
   of_values name templates sealed signers repeat branches otherwise is_n is_s is_e is_g is_r is_b is_d = rw (is_n, is_s, is_e, is_g, is_r, is_b, is_d) refl
 
@@ -124,7 +131,8 @@ module _ (n : Part (List ℕ)) (s : Part (List Template)) (e : Part Bool) (g : P
       (both_kinds s (both e g) K2 (earlier K3 K4) refl (both_kinds e g K3 K4 refl refl))
       (both_kinds r (both b d) K5 (earlier K6 K7) refl (both_kinds b d K6 K7 refl refl)) in
       let pairs = seen_kind step_of (both n rest) ∙ both_kinds n rest K1 (earlier (earlier K2 (earlier K3 K4)) (earlier K5 (earlier K6 K7))) refl two in
-      let front : earlier K1 (earlier K2 (earlier K3 K4)) ≡ earlier (earlier (earlier K1 K2) K3) K4 = earlier_three K1 K2 (earlier K3 K4) ∙ earlier_three (earlier K1 K2) K3 K4 in
+      let front : earlier K1 (earlier K2 (earlier K3 K4)) ≡ earlier (earlier (earlier K1 K2) K3) K4 =
+      earlier_three K1 K2 (earlier K3 K4) ∙ earlier_three (earlier K1 K2) K3 K4 in
       let order = then_kinds (Ok step_value <*> n <*> s <*> e <*> g <*> r <*> b) d (earlier (earlier (earlier (earlier (earlier K1 K2) K3) K4) K5) K6)
       (then_kinds (Ok step_value <*> n <*> s <*> e <*> g <*> r) b (earlier (earlier (earlier (earlier K1 K2) K3) K4) K5)
       (then_kinds (Ok step_value <*> n <*> s <*> e <*> g) r (earlier (earlier (earlier K1 K2) K3) K4)
@@ -145,8 +153,11 @@ module _ (n : Part (List ℕ)) (s : Part (List Template)) (e : Part Bool) (g : P
 
 -- ---- the table
 
-pub step_tables : (around : Surroundings) (i : ℕ) (ms : Members) → table_in_parts around i ms ≡ table_step around i ms
+pub step_tables : (around : Surroundings) (i : ℕ) (ms : Members)
+    → table_in_parts around i ms ≡ table_step around i ms
 unfolding table_in_parts table_step
 step_tables around i ms =
     ap (λ (p : Part StepValue). if only_keys step_keys ms then p >>= sized_step around else Err kinds.UnknownKey)
-    (in_pairs_in_order (row_name (is_taken_step around.rows i) ms) (segments_at around.fields ms) (sealed_at (is_some around.seal) ms) (signatures_at around.signers ms) (repeat_at ms) (branches_at around.rows i ms) (default_at around.rows i ms))
+    (in_pairs_in_order (row_name (is_taken_step around.rows i) ms) (segments_at around.fields ms)
+    (sealed_at (is_some around.seal) ms) (signatures_at around.signers ms) (repeat_at ms)
+    (branches_at around.rows i ms) (default_at around.rows i ms))

@@ -15,7 +15,14 @@ use Rattle.fints_script.specs.declared.around.Around.{Around}
 use Rattle.fints_script_templates.specs.declared.template.Template.{Template}
 
 abbrev pub surroundings_of : Around → Surroundings
-surroundings_of a = record { fields = a.fields.now; figures = a.figures.now; signers = a.signers.now; seal = option_map (λ s. s.now) a.seal; rows = map view a.rows.now }
+surroundings_of a =
+    record {
+      fields = a.fields.now;
+      figures = a.figures.now;
+      signers = a.signers.now;
+      seal = option_map (λ s. s.now) a.seal;
+      rows = map view a.rows.now;
+    }
 
 -- what is seen of what a step sends, and of its course
 abbrev pub seen_sent : Vec Template Global × (Bool × Vec ℕ Global) → Sent
@@ -28,7 +35,13 @@ abbrev pub seen_parts : (Vec Template Global × (Bool × Vec ℕ Global)) × (�
 seen_parts parts = (seen_sent parts.0, seen_course parts.1)
 
 abbrev pub seen_top : Top → TopValue
-seen_top top = record { fields = map view top.fields.now; signers = map view top.signers.now; seal = option_map (λ v. view v.now) top.seal; steps = map view top.steps.now }
+seen_top top =
+    record {
+      fields = map view top.fields.now;
+      signers = map view top.signers.now;
+      seal = option_map (λ v. view v.now) top.seal;
+      steps = map view top.steps.now;
+    }
 
 -- the script of these fields and this body
 abbrev pub seen_body : List NamedField → Body → ScriptValue

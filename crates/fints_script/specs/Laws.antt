@@ -23,7 +23,10 @@ OneTextFault = (text : List ℕ) (f g : ScriptFault) → IsFirstOf text f → Is
 
 -- no segment of a closed plan leaves its account or its TAN process open
 abbrev pub ClosedSegments : Type 0
-ClosedSegments = (s : ScriptValue) (orders : List OrderRow) → IsClosed s orders → (n i : ℕ) (step : StepValue) (t : Template) → numbered s.steps n ≡ Some step → slice_get step.templates i ≡ Some t → IsClosedTemplate s.fields orders t
+ClosedSegments =
+    (s : ScriptValue) (orders : List OrderRow) → IsClosed s orders
+    → (n i : ℕ) (step : StepValue) (t : Template) → numbered s.steps n ≡ Some step
+    → slice_get step.templates i ≡ Some t → IsClosedTemplate s.fields orders t
 
 -- what every read script keeps
 abbrev pub ReadIsSound : Type 0

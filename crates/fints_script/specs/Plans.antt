@@ -1,4 +1,5 @@
--- A script with an order table: which accounts and processes are open, and which values are admitted. Words of private contracts and proofs alone stand last, under a heading.
+-- A script with an order table: which accounts and processes are open, and which values are admitted. Words
+-- of private contracts and proofs alone stand last, under a heading.
 use Rattle.std.specs.Prelude.{◌≡◌, ◌⊎◌, ℕ, ◌+◌, Bool, true, false, ◌&&◌, ◌||◌, not, if◌then◌else◌, codes, List, [], ◌∷◌, length, slice_get, zip, All, Option, Some, None, option_map}
 use Rattle.std.specs.List.{enumerate_from, filter_map, flat_map, list_all}
 use Rattle.std.specs.Str.{bytes_eq}
@@ -48,7 +49,9 @@ names_account _ = false
 
 -- its account is neither all literals nor one field of listed accounts
 abbrev pub is_open_account : List NamedField → List OrderRow → Template → Bool
-is_open_account fields orders t = names_account (form_of orders t.kind t.version) && not (list_all is_literal (element_two t) || is_account_field fields (element_two t))
+is_open_account fields orders t =
+    names_account (form_of orders t.kind t.version) && not
+    (list_all is_literal (element_two t) || is_account_field fields (element_two t))
 
 -- its TAN process isn't all literals
 abbrev pub is_open_process : Template → Bool
@@ -99,4 +102,5 @@ Admits fields values = (length values ≡ length fields) × All (λ (p : NamedFi
 -- element 2 of an HKTAN is all literals; that of an order that names an account is all literals, or one field of listed accounts by itself
 pub record IsClosedTemplate (fields : List NamedField) (orders : List OrderRow) (t : Template) : Type 0 where
   pub process : bytes_eq t.kind (codes "HKTAN") ≡ true → list_all is_literal (element_two t) ≡ true
-  pub account : names_account (form_of orders t.kind t.version) ≡ true → (list_all is_literal (element_two t) ≡ true) ⊎ (is_account_field fields (element_two t) ≡ true)
+  pub account : names_account (form_of orders t.kind t.version) ≡ true
+      → (list_all is_literal (element_two t) ≡ true) ⊎ (is_account_field fields (element_two t) ≡ true)

@@ -16,9 +16,17 @@ neither_matches : (p : ℕ → Bool) (x y : ℕ) → p x ≡ false → p y ≡ f
 neither_matches p x y h k = rw (h, k) refl
 
 -- what opens the branch fires it beside a code that no earlier pattern matches
-beside : (branches : List Branch) (b code : ℕ) → code < 10000 → (opener : ℕ) → 1 ≤ b → b ≤ length branches + 1 → IsOpener branches b opener → IsPassed branches b code → IsCarrying branches b code (opener ∷ code ∷ [])
+beside : (branches : List Branch) (b code : ℕ) → code < 10000 → (opener : ℕ) → 1 ≤ b → b ≤ length branches + 1
+    → IsOpener branches b opener → IsPassed branches b code → IsCarrying branches b code (opener ∷ code ∷ [])
 beside branches b code small opener from to o passed = record {
-  answer = record { some = omega arith; each = All-cons (λ c. c < 10000) opener (code ∷ []) o.small (All-cons (λ c. c < 10000) code [] small (All-nil (λ c. c < 10000))) };
+  answer =
+      record {
+        some =
+            omega arith;
+        each =
+            All-cons (λ c. c < 10000) opener (code ∷ []) o.small
+            (All-cons (λ c. c < 10000) code [] small (All-nil (λ c. c < 10000)));
+      };
   has = (1, omega arith, refl);
   fires = record {
     from = from;
@@ -29,7 +37,8 @@ beside branches b code small opener from to o passed = record {
 }
 
 -- a code that opens the branch fires it by itself
-pub alone : (branches : List Branch) (b code : ℕ) → 1 ≤ b → b ≤ length branches + 1 → IsOpener branches b code → IsCarrying branches b code (code ∷ [])
+pub alone : (branches : List Branch) (b code : ℕ) → 1 ≤ b → b ≤ length branches + 1 → IsOpener branches b code
+    → IsCarrying branches b code (code ∷ [])
 alone branches b code from to o = record {
   answer = record { some = omega arith; each = All-cons (λ c. c < 10000) code [] o.small (All-nil (λ c. c < 10000)) };
   has = (0, omega arith, refl);
@@ -37,7 +46,8 @@ alone branches b code from to o = record {
 }
 
 -- no earlier pattern matches a code of an answer that fires the branch
-passed_in : (branches : List Branch) (b code : ℕ) (codes : List ℕ) → IsCarrying branches b code codes → IsPassed branches b code
+passed_in : (branches : List Branch) (b code : ℕ) (codes : List ℕ) → IsCarrying branches b code codes
+    → IsPassed branches b code
 passed_in branches b code codes c k d h = let branch = get_or (take (b - 1) branches) k d in none_of (matches branch.on) codes code c.has (c.fires.first k d h)
 
 pub carries_where : (branches : List Branch) (b code : ℕ) → code < 10000 → CarriesWhere branches b code

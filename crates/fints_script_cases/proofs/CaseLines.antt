@@ -26,28 +26,38 @@ line_once (Field p) (Reply b) ha hb e = absurd (field_no_answer p b e)
 line_once (Reply a) (Field q) ha hb e = absurd (field_no_answer q a (sym e))
 line_once (Reply a) (Reply b) ha hb e = ap (λ (x : List ℕ). Reply x) (answer_once a b ha hb e)
 
-pub no_next_no_line : (whole : ℕ) (rest : List ℕ) (values : List NamedValue) (answers : List (List ℕ)) → HasNoNextLine whole rest → HasNoLine whole rest values answers
+pub no_next_no_line : (whole : ℕ) (rest : List ℕ) (values : List NamedValue) (answers : List (List ℕ))
+    → HasNoNextLine whole rest → HasNoLine whole rest values answers
 no_next_no_line whole rest values answers none line more is next stands = none (line_text line) more stands
 
 -- nothing is left
-pub nothing_no_line : (whole : ℕ) (rest : List ℕ) (values : List NamedValue) (answers : List (List ℕ)) → length rest ≡ 0 → HasNoLine whole rest values answers
+pub nothing_no_line : (whole : ℕ) (rest : List ℕ) (values : List NamedValue) (answers : List (List ℕ))
+    → length rest ≡ 0 → HasNoLine whole rest values answers
 nothing_no_line whole rest values answers none line more is next stands = not_empty (line_text line) more (sym stands.split.0 ∙ nil_from_length rest none)
 
 -- the line that stands there is the only one
-line_there : (whole : ℕ) (rest text after line more : List ℕ) → IsNextLine whole rest text after → IsNextLine whole rest line more → text ≡ line
-line_there whole rest text after line more stands other = (split_same 10 text after line more stands.split.1 other.split.1 (sym stands.split.0 ∙ other.split.0)).0
+line_there : (whole : ℕ) (rest text after line more : List ℕ) → IsNextLine whole rest text after
+    → IsNextLine whole rest line more → text ≡ line
+line_there whole rest text after line more stands other =
+    (split_same 10 text after line more stands.split.1 other.split.1 (sym stands.split.0 ∙ other.split.0)).0
 
-pub bad_no_line : (whole : ℕ) (rest text after : List ℕ) (values : List NamedValue) (answers : List (List ℕ)) → IsNextLine whole rest text after → ((line : CaseLine) → IsCaseLine line → text ≢ line_text line) → HasNoLine whole rest values answers
-bad_no_line whole rest text after values answers stands bad line more is next other = bad line is (line_there whole rest text after (line_text line) more stands other)
+pub bad_no_line : (whole : ℕ) (rest text after : List ℕ) (values : List NamedValue) (answers : List (List ℕ))
+    → IsNextLine whole rest text after → ((line : CaseLine) → IsCaseLine line → text ≢ line_text line)
+    → HasNoLine whole rest values answers
+bad_no_line whole rest text after values answers stands bad line more is next other =
+    bad line is (line_there whole rest text after (line_text line) more stands other)
 
-pub other_no_line : (whole : ℕ) (rest text after : List ℕ) (values : List NamedValue) (answers : List (List ℕ)) (read : CaseLine) → IsNextLine whole rest text after → IsCaseLine read → text ≡ line_text read → (IsNext values answers read → ⊥) → HasNoLine whole rest values answers
+pub other_no_line : (whole : ℕ) (rest text after : List ℕ) (values : List NamedValue)
+    (answers : List (List ℕ)) (read : CaseLine) → IsNextLine whole rest text after → IsCaseLine read
+    → text ≡ line_text read → (IsNext values answers read → ⊥) → HasNoLine whole rest values answers
 other_no_line whole rest text after values answers read stands good is_read not line more is next other =
     let same = line_there whole rest text after (line_text line) more stands other in
     not (subst (IsNext values answers) (line_once line read is good (sym same ∙ is_read)) next)
 
 -- ---- the lines of a case
 
-pub lines_without : (values : List NamedValue) (answers : List (List ℕ)) → All IsNamedValue values → All NoFeed (case_lines values answers)
+pub lines_without : (values : List NamedValue) (answers : List (List ℕ)) → All IsNamedValue values
+    → All NoFeed (case_lines values answers)
 lines_without values answers h =
     All-cons NoFeed (codes "fints-case 1") (map field_text values ++ map answer_text answers) (plain (codes "fints-case 1") refl)
     (All-append NoFeed (map field_text values) (map answer_text answers)
@@ -59,7 +69,9 @@ case_without lines c = subst (All NoFeed) (sym c.lines_are) (lines_without c.val
 
 -- ---- what may come next
 
-answers_next : (a b : List (List ℕ)) (line : List ℕ) (later : List (List ℕ)) → All IsAnswer b → map answer_text b ≡ map answer_text a ++ line ∷ later → (c : List ℕ) × IsAnswer c × (line ≡ answer_text c)
+answers_next : (a b : List (List ℕ)) (line : List ℕ) (later : List (List ℕ)) → All IsAnswer b
+    → map answer_text b ≡ map answer_text a ++ line ∷ later
+    → (c : List ℕ) × IsAnswer c × (line ≡ answer_text c)
 answers_next [] [] line later h e = absurd cc
 answers_next [] (d ∷ b) line later h e = let first : answer_text d ≡ line = cc in (d, All-head IsAnswer d b h, sym first)
 answers_next (x ∷ a) [] line later h e = absurd cc
@@ -82,13 +94,18 @@ record ReplyNext (v w : List NamedValue) (line : List ℕ) : Type 0 where
   pub values : w ≡ v
   pub is : line ≡ answer_text answer
 
-field_more : (p : NamedValue) (v : List NamedValue) (a : List (List ℕ)) (w : List NamedValue) (line : List ℕ) → FieldNext v a w line → FieldNext (p ∷ v) a (p ∷ w) line
+field_more : (p : NamedValue) (v : List NamedValue) (a : List (List ℕ)) (w : List NamedValue) (line : List ℕ)
+    → FieldNext v a w line → FieldNext (p ∷ v) a (p ∷ w) line
 field_more p v a w line f = record { pair = f.pair; more = f.more; no_answer = f.no_answer; values = ap (λ (xs : List NamedValue). p ∷ xs) f.values; is = f.is }
 
-reply_more : (p : NamedValue) (v w : List NamedValue) (line : List ℕ) → ReplyNext v w line → ReplyNext (p ∷ v) (p ∷ w) line
+reply_more : (p : NamedValue) (v w : List NamedValue) (line : List ℕ) → ReplyNext v w line
+    → ReplyNext (p ∷ v) (p ∷ w) line
 reply_more p v w line r = record { answer = r.answer; good = r.good; values = ap (λ (xs : List NamedValue). p ∷ xs) r.values; is = r.is }
 
-lines_next : (v w : List NamedValue) (a b : List (List ℕ)) (line : List ℕ) (later : List (List ℕ)) → All IsNamedValue v → All IsNamedValue w → All IsAnswer b → map field_text w ++ map answer_text b ≡ (map field_text v ++ map answer_text a) ++ line ∷ later → FieldNext v a w line ⊎ ReplyNext v w line
+lines_next : (v w : List NamedValue) (a b : List (List ℕ)) (line : List ℕ) (later : List (List ℕ))
+    → All IsNamedValue v → All IsNamedValue w → All IsAnswer b
+    → map field_text w ++ map answer_text b ≡ (map field_text v ++ map answer_text a) ++ line ∷ later
+    → FieldNext v a w line ⊎ ReplyNext v w line
 lines_next [] [] a b line later hv hw hb e =
     let next = answers_next a b line later hb e in
     inr (record { answer = next.0; good = next.1; values = refl; is = next.2 })
@@ -112,7 +129,9 @@ lines_next (p ∷ v) (q ∷ w) a b line later hv hw hb e =
     ]
 
 -- no name before a pair is the pair's
-names_before : (v more : List NamedValue) (pair : NamedValue) → AllPairs (λ (p q : NamedValue). p.name ≢ q.name) (v ++ pair ∷ more) → All (λ (p : NamedValue). p.name ≢ pair.name) v
+names_before : (v more : List NamedValue) (pair : NamedValue)
+    → AllPairs (λ (p q : NamedValue). p.name ≢ q.name) (v ++ pair ∷ more)
+    → All (λ (p : NamedValue). p.name ≢ pair.name) v
 names_before v more pair apart k d within =
     let long : length (v ++ pair ∷ more) ≡ length v + suc (length more) = length-append v (pair ∷ more) in
     let left : get_or (v ++ pair ∷ more) k d ≡ get_or v k d = get_or_append_left v (pair ∷ more) d k within in
@@ -120,7 +139,9 @@ names_before v more pair apart k d within =
     let both = apart k (length v) d within (omega arith) in
     λ e. both (ap (λ (x : NamedValue). x.name) left ∙ (e ∙ ap (λ (x : NamedValue). x.name) (sym right)))
 
-first_name : (v more : List NamedValue) (pair : NamedValue) → length v ≡ 0 → IsSomeAnd (slice_get (v ++ pair ∷ more) 0) (λ (p : NamedValue). p.name ≡ codes "dialog") → pair.name ≡ codes "dialog"
+first_name : (v more : List NamedValue) (pair : NamedValue) → length v ≡ 0
+    → IsSomeAnd (slice_get (v ++ pair ∷ more) 0) (λ (p : NamedValue). p.name ≡ codes "dialog")
+    → pair.name ≡ codes "dialog"
 first_name [] more pair none first = first
 first_name (x ∷ v) more pair none first = absurd (omega arith)
 
@@ -136,12 +157,22 @@ pub record IsOnward (v : List NamedValue) (a : List (List ℕ)) (text : List ℕ
   pub next : IsNext v a line
   pub short : length (text_of_lines (case_lines v a ++ text ∷ [])) ≤ MAX_TEXT
 
-pub onward : (v : List NamedValue) (a : List (List ℕ)) (text : List ℕ) → IsBegun v a → BeginsText AreCaseLines (case_lines v a ++ text ∷ []) → IsOnward v a text
+pub onward : (v : List NamedValue) (a : List (List ℕ)) (text : List ℕ) → IsBegun v a
+    → BeginsText AreCaseLines (case_lines v a ++ text ∷ []) → IsOnward v a text
 onward v a text begun b =
     let case = b.good in
-    let tail : ((map field_text v ++ map answer_text a) ++ text ∷ []) ++ b.later ≡ map field_text case.values ++ map answer_text case.answers = (let all = case.lines_are in cc) in
-    let joined : ((map field_text v ++ map answer_text a) ++ text ∷ []) ++ b.later ≡ (map field_text v ++ map answer_text a) ++ text ∷ b.later = append_assoc (map field_text v ++ map answer_text a) (text ∷ []) b.later in
-    let short = text_short (case_lines v a ++ text ∷ []) b.later MAX_TEXT (subst (λ (ls : List (List ℕ)). length (text_of_lines ls) ≤ MAX_TEXT) (sym case.lines_are) case.is.short) in
+    let tail : ((map field_text v ++ map answer_text a) ++ text ∷ []) ++ b.later ≡ map field_text
+    case.values ++ map answer_text case.answers =
+    (let all = case.lines_are in cc) in
+    let joined :
+    ((map field_text v ++ map answer_text a) ++ text ∷ []) ++ b.later
+    ≡ (map field_text v ++ map answer_text a) ++ text ∷ b.later
+    =
+    append_assoc (map field_text v ++ map answer_text a) (text ∷ []) b.later in
+    let short =
+    text_short (case_lines v a ++ text ∷ []) b.later MAX_TEXT
+    (subst (λ (ls : List (List ℕ)). length (text_of_lines ls) ≤ MAX_TEXT) (sym case.lines_are)
+    case.is.short) in
     elim (lines_next v case.values a case.answers text b.later begun.values_are case.is.values_are case.is.answers_are (sym tail ∙ joined)) [
       | inl f ↦
           let fields : AreFields (v ++ f.pair ∷ f.more) = subst AreFields f.values case.is.fields in
@@ -162,7 +193,8 @@ onward v a text begun b =
           }
     ]
   where
-    pair_good : (v more : List NamedValue) (pair : NamedValue) → All IsNamedValue (v ++ pair ∷ more) → IsNamedValue pair
+    pair_good : (v more : List NamedValue) (pair : NamedValue) → All IsNamedValue (v ++ pair ∷ more)
+        → IsNamedValue pair
     pair_good [] more pair h = All-head IsNamedValue pair more h
     pair_good (x ∷ v) more pair h = pair_good v more pair (All-tail IsNamedValue x (v ++ pair ∷ more) h)
 

@@ -23,20 +23,32 @@ use Rattle.fints_script_cases.proofs.CaseTexts.{field_once, answer_once, field_n
 
 -- ---- a line more
 
-lines_with : (v : List NamedValue) (a : List (List ℕ)) (line : CaseLine) → IsNext v a line → case_lines (values_with v line) (answers_with a line) ≡ case_lines v a ++ line_text line ∷ []
+lines_with : (v : List NamedValue) (a : List (List ℕ)) (line : CaseLine) → IsNext v a line
+    → case_lines (values_with v line) (answers_with a line) ≡ case_lines v a ++ line_text line ∷ []
 lines_with v [] (Field pair) next =
     let both : map field_text (v ++ pair ∷ []) ≡ map field_text v ++ field_text pair ∷ [] = map-append field_text v (pair ∷ []) in
-    ap (λ (ls : List (List ℕ)). codes "fints-case 1" ∷ ls) (append-nil (map field_text (v ++ pair ∷ [])) ∙ (both ∙ ap (λ (ls : List (List ℕ)). ls ++ field_text pair ∷ []) (sym (append-nil (map field_text v)))))
+    ap (λ (ls : List (List ℕ)). codes "fints-case 1" ∷ ls)
+    (append-nil (map field_text (v ++ pair ∷ []))
+    ∙ (both
+    ∙ ap (λ (ls : List (List ℕ)). ls ++ field_text pair ∷ [])
+    (sym (append-nil (map field_text v)))))
 lines_with v (x ∷ a) (Field pair) next = let none : length (x ∷ a) ≡ 0 = next.0 in absurd (omega arith)
 lines_with v a (Reply answer) next =
     let both : map answer_text (a ++ answer ∷ []) ≡ map answer_text a ++ answer_text answer ∷ [] = map-append answer_text a (answer ∷ []) in
-    ap (λ (ls : List (List ℕ)). codes "fints-case 1" ∷ ls) (ap (λ (ls : List (List ℕ)). map field_text v ++ ls) both ∙ sym (append_assoc (map field_text v) (map answer_text a) (answer_text answer ∷ [])))
+    ap (λ (ls : List (List ℕ)). codes "fints-case 1" ∷ ls)
+    (ap (λ (ls : List (List ℕ)). map field_text v ++ ls) both
+    ∙ sym (append_assoc (map field_text v) (map answer_text a) (answer_text answer ∷ [])))
 
-first_with : (v : List NamedValue) (pair : NamedValue) → ForSome (slice_get v 0) (λ (p : NamedValue). p.name ≡ codes "dialog") → (length v ≡ 0 → pair.name ≡ codes "dialog") → ForSome (slice_get (v ++ pair ∷ []) 0) (λ (p : NamedValue). p.name ≡ codes "dialog")
+first_with : (v : List NamedValue) (pair : NamedValue)
+    → ForSome (slice_get v 0) (λ (p : NamedValue). p.name ≡ codes "dialog")
+    → (length v ≡ 0 → pair.name ≡ codes "dialog")
+    → ForSome (slice_get (v ++ pair ∷ []) 0) (λ (p : NamedValue). p.name ≡ codes "dialog")
 first_with [] pair first here = λ p e. subst (λ (x : NamedValue). x.name ≡ codes "dialog") (same_Some pair p e) (here refl)
 first_with (x ∷ v) pair first here = first
 
-grown : (v : List NamedValue) (a : List (List ℕ)) (line : CaseLine) → IsBegun v a → IsCaseLine line → IsNext v a line → length (case_text (values_with v line) (answers_with a line)) ≤ MAX_TEXT → IsBegun (values_with v line) (answers_with a line)
+grown : (v : List NamedValue) (a : List (List ℕ)) (line : CaseLine) → IsBegun v a → IsCaseLine line
+    → IsNext v a line → length (case_text (values_with v line) (answers_with a line)) ≤ MAX_TEXT
+    → IsBegun (values_with v line) (answers_with a line)
 grown v a (Field pair) begun good next short = record {
   first = first_with v pair begun.first next.2;
   apart = all_pairs_push (λ (p q : NamedValue). p.name ≢ q.name) v pair begun.apart next.1;
@@ -60,22 +72,33 @@ pub record Read (text rest : List ℕ) (v : List NamedValue) (a : List (List ℕ
   pub text_is : text ≡ case_text v a ++ rest
   pub number : n ≡ length (case_lines v a) + 1
 
-read_line : (text rest more : List ℕ) (v : List NamedValue) (a : List (List ℕ)) (n : ℕ) (line : CaseLine) → Read text rest v a n → IsCaseLine line → IsNext v a line → rest ≡ line_text line ++ 10 ∷ more → length text - length more ≤ MAX_TEXT → Read text more (values_with v line) (answers_with a line) (n + 1)
+read_line : (text rest more : List ℕ) (v : List NamedValue) (a : List (List ℕ)) (n : ℕ) (line : CaseLine)
+    → Read text rest v a n → IsCaseLine line → IsNext v a line → rest ≡ line_text line ++ 10 ∷ more
+    → length text - length more ≤ MAX_TEXT → Read text more (values_with v line) (answers_with a line) (n + 1)
 read_line text rest more v a n line read good next is within =
     let front : case_lines v a ++ line_text line ∷ [] ≡ case_lines (values_with v line) (answers_with a line) = sym (lines_with v a line next) in
-    let whole : text ≡ case_text (values_with v line) (answers_with a line) ++ more = text_taken text rest (line_text line) more (case_lines v a) read.text_is is ∙ ap (λ (ls : List (List ℕ)). text_of_lines ls ++ more) front in
+    let whole : text ≡ case_text (values_with v line) (answers_with a line) ++ more =
+    text_taken text rest (line_text line) more (case_lines v a) read.text_is is
+    ∙ ap (λ (ls : List (List ℕ)). text_of_lines ls ++ more) front in
     let size = length_taken text more (case_lines (values_with v line) (answers_with a line)) whole in
-    let count : length (case_lines (values_with v line) (answers_with a line)) ≡ length (case_lines v a ++ line_text line ∷ []) = ap length (lines_with v a line next) in
+    let count : length (case_lines (values_with v line) (answers_with a line)) ≡ length
+    (case_lines v a ++ line_text line ∷ []) =
+    ap length (lines_with v a line next) in
     let one : length (case_lines v a ++ line_text line ∷ []) ≡ length (case_lines v a) + 1 = length-append (case_lines v a) (line_text line ∷ []) in
     let number = read.number in
     record { begun = grown v a line read.begun good next (omega arith); text_is = whole; number = omega arith }
 
-pub read_more : (text rest more : List ℕ) (v : List NamedValue) (a : List (List ℕ)) (w : List NamedValue) (b : List (List ℕ)) (n : ℕ) → Read text rest v a n → IsLineTaken (length text) rest more v a w b → Read text more w b (n + 1)
+pub read_more : (text rest more : List ℕ) (v : List NamedValue) (a : List (List ℕ)) (w : List NamedValue)
+    (b : List (List ℕ)) (n : ℕ) → Read text rest v a n → IsLineTaken (length text) rest more v a w b
+    → Read text more w b (n + 1)
 read_more text rest more v a w b n read taken =
     let next = read_line text rest more v a n taken.line read taken.is taken.next taken.stands.split.0 taken.stands.within in
-    subst (λ (x : List (List ℕ)). Read text more w x (n + 1)) (sym taken.answers_are) (subst (λ (x : List NamedValue). Read text more x (answers_with a taken.line) (n + 1)) (sym taken.values_are) next)
+    subst (λ (x : List (List ℕ)). Read text more w x (n + 1)) (sym taken.answers_are)
+    (subst (λ (x : List NamedValue). Read text more x (answers_with a taken.line) (n + 1))
+    (sym taken.values_are) next)
 
-pub few_lines : (text rest : List ℕ) (v : List NamedValue) (a : List (List ℕ)) (n : ℕ) → Read text rest v a n → n ≤ MAX_TEXT + 1
+pub few_lines : (text rest : List ℕ) (v : List NamedValue) (a : List (List ℕ)) (n : ℕ) → Read text rest v a n
+    → n ≤ MAX_TEXT + 1
 few_lines text rest v a n read =
     let long = lines_long (case_lines v a) in
     let short = read.begun.short in
@@ -84,7 +107,9 @@ few_lines text rest v a n read =
 
 -- ---- the end
 
-are_fields : (v : List NamedValue) → 0 < length v → ForSome (slice_get v 0) (λ (p : NamedValue). p.name ≡ codes "dialog") → AllPairs (λ (p q : NamedValue). p.name ≢ q.name) v → AreFields v
+are_fields : (v : List NamedValue) → 0 < length v
+    → ForSome (slice_get v 0) (λ (p : NamedValue). p.name ≡ codes "dialog")
+    → AllPairs (λ (p q : NamedValue). p.name ≢ q.name) v → AreFields v
 are_fields [] some first apart = absurd (omega arith)
 are_fields (x ∷ v) some first apart = record { first = first x refl; apart = apart }
 
@@ -100,7 +125,8 @@ no_rest : (front rest : List ℕ) → length rest ≡ 0 → front ++ rest ≡ fr
 no_rest front [] none = append-nil front
 no_rest front (x ∷ rest) none = absurd (omega arith)
 
-pub read_all : (text rest : List ℕ) (v : List NamedValue) (a : List (List ℕ)) (n : ℕ) → Read text rest v a n → length rest ≡ 0 → 0 < length v → IsCaseOf text v a
+pub read_all : (text rest : List ℕ) (v : List NamedValue) (a : List (List ℕ)) (n : ℕ) → Read text rest v a n
+    → length rest ≡ 0 → 0 < length v → IsCaseOf text v a
 read_all text rest v a n read none some = (is_case v a read.begun some, read.text_is ∙ no_rest (case_text v a) rest none)
 
 -- ---- a bad line
@@ -108,8 +134,11 @@ read_all text rest v a n read none some = (is_case v a read.begun some, read.tex
 small_letter : (b : ℕ) → (nat_le 97 b && nat_le b 122) ≡ true → (97 ≤ b) × (b ≤ 122)
 small_letter b h = grind (arith, nat_tests)
 
-small_letters : (text : List ℕ) → list_all (λ b. nat_le 97 b && nat_le b 122) text ≡ true → All IsNameByte text
-small_letters text h = All-weaker (λ b. (nat_le 97 b && nat_le b 122) ≡ true) IsNameByte (λ b is. inl (small_letter b is)) text (AllPass-from_list_all (λ b. nat_le 97 b && nat_le b 122) text h)
+small_letters : (text : List ℕ) → list_all (λ b. nat_le 97 b && nat_le b 122) text ≡ true
+    → All IsNameByte text
+small_letters text h =
+    All-weaker (λ b. (nat_le 97 b && nat_le b 122) ≡ true) IsNameByte (λ b is. inl (small_letter b is)) text
+    (AllPass-from_list_all (λ b. nat_le 97 b && nat_le b 122) text h)
 
 -- the shortest case
 dialog : NamedValue
@@ -121,7 +150,10 @@ least_case =
     let size : length (case_text (dialog ∷ []) []) ≡ 28 = refl in
     record {
       fields = record { first = refl; apart = λ i j d below within. absurd (omega arith) };
-      values_are = All-cons IsNamedValue dialog [] ((omega arith, omega arith, small_letters (codes "dialog") refl), All-nil (λ b. b < 256)) (All-nil IsNamedValue);
+      values_are =
+          All-cons IsNamedValue dialog []
+          ((omega arith, omega arith, small_letters (codes "dialog") refl), All-nil (λ b. b < 256))
+          (All-nil IsNamedValue);
       answers_are = All-nil IsAnswer;
       short = omega arith;
     }
@@ -132,31 +164,51 @@ begins_first = record { later = case_lines (dialog ∷ []) []; good = record { v
 begins : (v : List NamedValue) (a : List (List ℕ)) → IsBegun v a → BeginsText AreCaseLines (case_lines v a)
 begins [] [] begun = record { later = field_text dialog ∷ []; good = record { values = dialog ∷ []; answers = []; is = least_case; lines_are = refl } }
 begins [] (x ∷ a) begun = let none : length (x ∷ a) ≡ 0 = begun.order refl in absurd (omega arith)
-begins (x ∷ v) a begun = record { later = []; good = record { values = x ∷ v; answers = a; is = is_case (x ∷ v) a begun (omega arith); lines_are = append-nil (case_lines (x ∷ v) a) } }
+begins (x ∷ v) a begun =
+    record {
+      later = [];
+      good =
+          record {
+            values = x ∷ v;
+            answers = a;
+            is = is_case (x ∷ v) a begun (omega arith);
+            lines_are = append-nil (case_lines (x ∷ v) a);
+          };
+    }
 
 -- without lines there is no value
-no_lines : (w : List NamedValue) (b : List (List ℕ)) → [] ≡ map field_text w ++ map answer_text b → length w ≡ 0
+no_lines : (w : List NamedValue) (b : List (List ℕ)) → [] ≡ map field_text w ++ map answer_text b
+    → length w ≡ 0
 no_lines [] b e = refl
 no_lines (x ∷ w) b e = absurd cc
 
 -- the header alone is no case
-no_value_no_case : (v : List NamedValue) (a : List (List ℕ)) → length v ≡ 0 → length a ≡ 0 → AreCaseLines (case_lines v a) → ⊥
+no_value_no_case : (v : List NamedValue) (a : List (List ℕ)) → length v ≡ 0 → length a ≡ 0
+    → AreCaseLines (case_lines v a) → ⊥
 no_value_no_case [] [] hv ha c = no_fields c.values (no_lines c.values c.answers (let all = c.lines_are in cc)) c.is.fields
 no_value_no_case [] (y ∷ a) hv ha c = absurd (omega arith)
 no_value_no_case (x ∷ v) a hv ha c = absurd (omega arith)
 
-pub refused : (text rest : List ℕ) (v : List NamedValue) (a : List (List ℕ)) (n : ℕ) → Read text rest v a n → HasNoLine (length text) rest v a → (length rest ≡ 0 → length v ≡ 0) → IsFirstBadLine text n
+pub refused : (text rest : List ℕ) (v : List NamedValue) (a : List (List ℕ)) (n : ℕ) → Read text rest v a n
+    → HasNoLine (length text) rest v a → (length rest ≡ 0 → length v ≡ 0) → IsFirstBadLine text n
 refused text rest v a n read none ends =
-    refused_at AreCaseLines case_without text rest (case_lines v a) n (begins v a read.begun) read.text_is read.number (λ done good. no_value_no_case v a (ends done) (read.begun.order (ends done)) good) bad
+    refused_at AreCaseLines case_without text rest (case_lines v a) n (begins v a read.begun) read.text_is
+    read.number (λ done good. no_value_no_case v a (ends done) (read.begun.order (ends done)) good) bad
   where
-    bad : (line more : List ℕ) → rest ≡ line ++ 10 ∷ more → BeginsText AreCaseLines (case_lines v a ++ line ∷ []) → ⊥
+    bad : (line more : List ℕ) → rest ≡ line ++ 10 ∷ more
+        → BeginsText AreCaseLines (case_lines v a ++ line ∷ []) → ⊥
     bad line more is b =
         let on = onward v a line read.begun b in
         let size = length_taken text more (case_lines v a ++ line ∷ []) (text_taken text rest line more (case_lines v a) read.text_is is) in
         let short = on.short in
-        none on.line more on.good on.next (record { split = (is ∙ ap (λ (t : List ℕ). t ++ 10 ∷ more) on.is, line_without on.line on.good); within = omega arith })
+        none on.line more on.good on.next
+        (record {
+          split = (is ∙ ap (λ (t : List ℕ). t ++ 10 ∷ more) on.is, line_without on.line on.good);
+          within = omega arith;
+        })
 
-pub no_header : (text : List ℕ) → ((rest : List ℕ) → text ≢ codes "fints-case 1\n" ++ rest) → IsFirstBadLine text 1
+pub no_header : (text : List ℕ) → ((rest : List ℕ) → text ≢ codes "fints-case 1\n" ++ rest)
+    → IsFirstBadLine text 1
 no_header text none =
     refused_at AreCaseLines case_without text text [] 1 begins_first refl refl (λ done good. let all = good.lines_are in absurd cc) (λ line more is b.
     let all = b.good.lines_are in
@@ -170,7 +222,8 @@ case_or_bad_line text none never =
 
 -- ---- one case
 
-answers_once : (a b : List (List ℕ)) → All IsAnswer a → All IsAnswer b → map answer_text a ≡ map answer_text b → a ≡ b
+answers_once : (a b : List (List ℕ)) → All IsAnswer a → All IsAnswer b → map answer_text a ≡ map answer_text b
+    → a ≡ b
 answers_once [] [] ha hb e = refl
 answers_once [] (y ∷ b) ha hb e = absurd cc
 answers_once (x ∷ a) [] ha hb e = absurd cc
@@ -181,7 +234,9 @@ answers_once (x ∷ a) (y ∷ b) ha hb e =
     let rest = answers_once a b (All-tail IsAnswer x a ha) (All-tail IsAnswer y b hb) back in
     cc
 
-lines_once : (v w : List NamedValue) (a b : List (List ℕ)) → All IsNamedValue v → All IsNamedValue w → All IsAnswer a → All IsAnswer b → map field_text v ++ map answer_text a ≡ map field_text w ++ map answer_text b → (v ≡ w) × (a ≡ b)
+lines_once : (v w : List NamedValue) (a b : List (List ℕ)) → All IsNamedValue v → All IsNamedValue w
+    → All IsAnswer a → All IsAnswer b
+    → map field_text v ++ map answer_text a ≡ map field_text w ++ map answer_text b → (v ≡ w) × (a ≡ b)
 lines_once [] [] a b hv hw ha hb e = (refl, answers_once a b ha hb e)
 lines_once [] (q ∷ w) [] b hv hw ha hb e = absurd cc
 lines_once [] (q ∷ w) (x ∷ a) b hv hw ha hb e = let first : field_text q ≡ answer_text x = cc in absurd (field_no_answer q x first)
@@ -201,5 +256,15 @@ one_case text v w a b c d =
 
 -- ---- what is written
 
-pub written : (v : List NamedValue) (a : List (List ℕ)) (text : List ℕ) → All IsNamedValue v → All IsAnswer a → text ≡ case_text v a → AreFields v → length text ≤ MAX_TEXT → IsCaseOf text v a
-written v a text hv ha is fields short = (record { fields = fields; values_are = hv; answers_are = ha; short = subst (λ (t : List ℕ). length t ≤ MAX_TEXT) is short }, is)
+pub written : (v : List NamedValue) (a : List (List ℕ)) (text : List ℕ) → All IsNamedValue v → All IsAnswer a
+    → text ≡ case_text v a → AreFields v → length text ≤ MAX_TEXT → IsCaseOf text v a
+written v a text hv ha is fields short = (
+  record {
+    fields =
+        fields;
+    values_are = hv;
+    answers_are = ha;
+    short = subst (λ (t : List ℕ). length t ≤ MAX_TEXT) is short;
+  },
+  is,
+)

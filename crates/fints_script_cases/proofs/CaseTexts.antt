@@ -32,7 +32,8 @@ name_byte byte b (inr p) (inr (inl h)) e = omega (arith, h.0, h.1)
 name_byte byte b (inr p) (inr (inr (inl h))) e = omega arith
 name_byte byte b (inr p) (inr (inr (inr h))) e = omega arith
 
-pub name_without : (byte : ℕ) (name : List ℕ) → (byte ≡ 32) ⊎ (byte ≡ 10) → IsName name → All (λ x. x ≢ byte) name
+pub name_without : (byte : ℕ) (name : List ℕ) → (byte ≡ 32) ⊎ (byte ≡ 10) → IsName name
+    → All (λ x. x ≢ byte) name
 name_without byte name which is = All-weaker IsNameByte (λ x. x ≢ byte) (λ b h. name_byte byte b which h) name is.2
 
 -- ---- values
@@ -73,19 +74,24 @@ hex_digit_no_feed c h e =
     cc
 
 -- a text that `hex` refuses is that of no bytes
-pub no_hex : (text : List ℕ) (fault : FromHexError) → decode_of text ≡ Err fault → (value : List ℕ) → IsValue value → text ≡ encode_lower value → ⊥
+pub no_hex : (text : List ℕ) (fault : FromHexError) → decode_of text ≡ Err fault → (value : List ℕ)
+    → IsValue value → text ≡ encode_lower value → ⊥
 no_hex text fault read value is e =
     let back : decode_of text ≡ Ok value = ap decode_of e ∙ decode_of-encode_lower value (bytes_are value is) in
     let both : Err fault ≡ Ok value = sym read ∙ back in
     cc
 
 pub value_text_some : (text v : List ℕ) → 0 < length text → text ≡ encode_lower v → text ≡ value_text v
-value_text_some text [] some e = let long = length-encode_with lower_digits [] in let same : length text ≡ length (encode_lower []) = ap length e in absurd (omega arith)
+value_text_some text [] some e =
+    let long = length-encode_with lower_digits [] in let same : length text ≡ length (encode_lower []) = ap
+    length e in absurd (omega arith)
 value_text_some text (b ∷ v) some e = e
 
 pub no_empty_value : (text v : List ℕ) → length text ≡ 0 → text ≡ value_text v → ⊥
 no_empty_value text [] none e = let same : length text ≡ 1 = ap length e in omega arith
-no_empty_value text (b ∷ v) none e = let long = length-encode_with lower_digits (b ∷ v) in let same : length text ≡ length (encode_lower (b ∷ v)) = ap length e in omega arith
+no_empty_value text (b ∷ v) none e =
+    let long = length-encode_with lower_digits (b ∷ v) in let same : length text ≡ length
+    (encode_lower (b ∷ v)) = ap length e in omega arith
 
 pub value_without : (v : List ℕ) → IsValue v → All (λ x. x ≢ 10) (value_text v)
 value_without [] h = All-cons (λ x. x ≢ 10) 45 [] (λ e. omega arith) (All-nil (λ x. x ≢ 10))
@@ -98,7 +104,9 @@ value_without (b ∷ v) h =
 pub field_once : (p q : NamedValue) → IsNamedValue p → IsNamedValue q → field_text p ≡ field_text q → p ≡ q
 field_once p q hp hq e =
     let tail : p.name ++ 32 ∷ value_text p.value ≡ q.name ++ 32 ∷ value_text q.value = append_cancel_left (codes "field ") _ _ e in
-    let parts = split_same 32 p.name (value_text p.value) q.name (value_text q.value) (name_without 32 p.name (inl refl) hp.0) (name_without 32 q.name (inl refl) hq.0) tail in
+    let parts =
+    split_same 32 p.name (value_text p.value) q.name (value_text q.value)
+    (name_without 32 p.name (inl refl) hp.0) (name_without 32 q.name (inl refl) hq.0) tail in
     let value = value_once p.value q.value hp.1 hq.1 parts.1 in
     let make : List ℕ → List ℕ → NamedValue = λ n v. record { name = n; value = v } in
     ap (λ (n : List ℕ). make n p.value) parts.0 ∙ ap (λ (v : List ℕ). make q.name v) value
@@ -107,7 +115,8 @@ pub field_without : (p : NamedValue) → IsNamedValue p → All (λ x. x ≢ 10)
 field_without p h =
     let front = plain (codes "field ") refl in
     All-append (λ x. x ≢ 10) (codes "field ") (p.name ++ 32 ∷ value_text p.value) front
-    (All-append (λ x. x ≢ 10) p.name (32 ∷ value_text p.value) (name_without 10 p.name (inr refl) h.0) (All-cons (λ x. x ≢ 10) 32 (value_text p.value) (λ e. omega arith) (value_without p.value h.1)))
+    (All-append (λ x. x ≢ 10) p.name (32 ∷ value_text p.value) (name_without 10 p.name (inr refl) h.0)
+    (All-cons (λ x. x ≢ 10) 32 (value_text p.value) (λ e. omega arith) (value_without p.value h.1)))
 
 -- ---- codes and lines of answers
 
@@ -127,11 +136,16 @@ both : (a b : Bool) → (a && b) ≡ true → (a ≡ true) × (b ≡ true)
 both true b h = (refl, h)
 both false b h = absurd cc
 
-digits_number : (a b c d p q r s n : ℕ) → (48 ≤ a) × (a ≤ 57) × (p ≡ a - 48) → (48 ≤ b) × (b ≤ 57) × (q ≡ b - 48) → (48 ≤ c) × (c ≤ 57) × (r ≡ c - 48) → (48 ≤ d) × (d ≤ 57) × (s ≡ d - 48) → (((0 * 10 + p) * 10 + q) * 10 + r) * 10 + s ≡ n → (n < 10000) × (48 + n / 1000 ≡ a) × (48 + (n / 100) % 10 ≡ b) × (48 + (n / 10) % 10 ≡ c) × (48 + n % 10 ≡ d)
+digits_number : (a b c d p q r s n : ℕ) → (48 ≤ a) × (a ≤ 57) × (p ≡ a - 48)
+    → (48 ≤ b) × (b ≤ 57) × (q ≡ b - 48) → (48 ≤ c) × (c ≤ 57) × (r ≡ c - 48)
+    → (48 ≤ d) × (d ≤ 57) × (s ≡ d - 48) → (((0 * 10 + p) * 10 + q) * 10 + r) * 10 + s ≡ n
+    → (n < 10000) × (48 + n / 1000 ≡ a) × (48 + (n / 100) % 10 ≡ b) × (48 + (n / 10) % 10 ≡ c)
+    × (48 + n % 10 ≡ d)
 digits_number a b c d p q r s n (la, ha, pa) (lb, hb, qb) (lc, hc, rc) (ld, hd, sd) e = (omega arith, omega arith, omega arith, omega arith, omega arith)
 
 -- the code that four digits spell
-pub code_digits : (a b c d n : ℕ) → code_in (a ∷ b ∷ c ∷ d ∷ []) ≡ Some n → (n < 10000) × (code_text n ≡ a ∷ b ∷ c ∷ d ∷ [])
+pub code_digits : (a b c d n : ℕ) → code_in (a ∷ b ∷ c ∷ d ∷ []) ≡ Some n
+    → (n < 10000) × (code_text n ≡ a ∷ b ∷ c ∷ d ∷ [])
 code_digits a b c d n h =
     let told = cond_some _ _ n h in
     let all = both _ _ (both _ _ told.0).0 in
@@ -147,7 +161,9 @@ code_digits a b c d n h =
     (n_is.0, cc (n_is.1, n_is.2, n_is.3, n_is.4))
 
 -- five bytes, the last four of them a code
-pub spaced_code : (text : List ℕ) (n : ℕ) → 5 ≤ length text → get_or text 0 0 ≡ 32 → code_in (get_or text 1 0 ∷ get_or text 2 0 ∷ get_or text 3 0 ∷ get_or text 4 0 ∷ []) ≡ Some n → (n < 10000) × (text ≡ (32 ∷ code_text n) ++ take (length text - 5) (drop 5 text))
+pub spaced_code : (text : List ℕ) (n : ℕ) → 5 ≤ length text → get_or text 0 0 ≡ 32
+    → code_in (get_or text 1 0 ∷ get_or text 2 0 ∷ get_or text 3 0 ∷ get_or text 4 0 ∷ []) ≡ Some n
+    → (n < 10000) × (text ≡ (32 ∷ code_text n) ++ take (length text - 5) (drop 5 text))
 spaced_code [] n long space h = absurd (omega arith)
 spaced_code (s ∷ []) n long space h = absurd (omega arith)
 spaced_code (s ∷ a ∷ []) n long space h = absurd (omega arith)
@@ -161,7 +177,9 @@ spaced_code (s ∷ a ∷ b ∷ c ∷ d ∷ rest) n long space h =
     (read.0, ap (λ (t : List ℕ). t ++ rest) front ∙ ap (λ (t : List ℕ). (32 ∷ code_text n) ++ t) (sym all))
 
 -- the codes of an answer go on where the text does
-pub codes_go_on : (front answer rest : List ℕ) → All (λ code. code < 10000) answer → codes_text front ++ rest ≡ codes_text answer → (later : List ℕ) × All (λ code. code < 10000) later × (rest ≡ codes_text later)
+pub codes_go_on : (front answer rest : List ℕ) → All (λ code. code < 10000) answer
+    → codes_text front ++ rest ≡ codes_text answer
+    → (later : List ℕ) × All (λ code. code < 10000) later × (rest ≡ codes_text later)
 codes_go_on [] answer rest small e = (answer, small, e)
 codes_go_on (c ∷ front) [] rest small e = absurd cc
 codes_go_on (c ∷ front) (d ∷ answer) rest small e =
@@ -169,7 +187,9 @@ codes_go_on (c ∷ front) (d ∷ answer) rest small e =
     codes_go_on front answer rest (All-tail (λ code. code < 10000) d answer small) tail
 
 -- no answer has this text, if what is left begins with no code
-pub no_more_codes : (text front rest : List ℕ) → text ≡ codes_text front ++ rest → 0 < length rest → ((code : ℕ) (more : List ℕ) → code < 10000 → rest ≢ (32 ∷ code_text code) ++ more) → (answer : List ℕ) → All (λ code. code < 10000) answer → text ≡ codes_text answer → ⊥
+pub no_more_codes : (text front rest : List ℕ) → text ≡ codes_text front ++ rest → 0 < length rest
+    → ((code : ℕ) (more : List ℕ) → code < 10000 → rest ≢ (32 ∷ code_text code) ++ more) → (answer : List ℕ)
+    → All (λ code. code < 10000) answer → text ≡ codes_text answer → ⊥
 no_more_codes text front rest is some none answer small e =
     let more = codes_go_on front answer rest small (sym is ∙ e) in
     begin_none more.0 more.1 more.2
@@ -178,7 +198,8 @@ no_more_codes text front rest is some none answer small e =
     begin_none [] h r = let zero_long : length rest ≡ 0 = ap length r in omega arith
     begin_none (code ∷ later) h r = none code (codes_text later) (All-head (λ code. code < 10000) code later h) r
 
-pub codes_once : (a b : List ℕ) → All (λ code. code < 10000) a → All (λ code. code < 10000) b → codes_text a ≡ codes_text b → a ≡ b
+pub codes_once : (a b : List ℕ) → All (λ code. code < 10000) a → All (λ code. code < 10000) b
+    → codes_text a ≡ codes_text b → a ≡ b
 codes_once [] [] ha hb e = refl
 codes_once [] (c ∷ b) ha hb e = absurd cc
 codes_once (c ∷ a) [] ha hb e = absurd cc
@@ -219,19 +240,24 @@ field_no_answer p answer e = let first : ◌≡◌ {A = ℕ} 102 97 = ap (λ (t 
 
 -- ---- what is read of a line
 
-pub no_second_part : (text rest : List ℕ) → text ≡ codes "field " ++ rest → All (λ b. b ≢ 32) rest → (x : NamedValue) → IsNamedValue x → text ≡ field_text x → ⊥
+pub no_second_part : (text rest : List ℕ) → text ≡ codes "field " ++ rest → All (λ b. b ≢ 32) rest
+    → (x : NamedValue) → IsNamedValue x → text ≡ field_text x → ⊥
 no_second_part text rest is none x h e =
     let tail : rest ≡ x.name ++ 32 ∷ value_text x.value = append_cancel_left (codes "field ") rest _ (sym is ∙ e) in
     split_none 32 x.name (value_text x.value) (subst (λ (t : List ℕ). All (λ b. b ≢ 32) t) tail none)
 
 -- the parts of a field's line
-parts_of : (text rest name value : List ℕ) → text ≡ codes "field " ++ rest → IsSplit 32 rest name value → (x : NamedValue) → IsNamedValue x → text ≡ field_text x → (name ≡ x.name) × (value ≡ value_text x.value)
+parts_of : (text rest name value : List ℕ) → text ≡ codes "field " ++ rest → IsSplit 32 rest name value
+    → (x : NamedValue) → IsNamedValue x → text ≡ field_text x → (name ≡ x.name) × (value ≡ value_text x.value)
 parts_of text rest name value is split x h e =
     let tail : rest ≡ x.name ++ 32 ∷ value_text x.value = append_cancel_left (codes "field ") rest _ (sym is ∙ e) in
     split_same 32 name value x.name (value_text x.value) split.1 (name_without 32 x.name (inl refl) h.0) (sym split.0 ∙ tail)
 
-pub no_name : (text rest name value : List ℕ) → text ≡ codes "field " ++ rest → IsSplit 32 rest name value → (IsName name → ⊥) → (x : NamedValue) → IsNamedValue x → text ≡ field_text x → ⊥
+pub no_name : (text rest name value : List ℕ) → text ≡ codes "field " ++ rest → IsSplit 32 rest name value
+    → (IsName name → ⊥) → (x : NamedValue) → IsNamedValue x → text ≡ field_text x → ⊥
 no_name text rest name value is split none x h e = none (subst IsName (sym (parts_of text rest name value is split x h e).0) h.0)
 
-pub no_value : (text rest name value : List ℕ) → text ≡ codes "field " ++ rest → IsSplit 32 rest name value → ((v : List ℕ) → IsValue v → value ≢ value_text v) → (x : NamedValue) → IsNamedValue x → text ≡ field_text x → ⊥
+pub no_value : (text rest name value : List ℕ) → text ≡ codes "field " ++ rest → IsSplit 32 rest name value
+    → ((v : List ℕ) → IsValue v → value ≢ value_text v) → (x : NamedValue) → IsNamedValue x
+    → text ≡ field_text x → ⊥
 no_value text rest name value is split none x h e = none x.value h.1 (parts_of text rest name value is split x h e).1

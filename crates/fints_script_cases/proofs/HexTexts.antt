@@ -10,7 +10,8 @@ use Rattle.hex.proofs.HexLemmas.{decode_of-even, decode_of-ok}
 use Rattle.fints_script_cases.specs.CaseReading.{IsValue, IsCapital}
 
 -- the digit of a number below 16
-digit_at : (k : ℕ) → k < 16 → ((k < 10) × (slice_index lower_digits k ≡ 48 + k)) ⊎ ((10 ≤ k) × (slice_index lower_digits k ≡ 87 + k))
+digit_at : (k : ℕ) → k < 16
+    → ((k < 10) × (slice_index lower_digits k ≡ 48 + k)) ⊎ ((10 ≤ k) × (slice_index lower_digits k ≡ 87 + k))
 digit_at zero h = inl (omega arith, refl)
 digit_at (suc zero) h = inl (omega arith, refl)
 digit_at (suc (suc zero)) h = inl (omega arith, refl)
@@ -44,9 +45,11 @@ no_capitals (b ∷ v) h =
     let high : b / 16 < 16 = omega arith in
     let low : b % 16 < 16 = omega arith in
     All-cons (λ c. IsCapital c → ⊥) (slice_index lower_digits (b / 16)) (slice_index lower_digits (b % 16) ∷ encode_lower v) (digit_no_capital (b / 16) high)
-    (All-cons (λ c. IsCapital c → ⊥) (slice_index lower_digits (b % 16)) (encode_lower v) (digit_no_capital (b % 16) low) (no_capitals v (All-tail (λ x. x < 256) b v h)))
+    (All-cons (λ c. IsCapital c → ⊥) (slice_index lower_digits (b % 16)) (encode_lower v)
+    (digit_no_capital (b % 16) low) (no_capitals v (All-tail (λ x. x < 256) b v h)))
 
-pub capital_no_hex : (text : List ℕ) → Any IsCapital text → (value : List ℕ) → IsValue value → text ≡ encode_lower value → ⊥
+pub capital_no_hex : (text : List ℕ) → Any IsCapital text → (value : List ℕ) → IsValue value
+    → text ≡ encode_lower value → ⊥
 capital_no_hex text found value is e =
     let none : All (λ c. IsCapital c → ⊥) text = subst (λ (t : List ℕ). All (λ c. IsCapital c → ⊥) t) (sym e) (no_capitals value is) in
     none found.0 found.1 found.2 (subst IsCapital (sym found.3) found.4)
@@ -59,7 +62,8 @@ low_value c v h low = (grind arith, grind arith)
 high_value : (c v : ℕ) → hex_digit_value c ≡ Some v → 90 < c → (10 ≤ v) × (v < 16) × (v + 87 ≡ c)
 high_value c v h high = (grind arith, grind arith, grind arith)
 
-digit_again : (c v : ℕ) → (IsCapital c → ⊥) → hex_digit_value c ≡ Some v → (v < 16) × (slice_index lower_digits v ≡ c)
+digit_again : (c v : ℕ) → (IsCapital c → ⊥) → hex_digit_value c ≡ Some v
+    → (v < 16) × (slice_index lower_digits v ≡ c)
 digit_again c v no_capital h =
     elim (cases_lt c 65) [
       | inl low ↦
@@ -80,7 +84,8 @@ digit_again c v no_capital h =
           ]
     ]
 
-bind_ok : {A B : Type 0} (r : Result A FromHexError) (f : A → Result B FromHexError) (y : B) → (r >>= f) ≡ Ok y → (x : A) × (r ≡ Ok x) × (f x ≡ Ok y)
+bind_ok : {A B : Type 0} (r : Result A FromHexError) (f : A → Result B FromHexError) (y : B)
+    → (r >>= f) ≡ Ok y → (x : A) × (r ≡ Ok x) × (f x ≡ Ok y)
 bind_ok (Ok x) f y h = (x, refl, h)
 bind_ok (Err e) f y h = cc h
 
@@ -88,7 +93,8 @@ digit_read : (c i : ℕ) (o : Option ℕ) (v : ℕ) → digit_or_error c i o ≡
 digit_read c i (Some w) v h = let same : w ≡ v = cc in ap Some same
 digit_read c i None v h = cc h
 
-pairs_again : (i : ℕ) (text bytes : List ℕ) → All (λ c. IsCapital c → ⊥) text → decode_pairs i text ≡ Ok bytes → text ≡ encode_lower bytes
+pairs_again : (i : ℕ) (text bytes : List ℕ) → All (λ c. IsCapital c → ⊥) text → decode_pairs i text ≡ Ok bytes
+    → text ≡ encode_lower bytes
 unfolding decode_pairs encode_with
 pairs_again i [] bytes none h = let e : [] ≡ bytes = cc in ap encode_lower e
 pairs_again i (a ∷ []) bytes none h = cc h
@@ -113,7 +119,11 @@ pairs_again i (a ∷ b ∷ rest) bytes none h =
     ∙ (ap (λ (x : ℕ). slice_index lower_digits (p0.0 / 16) ∷ x ∷ rest) second
     ∙ (ap (λ (xs : List ℕ). slice_index lower_digits (p0.0 / 16) ∷ slice_index lower_digits (p0.0 % 16) ∷ xs) again ∙ ap encode_lower bytes_are))
 
-pub hex_again : (text value : List ℕ) → (Any IsCapital text → ⊥) → decode_of text ≡ Ok value → text ≡ encode_lower value
+pub hex_again : (text value : List ℕ) → (Any IsCapital text → ⊥) → decode_of text ≡ Ok value
+    → text ≡ encode_lower value
 hex_again text value none h =
     let even = (decode_of-ok text value h).0 in
-    pairs_again 0 text value (λ k d within c. none (k, get_or text k d, within, get_or_default text k (get_or text k d) d within, c)) (sym (decode_of-even text even) ∙ h)
+    pairs_again 0 text value
+    (λ k d within c.
+    none (k, get_or text k d, within, get_or_default text k (get_or text k d) d within, c))
+    (sym (decode_of-even text even) ∙ h)

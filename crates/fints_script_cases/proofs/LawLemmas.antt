@@ -13,10 +13,12 @@ use Rattle.fints_script_cases.proofs.Carriers as carried
 pub one_code_fires : (branches : List Branch) (b : ℕ) → OneCodeFires branches b
 one_code_fires = one_code
 
-pub one_branch_fires : (branches : List Branch) (otherwise : Target) (codes : List ℕ) → OneBranchFires branches otherwise codes
+pub one_branch_fires : (branches : List Branch) (otherwise : Target) (codes : List ℕ)
+    → OneBranchFires branches otherwise codes
 one_branch_fires = one_branch
 
-pub open_branches_lead : (branches : List Branch) (otherwise target : Target) → CanLead branches otherwise target ↔ IsOpenTo branches otherwise target
+pub open_branches_lead : (branches : List Branch) (otherwise target : Target)
+    → CanLead branches otherwise target ↔ IsOpenTo branches otherwise target
 open_branches_lead = open_leads
 
 pub openers_lead : (branches : List Branch) (otherwise : Target) → OpenersLead branches otherwise

@@ -23,8 +23,11 @@ IsPassed branches b code = All (λ branch. IsFalse (matches branch.on code)) (ta
 -- a branch carries a code exactly where it is open and no pattern before it matches the code; a code that opens it and that code fire it together
 pub record CarriesWhere (branches : List Branch) (b code : ℕ) : Type 0 where
   pub exactly : Carries branches b code ↔ (IsOpen branches b × IsPassed branches b code)
-  pub beside : (opener : ℕ) → 1 ≤ b → b ≤ length branches + 1 → IsOpener branches b opener → IsPassed branches b code → IsCarrying branches b code (opener ∷ code ∷ [])
+  pub beside : (opener : ℕ) → 1 ≤ b → b ≤ length branches + 1 → IsOpener branches b opener
+      → IsPassed branches b code → IsCarrying branches b code (opener ∷ code ∷ [])
 
 -- an answer with the code that fires a branch leads where the branch does
 abbrev pub CarryingLeads : List Branch → Target → Type 0
-CarryingLeads branches otherwise = (b code : ℕ) (codes : List ℕ) → IsCarrying branches b code codes → leads branches otherwise codes ≡ target_of branches otherwise b
+CarryingLeads branches otherwise =
+    (b code : ℕ) (codes : List ℕ) → IsCarrying branches b code codes
+    → leads branches otherwise codes ≡ target_of branches otherwise b

@@ -28,7 +28,9 @@ IsCaseLine (Reply answer) = IsAnswer answer
 
 -- the line may stand after these values and answers
 abbrev pub IsNext : List NamedValue → List (List ℕ) → CaseLine → Type 0
-IsNext values answers (Field pair) = (length answers ≡ 0) × All (λ (p : NamedValue). p.name ≢ pair.name) values × (length values ≡ 0 → pair.name ≡ codes "dialog")
+IsNext values answers (Field pair) =
+    (length answers ≡ 0) × All (λ (p : NamedValue). p.name ≢ pair.name) values
+    × (length values ≡ 0 → pair.name ≡ codes "dialog")
 IsNext values answers (Reply answer) = 0 < length values
 
 abbrev pub value_names : List NamedValue → List (List ℕ)
@@ -52,7 +54,8 @@ pub record IsBegun (values : List NamedValue) (answers : List (List ℕ)) : Type
   pub short : length (case_text values answers) ≤ MAX_TEXT
 
 -- a line of a case was taken from the rest of a text of `whole` bytes
-pub record IsLineTaken (whole : ℕ) (rest more : List ℕ) (values : List NamedValue) (answers : List (List ℕ)) (values_then : List NamedValue) (answers_then : List (List ℕ)) : Type 0 where
+pub record IsLineTaken (whole : ℕ) (rest more : List ℕ) (values : List NamedValue) (answers : List (List ℕ))
+    (values_then : List NamedValue) (answers_then : List (List ℕ)) : Type 0 where
   pub line : CaseLine
   pub is : IsCaseLine line
   pub next : IsNext values answers line

@@ -60,7 +60,8 @@ IsCaseOf text values answers = IsCase values answers × (text ≡ case_text valu
 -- it stands for no two cases
 abbrev pub OneCase : List ℕ → Type 0
 OneCase text =
-    (values others : List NamedValue) (answers replies : List (List ℕ)) → IsCaseOf text values answers → IsCaseOf text others replies → (values ≡ others) × (answers ≡ replies)
+    (values others : List NamedValue) (answers replies : List (List ℕ)) → IsCaseOf text values answers
+    → IsCaseOf text others replies → (values ≡ others) × (answers ≡ replies)
 
 -- ---- which line is refused
 

@@ -19,22 +19,30 @@ use Rattle.fints_script_fields.proofs.Telling.{found_is}
 use Rattle.fints_script_fields.proofs.Domains.{value_listed, listed_admitted, listed_items, one_item, empty_shortest, longest_alone, longest_empty}
 use Rattle.fints_script_fields.proofs.OneClass.{one_account, one_bin, one_oneof, one_text}
 
-pub longest_is_first_texts : (c : OneOf) → IsFirstOfGreatest text_len c.values (field_longest (fields.OneOf c))
+pub longest_is_first_texts : (c : OneOf)
+    → IsFirstOfGreatest text_len c.values (field_longest (fields.OneOf c))
 longest_is_first_texts f = longest_is_first text_len [] f.values f.some
 
-pub longest_is_first_accounts : (c : Account) → IsFirstOfGreatest length (map account_text c.values) (field_longest (fields.Account c))
-longest_is_first_accounts f = greatest_text account_text length f.values (first_longest account_len [] f.values) (longest_is_first account_len [] f.values f.some)
+pub longest_is_first_accounts : (c : Account)
+    → IsFirstOfGreatest length (map account_text c.values) (field_longest (fields.Account c))
+longest_is_first_accounts f =
+    greatest_text account_text length f.values (first_longest account_len [] f.values)
+    (longest_is_first account_len [] f.values f.some)
 
 pub shortest_is_first_texts : (c : OneOf) → IsFirstOfLeast text_len c.values (field_shortest (fields.OneOf c))
 shortest_is_first_texts f = shortest_is_first text_len [] f.values f.some
 
-pub shortest_is_first_accounts : (c : Account) → IsFirstOfLeast length (map account_text c.values) (field_shortest (fields.Account c))
-shortest_is_first_accounts f = least_text account_text length f.values (first_shortest account_len [] f.values) (shortest_is_first account_len [] f.values f.some)
+pub shortest_is_first_accounts : (c : Account)
+    → IsFirstOfLeast length (map account_text c.values) (field_shortest (fields.Account c))
+shortest_is_first_accounts f =
+    least_text account_text length f.values (first_shortest account_len [] f.values)
+    (shortest_is_first account_len [] f.values f.some)
 
 pub text_is_one_account : TextIsOneAccount
 text_is_one_account f j a at = found_is f.values j a f.each at
 
-pub account_values_are_listed : (c : Account) (v : List ℕ) → field_domain (fields.Account c) v → IsListedSomewhere (fields.Account c) v
+pub account_values_are_listed : (c : Account) (v : List ℕ) → field_domain (fields.Account c) v
+    → IsListedSomewhere (fields.Account c) v
 account_values_are_listed = value_listed
 
 pub listed_accounts_are_values_admitted : ListedAreAdmitted
@@ -43,13 +51,15 @@ listed_accounts_are_values_admitted = listed_admitted
 pub listed_accounts_are_values_items : ListedStandAsItems
 listed_accounts_are_values_items = listed_items
 
-pub others_are_one_item : (f : Field) (v : List ℕ) → field_accounts f ≡ [] → (item : OwnedItem) × (field_items f v ≡ item ∷ []) × (item_value item ≡ v)
+pub others_are_one_item : (f : Field) (v : List ℕ) → field_accounts f ≡ []
+    → (item : OwnedItem) × (field_items f v ≡ item ∷ []) × (item_value item ≡ v)
 others_are_one_item = one_item
 
 pub empty_is_shortest : (f : Field) → field_domain f [] → field_shortest f ≡ []
 empty_is_shortest = empty_shortest
 
-pub longest_is_empty_alone_alone : (f : Field) (v : List ℕ) → field_domain f v → field_written f (field_longest f) ≡ 0 → v ≡ []
+pub longest_is_empty_alone_alone : (f : Field) (v : List ℕ) → field_domain f v
+    → field_written f (field_longest f) ≡ 0 → v ≡ []
 longest_is_empty_alone_alone = longest_alone
 
 pub longest_is_empty_alone_empty : (f : Field) → field_longest f ≡ [] → field_written f (field_longest f) ≡ 0

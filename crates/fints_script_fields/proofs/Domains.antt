@@ -29,12 +29,14 @@ stands [] v l = absurd l
 stands (a ∷ more) v (inl e) = record { place = 0; account = a; listed = refl; text = e }
 stands (a ∷ more) v (inr l) = let s = stands more v l in record { place = suc s.place; account = s.account; listed = s.listed; text = s.text }
 
-listed_at : (accounts : List (List (List ℕ))) (j : ℕ) (a : List (List ℕ)) → slice_get accounts j ≡ Some a → IsListed account_text accounts (account_text a)
+listed_at : (accounts : List (List (List ℕ))) (j : ℕ) (a : List (List ℕ)) → slice_get accounts j ≡ Some a
+    → IsListed account_text accounts (account_text a)
 listed_at [] j a at = absurd cc
 listed_at (x ∷ xs) zero a at = inl (ap account_text (same_Some x a at))
 listed_at (x ∷ xs) (suc j) a at = inr (listed_at xs j a at)
 
-pub value_listed : (c : Account) (v : List ℕ) → field_domain (fields.Account c) v → (place : ℕ) × (account : List (List ℕ)) × IsListedAt (fields.Account c) v place account
+pub value_listed : (c : Account) (v : List ℕ) → field_domain (fields.Account c) v
+    → (place : ℕ) × (account : List (List ℕ)) × IsListedAt (fields.Account c) v place account
 value_listed c v l =
     let s = stands c.values v l in (
       s.place,
@@ -42,17 +44,21 @@ value_listed c v l =
       record {
         listed = s.listed;
         text = s.text;
-        items = ap (λ (w : List ℕ). account_items (first_with account_text [] c.values w)) (sym s.text) ∙ ap account_items (found_is c.values s.place s.account c.each s.listed);
+        items =
+            ap (λ (w : List ℕ). account_items (first_with account_text [] c.values w)) (sym s.text)
+            ∙ ap account_items (found_is c.values s.place s.account c.each s.listed);
       },
     )
 
-pub listed_admitted : (f : Field) (place : ℕ) (account : List (List ℕ)) → slice_get (field_accounts f) place ≡ Some account → field_domain f (account_text account)
+pub listed_admitted : (f : Field) (place : ℕ) (account : List (List ℕ))
+    → slice_get (field_accounts f) place ≡ Some account → field_domain f (account_text account)
 listed_admitted (fields.Account c) place account at = listed_at c.values place account at
 listed_admitted (fields.Text c) place account at = absurd cc
 listed_admitted (fields.Bin c) place account at = absurd cc
 listed_admitted (fields.OneOf c) place account at = absurd cc
 
-pub listed_items : (f : Field) (place : ℕ) (account : List (List ℕ)) → slice_get (field_accounts f) place ≡ Some account → IsListedAt f (account_text account) place account
+pub listed_items : (f : Field) (place : ℕ) (account : List (List ℕ))
+    → slice_get (field_accounts f) place ≡ Some account → IsListedAt f (account_text account) place account
 listed_items (fields.Account c) place account at = record { listed = at; text = refl; items = ap account_items (found_is c.values place account c.each at) }
 listed_items (fields.Text c) place account at = absurd cc
 listed_items (fields.Bin c) place account at = absurd cc
@@ -64,7 +70,8 @@ no_accounts : (accounts : List (List (List ℕ))) → 1 ≤ length accounts → 
 no_accounts [] some e = absurd (omega arith)
 no_accounts (a ∷ more) some e = absurd cc
 
-pub one_item : (f : Field) (v : List ℕ) → field_accounts f ≡ [] → (i : OwnedItem) × (field_items f v ≡ i ∷ []) × (item_value i ≡ v)
+pub one_item : (f : Field) (v : List ℕ) → field_accounts f ≡ []
+    → (i : OwnedItem) × (field_items f v ≡ i ∷ []) × (item_value i ≡ v)
 one_item (fields.Text c) v none = (item.Text v, refl, refl)
 one_item (fields.Bin c) v none = (item.Bin v, refl, refl)
 one_item (fields.OneOf c) v none = (item.Text v, refl, refl)
@@ -94,7 +101,8 @@ empty_shortest (fields.Account c) h = none_left _ (shortest_least account_text l
 few_left : (v : List ℕ) (n : ℕ) → text_len v ≤ n → n ≡ 0 → v ≡ []
 few_left v n le none = let low = text_len-low v in none_left v (omega arith)
 
-pub longest_alone : (f : Field) (v : List ℕ) → field_domain f v → field_written f (field_longest f) ≡ 0 → v ≡ []
+pub longest_alone : (f : Field) (v : List ℕ) → field_domain f v → field_written f (field_longest f) ≡ 0
+    → v ≡ []
 longest_alone (fields.Text c) v h none = few_left v (text_len (replicate c.max (longest_character c.alphabet))) (text_most c.alphabet c.min c.max v h) none
 longest_alone (fields.Bin c) v h none = let long = binary_length (replicate c.max 255) in absurd (omega arith)
 longest_alone (fields.OneOf c) v h none = few_left v (text_len (first_longest text_len [] c.values)) (longest_most (λ x. x) text_len [] c.values v h) none

@@ -6,7 +6,8 @@ use Rattle.fints_script_fields.specs.ListedLaws.{IsFirstOfGreatest, IsFirstOfLea
 
 -- sizes of texts
 module _ {X : Type 0} (text : X → List ℕ) (size : List ℕ → ℕ) where
-  pub greatest_text : (xs : List X) (best : X) → IsFirstOfGreatest (λ x. size (text x)) xs best → IsFirstOfGreatest size (map text xs) (text best)
+  pub greatest_text : (xs : List X) (best : X) → IsFirstOfGreatest (λ x. size (text x)) xs best
+      → IsFirstOfGreatest size (map text xs) (text best)
   greatest_text xs best f = record {
     before = map text f.before;
     after = map text f.after;
@@ -15,7 +16,8 @@ module _ {X : Type 0} (text : X → List ℕ) (size : List ℕ → ℕ) where
     later = All-map (λ t. size t ≤ size (text best)) text f.after f.later;
   }
 
-  pub least_text : (xs : List X) (best : X) → IsFirstOfLeast (λ x. size (text x)) xs best → IsFirstOfLeast size (map text xs) (text best)
+  pub least_text : (xs : List X) (best : X) → IsFirstOfLeast (λ x. size (text x)) xs best
+      → IsFirstOfLeast size (map text xs) (text best)
   least_text xs best f = record {
     before = map text f.before;
     after = map text f.after;

@@ -7,5 +7,6 @@ at_most : {X : Type 0} → (f : X → ℕ) (n : ℕ) (xs : List X) → All (λ x
 at_most f n [] h = omega arith
 at_most f n (x ∷ xs) h = let a : f x ≤ n = All-head (λ y. f y ≤ n) x xs h in let b = at_most f n xs (All-tail (λ y. f y ≤ n) x xs h) in omega arith
 
-pub few_items : (accounts : List (List (List ℕ))) → All IsAccountList accounts → greatest (map length accounts) ≤ 6
+pub few_items : (accounts : List (List (List ℕ))) → All IsAccountList accounts
+    → greatest (map length accounts) ≤ 6
 few_items accounts each = at_most length 6 accounts (λ k d lt. (each k d lt).few)

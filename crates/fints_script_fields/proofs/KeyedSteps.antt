@@ -43,23 +43,34 @@ module _ {X : Type 0} (text : X → List ℕ) (count : X → ℕ) where
 
   own_key : (x : X) (k : Key) → k.0.now ≡ text x → k.1 ≡ count x → has_key k x ≡ true
   own_key x k text_is count_is =
-      and_from (bytes_eq (text x) k.0.now) (eqb (count x) k.1) ((bytes_eq-Decides (text x) k.0.now).1 (sym text_is)) ((Decides-eqb (count x) k.1).1 (sym count_is))
+      and_from (bytes_eq (text x) k.0.now) (eqb (count x) k.1)
+      ((bytes_eq-Decides (text x) k.0.now).1 (sym text_is)) ((Decides-eqb (count x) k.1).1 (sym count_is))
 
   -- one more key
-  pub keys_more : (xs : List X) (i : ℕ) (x : X) (k : Key) (old new : Key → Bool) → i < length xs → x ≡ get_or xs i x → k.0.now ≡ text x → k.1 ≡ count x
-      → HoldsKeys (take i xs) old → ((q : Key) → new q ≡ cond (is_eq (key_cmp k q)) true (old q)) → HoldsKeys (take (i + 1) xs) new
+  pub keys_more : (xs : List X) (i : ℕ) (x : X) (k : Key) (old new : Key → Bool) → i < length xs
+      → x ≡ get_or xs i x → k.0.now ≡ text x → k.1 ≡ count x
+      → HoldsKeys (take i xs) old → ((q : Key) → new q ≡ cond (is_eq (key_cmp k q)) true (old q))
+      → HoldsKeys (take (i + 1) xs) new
   keys_more xs i x k old new lt at text_is count_is holds updates q =
       let same : has_key q x ≡ is_eq (key_cmp k q) = rw (← text_is, ← count_is) (both_tied _ _ _ _ (texts_ties k.0.now q.0.now) (unsigned_ties k.1 q.1)) in
-      let more : list_any (has_key q) (take (i + 1) xs) ≡ (list_any (has_key q) (take i xs) || has_key q (get_or xs i x)) = list_any_more (has_key q) xs i x lt in
-      updates q ∙ cond_or (is_eq (key_cmp k q)) (old q) ∙ sym (more ∙ ap (λ (y : X). list_any (has_key q) (take i xs) || has_key q y) (sym at) ∙ ap (λ (b : Bool). list_any (has_key q) (take i xs) || b) same ∙ ap (λ (b : Bool). b || is_eq (key_cmp k q)) (sym (holds q)))
+      let more : list_any (has_key q)
+      (take (i + 1) xs) ≡ (list_any (has_key q) (take i xs) || has_key q (get_or xs i x)) =
+      list_any_more (has_key q) xs i x lt in
+      updates q ∙ cond_or (is_eq (key_cmp k q)) (old q)
+      ∙ sym (more ∙ ap (λ (y : X). list_any (has_key q) (take i xs) || has_key q y) (sym at)
+      ∙ ap (λ (b : Bool). list_any (has_key q) (take i xs) || b) same
+      ∙ ap (λ (b : Bool). b || is_eq (key_cmp k q)) (sym (holds q)))
 
   -- a value whose key isn't found isn't among these
-  pub unfound : (xs : List X) (x : X) (k : Key) (found : Key → Bool) → k.0.now ≡ text x → k.1 ≡ count x → HoldsKeys xs found → found k ≡ false → Contains xs x → ⊥
+  pub unfound : (xs : List X) (x : X) (k : Key) (found : Key → Bool) → k.0.now ≡ text x → k.1 ≡ count x
+      → HoldsKeys xs found → found k ≡ false → Contains xs x → ⊥
   unfound xs x k found text_is count_is holds none (j, lt, at) =
       false≢true (sym none ∙ holds k ∙ list_any-from_Any (has_key k) xs (j, x, lt, at, own_key x k text_is count_is))
 
   -- a value whose key is found among those before it is equal to one of them, where text and number tell a value
-  pub found_twice : ((a b : X) → text a ≡ text b → count a ≡ count b → a ≡ b) → (xs : List X) (i : ℕ) (x : X) (k : Key) (found : Key → Bool) → i < length xs → x ≡ get_or xs i x → k.0.now ≡ text x → k.1 ≡ count x
+  pub found_twice : ((a b : X) → text a ≡ text b → count a ≡ count b → a ≡ b)
+      → (xs : List X) (i : ℕ) (x : X) (k : Key) (found : Key → Bool) → i < length xs → x ≡ get_or xs i x
+      → k.0.now ≡ text x → k.1 ≡ count x
       → HoldsKeys (take i xs) found → found k ≡ true → AllPairs (λ u v. u ≢ v) xs → ⊥
   found_twice told xs i x k found lt at text_is count_is holds some apart =
       let one = Any-from_list_any (has_key k) (take i xs) (sym (holds k) ∙ some) in

@@ -44,7 +44,9 @@ one_oneof c d same =
 
 pub one_account : (c d : Account) → c.values ≡ d.values → c ≡ d
 one_account c d same =
-    let longest : c.most_written ≡ d.most_written = c.most ∙ ap (λ (vs : List (List (List ℕ))). account_len (first_longest account_len [] vs)) same ∙ sym d.most in
+    let longest : c.most_written ≡ d.most_written =
+    c.most ∙ ap (λ (vs : List (List (List ℕ))). account_len (first_longest account_len [] vs)) same
+    ∙ sym d.most in
     let largest : c.most_items ≡ d.most_items = c.items ∙ ap (λ (vs : List (List (List ℕ))). greatest (map length vs)) same ∙ sym d.items in
     λ i. record {
       values = same i;

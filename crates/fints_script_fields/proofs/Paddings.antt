@@ -6,7 +6,8 @@ use Rattle.std.proofs.Math.Seq.{drop-append_seam, take-append_seam}
 use Rattle.fints_script_fields.specs.Names.{IsName}
 use Rattle.fints_script_fields.specs.NameFields.{IsPadded}
 
-pub padded : (text : List ℕ) → IsName text → IsPadded (record { bytes = text ++ drop (length text) (replicate 40 0); len = length text })
+pub padded : (text : List ℕ) → IsName text
+    → IsPadded (record { bytes = text ++ drop (length text) (replicate 40 0); len = length text })
 padded text h =
     let zeros : drop (length text) (replicate 40 0) ≡ replicate (40 - length text) 0 = drop-replicate (length text) 40 0 in
     record {

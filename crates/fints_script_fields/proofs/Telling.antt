@@ -10,7 +10,8 @@ use Rattle.fints_script_fields.specs.TextLaws.{text_tells}
 use Rattle.fints_script_fields.specs.Listed.{IsAccountList, account_text, first_with}
 
 -- the first account with a listed account's text is that account
-pub found_is : (xs : List (List (List ℕ))) (j : ℕ) (a : List (List ℕ)) → All IsAccountList xs → slice_get xs j ≡ Some a → first_with account_text [] xs (account_text a) ≡ a
+pub found_is : (xs : List (List (List ℕ))) (j : ℕ) (a : List (List ℕ)) → All IsAccountList xs
+    → slice_get xs j ≡ Some a → first_with account_text [] xs (account_text a) ≡ a
 found_is [] j a each at = absurd cc
 found_is (x ∷ xs) zero a each at =
     let same : x ≡ a = same_Some x a at in
@@ -24,7 +25,8 @@ found_is (x ∷ xs) (suc j) a each at =
       | inr h ↦ rw h (found_is xs j a (All-tail IsAccountList x xs each) at)
     ]
   where
-    there : (xs : List (List (List ℕ))) (j : ℕ) (a : List (List ℕ)) → All IsAccountList xs → slice_get xs j ≡ Some a → IsAccountList a
+    there : (xs : List (List (List ℕ))) (j : ℕ) (a : List (List ℕ)) → All IsAccountList xs
+        → slice_get xs j ≡ Some a → IsAccountList a
     there [] j a each at = absurd cc
     there (x ∷ xs) zero a each at = subst IsAccountList (same_Some x a at) (All-head IsAccountList x xs each)
     there (x ∷ xs) (suc j) a each at = there xs j a (All-tail IsAccountList x xs each) at

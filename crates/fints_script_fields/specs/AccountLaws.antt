@@ -15,7 +15,9 @@ IsListedSomewhere f v = (place : ℕ) × (account : List (List ℕ)) × IsListed
 
 -- the text of each listed account is a value of the field
 abbrev pub ListedAreAdmitted : Type 0
-ListedAreAdmitted = (f : Field) (place : ℕ) (account : List (List ℕ)) → slice_get (field_accounts f) place ≡ Some account → field_domain f (account_text account)
+ListedAreAdmitted =
+    (f : Field) (place : ℕ) (account : List (List ℕ)) → slice_get (field_accounts f) place ≡ Some account
+    → field_domain f (account_text account)
 
 -- and stands as that account's items
 abbrev pub ListedStandAsItems : Type 0

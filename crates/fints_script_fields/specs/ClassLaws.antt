@@ -62,7 +62,9 @@ IsBare b = length (unit_bytes (written_unit b)) ≡ 1
 
 text_len-bare : (v : List ℕ) → All IsBare v → text_len v ≡ length v
 text_len-bare [] h = refl
-text_len-bare (b ∷ bs) h = let e = text_len-cons b bs in let one : length (unit_bytes (written_unit b)) ≡ 1 = All-head IsBare b bs h in let ih = text_len-bare bs (All-tail IsBare b bs h) in omega arith
+text_len-bare (b ∷ bs) h =
+    let e = text_len-cons b bs in let one : length (unit_bytes (written_unit b)) ≡ 1 = All-head IsBare b bs
+    h in let ih = text_len-bare bs (All-tail IsBare b bs h) in omega arith
 
 bare : (b : ℕ) → (is_separator b || eqb b 63 || eqb b 64) ≡ false → IsBare b
 bare b h = rw h refl

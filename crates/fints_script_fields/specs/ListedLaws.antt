@@ -63,14 +63,46 @@ module _ {X : Type 0} (size : X → ℕ) where
             let lt : size best < size x = grind (arith, nat_tests) in
             let P : X → Type 0 = Best best (x ∷ xs) in
             rw h (elim (best_of x xs) [
-              | inl (e, all) ↦ subst P (sym e) (inr (record { before = []; after = xs; place = refl; earlier = All-nil (λ y. size y < size x); rise = lt; later = all }))
-              | inr m ↦ inr (record { before = x ∷ m.before; after = m.after; place = ap (λ l. x ∷ l) m.place; earlier = All-cons (λ y. size y < size (longest_from size x xs)) x m.before m.rise m.earlier; rise = omega (arith, m.rise); later = m.later })
+              | inl (e, all) ↦
+                  subst P (sym e)
+                  (inr
+                  (record {
+                    before = [];
+                    after = xs;
+                    place = refl;
+                    earlier = All-nil (λ y. size y < size x);
+                    rise = lt;
+                    later = all;
+                  }))
+              | inr m ↦
+                  inr
+                  (record {
+                    before = x ∷ m.before;
+                    after = m.after;
+                    place = ap (λ l. x ∷ l) m.place;
+                    earlier =
+                        All-cons (λ y. size y < size (longest_from size x xs)) x m.before m.rise
+                        m.earlier;
+                    rise = omega (arith, m.rise);
+                    later = m.later;
+                  })
             ])
         | inr h ↦
             let le : size x ≤ size best = grind (arith, nat_tests) in
             rw h (elim (best_of best xs) [
               | inl (e, all) ↦ inl (e, All-cons (λ y. size y ≤ size best) x xs le all)
-              | inr m ↦ inr (record { before = x ∷ m.before; after = m.after; place = ap (λ l. x ∷ l) m.place; earlier = All-cons (λ y. size y < size (longest_from size best xs)) x m.before (omega (arith, m.rise)) m.earlier; rise = m.rise; later = m.later })
+              | inr m ↦
+                  inr
+                  (record {
+                    before = x ∷ m.before;
+                    after = m.after;
+                    place = ap (λ l. x ∷ l) m.place;
+                    earlier =
+                        All-cons (λ y. size y < size (longest_from size best xs)) x m.before
+                        (omega (arith, m.rise)) m.earlier;
+                    rise = m.rise;
+                    later = m.later;
+                  })
             ])
       ]
 
@@ -79,7 +111,14 @@ module _ {X : Type 0} (size : X → ℕ) where
       let P : X → Type 0 = IsFirstOfGreatest size (x ∷ xs) in
       elim (best_of x xs) [
         | inl (e, all) ↦ subst P (sym e) (record { before = []; after = xs; place = refl; earlier = All-nil (λ y. size y < size x); later = all })
-        | inr m ↦ record { before = x ∷ m.before; after = m.after; place = ap (λ l. x ∷ l) m.place; earlier = All-cons (λ y. size y < size (longest_from size x xs)) x m.before m.rise m.earlier; later = m.later }
+        | inr m ↦
+            record {
+              before = x ∷ m.before;
+              after = m.after;
+              place = ap (λ l. x ∷ l) m.place;
+              earlier = All-cons (λ y. size y < size (longest_from size x xs)) x m.before m.rise m.earlier;
+              later = m.later;
+            }
       ]
 
   -- the same for the least
@@ -102,14 +141,46 @@ module _ {X : Type 0} (size : X → ℕ) where
             let lt : size x < size best = grind (arith, nat_tests) in
             let P : X → Type 0 = Least best (x ∷ xs) in
             rw h (elim (least_of x xs) [
-              | inl (e, all) ↦ subst P (sym e) (inr (record { before = []; after = xs; place = refl; earlier = All-nil (λ y. size x < size y); fall = lt; later = all }))
-              | inr m ↦ inr (record { before = x ∷ m.before; after = m.after; place = ap (λ l. x ∷ l) m.place; earlier = All-cons (λ y. size (shortest_from size x xs) < size y) x m.before m.fall m.earlier; fall = omega (arith, m.fall); later = m.later })
+              | inl (e, all) ↦
+                  subst P (sym e)
+                  (inr
+                  (record {
+                    before = [];
+                    after = xs;
+                    place = refl;
+                    earlier = All-nil (λ y. size x < size y);
+                    fall = lt;
+                    later = all;
+                  }))
+              | inr m ↦
+                  inr
+                  (record {
+                    before = x ∷ m.before;
+                    after = m.after;
+                    place = ap (λ l. x ∷ l) m.place;
+                    earlier =
+                        All-cons (λ y. size (shortest_from size x xs) < size y) x m.before m.fall
+                        m.earlier;
+                    fall = omega (arith, m.fall);
+                    later = m.later;
+                  })
             ])
         | inr h ↦
             let le : size best ≤ size x = grind (arith, nat_tests) in
             rw h (elim (least_of best xs) [
               | inl (e, all) ↦ inl (e, All-cons (λ y. size best ≤ size y) x xs le all)
-              | inr m ↦ inr (record { before = x ∷ m.before; after = m.after; place = ap (λ l. x ∷ l) m.place; earlier = All-cons (λ y. size (shortest_from size best xs) < size y) x m.before (omega (arith, m.fall)) m.earlier; fall = m.fall; later = m.later })
+              | inr m ↦
+                  inr
+                  (record {
+                    before = x ∷ m.before;
+                    after = m.after;
+                    place = ap (λ l. x ∷ l) m.place;
+                    earlier =
+                        All-cons (λ y. size (shortest_from size best xs) < size y) x m.before
+                        (omega (arith, m.fall)) m.earlier;
+                    fall = m.fall;
+                    later = m.later;
+                  })
             ])
       ]
 
@@ -118,7 +189,14 @@ module _ {X : Type 0} (size : X → ℕ) where
       let P : X → Type 0 = IsFirstOfLeast size (x ∷ xs) in
       elim (least_of x xs) [
         | inl (e, all) ↦ subst P (sym e) (record { before = []; after = xs; place = refl; earlier = All-nil (λ y. size x < size y); later = all })
-        | inr m ↦ record { before = x ∷ m.before; after = m.after; place = ap (λ l. x ∷ l) m.place; earlier = All-cons (λ y. size (shortest_from size x xs) < size y) x m.before m.fall m.earlier; later = m.later }
+        | inr m ↦
+            record {
+              before = x ∷ m.before;
+              after = m.after;
+              place = ap (λ l. x ∷ l) m.place;
+              earlier = All-cons (λ y. size (shortest_from size x xs) < size y) x m.before m.fall m.earlier;
+              later = m.later;
+            }
       ]
 
 -- ---- the first that passes
@@ -144,7 +222,9 @@ first_passes {X} q before after best fails earlier here later =
       | inl all ↦ absurd (false≢true (sym no ∙ middle (λ y. q x y ≡ true) before after best (AllPass-from_list_all (q x) xs all)))
       | inr not_all ↦ not_all
     ]) before fails)
-    (list_all-from_AllPass (q best) xs (All-append (λ y. q best y ≡ true) before (best ∷ after) earlier (All-cons (λ y. q best y ≡ true) best after here later)))
+    (list_all-from_AllPass (q best) xs
+    (All-append (λ y. q best y ≡ true) before (best ∷ after) earlier
+    (All-cons (λ y. q best y ≡ true) best after here later)))
 
 module _ {X : Type 0} (size : X → ℕ) where
   no_more : (x y : X) → size x ≤ size y → leb (size x) (size y) ≡ true
@@ -295,7 +375,8 @@ account_found (a ∷ more) v (inr l) =
     ]
 
 -- what holds of each listed value holds of the one that is found
-found : {X : Type 0} → (text : X → List ℕ) (P : X → Type 0) (none : X) (xs : List X) (v : List ℕ) → All P xs → IsListed text xs v → P (first_with text none xs v)
+found : {X : Type 0} → (text : X → List ℕ) (P : X → Type 0) (none : X) (xs : List X) (v : List ℕ) → All P xs
+    → IsListed text xs v → P (first_with text none xs v)
 found text P none [] v each l = absurd l
 found text P none (x ∷ xs) v each l =
     elim (cases_Bool (bytes_eq (text x) v)) [
@@ -303,20 +384,25 @@ found text P none (x ∷ xs) v each l =
       | inr h ↦ rw h (found text P none xs v (All-tail P x xs each) (elim l [ inl e ↦ absurd (bytes_other (text x) v h e) | inr m ↦ m ]))
     ]
 
-pub account_some : (accounts : List (List (List ℕ))) (v : List ℕ) → All IsAccountList accounts → IsListed account_text accounts v → 0 < length (account_items (first_with account_text [] accounts v))
+pub account_some : (accounts : List (List (List ℕ))) (v : List ℕ) → All IsAccountList accounts
+    → IsListed account_text accounts v → 0 < length (account_items (first_with account_text [] accounts v))
 account_some accounts v each l =
     let a = found account_text IsAccountList [] accounts v each l in
     omega (arith, a.some, length-map (first_with account_text [] accounts v) Text)
 
-pub account_as_items : (accounts : List (List (List ℕ))) (v : List ℕ) → IsListed account_text accounts v → length v ≡ length (joined (account_items (first_with account_text [] accounts v)))
+pub account_as_items : (accounts : List (List (List ℕ))) (v : List ℕ) → IsListed account_text accounts v
+    → length v ≡ length (joined (account_items (first_with account_text [] accounts v)))
 account_as_items accounts v l = ap length (sym (account_found accounts v l))
 
 -- no number is above the greatest
 below_greatest : {X : Type 0} → (f : X → ℕ) (xs : List X) → All (λ x. f x ≤ greatest (map f xs)) xs
 below_greatest f [] = All-nil (λ x. f x ≤ 0)
-below_greatest f (x ∷ xs) = All-cons (λ y. f y ≤ max (f x) (greatest (map f xs))) x xs (omega arith) (λ k d lt. let ih = below_greatest f xs k d lt in omega arith)
+below_greatest f (x ∷ xs) =
+    All-cons (λ y. f y ≤ max (f x) (greatest (map f xs))) x xs (omega arith)
+    (λ k d lt. let ih = below_greatest f xs k d lt in omega arith)
 
-pub account_most : (accounts : List (List (List ℕ))) (v : List ℕ) → IsListed account_text accounts v → length (account_items (first_with account_text [] accounts v)) ≤ greatest (map length accounts)
+pub account_most : (accounts : List (List (List ℕ))) (v : List ℕ) → IsListed account_text accounts v
+    → length (account_items (first_with account_text [] accounts v)) ≤ greatest (map length accounts)
 account_most accounts v l =
     let a = found account_text (λ a. length a ≤ greatest (map length accounts)) [] accounts v (below_greatest length accounts) l in
     omega (arith, a, length-map (first_with account_text [] accounts v) Text)

@@ -24,7 +24,10 @@ cond_or false false = refl
 
 -- a name more
 pub names_more : (names : List (List ℕ)) (name : List ℕ) (old new : BTreeSet (List ℕ)) → HoldsNames names old
-    → ((q : List ℕ) → contains (slice_cmp nat_cmp) new q ≡ cond (is_eq (slice_cmp nat_cmp name q)) true (contains (slice_cmp nat_cmp) old q)) → HoldsNames (names ++ name ∷ []) new
+    → ((q : List ℕ)
+    → contains (slice_cmp nat_cmp) new q ≡ cond (is_eq (slice_cmp nat_cmp name q)) true
+    (contains (slice_cmp nat_cmp) old q))
+    → HoldsNames (names ++ name ∷ []) new
 names_more names name old new holds updates q =
     updates q
     ∙ ap (λ (b : Bool). cond b true (contains (slice_cmp nat_cmp) old q)) (is_eq-slice_cmp name q)
@@ -52,7 +55,9 @@ module _ {X : Type 0} (name_of : X → List ℕ) where
       ]
 
   -- a name that the set lacks is new
-  pub lacked_is_new : (xs : List X) (name : List ℕ) (set : BTreeSet (List ℕ)) (lacked : Bool) → HoldsNames (map name_of xs) set → lacked ≡ not (contains (slice_cmp nat_cmp) set name) → IsTrue lacked ↔ All (λ x. name_of x ≢ name) xs
+  pub lacked_is_new : (xs : List X) (name : List ℕ) (set : BTreeSet (List ℕ)) (lacked : Bool)
+      → HoldsNames (map name_of xs) set → lacked ≡ not (contains (slice_cmp nat_cmp) set name) → IsTrue lacked
+      ↔ All (λ x. name_of x ≢ name) xs
   lacked_is_new xs name set lacked holds is =
       let same : lacked ≡ not (list_any (λ n. bytes_eq n name) (map name_of xs)) = is ∙ ap not (holds name) in
       let by = unlisted_is_new xs name in (λ t. by.0 (not-true _ (sym same ∙ t)), λ h. same ∙ ap not (by.1 h))

@@ -32,11 +32,17 @@ one_unit : (c d : ℕ) (p q : List ℕ) → U c ++ p ≡ U d ++ q → (c ≡ d) 
 one_unit c d p q e =
     elim (unit_cases c) [
       | inl ec ↦ elim (unit_cases d) [
-        | inl ed ↦ let e' : 63 ∷ c ∷ p ≡ 63 ∷ d ∷ q = sym (ap (λ (u : List ℕ). u ++ p) ec) ∙ (e ∙ ap (λ (u : List ℕ). u ++ q) ed) in heads c d p q (heads 63 63 (c ∷ p) (d ∷ q) e').1
-        | inr pd ↦ let e' : 63 ∷ c ∷ p ≡ d ∷ q = sym (ap (λ (u : List ℕ). u ++ p) ec) ∙ (e ∙ ap (λ (u : List ℕ). u ++ q) pd.0) in absurd (pd.2 (sym (heads 63 d (c ∷ p) q e').0))
+        | inl ed ↦
+            let e' : 63 ∷ c ∷ p ≡ 63 ∷ d ∷ q = sym (ap (λ (u : List ℕ). u ++ p) ec)
+            ∙ (e ∙ ap (λ (u : List ℕ). u ++ q) ed) in heads c d p q (heads 63 63 (c ∷ p) (d ∷ q) e').1
+        | inr pd ↦
+            let e' : 63 ∷ c ∷ p ≡ d ∷ q = sym (ap (λ (u : List ℕ). u ++ p) ec)
+            ∙ (e ∙ ap (λ (u : List ℕ). u ++ q) pd.0) in absurd (pd.2 (sym (heads 63 d (c ∷ p) q e').0))
       ]
       | inr pc ↦ elim (unit_cases d) [
-        | inl ed ↦ let e' : c ∷ p ≡ 63 ∷ d ∷ q = sym (ap (λ (u : List ℕ). u ++ p) pc.0) ∙ (e ∙ ap (λ (u : List ℕ). u ++ q) ed) in absurd (pc.2 (heads c 63 p (d ∷ q) e').0)
+        | inl ed ↦
+            let e' : c ∷ p ≡ 63 ∷ d ∷ q = sym (ap (λ (u : List ℕ). u ++ p) pc.0)
+            ∙ (e ∙ ap (λ (u : List ℕ). u ++ q) ed) in absurd (pc.2 (heads c 63 p (d ∷ q) e').0)
         | inr pd ↦ let e' : c ∷ p ≡ d ∷ q = sym (ap (λ (u : List ℕ). u ++ p) pc.0) ∙ (e ∙ ap (λ (u : List ℕ). u ++ q) pd.0) in heads c d p q e'
       ]
     ]

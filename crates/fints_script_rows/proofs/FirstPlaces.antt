@@ -30,7 +30,8 @@ module _ {X : Type 0} (p : X → Bool) where
       ]
 
   -- with one more at the end
-  place_push : (xs : List X) (y : X) → position p (xs ++ y ∷ []) ≡ first_place (position p xs) (p y) (length xs)
+  place_push : (xs : List X) (y : X)
+      → position p (xs ++ y ∷ []) ≡ first_place (position p xs) (p y) (length xs)
   place_push xs y =
       let le = within xs in
       let longer = length_push xs y in
@@ -41,14 +42,17 @@ module _ {X : Type 0} (p : X → Bool) where
       ]
 
   -- with the item at i
-  pub place_more : (xs : List X) (i : ℕ) (d : X) (o : Option ℕ) → i < length xs → o ≡ position p (take i xs) → first_place o (p (get_or xs i d)) i ≡ position p (take (i + 1) xs)
+  pub place_more : (xs : List X) (i : ℕ) (d : X) (o : Option ℕ) → i < length xs → o ≡ position p (take i xs)
+      → first_place o (p (get_or xs i d)) i ≡ position p (take (i + 1) xs)
   place_more xs i d o here is =
       ap (λ (q : Option ℕ). first_place q (p (get_or xs i d)) i) is
       ∙ ap (first_place (position p (take i xs)) (p (get_or xs i d))) (sym (length-take-le i xs (omega arith)))
       ∙ sym (ap (position p) (take_more xs i d here) ∙ place_push (take i xs) (get_or xs i d))
 
   -- one of the first n passes where the first that passes is one of them
-  pub any_before : (n : ℕ) (xs : List X) → list_any p (take n xs) ≡ (nat_lt (position_or_len p xs) n && nat_lt (position_or_len p xs) (length xs))
+  pub any_before : (n : ℕ) (xs : List X)
+      → list_any p
+      (take n xs) ≡ (nat_lt (position_or_len p xs) n && nat_lt (position_or_len p xs) (length xs))
   any_before zero xs = grind (arith, nat_tests)
   any_before (suc n) [] = grind (arith, nat_tests)
   any_before (suc n) (x ∷ xs) =
@@ -87,7 +91,10 @@ module _ {X : Type 0} (p : X → Bool) where
 
   pub before_none : (xs : List X) (n : ℕ) → position p xs ≡ None → list_any p (take n xs) ≡ false
   before_none xs n h =
-      any_before n xs ∙ ap (λ b. nat_lt (position_or_len p xs) n && b) (at_none (nat_lt (position_or_len p xs) (length xs)) (position_or_len p xs) h) ∙ never (nat_lt (position_or_len p xs) n)
+      any_before n xs
+      ∙ ap (λ b. nat_lt (position_or_len p xs) n && b)
+      (at_none (nat_lt (position_or_len p xs) (length xs)) (position_or_len p xs) h)
+      ∙ never (nat_lt (position_or_len p xs) n)
     where
       never : (b : Bool) → (b && false) ≡ false
       never true = refl
@@ -114,17 +121,22 @@ turned a b false h = elim (cases_Bool (bytes_eq b a)) [
 ]
 
 -- what a map has, in which a name is noted that was not there
-pub noted : (found now : List ℕ → Option ℕ) (name : List ℕ) (i : ℕ) → is_some (found name) ≡ false → ((q : List ℕ) → now q ≡ cond (bytes_eq name q) (Some i) (found q)) → (q : List ℕ) → now q ≡ first_place (found q) (bytes_eq q name) i
+pub noted : (found now : List ℕ → Option ℕ) (name : List ℕ) (i : ℕ) → is_some (found name) ≡ false
+    → ((q : List ℕ) → now q ≡ cond (bytes_eq name q) (Some i) (found q)) → (q : List ℕ)
+    → now q ≡ first_place (found q) (bytes_eq q name) i
 noted found now name i new updates q = elim (cases_Bool (bytes_eq name q)) [
   | inl same ↦
       let gone : is_some (found q) ≡ false = ap (λ n. is_some (found n)) (sym ((bytes_eq-Decides name q).0 same)) ∙ new in
-      updates q ∙ ap (λ t. cond t (Some i) (found q)) same ∙ sym (ap (λ t. cond t (found q) (cond (bytes_eq q name) (Some i) None)) gone ∙ ap (λ t. cond t (Some i) None) (turned name q true same))
+      updates q ∙ ap (λ t. cond t (Some i) (found q)) same
+      ∙ sym (ap (λ t. cond t (found q) (cond (bytes_eq q name) (Some i) None)) gone
+      ∙ ap (λ t. cond t (Some i) None) (turned name q true same))
   | inr other ↦
       updates q ∙ ap (λ t. cond t (Some i) (found q)) other ∙ sym (ap (λ t. first_place (found q) t i) (turned name q false other) ∙ nameless (found q) i)
 ]
 
 -- and one in which it was there
-pub not_noted : (found : List ℕ → Option ℕ) (name : List ℕ) (i : ℕ) → is_some (found name) ≡ true → (q : List ℕ) → found q ≡ first_place (found q) (bytes_eq q name) i
+pub not_noted : (found : List ℕ → Option ℕ) (name : List ℕ) (i : ℕ) → is_some (found name) ≡ true
+    → (q : List ℕ) → found q ≡ first_place (found q) (bytes_eq q name) i
 not_noted found name i known q = elim (cases_Bool (bytes_eq q name)) [
   | inl same ↦
       let there : is_some (found q) ≡ true = ap (λ n. is_some (found n)) ((bytes_eq-Decides q name).0 same) ∙ known in
@@ -176,7 +188,9 @@ not_named q (datetime i) h = refl
 not_named q (array i) h = refl
 
 -- the first row of a name, with the row at i
-pub row_more : (rows : List Value) (i : ℕ) (d : Value) (q : List ℕ) (o : Option ℕ) (has : Bool) → i < length rows → is_named q (view (get_or rows i d)) ≡ has → o ≡ position (is_named q) (take i (map view rows))
+pub row_more : (rows : List Value) (i : ℕ) (d : Value) (q : List ℕ) (o : Option ℕ) (has : Bool)
+    → i < length rows → is_named q (view (get_or rows i d)) ≡ has
+    → o ≡ position (is_named q) (take i (map view rows))
     → first_place o has i ≡ position (is_named q) (take (i + 1) (map view rows))
 row_more rows i d q o has here named so_far =
     ap (λ t. first_place o t i) (sym named ∙ ap (is_named q) (sym (get_or-map view rows i d (view d) here)))
@@ -185,7 +199,8 @@ row_more rows i d q o has here named so_far =
 -- ---- names of fields
 
 -- a text that is no name is that of no field
-pub no_field : (fields : List NamedField) (text : List ℕ) → (IsName text → ⊥) → AreNamed fields → place_of_field fields text ≡ None
+pub no_field : (fields : List NamedField) (text : List ℕ) → (IsName text → ⊥) → AreNamed fields
+    → place_of_field fields text ≡ None
 no_field fields text bad named =
     nowhere (is_field_named text) fields
     (λ i d lt. elim (cases_Bool (bytes_eq text (get_or fields i d).name)) [
@@ -193,6 +208,7 @@ no_field fields text bad named =
       | inr other ↦ other
     ])
 
-pub named_more : (fields : List NamedField) (i : ℕ) (d : NamedField) → i < length fields → AreNamed (take i fields) → IsName (get_or fields i d).name → AreNamed (take (i + 1) fields)
+pub named_more : (fields : List NamedField) (i : ℕ) (d : NamedField) → i < length fields
+    → AreNamed (take i fields) → IsName (get_or fields i d).name → AreNamed (take (i + 1) fields)
 named_more fields i d here before is =
     subst AreNamed (sym (take_more fields i d here)) (All-push (λ (field : NamedField). IsName field.name) (take i fields) (get_or fields i d) before is)

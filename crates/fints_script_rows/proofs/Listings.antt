@@ -29,7 +29,9 @@ module _ {X : Type 0} (same : X → X → Bool) (decides : (x y : X) → Decides
 
   all_differ : (xs : List X) → some_are_same same xs ≡ false → AllPairs (λ x y. x ≢ y) xs
   all_differ [] h = λ i j d less lt. absurd (omega (arith, lt))
-  all_differ (x ∷ xs) h = let parts = or_parts (list_any (same x) xs) (some_are_same same xs) h in AllPairs-cons (λ x y. x ≢ y) x xs (none_same x xs parts.0) (all_differ xs parts.1)
+  all_differ (x ∷ xs) h =
+      let parts = or_parts (list_any (same x) xs) (some_are_same same xs) h in AllPairs-cons (λ x y. x ≢ y) x
+      xs (none_same x xs parts.0) (all_differ xs parts.1)
 
   two_same : (xs : List X) → some_are_same same xs ≡ true → AllPairs (λ x y. x ≢ y) xs → ⊥
   two_same [] h apart = false≢true h
@@ -55,7 +57,9 @@ module _ {X : Type 0} (same : X → X → Bool) (decides : (x y : X) → Decides
     all_fit = Decides-by_and fits Fits (list_all fits) tells refl (λ _ _. refl) xs
 
     is_count : is_value_count (length xs) ≡ true → (1 ≤ length xs) × (length xs ≤ 100)
-    is_count h = let t = and_parts (ltb 0 (length xs)) (leb (length xs) 100) h in let a = t.0 in let b = t.1 in (grind (arith, nat_tests), grind (arith, nat_tests))
+    is_count h =
+        let t = and_parts (ltb 0 (length xs)) (leb (length xs) 100) h in let a = t.0 in let b = t.1 in
+        (grind (arith, nat_tests), grind (arith, nat_tests))
 
     listing_made : IsListing → listing same fits class xs ≡ Ok (class xs)
     listing_made h =
@@ -117,10 +121,15 @@ module _ (accounts : List (List (List ℕ))) (counted : All IsCounted accounts) 
   accounts_twice = listing_twice (pointwise bytes_eq) account_decides (list_all is_short) (λ x. All IsShort x) account_tells account accounts
 
   pub accounts_made : AreAccounts accounts → accounts_class accounts ≡ Ok (account accounts)
-  accounts_made h = listing_made (pointwise bytes_eq) account_decides (list_all is_short) (λ x. All IsShort x) account_tells account accounts (h.0, h.1, are_short h.2, h.3)
+  accounts_made h =
+      listing_made (pointwise bytes_eq) account_decides (list_all is_short) (λ x. All IsShort x) account_tells
+      account accounts (h.0, h.1, are_short h.2, h.3)
 
-  pub accounts_past : AllPairs (λ s t. s ≢ t) accounts → (AreAccounts accounts → ⊥) → accounts_class accounts ≡ Err kinds.Limit
-  accounts_past apart h = listing_past (pointwise bytes_eq) account_decides (list_all is_short) (λ x. All IsShort x) account_tells account accounts apart (λ p. h (p.0, p.1, are_lists p.2, p.3))
+  pub accounts_past : AllPairs (λ s t. s ≢ t) accounts → (AreAccounts accounts → ⊥)
+      → accounts_class accounts ≡ Err kinds.Limit
+  accounts_past apart h =
+      listing_past (pointwise bytes_eq) account_decides (list_all is_short) (λ x. All IsShort x) account_tells
+      account accounts apart (λ p. h (p.0, p.1, are_lists p.2, p.3))
 
 -- an account that is read has 1 to 6 texts
 counted_list : (ds : List Data) (x : List (List ℕ)) → account_of ds ≡ Ok x → IsCounted x
@@ -135,5 +144,6 @@ counted_list ds x e = elim (choice_ok (is_item_count (length ds)) (each text_in 
 ]
 
 -- accounts that are read have 1 to 6 texts each
-pub counted_accounts : (ds : List Data) (xs : List (List (List ℕ))) → each account_in ds ≡ Ok xs → All IsCounted xs
+pub counted_accounts : (ds : List Data) (xs : List (List (List ℕ))) → each account_in ds ≡ Ok xs
+    → All IsCounted xs
 counted_accounts ds xs e = each_all account_in IsCounted (λ d x h. let parts = bind_ok (entries_of d) account_of x h in counted_list parts.0 x parts.2) ds xs e

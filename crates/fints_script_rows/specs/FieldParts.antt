@@ -54,23 +54,27 @@ pub record IsField (earlier : List Data) (entry : Data) (name : List ℕ) (class
   pub new : list_any (is_named name) earlier ≡ false
   pub class_is : class_in members ≡ Ok class
 
-pub is_field : (earlier : List Data) (entry : Data) (name : List ℕ) (class : ClassValue) → field_in earlier entry ≡ Ok (name, class) → IsField earlier entry name class
+pub is_field : (earlier : List Data) (entry : Data) (name : List ℕ) (class : ClassValue)
+    → field_in earlier entry ≡ Ok (name, class) → IsField earlier entry name class
 unfolding table_field
-is_field earlier (table ms) name class e = elim (choice_ok (only_keys (field_keys (class_of ms)) ms) (both (row_name (is_taken_field earlier) ms) (class_in ms)) (Err kinds.UnknownKey) (name, class) e) [
-  | inr f ↦ absurd (let h = f.1 in cc)
-  | inl t ↦
-      let parts = both_ok (row_name (is_taken_field earlier) ms) (class_in ms) (name, class) t.1 in
-      let named = row_named (is_taken_field earlier) ms name parts.0 in
-      let new = or_parts (bytes_eq name (codes "dialog")) (list_any (is_named name) earlier) named.1 in
-      record {
-        members = ms;
-        is = refl;
-        named = named.0;
-        no_dialog = λ same. false≢true (sym new.0 ∙ (bytes_eq-Decides name (codes "dialog")).1 same);
-        new = new.1;
-        class_is = parts.1;
-      }
-]
+is_field earlier (table ms) name class e =
+    elim
+    (choice_ok (only_keys (field_keys (class_of ms)) ms)
+    (both (row_name (is_taken_field earlier) ms) (class_in ms)) (Err kinds.UnknownKey) (name, class) e) [
+      | inr f ↦ absurd (let h = f.1 in cc)
+      | inl t ↦
+          let parts = both_ok (row_name (is_taken_field earlier) ms) (class_in ms) (name, class) t.1 in
+          let named = row_named (is_taken_field earlier) ms name parts.0 in
+          let new = or_parts (bytes_eq name (codes "dialog")) (list_any (is_named name) earlier) named.1 in
+          record {
+            members = ms;
+            is = refl;
+            named = named.0;
+            no_dialog = λ same. false≢true (sym new.0 ∙ (bytes_eq-Decides name (codes "dialog")).1 same);
+            new = new.1;
+            class_is = parts.1;
+          }
+    ]
 is_field earlier (string t) name class e = absurd cc
 is_field earlier (integer z) name class e = absurd cc
 is_field earlier (float x) name class e = absurd cc

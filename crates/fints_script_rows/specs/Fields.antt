@@ -135,7 +135,9 @@ is_sized _ = true
 -- the keys that a field may have; where it has no class, those of any
 abbrev pub field_keys : Part ClassName → List (List ℕ)
 field_keys (Err kind) = codes "name" ∷ codes "class" ∷ codes "min" ∷ codes "max" ∷ codes "values" ∷ []
-field_keys (Ok class) = if is_sized class then codes "name" ∷ codes "class" ∷ codes "min" ∷ codes "max" ∷ [] else codes "name" ∷ codes "class" ∷ codes "values" ∷ []
+field_keys (Ok class) =
+    if is_sized class then codes "name" ∷ codes "class" ∷ codes "min" ∷ codes "max" ∷ [] else codes
+    "name" ∷ codes "class" ∷ codes "values" ∷ []
 
 -- the name of the built-in field, or that of an earlier row
 abbrev pub is_taken_field : List Data → List ℕ → Bool

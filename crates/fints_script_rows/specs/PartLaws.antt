@@ -123,21 +123,26 @@ near_gives see (Ok x) part (inr e) = e
 near_gives see (Err k) part (inl m) = inl (cc)
 near_gives see (Err k) part (inr e) = inr e
 
-pub seen_both : {X Y U V : Type 0} → (see : X → U) (look : Y → V) (a : Result X FaultKind) (b : Result Y FaultKind) → both (seen see a) (seen look b) ≡ seen (λ (z : X × Y). (see z.0, look z.1)) (both a b)
+pub seen_both : {X Y U V : Type 0}
+    → (see : X → U) (look : Y → V) (a : Result X FaultKind) (b : Result Y FaultKind)
+    → both (seen see a) (seen look b) ≡ seen (λ (z : X × Y). (see z.0, look z.1)) (both a b)
 seen_both see look (Ok x) (Ok y) = refl
 seen_both see look (Ok x) (Err k) = refl
 seen_both see look (Err j) (Ok y) = refl
 seen_both see look (Err j) (Err k) = refl
 
 -- what two calls give, together
-pub both_gives : {X Y U V : Type 0} → (see : X → U) (look : Y → V) (a : Result X FaultKind) (b : Result Y FaultKind) (p : Part U) (q : Part V) → Gives see a p → Gives look b q
+pub both_gives : {X Y U V : Type 0}
+    → (see : X → U) (look : Y → V) (a : Result X FaultKind) (b : Result Y FaultKind) (p : Part U) (q : Part V)
+    → Gives see a p → Gives look b q
     → Gives (λ (z : X × Y). (see z.0, look z.1)) (both a b) (both p q)
 both_gives see look a b p q h i =
     near_gives (λ z. (see z.0, look z.1)) (both a b) (both p q)
     (subst (λ r. Near r (both p q)) (seen_both see look a b) (both_near (seen see a) p (seen look b) q (near see a p h) (near look b q i)))
 
 -- what a call gives at a place
-pub placed_finds : {X Y : Type 0} → (see : X → Y) (place : Place) (r : Result X FaultKind) (part : Part Y) → Gives see r part → Finds see (placed place r) (part_at place part)
+pub placed_finds : {X Y : Type 0} → (see : X → Y) (place : Place) (r : Result X FaultKind) (part : Part Y)
+    → Gives see r part → Finds see (placed place r) (part_at place part)
 placed_finds see place (Ok x) part h = ap (part_at place) h
 placed_finds see place (Err k) part (inl m) = subst (λ j. Finds see (placed place (Err j)) (part_at place part)) (sym m) (inl refl)
 placed_finds {Y = Y} see place (Err k) part (inr e) = subst (λ (q : Part Y). Finds see (placed place (Err k)) (part_at place q)) (sym e) (at_kind k)
@@ -173,7 +178,9 @@ module _ {X : Type 0} where
   one_more (Ok x) = refl
   one_more (Err k) = refl
 
-  pub first_and_rest : (a : Part X) (others : Part (List X)) (xs : List X) → (both a others >>= λ p. Ok (p.0 ∷ p.1)) ≡ Ok xs → (x : X) × (rest : List X) × (a ≡ Ok x) × (others ≡ Ok rest) × (xs ≡ x ∷ rest)
+  pub first_and_rest : (a : Part X) (others : Part (List X)) (xs : List X)
+      → (both a others >>= λ p. Ok (p.0 ∷ p.1)) ≡ Ok xs
+      → (x : X) × (rest : List X) × (a ≡ Ok x) × (others ≡ Ok rest) × (xs ≡ x ∷ rest)
   first_and_rest (Ok x) (Ok rest) xs e = (x, rest, refl, refl, cc)
   first_and_rest (Ok x) (Err k) xs e = absurd cc
   first_and_rest (Err j) (Ok rest) xs e = absurd cc
@@ -183,7 +190,9 @@ module _ {X Y : Type 0} where
   -- the values of a list with one more element
   pub each_more : (part : Y → Part X) (ys : List Y) (y : Y) → each part (ys ++ y ∷ []) ≡ more (each part ys) (part y)
   each_more part [] y = one_more (part y)
-  each_more part (z ∷ ys) y = ap (λ (p : Part (List X)). both (part z) p >>= λ p. Ok (p.0 ∷ p.1)) (each_more part ys y) ∙ later_more (part z) (each part ys) (part y)
+  each_more part (z ∷ ys) y =
+      ap (λ (p : Part (List X)). both (part z) p >>= λ p. Ok (p.0 ∷ p.1)) (each_more part ys y)
+      ∙ later_more (part z) (each part ys) (part y)
 
   -- what holds of each value of the part holds of the values of a list
   pub each_all : (part : Y → Part X) (P : X → Type 0) → ((y : Y) (x : X) → part y ≡ Ok x → P x) → (ys : List Y) (xs : List X) → each part ys ≡ Ok xs → All P xs
@@ -199,11 +208,22 @@ module _ {X Y : Type 0} where
       ap length parts.4 ∙ ap suc (each_length part ys parts.1 parts.3)
 
 -- what a loop has of the entries so far, with one more
-pub each_step : {V X : Type 0} → (see : V → List X) (part : Data → Part X) (vs : List Value) (i : ℕ) (v : Value) (items r : Result V FaultKind) (item : Part X) → i < length vs → v ≡ get_or vs i v
-    → Gives see items (each part (map view (take i vs))) → Gives (λ x. x) item (part (view v)) → Gives see r (more (seen see items) item) → Gives see r (each part (map view (take (i + 1) vs)))
+pub each_step : {V X : Type 0}
+    → (see : V → List X) (part : Data → Part X) (vs : List Value) (i : ℕ) (v : Value)
+    (items r : Result V FaultKind) (item : Part X)
+    → i < length vs → v ≡ get_or vs i v
+    → Gives see items (each part (map view (take i vs))) → Gives (λ x. x) item (part (view v))
+    → Gives see r (more (seen see items) item) → Gives see r (each part (map view (take (i + 1) vs)))
 each_step see part vs i v items r item h is so_far one step =
-    let entries : map view (take i vs) ++ view v ∷ [] ≡ map view (take (i + 1) vs) = ap (λ w. map view (take i vs) ++ view w ∷ []) is ∙ sym (ap (map view) (take_more vs i v h) ∙ map_push view (take i vs) (get_or vs i v)) in
-    let near_more = bind_near (λ p. Ok (p.0 ++ p.1 ∷ [])) (both (seen see items) item) (both (each part (map view (take i vs))) (part (view v))) (both_near (seen see items) (each part (map view (take i vs))) item (part (view v)) (near see items (each part (map view (take i vs))) so_far) (near_same item (part (view v)) one)) in
+    let entries : map view (take i vs) ++ view v ∷ [] ≡ map view (take (i + 1) vs) =
+    ap (λ w. map view (take i vs) ++ view w ∷ []) is
+    ∙ sym (ap (map view) (take_more vs i v h) ∙ map_push view (take i vs) (get_or vs i v)) in
+    let near_more =
+    bind_near (λ p. Ok (p.0 ++ p.1 ∷ [])) (both (seen see items) item)
+    (both (each part (map view (take i vs))) (part (view v)))
+    (both_near (seen see items) (each part (map view (take i vs))) item (part (view v))
+    (near see items (each part (map view (take i vs))) so_far)
+    (near_same item (part (view v)) one)) in
     gives_near see r (more (seen see items) item) (each part (map view (take (i + 1) vs))) step
     (subst (Near (more (seen see items) item)) (sym (each_more part (map view (take i vs)) (view v)) ∙ ap (each part) entries) near_more)
 
@@ -213,21 +233,27 @@ from_zero : (i : ℕ) → i ≡ 0 + i
 from_zero i = omega arith
 
 module _ {X : Type 0} (place : ℕ → Place) (part : ℕ → Data → Part X) where
-  joined : (at : Place) (p : Part X) (rest : Result (List X) ScriptFault) (x : X) (xs : List X) → p ≡ Ok x → rest ≡ Ok xs → (part_at at p >>= λ y. rest >>= λ ys. Ok (y ∷ ys)) ≡ Ok (x ∷ xs)
-  joined at p rest x xs e f = ap (λ (q : Part X). part_at at q >>= λ y. rest >>= λ ys. Ok (y ∷ ys)) e ∙ ap (λ (r : Result (List X) ScriptFault). r >>= λ ys. Ok (x ∷ ys)) f
+  joined : (at : Place) (p : Part X) (rest : Result (List X) ScriptFault) (x : X) (xs : List X) → p ≡ Ok x
+      → rest ≡ Ok xs → (part_at at p >>= λ y. rest >>= λ ys. Ok (y ∷ ys)) ≡ Ok (x ∷ xs)
+  joined at p rest x xs e f =
+      ap (λ (q : Part X). part_at at q >>= λ y. rest >>= λ ys. Ok (y ∷ ys)) e
+      ∙ ap (λ (r : Result (List X) ScriptFault). r >>= λ ys. Ok (x ∷ ys)) f
 
   part_ok : (at : Place) (p : Part X) (x : X) → part_at at p ≡ Ok x → p ≡ Ok x
   part_ok at (Ok y) x e = cc
   part_ok at (Err k) x e = absurd cc
 
   -- the first row and the others, where all have values
-  pub rows_first : (k : ℕ) (d : Data) (ds : List Data) (xs : List X) → rows_from place part k (d ∷ ds) ≡ Ok xs → (x : X) × (rest : List X) × (part k d ≡ Ok x) × (rows_from place part (k + 1) ds ≡ Ok rest) × (xs ≡ x ∷ rest)
+  pub rows_first : (k : ℕ) (d : Data) (ds : List Data) (xs : List X) → rows_from place part k (d ∷ ds) ≡ Ok xs
+      → (x : X) × (rest : List X) × (part k d ≡ Ok x) × (rows_from place part (k + 1) ds ≡ Ok rest)
+      × (xs ≡ x ∷ rest)
   rows_first k d ds xs e =
       let one = bind_ok (part_at (place (k + 1)) (part k d)) (λ y. rows_from place part (k + 1) ds >>= λ ys. Ok (y ∷ ys)) xs e in
       let two = bind_ok (rows_from place part (k + 1) ds) (λ ys. Ok (one.0 ∷ ys)) xs one.2 in
       (one.0, two.0, part_ok (place (k + 1)) (part k d) one.0 one.1, two.1, (let h = two.2 in cc))
 
-  more_from : (ds : List Data) (k i : ℕ) (xs : List X) (x : X) (d : Data) → slice_get ds i ≡ Some d → rows_from place part k (take i ds) ≡ Ok xs → part (k + i) d ≡ Ok x
+  more_from : (ds : List Data) (k i : ℕ) (xs : List X) (x : X) (d : Data) → slice_get ds i ≡ Some d
+      → rows_from place part k (take i ds) ≡ Ok xs → part (k + i) d ≡ Ok x
       → rows_from place part k (take (suc i) ds) ≡ Ok (xs ++ x ∷ [])
   more_from [] k i xs x d is h e = absurd cc
   more_from (c ∷ ds) k zero xs x d is h e =
@@ -240,16 +266,23 @@ module _ {X : Type 0} (place : ℕ → Place) (part : ℕ → Data → Part X) w
       let parts = rows_first k c (take i ds) xs h in
       let at : k + suc i ≡ (k + 1) + i = omega arith in
       let rest = more_from ds (k + 1) i parts.1 x d is parts.3 (subst (λ n. part n d ≡ Ok x) at e) in
-      joined (place (k + 1)) (part k c) (rows_from place part (k + 1) (take (suc i) ds)) parts.0 (parts.1 ++ x ∷ []) parts.2 rest ∙ ap (λ (ys : List X). Ok (ys ++ x ∷ [])) (sym parts.4)
+      joined (place (k + 1)) (part k c) (rows_from place part (k + 1) (take (suc i) ds)) parts.0
+      (parts.1 ++ x ∷ []) parts.2 rest
+      ∙ ap (λ (ys : List X). Ok (ys ++ x ∷ [])) (sym parts.4)
 
-  stop_from : (ds : List Data) (k i : ℕ) (xs : List X) (kind : FaultKind) (d : Data) → slice_get ds i ≡ Some d → rows_from place part k (take i ds) ≡ Ok xs → part (k + i) d ≡ Err kind
+  stop_from : (ds : List Data) (k i : ℕ) (xs : List X) (kind : FaultKind) (d : Data) → slice_get ds i ≡ Some d
+      → rows_from place part k (take i ds) ≡ Ok xs → part (k + i) d ≡ Err kind
       → rows_from place part k ds ≡ Err (fault_at (place (k + i + 1)) kind)
   stop_from [] k i xs kind d is h e = absurd cc
   stop_from (c ∷ ds) k zero xs kind d is h e =
       let here : c ≡ d = same_Some c d is in
       let at : k + 0 ≡ k = omega arith in
       let first : part k c ≡ Err kind = ap (part k) here ∙ (subst (λ n. part n d ≡ Err kind) at e) in
-      ap (λ (q : Part X). part_at (place (k + 1)) q >>= λ y. rows_from place part (k + 1) ds >>= λ ys. Ok (y ∷ ys)) first ∙ ap (λ n. Err (fault_at (place (n + 1)) kind)) (sym at)
+      ap
+      (λ (q : Part X).
+      part_at (place (k + 1)) q >>= λ y. rows_from place part (k + 1) ds >>= λ ys. Ok (y ∷ ys))
+      first
+      ∙ ap (λ n. Err (fault_at (place (n + 1)) kind)) (sym at)
   stop_from (c ∷ ds) k (suc i) xs kind d is h e =
       let parts = rows_first k c (take i ds) xs h in
       let at : k + suc i ≡ (k + 1) + i = omega arith in
@@ -259,12 +292,21 @@ module _ {X : Type 0} (place : ℕ → Place) (part : ℕ → Data → Part X) w
       ∙ ap (λ n. Err (fault_at (place (n + 1)) kind)) (sym at)
 
   -- the values of the first i rows, and one more
-  pub rows_more : (ds : List Data) (i : ℕ) (xs : List X) (x : X) (d : Data) → slice_get ds i ≡ Some d → rows_from place part 0 (take i ds) ≡ Ok xs → part i d ≡ Ok x → rows_from place part 0 (take (i + 1) ds) ≡ Ok (xs ++ x ∷ [])
-  rows_more ds i xs x d is h e = let at : suc i ≡ i + 1 = omega arith in subst (λ n. rows_from place part 0 (take n ds) ≡ Ok (xs ++ x ∷ [])) at (more_from ds 0 i xs x d is h (subst (λ n. part n d ≡ Ok x) (from_zero i) e))
+  pub rows_more : (ds : List Data) (i : ℕ) (xs : List X) (x : X) (d : Data) → slice_get ds i ≡ Some d
+      → rows_from place part 0 (take i ds) ≡ Ok xs → part i d ≡ Ok x
+      → rows_from place part 0 (take (i + 1) ds) ≡ Ok (xs ++ x ∷ [])
+  rows_more ds i xs x d is h e =
+      let at : suc i ≡ i + 1 = omega arith in subst
+      (λ n. rows_from place part 0 (take n ds) ≡ Ok (xs ++ x ∷ [])) at
+      (more_from ds 0 i xs x d is h (subst (λ n. part n d ≡ Ok x) (from_zero i) e))
 
   -- the first i rows have values, and row i is the first with a fault
-  pub rows_stop : (ds : List Data) (i : ℕ) (xs : List X) (kind : FaultKind) (d : Data) → slice_get ds i ≡ Some d → rows_from place part 0 (take i ds) ≡ Ok xs → part i d ≡ Err kind → rows_from place part 0 ds ≡ Err (fault_at (place (i + 1)) kind)
-  rows_stop ds i xs kind d is h e = stop_from ds 0 i xs kind d is h (subst (λ n. part n d ≡ Err kind) (from_zero i) e) ∙ ap (λ n. Err (fault_at (place (n + 1)) kind)) (sym (from_zero i))
+  pub rows_stop : (ds : List Data) (i : ℕ) (xs : List X) (kind : FaultKind) (d : Data)
+      → slice_get ds i ≡ Some d → rows_from place part 0 (take i ds) ≡ Ok xs → part i d ≡ Err kind
+      → rows_from place part 0 ds ≡ Err (fault_at (place (i + 1)) kind)
+  rows_stop ds i xs kind d is h e =
+      stop_from ds 0 i xs kind d is h (subst (λ n. part n d ≡ Err kind) (from_zero i) e)
+      ∙ ap (λ n. Err (fault_at (place (n + 1)) kind)) (sym (from_zero i))
 
   length_from : (ds : List Data) (k : ℕ) (xs : List X) → rows_from place part k ds ≡ Ok xs → length xs ≡ length ds
   length_from [] k xs h = let none : xs ≡ [] = cc in ap length none
@@ -273,7 +315,8 @@ module _ {X : Type 0} (place : ℕ → Place) (part : ℕ → Data → Part X) w
   pub rows_length : (ds : List Data) (xs : List X) → rows_from place part 0 ds ≡ Ok xs → length xs ≡ length ds
   rows_length ds xs h = length_from ds 0 xs h
 
-  at_from : (ds : List Data) (k : ℕ) (xs : List X) (i : ℕ) (d : Data) → rows_from place part k ds ≡ Ok xs → slice_get ds i ≡ Some d → (x : X) × (slice_get xs i ≡ Some x) × (part (k + i) d ≡ Ok x)
+  at_from : (ds : List Data) (k : ℕ) (xs : List X) (i : ℕ) (d : Data) → rows_from place part k ds ≡ Ok xs
+      → slice_get ds i ≡ Some d → (x : X) × (slice_get xs i ≡ Some x) × (part (k + i) d ≡ Ok x)
   at_from [] k xs i d h is = absurd cc
   at_from (c ∷ ds) k xs zero d h is =
       let parts = rows_first k c ds xs h in
@@ -287,5 +330,6 @@ module _ {X : Type 0} (place : ℕ → Place) (part : ℕ → Data → Part X) w
       (rest.0, ap (λ (ys : List X). slice_get ys (suc i)) parts.4 ∙ rest.1, subst (λ n. part n d ≡ Ok rest.0) at rest.2)
 
   -- the value of the row at a place
-  pub rows_at : (ds : List Data) (xs : List X) (i : ℕ) (d : Data) → rows_from place part 0 ds ≡ Ok xs → slice_get ds i ≡ Some d → (x : X) × (slice_get xs i ≡ Some x) × (part i d ≡ Ok x)
+  pub rows_at : (ds : List Data) (xs : List X) (i : ℕ) (d : Data) → rows_from place part 0 ds ≡ Ok xs
+      → slice_get ds i ≡ Some d → (x : X) × (slice_get xs i ≡ Some x) × (part i d ≡ Ok x)
   rows_at ds xs i d h is = let found = at_from ds 0 xs i d h is in (found.0, found.1, subst (λ n. part n d ≡ Ok found.0) (sym (from_zero i)) found.2)

@@ -7,7 +7,9 @@ use Rattle.fints_script_templates.specs.ItemTexts.{literal, reading_of}
 other : (m n : ℕ) → (m ≡ n → ⊥) → (m == n) ≡ false
 other m n h = elim (cases_Bool (m == n)) [ inl e ↦ absurd (h ((Decides-eqb m n).0 e)) | inr e ↦ e ]
 
-pub unmarked : (text : List ℕ) → ((rest : List ℕ) → text ≡ 36 ∷ rest → ⊥) → ((rest : List ℕ) → text ≡ 37 ∷ rest → ⊥) → ((rest : List ℕ) → text ≡ 61 ∷ rest → ⊥) → literal text ≡ reading_of text
+pub unmarked : (text : List ℕ) → ((rest : List ℕ) → text ≡ 36 ∷ rest → ⊥)
+    → ((rest : List ℕ) → text ≡ 37 ∷ rest → ⊥) → ((rest : List ℕ) → text ≡ 61 ∷ rest → ⊥)
+    → literal text ≡ reading_of text
 unmarked [] a b c = refl
 unmarked (x ∷ xs) a b c =
     let no_field : (x == 36) ≡ false = other x 36 (λ e. a xs (ap (λ y. y ∷ xs) e)) in

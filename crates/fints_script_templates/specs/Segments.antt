@@ -35,7 +35,9 @@ abbrev pub template_of : (List ℕ × ℕ) × List (List TemplateItem) → Templ
 template_of ((kind, version), elements) = record { kind = kind; version = version; elements = elements }
 
 unfoldable pub table_segment : List NamedField → Members → Part Template
-table_segment fields ms = if only_keys segment_keys ms then seen template_of (both (both (kind_at ms) (version_at ms)) (body_in fields ms)) else Err kinds.UnknownKey
+table_segment fields ms =
+    if only_keys segment_keys ms then seen template_of
+    (both (both (kind_at ms) (version_at ms)) (body_in fields ms)) else Err kinds.UnknownKey
 
 abbrev pub segment_in : List NamedField → Data → Part Template
 segment_in fields (table ms) = table_segment fields ms

@@ -54,7 +54,10 @@ read_run bytes ts h e =
 
 pub read_frame : (source : List ℕ) → IsFrameText source → IsRead source (segment_tokens (read_segment source))
 read_frame source f =
-    read_run source (segment_tokens (read_segment source)) (run_closed (segment_tokens (read_segment source)) (closed-segment (read_segment source) f.framed.some f.framed.nonempty f.framed.spelled)) f.text
+    read_run source (segment_tokens (read_segment source))
+    (run_closed (segment_tokens (read_segment source))
+    (closed-segment (read_segment source) f.framed.some f.framed.nonempty f.framed.spelled))
+    f.text
 
 -- the next of what is left
 pub record IsNextOf (bytes : List ℕ) (len after : ℕ) (ts : List Token) : Type 0 where
@@ -67,20 +70,32 @@ pub record IsNextOf (bytes : List ℕ) (len after : ℕ) (ts : List Token) : Typ
   pub rest : drop (len + 1) bytes ≡ tokens_bytes more
   pub run : IsRun more
 
-pub next_of : (bytes : List ℕ) (len after : ℕ) (ts : List Token) → IsRun ts → bytes ≡ tokens_bytes ts → 0 < length bytes → IsWholeItem bytes len after → IsNextOf bytes len after ts
+pub next_of : (bytes : List ℕ) (len after : ℕ) (ts : List Token) → IsRun ts → bytes ≡ tokens_bytes ts
+    → 0 < length bytes → IsWholeItem bytes len after → IsNextOf bytes len after ts
 next_of bytes len after [] h e lt w = absurd (omega (arith, ap length e))
 next_of bytes len after (t ∷ ts) h e lt w =
     let token = token_closed t ts (closed_run t ts h) in
     let f = first_is bytes t ts len after token e w in
-    let front : take len bytes ≡ spelled_bytes t.item = ap (take len) (e ∙ append_assoc (spelled_bytes t.item) (t.after ∷ []) (tokens_bytes ts)) ∙ take_at (spelled_bytes t.item) (t.after ∷ tokens_bytes ts) len f.len_is in
+    let front : take len bytes ≡ spelled_bytes t.item =
+    ap (take len) (e ∙ append_assoc (spelled_bytes t.item) (t.after ∷ []) (tokens_bytes ts))
+    ∙ take_at (spelled_bytes t.item) (t.after ∷ tokens_bytes ts) len f.len_is in
     let s = spelled_text (take len bytes) t.item token.spelled front in
     record { token = t; more = ts; split = refl; after_is = f.after_is; spelled = s.0; item = s.1; rest = f.rest; run = run_rest t ts h }
 
-pub run_there : (bytes : List ℕ) (ts : List Token) → IsRun ts → bytes ≡ tokens_bytes ts → 0 < length bytes → BeginsWithItem bytes
+pub run_there : (bytes : List ℕ) (ts : List Token) → IsRun ts → bytes ≡ tokens_bytes ts → 0 < length bytes
+    → BeginsWithItem bytes
 run_there bytes [] h e lt = absurd (omega (arith, ap length e))
 run_there bytes (t ∷ ts) h e lt =
     let token = token_closed t ts (closed_run t ts h) in
-    subst BeginsWithItem (sym e) ((t.item, t.after, tokens_bytes ts, token.spelled, token.separator, append_assoc (spelled_bytes t.item) (t.after ∷ []) (tokens_bytes ts)))
+    subst BeginsWithItem (sym e)
+    ((
+      t.item,
+      t.after,
+      tokens_bytes ts,
+      token.spelled,
+      token.separator,
+      append_assoc (spelled_bytes t.item) (t.after ∷ []) (tokens_bytes ts),
+    ))
 
 pub none_left : (bytes : List ℕ) → length bytes ≡ 0 → tokens_in (length bytes) bytes ≡ []
 none_left [] e = tokens_in-none 0 refl

@@ -15,23 +15,28 @@ use Rattle.fints_syntax.proofs.TakenItems.{owned_is, alone, with_items, none_rea
 
 -- ---- past an element
 
-after_one : (end : ℕ) (e : List Spelled) (ts : List Token) → 0 < length e → eqb end 58 ≡ false → after_element (element_tokens end e ++ ts) ≡ ts
+after_one : (end : ℕ) (e : List Spelled) (ts : List Token) → 0 < length e → eqb end 58 ≡ false
+    → after_element (element_tokens end e ++ ts) ≡ ts
 after_one end [] ts some h = absurd (omega arith)
 after_one end (s ∷ []) ts some h = rw h refl
 after_one end (s ∷ t ∷ ss) ts some h = after_one end (t ∷ ss) ts (omega arith) h
 
-pub after_first : (es : List (List Spelled)) → AllByRecursion (λ e. 0 < length e) es → after_element (segment_tokens es) ≡ segment_tokens (drop 1 es)
+pub after_first : (es : List (List Spelled)) → AllByRecursion (λ e. 0 < length e) es
+    → after_element (segment_tokens es) ≡ segment_tokens (drop 1 es)
 after_first [] h = refl
 after_first (e ∷ []) h = ap after_element (sym (append-nil (element_tokens 39 e))) ∙ after_one 39 e [] h.0 refl
 after_first (e ∷ f ∷ es) h = after_one 43 e (segment_tokens (f ∷ es)) h.0 refl
 
 -- ---- the values so far
 
-pub record Filled (all : List (List OwnedItem)) (tokens : List Token) (elements : List (List OwnedItem)) (items : List OwnedItem) : Type 0 where
+pub record Filled (all : List (List OwnedItem)) (tokens : List Token) (elements : List (List OwnedItem))
+    (items : List OwnedItem) : Type 0 where
   pub closed : IsClosed tokens ⊎ ((tokens ≡ []) × (items ≡ []))
   pub values : elements ++ with_items (values_of (read_elements tokens)) items ≡ all
 
-closed_rest : (es : List (List Spelled)) → AllByRecursion (λ e. 0 < length e) es → AllByRecursion (λ e. AllByRecursion IsSpelled e) es → IsClosed (segment_tokens es) ⊎ ((segment_tokens es ≡ []) × (none_of ≡ []))
+closed_rest : (es : List (List Spelled)) → AllByRecursion (λ e. 0 < length e) es
+    → AllByRecursion (λ e. AllByRecursion IsSpelled e) es
+    → IsClosed (segment_tokens es) ⊎ ((segment_tokens es ≡ []) × (none_of ≡ []))
 closed_rest [] h s = inr (refl, refl)
 closed_rest (e ∷ es) h s = inl (closed-segment (e ∷ es) (omega arith) h s)
 
@@ -43,28 +48,36 @@ values_rest : (es : List (List Spelled)) → values_of (drop 1 es) ≡ drop 1 (v
 values_rest [] = refl
 values_rest (e ∷ es) = refl
 
-pub filled_start : (source : List ℕ) (tokens : List Token) → IsFrameText source → tokens ≡ after_element (segment_tokens (read_segment source)) → Filled (drop 1 (values_of (read_segment source))) tokens [] []
+pub filled_start : (source : List ℕ) (tokens : List Token) → IsFrameText source
+    → tokens ≡ after_element (segment_tokens (read_segment source))
+    → Filled (drop 1 (values_of (read_segment source))) tokens [] []
 filled_start source tokens f is =
     let es = drop 1 (read_segment source) in
     let nonempty = all_rest (λ (e : List Spelled). 0 < length e) (read_segment source) f.framed.nonempty in
     let e : segment_tokens es ≡ tokens = sym (is ∙ after_first (read_segment source) f.framed.nonempty) in
     subst (λ ts. Filled (drop 1 (values_of (read_segment source))) ts [] []) e (record {
       closed = closed_rest es nonempty (all_rest (λ (x : List Spelled). AllByRecursion IsSpelled x) (read_segment source) f.framed.spelled);
-      values = none_read (values_of (read_elements (segment_tokens es))) ∙ ap (λ (x : List (List Spelled)). values_of x) (elements_in-tokens es nonempty) ∙ values_rest (read_segment source);
+      values =
+          none_read (values_of (read_elements (segment_tokens es)))
+          ∙ ap (λ (x : List (List Spelled)). values_of x) (elements_in-tokens es nonempty)
+          ∙ values_rest (read_segment source);
     })
 
-pub filled_colon : (all : List (List OwnedItem)) (old new : List Token) (elements : List (List OwnedItem)) (items : List OwnedItem) (f : Found) → Filled all old elements items → IsTaken old f new → f.after ≡ 58
+pub filled_colon : (all : List (List OwnedItem)) (old new : List Token) (elements : List (List OwnedItem))
+    (items : List OwnedItem) (f : Found) → Filled all old elements items → IsTaken old f new → f.after ≡ 58
     → Filled all new elements (items ++ owned_item_of f.item ∷ [])
 filled_colon all old new elements items f h t q =
     let c : IsClosed (t.token ∷ new) ⊎ (((t.token ∷ new) ≡ []) × (items ≡ [])) = rw t.split at h.closed in
     let a : t.token.after ≡ 58 = sym t.after ∙ q in
     let o = owned_is f.item t.token.item t.item in
     let move : with_items (values_of (read_elements old)) items ≡ with_items (values_of (read_elements new)) (items ++ owned_item_of f.item ∷ []) =
-    ap (λ (x : List Token). with_items (values_of (read_elements x)) items) t.split ∙ ap (λ (x : List (List Spelled)). with_items (values_of x) items) (colon_in t.token new a)
+    ap (λ (x : List Token). with_items (values_of (read_elements x)) items) t.split
+    ∙ ap (λ (x : List (List Spelled)). with_items (values_of x) items) (colon_in t.token new a)
     ∙ first_read items t.token.item (read_elements new) ∙ ap (λ (x : OwnedItem). with_items (values_of (read_elements new)) (items ++ x ∷ [])) (sym o) in
     record { closed = inl (closed_colon t.token new c a); values = ap (λ (x : List (List OwnedItem)). elements ++ x) (sym move) ∙ h.values }
 
-pub filled_other : (all : List (List OwnedItem)) (old new : List Token) (elements : List (List OwnedItem)) (items : List OwnedItem) (f : Found) → Filled all old elements items → IsTaken old f new → f.after ≢ 58
+pub filled_other : (all : List (List OwnedItem)) (old new : List Token) (elements : List (List OwnedItem))
+    (items : List OwnedItem) (f : Found) → Filled all old elements items → IsTaken old f new → f.after ≢ 58
     → Filled all new (elements ++ (items ++ owned_item_of f.item ∷ []) ∷ []) []
 filled_other all old new elements items f h t q =
     let c : IsClosed (t.token ∷ new) ⊎ (((t.token ∷ new) ≡ []) × (items ≡ [])) = rw t.split at h.closed in
@@ -72,14 +85,20 @@ filled_other all old new elements items f h t q =
     let o = owned_is f.item t.token.item t.item in
     let rest = values_of (read_elements new) in
     let move : with_items (values_of (read_elements old)) items ≡ (items ++ owned_item_of f.item ∷ []) ∷ with_items rest [] =
-    ap (λ (x : List Token). with_items (values_of (read_elements x)) items) t.split ∙ ap (λ (x : List (List Spelled)). with_items (values_of x) items) (other_in t.token new a)
-    ∙ element_read items (item_of t.token.item) rest ∙ ap (λ (x : OwnedItem). (items ++ x ∷ []) ∷ rest) (sym o) ∙ ap (λ (x : List (List OwnedItem)). (items ++ owned_item_of f.item ∷ []) ∷ x) (sym (none_read rest)) in
+    ap (λ (x : List Token). with_items (values_of (read_elements x)) items) t.split
+    ∙ ap (λ (x : List (List Spelled)). with_items (values_of x) items) (other_in t.token new a)
+    ∙ element_read items (item_of t.token.item) rest
+    ∙ ap (λ (x : OwnedItem). (items ++ x ∷ []) ∷ rest) (sym o)
+    ∙ ap (λ (x : List (List OwnedItem)). (items ++ owned_item_of f.item ∷ []) ∷ x) (sym (none_read rest)) in
     record {
       closed = closed_other t.token new c;
-      values = append_assoc elements ((items ++ owned_item_of f.item ∷ []) ∷ []) (with_items rest []) ∙ ap (λ (x : List (List OwnedItem)). elements ++ x) (sym move) ∙ h.values;
+      values =
+          append_assoc elements ((items ++ owned_item_of f.item ∷ []) ∷ []) (with_items rest [])
+          ∙ ap (λ (x : List (List OwnedItem)). elements ++ x) (sym move) ∙ h.values;
     }
 
-filled_nil : (all : List (List OwnedItem)) (elements : List (List OwnedItem)) (items : List OwnedItem) → Filled all [] elements items → (elements ≡ all) × (items ≡ [])
+filled_nil : (all : List (List OwnedItem)) (elements : List (List OwnedItem)) (items : List OwnedItem)
+    → Filled all [] elements items → (elements ≡ all) × (items ≡ [])
 unfolding with_items alone read_elements
 filled_nil all elements items h =
     elim h.closed [
@@ -87,5 +106,7 @@ filled_nil all elements items h =
       | inr e ↦ (sym (append-nil elements) ∙ ap (λ (x : List OwnedItem). elements ++ alone x) (sym e.1) ∙ h.values, e.1)
     ]
 
-pub filled_end : (all : List (List OwnedItem)) (tokens : List Token) (elements : List (List OwnedItem)) (items : List OwnedItem) → Filled all tokens elements items → tokens ≡ [] → (elements ≡ all) × (items ≡ [])
+pub filled_end : (all : List (List OwnedItem)) (tokens : List Token) (elements : List (List OwnedItem))
+    (items : List OwnedItem) → Filled all tokens elements items → tokens ≡ []
+    → (elements ≡ all) × (items ≡ [])
 filled_end all tokens elements items h e = filled_nil all elements items (subst (λ ts. Filled all ts elements items) e h)

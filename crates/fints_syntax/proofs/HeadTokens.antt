@@ -18,7 +18,8 @@ abbrev pub front : List Token → List Spelled
 front [] = []
 front (t ∷ ts) = t.item ∷ cond (eqb t.after 58) (front ts) []
 
-front_one : (end : ℕ) (e : List Spelled) (ts : List Token) → 0 < length e → eqb end 58 ≡ false → front (element_tokens end e ++ ts) ≡ e
+front_one : (end : ℕ) (e : List Spelled) (ts : List Token) → 0 < length e → eqb end 58 ≡ false
+    → front (element_tokens end e ++ ts) ≡ e
 front_one end [] ts some h = absurd (omega arith)
 front_one end (s ∷ []) ts some h = rw h refl
 front_one end (s ∷ t ∷ ss) ts some h = ap (λ (x : List Spelled). s ∷ x) (front_one end (t ∷ ss) ts (omega arith) h)
@@ -26,7 +27,8 @@ front_one end (s ∷ t ∷ ss) ts some h = ap (λ (x : List Spelled). s ∷ x) (
 abbrev pub front_values : List Token → List (List ℕ)
 front_values ts = map item_value (map item_of (front ts))
 
-pub head_front : (es : List (List Spelled)) → AllByRecursion (λ e. 0 < length e) es → head_of (values_of es) ≡ head_from (front_values (segment_tokens es))
+pub head_front : (es : List (List Spelled)) → AllByRecursion (λ e. 0 < length e) es
+    → head_of (values_of es) ≡ head_from (front_values (segment_tokens es))
 head_front [] h = refl
 head_front (e ∷ []) h =
     let one : front (segment_tokens (e ∷ [])) ≡ e = ap front (sym (append-nil (element_tokens 39 e))) ∙ front_one 39 e [] h.0 refl in
@@ -35,26 +37,31 @@ head_front (e ∷ f ∷ es) h =
     let one : front (segment_tokens (e ∷ f ∷ es)) ≡ e = front_one 43 e (segment_tokens (f ∷ es)) h.0 refl in
     ap (λ (x : List Spelled). head_from (map item_value (map item_of x))) (sym one)
 
-pub head_read : (source : List ℕ) (tokens : List Token) → IsFrameText source → tokens ≡ segment_tokens (read_segment source) → head_of (values_of (read_segment source)) ≡ head_from (front_values tokens)
+pub head_read : (source : List ℕ) (tokens : List Token) → IsFrameText source
+    → tokens ≡ segment_tokens (read_segment source)
+    → head_of (values_of (read_segment source)) ≡ head_from (front_values tokens)
 head_read source tokens f e = head_front (read_segment source) f.framed.nonempty ∙ ap (λ (x : List Token). head_from (front_values x)) (sym e)
 
 pub values_end : (ts : List Token) → ts ≡ [] → front_values ts ≡ []
 values_end ts e = ap front_values e
 
-pub values_colon : (old new : List Token) (f : Found) → IsTaken old f new → f.after ≡ 58 → front_values old ≡ value_of_item f.item ∷ front_values new
+pub values_colon : (old new : List Token) (f : Found) → IsTaken old f new → f.after ≡ 58
+    → front_values old ≡ value_of_item f.item ∷ front_values new
 values_colon old new f t q =
     let b : eqb t.token.after 58 ≡ true = eq-eqb t.token.after 58 (sym t.after ∙ q) in
     let v = same_value f.item t.token.item t.item in
     ap front_values t.split ∙ rw (b, v) refl
 
-pub values_other : (old new : List Token) (f : Found) → IsTaken old f new → f.after ≢ 58 → front_values old ≡ value_of_item f.item ∷ []
+pub values_other : (old new : List Token) (f : Found) → IsTaken old f new → f.after ≢ 58
+    → front_values old ≡ value_of_item f.item ∷ []
 values_other old new f t q =
     let b : eqb t.token.after 58 ≡ false = ne_eqb t.token.after 58 (λ e. q (t.after ∙ e)) in
     let v = same_value f.item t.token.item t.item in
     ap front_values t.split ∙ rw (b, v) refl
 
 -- at least one more
-pub values_more : (old new : List Token) (f : Found) → IsTaken old f new → (more : List (List ℕ)) × (front_values old ≡ value_of_item f.item ∷ more)
+pub values_more : (old new : List Token) (f : Found) → IsTaken old f new
+    → (more : List (List ℕ)) × (front_values old ≡ value_of_item f.item ∷ more)
 values_more old new f t =
     let v = same_value f.item t.token.item t.item in
     (map item_value (map item_of (cond (eqb t.token.after 58) (front new) [])), ap front_values t.split ∙ rw v refl)

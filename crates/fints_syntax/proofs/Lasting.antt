@@ -16,7 +16,8 @@ use Rattle.fints_syntax_segments.specs.declared.limits.TheConstants.{MAX_BYTES, 
 use Rattle.fints_syntax.proofs.Windows.{same_after, window_behind}
 
 -- of two ways to part a list, one parts it further on
-parted : (xs ys zs ws : List ℕ) → xs ++ zs ≡ ys ++ ws → ((m : List ℕ) × (xs ≡ ys ++ m) × (ws ≡ m ++ zs)) ⊎ ((m : List ℕ) × (ys ≡ xs ++ m) × (zs ≡ m ++ ws))
+parted : (xs ys zs ws : List ℕ) → xs ++ zs ≡ ys ++ ws
+    → ((m : List ℕ) × (xs ≡ ys ++ m) × (ws ≡ m ++ zs)) ⊎ ((m : List ℕ) × (ys ≡ xs ++ m) × (zs ≡ m ++ ws))
 parted [] ys zs ws e = inr (ys, refl, e)
 parted (x ∷ xs) [] zs ws e = inl (x ∷ xs, refl, sym e)
 parted (x ∷ xs) (y ∷ ys) zs ws e =
@@ -34,15 +35,18 @@ digits_before [] ys h = tt
 digits_before (x ∷ xs) ys h = (h.0, digits_before xs ys h.1)
 
 -- the front of the digits of a length
-cut_in_digits : (tail ds m : List ℕ) → AllDigits 10 ds → length ds ≤ 9 → ds ≡ tail ++ m → IsCutBinary (64 ∷ tail)
+cut_in_digits : (tail ds m : List ℕ) → AllDigits 10 ds → length ds ≤ 9 → ds ≡ tail ++ m
+    → IsCutBinary (64 ∷ tail)
 cut_in_digits tail ds m all short e = inl (tail, digits_before tail m (subst (AllDigits 10) e all), omega (arith, ap length e, length-append tail m), refl)
 
 -- the front of the data
-cut_in_data : (tail ds front : List ℕ) → IsLength ds → length front ≤ digits_value 10 ds → tail ≡ ds ++ 64 ∷ front → IsCutBinary (64 ∷ tail)
+cut_in_data : (tail ds front : List ℕ) → IsLength ds → length front ≤ digits_value 10 ds
+    → tail ≡ ds ++ 64 ∷ front → IsCutBinary (64 ∷ tail)
 cut_in_data tail ds front h le e = inr (ds, front, h, le, ap (λ (x : List ℕ). 64 ∷ x) e)
 
 -- what stands behind the digits of a length, where a list is parted behind them
-after_digits : (tail ds m w more : List ℕ) → AllDigits 10 ds → length ds ≤ 9 → tail ≡ ds ++ m → 64 ∷ w ≡ m ++ more → IsCutBinary (64 ∷ tail) ⊎ ((n : List ℕ) × (tail ≡ ds ++ 64 ∷ n) × (w ≡ n ++ more))
+after_digits : (tail ds m w more : List ℕ) → AllDigits 10 ds → length ds ≤ 9 → tail ≡ ds ++ m
+    → 64 ∷ w ≡ m ++ more → IsCutBinary (64 ∷ tail) ⊎ ((n : List ℕ) × (tail ≡ ds ++ 64 ∷ n) × (w ≡ n ++ more))
 after_digits tail ds [] w more all short e f = inl (cut_in_digits tail ds [] all short (sym (append-nil ds) ∙ sym e ∙ sym (append-nil tail)))
 after_digits tail ds (b ∷ n) w more all short e f =
     let s = same_after 64 b w (n ++ more) f in
@@ -61,21 +65,28 @@ still_cut tail more (inr (ds, front, h, le, e)) =
     ]
 
 -- the front of a binary item and what follows it begins with that item, or is a cut one
-item_behind : (tail ds n bytes more rest m : List ℕ) (after : ℕ) → IsLength ds → digits_value 10 ds ≡ length bytes → is_separator after ≡ true → tail ≡ ds ++ 64 ∷ n → n ≡ bytes ++ m → after ∷ rest ≡ m ++ more
+item_behind : (tail ds n bytes more rest m : List ℕ) (after : ℕ) → IsLength ds
+    → digits_value 10 ds ≡ length bytes → is_separator after ≡ true → tail ≡ ds ++ 64 ∷ n → n ≡ bytes ++ m
+    → after ∷ rest ≡ m ++ more
     → BeginsWithItem (64 ∷ tail) ⊎ IsCutBinary (64 ∷ tail)
 item_behind tail ds n bytes more rest [] after h v sep e f g = inr (cut_in_data tail ds n h (omega (arith, v, ap length f, length-append bytes [])) e)
 item_behind tail ds n bytes more rest (b ∷ m) after h v sep e f g =
     let one : b ≡ after = sym (same_after after b rest (m ++ more) g).0 in
-    let here : tail ≡ (ds ++ 64 ∷ bytes) ++ after ∷ m = e ∙ ap (λ (x : List ℕ). ds ++ 64 ∷ x) (f ∙ ap (λ (x : ℕ). bytes ++ x ∷ m) one) ∙ sym (append_assoc ds (64 ∷ bytes) (after ∷ m)) in
+    let here : tail ≡ (ds ++ 64 ∷ bytes) ++ after ∷ m =
+    e ∙ ap (λ (x : List ℕ). ds ++ 64 ∷ x) (f ∙ ap (λ (x : ℕ). bytes ++ x ∷ m) one)
+    ∙ sym (append_assoc ds (64 ∷ bytes) (after ∷ m)) in
     inl (binary ds bytes, after, m, (h, v), sep, ap (λ (x : List ℕ). 64 ∷ x) here)
 
-item_before : (tail more : List ℕ) → BeginsWithItem (64 ∷ (tail ++ more)) → BeginsWithItem (64 ∷ tail) ⊎ IsCutBinary (64 ∷ tail)
+item_before : (tail more : List ℕ) → BeginsWithItem (64 ∷ (tail ++ more))
+    → BeginsWithItem (64 ∷ tail) ⊎ IsCutBinary (64 ∷ tail)
 item_before tail more (text [], after, rest, spelled, sep, e) = let a : after ≡ 64 = cc in absurd (grind (arith, nat_tests))
 item_before tail more (text (escaped b ∷ us), after, rest, spelled, sep, e) = let a : ◌≡◌ {A = ℕ} 63 64 = cc in absurd (omega arith)
 item_before tail more (text (plain b ∷ us), after, rest, spelled, sep, e) = let a : b ≡ 64 = cc in absurd (spelled.1 a)
 item_before tail more (binary ds bytes, after, rest, spelled, sep, e) =
     let h = spelled.0 in
-    let whole : tail ++ more ≡ ds ++ 64 ∷ (bytes ++ after ∷ rest) = (same_after 64 64 (tail ++ more) ((ds ++ 64 ∷ bytes) ++ after ∷ rest) e).1 ∙ append_assoc ds (64 ∷ bytes) (after ∷ rest) in
+    let whole : tail ++ more ≡ ds ++ 64 ∷ (bytes ++ after ∷ rest) =
+    (same_after 64 64 (tail ++ more) ((ds ++ 64 ∷ bytes) ++ after ∷ rest) e).1
+    ∙ append_assoc ds (64 ∷ bytes) (after ∷ rest) in
     elim (parted tail ds more (64 ∷ (bytes ++ after ∷ rest)) whole) [
       | inr (m, a, b) ↦ inr (cut_in_digits tail ds m h.0 h.2 a)
       | inl (m, a, b) ↦ elim (after_digits tail ds m (bytes ++ after ∷ rest) more h.0 h.2 a b) [
@@ -122,9 +133,11 @@ many_behind w more (rest, o) = (rest ++ more, opens_behind w more rest MAX_ITEMS
 framed_behind : (w more : List ℕ) → BeginsFramed w → BeginsFramed (w ++ more)
 framed_behind w more (es, rest, f, e) = (es, rest ++ more, f, ap (λ (x : List ℕ). x ++ more) e ∙ append_assoc (segment_bytes es) rest more)
 
-no_segment_behind : (w more : List ℕ) → BeginsFramed w → (BeginsWithSegment w → ⊥) → BeginsWithSegment (w ++ more) → ⊥
+no_segment_behind : (w more : List ℕ) → BeginsFramed w → (BeginsWithSegment w → ⊥)
+    → BeginsWithSegment (w ++ more) → ⊥
 no_segment_behind w more (es, rest, f, e) none (fs, left, seg, g) =
-    let both : segment_bytes es ++ (rest ++ more) ≡ segment_bytes fs ++ left = sym (append_assoc (segment_bytes es) rest more) ∙ ap (λ (x : List ℕ). x ++ more) (sym e) ∙ g in
+    let both : segment_bytes es ++ (rest ++ more) ≡ segment_bytes fs ++ left =
+    sym (append_assoc (segment_bytes es) rest more) ∙ ap (λ (x : List ℕ). x ++ more) (sym e) ∙ g in
     let same : es ≡ fs = one_segment es fs (rest ++ more) left f seg.framed both in
     none (fs, rest, seg, e ∙ ap (λ (x : List (List Spelled)). segment_bytes x ++ rest) same)
 
@@ -135,17 +148,22 @@ longer_window input more = (take (MAX_BYTES - length input) more, window_behind 
 full_window : (input more : List ℕ) → MAX_BYTES ≤ length input → window_of (input ++ more) ≡ window_of input
 full_window input more le = take-append-le MAX_BYTES input more le
 
-too_long_behind : (input more : List ℕ) → HasTooManyItems (window_of input) ⊎ (IsUnfinished (window_of input) × (MAX_BYTES ≤ length input))
-    → HasTooManyItems (window_of (input ++ more)) ⊎ (IsUnfinished (window_of (input ++ more)) × (MAX_BYTES ≤ length (input ++ more)))
+too_long_behind : (input more : List ℕ)
+    → HasTooManyItems (window_of input) ⊎ (IsUnfinished (window_of input) × (MAX_BYTES ≤ length input))
+    → HasTooManyItems (window_of (input ++ more))
+    ⊎ (IsUnfinished (window_of (input ++ more)) × (MAX_BYTES ≤ length (input ++ more)))
 too_long_behind input more (inl many) = let w = longer_window input more in inl (subst HasTooManyItems (sym w.1) (many_behind (window_of input) w.0 many))
 too_long_behind input more (inr (u, le)) = inr (subst IsUnfinished (sym (full_window input more le)) u, omega (arith, le, length-append input more))
 
-kind_behind : (kind : SyntaxKind) (o : ℕ) (input more : List ℕ) → kind ≢ Incomplete → KindAt kind o input → KindAt kind o (input ++ more)
+kind_behind : (kind : SyntaxKind) (o : ℕ) (input more : List ℕ) → kind ≢ Incomplete → KindAt kind o input
+    → KindAt kind o (input ++ more)
 kind_behind Memory o input more n h = absurd h
 kind_behind CaptureTooLong o input more n h = absurd h
 kind_behind Failed o input more n h = absurd h
 kind_behind Incomplete o input more n h = absurd (n refl)
-kind_behind BadBinary o input more n h = let w = longer_window input more in subst (λ (x : List ℕ). IsBadAt x o) (sym w.1) (bad_at_behind (window_of input) w.0 o h)
+kind_behind BadBinary o input more n h =
+    let w = longer_window input more in subst (λ (x : List ℕ). IsBadAt x o) (sym w.1)
+    (bad_at_behind (window_of input) w.0 o h)
 kind_behind TooLong o input more n h = (h.0, too_long_behind input more h.1)
 kind_behind BadHead o input more n h =
     let w = longer_window input more in (
@@ -156,10 +174,13 @@ kind_behind BadHead o input more n h =
 
 -- ---- bytes of a stream
 
-faults_behind : (bytes more : List ℕ) (kind : SyntaxKind) (o : ℕ) → kind ≢ Incomplete → FaultsAt bytes kind o → FaultsAt (bytes ++ more) kind o
+faults_behind : (bytes more : List ℕ) (kind : SyntaxKind) (o : ℕ) → kind ≢ Incomplete → FaultsAt bytes kind o
+    → FaultsAt (bytes ++ more) kind o
 faults_behind bytes more kind o n f =
     let r = f.reads in
-    let text : bytes ++ more ≡ flat_map piece_bytes r.pieces ++ (f.gap ++ f.first ∷ (f.more ++ more)) = ap (λ (x : List ℕ). x ++ more) r.text ∙ append_assoc (flat_map piece_bytes r.pieces) (f.gap ++ f.first ∷ f.more) more
+    let text : bytes ++ more ≡ flat_map piece_bytes r.pieces ++ (f.gap ++ f.first ∷ (f.more ++ more)) =
+    ap (λ (x : List ℕ). x ++ more) r.text
+    ∙ append_assoc (flat_map piece_bytes r.pieces) (f.gap ++ f.first ∷ f.more) more
     ∙ ap (λ (x : List ℕ). flat_map piece_bytes r.pieces ++ x) (append_assoc f.gap (f.first ∷ f.more) more) in
     record {
       placed = f.placed;
@@ -175,11 +196,14 @@ faults_behind bytes more kind o n f =
     }
 
 -- what is read of a longer stream
-faults_read : (bytes more : List ℕ) (limit : ℕ) (kind : SyntaxKind) (o : ℕ) → kind ≢ Incomplete → FaultsAt (take limit bytes) kind o → FaultsAt (take limit (bytes ++ more)) kind o
+faults_read : (bytes more : List ℕ) (limit : ℕ) (kind : SyntaxKind) (o : ℕ) → kind ≢ Incomplete
+    → FaultsAt (take limit bytes) kind o → FaultsAt (take limit (bytes ++ more)) kind o
 faults_read bytes more limit kind o n f =
-    subst (λ (x : List ℕ). FaultsAt x kind o) (sym (window_behind limit bytes more)) (faults_behind (take limit bytes) (take (limit - length bytes) more) kind o n f)
+    subst (λ (x : List ℕ). FaultsAt x kind o) (sym (window_behind limit bytes more))
+    (faults_behind (take limit bytes) (take (limit - length bytes) more) kind o n f)
 
-pub fault_lasts : (bytes more : List ℕ) (limit o : ℕ) (kind : SyntaxKind) → PieceFaultAt limit kind o bytes → PieceFaultAt limit kind o (bytes ++ more)
+pub fault_lasts : (bytes more : List ℕ) (limit o : ℕ) (kind : SyntaxKind) → PieceFaultAt limit kind o bytes
+    → PieceFaultAt limit kind o (bytes ++ more)
 fault_lasts bytes more limit o CaptureTooLong (at, lt, placed, rest, s) =
     let e = take-append-le limit bytes more (omega arith) in
     (at, omega (arith, lt, length-append bytes more), placed, rest, subst (λ (x : List ℕ). SplitsInto x placed rest) (sym e) s)

@@ -112,7 +112,11 @@ find_from (suc fuel) items at elements w short e s =
     elim (look (drop at w)) [
       | is_whole len after h ↦ elim (cases_Bool (eqb after 39)) [
         | inl q ↦ has_frame (at + (len + 1)) elements (framed w items at elements len after s (omega (arith, e)) short h (eqb-true after 39 q))
-        | inr q ↦ find_from fuel (items + 1) (at + (len + 1)) (elements + cond (eqb after 43) 1 0) w short (omega (arith, e)) (so_far_more w items at elements len after s h (opened after h.separator (other after 39 refl q)))
+        | inr q ↦
+            find_from fuel (items + 1) (at + (len + 1)) (elements + cond (eqb after 43) 1 0) w short
+            (omega (arith, e))
+            (so_far_more w items at elements len after s h
+            (opened after h.separator (other after 39 refl q)))
       ]
       | is_cut h ↦ has_none (unfinished w items at elements s (omega (arith, e)) h)
       | is_bad h ↦ has_bad at (bad_at w items at elements s (omega (arith, e)) h)
@@ -124,7 +128,8 @@ find_end w short = find_from MAX_ITEMS 0 0 1 w short (omega arith) (so_far_start
 -- ---- a segment, or the fault of what begins with none
 
 data Front (input : List ℕ) : Type 0 where
-  is_segment : (es : List (List Spelled)) (len : ℕ) → IsSegment es → take len input ≡ segment_bytes es → len ≤ length input → Front input
+  is_segment : (es : List (List Spelled)) (len : ℕ) → IsSegment es → take len input ≡ segment_bytes es
+      → len ≤ length input → Front input
   is_fault : (kind : SyntaxKind) (o : ℕ) → kind ≢ Memory → KindAt kind o input → Front input
 
 with_head : (input : List ℕ) (len count : ℕ) (o : Option Head) → IsFrameOf (window_of input) len count
@@ -132,7 +137,10 @@ with_head : (input : List ℕ) (len count : ℕ) (o : Option Head) → IsFrameOf
 with_head input len count None f e = is_fault BadHead 0 (λ q. cc) (refl, frame_begins (window_of input) len count f, no_head (window_of input) len count f e)
 with_head input len count (Some h) f e =
     let le = frame_len (window_of input) len count f in
-    is_segment (read_segment (take len (window_of input))) len (frame_segment (window_of input) len count h f e) (take_window input len le ∙ (frame_text (window_of input) len count f).text) (omega (arith, le, length-take MAX_BYTES input))
+    is_segment (read_segment (take len (window_of input))) len
+    (frame_segment (window_of input) len count h f e)
+    (take_window input len le ∙ (frame_text (window_of input) len count f).text)
+    (omega (arith, le, length-take MAX_BYTES input))
 
 front : (input : List ℕ) → Front input
 front input =
@@ -148,7 +156,10 @@ front input =
 
 pub segment_or_fault : SegmentOrFault
 segment_or_fault = λ input. elim (front input) [
-  | is_segment es len seg text le ↦ let same : segment_bytes es ++ drop len input ≡ input = ap (λ (xs : List ℕ). xs ++ drop len input) (sym text) ∙ take-append-drop len input in
+  | is_segment es len seg text le ↦
+      let same : segment_bytes es ++ drop len input ≡ input = ap (λ (xs : List ℕ). xs ++ drop len input)
+      (sym text)
+      ∙ take-append-drop len input in
       inl (subst (λ (xs : List ℕ). BeginsWithSegment (window_of xs)) same (segment_read es (drop len input) seg))
   | is_fault kind o some h ↦ inr (record { kind = kind; offset = o }, h)
 ]
@@ -191,7 +202,10 @@ run_from (suc fuel) input start placed r le =
       | inl lt ↦ elim (front (drop start input)) [
         | is_segment es len seg text within ↦ let b = breaks_of (drop len (drop start input)) in
             let some = some_bytes es len (drop start input) seg text in
-            run_from fuel input (start + (len + b.count)) (placed ++ record { start = start; segment = es } ∷ []) (run_more input start placed es len b.count r seg text within b.within b.breaks b.clean) (omega (arith, le, some))
+            run_from fuel input (start + (len + b.count))
+            (placed ++ record { start = start; segment = es } ∷ [])
+            (run_more input start placed es len b.count r seg text within b.within b.breaks b.clean)
+            (omega (arith, le, some))
         | is_fault kind o some h ↦ to_fault kind (start + o) some (run_fault input start placed kind o r lt h)
       ]
       | inr end ↦ to_end placed (run_end input start placed r end)

@@ -20,7 +20,8 @@ use Rattle.fints_syntax.proofs.OneCapture.{same_gap, regroup, same_piece, segmen
 -- ---- of bytes that begin with no segment
 
 -- open items are none where no item begins
-nothing_left : (left : List Token) (more rest : List ℕ) → AllByRecursion IsContinued left → more ≡ tokens_bytes left ++ rest → (BeginsWithItem more → ⊥) → more ≡ rest
+nothing_left : (left : List Token) (more rest : List ℕ) → AllByRecursion IsContinued left
+    → more ≡ tokens_bytes left ++ rest → (BeginsWithItem more → ⊥) → more ≡ rest
 nothing_left [] more rest o e none = e
 nothing_left (t ∷ ts) more rest o e none = absurd (none (subst BeginsWithItem (sym e) (begins_token t ts rest (token_open t o.0))))
 
@@ -48,7 +49,8 @@ framed_few w (es, after, f, e) (more, o) =
 abbrev Same : SyntaxKind → SyntaxKind → ℕ → ℕ → Type 0
 Same k l o p = (k ≡ l) × (o ≡ p)
 
-bad_alone : (l : SyntaxKind) (o p : ℕ) (input : List ℕ) → KindAt BadBinary o input → KindAt l p input → Same BadBinary l o p
+bad_alone : (l : SyntaxKind) (o p : ℕ) (input : List ℕ) → KindAt BadBinary o input → KindAt l p input
+    → Same BadBinary l o p
 bad_alone Memory o p input h g = absurd g
 bad_alone CaptureTooLong o p input h g = absurd g
 bad_alone Failed o p input h g = absurd g
@@ -57,7 +59,8 @@ bad_alone TooLong o p input h g = absurd (elim g.1 [ inl many ↦ bad_few (windo
 bad_alone BadHead o p input h g = absurd (bad_not_framed (window_of input) o h g.1)
 bad_alone Incomplete o p input h g = absurd (g.1.no_bad o h)
 
-long_alone : (l : SyntaxKind) (o p : ℕ) (input : List ℕ) → KindAt TooLong o input → KindAt l p input → Same TooLong l o p
+long_alone : (l : SyntaxKind) (o p : ℕ) (input : List ℕ) → KindAt TooLong o input → KindAt l p input
+    → Same TooLong l o p
 long_alone Memory o p input h g = absurd g
 long_alone CaptureTooLong o p input h g = absurd g
 long_alone Failed o p input h g = absurd g
@@ -66,7 +69,8 @@ long_alone TooLong o p input h g = (refl, h.0 ∙ sym g.0)
 long_alone BadHead o p input h g = absurd (elim h.1 [ inl many ↦ framed_few (window_of input) g.1 many | inr (u, long) ↦ u.no_segment g.1 ])
 long_alone Incomplete o p input h g = absurd (elim h.1 [ inl many ↦ g.1.few_items many | inr (u, long) ↦ omega (arith, g.2) ])
 
-head_alone : (l : SyntaxKind) (o p : ℕ) (input : List ℕ) → KindAt BadHead o input → KindAt l p input → Same BadHead l o p
+head_alone : (l : SyntaxKind) (o p : ℕ) (input : List ℕ) → KindAt BadHead o input → KindAt l p input
+    → Same BadHead l o p
 head_alone Memory o p input h g = absurd g
 head_alone CaptureTooLong o p input h g = absurd g
 head_alone Failed o p input h g = absurd g
@@ -75,7 +79,8 @@ head_alone TooLong o p input h g = absurd (elim g.1 [ inl many ↦ framed_few (w
 head_alone BadHead o p input h g = (refl, h.0 ∙ sym g.0)
 head_alone Incomplete o p input h g = absurd (g.1.no_segment h.1)
 
-unfinished_alone : (l : SyntaxKind) (o p : ℕ) (input : List ℕ) → KindAt Incomplete o input → KindAt l p input → Same Incomplete l o p
+unfinished_alone : (l : SyntaxKind) (o p : ℕ) (input : List ℕ) → KindAt Incomplete o input → KindAt l p input
+    → Same Incomplete l o p
 unfinished_alone Memory o p input h g = absurd g
 unfinished_alone CaptureTooLong o p input h g = absurd g
 unfinished_alone Failed o p input h g = absurd g
@@ -101,7 +106,8 @@ pub one_fault : (input : List ℕ) (f g : SyntaxFault) → IsFault input f → I
 one_fault input f g h k = same_fault f g (kinds_one f.kind g.kind f.offset g.offset input h k)
 
 -- and begin with no segment
-pub no_segment_at : (input : List ℕ) (f : SyntaxFault) → IsFault input f → BeginsWithSegment (window_of input) → ⊥
+pub no_segment_at : (input : List ℕ) (f : SyntaxFault) → IsFault input f → BeginsWithSegment (window_of input)
+    → ⊥
 no_segment_at input f h b = kind_only f.kind f.offset input h b
 
 -- ---- where segments cease
@@ -114,13 +120,18 @@ pub tail_ends : (tail : List ℕ) → AllByRecursion IsBreak tail → Ends tail
 tail_ends tail b = λ gap es more breaks seg e.
     segment_some es more seg (sym (same_gap gap tail (segment_bytes es ++ more) [] breaks b (segment_clean es more seg) tt (e ∙ sym (append-nil tail))))
 
-pub fault_ends : (gap more : List ℕ) (first : ℕ) → AllByRecursion IsBreak gap → (IsBreak first → ⊥) → (BeginsWithSegment (window_of (first ∷ more)) → ⊥) → Ends (gap ++ first ∷ more)
+pub fault_ends : (gap more : List ℕ) (first : ℕ) → AllByRecursion IsBreak gap → (IsBreak first → ⊥)
+    → (BeginsWithSegment (window_of (first ∷ more)) → ⊥) → Ends (gap ++ first ∷ more)
 fault_ends gap more first b clean none = λ other es rest breaks seg e.
-    let q : segment_bytes es ++ rest ≡ first ∷ more = same_gap other gap (segment_bytes es ++ rest) (first ∷ more) breaks b (segment_clean es rest seg) clean e in
+    let q : segment_bytes es ++ rest ≡ first ∷ more =
+    same_gap other gap (segment_bytes es ++ rest) (first ∷ more) breaks b (segment_clean es rest seg)
+    clean e in
     none (subst (λ (y : List ℕ). BeginsWithSegment (window_of y)) q (es, _, seg, begins_window (segment_bytes es) rest seg.framed.bytes))
 
 -- a piece's line breaks are as many in each reading
-same_start : (p q : Piece) (x y : List ℕ) → p.elements ≡ q.elements → x ≡ y → (p.gap ++ segment_bytes p.elements) ++ x ≡ (q.gap ++ segment_bytes q.elements) ++ y → length p.gap ≡ length q.gap
+same_start : (p q : Piece) (x y : List ℕ) → p.elements ≡ q.elements → x ≡ y
+    → (p.gap ++ segment_bytes p.elements) ++ x ≡ (q.gap ++ segment_bytes q.elements) ++ y
+    → length p.gap ≡ length q.gap
 same_start p q x y same rest e =
     omega (
       arith,
@@ -133,45 +144,73 @@ same_start p q x y same rest e =
       length-append q.gap (segment_bytes q.elements),
     )
 
-pub same_places : (at : ℕ) (ps qs : List Piece) (x y : List ℕ) → AllByRecursion IsPiece ps → AllByRecursion IsPiece qs → Ends x → Ends y → flat_map piece_bytes ps ++ x ≡ flat_map piece_bytes qs ++ y
+pub same_places : (at : ℕ) (ps qs : List Piece) (x y : List ℕ) → AllByRecursion IsPiece ps
+    → AllByRecursion IsPiece qs → Ends x → Ends y
+    → flat_map piece_bytes ps ++ x ≡ flat_map piece_bytes qs ++ y
     → (placed_from at ps ≡ placed_from at qs) × (x ≡ y)
 same_places at [] [] x y h g c d e = (refl, e)
 same_places at [] (q ∷ qs) x y h g c d e = absurd (c q.gap q.elements (flat_map piece_bytes qs ++ y) g.0.gap g.0.segment (sym (regroup q qs y) ∙ sym e))
 same_places at (p ∷ ps) [] x y h g c d e = absurd (d p.gap p.elements (flat_map piece_bytes ps ++ x) h.0.gap h.0.segment (sym (regroup p ps x) ∙ e))
 same_places at (p ∷ ps) (q ∷ qs) x y h g c d e =
     let s = same_piece p q ps qs x y h.0 g.0 e in
-    let gaps = same_start p q (flat_map piece_bytes ps ++ x) (flat_map piece_bytes qs ++ y) s.0 s.1 (sym (append_assoc (piece_bytes p) (flat_map piece_bytes ps) x) ∙ e ∙ append_assoc (piece_bytes q) (flat_map piece_bytes qs) y) in
-    let next : at + length (piece_bytes p) ≡ at + length (piece_bytes q) = omega (arith, gaps, length-append p.gap (segment_bytes p.elements), length-append q.gap (segment_bytes q.elements), ap (λ (es : List (List Spelled)). length (segment_bytes es)) s.0) in
+    let gaps =
+    same_start p q (flat_map piece_bytes ps ++ x) (flat_map piece_bytes qs ++ y) s.0 s.1
+    (sym (append_assoc (piece_bytes p) (flat_map piece_bytes ps) x) ∙ e
+    ∙ append_assoc (piece_bytes q) (flat_map piece_bytes qs) y) in
+    let next : at + length (piece_bytes p) ≡ at + length (piece_bytes q) =
+    omega (
+      arith,
+      gaps,
+      length-append p.gap (segment_bytes p.elements),
+      length-append q.gap (segment_bytes q.elements),
+      ap (λ (es : List (List Spelled)). length (segment_bytes es)) s.0,
+    ) in
     let r = same_places (at + length (piece_bytes p)) ps qs x y h.1 g.1 c d s.1 in
     let start : at + length p.gap ≡ at + length q.gap = ap (λ (n : ℕ). at + n) gaps in
     let segment = s.0 in
-    let one : record { start = at + length p.gap; segment = p.elements } ≡ record { start = at + length q.gap; segment = q.elements } = λ i. record { start = start i; segment = segment i } in
+    let one :
+    record {
+      start = at + length p.gap;
+      segment = p.elements;
+    } ≡ record { start = at + length q.gap; segment = q.elements }
+    =
+    λ i. record { start = start i; segment = segment i } in
     let rest = r.0 ∙ ap (λ (n : ℕ). placed_from n qs) next in
     (λ i. one i ∷ rest i, r.1)
 
 -- the segments of a capture stand at one list of places
-pub one_placed : (input : List ℕ) (p q : List Placed) → IsPlacedCapture input p → IsPlacedCapture input q → p ≡ q
+pub one_placed : (input : List ℕ) (p q : List Placed) → IsPlacedCapture input p → IsPlacedCapture input q
+    → p ≡ q
 one_placed input p q (x, b, r) (y, d, s) =
     sym r.placed_are ∙ (same_places 0 r.pieces s.pieces x y r.each s.each (tail_ends x b) (tail_ends y d) (sym r.text ∙ s.text)).0 ∙ s.placed_are
 
 -- a capture is one list of segments
-pub one_capture : (input : List ℕ) (s t : List (List (List Spelled))) → IsCapture input s → IsCapture input t → s ≡ t
+pub one_capture : (input : List ℕ) (s t : List (List (List Spelled))) → IsCapture input s → IsCapture input t
+    → s ≡ t
 one_capture input s t (p, h, e) (q, g, d) = sym e ∙ ap (λ (x : List Placed). map (λ p. p.segment) x) (one_placed input p q h g) ∙ d
 
 -- ---- of a capture
 
-faults_end : (input : List ℕ) (k : SyntaxKind) (o : ℕ) → (f : FaultsAt input k o) → Ends (f.gap ++ f.first ∷ f.more)
+faults_end : (input : List ℕ) (k : SyntaxKind) (o : ℕ) → (f : FaultsAt input k o)
+    → Ends (f.gap ++ f.first ∷ f.more)
 faults_end input k o f = fault_ends f.gap f.more f.first f.breaks f.no_break (kind_only k f.at (f.first ∷ f.more) f.fault)
 
-pub faults_one : (input : List ℕ) (k l : SyntaxKind) (o p : ℕ) → FaultsAt input k o → FaultsAt input l p → Same k l o p
+pub faults_one : (input : List ℕ) (k l : SyntaxKind) (o p : ℕ) → FaultsAt input k o → FaultsAt input l p
+    → Same k l o p
 faults_one input k l o p f g =
-    let ends = same_places 0 f.reads.pieces g.reads.pieces (f.gap ++ f.first ∷ f.more) (g.gap ++ g.first ∷ g.more) f.reads.each g.reads.each (faults_end input k o f) (faults_end input l p g) (sym f.reads.text ∙ g.reads.text) in
-    let rest : f.first ∷ f.more ≡ g.first ∷ g.more = same_gap f.gap g.gap (f.first ∷ f.more) (g.first ∷ g.more) f.breaks g.breaks f.no_break g.no_break ends.1 in
+    let ends =
+    same_places 0 f.reads.pieces g.reads.pieces (f.gap ++ f.first ∷ f.more) (g.gap ++ g.first ∷ g.more)
+    f.reads.each g.reads.each (faults_end input k o f) (faults_end input l p g)
+    (sym f.reads.text ∙ g.reads.text) in
+    let rest : f.first ∷ f.more ≡ g.first ∷ g.more =
+    same_gap f.gap g.gap (f.first ∷ f.more) (g.first ∷ g.more) f.breaks g.breaks f.no_break g.no_break
+    ends.1 in
     let one = kinds_one k l f.at g.at (g.first ∷ g.more) (subst (λ (y : List ℕ). KindAt k f.at y) rest f.fault) g.fault in
     (one.0, omega (arith, one.1, f.offset_is, g.offset_is, ap length rest))
 
 -- the fault of a capture that is not too long
-short_fault : (k : SyntaxKind) (o : ℕ) (input : List ℕ) → length input ≤ MAX_CAPTURE → k ≢ Memory → CaptureFaultAt k o input → FaultsAt input k o
+short_fault : (k : SyntaxKind) (o : ℕ) (input : List ℕ) → length input ≤ MAX_CAPTURE → k ≢ Memory
+    → CaptureFaultAt k o input → FaultsAt input k o
 short_fault Memory o input le n h = absurd (n refl)
 short_fault CaptureTooLong o input le n h = absurd (omega (arith, h.1))
 short_fault Failed o input le n h = absurd h.fault
@@ -187,7 +226,8 @@ IsSound w = ((segments : List (List (List Spelled))) × IsCapture w segments) �
 abbrev LongFault : SyntaxKind → ℕ → List ℕ → Type 0
 LongFault k o w = ((k ≡ CaptureTooLong) × (o ≡ MAX_CAPTURE) × IsSound w) ⊎ ((k ≢ Incomplete) × FaultsAt w k o)
 
-long_fault : (k : SyntaxKind) (o : ℕ) (input : List ℕ) → MAX_CAPTURE < length input → k ≢ Memory → CaptureFaultAt k o input → LongFault k o (take MAX_CAPTURE input)
+long_fault : (k : SyntaxKind) (o : ℕ) (input : List ℕ) → MAX_CAPTURE < length input → k ≢ Memory
+    → CaptureFaultAt k o input → LongFault k o (take MAX_CAPTURE input)
 long_fault Memory o input lt n h = absurd (n refl)
 long_fault CaptureTooLong o input lt n h = inl (refl, h.0, h.2)
 long_fault Failed o input lt n h = absurd h.fault
@@ -207,8 +247,11 @@ long_one w k l o p (inr (n, f)) (inl (d, e, c)) = absurd (not_sound w k o n f c)
 long_one w k l o p (inr (n, f)) (inr (m, g)) = faults_one w k l o p f g
 
 -- a capture has one fault at most, but for want of memory
-pub one_capture_fault : (input : List ℕ) (f g : SyntaxFault) → IsCaptureFault input f → IsCaptureFault input g → f.kind ≢ Memory → g.kind ≢ Memory → f ≡ g
+pub one_capture_fault : (input : List ℕ) (f g : SyntaxFault) → IsCaptureFault input f → IsCaptureFault input g
+    → f.kind ≢ Memory → g.kind ≢ Memory → f ≡ g
 one_capture_fault input f g h k n m = same_fault f g (elim (cases_lt MAX_CAPTURE (length input)) [
-  | inl lt ↦ long_one (take MAX_CAPTURE input) f.kind g.kind f.offset g.offset (long_fault f.kind f.offset input lt n h) (long_fault g.kind g.offset input lt m k)
+  | inl lt ↦
+      long_one (take MAX_CAPTURE input) f.kind g.kind f.offset g.offset
+      (long_fault f.kind f.offset input lt n h) (long_fault g.kind g.offset input lt m k)
   | inr le ↦ faults_one input f.kind g.kind f.offset g.offset (short_fault f.kind f.offset input le n h) (short_fault g.kind g.offset input le m k)
 ])

@@ -39,7 +39,8 @@ pieces_quotes (p ∷ ps) h =
     omega (arith, ap quotes r.1, quotes_more r.0 (39 ∷ []), quotes_more (piece_bytes p) (flat_map piece_bytes ps), pieces_quotes ps h.1)
 
 -- the longer of two fronts
-over : (xs ys front zs : List ℕ) → xs ++ ys ≡ front ++ zs → length xs ≤ length front → (mid : List ℕ) × (front ≡ xs ++ mid) × (ys ≡ mid ++ zs)
+over : (xs ys front zs : List ℕ) → xs ++ ys ≡ front ++ zs → length xs ≤ length front
+    → (mid : List ℕ) × (front ≡ xs ++ mid) × (ys ≡ mid ++ zs)
 over [] ys front zs e le = (front, refl, e)
 over (x ∷ xs) ys [] zs e le = absurd (omega (arith, le))
 over (x ∷ xs) ys (f ∷ fs) zs e le =
@@ -48,14 +49,26 @@ over (x ∷ xs) ys (f ∷ fs) zs e le =
     let r = over xs ys fs zs tail (omega (arith, le)) in
     (r.0, ap (λ (l : List ℕ). f ∷ l) r.1 ∙ ap (λ (b : ℕ). b ∷ (xs ++ r.0)) (sym head), r.2)
 
-after_rest : (rest more : List ℕ) (p : Piece) (ps : List Piece) (left tail : List ℕ) → tail ≡ flat_map piece_bytes ps ++ left → AllByRecursion IsPiece (p ∷ ps) → rest ++ more ≡ piece_bytes p ++ tail → length rest < length (piece_bytes p) → length (p ∷ ps) ≤ quotes more
+after_rest : (rest more : List ℕ) (p : Piece) (ps : List Piece) (left tail : List ℕ)
+    → tail ≡ flat_map piece_bytes ps ++ left → AllByRecursion IsPiece (p ∷ ps)
+    → rest ++ more ≡ piece_bytes p ++ tail → length rest < length (piece_bytes p)
+    → length (p ∷ ps) ≤ quotes more
 after_rest rest more p ps left tail is each whole lt =
     let r = piece_last p each.0 in
     let split : rest ++ more ≡ r.0 ++ 39 ∷ tail = whole ∙ ap (λ (xs : List ℕ). xs ++ tail) r.1 ∙ append_assoc r.0 (39 ∷ []) tail in
     let m = over rest more r.0 (39 ∷ tail) split (omega (arith, lt, ap length r.1, length-append r.0 (39 ∷ []))) in
-    omega (arith, ap quotes m.2, quotes_more m.0 (39 ∷ tail), quotes_more (39 ∷ []) tail, ap quotes is, quotes_more (flat_map piece_bytes ps) left, pieces_quotes ps each.1)
+    omega (
+      arith,
+      ap quotes m.2,
+      quotes_more m.0 (39 ∷ tail),
+      quotes_more (39 ∷ []) tail,
+      ap quotes is,
+      quotes_more (flat_map piece_bytes ps) left,
+      pieces_quotes ps each.1,
+    )
 
-few_pieces : (rest more : List ℕ) (ps : List Piece) (left : List ℕ) → Ends rest → AllByRecursion IsPiece ps → rest ++ more ≡ flat_map piece_bytes ps ++ left → length ps ≤ quotes more
+few_pieces : (rest more : List ℕ) (ps : List Piece) (left : List ℕ) → Ends rest → AllByRecursion IsPiece ps
+    → rest ++ more ≡ flat_map piece_bytes ps ++ left → length ps ≤ quotes more
 few_pieces rest more [] left ends each e = omega arith
 few_pieces rest more (p ∷ ps) left ends each e =
     let tail = flat_map piece_bytes ps ++ left in
@@ -71,5 +84,12 @@ placed_count : (at : ℕ) (ps : List Piece) → length (placed_from at ps) ≡ l
 placed_count at [] = refl
 placed_count at (p ∷ ps) = ap suc (placed_count (at + length (piece_bytes p)) ps)
 
-pub few_segments : (rest more : List ℕ) (placed : List Placed) (left : List ℕ) → IsRest rest → SplitsInto (rest ++ more) placed left → length placed ≤ count_by is_quote more
-few_segments rest more placed left r s = omega (arith, few_pieces rest more s.reads.pieces left (rest_ends rest r) s.reads.each s.reads.text, ap length s.reads.placed_are, placed_count 0 s.reads.pieces)
+pub few_segments : (rest more : List ℕ) (placed : List Placed) (left : List ℕ) → IsRest rest
+    → SplitsInto (rest ++ more) placed left → length placed ≤ count_by is_quote more
+few_segments rest more placed left r s =
+    omega (
+      arith,
+      few_pieces rest more s.reads.pieces left (rest_ends rest r) s.reads.each s.reads.text,
+      ap length s.reads.placed_are,
+      placed_count 0 s.reads.pieces,
+    )

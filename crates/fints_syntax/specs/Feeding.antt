@@ -11,7 +11,9 @@ use Rattle.fints_syntax.specs.declared.fault.SyntaxKind.TheVariants.{Incomplete}
 use Rattle.fints_syntax.specs.declared.capture.TheConstants.{MAX_CAPTURE}
 use Rattle.fints_syntax_segments.specs.declared.item.OwnedSegment.{OwnedSegment}
 
--- What a feeder keeps: the bytes after the last whole segment, their offset in the stream, once it has met a fault the fault's offset, and the places of the segments that the last piece gave, one that was refused for want of memory not counted.
+-- What a feeder keeps: the bytes after the last whole segment, their offset in the stream, once it has met a
+-- fault the fault's offset, and the places of the segments that the last piece gave, one that was refused for
+-- want of memory not counted.
 pub record Fed : Type 0 where
   pub rest : List ℕ
   pub at : ℕ

@@ -14,7 +14,9 @@ use Rattle.fints_syntax.specs.Feeding.{Fed, IsEnded, IsGiven, IsNotGiven, unfed}
 -- a feeder takes these pieces, one after the other, and they give these segments
 abbrev pub AreGiven : Fed → List (List ℕ) → List OwnedSegment → Fed → Type 0
 AreGiven old [] segments new = (segments ≡ []) × (new ≡ old)
-AreGiven old (p ∷ ps) segments new = (first more : List OwnedSegment) × (next : Fed) × IsGiven old p first next × (segments ≡ first ++ more) × AreGiven next ps more new
+AreGiven old (p ∷ ps) segments new =
+    (first more : List OwnedSegment) × (next : Fed) × IsGiven old p first next × (segments ≡ first ++ more)
+    × AreGiven next ps more new
 
 -- a feeder has given the whole segments of a stream, and keeps what is left of it
 pub record HasGiven (stream : List ℕ) (segments : List OwnedSegment) (fed : Fed) : Type 0 where
@@ -27,12 +29,15 @@ pub record HasGiven (stream : List ℕ) (segments : List OwnedSegment) (fed : Fe
 
 -- however a stream is cut, its pieces together give its whole segments
 abbrev pub AnyCutting : Type 0
-AnyCutting = (pieces : List (List ℕ)) (segments : List OwnedSegment) (fed : Fed) → AreGiven unfed pieces segments fed → HasGiven (flat_map (λ p. p) pieces) segments fed
+AnyCutting =
+    (pieces : List (List ℕ)) (segments : List OwnedSegment) (fed : Fed) → AreGiven unfed pieces segments fed
+    → HasGiven (flat_map (λ p. p) pieces) segments fed
 
 -- the fault that refuses a piece is that of the stream so far, with its offset there
 abbrev pub FaultIsOfStream : Type 0
 FaultIsOfStream =
-    (stream piece : List ℕ) (segments : List OwnedSegment) (fed new : Fed) (f : SyntaxFault) → HasGiven stream segments fed → IsNotGiven fed.failed fed piece f new → f.kind ≢ Memory
+    (stream piece : List ℕ) (segments : List OwnedSegment) (fed new : Fed) (f : SyntaxFault)
+    → HasGiven stream segments fed → IsNotGiven fed.failed fed piece f new → f.kind ≢ Memory
     → PieceFaultAt MAX_CAPTURE f.kind f.offset (stream ++ piece)
 
 -- a stream that may end is a capture of the segments that were given

@@ -41,7 +41,8 @@ WrittenIsRead = (s : OwnedSegment) (rest : List ℕ) → IsWritable s → Begins
 
 abbrev pub NothingElseIsRead : Type 0
 NothingElseIsRead =
-    (s : OwnedSegment) (rest : List ℕ) (es : List (List Spelled)) (len : ℕ) → IsWritable s → IsSegment es → len ≤ length (written_segment s ++ rest) → take len (written_segment s ++ rest) ≡ segment_bytes es
+    (s : OwnedSegment) (rest : List ℕ) (es : List (List Spelled)) (len : ℕ) → IsWritable s → IsSegment es
+    → len ≤ length (written_segment s ++ rest) → take len (written_segment s ++ rest) ≡ segment_bytes es
     → (es ≡ written_tree s) × (len ≡ length (written_segment s))
 
 -- the bytes begin with a text of this segment, of so many bytes
@@ -58,7 +59,9 @@ OneReading = (bytes : List ℕ) (s t : OwnedSegment) (len n : ℕ) → BeginsWit
 
 -- what is written for a segment within the limits is read back as that segment and as nothing else, whatever bytes follow it
 abbrev pub WrittenIsReadBack : Type 0
-WrittenIsReadBack = (s t : OwnedSegment) (rest : List ℕ) (len : ℕ) → IsWritable s → BeginsWithText (written_segment s ++ rest) t len ↔ ((t ≡ s) × (len ≡ length (written_segment s)))
+WrittenIsReadBack =
+    (s t : OwnedSegment) (rest : List ℕ) (len : ℕ) → IsWritable s
+    → BeginsWithText (written_segment s ++ rest) t len ↔ ((t ≡ s) × (len ≡ length (written_segment s)))
 
 -- bytes that begin with no segment have one fault at most: one kind, and one offset
 abbrev pub OneFault : Type 0
@@ -78,12 +81,16 @@ ReadIsSplit = (bytes : List ℕ) (placed : List Placed) (r : ReadTo) → IsReadT
 
 -- a stream that is cut in two: its segments are those of the first part, and then those of the first part's rest with the second part
 abbrev pub CutSegments : Type 0
-CutSegments = (first second : List ℕ) (placed more : List Placed) (rest left : List ℕ) → SplitsInto first placed rest → SplitsInto (rest ++ second) more left → SplitsInto (first ++ second) (placed ++ moved_by (whole_len first rest) more) left
+CutSegments =
+    (first second : List ℕ) (placed more : List Placed) (rest left : List ℕ) → SplitsInto first placed rest
+    → SplitsInto (rest ++ second) more left
+    → SplitsInto (first ++ second) (placed ++ moved_by (whole_len first rest) more) left
 
 -- and its fault is that of the first part's rest with the second part
 abbrev pub CutFault : Type 0
 CutFault =
-    (first second : List ℕ) (placed : List Placed) (rest : List ℕ) (limit o : ℕ) (kind : SyntaxKind) → SplitsInto first placed rest → PieceFaultAt limit kind o (rest ++ second)
+    (first second : List ℕ) (placed : List Placed) (rest : List ℕ) (limit o : ℕ) (kind : SyntaxKind)
+    → SplitsInto first placed rest → PieceFaultAt limit kind o (rest ++ second)
     → PieceFaultAt (whole_len first rest + limit) kind (whole_len first rest + o) (first ++ second)
 
 -- a fault of a stream stays what it is, and where it is, whatever bytes follow
@@ -92,7 +99,9 @@ FaultLasts = (bytes more : List ℕ) (limit o : ℕ) (kind : SyntaxKind) → Pie
 
 -- what follows bytes without a whole segment ends no more segments than it has `'`
 abbrev pub FewSegments : Type 0
-FewSegments = (rest more : List ℕ) (placed : List Placed) (left : List ℕ) → IsRest rest → SplitsInto (rest ++ more) placed left → length placed ≤ count_by is_quote more
+FewSegments =
+    (rest more : List ℕ) (placed : List Placed) (left : List ℕ) → IsRest rest
+    → SplitsInto (rest ++ more) placed left → length placed ≤ count_by is_quote more
 
 -- bytes have one list of whole segments, and one rest
 abbrev pub OneSplit : Type 0
@@ -100,11 +109,15 @@ OneSplit = (bytes : List ℕ) (p q : List Placed) (x y : List ℕ) → SplitsInt
 
 -- and no fault then, unless more bytes may mend it
 abbrev pub NoSplitAtFault : Type 0
-NoSplitAtFault = (bytes : List ℕ) (p : List Placed) (x : List ℕ) (kind : SyntaxKind) (o : ℕ) → SplitsInto bytes p x → kind ≢ Incomplete → FaultsAt bytes kind o → ⊥
+NoSplitAtFault =
+    (bytes : List ℕ) (p : List Placed) (x : List ℕ) (kind : SyntaxKind) (o : ℕ) → SplitsInto bytes p x
+    → kind ≢ Incomplete → FaultsAt bytes kind o → ⊥
 
 -- the fault of a stream from its start on is that of a capture, and none of the others that a capture may have
 abbrev pub PieceFaultIsCaptureFault : Type 0
-PieceFaultIsCaptureFault = (bytes : List ℕ) (f : SyntaxFault) → PieceFaultAt MAX_CAPTURE f.kind f.offset bytes → IsCaptureFault bytes f × (f.kind ≢ Memory) × (f.kind ≢ Incomplete)
+PieceFaultIsCaptureFault =
+    (bytes : List ℕ) (f : SyntaxFault) → PieceFaultAt MAX_CAPTURE f.kind f.offset bytes
+    → IsCaptureFault bytes f × (f.kind ≢ Memory) × (f.kind ≢ Incomplete)
 
 -- a capture is one list of segments
 abbrev pub OneCapture : Type 0
@@ -112,7 +125,9 @@ OneCapture = (input : List ℕ) (s t : List (List (List Spelled))) → IsCapture
 
 -- bytes with a fault, but for want of memory, are no capture where they are within the limit
 abbrev pub NoCaptureAtFault : Type 0
-NoCaptureAtFault = (input : List ℕ) (f : SyntaxFault) (s : List (List (List Spelled))) → IsCaptureFault input f → f.kind ≢ Memory → length input ≤ MAX_CAPTURE → IsCapture input s → ⊥
+NoCaptureAtFault =
+    (input : List ℕ) (f : SyntaxFault) (s : List (List (List Spelled))) → IsCaptureFault input f
+    → f.kind ≢ Memory → length input ≤ MAX_CAPTURE → IsCapture input s → ⊥
 
 -- the segments of a capture stand at one list of places
 abbrev pub OnePlacedCapture : Type 0

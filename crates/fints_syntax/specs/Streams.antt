@@ -1,4 +1,5 @@
--- Segments in bytes that come in pieces: which of them are whole, and what is left for the next piece. Words of private contracts and proofs alone stand last, under a heading.
+-- Segments in bytes that come in pieces: which of them are whole, and what is left for the next piece. Words
+-- of private contracts and proofs alone stand last, under a heading.
 use Rattle.std.specs.Prelude.{◌≡◌, ◌≢◌, ◌⊎◌, ℕ, ◌+◌, ◌-◌, ◌<◌, ◌≤◌, ◌==◌, Bool, List, [], ◌∷◌, ◌++◌, length, map, take, drop}
 use Rattle.std.specs.List.{AllByRecursion}
 use Rattle.std.specs.Option.{option_map, unwrap_or}
@@ -61,9 +62,12 @@ pub record IsReadTo (bytes : List ℕ) (placed : List Placed) (r : ReadTo) : Typ
   pub ready : IsReady (drop r.whole bytes) r.rest
   pub unended : IsBegun (drop r.rest.gap (drop r.whole bytes))
 
--- The fault of bytes of which at most `limit` are read: an unfinished segment is none, since more bytes may end it; and where more bytes stand there, and those that are read have no fault, there are too many.
+-- The fault of bytes of which at most `limit` are read: an unfinished segment is none, since more bytes may
+-- end it; and where more bytes stand there, and those that are read have no fault, there are too many.
 abbrev pub PieceFaultAt : ℕ → SyntaxKind → ℕ → List ℕ → Type 0
-PieceFaultAt limit CaptureTooLong o bytes = (o ≡ limit) × (limit < length bytes) × (placed : List Placed) × (rest : List ℕ) × SplitsInto (take limit bytes) placed rest
+PieceFaultAt limit CaptureTooLong o bytes =
+    (o ≡ limit) × (limit < length bytes) × (placed : List Placed) × (rest : List ℕ)
+    × SplitsInto (take limit bytes) placed rest
 PieceFaultAt limit kind o bytes = (kind ≢ Incomplete) × FaultsAt (take limit bytes) kind o
 
 -- want of memory

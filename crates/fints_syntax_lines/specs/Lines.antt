@@ -1,4 +1,6 @@
--- Texts of lines: what lines spell, what a reader finds in a text, and which of its lines is refused first. A line stands without the line feed (10) that ends it. Words of private contracts and proofs alone stand last, under a heading.
+-- Texts of lines: what lines spell, what a reader finds in a text, and which of its lines is refused first. A
+-- line stands without the line feed (10) that ends it. Words of private contracts and proofs alone stand
+-- last, under a heading.
 use Rattle.fints_syntax_lines.specs.declared.lines.TheConstants.{MAX_TEXT}
 use Rattle.std.specs.Prelude.{ℕ, ◌+◌, ◌-◌, ◌≡◌, ◌≢◌, ◌≤◌, Option, MatchOption, List, [], ◌∷◌, ◌++◌, length}
 use Rattle.std.specs.List.{All, flat_map}

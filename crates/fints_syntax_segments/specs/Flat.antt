@@ -29,7 +29,11 @@ abbrev pub elements_at : List OwnedItem → List Group → List (List OwnedItem)
 elements_at items groups = map (element_at items) groups
 
 abbrev pub filled_of : Inside → Filled
-filled_of f = record { elements = elements_at (all_items f.bytes.items f.spans.items) f.groups.items; items = drop f.open (all_items f.bytes.items f.spans.items) }
+filled_of f =
+    record {
+      elements = elements_at (all_items f.bytes.items f.spans.items) f.groups.items;
+      items = drop f.open (all_items f.bytes.items f.spans.items);
+    }
 
 abbrev pub IsSpanIn : ℕ → Span → Type 0
 IsSpanIn n s = s.start + s.len ≤ n

@@ -1,4 +1,5 @@
--- A segment's elements and items by value. Both count from 1, and what is absent is empty. These words hold from element 2 on: the head is element 1, and its items are the fields of `head`.
+-- A segment's elements and items by value. Both count from 1, and what is absent is empty. These words hold
+-- from element 2 on: the head is element 1, and its items are the fields of `head`.
 use Rattle.std.specs.Prelude.{ℕ, ◌-◌, ◌==◌, ◌&&◌, Bool, List, [], get_or, map}
 use Rattle.std.specs.Str.{bytes_eq}
 use Rattle.fints_syntax_segments.specs.declared.item.OwnedItem.{OwnedItem}

@@ -11,7 +11,8 @@ use Rattle.std.specs.Map.{keys_of}
 use Rattle.toml.proofs.Views.{Entry}
 use Rattle.toml.specs.View.{members_view}
 
-pub document_some : (text : List ℕ) (ms : Members) → length text ≤ 1048576 → IsUtf8 text → parse_document text ≡ Some ms → document text ≡ Some ms
+pub document_some : (text : List ℕ) (ms : Members) → length text ≤ 1048576 → IsUtf8 text
+    → parse_document text ≡ Some ms → document text ≡ Some ms
 unfolding document
 document_some text ms short utf8 parsed = rw (is_utf8-from_IsUtf8 text utf8, parsed) (grind (arith, nat_tests))
 
@@ -30,6 +31,7 @@ unfolding document
 document_none text h = test_false (is_utf8 text) (nat_le (length text) 1048576) (parse_document text) (λ e. h (IsUtf8-from_is_utf8 text e))
 
 -- what the keys of a map say of the members that it stands for
-pub only_keys_view : (names : List (List ℕ)) (es : List Entry) → list_all (λ k. is_among names (string_bytes k)) (keys_of es) ≡ only_keys names (members_view es)
+pub only_keys_view : (names : List (List ℕ)) (es : List Entry)
+    → list_all (λ k. is_among names (string_bytes k)) (keys_of es) ≡ only_keys names (members_view es)
 only_keys_view names [] = refl
 only_keys_view names (e ∷ es) = ap (λ b. is_among names (string_bytes e.0) && b) (only_keys_view names es)

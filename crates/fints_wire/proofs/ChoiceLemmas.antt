@@ -12,7 +12,8 @@ use Rattle.fints_wire.specs.Choices.{longest_choice, shortest_choice, with_longe
 abbrev IsPair : NamedField × NamedValue → Type 0
 IsPair p = IsChosen p.0 p.1
 
-all_chosen : (f : NamedField → NamedValue) → ((x : NamedField) → IsChosen x (f x)) → (fields : List NamedField) → All IsPair (zip fields (map f fields))
+all_chosen : (f : NamedField → NamedValue) → ((x : NamedField) → IsChosen x (f x))
+    → (fields : List NamedField) → All IsPair (zip fields (map f fields))
 all_chosen f h [] = All-nil IsPair
 all_chosen f h (x ∷ xs) = All-cons IsPair (x, f x) (zip xs (map f xs)) (h x) (all_chosen f h xs)
 

@@ -35,7 +35,8 @@ element_text-len end (i ∷ j ∷ is) =
     let ih = element_text-len end (j ∷ is) in
     omega (arith, length-append (written i ++ 58 ∷ []) (element_text end (j ∷ is)), length-append (written i) (58 ∷ []))
 
-elements_text-more : (e f : List OwnedItem) (es : List (List OwnedItem)) → elements_text (e ∷ f ∷ es) ≡ element_text 43 e ++ elements_text (f ∷ es)
+elements_text-more : (e f : List OwnedItem) (es : List (List OwnedItem))
+    → elements_text (e ∷ f ∷ es) ≡ element_text 43 e ++ elements_text (f ∷ es)
 elements_text-more e f es = flat_map-append token_bytes (element_tokens 43 (map written_item e)) (segment_tokens (written_elements (f ∷ es)))
 
 elements_text-len : (es : List (List OwnedItem)) → length (elements_text es) ≡ total items_size es
@@ -54,7 +55,9 @@ written_segment-len s = elements_text-len (segment_values s)
 
 segments_text-len : (ss : List OwnedSegment) → length (segments_text ss) ≡ total segment_len ss
 segments_text-len [] = refl
-segments_text-len (s ∷ ss) = let ih = segments_text-len ss in let one = written_segment-len s in omega (arith, length-append (written_segment s) (segments_text ss))
+segments_text-len (s ∷ ss) =
+    let ih = segments_text-len ss in let one = written_segment-len s in omega
+    (arith, length-append (written_segment s) (segments_text ss))
 
 pub total-append : {X : Type 0} (f : X → ℕ) (xs ys : List X) → total f (xs ++ ys) ≡ total f xs + total f ys
 total-append f [] ys = omega arith
@@ -62,37 +65,44 @@ total-append f (x ∷ xs) ys = let ih = total-append f xs ys in omega arith
 
 -- ---- templates
 
-get_or-sizes : (fields : List (List OwnedItem)) (i : ℕ) → items_size (get_or fields i []) ≡ get_or (map items_size fields) i 0
+get_or-sizes : (fields : List (List OwnedItem)) (i : ℕ)
+    → items_size (get_or fields i []) ≡ get_or (map items_size fields) i 0
 get_or-sizes [] i = refl
 get_or-sizes (x ∷ xs) zero = refl
 get_or-sizes (x ∷ xs) (suc i) = get_or-sizes xs i
 
-filled_item-len : (filling : FillingValue) (t : TemplateItem) → items_size (filled_item filling t) ≡ item_len (sizes_of filling) t
+filled_item-len : (filling : FillingValue) (t : TemplateItem)
+    → items_size (filled_item filling t) ≡ item_len (sizes_of filling) t
 filled_item-len filling (Literal item) = omega arith
 filled_item-len filling Dialog = refl
 filled_item-len filling (Field f) = get_or-sizes filling.fields f
 
-filled_element-len : (filling : FillingValue) (e : List TemplateItem) → items_size (filled_element filling e) ≡ element_len (sizes_of filling) e
+filled_element-len : (filling : FillingValue) (e : List TemplateItem)
+    → items_size (filled_element filling e) ≡ element_len (sizes_of filling) e
 filled_element-len filling [] = refl
 filled_element-len filling (t ∷ ts) =
     total-append item_size (filled_item filling t) (filled_element filling ts)
     ∙ ap (λ (n : ℕ). n + items_size (filled_element filling ts)) (filled_item-len filling t)
     ∙ ap (λ (n : ℕ). item_len (sizes_of filling) t + n) (filled_element-len filling ts)
 
-filled_elements-len : (filling : FillingValue) (es : List (List TemplateItem)) → total items_size (filled_elements filling es) ≡ elements_len (sizes_of filling) es
+filled_elements-len : (filling : FillingValue) (es : List (List TemplateItem))
+    → total items_size (filled_elements filling es) ≡ elements_len (sizes_of filling) es
 filled_elements-len filling [] = refl
 filled_elements-len filling (e ∷ es) =
     ap (λ (n : ℕ). n + total items_size (filled_elements filling es)) (filled_element-len filling e)
     ∙ ap (λ (n : ℕ). element_len (sizes_of filling) e + n) (filled_elements-len filling es)
 
-filled_segments-len : (filling : FillingValue) (n : ℕ) (ts : List Template) → total segment_len (filled_segments filling n ts) ≡ segments_len (sizes_of filling) n ts
+filled_segments-len : (filling : FillingValue) (n : ℕ) (ts : List Template)
+    → total segment_len (filled_segments filling n ts) ≡ segments_len (sizes_of filling) n ts
 filled_segments-len filling n [] = refl
 filled_segments-len filling n (t ∷ ts) =
     ap (λ (x : ℕ). head_len t.kind n t.version + x + total segment_len (filled_segments filling (n + 1) ts)) (filled_elements-len filling t.elements)
     ∙ ap (λ (x : ℕ). head_len t.kind n t.version + elements_len (sizes_of filling) t.elements + x) (filled_segments-len filling (n + 1) ts)
 
 -- the text of the inner segments is as long as the sum says
-pub inner-len : (script : ScriptValue) (step : StepValue) (filling : FillingValue) → length (segments_text (inner_segments script step filling)) ≡ segments_len (sizes_of filling) 2 (templates_of script step)
+pub inner-len : (script : ScriptValue) (step : StepValue) (filling : FillingValue)
+    → length (segments_text (inner_segments script step filling)) ≡ segments_len (sizes_of filling) 2
+    (templates_of script step)
 inner-len script step filling = segments_text-len (inner_segments script step filling) ∙ filled_segments-len filling 2 (templates_of script step)
 
 -- ---- digits
@@ -134,7 +144,9 @@ twelve_digits-len n small =
 
 size_text-len : (n : ℕ) → n < 10 ^ 12 → text_len (twelve_digits n) ≡ 12
 size_text-len n small =
-    bare_len (twelve_digits n) (All-append IsBare (replicate (12 - length (decimal n)) 48) (decimal n) (All-replicate IsBare (12 - length (decimal n)) 48 refl) (decimal_bare n (omega arith)))
+    bare_len (twelve_digits n)
+    (All-append IsBare (replicate (12 - length (decimal n)) 48) (decimal n)
+    (All-replicate IsBare (12 - length (decimal n)) 48 refl) (decimal_bare n (omega arith)))
     ∙ twelve_digits-len n small
 
 -- ---- messages
@@ -142,16 +154,21 @@ size_text-len n small =
 binary-len : (bytes : List ℕ) → item_size (Bin bytes) ≡ binary_size (length bytes)
 binary-len bytes = omega (arith, length-append (decimal (length bytes)) (64 ∷ bytes))
 
-middle-len : (sealed : Bool) (seal : List (List OwnedItem)) (inner : List OwnedSegment) → total segment_len (middle_segments sealed seal inner) ≡ middle_len sealed (total items_size seal) (total segment_len inner)
+middle-len : (sealed : Bool) (seal : List (List OwnedItem)) (inner : List OwnedSegment)
+    → total segment_len (middle_segments sealed seal inner) ≡ middle_len sealed (total items_size seal)
+    (total segment_len inner)
 middle-len false seal inner = refl
 middle-len true seal inner =
     let text = segments_text-len inner in
-    let bin : item_size (Bin (segments_text inner)) ≡ binary_size (total segment_len inner) = binary-len (segments_text inner) ∙ ap (λ (n : ℕ). binary_size n) text in
+    let bin : item_size (Bin (segments_text inner)) ≡ binary_size (total segment_len inner) =
+    binary-len (segments_text inner) ∙ ap (λ (n : ℕ). binary_size n) text in
     omega arith
 
 -- however the size is given, the message is as long
-message_with-len : (script : ScriptValue) (step : StepValue) (filling : FillingValue) (number size : ℕ) → number < 2 ^ 64 → size < 10 ^ 12
-    → length (segments_text (message_with script step filling number size)) ≡ message_len script step (sizes_of filling) number
+message_with-len : (script : ScriptValue) (step : StepValue) (filling : FillingValue) (number size : ℕ)
+    → number < 2 ^ 64 → size < 10 ^ 12
+    → length (segments_text (message_with script step filling number size)) ≡ message_len script step
+    (sizes_of filling) number
 message_with-len script step filling number size small short =
     let inner : List OwnedSegment = inner_segments script step filling in
     let seal : List (List OwnedItem) = filled_elements filling (seal_of script) in
@@ -159,7 +176,9 @@ message_with-len script step filling number size small short =
     let last : OwnedSegment = last_segment (2 + length (templates_of script step)) number in
     let all = segments_text-len (message_with script step filling number size) in
     let split = total-append segment_len middle (last ∷ []) in
-    let mid : total segment_len middle ≡ middle_len step.sealed (elements_len (sizes_of filling) (seal_of script)) (segments_len (sizes_of filling) 2 (templates_of script step)) =
+    let mid : total segment_len middle ≡ middle_len step.sealed
+    (elements_len (sizes_of filling) (seal_of script))
+    (segments_len (sizes_of filling) 2 (templates_of script step)) =
     middle-len step.sealed seal inner
     ∙ ap (λ (x : ℕ). middle_len step.sealed x (total segment_len inner)) (filled_elements-len filling (seal_of script))
     ∙ ap (λ (x : ℕ). middle_len step.sealed (elements_len (sizes_of filling) (seal_of script)) x) (filled_segments-len filling 2 (templates_of script step)) in
@@ -168,9 +187,14 @@ message_with-len script step filling number size small short =
     omega arith
 
 -- the size in the first segment is the length of the whole
-pub size_is : (script : ScriptValue) (step : StepValue) (filling : FillingValue) (number : ℕ) → number < 2 ^ 64 → message_len script step (sizes_of filling) number < 10 ^ 12
+pub size_is : (script : ScriptValue) (step : StepValue) (filling : FillingValue) (number : ℕ)
+    → number < 2 ^ 64 → message_len script step (sizes_of filling) number < 10 ^ 12
     → (message_size script step filling number ≡ message_len script step (sizes_of filling) number)
-    × (length (segments_text (message_with script step filling number (message_size script step filling number))) ≡ message_len script step (sizes_of filling) number)
+    × (length
+    (segments_text (message_with script step filling number (message_size script step filling number)))
+    ≡ message_len
+    script step (sizes_of filling) number)
 size_is script step filling number small short =
-    let size : message_size script step filling number ≡ message_len script step (sizes_of filling) number = message_with-len script step filling number 0 small (omega arith) in
+    let size : message_size script step filling number ≡ message_len script step (sizes_of filling) number =
+    message_with-len script step filling number 0 small (omega arith) in
     (size, message_with-len script step filling number (message_size script step filling number) small (omega arith))

@@ -49,7 +49,8 @@ written-len [] = refl
 written-len (e ∷ es) = let one = length-map e written_item in let ih = written-len es in omega arith
 
 -- a token for each item
-pub tokens-len : (s : OwnedSegment) → length (segment_tokens (written_tree s)) ≡ length (head_items s.head) + total length s.elements
+pub tokens-len : (s : OwnedSegment)
+    → length (segment_tokens (written_tree s)) ≡ length (head_items s.head) + total length s.elements
 tokens-len s = segment_tokens-len (written_tree s) ∙ written-len (segment_values s)
 
 -- ---- fillings
@@ -59,19 +60,22 @@ pub record IsFew (filling : FillingValue) (figures : List Figures) : Type 0 wher
   pub dialog : length filling.dialog ≤ 1
   pub fields : (i : ℕ) → length (get_or filling.fields i []) ≤ (get_or figures i no_figures).items
 
-item_few : (filling : FillingValue) (figures : List Figures) (t : TemplateItem) → IsFew filling figures → length (filled_item filling t) ≤ item_count figures t
+item_few : (filling : FillingValue) (figures : List Figures) (t : TemplateItem) → IsFew filling figures
+    → length (filled_item filling t) ≤ item_count figures t
 item_few filling figures (items.Literal item) h = omega arith
 item_few filling figures items.Dialog h = h.dialog
 item_few filling figures (items.Field f) h = h.fields f
 
-element_few : (filling : FillingValue) (figures : List Figures) (e : List TemplateItem) → IsFew filling figures → length (filled_element filling e) ≤ element_count figures e
+element_few : (filling : FillingValue) (figures : List Figures) (e : List TemplateItem)
+    → IsFew filling figures → length (filled_element filling e) ≤ element_count figures e
 element_few filling figures [] h = omega arith
 element_few filling figures (t ∷ ts) h =
     let one = item_few filling figures t h in
     let ih = element_few filling figures ts h in
     omega (arith, length-append (filled_item filling t) (filled_element filling ts))
 
-elements_few : (filling : FillingValue) (figures : List Figures) (es : List (List TemplateItem)) → IsFew filling figures → total length (filled_elements filling es) ≤ items_in figures es
+elements_few : (filling : FillingValue) (figures : List Figures) (es : List (List TemplateItem))
+    → IsFew filling figures → total length (filled_elements filling es) ≤ items_in figures es
 elements_few filling figures [] h = omega arith
 elements_few filling figures (e ∷ es) h =
     let one = element_few filling figures e h in
@@ -81,7 +85,9 @@ elements_few filling figures (e ∷ es) h =
 abbrev IsPair : NamedField × NamedValue → Type 0
 IsPair p = IsChosen p.0 p.1
 
-field_few : (fields : List NamedField) (values : List NamedValue) (i : ℕ) → Admits fields values → length (get_or (items_of_fields fields values) i []) ≤ (get_or (map figures_of fields) i no_figures).items
+field_few : (fields : List NamedField) (values : List NamedValue) (i : ℕ) → Admits fields values
+    → length
+    (get_or (items_of_fields fields values) i []) ≤ (get_or (map figures_of fields) i no_figures).items
 field_few [] values i h = omega arith
 field_few (f ∷ fs) [] i h = let n = h.0 in absurd (omega arith)
 field_few (f ∷ fs) (v ∷ vs) zero h = let one : IsPair (f, v) = All-head IsPair (f, v) (zip fs vs) h.1 in has_few_items f.class v.value one.1
@@ -93,7 +99,8 @@ dialog_class (classes.Bin c) h = absurd h
 dialog_class (classes.OneOf c) h = absurd h
 dialog_class (classes.Account c) h = absurd h
 
-dialog_one : (fields : List NamedField) → 1 ≤ length fields → HasDialog fields → (get_or (map figures_of fields) 0 no_figures).items ≡ 1
+dialog_one : (fields : List NamedField) → 1 ≤ length fields → HasDialog fields
+    → (get_or (map figures_of fields) 0 no_figures).items ≡ 1
 dialog_one [] some h = absurd (omega arith)
 dialog_one (f ∷ fs) some h = dialog_class f.class h.1
 
@@ -125,19 +132,38 @@ module _ (script : ScriptValue) (values : List NamedValue) (number : ℕ) (sound
   frame_few : (elements : List (List TemplateItem)) → IsSoundFrame script.fields elements → HasFew elements
   frame_few elements h = let a = elements_few filling figures elements choice_few in let b = h.few in omega arith
 
-  seal_few : (seal : Option (List (List TemplateItem))) → IfSome seal (IsSoundFrame script.fields) → HasFew (elim seal [ None ↦ [] | Some seal ↦ seal ])
+  seal_few : (seal : Option (List (List TemplateItem))) → IfSome seal (IsSoundFrame script.fields)
+      → HasFew (elim seal [ None ↦ [] | Some seal ↦ seal ])
   seal_few None h = omega arith
   seal_few (Some seal) h = frame_few seal h
 
-  pub sealed_few : total length (filled_elements (filling_of script.fields values number) (seal_of script)) ≤ 10000
+  pub sealed_few : total length
+      (filled_elements (filling_of script.fields values number) (seal_of script)) ≤ 10000
   sealed_few = seal_few script.seal sound.seal
 
   abbrev IsFewTemplate : Template → Type 0
   IsFewTemplate t = HasFew t.elements
 
-  pub templates_few : (step : StepValue) → IsSoundStep script step → All (λ (t : Template). total length (filled_elements (filling_of script.fields values number) t.elements) ≤ 10000) (templates_of script step)
+  pub templates_few : (step : StepValue) → IsSoundStep script step
+      → All
+      (λ (t : Template).
+      total length (filled_elements (filling_of script.fields values number) t.elements) ≤ 10000)
+      (templates_of script step)
   templates_few step h =
-      let heads : All IsFewTemplate (map head_template (signers_of script step)) = All-map IsFewTemplate head_template (signers_of script step) (All-map (λ signer. IsFewTemplate (head_template signer)) (signer_at script.signers) step.signers (λ i d lt. frame_few _ (sound.signers (get_or step.signers i d) no_signer (h.signers i d lt)).head)) in
-      let ends : All IsFewTemplate (map end_template (signers_of script step)) = All-map IsFewTemplate end_template (signers_of script step) (All-map (λ signer. IsFewTemplate (end_template signer)) (signer_at script.signers) step.signers (λ i d lt. frame_few _ (sound.signers (get_or step.signers i d) no_signer (h.signers i d lt)).end)) in
-      let body : All IsFewTemplate step.templates = λ i d lt. let one = h.templates i d lt in let a = elements_few filling figures (get_or step.templates i d).elements choice_few in let b = one.few in omega arith in
-      All-append IsFewTemplate (map head_template (signers_of script step)) (step.templates ++ map end_template (signers_of script step)) heads (All-append IsFewTemplate step.templates (map end_template (signers_of script step)) body ends)
+      let heads : All IsFewTemplate (map head_template (signers_of script step)) =
+      All-map IsFewTemplate head_template (signers_of script step)
+      (All-map (λ signer. IsFewTemplate (head_template signer)) (signer_at script.signers)
+      step.signers
+      (λ i d lt.
+      frame_few _ (sound.signers (get_or step.signers i d) no_signer (h.signers i d lt)).head)) in
+      let ends : All IsFewTemplate (map end_template (signers_of script step)) =
+      All-map IsFewTemplate end_template (signers_of script step)
+      (All-map (λ signer. IsFewTemplate (end_template signer)) (signer_at script.signers) step.signers
+      (λ i d lt.
+      frame_few _ (sound.signers (get_or step.signers i d) no_signer (h.signers i d lt)).end)) in
+      let body : All IsFewTemplate step.templates = λ i d lt. let one = h.templates i d lt in
+      let a = elements_few filling figures (get_or step.templates i d).elements choice_few in
+      let b = one.few in omega arith in
+      All-append IsFewTemplate (map head_template (signers_of script step))
+      (step.templates ++ map end_template (signers_of script step)) heads
+      (All-append IsFewTemplate step.templates (map end_template (signers_of script step)) body ends)

@@ -32,12 +32,14 @@ module _ (filling : FillingValue) where
   filled-len n [] = refl
   filled-len n (t ∷ ts) = let ih = filled-len (n + 1) ts in omega arith
 
-  filled-append : (n m : ℕ) (xs ys : List Template) → m ≡ n + length xs → filled_segments filling n (xs ++ ys) ≡ filled_segments filling n xs ++ filled_segments filling m ys
+  filled-append : (n m : ℕ) (xs ys : List Template) → m ≡ n + length xs
+      → filled_segments filling n (xs ++ ys) ≡ filled_segments filling n xs ++ filled_segments filling m ys
   filled-append n m [] ys e = let same : n ≡ m = omega arith in ap (λ (k : ℕ). filled_segments filling k ys) same
   filled-append n m (x ∷ xs) ys e = ap (λ (ss : List OwnedSegment). filled_segment filling n x ∷ ss) (filled-append (n + 1) m xs ys (omega arith))
 
   -- the filled segments are numbered on, and so is one behind them
-  pub filled_numbered : (n : ℕ) (ts : List Template) (last : OwnedSegment) → last.head.number ≡ n + length ts → IsNumbered n (filled_segments filling n ts ++ last ∷ [])
+  pub filled_numbered : (n : ℕ) (ts : List Template) (last : OwnedSegment) → last.head.number ≡ n + length ts
+      → IsNumbered n (filled_segments filling n ts ++ last ∷ [])
   filled_numbered n [] last e = (omega arith, tt)
   filled_numbered n (t ∷ ts) last e = (refl, filled_numbered (n + 1) ts last (omega arith))
 
@@ -45,15 +47,18 @@ module _ (filling : FillingValue) where
   abbrev IsPart : Part → Template → Type 0
   IsPart p t = (n : ℕ) → part_of (filled_segment filling n t) ≡ p
 
-  all_parts : (p : Part) (n : ℕ) (ts : List Template) → All (IsPart p) ts → AllByRecursion (λ s. part_of s ≡ p) (filled_segments filling n ts)
+  all_parts : (p : Part) (n : ℕ) (ts : List Template) → All (IsPart p) ts
+      → AllByRecursion (λ s. part_of s ≡ p) (filled_segments filling n ts)
   all_parts p n [] h = tt
   all_parts p n (t ∷ ts) h = (All-head (IsPart p) t ts h n, all_parts p (n + 1) ts (All-tail (IsPart p) t ts h))
 
-  opener_parts : (n : ℕ) (signers : List Signer) → AllByRecursion (λ s. part_of s ≡ Opener) (filled_segments filling n (map head_template signers))
+  opener_parts : (n : ℕ) (signers : List Signer)
+      → AllByRecursion (λ s. part_of s ≡ Opener) (filled_segments filling n (map head_template signers))
   opener_parts n [] = tt
   opener_parts n (s ∷ ss) = (refl, opener_parts (n + 1) ss)
 
-  ender_parts : (n : ℕ) (signers : List Signer) → AllByRecursion (λ s. part_of s ≡ Ender) (filled_segments filling n (map end_template signers))
+  ender_parts : (n : ℕ) (signers : List Signer)
+      → AllByRecursion (λ s. part_of s ≡ Ender) (filled_segments filling n (map end_template signers))
   ender_parts n [] = tt
   ender_parts n (s ∷ ss) = (refl, ender_parts (n + 1) ss)
 
@@ -107,7 +112,11 @@ module _ (script : ScriptValue) (step : StepValue) (filling : FillingValue) (sou
       record {
         openers = filled_segments filling 2 heads;
         openers_are = opener_parts filling 2 (signers_of script step);
-        body_is = all_parts filling Body (2 + length step.signers) step.templates (λ i t lt number. body_part (filled_segment filling number (get_or step.templates i t)) (sound.templates i t lt).no_frame);
+        body_is =
+            all_parts filling Body (2 + length step.signers) step.templates
+            (λ i t lt number.
+            body_part (filled_segment filling number (get_or step.templates i t))
+            (sound.templates i t lt).no_frame);
         ends_are = ender_parts filling (2 + length step.signers + length step.templates) (signers_of script step);
         as_many = omega arith;
         together = outer ∙ ap (λ (ss : List OwnedSegment). filled_segments filling 2 heads ++ ss) later;
@@ -116,11 +125,15 @@ module _ (script : ScriptValue) (step : StepValue) (filling : FillingValue) (sou
   last_is : (n number : ℕ) → number < 10 ^ 9 → IsLast number (last_segment n number)
   last_is n number small = record { kind = refl; number_is = number_read number small }
 
-  inner_numbered : (number : ℕ) → IsNumbered 2 (inner_segments script step filling ++ last_segment (2 + length (templates_of script step)) number ∷ [])
+  inner_numbered : (number : ℕ)
+      → IsNumbered 2
+      (inner_segments script step filling ++ last_segment (2 + length (templates_of script step))
+      number ∷ [])
   inner_numbered number = filled_numbered filling 2 (templates_of script step) (last_segment (2 + length (templates_of script step)) number) refl
 
   -- the inner segments stand as they are, or in the envelope
-  stand_in : (sealed : Bool) (seal : List (List OwnedItem)) (inner : List OwnedSegment) → IsText (segments_text inner) inner
+  stand_in : (sealed : Bool) (seal : List (List OwnedItem)) (inner : List OwnedSegment)
+      → IsText (segments_text inner) inner
       → (middle_segments sealed seal inner ≡ inner) ⊎ Seals inner (middle_segments sealed seal inner)
   stand_in false seal inner text = inl refl
   stand_in true seal inner text = inr (record {
@@ -131,8 +144,12 @@ module _ (script : ScriptValue) (step : StepValue) (filling : FillingValue) (sou
     together = refl;
   })
 
-  pub tail_of : (sealed : Bool) (seal : List (List OwnedItem)) (number : ℕ) → number < 10 ^ 9 → IsText (segments_text (inner_segments script step filling)) (inner_segments script step filling)
-      → IsTail number (middle_segments sealed seal (inner_segments script step filling) ++ last_segment (2 + length (templates_of script step)) number ∷ []) body_segments end_segments
+  pub tail_of : (sealed : Bool) (seal : List (List OwnedItem)) (number : ℕ) → number < 10 ^ 9
+      → IsText (segments_text (inner_segments script step filling)) (inner_segments script step filling)
+      → IsTail number
+      (middle_segments sealed seal (inner_segments script step filling) ++ last_segment
+      (2 + length (templates_of script step)) number ∷ [])
+      body_segments end_segments
   tail_of sealed seal number small text = record {
     inner = inner_segments script step filling;
     outer = middle_segments sealed seal (inner_segments script step filling);
@@ -146,5 +163,6 @@ module _ (script : ScriptValue) (step : StepValue) (filling : FillingValue) (sou
 
 -- ---- the first segment
 
-pub first_is : (size : ℕ) (dialog : List OwnedItem) (number : ℕ) → size < 10 ^ 12 → number < 10 ^ 9 → IsFirst size number (first_segment size dialog number)
+pub first_is : (size : ℕ) (dialog : List OwnedItem) (number : ℕ) → size < 10 ^ 12 → number < 10 ^ 9
+    → IsFirst size number (first_segment size dialog number)
 first_is size dialog number short small = record { kind = refl; place = refl; size_is = size_read size short; number_is = number_read number small }

@@ -27,11 +27,13 @@ module _ (spelled : WrittenIsSpelled) (values : WrittenHasValues) (head : Writte
       let e : drop 1 (values_of (written_tree s)) ≡ s.elements = ap (drop 1) (values s) in
       λ i. record { head = h i; elements = e i }
 
-  trees_are : (ss : List OwnedSegment) → AllByRecursion IsWritable ss → AllByRecursion IsSegment (map written_tree ss)
+  trees_are : (ss : List OwnedSegment) → AllByRecursion IsWritable ss
+      → AllByRecursion IsSegment (map written_tree ss)
   trees_are [] h = tt
   trees_are (s ∷ ss) h = (spelled s h.0, trees_are ss h.1)
 
-  values_are : (ss : List OwnedSegment) → AllByRecursion IsWritable ss → segments_of (map written_tree ss) ≡ ss
+  values_are : (ss : List OwnedSegment) → AllByRecursion IsWritable ss
+      → segments_of (map written_tree ss) ≡ ss
   values_are [] h = refl
   values_are (s ∷ ss) h = let one = segment_is s h.0 in let ih = values_are ss h.1 in cc
 
@@ -50,7 +52,8 @@ AreDigits ds = all_ascii_digits ds ≡ true
 own : IsNumeralModel AreDigits (digits_value 10)
 own = numerals_by_value AreDigits tells_all_ascii_digits
 
-read_digits : (least most : ℕ) (bs : List ℕ) → AreDigits bs → least ≤ length bs → length bs ≤ most → number_in least most bs ≡ Some (digits_value 10 bs)
+read_digits : (least most : ℕ) (bs : List ℕ) → AreDigits bs → least ≤ length bs → length bs ≤ most
+    → number_in least most bs ≡ Some (digits_value 10 bs)
 read_digits least most bs h low high = rw (h, le-leb least (length bs) low, le-leb (length bs) most high) refl
 
 zeros_digits : (n : ℕ) (ds : List ℕ) → AreDigits ds → AreDigits (replicate n 48 ++ ds)
@@ -63,7 +66,8 @@ zeros_value (suc n) ds = zeros_value n ds
 
 pub number_read : (n : ℕ) → n < 10 ^ 9 → number_of (decimal n) ≡ Some n
 number_read n small =
-    read_digits 1 9 (decimal n) (digits_decimal own n (omega arith)) (decimal_nonempty n (omega arith)) (length-decimal-le 9 n (omega arith) small (omega arith))
+    read_digits 1 9 (decimal n) (digits_decimal own n (omega arith)) (decimal_nonempty n (omega arith))
+    (length-decimal-le 9 n (omega arith) small (omega arith))
     ∙ ap Some (digits_value-decimal own n (omega arith))
 
 pub size_read : (n : ℕ) → n < 10 ^ 12 → number_in 12 12 (twelve_digits n) ≡ Some n

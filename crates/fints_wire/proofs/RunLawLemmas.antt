@@ -32,10 +32,12 @@ each_answer_leads_first = run_starts
 pub each_answer_leads_next : EachAnswerLeads
 each_answer_leads_next = run_leads
 
-pub visits_are_within : (script : ScriptValue) (v : Visit) → IsSound script → Arrives script.steps v → IsWithin script.steps v
+pub visits_are_within : (script : ScriptValue) (v : Visit) → IsSound script → Arrives script.steps v
+    → IsWithin script.steps v
 visits_are_within = arrives_within
 
-pub visits_are_repeated : (script : ScriptValue) (v : Visit) → IsSound script → Arrives script.steps v → IsRepeated script.steps v
+pub visits_are_repeated : (script : ScriptValue) (v : Visit) → IsSound script → Arrives script.steps v
+    → IsRepeated script.steps v
 visits_are_repeated = visit_repeated
 
 pub answers_lead_onward : AnswersLeadOnward

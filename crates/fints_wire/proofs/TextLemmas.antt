@@ -14,7 +14,9 @@ moves out new x y z whole e so_far n = rw n (append_assoc out y z ∙ ap (λ (w 
 
 -- the segments from a place on are the one there and those behind it
 pub segments_more : (filling : FillingValue) (i : ℕ) (ts : List Template) (t : Template) → i < length ts
-    → segments_text (filled_segments filling (i + 2) (drop i ts)) ≡ written_segment (filled_segment filling (i + 2) (get_or ts i t)) ++ segments_text (filled_segments filling (i + 1 + 2) (drop (i + 1) ts))
+    → segments_text (filled_segments filling (i + 2) (drop i ts)) ≡ written_segment
+    (filled_segment filling (i + 2) (get_or ts i t)) ++ segments_text
+    (filled_segments filling (i + 1 + 2) (drop (i + 1) ts))
 segments_more filling i ts t lt =
     let next : i + 2 + 1 ≡ i + 1 + 2 = omega arith in
     let here : List ℕ = written_segment (filled_segment filling (i + 2) (get_or ts i t)) in
@@ -22,11 +24,19 @@ segments_more filling i ts t lt =
     ∙ ap (λ (n : ℕ). here ++ segments_text (filled_segments filling n (drop (i + 1) ts))) next
 
 -- the first segment with the size of the whole, before the text of those behind it
-pub message_is : (script : ScriptValue) (step : StepValue) (filling : FillingValue) (number : ℕ) (later : List ℕ) → later ≡ segments_text (later_segments script step filling number)
-    → written_segment (first_segment (length (written_segment (first_segment 0 filling.dialog number)) + length later) filling.dialog number) ++ later ≡ segments_text (message_with script step filling number (message_size script step filling number))
+pub message_is : (script : ScriptValue) (step : StepValue) (filling : FillingValue) (number : ℕ)
+    (later : List ℕ) → later ≡ segments_text (later_segments script step filling number)
+    → written_segment
+    (first_segment (length (written_segment (first_segment 0 filling.dialog number)) + length later)
+    filling.dialog number)
+    ++ later
+    ≡ segments_text
+    (message_with script step filling number (message_size script step filling number))
 message_is script step filling number later e =
     let text : List ℕ = segments_text (later_segments script step filling number) in
-    let size : length (written_segment (first_segment 0 filling.dialog number)) + length text ≡ message_size script step filling number = sym (length-append (written_segment (first_segment 0 filling.dialog number)) text) in
+    let size : length (written_segment (first_segment 0 filling.dialog number)) + length text ≡ message_size
+    script step filling number =
+    sym (length-append (written_segment (first_segment 0 filling.dialog number)) text) in
     rw e (ap (λ (n : ℕ). written_segment (first_segment n filling.dialog number) ++ text) size)
 
 pub found_at : {X : Type 0} (xs : List X) (i : ℕ) (x d : X) → slice_get xs i ≡ Some x → get_or xs i d ≡ x

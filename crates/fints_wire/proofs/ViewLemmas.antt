@@ -23,11 +23,15 @@ found_within [] i x h = cc
 found_within (y ∷ ys) zero x h = omega arith
 found_within (y ∷ ys) (suc i) x h = let ih = found_within ys i x h in omega arith
 
-sound_step : (script : ScriptValue) (i : ℕ) (step : StepValue) → IsSound script → slice_get script.steps i ≡ Some step → IsSoundStep script step
-sound_step script i step sound found = subst (IsSoundStep script) (found_at script.steps i step step found) (sound.steps i step (found_within script.steps i step found))
+sound_step : (script : ScriptValue) (i : ℕ) (step : StepValue) → IsSound script
+    → slice_get script.steps i ≡ Some step → IsSoundStep script step
+sound_step script i step sound found =
+    subst (IsSoundStep script) (found_at script.steps i step step found)
+    (sound.steps i step (found_within script.steps i step found))
 
 module _ (spelled : WrittenIsSpelled) (has_values : WrittenHasValues) (has_head : WrittenHasHead) where
-  step_read : (script : ScriptValue) (step : StepValue) (number : ℕ) (values : List NamedValue) → IsSound script → IsSoundStep script step → number ≤ MAX_NUMBER → Admits script.fields values
+  step_read : (script : ScriptValue) (step : StepValue) (number : ℕ) (values : List NamedValue)
+      → IsSound script → IsSoundStep script step → number ≤ MAX_NUMBER → Admits script.fields values
       → IsMessage (message_bytes script step number values) (message_view script step number values)
   step_read script step number values sound h small admits =
       let filling : FillingValue = filling_of script.fields values number in
@@ -36,17 +40,22 @@ module _ (spelled : WrittenIsSpelled) (has_values : WrittenHasValues) (has_head 
       let form : IsForm (message_segments script step number values) (message_view script step number values) = record {
         first = first_segment (message_size script step filling number) filling.dialog number;
         tail = later_segments script step filling number;
-        is_first = first_is (message_size script step filling number) filling.dialog number (size_small script step values number sound h admits small) (omega arith);
+        is_first =
+            first_is (message_size script step filling number) filling.dialog number
+            (size_small script step values number sound h admits small) (omega arith);
         protocol = refl;
         is_tail = tail_of script step filling h step.sealed (filled_elements filling (seal_of script)) number (omega arith) inner;
         together = refl;
       } in
       record {
         segments = message_segments script step number values;
-        text = is_text spelled has_values has_head (message_segments script step number values) (message_writable script step values number sound h admits small);
+        text =
+            is_text spelled has_values has_head (message_segments script step number values)
+            (message_writable script step values number sound h admits small);
         form = form;
         size = sym light.0;
       }
 
   pub messages_are_read : MessagesAreRead
-  messages_are_read script i step number values sound found low small admits = step_read script step number values sound (sound_step script i step sound found) small admits
+  messages_are_read script i step number values sound found low small admits =
+      step_read script step number values sound (sound_step script i step sound found) small admits

@@ -44,7 +44,8 @@ pub total_mono : {X : Type 0} (f g : X → ℕ) (xs : List X) → ((x : X) → f
 total_mono f g [] h = omega arith
 total_mono f g (x ∷ xs) h = let one = h x in let ih = total_mono f g xs h in omega arith
 
-total-map : {X Y : Type 0} (f : Y → ℕ) (g : X → Y) (xs : List X) → total f (map g xs) ≡ total (λ x. f (g x)) xs
+total-map : {X Y : Type 0} (f : Y → ℕ) (g : X → Y) (xs : List X)
+    → total f (map g xs) ≡ total (λ x. f (g x)) xs
 total-map f g [] = refl
 total-map f g (x ∷ xs) = let ih = total-map f g xs in omega arith
 
@@ -55,13 +56,17 @@ pub record IsWithin (sizes : Sizes) (figures : List Figures) : Type 0 where
   pub dialog : sizes.dialog ≤ 61
   pub fields : (i : ℕ) → get_or sizes.fields i 0 ≤ 1 + (get_or figures i no_figures).written
 
-item_light : (sizes : Sizes) (figures : List Figures) (t : TemplateItem) → IsWithin sizes figures → item_len sizes t ≤ item_weight figures t
+item_light : (sizes : Sizes) (figures : List Figures) (t : TemplateItem) → IsWithin sizes figures
+    → item_len sizes t ≤ item_weight figures t
 item_light sizes figures (items.Literal item) h = omega arith
 item_light sizes figures items.Dialog h = h.dialog
 item_light sizes figures (items.Field f) h = h.fields f
 
-elements_light : (sizes : Sizes) (figures : List Figures) (es : List (List TemplateItem)) → IsWithin sizes figures → elements_len sizes es ≤ total (element_weight figures) es
-elements_light sizes figures es h = total_mono (element_len sizes) (element_weight figures) es (λ e. total_mono (item_len sizes) (item_weight figures) e (λ t. item_light sizes figures t h))
+elements_light : (sizes : Sizes) (figures : List Figures) (es : List (List TemplateItem))
+    → IsWithin sizes figures → elements_len sizes es ≤ total (element_weight figures) es
+elements_light sizes figures es h =
+    total_mono (element_len sizes) (element_weight figures) es
+    (λ e. total_mono (item_len sizes) (item_weight figures) e (λ t. item_light sizes figures t h))
 
 -- ---- heads of segments
 
@@ -71,7 +76,8 @@ kind_bare b h = is_bare b (grind (arith, nat_tests))
 pub kind_len : (kind : List ℕ) → IsKindText kind → text_len kind ≤ 6
 kind_len kind k = let a : text_len kind ≡ length kind = bare_len kind (λ i d lt. kind_bare _ (k.2 i d lt)) in omega (arith, k.1)
 
-head_light : (kind : List ℕ) (n version : ℕ) → IsKindText kind → n < 1000 → version < 1000 → head_len kind n version ≤ 15
+head_light : (kind : List ℕ) (n version : ℕ) → IsKindText kind → n < 1000 → version < 1000
+    → head_len kind n version ≤ 15
 head_light kind n version k small v =
     let a : text_len kind ≡ length kind = bare_len kind (λ i d lt. kind_bare _ (k.2 i d lt)) in
     let b = number_text-len n (omega arith) in
@@ -80,29 +86,48 @@ head_light kind n version k small v =
     let e = length-decimal-le 3 version (omega arith) (omega arith) (omega arith) in
     omega (arith, k.1)
 
-letters : (a b c d e : ℕ) → IsKindByte a → IsKindByte b → IsKindByte c → IsKindByte d → IsKindByte e → IsKindText (a ∷ b ∷ c ∷ d ∷ e ∷ [])
+letters : (a b c d e : ℕ) → IsKindByte a → IsKindByte b → IsKindByte c → IsKindByte d → IsKindByte e
+    → IsKindText (a ∷ b ∷ c ∷ d ∷ e ∷ [])
 letters a b c d e ha hb hc hd he = (omega arith, omega arith, All-from_recursion IsKindByte (a ∷ b ∷ c ∷ d ∷ e ∷ []) (ha, (hb, (hc, (hd, (he, tt))))))
 
 capital : (b : ℕ) → 65 ≤ b → b ≤ 90 → IsKindByte b
 capital b low high = inl (low, high)
 
 HNSHK_kind : IsKindText (codes "HNSHK")
-HNSHK_kind = letters 72 78 83 72 75 (capital 72 (omega arith) (omega arith)) (capital 78 (omega arith) (omega arith)) (capital 83 (omega arith) (omega arith)) (capital 72 (omega arith) (omega arith)) (capital 75 (omega arith) (omega arith))
+HNSHK_kind =
+    letters 72 78 83 72 75 (capital 72 (omega arith) (omega arith)) (capital 78 (omega arith) (omega arith))
+    (capital 83 (omega arith) (omega arith)) (capital 72 (omega arith) (omega arith))
+    (capital 75 (omega arith) (omega arith))
 
 HNSHA_kind : IsKindText (codes "HNSHA")
-HNSHA_kind = letters 72 78 83 72 65 (capital 72 (omega arith) (omega arith)) (capital 78 (omega arith) (omega arith)) (capital 83 (omega arith) (omega arith)) (capital 72 (omega arith) (omega arith)) (capital 65 (omega arith) (omega arith))
+HNSHA_kind =
+    letters 72 78 83 72 65 (capital 72 (omega arith) (omega arith)) (capital 78 (omega arith) (omega arith))
+    (capital 83 (omega arith) (omega arith)) (capital 72 (omega arith) (omega arith))
+    (capital 65 (omega arith) (omega arith))
 
 pub HNHBK_kind : IsKindText (codes "HNHBK")
-HNHBK_kind = letters 72 78 72 66 75 (capital 72 (omega arith) (omega arith)) (capital 78 (omega arith) (omega arith)) (capital 72 (omega arith) (omega arith)) (capital 66 (omega arith) (omega arith)) (capital 75 (omega arith) (omega arith))
+HNHBK_kind =
+    letters 72 78 72 66 75 (capital 72 (omega arith) (omega arith)) (capital 78 (omega arith) (omega arith))
+    (capital 72 (omega arith) (omega arith)) (capital 66 (omega arith) (omega arith))
+    (capital 75 (omega arith) (omega arith))
 
 pub HNHBS_kind : IsKindText (codes "HNHBS")
-HNHBS_kind = letters 72 78 72 66 83 (capital 72 (omega arith) (omega arith)) (capital 78 (omega arith) (omega arith)) (capital 72 (omega arith) (omega arith)) (capital 66 (omega arith) (omega arith)) (capital 83 (omega arith) (omega arith))
+HNHBS_kind =
+    letters 72 78 72 66 83 (capital 72 (omega arith) (omega arith)) (capital 78 (omega arith) (omega arith))
+    (capital 72 (omega arith) (omega arith)) (capital 66 (omega arith) (omega arith))
+    (capital 83 (omega arith) (omega arith))
 
 pub HNVSK_kind : IsKindText (codes "HNVSK")
-HNVSK_kind = letters 72 78 86 83 75 (capital 72 (omega arith) (omega arith)) (capital 78 (omega arith) (omega arith)) (capital 86 (omega arith) (omega arith)) (capital 83 (omega arith) (omega arith)) (capital 75 (omega arith) (omega arith))
+HNVSK_kind =
+    letters 72 78 86 83 75 (capital 72 (omega arith) (omega arith)) (capital 78 (omega arith) (omega arith))
+    (capital 86 (omega arith) (omega arith)) (capital 83 (omega arith) (omega arith))
+    (capital 75 (omega arith) (omega arith))
 
 pub HNVSD_kind : IsKindText (codes "HNVSD")
-HNVSD_kind = letters 72 78 86 83 68 (capital 72 (omega arith) (omega arith)) (capital 78 (omega arith) (omega arith)) (capital 86 (omega arith) (omega arith)) (capital 83 (omega arith) (omega arith)) (capital 68 (omega arith) (omega arith))
+HNVSD_kind =
+    letters 72 78 86 83 68 (capital 72 (omega arith) (omega arith)) (capital 78 (omega arith) (omega arith))
+    (capital 86 (omega arith) (omega arith)) (capital 83 (omega arith) (omega arith))
+    (capital 68 (omega arith) (omega arith))
 
 -- ---- segments
 
@@ -113,7 +138,9 @@ IsSmall t = IsKindText t.kind × (t.version < 1000)
 abbrev template_weight : List Figures → Template → ℕ
 template_weight figures t = segment_weight figures t.elements
 
-segments_light : (sizes : Sizes) (figures : List Figures) (n : ℕ) (ts : List Template) → IsWithin sizes figures → All IsSmall ts → n + length ts ≤ 1000 → segments_len sizes n ts ≤ total (template_weight figures) ts
+segments_light : (sizes : Sizes) (figures : List Figures) (n : ℕ) (ts : List Template)
+    → IsWithin sizes figures → All IsSmall ts → n + length ts ≤ 1000
+    → segments_len sizes n ts ≤ total (template_weight figures) ts
 segments_light sizes figures n [] w h few = omega arith
 segments_light sizes figures n (t ∷ ts) w h few =
     let s = All-head IsSmall t ts h in
@@ -122,7 +149,8 @@ segments_light sizes figures n (t ∷ ts) w h few =
     let ih = segments_light sizes figures (n + 1) ts w (All-tail IsSmall t ts h) (omega arith) in
     omega arith
 
-slice_get_in : {X : Type 0} (xs : List X) (i : ℕ) (d : X) → i < length xs → slice_get xs i ≡ Some (get_or xs i d)
+slice_get_in : {X : Type 0} (xs : List X) (i : ℕ) (d : X) → i < length xs
+    → slice_get xs i ≡ Some (get_or xs i d)
 slice_get_in [] i d lt = absurd (omega arith)
 slice_get_in (x ∷ xs) zero d lt = refl
 slice_get_in (x ∷ xs) (suc i) d lt = slice_get_in xs i d (omega arith)
@@ -134,38 +162,50 @@ module _ (figures : List Figures) (signers : List Signer) where
   abbrev end_weight : ℕ → ℕ
   end_weight place = segment_weight figures (signer_at signers place).end
 
-  signatures_weight : (places : List ℕ) → All (λ (place : ℕ). place < length signers) places → total (signature_weight figures signers) places ≡ total head_weight places + total end_weight places
+  signatures_weight : (places : List ℕ) → All (λ (place : ℕ). place < length signers) places
+      → total (signature_weight figures signers) places ≡ total head_weight places + total end_weight places
   signatures_weight [] h = refl
   signatures_weight (p ∷ ps) h =
-      let here : signature_weight figures signers p ≡ head_weight p + end_weight p = ap (λ (o : Option Signer). option_map_or (signer_weight figures) o 0) (slice_get_in signers p no_signer (All-head (λ (place : ℕ). place < length signers) p ps h)) in
+      let here : signature_weight figures signers p ≡ head_weight p + end_weight p =
+      ap (λ (o : Option Signer). option_map_or (signer_weight figures) o 0)
+      (slice_get_in signers p no_signer (All-head (λ (place : ℕ). place < length signers) p ps h)) in
       let ih = signatures_weight ps (All-tail (λ (place : ℕ). place < length signers) p ps h) in
       omega arith
 
 module _ (script : ScriptValue) (step : StepValue) (figures : List Figures) (h : IsSoundStep script step) where
-  templates_weight : total (template_weight figures) (templates_of script step) ≡ total (template_weight figures) step.templates + total (signature_weight figures script.signers) step.signers
+  templates_weight : total (template_weight figures) (templates_of script step) ≡ total
+      (template_weight figures) step.templates + total (signature_weight figures script.signers) step.signers
   templates_weight =
       let heads : List Template = map head_template (signers_of script step) in
       let ends : List Template = map end_template (signers_of script step) in
       let all = total-append (template_weight figures) heads (step.templates ++ ends) in
       let later = total-append (template_weight figures) step.templates ends in
       let a : total (template_weight figures) heads ≡ total (head_weight figures script.signers) step.signers =
-      total-map (template_weight figures) head_template (signers_of script step) ∙ total-map (λ (s : Signer). segment_weight figures s.head) (signer_at script.signers) step.signers in
+      total-map (template_weight figures) head_template (signers_of script step)
+      ∙ total-map (λ (s : Signer). segment_weight figures s.head) (signer_at script.signers) step.signers in
       let b : total (template_weight figures) ends ≡ total (end_weight figures script.signers) step.signers =
-      total-map (template_weight figures) end_template (signers_of script step) ∙ total-map (λ (s : Signer). segment_weight figures s.end) (signer_at script.signers) step.signers in
+      total-map (template_weight figures) end_template (signers_of script step)
+      ∙ total-map (λ (s : Signer). segment_weight figures s.end) (signer_at script.signers) step.signers in
       let both = signatures_weight figures script.signers step.signers h.signers in
       omega arith
 
   pub small_templates : All IsSmall (templates_of script step)
   small_templates =
-      let heads : All IsSmall (map head_template (signers_of script step)) = All-map IsSmall head_template (signers_of script step) (λ i d lt. (HNSHK_kind, omega arith)) in
-      let ends : All IsSmall (map end_template (signers_of script step)) = All-map IsSmall end_template (signers_of script step) (λ i d lt. (HNSHA_kind, omega arith)) in
+      let heads : All IsSmall (map head_template (signers_of script step)) =
+      All-map IsSmall head_template (signers_of script step) (λ i d lt. (HNSHK_kind, omega arith)) in
+      let ends : All IsSmall (map end_template (signers_of script step)) =
+      All-map IsSmall end_template (signers_of script step) (λ i d lt. (HNSHA_kind, omega arith)) in
       let body : All IsSmall step.templates = λ i d lt. let t = h.templates i d lt in (t.kind, omega (arith, t.most)) in
-      All-append IsSmall (map head_template (signers_of script step)) (step.templates ++ map end_template (signers_of script step)) heads (All-append IsSmall step.templates (map end_template (signers_of script step)) body ends)
+      All-append IsSmall (map head_template (signers_of script step))
+      (step.templates ++ map end_template (signers_of script step)) heads
+      (All-append IsSmall step.templates (map end_template (signers_of script step)) body ends)
 
 -- ---- messages
 
-middle_light : (sizes : Sizes) (figures : List Figures) (sealed : Bool) (seal : Option (List (List TemplateItem))) (inner : ℕ) → IsWithin sizes figures → inner < 10 ^ 7
-    → middle_len sealed (elements_len sizes (elim seal [ None ↦ [] | Some seal ↦ seal ])) inner ≤ inner + seal_weight figures sealed seal + 40
+middle_light : (sizes : Sizes) (figures : List Figures) (sealed : Bool)
+    (seal : Option (List (List TemplateItem))) (inner : ℕ) → IsWithin sizes figures → inner < 10 ^ 7
+    → middle_len sealed (elements_len sizes (elim seal [ None ↦ [] | Some seal ↦ seal ]))
+    inner ≤ inner + seal_weight figures sealed seal + 40
 middle_light sizes figures false seal inner w small = omega arith
 middle_light sizes figures true None inner w small =
     let a = head_light (codes "HNVSK") 998 3 HNVSK_kind (omega arith) (omega arith) in
@@ -179,7 +219,9 @@ middle_light sizes figures true (Some seal) inner w small =
     let d = elements_light sizes figures seal w in
     omega arith
 
-seal_light : (sizes : Sizes) (figures : List Figures) (seal : Option (List (List TemplateItem))) → IsWithin sizes figures → elements_len sizes (elim seal [ None ↦ [] | Some seal ↦ seal ]) ≤ seal_weight figures true seal
+seal_light : (sizes : Sizes) (figures : List Figures) (seal : Option (List (List TemplateItem)))
+    → IsWithin sizes figures
+    → elements_len sizes (elim seal [ None ↦ [] | Some seal ↦ seal ]) ≤ seal_weight figures true seal
 seal_light sizes figures None w = omega arith
 seal_light sizes figures (Some seal) w = let d = elements_light sizes figures seal w in omega arith
 
@@ -190,7 +232,9 @@ pub record IsShort (script : ScriptValue) (step : StepValue) (sizes : Sizes) (nu
   pub few : length (templates_of script step) ≤ 118
   pub whole : message_len script step sizes number < MAX_BYTES
 
-pub step_short : (script : ScriptValue) (step : StepValue) (sizes : Sizes) (number : ℕ) → IsSoundStep script step → IsWithin sizes (map figures_of script.fields) → number ≤ MAX_NUMBER → IsShort script step sizes number
+pub step_short : (script : ScriptValue) (step : StepValue) (sizes : Sizes) (number : ℕ)
+    → IsSoundStep script step → IsWithin sizes (map figures_of script.fields) → number ≤ MAX_NUMBER
+    → IsShort script step sizes number
 step_short script step sizes number h w small =
     let figures : List Figures = map figures_of script.fields in
     let parts = has_parts script step in
@@ -207,12 +251,17 @@ step_short script step sizes number h w small =
     let seal = seal_light sizes figures script.seal w in
     record {
       inner = omega arith;
-      seal = λ sealed. let same : seal_weight figures step.sealed script.seal ≡ seal_weight figures true script.seal = ap (λ (b : Bool). seal_weight figures b script.seal) sealed in omega arith;
+      seal =
+          λ sealed.
+          let same : seal_weight figures step.sealed script.seal ≡ seal_weight figures true script.seal =
+          ap (λ (b : Bool). seal_weight figures b script.seal) sealed in omega arith;
       few = omega arith;
       whole = omega arith;
     }
 
-pub step_light : (script : ScriptValue) (step : StepValue) (sizes : Sizes) (number : ℕ) → IsSoundStep script step → IsWithin sizes (map figures_of script.fields) → number ≤ MAX_NUMBER → message_len script step sizes number < MAX_BYTES
+pub step_light : (script : ScriptValue) (step : StepValue) (sizes : Sizes) (number : ℕ)
+    → IsSoundStep script step → IsWithin sizes (map figures_of script.fields) → number ≤ MAX_NUMBER
+    → message_len script step sizes number < MAX_BYTES
 step_light script step sizes number h w small = (step_short script step sizes number h w small).whole
 
 -- ---- values
@@ -225,7 +274,9 @@ items_size-joined (i ∷ j ∷ is) h = let ih = items_size-joined (j ∷ is) (om
 abbrev IsPair : NamedField × NamedValue → Type 0
 IsPair p = IsChosen p.0 p.1
 
-field_light : (fields : List NamedField) (values : List NamedValue) (i : ℕ) → Admits fields values → get_or (map items_size (items_of_fields fields values)) i 0 ≤ 1 + (get_or (map figures_of fields) i no_figures).written
+field_light : (fields : List NamedField) (values : List NamedValue) (i : ℕ) → Admits fields values
+    → get_or (map items_size (items_of_fields fields values)) i
+    0 ≤ 1 + (get_or (map figures_of fields) i no_figures).written
 field_light [] values i h = omega arith
 field_light (f ∷ fs) [] i h = let n = h.0 in absurd (omega arith)
 field_light (f ∷ fs) (v ∷ vs) zero h =
@@ -239,21 +290,26 @@ field_light (f ∷ fs) (v ∷ vs) (suc i) h = let n = h.0 in field_light fs vs i
 pub dialog_written : (c : Field) → IsDialogClass c → field_written c (field_longest c) ≡ 60
 dialog_written (classes.Text c) h =
     let marks = text_len_marks c.max in
-    let latin : text_len (replicate c.max (longest_character c.alphabet)) ≡ text_len (replicate c.max 63) = ap (λ (a : Alphabet). text_len (replicate c.max (longest_character a))) h.0 in
+    let latin : text_len (replicate c.max (longest_character c.alphabet)) ≡ text_len (replicate c.max 63) =
+    ap (λ (a : Alphabet). text_len (replicate c.max (longest_character a))) h.0 in
     omega (arith, h.2)
 dialog_written (classes.Bin c) h = absurd h
 dialog_written (classes.OneOf c) h = absurd h
 dialog_written (classes.Account c) h = absurd h
 
-dialog_figures : (fields : List NamedField) → 1 ≤ length fields → HasDialog fields → (get_or (map figures_of fields) 0 no_figures).written ≡ 60
+dialog_figures : (fields : List NamedField) → 1 ≤ length fields → HasDialog fields
+    → (get_or (map figures_of fields) 0 no_figures).written ≡ 60
 dialog_figures [] some h = absurd (omega arith)
 dialog_figures (f ∷ fs) some h = dialog_written f.class h.1
 
-get_or-first : (fields : List (List OwnedItem)) → items_size (get_or fields 0 []) ≡ get_or (map items_size fields) 0 0
+get_or-first : (fields : List (List OwnedItem))
+    → items_size (get_or fields 0 []) ≡ get_or (map items_size fields) 0 0
 get_or-first [] = refl
 get_or-first (x ∷ xs) = refl
 
-pub choice_light : (script : ScriptValue) (values : List NamedValue) (number : ℕ) → IsSound script → Admits script.fields values → IsWithin (sizes_of (filling_of script.fields values number)) (map figures_of script.fields)
+pub choice_light : (script : ScriptValue) (values : List NamedValue) (number : ℕ) → IsSound script
+    → Admits script.fields values
+    → IsWithin (sizes_of (filling_of script.fields values number)) (map figures_of script.fields)
 choice_light script values number sound admits =
     let all : List (List OwnedItem) = items_of_fields script.fields values in
     let first = field_light script.fields values 0 admits in
@@ -268,20 +324,25 @@ choice_light script values number sound admits =
     }
 
 -- the message is as long as its first segment says, and short
-pub message_light : (script : ScriptValue) (step : StepValue) (values : List NamedValue) (number : ℕ) → IsSound script → IsSoundStep script step → Admits script.fields values → number ≤ MAX_NUMBER
-    → (length (message_bytes script step number values) ≡ message_size script step (filling_of script.fields values number) number) × (length (message_bytes script step number values) < MAX_BYTES)
+pub message_light : (script : ScriptValue) (step : StepValue) (values : List NamedValue) (number : ℕ)
+    → IsSound script → IsSoundStep script step → Admits script.fields values → number ≤ MAX_NUMBER
+    → (length (message_bytes script step number values) ≡ message_size script step
+    (filling_of script.fields values number) number)
+    × (length (message_bytes script step number values) < MAX_BYTES)
 message_light script step values number sound h admits small =
     let filling : FillingValue = filling_of script.fields values number in
     let short = step_light script step (sizes_of filling) number h (choice_light script values number sound admits) small in
     let sizes = size_is script step filling number (omega arith) (omega arith) in
     (sizes.1 ∙ sym sizes.0, omega (arith, sizes.1))
 
-longest_light : (fields : List NamedField) (i : ℕ) → get_or (map longest_size fields) i 0 ≤ 1 + (get_or (map figures_of fields) i no_figures).written
+longest_light : (fields : List NamedField) (i : ℕ)
+    → get_or (map longest_size fields) i 0 ≤ 1 + (get_or (map figures_of fields) i no_figures).written
 longest_light [] i = omega arith
 longest_light (f ∷ fs) zero = omega arith
 longest_light (f ∷ fs) (suc i) = longest_light fs i
 
-pub longest_within : (script : ScriptValue) (number : ℕ) → IsSound script → IsWithin (longest_sizes script.fields number) (map figures_of script.fields)
+pub longest_within : (script : ScriptValue) (number : ℕ) → IsSound script
+    → IsWithin (longest_sizes script.fields number) (map figures_of script.fields)
 longest_within script number sound =
     let sixty = dialog_figures script.fields sound.some_fields sound.dialog in
     let first = longest_light script.fields 0 in
@@ -294,8 +355,11 @@ longest_within script number sound =
     }
 
 pub segments-drop : (sizes : Sizes) (n i : ℕ) (ts : List Template) (d : Template) → i < length ts
-    → segments_len sizes n (drop i ts) ≡ head_len (get_or ts i d).kind n (get_or ts i d).version + elements_len sizes (get_or ts i d).elements + segments_len sizes (n + 1) (drop (i + 1) ts)
+    → segments_len sizes n (drop i ts) ≡ head_len (get_or ts i d).kind n
+    (get_or ts i d).version + elements_len sizes (get_or ts i d).elements + segments_len sizes (n + 1)
+    (drop (i + 1) ts)
 segments-drop sizes n i ts d lt = rw (drop_more ts i d lt) refl
 
-pub segments-end : (sizes : Sizes) (n i : ℕ) (ts : List Template) → length ts ≤ i → segments_len sizes n (drop i ts) ≡ 0
+pub segments-end : (sizes : Sizes) (n i : ℕ) (ts : List Template) → length ts ≤ i
+    → segments_len sizes n (drop i ts) ≡ 0
 segments-end sizes n i ts le = rw (drop_all i ts le) refl

@@ -42,27 +42,41 @@ pub record IsProper (s : OwnedSegment) : Type 0 where
   pub nonempty : AllByRecursion (λ e. 0 < length e) s.elements
   pub items : length (segment_tokens (written_tree s)) ≤ 20000
 
-make_proper : (kind : List ℕ) (n version : ℕ) (elements : List (List OwnedItem)) → IsKindText kind → n < 1000 → version < 1000 → AllByRecursion (λ e. 0 < length e) elements → total length elements ≤ 10000 → IsProper (make_segment kind n version elements)
+make_proper : (kind : List ℕ) (n version : ℕ) (elements : List (List OwnedItem)) → IsKindText kind → n < 1000
+    → version < 1000 → AllByRecursion (λ e. 0 < length e) elements → total length elements ≤ 10000
+    → IsProper (make_segment kind n version elements)
 make_proper kind n version elements k small v h few =
     let tokens = tokens-len (make_segment kind n version elements) in
     record { kind = k; number = small; version = v; reference = tt; nonempty = h; items = omega arith }
 
 -- segments whose text is short
-pub all_writable : (ss : List OwnedSegment) → AllByRecursion IsProper ss → length (segments_text ss) ≤ MAX_BYTES → AllByRecursion IsWritable ss
+pub all_writable : (ss : List OwnedSegment) → AllByRecursion IsProper ss
+    → length (segments_text ss) ≤ MAX_BYTES → AllByRecursion IsWritable ss
 all_writable [] h short = tt
 all_writable (s ∷ ss) h short =
     let sum = length-append (written_segment s) (segments_text ss) in
     let one = h.0 in
-    let w : IsWritable s = record { id = one.kind; number = one.number; version = one.version; reference = one.reference; nonempty = one.nonempty; bytes = omega arith; items = one.items } in
+    let w : IsWritable s =
+    record {
+      id = one.kind;
+      number = one.number;
+      version = one.version;
+      reference = one.reference;
+      nonempty = one.nonempty;
+      bytes = omega arith;
+      items = one.items;
+    } in
     (w, all_writable ss h.1 (omega arith))
 
-all_append : (xs ys : List OwnedSegment) → AllByRecursion IsProper xs → AllByRecursion IsProper ys → AllByRecursion IsProper (xs ++ ys)
+all_append : (xs ys : List OwnedSegment) → AllByRecursion IsProper xs → AllByRecursion IsProper ys
+    → AllByRecursion IsProper (xs ++ ys)
 all_append [] ys h g = g
 all_append (x ∷ xs) ys h g = (h.0, all_append xs ys h.1 g)
 
 -- ---- filled segments
 
-filled_items : (filling : FillingValue) (elements : List (List TemplateItem)) → AreFilled filling elements → AllByRecursion (λ e. 0 < length e) (filled_elements filling elements)
+filled_items : (filling : FillingValue) (elements : List (List TemplateItem)) → AreFilled filling elements
+    → AllByRecursion (λ e. 0 < length e) (filled_elements filling elements)
 filled_items filling elements h = recursion_from_All HasItem (filled_elements filling elements) (All-map HasItem (filled_element filling) elements h)
 
 module _ (filling : FillingValue) where
@@ -72,7 +86,8 @@ module _ (filling : FillingValue) where
   abbrev IsFilled : Template → Type 0
   IsFilled t = AreFilled filling t.elements
 
-  filled_proper : (n : ℕ) (ts : List Template) → All IsSmall ts → All IsFilled ts → All HasFew ts → n + length ts ≤ 1000 → AllByRecursion IsProper (filled_segments filling n ts)
+  filled_proper : (n : ℕ) (ts : List Template) → All IsSmall ts → All IsFilled ts → All HasFew ts
+      → n + length ts ≤ 1000 → AllByRecursion IsProper (filled_segments filling n ts)
   filled_proper n [] small filled few le = tt
   filled_proper n (t ∷ ts) small filled few le =
       let s = All-head IsSmall t ts small in
@@ -82,23 +97,34 @@ module _ (filling : FillingValue) where
 
 -- ---- the frame
 
-first_proper : (size : ℕ) (dialog : List OwnedItem) (number : ℕ) → 0 < length dialog → length dialog ≤ 1 → IsProper (first_segment size dialog number)
+first_proper : (size : ℕ) (dialog : List OwnedItem) (number : ℕ) → 0 < length dialog → length dialog ≤ 1
+    → IsProper (first_segment size dialog number)
 first_proper size dialog number some few =
-    make_proper (codes "HNHBK") 1 3 ((Text (twelve_digits size) ∷ []) ∷ (Text (codes "300") ∷ []) ∷ dialog ∷ (Text (decimal number) ∷ []) ∷ []) HNHBK_kind (omega arith) (omega arith) (omega arith, (omega arith, (some, (omega arith, tt)))) (omega arith)
+    make_proper (codes "HNHBK") 1 3
+    ((Text (twelve_digits size) ∷ []) ∷ (Text (codes "300") ∷ []) ∷ dialog ∷ (Text (decimal number) ∷ [])
+    ∷ [])
+    HNHBK_kind (omega arith) (omega arith) (omega arith, (omega arith, (some, (omega arith, tt))))
+    (omega arith)
 
 last_proper : (n number : ℕ) → n < 1000 → IsProper (last_segment n number)
 last_proper n number small = make_proper (codes "HNHBS") n 1 ((Text (decimal number) ∷ []) ∷ []) HNHBS_kind small (omega arith) (omega arith, tt) (omega arith)
 
-middle_proper : (sealed : Bool) (seal : List (List OwnedItem)) (inner : List OwnedSegment) → AllByRecursion (λ e. 0 < length e) seal → total length seal ≤ 10000 → AllByRecursion IsProper inner → AllByRecursion IsProper (middle_segments sealed seal inner)
+middle_proper : (sealed : Bool) (seal : List (List OwnedItem)) (inner : List OwnedSegment)
+    → AllByRecursion (λ e. 0 < length e) seal → total length seal ≤ 10000 → AllByRecursion IsProper inner
+    → AllByRecursion IsProper (middle_segments sealed seal inner)
 middle_proper false seal inner some few h = h
 middle_proper true seal inner some few h =
     let key = make_proper (codes "HNVSK") 998 3 seal HNVSK_kind (omega arith) (omega arith) some few in
-    let data' = make_proper (codes "HNVSD") 999 1 ((Bin (segments_text inner) ∷ []) ∷ []) HNVSD_kind (omega arith) (omega arith) (omega arith, tt) (omega arith) in
+    let data' =
+    make_proper (codes "HNVSD") 999 1 ((Bin (segments_text inner) ∷ []) ∷ []) HNVSD_kind (omega arith)
+    (omega arith) (omega arith, tt) (omega arith) in
     (key, (data', tt))
 
 -- ---- a step's message
 
-module _ (script : ScriptValue) (step : StepValue) (values : List NamedValue) (number : ℕ) (sound : IsSound script) (h : IsSoundStep script step) (admits : Admits script.fields values) (small : number ≤ MAX_NUMBER) where
+module _ (script : ScriptValue) (step : StepValue) (values : List NamedValue) (number : ℕ)
+    (sound : IsSound script) (h : IsSoundStep script step) (admits : Admits script.fields values)
+    (small : number ≤ MAX_NUMBER) where
   abbrev filling : FillingValue
   filling = filling_of script.fields values number
 
@@ -106,18 +132,32 @@ module _ (script : ScriptValue) (step : StepValue) (values : List NamedValue) (n
   short = step_short script step (sizes_of filling) number h (choice_light script values number sound admits) small
 
   inner_proper : AllByRecursion IsProper (inner_segments script step filling)
-  inner_proper = let few = short.few in filled_proper filling 2 (templates_of script step) (small_templates script step (map figures_of script.fields) h) (templates_filled script values number sound admits step h) (templates_few script values number sound admits step h) (omega arith)
+  inner_proper =
+      let few = short.few in filled_proper filling 2 (templates_of script step)
+      (small_templates script step (map figures_of script.fields) h)
+      (templates_filled script values number sound admits step h)
+      (templates_few script values number sound admits step h) (omega arith)
 
-  pub inner_writable : AllByRecursion IsWritable (inner_segments script step (filling_of script.fields values number))
-  inner_writable = let len = inner-len script step filling in let few = short.inner in all_writable (inner_segments script step filling) inner_proper (omega arith)
+  pub inner_writable : AllByRecursion IsWritable
+      (inner_segments script step (filling_of script.fields values number))
+  inner_writable =
+      let len = inner-len script step filling in let few = short.inner in all_writable
+      (inner_segments script step filling) inner_proper (omega arith)
 
   message_proper : (size : ℕ) → AllByRecursion IsProper (message_with script step filling number size)
   message_proper size =
       let few = short.few in
       let seal : List (List OwnedItem) = filled_elements filling (seal_of script) in
-      let middle = middle_proper step.sealed seal (inner_segments script step filling) (filled_items filling (seal_of script) (sealed_filled script values number sound admits)) (sealed_few script values number sound admits) inner_proper in
-      let last = last_proper (2 + length (templates_of script step)) number (omega arith) in
-      (first_proper size filling.dialog number (dialog_some script values number sound admits) (dialog_few script values number sound admits), all_append (middle_segments step.sealed seal (inner_segments script step filling)) (last_segment (2 + length (templates_of script step)) number ∷ []) middle (last, tt))
+      let middle =
+      middle_proper step.sealed seal (inner_segments script step filling)
+      (filled_items filling (seal_of script) (sealed_filled script values number sound admits))
+      (sealed_few script values number sound admits) inner_proper in
+      let last = last_proper (2 + length (templates_of script step)) number (omega arith) in (
+        first_proper size filling.dialog number (dialog_some script values number sound admits)
+            (dialog_few script values number sound admits),
+        all_append (middle_segments step.sealed seal (inner_segments script step filling))
+            (last_segment (2 + length (templates_of script step)) number ∷ []) middle (last, tt),
+      )
 
   pub message_writable : AllByRecursion IsWritable (message_segments script step number values)
   message_writable =

@@ -68,7 +68,9 @@ binary_size n = 3 + length (decimal n) + n
 -- the inner segments, or the envelope round them
 abbrev pub middle_len : Bool → ℕ → ℕ → ℕ
 middle_len false seal inner = inner
-middle_len true seal inner = head_len (codes "HNVSK") HNVSK_NUMBER HNVSK_VERSION + seal + head_len (codes "HNVSD") HNVSD_NUMBER HNVSD_VERSION + binary_size inner
+middle_len true seal inner =
+    head_len (codes "HNVSK") HNVSK_NUMBER HNVSK_VERSION + seal + head_len (codes "HNVSD") HNVSD_NUMBER
+    HNVSD_VERSION + binary_size inner
 
 -- what stands between the first segment and the last
 abbrev pub between_len : ScriptValue → StepValue → Sizes → ℕ

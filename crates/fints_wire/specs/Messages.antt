@@ -53,7 +53,9 @@ seal_of script = elim script.seal [ None ↦ [] | Some seal ↦ seal ]
 
 -- HNVSK with the seal's elements, and HNVSD with the text of the inner segments
 abbrev pub envelope : List (List OwnedItem) → List OwnedSegment → List OwnedSegment
-envelope seal inner = make_segment (codes "HNVSK") HNVSK_NUMBER HNVSK_VERSION seal ∷ make_segment (codes "HNVSD") HNVSD_NUMBER HNVSD_VERSION ((Bin (segments_text inner) ∷ []) ∷ []) ∷ []
+envelope seal inner =
+    make_segment (codes "HNVSK") HNVSK_NUMBER HNVSK_VERSION seal ∷ make_segment (codes "HNVSD") HNVSD_NUMBER
+    HNVSD_VERSION ((Bin (segments_text inner) ∷ []) ∷ []) ∷ []
 
 -- between the first segment and the last: the inner segments, or the envelope round them
 abbrev pub middle_segments : Bool → List (List OwnedItem) → List OwnedSegment → List OwnedSegment
@@ -66,7 +68,10 @@ twelve_digits n = replicate (12 - length (decimal n)) 48 ++ decimal n
 
 -- size, protocol version, dialogue id, and number of the message
 abbrev pub first_segment : ℕ → List OwnedItem → ℕ → OwnedSegment
-first_segment size dialog number = make_segment (codes "HNHBK") HNHBK_NUMBER HNHBK_VERSION ((Text (twelve_digits size) ∷ []) ∷ (Text (codes "300") ∷ []) ∷ dialog ∷ (Text (decimal number) ∷ []) ∷ [])
+first_segment size dialog number =
+    make_segment (codes "HNHBK") HNHBK_NUMBER HNHBK_VERSION
+    ((Text (twelve_digits size) ∷ []) ∷ (Text (codes "300") ∷ []) ∷ dialog ∷ (Text (decimal number) ∷ [])
+    ∷ [])
 
 abbrev pub last_segment : ℕ → ℕ → OwnedSegment
 last_segment n number = make_segment (codes "HNHBS") n HNHBS_VERSION ((Text (decimal number) ∷ []) ∷ [])
@@ -110,8 +115,13 @@ OfStep steps n so = (s : StepValue) → slice_get steps (n - 1) ≡ Some s → s
 
 -- the text of the envelope round inner segments of this text
 abbrev pub envelope_text : List (List OwnedItem) → List ℕ → List ℕ
-envelope_text seal inner = written_segment (make_segment (codes "HNVSK") HNVSK_NUMBER HNVSK_VERSION seal) ++ written_segment (make_segment (codes "HNVSD") HNVSD_NUMBER HNVSD_VERSION ((Bin inner ∷ []) ∷ []))
+envelope_text seal inner =
+    written_segment (make_segment (codes "HNVSK") HNVSK_NUMBER HNVSK_VERSION seal) ++ written_segment
+    (make_segment (codes "HNVSD") HNVSD_NUMBER HNVSD_VERSION ((Bin inner ∷ []) ∷ []))
 
 -- the text of what follows the first segment behind that segment, which has the size of the whole; whatever the size, it has 12 digits
 abbrev pub text_with_first : List OwnedItem → ℕ → List ℕ → List ℕ
-text_with_first dialog number later = written_segment (first_segment (length (written_segment (first_segment 0 dialog number)) + length later) dialog number) ++ later
+text_with_first dialog number later =
+    written_segment
+    (first_segment (length (written_segment (first_segment 0 dialog number)) + length later) dialog number)
+    ++ later

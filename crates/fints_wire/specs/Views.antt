@@ -13,7 +13,8 @@ use Rattle.fints_wire.specs.declared.building.TheConstants.{MAX_NUMBER}
 use Rattle.fints_wire.specs.Messages.{end_template, message_bytes, message_size, signers_of}
 use Rattle.fints_syntax_segments.specs.declared.limits.TheConstants.{MAX_BYTES}
 
--- what the message of a step, of this number, holds under a choice: the step's templates with the choice put in, numbered on behind HNHBK and the signers' HNSHK, and behind them the signers' HNSHA
+-- what the message of a step, of this number, holds under a choice: the step's templates with the choice put
+-- in, numbered on behind HNHBK and the signers' HNSHK, and behind them the signers' HNSHA
 abbrev pub message_view : ScriptValue → StepValue → ℕ → List NamedValue → MessageView
 message_view script step number values =
     let filling : FillingValue = filling_of script.fields values number in
@@ -28,7 +29,9 @@ message_view script step number values =
 -- the bytes of a step's message are a message, and what is read in them is what the step says
 abbrev pub MessagesAreRead : Type 0
 MessagesAreRead =
-    (script : ScriptValue) (i : ℕ) (step : StepValue) (number : ℕ) (values : List NamedValue) → IsSound script → slice_get script.steps i ≡ Some step → 1 ≤ number → number ≤ MAX_NUMBER → Admits script.fields values
+    (script : ScriptValue) (i : ℕ) (step : StepValue) (number : ℕ) (values : List NamedValue) → IsSound script
+    → slice_get script.steps i ≡ Some step → 1 ≤ number → number ≤ MAX_NUMBER
+    → Admits script.fields values
     → IsMessage (message_bytes script step number values) (message_view script step number values)
 
 -- what was sent is read as the message of its step, of its number, under the choice

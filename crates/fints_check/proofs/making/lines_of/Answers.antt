@@ -18,10 +18,22 @@ loop-i-preserved c =
     let old = c.loop-i.lines.items in
     let line : Line = record { name = c.name-name.result; reached = c.reached.result } in
     let back : i + 1 - 1 ≡ i = omega arith in
-    let at : slice_get steps (i + 1 - 1) ≡ Some c.step.result.now = subst (λ (p : PlanValue). slice_get p.script.steps (i + 1 - 1) ≡ Some c.step.result.now) c.plan-plan.ensures c.step.ensures.step in
+    let at : slice_get steps (i + 1 - 1) ≡ Some c.step.result.now =
+    subst (λ (p : PlanValue). slice_get p.script.steps (i + 1 - 1) ≡ Some c.step.result.now)
+    c.plan-plan.ensures c.step.ensures.step in
     let there : slice_get steps i ≡ Some c.step.result.now = subst (λ (k : ℕ). slice_get steps k ≡ Some c.step.result.now) back at in
     record {
-      names = subst (λ (lines : List Line). line_names lines ≡ step_names (take (i + 1) steps)) (sym c.in_ok-push.ensures.items) (names_more (λ (x : Line). x.name) (λ (s : StepValue). s.name) old steps i line c.step.result.now there c.name-name.ensures c.loop-i.invariant.names);
-      figures = subst (AreFiguresTo script (i + 1)) (sym c.in_ok-push.ensures.items) (figures_more script i old line c.reached.ensures.greatest c.loop-i.invariant.figures);
-      are_names = subst (All (λ (x : Line). IsName x.name)) (sym c.in_ok-push.ensures.items) (All-append (λ (x : Line). IsName x.name) old (line ∷ []) c.loop-i.invariant.are_names (All-cons (λ (x : Line). IsName x.name) line [] c.keeps.ensures (λ k d h. absurd (omega (arith, h)))));
+      names =
+          subst (λ (lines : List Line). line_names lines ≡ step_names (take (i + 1) steps))
+          (sym c.in_ok-push.ensures.items)
+          (names_more (λ (x : Line). x.name) (λ (s : StepValue). s.name) old steps i line
+          c.step.result.now there c.name-name.ensures c.loop-i.invariant.names);
+      figures =
+          subst (AreFiguresTo script (i + 1)) (sym c.in_ok-push.ensures.items)
+          (figures_more script i old line c.reached.ensures.greatest c.loop-i.invariant.figures);
+      are_names =
+          subst (All (λ (x : Line). IsName x.name)) (sym c.in_ok-push.ensures.items)
+          (All-append (λ (x : Line). IsName x.name) old (line ∷ []) c.loop-i.invariant.are_names
+          (All-cons (λ (x : Line). IsName x.name) line [] c.keeps.ensures
+          (λ k d h. absurd (omega (arith, h)))));
     }

@@ -9,7 +9,11 @@ use Rattle.fints_check.proofs.verifying.are_permitted.Goals as goal
 pub returns-then-figures_break : goal.returns-then-figures_break
 returns-then-figures_break c = (
   λ h. let no_match : false ≡ true = h in cc,
-  λ none. absurd (none (get_or ALL c.loop-rule.rule-index rule.Protocol) (subst (λ b. FiguresBreak b c.args.figures (get_or ALL c.loop-rule.rule-index rule.Protocol)) c.bank-bank.ensures (c.figures_break.ensures.0 c.if-figures_break.true))),
+  λ none.
+      absurd
+      (none (get_or ALL c.loop-rule.rule-index rule.Protocol)
+      (subst (λ b. FiguresBreak b c.args.figures (get_or ALL c.loop-rule.rule-index rule.Protocol))
+      c.bank-bank.ensures (c.figures_break.ensures.0 c.if-figures_break.true))),
 )
 
 pub loop-rule-preserved : goal.loop-rule-preserved
@@ -20,11 +24,18 @@ loop-rule-preserved c k d lt =
           let bank = c.args.permissions.now.rows.bank in
           let here : c.loop-rule.rule-index ≡ k = omega (arith, lt, above) in
           let within : k < length ALL = omega (arith, here, c.loop-rule-test.true) in
-          rule_same (λ r. FiguresBreak bank c.args.figures r → ⊥) c.loop-rule.rule-index k rule.Protocol d here within (λ b. let told = c.figures_break.ensures.1 (subst (λ x. FiguresBreak x c.args.figures (get_or ALL c.loop-rule.rule-index rule.Protocol)) (sym c.bank-bank.ensures) b) in absurd cc)
+          rule_same (λ r. FiguresBreak bank c.args.figures r → ⊥) c.loop-rule.rule-index k rule.Protocol d
+          here within
+          (λ b.
+          let told = c.figures_break.ensures.1
+          (subst (λ x. FiguresBreak x c.args.figures (get_or ALL c.loop-rule.rule-index rule.Protocol)) (sym c.bank-bank.ensures) b) in
+          absurd cc)
     ]
 
 pub returns : goal.returns
 returns c = (
-  λ _. each_rule (λ r. FiguresBreak c.args.permissions.now.rows.bank c.args.figures r → ⊥) (λ k d lt. c.loop-rule.invariant k d (omega (arith, lt, c.loop-rule-test.false))),
+  λ _.
+      each_rule (λ r. FiguresBreak c.args.permissions.now.rows.bank c.args.figures r → ⊥)
+      (λ k d lt. c.loop-rule.invariant k d (omega (arith, lt, c.loop-rule-test.false))),
   λ _. refl,
 )

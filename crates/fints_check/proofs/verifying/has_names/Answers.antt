@@ -19,7 +19,12 @@ returns-then-not-is_named c =
     let back : i + 1 - 1 ≡ i = omega arith in
     let there : slice_get steps i ≡ Some step = subst (λ (k : ℕ). slice_get steps k ≡ Some step) back c.step.ensures.step in (
       λ h. absurd cc,
-      λ e. absurd (both_ways _ c.if-not-is_named.true (c.is_named.ensures.1 (same_at (λ (x : Line). x.name) (λ (x : StepValue). x.name) lines steps i line step here there e))),
+      λ e.
+          absurd
+          (both_ways _ c.if-not-is_named.true
+          (c.is_named.ensures.1
+          (same_at (λ (x : Line). x.name) (λ (x : StepValue). x.name) lines steps i line step here
+          there e))),
     )
 
 pub loop-i-preserved : goal.loop-i-preserved
@@ -34,7 +39,9 @@ loop-i-preserved c =
     let long = c.if-lines-step_count.false in
     let count = c.step_count.ensures.count in
     let test = c.loop-i-test.true in
-    same_more (λ (x : Line). x.name) (λ (x : StepValue). x.name) lines steps i line step test (omega arith) (sym c.index-lines-i.is) (get_or_from_slice_get steps i step step there) (c.is_named.ensures.0 c.if-not-is_named.false) c.loop-i.invariant
+    same_more (λ (x : Line). x.name) (λ (x : StepValue). x.name) lines steps i line step test (omega arith)
+    (sym c.index-lines-i.is) (get_or_from_slice_get steps i step step there)
+    (c.is_named.ensures.0 c.if-not-is_named.false) c.loop-i.invariant
 
 pub returns : goal.returns
 returns c =

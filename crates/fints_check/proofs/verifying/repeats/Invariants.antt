@@ -9,5 +9,6 @@ use Rattle.fints_check.proofs.verifying.repeats.Given as goal
 abbrev pub invariant-loop-i : goal.invariant-loop-i
 invariant-loop-i l = record {
   long : length l.flags ≡ MAX_STEPS;
-  each : (k : ℕ) (step : StepValue) → k < l.i → slice_get l.plan.script.steps k ≡ Some step → (slice_get l.flags k ≡ Some true) ↔ IsOpenTo step.branches step.otherwise Again;
+  each : (k : ℕ) (step : StepValue) → k < l.i → slice_get l.plan.script.steps k ≡ Some step
+      → (slice_get l.flags k ≡ Some true) ↔ IsOpenTo step.branches step.otherwise Again;
 }

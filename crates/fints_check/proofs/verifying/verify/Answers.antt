@@ -8,7 +8,8 @@ pub returns-clause-promise : goal.returns-clause-promise
 returns-clause-promise c t =
     let granted = c.args.permissions.now in
     let script = c.args.plan.now.script in
-    closed_promises_promise granted script c.args.certificate.now (sound_of c.keeps.ensures.read) (subst (IsClosedCertificate granted script) c.lines.ensures (c.is_closed.ensures.0 t))
+    closed_promises_promise granted script c.args.certificate.now (sound_of c.keeps.ensures.read)
+    (subst (IsClosedCertificate granted script) c.lines.ensures (c.is_closed.ensures.0 t))
 
 pub returns-clause-closed : goal.returns-clause-closed
 returns-clause-closed c = search rules
@@ -17,4 +18,5 @@ pub returns-clause-permitted : goal.returns-clause-permitted
 returns-clause-permitted c t =
     let granted = c.args.permissions.now in
     let script = c.args.plan.now.script in
-    closed_promises_permitted granted script c.args.certificate.now (sound_of c.keeps.ensures.read) (subst (IsClosedCertificate granted script) c.lines.ensures (c.is_closed.ensures.0 t))
+    closed_promises_permitted granted script c.args.certificate.now (sound_of c.keeps.ensures.read)
+    (subst (IsClosedCertificate granted script) c.lines.ensures (c.is_closed.ensures.0 t))

@@ -29,7 +29,14 @@ returns-in-Size c =
     let sound = sound_of c.keeps.ensures.read in
     let breaks = size_values script granted c.args.finding sound c.in-Size.is in
     if_ok (λ v. v ≡ longest_choice script.fields) (AreCaseValues granted script c.args.finding) c.values_of.result
-    (λ v is. record { admitted = λ r. absurd (size_not c.args.finding.rule c.in-Size.is r); greatest = λ other. subst (BreaksAtGreatest granted script c.args.finding) (sym is) breaks; chosen = λ number step at peak real. size_chosen granted script c.args.finding v c.in-Size.is is }) c.values_of.ensures
+    (λ v is.
+    record {
+      admitted = λ r. absurd (size_not c.args.finding.rule c.in-Size.is r);
+      greatest = λ other. subst (BreaksAtGreatest granted script c.args.finding) (sym is) breaks;
+      chosen =
+          λ number step at peak real. size_chosen granted script c.args.finding v c.in-Size.is is;
+    })
+    c.values_of.ensures
 
 pub returns-in-Number : goal.returns-in-Number
 returns-in-Number c =
@@ -50,7 +57,17 @@ returns-in-Release c =
     let script = c.args.plan.now.script in
     let granted = c.args.permissions.now in
     if_ok (λ v. v ≡ shortest_choice script.fields) (AreCaseValues granted script c.args.finding) c.values_of-in-Release.result
-    (λ v is. record { admitted = λ r. subst (Admits script.fields) (sym is) (extremes_are_admitted_shortest script.fields); greatest = λ other. absurd (other c.in-Release.is); chosen = λ number step at peak real. other_chosen granted script c.args.finding v rule.Release c.in-Release.is (λ e. cc) (λ e. cc) is }) c.values_of-in-Release.ensures
+    (λ v is.
+    record {
+      admitted =
+          λ r. subst (Admits script.fields) (sym is) (extremes_are_admitted_shortest script.fields);
+      greatest = λ other. absurd (other c.in-Release.is);
+      chosen =
+          λ number step at peak real.
+          other_chosen granted script c.args.finding v rule.Release c.in-Release.is (λ e. cc)
+          (λ e. cc) is;
+    })
+    c.values_of-in-Release.ensures
 
 pub returns-in_default : goal.returns-in_default
 returns-in_default c =
@@ -59,12 +76,18 @@ returns-in_default c =
     let sound = sound_of c.keeps.ensures.read in
     let f = c.args.finding in
     let choice = c.choice-choice.result in
-    let sort : c.chosen_sort.result ≡ chosen_sort (wants_tan f.rule) choice = c.chosen_sort.ensures ∙ ap (λ (most : Bool). chosen_sort most choice) c.wants_tan.ensures in
+    let sort : c.chosen_sort.result ≡ chosen_sort (wants_tan f.rule) choice =
+    c.chosen_sort.ensures ∙ ap (λ (most : Bool). chosen_sort most choice) c.wants_tan.ensures in
     let is_choice : IfOk c.values_of-in_default.result (IsChoice (wants_tan f.rule) script.fields choice) =
     if_ok (AreOfSort script.fields (chosen_sort (wants_tan f.rule) choice)) (IsChoice (wants_tan f.rule) script.fields choice) c.values_of-in_default.result
-    (sort_is_choice (wants_tan f.rule) script.fields choice) (subst (λ s. IfOk c.values_of-in_default.result (AreOfSort script.fields s)) sort c.values_of-in_default.ensures) in
-    let found : (number : ℕ) (step : StepValue) (values : List NamedValue) → (f.rule ≡ rule.Release → ⊥) → numbered script.steps f.step ≡ Some step → IsGreatestAt script.steps f.step number → IsReal granted script f → IsChoice (wants_tan f.rule) script.fields choice values
-    → AreChosenAt (record { granted = granted; script = script; n = f.step; step = step }) f.rule f.segment values =
+    (sort_is_choice (wants_tan f.rule) script.fields choice)
+    (subst (λ s. IfOk c.values_of-in_default.result (AreOfSort script.fields s)) sort
+    c.values_of-in_default.ensures) in
+    let found : (number : ℕ) (step : StepValue) (values : List NamedValue) → (f.rule ≡ rule.Release → ⊥)
+    → numbered script.steps f.step ≡ Some step → IsGreatestAt script.steps f.step number
+    → IsReal granted script f → IsChoice (wants_tan f.rule) script.fields choice values
+    → AreChosenAt (record { granted = granted; script = script; n = f.step; step = step }) f.rule f.segment
+    values =
     λ number step values not_release at peak real is.
     let b = real_breaks script granted sound f number step not_release at peak real in
     let same : c.new-step.result.step ≡ step = same_Some c.new-step.result.step step (sym c.new-step.ensures.step ∙ at) in
@@ -72,9 +95,14 @@ returns-in_default c =
       | inl whole ↦ absurd (elim (figures_rule granted.rows.bank _ f.rule whole.1) [ inl is ↦ c.in_default.not-Number is | inr is ↦ c.in_default.not-Size is ])
       | inr held ↦
           from_same
-          (λ g x s. (other values : List NamedValue) (lower : ℕ) → Admits x.fields other → BreaksByContent g (message_view x s lower other) f.rule f.segment → IsChoice (wants_tan f.rule) x.fields choice values
+          (λ g x s.
+          (other values : List NamedValue) (lower : ℕ) → Admits x.fields other
+          → BreaksByContent g (message_view x s lower other) f.rule f.segment
+          → IsChoice (wants_tan f.rule) x.fields choice values
           → AreChosenAt (record { granted = g; script = x; n = f.step; step = s }) f.rule f.segment values)
-          c.new-step.result granted script step c.new-step.ensures.granted c.new-step.ensures.script same (at_step_number c.new-step.result f.step f.rule f.segment choice c.choice-choice.ensures) b.0 values b.1 b.2 held is
+          c.new-step.result granted script step c.new-step.ensures.granted c.new-step.ensures.script same
+          (at_step_number c.new-step.result f.step f.rule f.segment choice c.choice-choice.ensures) b.0
+          values b.1 b.2 held is
     ]
     in
     if_ok (IsChoice (wants_tan f.rule) script.fields choice) (AreCaseValues granted script f) c.values_of-in_default.result

@@ -6,4 +6,6 @@ use Rattle.fints_check_findings.proofs.choosing.first_account.Given as goal
 
 -- with none so far
 abbrev pub invariant-loop-i : goal.invariant-loop-i
-invariant-loop-i l = (k : ℕ) (account : List (List ℕ)) → k < l.i → slice_get l.accounts k ≡ Some account → SegmentBreaks l.permissions l.facts l.rule (template_facts l.template l.count account) → ⊥
+invariant-loop-i l =
+    (k : ℕ) (account : List (List ℕ)) → k < l.i → slice_get l.accounts k ≡ Some account
+    → SegmentBreaks l.permissions l.facts l.rule (template_facts l.template l.count account) → ⊥

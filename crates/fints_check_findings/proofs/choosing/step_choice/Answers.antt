@@ -8,8 +8,14 @@ use Rattle.fints_check_findings.proofs.choosing.step_choice.Goals as goal
 pub returns-in-Some : goal.returns-in-Some
 returns-in-Some c =
     let i : ℕ = c.args.place - (2 + length c.signers.result.now) in
-    at_choice c.args.permissions.now c.args.fields.now c.args.step.now (message_for c.args.facts.now (wants_tan c.args.rule)) c.args.rule c.args.place i c.in-Some.template.now c.count.result c.template_choice.result
+    at_choice c.args.permissions.now c.args.fields.now c.args.step.now
+    (message_for c.args.facts.now (wants_tan c.args.rule)) c.args.rule c.args.place i
+    c.in-Some.template.now c.count.result c.template_choice.result
     (omega (arith, c.if-place-first.false, ap length c.signers.ensures))
     (sym c.in-Some.ensures)
     (c.count.ensures ∙ c.requires.each i c.in-Some.template.now (sym c.in-Some.ensures))
-    (subst (λ (f : MessageFacts). IsTemplateChoice c.args.permissions.now c.args.fields.now f c.args.rule c.in-Some.template.now c.count.result c.template_choice.result) c.message.ensures c.template_choice.ensures)
+    (subst
+    (λ (f : MessageFacts).
+    IsTemplateChoice c.args.permissions.now c.args.fields.now f c.args.rule c.in-Some.template.now
+    c.count.result c.template_choice.result)
+    c.message.ensures c.template_choice.ensures)

@@ -10,7 +10,12 @@ pub returns-in-Some : goal.returns-in-Some
 returns-in-Some c h =
     let fields = c.args.fields.now in
     let t = c.args.template.now in
-    let breaking = subst (λ (xs : List (List (List ℕ))). HasBreaking c.args.permissions.now c.args.facts.now c.args.rule t c.args.count xs c.in-Some.account) c.accounts_asked-accounts.ensures c.in-Some.ensures in
+    let breaking =
+    subst
+    (λ (xs : List (List (List ℕ))).
+    HasBreaking c.args.permissions.now c.args.facts.now c.args.rule t c.args.count xs
+    c.in-Some.account)
+    c.accounts_asked-accounts.ensures c.in-Some.ensures in
     let within = slice_get_within _ c.in-Some.account breaking.account breaking.listed in
     let a = asked fields c.args.rule t (omega (arith, within)) in
     let place : c.field_place.result ≡ a.at.place = c.field_place.ensures a.at.place (c.element_two.ensures ∙ a.at.items_are) in
@@ -19,5 +24,10 @@ returns-in-Some c h =
       items_are = a.at.items_are ∙ ap (λ (k : ℕ). Field k ∷ []) (sym place);
       field = a.at.field;
       there = ap (slice_get fields) place ∙ a.at.there;
-      breaking = subst (λ (xs : List (List (List ℕ))). HasBreaking c.args.permissions.now c.args.facts.now c.args.rule t c.args.count xs c.in-Some.account) a.accounts breaking;
+      breaking =
+          subst
+          (λ (xs : List (List (List ℕ))).
+          HasBreaking c.args.permissions.now c.args.facts.now c.args.rule t c.args.count xs
+          c.in-Some.account)
+          a.accounts breaking;
     }

@@ -9,5 +9,6 @@ use Rattle.fints_check_findings.proofs.choosing.values_with.Given as goal
 -- the values of the fields so far
 abbrev pub invariant-loop-i : goal.invariant-loop-i
 invariant-loop-i l =
-    (field : NamedField) (account : List (List ℕ)) → slice_get l.fields l.set.field ≡ Some field → slice_get (field_accounts field.class) l.set.account ≡ Some account
+    (field : NamedField) (account : List (List ℕ)) → slice_get l.fields l.set.field ≡ Some field
+    → slice_get (field_accounts field.class) l.set.account ≡ Some account
     → l.values ≡ take l.i (with_value (shortest_choice l.fields) l.set.field field (account_text account))

@@ -16,7 +16,16 @@ returns-in-Ok c =
     let judged = c.in-Ok.ensures.judged in
     let found : Broken = record { rule = rule; segment = place } in
     let value = c.as_slice.ensures.value in (
-      λ t. record { message = judged.message; is = judged.is; breaks = (judged.exactly rule place).0 (subst (λ (xs : List Broken). Contains xs found) value (c.has_finding.ensures.0 t)) },
+      λ t.
+          record {
+            message =
+                judged.message;
+            is = judged.is;
+            breaks =
+                (judged.exactly rule place).0
+                (subst (λ (xs : List Broken). Contains xs found) value
+                (c.has_finding.ensures.0 t));
+          },
       λ b.
           let same = one_message bytes b.message judged.message b.is judged.is in
           let there = (judged.exactly rule place).1 (subst (λ (m : MessageView). Breaks granted m rule place) same b.breaks) in

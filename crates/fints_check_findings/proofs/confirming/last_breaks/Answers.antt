@@ -13,8 +13,16 @@ pub returns-then-sent-lt2 : goal.returns-then-sent-lt2
 returns-then-sent-lt2 c =
     let f = c.args.finding.now in
     let m = c.args.last.now in
-    subst (λ (before : Before). IfOk c.bytes_break.result (λ answer. IsTrue answer ↔ BreaksBehind c.args.permissions.now before m f.rule f.segment)) (sym (came_first c.args.sent.now c.args.answers.now c.if-sent-lt2.true))
-    (subst (λ (bytes : List ℕ). IfOk c.bytes_break.result (λ answer. IsTrue answer ↔ BytesBreak c.args.permissions.now bytes f.rule f.segment)) c.as_slice.ensures c.bytes_break.ensures)
+    subst
+    (λ (before : Before).
+    IfOk c.bytes_break.result
+    (λ answer. IsTrue answer ↔ BreaksBehind c.args.permissions.now before m f.rule f.segment))
+    (sym (came_first c.args.sent.now c.args.answers.now c.if-sent-lt2.true))
+    (subst
+    (λ (bytes : List ℕ).
+    IfOk c.bytes_break.result
+    (λ answer. IsTrue answer ↔ BytesBreak c.args.permissions.now bytes f.rule f.segment))
+    c.as_slice.ensures c.bytes_break.ensures)
 
 pub returns : goal.returns
 returns c =
@@ -31,7 +39,10 @@ returns c =
     let there : slice_get sent i ≡ Some b = slice_get-get_or sent i c.index-sent-i.result (omega arith) in
     let answer : slice_get answers i ≡ Some codes = slice_get-get_or answers i c.index-answers-i.result (omega arith) in
     let after = came_behind sent answers i b codes there answer (omega arith) in
-    let told : List ℕ → List ℕ → List ℕ → Type 0 = λ x y z. IfOk c.bytes_break_after.result (λ answer. IsTrue answer ↔ BytesBreakAfter granted x y z f.rule f.segment) in
+    let told : List ℕ → List ℕ → List ℕ → Type 0 =
+    λ x y z.
+    IfOk c.bytes_break_after.result
+    (λ answer. IsTrue answer ↔ BytesBreakAfter granted x y z f.rule f.segment) in
     subst (λ (before : Before). IfOk c.bytes_break_after.result (λ answer. IsTrue answer ↔ BreaksBehind granted before m f.rule f.segment)) (sym after)
     (subst (λ (x : List ℕ). told x codes m.bytes) c.as_slice-2.ensures
     (subst (λ (y : List ℕ). told c.as_slice-2.result.now y m.bytes) (c.codes-codes.ensures.codes ∙ c.index-answers-i.is)

@@ -11,5 +11,6 @@ returns c =
     let f = c.args.finding.now in
     let m = c.args.last.now in
     let before = came_after at_first c.args.sent.now c.args.answers.now in
-    if_ok (λ answer. IsTrue answer ↔ BreaksBehind granted before m f.rule f.segment) (λ answer. IsTrue answer ↔ IsShownBy granted f before m) c.last_breaks.result
+    if_ok (λ answer. IsTrue answer ↔ BreaksBehind granted before m f.rule f.segment)
+    (λ answer. IsTrue answer ↔ IsShownBy granted f before m) c.last_breaks.result
     (λ answer e. (λ t. record { of = c.if-last-finding.false; breaks = e.0 t }, λ s. e.1 s.breaks)) c.last_breaks.ensures

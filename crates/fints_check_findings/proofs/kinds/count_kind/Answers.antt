@@ -5,7 +5,9 @@ use Rattle.fints_check_findings.proofs.kinds.count_kind.Goals.{then-has_kind, el
 
 pub loop-template-preserved : goal.loop-template-preserved
 loop-template-preserved c =
-    let more = count_step c.args.kind c.args.templates.now c.loop-template.template-index c.template-item.result c.has_kind.result c.loop-template-test.true c.template-item.is c.has_kind.ensures in
+    let more =
+    count_step c.args.kind c.args.templates.now c.loop-template.template-index c.template-item.result
+    c.has_kind.result c.loop-template-test.true c.template-item.is c.has_kind.ensures in
     let old = c.loop-template.invariant.count in
     let few = c.loop-template.invariant.few in
     elim c.if-has_kind.branch [

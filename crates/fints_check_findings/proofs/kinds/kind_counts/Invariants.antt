@@ -7,5 +7,6 @@ use Rattle.fints_check_findings.proofs.kinds.kind_counts.Given as goal
 abbrev pub invariant-loop-i : goal.invariant-loop-i
 invariant-loop-i l = record {
   long : length l.counts ≡ 100;
-  each : (k : ℕ) (t : Template) → k < l.i → slice_get l.templates k ≡ Some t → get_or l.counts k 0 ≡ template_count t.kind l.templates;
+  each : (k : ℕ) (t : Template) → k < l.i → slice_get l.templates k ≡ Some t
+      → get_or l.counts k 0 ≡ template_count t.kind l.templates;
 }

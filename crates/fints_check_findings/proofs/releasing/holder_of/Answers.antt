@@ -4,7 +4,8 @@ use Rattle.fints_script.specs.Numbered.{numbered, numbered_of}
 use Rattle.fints_check_findings.proofs.releasing.holder_of.Goals as goal
 
 -- what stands beside a step
-cell_of : (holders : List (Option ℕ)) (s : ℕ) (cell : Option ℕ) → 1 ≤ s → s ≤ length holders → get_or holders (s - 1) None ≡ cell → numbered holders s ≡ Some cell
+cell_of : (holders : List (Option ℕ)) (s : ℕ) (cell : Option ℕ) → 1 ≤ s → s ≤ length holders
+    → get_or holders (s - 1) None ≡ cell → numbered holders s ≡ Some cell
 cell_of holders s cell low high is =
     numbered_of holders s cell low (slice_get-get_or holders (s - 1) None (omega (arith, low, high)) ∙ ap (λ (x : Option ℕ). Some x) is)
 

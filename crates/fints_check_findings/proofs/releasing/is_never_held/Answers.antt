@@ -31,7 +31,15 @@ returns-then-is_some c = (
   λ h. let clash : false ≡ true = h in cc,
   λ none.
       let is = some_of _ _ c.unreleased_at.result c.unreleased_at.ensures (sym c.is_some.ensures ∙ c.if-is_some.true) in
-      absurd (none is.0 (record { step = c.step-step.result.now; at = c.step-step.ensures.numbered; submitted = sym c.submits.ensures ∙ c.if-not-submits.false; branch = c.loop-branch.branch; is = is.1 })),
+      absurd
+      (none is.0
+      (record {
+        step = c.step-step.result.now;
+        at = c.step-step.ensures.numbered;
+        submitted = sym c.submits.ensures ∙ c.if-not-submits.false;
+        branch = c.loop-branch.branch;
+        is = is.1;
+      })),
 )
 
 pub loop-branch-preserved : goal.loop-branch-preserved
@@ -40,7 +48,11 @@ loop-branch-preserved c s k low less is =
       | inl below ↦ c.loop-branch.invariant s k low below is
       | inr above ↦
           let same : k ≡ c.loop-branch.branch = omega (arith, less, above) in
-          none_of _ _ c.unreleased_at.result c.unreleased_at.ensures (sym c.is_some.ensures ∙ c.if-is_some.false) s (subst (λ (j : ℕ). IsUnreleasedAt c.args.plan.now.script.steps c.args.t c.step-step.result.now j s) same is)
+          none_of _ _ c.unreleased_at.result c.unreleased_at.ensures
+          (sym c.is_some.ensures ∙ c.if-is_some.false) s
+          (subst
+          (λ (j : ℕ). IsUnreleasedAt c.args.plan.now.script.steps c.args.t c.step-step.result.now j s)
+          same is)
     ]
 
 pub returns : goal.returns

@@ -12,17 +12,27 @@ use Rattle.fints_script.proofs.LawLemmas.{sound_of}
 use Rattle.fints_check_findings.proofs.releasing.unreleased_at.Goals as goal
 
 -- where the branch leads
-goes_of : (step : StepValue) (t branch s : ℕ) (target : Target) → target ≡ target_of step.branches step.otherwise branch → GoesTo step t target s → GoesTo step t (target_of step.branches step.otherwise branch) s
+goes_of : (step : StepValue) (t branch s : ℕ) (target : Target)
+    → target ≡ target_of step.branches step.otherwise branch → GoesTo step t target s
+    → GoesTo step t (target_of step.branches step.otherwise branch) s
 goes_of step t branch s target is goes = subst (λ (x : Target). GoesTo step t x s) is goes
 
 pub returns-in-None : goal.returns-in-None
 returns-in-None c s u = c.in-None.ensures s (subst (λ (target : Target). GoesTo c.args.step.now c.args.t target s) (sym c.target.ensures) u.carried.goes)
 
 pub step-requires-clause-from : goal.step-requires-clause-from
-step-requires-clause-from c = (follower_within c.args.plan.now.script c.args.t c.args.branch c.in-Some.s c.args.step.now (sound_of c.keeps.ensures.read) c.requires.at (goes_of c.args.step.now c.args.t c.args.branch c.in-Some.s c.target.result c.target.ensures c.in-Some.ensures)).0
+step-requires-clause-from c =
+    (follower_within c.args.plan.now.script c.args.t c.args.branch c.in-Some.s c.args.step.now
+    (sound_of c.keeps.ensures.read) c.requires.at
+    (goes_of c.args.step.now c.args.t c.args.branch c.in-Some.s c.target.result c.target.ensures
+    c.in-Some.ensures)).0
 
 pub step-requires-clause-to : goal.step-requires-clause-to
-step-requires-clause-to c = (follower_within c.args.plan.now.script c.args.t c.args.branch c.in-Some.s c.args.step.now (sound_of c.keeps.ensures.read) c.requires.at (goes_of c.args.step.now c.args.t c.args.branch c.in-Some.s c.target.result c.target.ensures c.in-Some.ensures)).1
+step-requires-clause-to c =
+    (follower_within c.args.plan.now.script c.args.t c.args.branch c.in-Some.s c.args.step.now
+    (sound_of c.keeps.ensures.read) c.requires.at
+    (goes_of c.args.step.now c.args.t c.args.branch c.in-Some.s c.target.result c.target.ensures
+    c.in-Some.ensures)).1
 
 pub returns-then-releases : goal.returns-then-releases
 returns-then-releases c k u =

@@ -28,7 +28,9 @@ loop-i-init c =
     let granted = c.args.permissions.now in
     let sound = sound_of c.keeps.ensures.read in
     record {
-      findings = subst (AreFoundTo granted script 1 1 0) (sym c.new-findings.ensures.items) (found_first granted script (λ f real. (real_within granted script sound f real).0));
+      findings =
+          subst (AreFoundTo granted script 1 1 0) (sym c.new-findings.ensures.items)
+          (found_first granted script (λ f real. (real_within granted script sound f real).0));
       figures = figures_none script c.in_ok-figures.figures.items c.in_ok-figures.ensures.items;
       reached = ap (λ (xs : List (Option Reached)). map is_some xs) c.in_ok-figures.ensures.items;
     }
@@ -40,7 +42,10 @@ figures_at-reached-requires-clause-least c =
     let sound = sound_of c.keeps.ensures.read in
     let numbers = c.in_ok-numbers.numbers.greatest.items in
     let greatest = c.in_ok-numbers.ensures.greatest in
-    let has : Has numbers (c.loop-i.i + 1) c.in-Some.number = cell_at numbers c.loop-i.i c.index.result.now (omega (arith, greatest.long, c.step_count-count.ensures.count)) c.index.ensures ∙ ap (λ x. Some x) c.in-Some.is in
+    let has : Has numbers (c.loop-i.i + 1) c.in-Some.number =
+    cell_at numbers c.loop-i.i c.index.result.now
+    (omega (arith, greatest.long, c.step_count-count.ensures.count)) c.index.ensures
+    ∙ ap (λ x. Some x) c.in-Some.is in
     (number_small script granted sound (c.loop-i.i + 1) c.in-Some.number (greatest_at script.steps numbers (c.loop-i.i + 1) c.in-Some.number greatest has)).0
 
 pub figures_at-reached-requires-clause-most : goal.figures_at-reached-requires-clause-most
@@ -50,20 +55,32 @@ figures_at-reached-requires-clause-most c =
     let sound = sound_of c.keeps.ensures.read in
     let numbers = c.in_ok-numbers.numbers.greatest.items in
     let greatest = c.in_ok-numbers.ensures.greatest in
-    let has : Has numbers (c.loop-i.i + 1) c.in-Some.number = cell_at numbers c.loop-i.i c.index.result.now (omega (arith, greatest.long, c.step_count-count.ensures.count)) c.index.ensures ∙ ap (λ x. Some x) c.in-Some.is in
+    let has : Has numbers (c.loop-i.i + 1) c.in-Some.number =
+    cell_at numbers c.loop-i.i c.index.result.now
+    (omega (arith, greatest.long, c.step_count-count.ensures.count)) c.index.ensures
+    ∙ ap (λ x. Some x) c.in-Some.is in
     (number_small script granted sound (c.loop-i.i + 1) c.in-Some.number (greatest_at script.steps numbers (c.loop-i.i + 1) c.in-Some.number greatest has)).1
 
 pub new-requires-clause-figures : goal.new-requires-clause-figures
-new-requires-clause-figures c = subst (λ (script : ScriptValue). AreFiguresAt script c.new-step.result.step c.figures_at-reached.result) (sym c.new-step.ensures.script) (c.figures_at-reached.ensures.figures c.new-step.result.step c.new-step.ensures.step)
+new-requires-clause-figures c =
+    subst (λ (script : ScriptValue). AreFiguresAt script c.new-step.result.step c.figures_at-reached.result)
+    (sym c.new-step.ensures.script)
+    (c.figures_at-reached.ensures.figures c.new-step.result.step c.new-step.ensures.step)
 
 pub new-requires-clause-greatest : goal.new-requires-clause-greatest
 new-requires-clause-greatest c =
     let script = c.args.plan.now.script in
     let numbers = c.in_ok-numbers.numbers.greatest.items in
     let greatest = c.in_ok-numbers.ensures.greatest in
-    let has : Has numbers (c.loop-i.i + 1) c.in-Some.number = cell_at numbers c.loop-i.i c.index.result.now (omega (arith, greatest.long, c.step_count-count.ensures.count)) c.index.ensures ∙ ap (λ x. Some x) c.in-Some.is in
-    to_step (λ _ x n. IsGreatestAt x.steps n c.figures_at-reached.result.number) c.new-step.result c.args.permissions.now script (c.loop-i.i + 1) c.new-step.ensures.granted c.new-step.ensures.script c.new-step.ensures.number
-    (subst (λ (k : ℕ). IsGreatestAt script.steps (c.loop-i.i + 1) k) (sym c.figures_at-reached.ensures.number) (greatest_at script.steps numbers (c.loop-i.i + 1) c.in-Some.number greatest has))
+    let has : Has numbers (c.loop-i.i + 1) c.in-Some.number =
+    cell_at numbers c.loop-i.i c.index.result.now
+    (omega (arith, greatest.long, c.step_count-count.ensures.count)) c.index.ensures
+    ∙ ap (λ x. Some x) c.in-Some.is in
+    to_step (λ _ x n. IsGreatestAt x.steps n c.figures_at-reached.result.number) c.new-step.result
+    c.args.permissions.now script (c.loop-i.i + 1) c.new-step.ensures.granted c.new-step.ensures.script
+    c.new-step.ensures.number
+    (subst (λ (k : ℕ). IsGreatestAt script.steps (c.loop-i.i + 1) k) (sym c.figures_at-reached.ensures.number)
+    (greatest_at script.steps numbers (c.loop-i.i + 1) c.in-Some.number greatest has))
 
 pub new-requires-clause-unreleased : goal.new-requires-clause-unreleased
 new-requires-clause-unreleased c =
@@ -76,9 +93,12 @@ new-requires-clause-unreleased c =
     let greatest = c.in_ok-numbers.ensures.greatest in
     let are = c.in_ok-holders.ensures in
     let cell = cell_at holders c.loop-i.i c.index-in-Some.result.now (omega (arith, are.long, c.step_count-count.ensures.count)) c.index-in-Some.ensures in
-    to_step (λ g x n. IsTrue c.is_some.result ↔ IsReal g x (release_of n)) c.new-step.result granted script (c.loop-i.i + 1) c.new-step.ensures.granted c.new-step.ensures.script c.new-step.ensures.number
+    to_step (λ g x n. IsTrue c.is_some.result ↔ IsReal g x (release_of n)) c.new-step.result granted script
+    (c.loop-i.i + 1) c.new-step.ensures.granted c.new-step.ensures.script c.new-step.ensures.number
     (subst (λ (b : Bool). IsTrue b ↔ IsReal granted script (release_of (c.loop-i.i + 1))) (sym c.is_some.ensures)
-    (cell_tells granted script numbers holders greatest are (λ s real. (release_is_left granted script (release_of s) sound refl real).1) (λ t s. held_is_unreleased script granted.orders t s sound closed)
+    (cell_tells granted script numbers holders greatest are
+    (λ s real. (release_is_left granted script (release_of s) sound refl real).1)
+    (λ t s. held_is_unreleased script granted.orders t s sound closed)
     (λ v s. unreleased_is_real granted script v s sound closed) (c.loop-i.i + 1) c.index-in-Some.result.now cell))
 
 pub loop-i-preserved : goal.loop-i-preserved
@@ -89,31 +109,53 @@ loop-i-preserved c =
     let numbers = c.in_ok-numbers.numbers.greatest.items in
     let greatest = c.in_ok-numbers.ensures.greatest in
     let n : ℕ = c.loop-i.i + 1 in
-    let cell : numbered numbers (c.loop-i.i + 1) ≡ Some c.index.result.now = cell_at numbers c.loop-i.i c.index.result.now (omega (arith, greatest.long, c.step_count-count.ensures.count)) c.index.ensures in
+    let cell : numbered numbers (c.loop-i.i + 1) ≡ Some c.index.result.now =
+    cell_at numbers c.loop-i.i c.index.result.now
+    (omega (arith, greatest.long, c.step_count-count.ensures.count)) c.index.ensures in
     let P : Vec Finding Global → Type 0 = λ v. AreFoundTo granted script (c.loop-i.i + 1 + 1) 1 0 v.items in
     let Q : Option Reached → Type 0 = λ figures. FiguresAre script (c.loop-i.i + 1) figures in
     let R : Option Reached → Type 0 = λ figures. is_some figures ≡ is_some c.index.result.now in
     let all : P c.match-index.findings × Q c.match-index.cell × R c.match-index.cell = elim c.match-index.branch [
       | in-None w ↦
           let none : numbered numbers (c.loop-i.i + 1) ≡ Some None = cell ∙ ap (λ x. Some x) w.in-None.is in (
-            subst P (sym w.findings-is) (found_none granted script (c.loop-i.i + 1) c.loop-i.findings.items (nothing_real granted script numbers (c.loop-i.i + 1) greatest sound none) c.loop-i.invariant.findings),
+            subst P (sym w.findings-is)
+                (found_none granted script (c.loop-i.i + 1) c.loop-i.findings.items
+                (nothing_real granted script numbers (c.loop-i.i + 1) greatest sound none)
+                c.loop-i.invariant.findings),
             subst Q (sym w.cell-is) (λ m s. unreached script numbers (c.loop-i.i + 1) s.values m greatest sound none s.sends s.of),
             subst R (sym w.cell-is) (sym (ap (λ (x : Option ℕ). is_some x) w.in-None.is)),
           )
       | in-Some+in_ok-search-in-Some w ↦
           let has : Has numbers (c.loop-i.i + 1) w.in-Some.number = cell ∙ ap (λ x. Some x) w.in-Some.is in
-          let peak = subst (λ (k : ℕ). IsGreatestAt script.steps (c.loop-i.i + 1) k) (sym w.figures_at-reached.ensures.number) (greatest_at script.steps numbers (c.loop-i.i + 1) w.in-Some.number greatest has) in
+          let peak =
+          subst (λ (k : ℕ). IsGreatestAt script.steps (c.loop-i.i + 1) k)
+          (sym w.figures_at-reached.ensures.number)
+          (greatest_at script.steps numbers (c.loop-i.i + 1) w.in-Some.number greatest has) in
           let step = numbered_at script.steps (c.loop-i.i + 1) (omega arith) (omega (arith, c.step_count-count.ensures.count)) in (
-            subst P (sym w.findings-is) (from_step (λ g x n. AreFoundTo g x (n + 1) 1 0 w.search.new.findings.items) w.new-step.result granted script (c.loop-i.i + 1) w.new-step.ensures.granted w.new-step.ensures.script w.new-step.ensures.number
-                (subst (λ (a : AtStepValue). AreFoundTo a.granted a.script (a.n + 1) 1 0 w.search.new.findings.items) w.new.ensures w.in_ok-search-in-Some.ensures)),
-            subst Q (sym w.cell-is) (figures_are script granted sound (c.loop-i.i + 1) step.0 w.figures_at-reached.result step.1 peak (w.figures_at-reached.ensures.figures step.0 step.1)),
+            subst P (sym w.findings-is)
+                (from_step (λ g x n. AreFoundTo g x (n + 1) 1 0 w.search.new.findings.items) w.new-step.result
+                granted script (c.loop-i.i + 1) w.new-step.ensures.granted w.new-step.ensures.script
+                w.new-step.ensures.number
+                (subst
+                (λ (a : AtStepValue).
+                AreFoundTo a.granted a.script (a.n + 1) 1 0 w.search.new.findings.items)
+                w.new.ensures w.in_ok-search-in-Some.ensures)),
+            subst Q (sym w.cell-is)
+                (figures_are script granted sound (c.loop-i.i + 1) step.0 w.figures_at-reached.result step.1
+                peak (w.figures_at-reached.ensures.figures step.0 step.1)),
             subst R (sym w.cell-is) (sym (ap (λ (x : Option ℕ). is_some x) w.in-Some.is)),
           )
     ] in
     record {
       findings = all.0;
-      figures = figures_more script c.loop-i.i c.loop-i.figures.items c.push.new.self.items c.match-index.cell c.in_ok-push.ensures.items all.1 c.loop-i.invariant.figures;
-      reached = reached_more c.loop-i.figures.items c.push.new.self.items c.match-index.cell numbers c.loop-i.i c.index.result.now c.in_ok-push.ensures.items (omega (arith, greatest.long, c.step_count-count.ensures.count)) c.index.ensures all.2 c.loop-i.invariant.reached;
+      figures =
+          figures_more script c.loop-i.i c.loop-i.figures.items c.push.new.self.items c.match-index.cell
+          c.in_ok-push.ensures.items all.1 c.loop-i.invariant.figures;
+      reached =
+          reached_more c.loop-i.figures.items c.push.new.self.items c.match-index.cell numbers c.loop-i.i
+          c.index.result.now c.in_ok-push.ensures.items
+          (omega (arith, greatest.long, c.step_count-count.ensures.count)) c.index.ensures all.2
+          c.loop-i.invariant.reached;
     }
 
 pub invariant_of-result : goal.invariant_of-result
@@ -121,8 +163,19 @@ invariant_of-result c =
     let script = c.args.plan.now.script in
     let granted = c.args.permissions.now in
     let sound = sound_of c.keeps.ensures.read in
-    let all : c.loop-i.i ≡ length script.steps = omega (arith, c.loop-i-test.false, c.loop-i.auto.i-end, c.step_count-count.ensures.count) in
-    (c.requires, found_all granted script c.loop-i.i c.loop-i.findings.items (λ f real. subst (λ (k : ℕ). f.step ≤ k) (sym all) (real_within granted script sound f real).1) c.loop-i.invariant.findings, figures_all script c.loop-i.i c.loop-i.figures.items all c.loop-i.invariant.figures, visits_told script.steps c.loop-i.figures.items c.in_ok-numbers.numbers.greatest.items c.loop-i.i c.in_ok-numbers.numbers.visits (omega (arith, c.in_ok-numbers.ensures.greatest.long, all)) c.loop-i.invariant.reached c.in_ok-numbers.ensures.visits, c.in_ok-numbers.ensures.greatest, c.in_ok-numbers.ensures.sources, c.in_ok-holders.ensures)
+    let all : c.loop-i.i ≡ length script.steps = omega (arith, c.loop-i-test.false, c.loop-i.auto.i-end, c.step_count-count.ensures.count) in (
+      c.requires,
+      found_all granted script c.loop-i.i c.loop-i.findings.items
+          (λ f real. subst (λ (k : ℕ). f.step ≤ k) (sym all) (real_within granted script sound f real).1)
+          c.loop-i.invariant.findings,
+      figures_all script c.loop-i.i c.loop-i.figures.items all c.loop-i.invariant.figures,
+      visits_told script.steps c.loop-i.figures.items c.in_ok-numbers.numbers.greatest.items c.loop-i.i
+          c.in_ok-numbers.numbers.visits (omega (arith, c.in_ok-numbers.ensures.greatest.long, all))
+          c.loop-i.invariant.reached c.in_ok-numbers.ensures.visits,
+      c.in_ok-numbers.ensures.greatest,
+      c.in_ok-numbers.ensures.sources,
+      c.in_ok-holders.ensures,
+    )
 
 pub returns-clause-exactly : goal.returns-clause-exactly
 returns-clause-exactly c =
@@ -130,7 +183,9 @@ returns-clause-exactly c =
     let granted = c.args.permissions.now in
     let sound = sound_of c.keeps.ensures.read in
     let all : c.loop-i.i ≡ length script.steps = omega (arith, c.loop-i-test.false, c.loop-i.auto.i-end, c.step_count-count.ensures.count) in
-    (found_all granted script c.loop-i.i c.loop-i.findings.items (λ f real. subst (λ (k : ℕ). f.step ≤ k) (sym all) (real_within granted script sound f real).1) c.loop-i.invariant.findings).exactly
+    (found_all granted script c.loop-i.i c.loop-i.findings.items
+    (λ f real. subst (λ (k : ℕ). f.step ≤ k) (sym all) (real_within granted script sound f real).1)
+    c.loop-i.invariant.findings).exactly
 
 pub returns-clause-permitted : goal.returns-clause-permitted
 returns-clause-permitted c =
@@ -139,10 +194,14 @@ returns-clause-permitted c =
     let sound = sound_of c.keeps.ensures.read in
     let all : c.loop-i.i ≡ length script.steps = omega (arith, c.loop-i-test.false, c.loop-i.auto.i-end, c.step_count-count.ensures.count) in
     clean_permits granted script c.loop-i.findings.items sound
-    (found_all granted script c.loop-i.i c.loop-i.findings.items (λ f real. subst (λ (k : ℕ). f.step ≤ k) (sym all) (real_within granted script sound f real).1) c.loop-i.invariant.findings).exactly
+    (found_all granted script c.loop-i.i c.loop-i.findings.items
+    (λ f real. subst (λ (k : ℕ). f.step ≤ k) (sym all) (real_within granted script sound f real).1)
+    c.loop-i.invariant.findings).exactly
 
 pub returns-clause-visits : goal.returns-clause-visits
 returns-clause-visits c =
     let script = c.args.plan.now.script in
     let all : c.loop-i.i ≡ length script.steps = omega (arith, c.loop-i-test.false, c.loop-i.auto.i-end, c.step_count-count.ensures.count) in
-    visits_told script.steps c.loop-i.figures.items c.in_ok-numbers.numbers.greatest.items c.loop-i.i c.in_ok-numbers.numbers.visits (omega (arith, c.in_ok-numbers.ensures.greatest.long, all)) c.loop-i.invariant.reached c.in_ok-numbers.ensures.visits
+    visits_told script.steps c.loop-i.figures.items c.in_ok-numbers.numbers.greatest.items c.loop-i.i
+    c.in_ok-numbers.numbers.visits (omega (arith, c.in_ok-numbers.ensures.greatest.long, all))
+    c.loop-i.invariant.reached c.in_ok-numbers.ensures.visits

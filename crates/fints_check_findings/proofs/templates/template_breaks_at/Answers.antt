@@ -16,11 +16,18 @@ count-requires c =
 pub returns-in-Some : goal.returns-in-Some
 returns-in-Some c =
     let i : ℕ = c.args.number - (2 + length c.signers.result.now) in
-    at_template c.args.permissions.now c.args.fields.now c.args.step.now (message_for c.args.facts.now (wants_tan c.args.rule)) c.args.rule c.args.number i c.in-Some.template.now c.count.result c.template_breaks.result
+    at_template c.args.permissions.now c.args.fields.now c.args.step.now
+    (message_for c.args.facts.now (wants_tan c.args.rule)) c.args.rule c.args.number i
+    c.in-Some.template.now c.count.result c.template_breaks.result
     (omega (arith, c.if-number-first.false, ap length c.signers.ensures))
     (sym c.in-Some.ensures)
     (c.count.ensures ∙ c.requires.each i c.in-Some.template.now (sym c.in-Some.ensures))
-    (subst (λ (f : MessageFacts). IsTrue c.template_breaks.result ↔ TemplateBreaks c.args.permissions.now c.args.fields.now f c.args.rule c.in-Some.template.now c.count.result) c.message.ensures c.template_breaks.ensures)
+    (subst
+    (λ (f : MessageFacts).
+    IsTrue c.template_breaks.result
+    ↔ TemplateBreaks c.args.permissions.now c.args.fields.now f c.args.rule c.in-Some.template.now
+    c.count.result)
+    c.message.ensures c.template_breaks.ensures)
 
 pub returns-in-None : goal.returns-in-None
 returns-in-None c =

@@ -13,6 +13,10 @@ returns-then-is_again c =
 
 pub returns : goal.returns
 returns c = record {
-  often = λ can. let way = (leads_by_branches open_branches_lead c.args.step.now Again).0 can in absurd (c.loop-b.invariant way.0 (let h = way.1 in omega (arith, ap length c.branches.ensures)) way.2 way.3);
+  often =
+      λ can.
+      let way = (leads_by_branches open_branches_lead c.args.step.now Again).0 can in absurd
+      (c.loop-b.invariant way.0 (let h = way.1 in omega (arith, ap length c.branches.ensures)) way.2
+      way.3);
   source = inl refl;
 }

@@ -24,12 +24,25 @@ loop-i-init c =
     let all : c.in_ok-entries.entries.items ≡ blank = c.in_ok-entries.ensures in
     let some = (sound_of c.step_count-count.ensures.read).some_steps in
     let long : length (set blank 0 (Some 1)) ≡ length steps = length-set blank 0 (Some 1) ∙ (length-replicate count None ∙ c.step_count-count.ensures.count) in
-    let first = pass_none steps count (set blank 0 (Some 1)) c.in_ok-sources.sources.items (sym c.step_count-count.ensures.count) long c.in_ok-sources.ensures (first_there count 1 (omega (arith, some, c.step_count-count.ensures.count))) (first_alone count 1) in
+    let first =
+    pass_none steps count (set blank 0 (Some 1)) c.in_ok-sources.sources.items
+    (sym c.step_count-count.ensures.count) long c.in_ok-sources.ensures
+    (first_there count 1 (omega (arith, some, c.step_count-count.ensures.count)))
+    (first_alone count 1) in
     record {
-      pass = subst (λ (xs : List (Option ℕ)). Pass steps (set c.in_ok-entries.entries.items 0 (Some 1)) c.in_ok-sources.sources.items xs 0) (sym c.in_ok-greatest.ensures.items)
+      pass =
+          subst
+          (λ (xs : List (Option ℕ)).
+          Pass steps (set c.in_ok-entries.entries.items 0 (Some 1)) c.in_ok-sources.sources.items xs 0)
+          (sym c.in_ok-greatest.ensures.items)
           (subst (λ (xs : List (Option ℕ)). Pass steps (set xs 0 (Some 1)) c.in_ok-sources.sources.items [] 0) (sym all) first);
-      behind = subst (λ (xs : List (Option ℕ)). AreBehind steps xs c.args.marks.now c.args.code c.in_ok-behind.behind.items) (sym c.in_ok-greatest.ensures.items)
-          (subst (AreBehind steps [] c.args.marks.now c.args.code) (sym c.in_ok-behind.ensures) (behind_none steps c.args.marks.now c.args.code count c.step_count-count.ensures.count));
+      behind =
+          subst
+          (λ (xs : List (Option ℕ)).
+          AreBehind steps xs c.args.marks.now c.args.code c.in_ok-behind.behind.items)
+          (sym c.in_ok-greatest.ensures.items)
+          (subst (AreBehind steps [] c.args.marks.now c.args.code) (sym c.in_ok-behind.ensures)
+          (behind_none steps c.args.marks.now c.args.code count c.step_count-count.ensures.count));
       visits = sym (ap (λ (xs : List (Option ℕ)). looked_at steps (map is_some xs)) c.in_ok-greatest.ensures.items ∙ none_looked_at steps);
     }
 
@@ -40,12 +53,24 @@ index_mut-requires c =
     omega (arith, some, c.step_count-count.ensures.count, long)
 
 pub pass_step-number-requires-clause-small : goal.pass_step-number-requires-clause-small
-pass_step-number-requires-clause-small c e h = entered_small c.args.plan.now.script c.loop-i.entries.items c.loop-i.sources.items c.loop-i.greatest.items c.loop-i.i (c.loop-i.i + 1) e (sound_of c.step_count-count.ensures.read) (runs_by_steps c.args.plan.now.script.steps) (λ v. visits_are_within c.args.plan.now.script v (sound_of c.step_count-count.ensures.read)) c.loop-i.invariant.pass h
+pass_step-number-requires-clause-small c e h =
+    entered_small c.args.plan.now.script c.loop-i.entries.items c.loop-i.sources.items c.loop-i.greatest.items
+    c.loop-i.i (c.loop-i.i + 1) e (sound_of c.step_count-count.ensures.read)
+    (runs_by_steps c.args.plan.now.script.steps)
+    (λ v. visits_are_within c.args.plan.now.script v (sound_of c.step_count-count.ensures.read))
+    c.loop-i.invariant.pass h
 
 pub pass_step-number-requires-clause-room : goal.pass_step-number-requires-clause-room
 pass_step-number-requires-clause-room c =
     let script = c.args.plan.now.script in
-    let few = few_visits script (map is_some c.loop-i.greatest.items) (sound_of c.step_count-count.ensures.read) (omega (arith, length-map c.loop-i.greatest.items is_some, c.loop-i.invariant.pass.kept, c.step_count-count.ensures.count)) in
+    let few =
+    few_visits script (map is_some c.loop-i.greatest.items) (sound_of c.step_count-count.ensures.read)
+    (omega (
+      arith,
+      length-map c.loop-i.greatest.items is_some,
+      c.loop-i.invariant.pass.kept,
+      c.step_count-count.ensures.count,
+    )) in
     omega (arith, few, c.loop-i.invariant.visits)
 
 pub pass_step-number-requires-clause-kept : goal.pass_step-number-requires-clause-kept
@@ -55,27 +80,54 @@ pub loop-i-preserved : goal.loop-i-preserved
 loop-i-preserved c =
     let steps = c.args.plan.now.script.steps in
     let at = c.step-step.ensures.numbered in
-    let more = pass_more steps c.loop-i.entries.items c.pass_step-number.new.entries.items c.loop-i.sources.items c.pass_step-number.new.sources.items c.loop-i.greatest.items c.pass_step-number.result c.loop-i.i (c.loop-i.i + 1) c.step-step.result.now refl at (c.pass_step-number.ensures.passed c.step-step.result.now at) c.loop-i.invariant.pass.kept (script_of c.args.plan.now.script (sound_of c.step_count-count.ensures.read)) c.loop-i.invariant.pass in
-    let there : slice_get steps (length (map is_some c.loop-i.greatest.items)) ≡ Some c.step-step.result.now = subst (λ (k : ℕ). slice_get steps k ≡ Some c.step-step.result.now) (omega (arith, length-map c.loop-i.greatest.items is_some, c.loop-i.invariant.pass.kept)) (numbered_from steps (c.loop-i.i + 1) c.step-step.result.now at) in
+    let more =
+    pass_more steps c.loop-i.entries.items c.pass_step-number.new.entries.items c.loop-i.sources.items
+    c.pass_step-number.new.sources.items c.loop-i.greatest.items c.pass_step-number.result c.loop-i.i
+    (c.loop-i.i + 1) c.step-step.result.now refl at
+    (c.pass_step-number.ensures.passed c.step-step.result.now at) c.loop-i.invariant.pass.kept
+    (script_of c.args.plan.now.script (sound_of c.step_count-count.ensures.read))
+    c.loop-i.invariant.pass in
+    let there : slice_get steps (length (map is_some c.loop-i.greatest.items)) ≡ Some c.step-step.result.now =
+    subst (λ (k : ℕ). slice_get steps k ≡ Some c.step-step.result.now)
+    (omega (arith, length-map c.loop-i.greatest.items is_some, c.loop-i.invariant.pass.kept))
+    (numbered_from steps (c.loop-i.i + 1) c.step-step.result.now at) in
     record {
-      pass = subst (λ (xs : List (Option ℕ)). Pass steps c.pass_step-number.new.entries.items c.pass_step-number.new.sources.items xs (c.loop-i.i + 1)) (sym c.in_ok-push.ensures.items) more;
-      behind = subst (λ (xs : List (Option ℕ)). AreBehind steps xs c.args.marks.now c.args.code c.pass_step-number.new.behind.items) (sym c.in_ok-push.ensures.items)
-          (behind_more steps c.loop-i.greatest.items c.args.marks.now c.args.code (c.loop-i.i + 1) c.pass_step-number.result c.loop-i.behind.items c.pass_step-number.new.behind.items c.step-step.result.now (omega (arith, c.loop-i.invariant.pass.kept)) at
+      pass =
+          subst
+          (λ (xs : List (Option ℕ)).
+          Pass steps c.pass_step-number.new.entries.items c.pass_step-number.new.sources.items xs
+          (c.loop-i.i + 1))
+          (sym c.in_ok-push.ensures.items) more;
+      behind =
+          subst
+          (λ (xs : List (Option ℕ)).
+          AreBehind steps xs c.args.marks.now c.args.code c.pass_step-number.new.behind.items)
+          (sym c.in_ok-push.ensures.items)
+          (behind_more steps c.loop-i.greatest.items c.args.marks.now c.args.code (c.loop-i.i + 1)
+          c.pass_step-number.result c.loop-i.behind.items c.pass_step-number.new.behind.items
+          c.step-step.result.now (omega (arith, c.loop-i.invariant.pass.kept)) at
           (c.pass_step-number.ensures.behind c.step-step.result.now at) c.loop-i.invariant.behind);
       visits =
           let pushed = looked_at_push steps (map is_some c.loop-i.greatest.items) (is_some c.pass_step-number.result) c.step-step.result.now there in
-          let items : looked_at steps (map is_some c.push.new.self.items) ≡ looked_at steps (map is_some c.loop-i.greatest.items ++ is_some c.pass_step-number.result ∷ []) = ap (λ (xs : List (Option ℕ)). looked_at steps (map is_some xs)) c.in_ok-push.ensures.items ∙ ap (looked_at steps) (map-append is_some c.loop-i.greatest.items (c.pass_step-number.result ∷ [])) in
+          let items : looked_at steps (map is_some c.push.new.self.items) ≡ looked_at steps
+          (map is_some c.loop-i.greatest.items ++ is_some c.pass_step-number.result ∷ []) =
+          ap (λ (xs : List (Option ℕ)). looked_at steps (map is_some xs)) c.in_ok-push.ensures.items
+          ∙ ap (looked_at steps)
+          (map-append is_some c.loop-i.greatest.items (c.pass_step-number.result ∷ [])) in
           omega (arith, pushed, items, c.loop-i.invariant.visits, c.pass_step-number.ensures.counted c.step-step.result.now at);
     }
 
 pub returns-clause-greatest : goal.returns-clause-greatest
 returns-clause-greatest c =
     let last : c.loop-i.i ≡ length c.args.plan.now.script.steps = omega (arith, c.step_count-count.ensures.count) in
-    pass_greatest c.args.plan.now.script.steps c.loop-i.entries.items c.loop-i.sources.items c.loop-i.greatest.items (runs_by_steps c.args.plan.now.script.steps) (script_of c.args.plan.now.script (sound_of c.step_count-count.ensures.read))
+    pass_greatest c.args.plan.now.script.steps c.loop-i.entries.items c.loop-i.sources.items
+    c.loop-i.greatest.items (runs_by_steps c.args.plan.now.script.steps)
+    (script_of c.args.plan.now.script (sound_of c.step_count-count.ensures.read))
     (subst (λ i. Pass c.args.plan.now.script.steps c.loop-i.entries.items c.loop-i.sources.items c.loop-i.greatest.items i) last c.loop-i.invariant.pass)
 
 pub returns-clause-sources : goal.returns-clause-sources
 returns-clause-sources c =
     let last : c.loop-i.i ≡ length c.args.plan.now.script.steps = omega (arith, c.step_count-count.ensures.count) in
-    pass_sources c.args.plan.now.script.steps c.loop-i.entries.items c.loop-i.sources.items c.loop-i.greatest.items (script_of c.args.plan.now.script (sound_of c.step_count-count.ensures.read))
+    pass_sources c.args.plan.now.script.steps c.loop-i.entries.items c.loop-i.sources.items
+    c.loop-i.greatest.items (script_of c.args.plan.now.script (sound_of c.step_count-count.ensures.read))
     (subst (λ i. Pass c.args.plan.now.script.steps c.loop-i.entries.items c.loop-i.sources.items c.loop-i.greatest.items i) last c.loop-i.invariant.pass)

@@ -15,6 +15,13 @@ loop-b-preserved c =
     record {
       long = search rules;
       counted = omega arith;
-      each = λ k le. flags_more step c.loop-b.flags c.loop-b.b k c.look_at_branch.result (omega (arith, c.loop-b.invariant.long, ap length c.branches.ensures)) le c.look_at_branch.ensures.fired c.loop-b.invariant.each;
-      kept = kept_more step marks c.args.n c.args.asked.now.code (c.loop-b.b + 1) c.args.behind.now.items c.loop-b.behind.items c.look_at_branch.new.behind.items (omega arith) c.loop-b.invariant.kept c.look_at_branch.ensures.kept;
+      each =
+          λ k le.
+          flags_more step c.loop-b.flags c.loop-b.b k c.look_at_branch.result
+          (omega (arith, c.loop-b.invariant.long, ap length c.branches.ensures)) le
+          c.look_at_branch.ensures.fired c.loop-b.invariant.each;
+      kept =
+          kept_more step marks c.args.n c.args.asked.now.code (c.loop-b.b + 1) c.args.behind.now.items
+          c.loop-b.behind.items c.look_at_branch.new.behind.items (omega arith) c.loop-b.invariant.kept
+          c.look_at_branch.ensures.kept;
     }

@@ -9,5 +9,6 @@ invariant-loop-b l = record {
   long : length l.flags ≡ 21;
   counted : l.visits ≡ l.fn.visits + l.b;
   each : (k : ℕ) → k < l.b → (slice_get l.flags k ≡ Some true) ↔ IsOpenAt l.step k;
-  kept : AreKept l.n (SoFarAsks l.step l.asked.marks.now l.n l.asked.code (l.b + 1)) l.fn.behind.items l.behind.items;
+  kept : AreKept l.n (SoFarAsks l.step l.asked.marks.now l.n l.asked.code (l.b + 1)) l.fn.behind.items
+      l.behind.items;
 }

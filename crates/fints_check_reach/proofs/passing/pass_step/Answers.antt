@@ -29,7 +29,10 @@ look_at_branches-flags-requires-clause-few c =
 pub overflow_add-number : goal.overflow_add-number
 overflow_add-number c =
     let old = c.args.entries.now.items in
-    let is : numbered old c.args.n ≡ Some (Some c.in-Some.entry) = numbered_read old c.args.n c.index.result.now c.requires.from (omega (arith, c.requires.long)) c.index.ensures ∙ ap (λ x. Some x) c.in-Some.is in
+    let is : numbered old c.args.n ≡ Some (Some c.in-Some.entry) =
+    numbered_read old c.args.n c.index.result.now c.requires.from (omega (arith, c.requires.long))
+    c.index.ensures
+    ∙ ap (λ x. Some x) c.in-Some.is in
     let small = c.requires.small c.in-Some.entry is in
     let often = ((script_of c.args.plan.now.script (sound_of c.keeps.ensures.read)).each c.args.n c.args.step.now c.requires.at).often in
     let more = spare_small c.args.step.now c.spare.result c.spare.ensures often in
@@ -38,7 +41,10 @@ overflow_add-number c =
 pub overflow_add-number-in-Some : goal.overflow_add-number-in-Some
 overflow_add-number-in-Some c =
     let old = c.args.entries.now.items in
-    let is : numbered old c.args.n ≡ Some (Some c.in-Some.entry) = numbered_read old c.args.n c.index.result.now c.requires.from (omega (arith, c.requires.long)) c.index.ensures ∙ ap (λ x. Some x) c.in-Some.is in
+    let is : numbered old c.args.n ≡ Some (Some c.in-Some.entry) =
+    numbered_read old c.args.n c.index.result.now c.requires.from (omega (arith, c.requires.long))
+    c.index.ensures
+    ∙ ap (λ x. Some x) c.in-Some.is in
     let small = c.requires.small c.in-Some.entry is in
     let often = ((script_of c.args.plan.now.script (sound_of c.keeps.ensures.read)).each c.args.n c.args.step.now c.requires.at).often in
     let more = spare_small c.args.step.now c.spare.result c.spare.ensures often in
@@ -46,7 +52,10 @@ overflow_add-number-in-Some c =
 
 pub look_at_branches-flags-requires-clause-within : goal.look_at_branches-flags-requires-clause-within
 look_at_branches-flags-requires-clause-within c s goes =
-    let within = carried_within carrying_leads c.args.plan.now.script.steps c.args.n c.args.asked.now.code s c.args.step.now (script_of c.args.plan.now.script (sound_of c.keeps.ensures.read)) c.requires.at goes in
+    let within =
+    carried_within carrying_leads c.args.plan.now.script.steps c.args.n c.args.asked.now.code s
+    c.args.step.now (script_of c.args.plan.now.script (sound_of c.keeps.ensures.read)) c.requires.at
+    goes in
     let high = within.1 in
     (within.0, omega (arith, high, c.requires.kept))
 
@@ -58,7 +67,10 @@ raise_targets-requires-clause-onward c to can =
 pub returns-in-None-clause-passed : goal.returns-in-None-clause-passed
 returns-in-None-clause-passed c step at =
     let old = c.args.entries.now.items in
-    passed_none step c.args.n old c.args.sources.now.items (numbered_read old c.args.n c.index.result.now c.requires.from (omega (arith, c.requires.long)) c.index.ensures ∙ ap (λ x. Some x) c.in-None.is)
+    passed_none step c.args.n old c.args.sources.now.items
+    (numbered_read old c.args.n c.index.result.now c.requires.from (omega (arith, c.requires.long))
+    c.index.ensures
+    ∙ ap (λ x. Some x) c.in-None.is)
 
 pub returns-in-Some-clause-passed : goal.returns-in-Some-clause-passed
 returns-in-Some-clause-passed c step at =
@@ -66,7 +78,10 @@ returns-in-Some-clause-passed c step at =
     let new = c.raise_targets.new.entries.items in
     let before = c.args.sources.now.items in
     let after = c.raise_targets.new.sources.items in
-    let is : numbered old c.args.n ≡ Some (Some c.in-Some.entry) = numbered_read old c.args.n c.index.result.now c.requires.from (omega (arith, c.requires.long)) c.index.ensures ∙ ap (λ x. Some x) c.in-Some.is in
+    let is : numbered old c.args.n ≡ Some (Some c.in-Some.entry) =
+    numbered_read old c.args.n c.index.result.now c.requires.from (omega (arith, c.requires.long))
+    c.index.ensures
+    ∙ ap (λ x. Some x) c.in-Some.is in
     let same : c.args.step.now ≡ step = same_Some c.args.step.now step (sym c.requires.at ∙ at) in
     subst (λ (s : StepValue). IsPassed s c.args.n (Some (c.in-Some.entry + c.spare.result)) old new before after) same
     (passed_some c.args.step.now c.args.n c.in-Some.entry c.spare.result old new before after is c.spare.ensures c.raise_targets.ensures)

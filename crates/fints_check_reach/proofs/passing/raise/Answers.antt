@@ -17,4 +17,5 @@ returns-else-is_greater c =
     let old = c.args.entries.now.items in
     let is : numbered old c.args.to ≡ Some c.index.result.now = numbered_read old c.args.to c.index.result.now c.requires.from c.requires.to c.index.ensures in
     let cell = c.if-is_greater.ensures.kept refl in
-    kept_as_great old c.args.sources.now.items c.args.to c.args.number c.args.source c.requires.from c.requires.to c.requires.wide cell.0 (is ∙ ap (λ x. Some x) cell.1) cell.2
+    kept_as_great old c.args.sources.now.items c.args.to c.args.number c.args.source c.requires.from
+    c.requires.to c.requires.wide cell.0 (is ∙ ap (λ x. Some x) cell.1) cell.2

@@ -13,7 +13,9 @@ use Rattle.fints_check_reach.proofs.passing.raise_targets.Goals.{in-Some, in-Non
 pub raise-requires : goal.raise-requires
 raise-requires c =
     let way : IsWay c.args.step.now c.loop-b.b c.in-Some.to = c.in-Some.ensures in
-    let can = (leads_by_branches open_branches_lead c.args.step.now (Step c.in-Some.to)).1 (c.loop-b.b, omega (arith, ap length c.branches.ensures), way.way, way.leads_to) in
+    let can =
+    (leads_by_branches open_branches_lead c.args.step.now (Step c.in-Some.to)).1
+    (c.loop-b.b, omega (arith, ap length c.branches.ensures), way.way, way.leads_to) in
     let forward : IsOnward (length c.args.entries.now.items) c.args.n (Step c.in-Some.to) = c.requires.onward (Step c.in-Some.to) can in
     let low = forward.0 in
     let high = forward.1 in
@@ -27,14 +29,19 @@ loop-b-preserved c =
     let step = c.args.step.now in
     let old = c.args.entries.now.items in
     let before = c.args.sources.now.items in
-    let P : Vec (Option ℕ) Global → Vec (Option ℕ) Global → Type 0 = λ new after. SoFar step old new.items before after.items (c.loop-b.b + 1) c.args.number c.args.n in
+    let P : Vec (Option ℕ) Global → Vec (Option ℕ) Global → Type 0 =
+    λ new after. SoFar step old new.items before after.items (c.loop-b.b + 1) c.args.number c.args.n in
     let Q : Vec (Option ℕ) Global → Type 0 = λ new. P new c.match-later_step.sources in
     elim c.match-later_step.branch [
       | in-Some w ↦
           let way : IsWay step c.loop-b.b w.in-Some.to = w.in-Some.ensures in
-          let can = (leads_by_branches open_branches_lead step (Step w.in-Some.to)).1 (c.loop-b.b, omega (arith, ap length c.branches.ensures), way.way, way.leads_to) in
+          let can =
+          (leads_by_branches open_branches_lead step (Step w.in-Some.to)).1
+          (c.loop-b.b, omega (arith, ap length c.branches.ensures), way.way, way.leads_to) in
           subst Q (sym w.entries-is) (subst (P w.raise.new.entries) (sym w.sources-is)
-          (so_far_raised step old c.loop-b.entries.items w.raise.new.entries.items before c.loop-b.sources.items w.raise.new.sources.items c.loop-b.b c.args.number c.args.n w.in-Some.to can way.leads_to w.raise.ensures c.loop-b.invariant))
+          (so_far_raised step old c.loop-b.entries.items w.raise.new.entries.items before
+          c.loop-b.sources.items w.raise.new.sources.items c.loop-b.b c.args.number c.args.n w.in-Some.to
+          can way.leads_to w.raise.ensures c.loop-b.invariant))
       | in-None w ↦
           subst Q (sym w.entries-is) (subst (P c.loop-b.entries) (sym w.sources-is)
           (so_far_past step old c.loop-b.entries.items before c.loop-b.sources.items c.loop-b.b c.args.number c.args.n w.in-None.ensures c.loop-b.invariant))
@@ -43,5 +50,11 @@ loop-b-preserved c =
 pub returns : goal.returns
 returns c =
     let last : c.loop-b.b ≡ length c.args.step.now.branches + 1 = omega (arith, ap length c.branches.ensures) in
-    so_far_all c.args.step.now c.args.entries.now.items c.loop-b.entries.items c.args.sources.now.items c.loop-b.sources.items c.args.number c.args.n (λ to. (leads_by_branches open_branches_lead c.args.step.now to).0)
-    (subst (λ b. SoFar c.args.step.now c.args.entries.now.items c.loop-b.entries.items c.args.sources.now.items c.loop-b.sources.items b c.args.number c.args.n) last c.loop-b.invariant)
+    so_far_all c.args.step.now c.args.entries.now.items c.loop-b.entries.items c.args.sources.now.items
+    c.loop-b.sources.items c.args.number c.args.n
+    (λ to. (leads_by_branches open_branches_lead c.args.step.now to).0)
+    (subst
+    (λ b.
+    SoFar c.args.step.now c.args.entries.now.items c.loop-b.entries.items c.args.sources.now.items
+    c.loop-b.sources.items b c.args.number c.args.n)
+    last c.loop-b.invariant)

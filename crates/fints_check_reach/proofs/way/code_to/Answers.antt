@@ -12,7 +12,10 @@ returns-in-Some c =
     let same : target_of s.branches s.otherwise (c.loop-b.b + 1) ≡ c.args.to = sym c.target.ensures ∙ reached in
     record {
       small = opens.small;
-      leads_there = openers_lead s.branches s.otherwise (c.loop-b.b + 1) c.in-Some.code (omega arith) (omega (arith, ap length c.branches.ensures, c.loop-b-test.true)) opens ∙ same;
+      leads_there =
+          openers_lead s.branches s.otherwise (c.loop-b.b + 1) c.in-Some.code (omega arith)
+          (omega (arith, ap length c.branches.ensures, c.loop-b-test.true)) opens
+          ∙ same;
     }
 
 pub returns : goal.returns

@@ -15,8 +15,18 @@ loop-k-preserved c numbers e =
     let steps = c.args.plan.now.script.steps in
     let step = c.step-step.result.now in
     let room : 1 + c.loop-k._k < step.repeat = omega (arith, c.loop-k-test.true, c.repeat-k-end.ensures) in
-    let next = row_more steps c.loop-k.answers.items c.args.n e.from c.loop-k._k c.in-Some.code step c.step-step.ensures.numbered c.in-Some.ensures room (c.loop-k.invariant numbers e) in
-    subst (λ (xs : List (List ℕ)). RouteTo steps xs (record { step = c.args.n; number = e.from + (c.loop-k._k + 1); times = 1 + (c.loop-k._k + 1) })) (sym c.in_ok-push_code.ensures) next
+    let next =
+    row_more steps c.loop-k.answers.items c.args.n e.from c.loop-k._k c.in-Some.code step
+    c.step-step.ensures.numbered c.in-Some.ensures room (c.loop-k.invariant numbers e) in
+    subst
+    (λ (xs : List (List ℕ)).
+    RouteTo steps xs
+    (record {
+      step = c.args.n;
+      number = e.from + (c.loop-k._k + 1);
+      times = 1 + (c.loop-k._k + 1);
+    }))
+    (sym c.in_ok-push_code.ensures) next
 
 pub returns-after-loop-k : goal.returns-after-loop-k
 returns-after-loop-k c numbers e =

@@ -5,4 +5,7 @@ use Rattle.fints_check_reach.proofs.way.push_row.Given as goal
 
 -- the answers lead on in the row
 abbrev pub invariant-loop-k : goal.invariant-loop-k
-invariant-loop-k l = (numbers : List (Option ℕ)) (e : EntersTo l.plan.script.steps numbers l.n l.fn.answers.items) → RouteTo l.plan.script.steps l.answers.items (record { step = l.n; number = e.from + l._k; times = 1 + l._k })
+invariant-loop-k l =
+    (numbers : List (Option ℕ)) (e : EntersTo l.plan.script.steps numbers l.n l.fn.answers.items)
+    → RouteTo l.plan.script.steps l.answers.items
+    (record { step = l.n; number = e.from + l._k; times = 1 + l._k })

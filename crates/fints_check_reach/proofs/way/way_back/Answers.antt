@@ -7,7 +7,8 @@ use Rattle.fints_check_reach.proofs.WayLemmas.{back_more, source_before, source_
 use Rattle.fints_check_reach.proofs.way.way_back.Goals as goal
 
 -- the source that stands beside a step that has a way
-source_of : (sources : List (Option ℕ)) (n s : ℕ) → HasWay sources n → get_or sources (n - 1) None ≡ Some s → Has sources n s
+source_of : (sources : List (Option ℕ)) (n s : ℕ) → HasWay sources n → get_or sources (n - 1) None ≡ Some s
+    → Has sources n s
 source_of sources n s way is =
     let low = (numbered_within way.numbers n (Some way.number) way.has).0 in
     numbered_of sources n (Some s) low (slice_get-get_or sources (n - 1) None (omega (arith, low, way_high sources n way)) ∙ ap (λ (x : Option ℕ). Some x) is)
@@ -22,5 +23,9 @@ loop-at-preserved c =
     let has = source_of c.args.sources.now c.loop-at.at c.in-Some.source c.loop-at.invariant.has_way c.in-Some.is in
     record {
       has_way = source_way c.args.sources.now c.loop-at.at c.in-Some.source c.loop-at.invariant.has_way has;
-      back = subst (λ (xs : List ℕ). IsWayBack c.args.sources.now c.args.n xs c.in-Some.source) (sym c.in_ok-push.ensures.items) (back_more c.args.sources.now c.args.n c.loop-at.later.items c.loop-at.at c.in-Some.source c.loop-at.invariant.back has);
+      back =
+          subst (λ (xs : List ℕ). IsWayBack c.args.sources.now c.args.n xs c.in-Some.source)
+          (sym c.in_ok-push.ensures.items)
+          (back_more c.args.sources.now c.args.n c.loop-at.later.items c.loop-at.at c.in-Some.source
+          c.loop-at.invariant.back has);
     }

@@ -15,7 +15,9 @@ loop-next-init c =
     let steps = c.args.plan.now.script.steps in
     let numbers = c.args.numbers.now.greatest.items in
     let sources = c.args.numbers.now.sources.items in
-    let back : IsWayBack sources c.args.n c.in_ok-later.later.items 1 = subst (λ (xs : List (Option ℕ)). IsWayBack xs c.args.n c.in_ok-later.later.items 1) c.as_slice.ensures.value c.in_ok-later.ensures in
+    let back : IsWayBack sources c.args.n c.in_ok-later.later.items 1 =
+    subst (λ (xs : List (Option ℕ)). IsWayBack xs c.args.n c.in_ok-later.later.items 1)
+    c.as_slice.ensures.value c.in_ok-later.ensures in
     let first = back_has steps numbers sources c.requires.sources c.args.n c.in_ok-later.later.items 1 c.requires.reached.0 back c.requires.reached.1 in
     let enters = enters_first steps numbers sources c.requires.sources first.0 first.1 (sound_of c.keeps.ensures.read).some_steps (routes_grow_first steps) in
     record {
@@ -24,20 +26,28 @@ loop-next-init c =
     }
 
 pub push_row-requires-clause-from : goal.push_row-requires-clause-from
-push_row-requires-clause-from c = (numbered_within c.args.plan.now.script.steps c.loop-next.at c.loop-next.invariant.so_far.step c.loop-next.invariant.so_far.at).0
+push_row-requires-clause-from c =
+    (numbered_within c.args.plan.now.script.steps c.loop-next.at c.loop-next.invariant.so_far.step
+    c.loop-next.invariant.so_far.at).0
 
 pub push_row-requires-clause-to : goal.push_row-requires-clause-to
-push_row-requires-clause-to c = (numbered_within c.args.plan.now.script.steps c.loop-next.at c.loop-next.invariant.so_far.step c.loop-next.invariant.so_far.at).1
+push_row-requires-clause-to c =
+    (numbered_within c.args.plan.now.script.steps c.loop-next.at c.loop-next.invariant.so_far.step
+    c.loop-next.invariant.so_far.at).1
 
 pub overflow_cast-n : goal.overflow_cast-n
 overflow_cast-n c = omega (arith, (sound_of c.keeps.ensures.read).few_steps, c.requires.to)
 
 pub push_onward-requires-clause-last : goal.push_onward-requires-clause-last
-push_onward-requires-clause-last c = (numbered_within c.args.plan.now.script.steps c.loop-next.at c.loop-next.invariant.so_far.step c.loop-next.invariant.so_far.at).1
+push_onward-requires-clause-last c =
+    (numbered_within c.args.plan.now.script.steps c.loop-next.at c.loop-next.invariant.so_far.step
+    c.loop-next.invariant.so_far.at).1
 
 pub push_onward-requires-clause-leads : goal.push_onward-requires-clause-leads
 push_onward-requires-clause-leads c step at =
-    let next = back_next c.args.numbers.now.sources.items c.args.n c.loop-next.later.items c.pop.new.self.items c.in-Some.next c.loop-next.at c.in-Some.ensures.items c.loop-next.invariant.rest in
+    let next =
+    back_next c.args.numbers.now.sources.items c.args.n c.loop-next.later.items c.pop.new.self.items
+    c.in-Some.next c.loop-next.at c.in-Some.ensures.items c.loop-next.invariant.rest in
     let from = c.requires.sources.each c.in-Some.next c.loop-next.at next.0 in
     subst (λ (s : StepValue). Leads s (Step c.in-Some.next)) (same_Some from.step step (sym from.at ∙ at)) from.leads_here
 
@@ -46,8 +56,13 @@ loop-next-preserved c =
     let steps = c.args.plan.now.script.steps in
     let numbers = c.args.numbers.now.greatest.items in
     let sources = c.args.numbers.now.sources.items in
-    let next = back_next sources c.args.n c.loop-next.later.items c.pop.new.self.items c.in-Some.next c.loop-next.at c.in-Some.ensures.items c.loop-next.invariant.rest in
+    let next =
+    back_next sources c.args.n c.loop-next.later.items c.pop.new.self.items c.in-Some.next c.loop-next.at
+    c.in-Some.ensures.items c.loop-next.invariant.rest in
     record {
-      so_far = enters_on steps numbers sources c.requires.sources c.loop-next.at c.in-Some.next c.push_row.new.answers.items c.push_onward.new.answers.items next.0 (c.in_ok-push_row.ensures numbers c.loop-next.invariant.so_far) c.in_ok-push_onward.ensures;
+      so_far =
+          enters_on steps numbers sources c.requires.sources c.loop-next.at c.in-Some.next
+          c.push_row.new.answers.items c.push_onward.new.answers.items next.0
+          (c.in_ok-push_row.ensures numbers c.loop-next.invariant.so_far) c.in_ok-push_onward.ensures;
       rest = next.1;
     }

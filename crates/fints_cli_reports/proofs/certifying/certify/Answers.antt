@@ -20,11 +20,27 @@ returns-in-Some c =
     let findings = c.args.report.now.findings in
     let lines = c.in-Some.certificate in
     let none : findings ≡ [] = search rules in
-    let closed = subst (λ (found : Option (List Line)). IfSome found (IsClosedCertificate granted c.args.report.now.plan.script)) c.in-Some.is c.in_ok-certificate.ensures.closed in
-    let figures = subst (λ (found : Option (List Line)). IfSome found (λ certificate. AreFigures c.args.report.now.plan.script (line_figures certificate))) c.in-Some.is c.in_ok-certificate.ensures.figures in
-    let of_plan = subst (λ (p : PlanValue). AreFindings granted p.script findings × EachIsPermitted granted p.script × IsClosedCertificate granted p.script lines × AreFigures p.script (line_figures lines)) c.requires
+    let closed =
+    subst
+    (λ (found : Option (List Line)).
+    IfSome found (IsClosedCertificate granted c.args.report.now.plan.script))
+    c.in-Some.is c.in_ok-certificate.ensures.closed in
+    let figures =
+    subst
+    (λ (found : Option (List Line)).
+    IfSome found
+    (λ certificate. AreFigures c.args.report.now.plan.script (line_figures certificate)))
+    c.in-Some.is c.in_ok-certificate.ensures.figures in
+    let of_plan =
+    subst
+    (λ (p : PlanValue).
+    AreFindings granted p.script findings × EachIsPermitted granted p.script
+    × IsClosedCertificate granted p.script lines × AreFigures p.script (line_figures lines))
+    c.requires
     (c.keeps.ensures.exactly, c.keeps.ensures.permitted none, closed, figures) in
     let promise = closed_promises_promise granted script lines (sound_of c.keeps-2.ensures.read) of_plan.2 in
-    both_ok (λ (reply : Reply). reply.status ≡ 0) (λ (reply : Reply). reply.text.items ≡ cert_text lines) (λ (reply : Reply). IsCertifiedBy granted script reply.status reply.text.items) c.certificate_reply.result
+    both_ok (λ (reply : Reply). reply.status ≡ 0) (λ (reply : Reply). reply.text.items ≡ cert_text lines)
+    (λ (reply : Reply). IsCertifiedBy granted script reply.status reply.text.items)
+    c.certificate_reply.result
     c.certificate_reply.ensures.status c.certificate_reply.ensures.text
     (λ reply zero same. certified granted script lines findings reply.status reply.text.items none of_plan.0 of_plan.3 of_plan.2 promise of_plan.1 zero same)

@@ -19,9 +19,22 @@ returns c =
       findings = findings;
       cases = w.cases;
       figures_are = subst (λ (p : PlanValue). AreFigures p.script figures) c.requires c.keeps.ensures.figures;
-      headline = record { exactly = are.exactly; in_order = are.in_order; each = w.are; clean = subst (λ (p : PlanValue). findings ≡ [] → EachIsPermitted granted p.script) c.requires c.keeps.ensures.permitted };
+      headline =
+          record {
+            exactly =
+                are.exactly;
+            in_order = are.in_order;
+            each = w.are;
+            clean =
+                subst (λ (p : PlanValue). findings ≡ [] → EachIsPermitted granted p.script)
+                c.requires c.keeps.ensures.permitted;
+          };
       chosen = w.chosen;
       text_is =
-          w.text_is ∙ ap (λ l. l ++ cases_text script.steps 1 findings w.cases) (c.in_ok-write_report.ensures ∙ ap (λ (l : List ℕ). l ++ report_text script.steps figures findings) c.new-text.ensures.items);
+          w.text_is
+          ∙ ap (λ l. l ++ cases_text script.steps 1 findings w.cases)
+          (c.in_ok-write_report.ensures
+          ∙ ap (λ (l : List ℕ). l ++ report_text script.steps figures findings)
+          c.new-text.ensures.items);
       status_is = c.report_status.ensures ∙ ap report_status c.findings.ensures.findings;
     }

@@ -18,10 +18,18 @@ returns-clause-written c =
     let values = c.in_ok-values.values in
     let answers = c.args.way.items in
     let named = ap (λ o. option_map_or (λ (s : StepValue). s.name) o []) c.step-step.ensures.numbered ∙ sym c.name.ensures in
-    let shows = subst (λ (p : PlanValue). Shows granted p.script f values answers) c.requires.plan (c.in_ok-values.ensures.shown f answers c.requires.finding c.requires.way) in
+    let shows =
+    subst (λ (p : PlanValue). Shows granted p.script f values answers) c.requires.plan
+    (c.in_ok-values.ensures.shown f answers c.requires.finding c.requires.way) in
     let figures = c.args.report.now.figures in
     let way = subst (λ (p : PlanValue). LeadsFor p.script figures f answers) c.requires.plan c.requires.way in
     let chosen = subst (λ (p : PlanValue). AreChosenFor granted p.script f values) c.requires.plan (c.in_ok-values.ensures.chosen f c.requires.finding) in
-    on_ok (c.write_values.new.text.items ≡ c.write_case_line.new.text.items ++ case_text values answers) (IsCaseWritten granted script figures c.args.number f c.args.text.now.items c.write_values.new.text.items) c.write_values.result
-    (λ text. case_written granted script figures c.args.number f c.name.result c.args.text.now.items c.write_case_line.new.text.items c.write_values.new.text.items values answers named shows way chosen c.in_ok-write_case_line.ensures text)
+    on_ok (c.write_values.new.text.items ≡ c.write_case_line.new.text.items ++ case_text values answers)
+    (IsCaseWritten granted script figures c.args.number f c.args.text.now.items
+    c.write_values.new.text.items)
+    c.write_values.result
+    (λ text.
+    case_written granted script figures c.args.number f c.name.result c.args.text.now.items
+    c.write_case_line.new.text.items c.write_values.new.text.items values answers named shows way
+    chosen c.in_ok-write_case_line.ensures text)
     c.write_values.ensures.written

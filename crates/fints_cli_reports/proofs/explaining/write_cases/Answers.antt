@@ -29,9 +29,17 @@ unfolding nothing
 loop-i-preserved c =
     let f : Finding = get_or c.findings-findings.result.now c.loop-i.i nothing in
     let at : slice_get c.args.report.now.findings c.loop-i.i ≡ Some f =
-    subst (λ (fs : List Finding). slice_get fs c.loop-i.i ≡ Some f) c.findings-findings.ensures.findings (slice_get-get_or c.findings-findings.result.now c.loop-i.i nothing c.loop-i-test.true)
+    subst (λ (fs : List Finding). slice_get fs c.loop-i.i ≡ Some f) c.findings-findings.ensures.findings
+    (slice_get-get_or c.findings-findings.result.now c.loop-i.i nothing c.loop-i-test.true)
     in
     record {
-      way = way_on c.args.report.now f c.in_ok-way-2.way.items c.way_step-at.result c.way_step-at.ensures (subst (λ (a : List (List ℕ)). LeadsFor c.args.report.now.plan.script c.args.report.now.figures f a) (sym c.in_ok-way-2.ensures.kept) c.in_ok-way.ensures);
-      written = written_more c.args.report.now.granted c.args.plan.now.script c.args.report.now.figures c.args.report.now.findings c.loop-i.i f c.args.text.now.items c.loop-i.text.items c.write_case.new.text.items at c.loop-i.invariant.written c.in_ok-way-2.ensures.written;
+      way =
+          way_on c.args.report.now f c.in_ok-way-2.way.items c.way_step-at.result c.way_step-at.ensures
+          (subst
+          (λ (a : List (List ℕ)). LeadsFor c.args.report.now.plan.script c.args.report.now.figures f a)
+          (sym c.in_ok-way-2.ensures.kept) c.in_ok-way.ensures);
+      written =
+          written_more c.args.report.now.granted c.args.plan.now.script c.args.report.now.figures
+          c.args.report.now.findings c.loop-i.i f c.args.text.now.items c.loop-i.text.items
+          c.write_case.new.text.items at c.loop-i.invariant.written c.in_ok-way-2.ensures.written;
     }

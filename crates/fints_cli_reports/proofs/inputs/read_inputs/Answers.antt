@@ -5,4 +5,6 @@ use Rattle.fints_cli_reports.proofs.inputs.read_inputs.Goals as goal
 
 pub returns-in-Err-clause-refused : goal.returns-in-Err-clause-refused
 returns-in-Err-clause-refused c =
-    subst (IsPlanRefusal c.args.orders.now c.args.script.now) (sym c.from.ensures) (script_refused c.args.orders.now c.args.script.now c.in_ok-orders.orders c.in-Err.fault c.in_ok-orders.ensures.table c.in-Err.ensures.fault)
+    subst (IsPlanRefusal c.args.orders.now c.args.script.now) (sym c.from.ensures)
+    (script_refused c.args.orders.now c.args.script.now c.in_ok-orders.orders c.in-Err.fault
+    c.in_ok-orders.ensures.table c.in-Err.ensures.fault)

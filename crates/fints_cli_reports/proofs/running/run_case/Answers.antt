@@ -10,6 +10,8 @@ returns-in_err-inputs-clause-refused c =
 
 pub returns-in_err-text-clause-refused : goal.returns-in_err-text-clause-refused
 returns-in_err-text-clause-refused c =
-    let refused = planned_refused c.args.orders.now c.args.script.now c.args.case.now c.in_ok-plan.plan.script c.args.only c.in_err-text.field-0.0 (search rules) c.in_err-text.ensures.refused in
+    let refused =
+    planned_refused c.args.orders.now c.args.script.now c.args.case.now c.in_ok-plan.plan.script
+    c.args.only c.in_err-text.field-0.0 (search rules) c.in_err-text.ensures.refused in
     let p = err_from_is_err_and c.from_residual-in_err-text.result c.from_residual-in_err-text.ensures.1 in
     rw (p.1, p.2) refused

@@ -3,5 +3,8 @@ use Rattle.fints_cli_reports.proofs.telling.tell.Goals as goal
 
 pub returns-clause-told : goal.returns-clause-told
 returns-clause-told c =
-    told_on c.args.wanted c.args.params.now c.args.orders.now c.args.script.now c.in_ok-inputs.inputs.orders c.in_ok-inputs.inputs.script c.in_ok-plan.plan c.in_ok-reply.reply.status c.in_ok-reply.reply.text.items
-    c.in_ok-inputs.ensures.table c.in_ok-inputs.ensures.script c.in_ok-plan.ensures.closed c.in_ok-plan.ensures.script c.in_ok-plan.ensures.orders c.in_ok-reply.ensures
+    told_on c.args.wanted c.args.params.now c.args.orders.now c.args.script.now c.in_ok-inputs.inputs.orders
+    c.in_ok-inputs.inputs.script c.in_ok-plan.plan c.in_ok-reply.reply.status
+    c.in_ok-reply.reply.text.items
+    c.in_ok-inputs.ensures.table c.in_ok-inputs.ensures.script c.in_ok-plan.ensures.closed
+    c.in_ok-plan.ensures.script c.in_ok-plan.ensures.orders c.in_ok-reply.ensures

@@ -6,4 +6,5 @@ use Rattle.fints_cli_reports.proofs.writing.write_findings.Given as goal
 abbrev pub invariant-loop-finding : goal.invariant-loop-finding
 invariant-loop-finding l =
     (l.findings ≡ l.fn.findings)
-    × (l.text.items ≡ l.initial.text.items ++ flat_map (finding_line l.plan.script.steps) (take l.finding-index l.findings))
+    × (l.text.items ≡ l.initial.text.items ++ flat_map (finding_line l.plan.script.steps)
+    (take l.finding-index l.findings))

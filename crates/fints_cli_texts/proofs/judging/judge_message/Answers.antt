@@ -4,4 +4,8 @@ use Rattle.fints_cli_texts.proofs.judging.judge_message.Goals as goal
 
 pub returns-clause-refused : goal.returns-clause-refused
 returns-clause-refused c =
-    IfErr-weaker c.judge_read.result _ _ (λ f refused. refused c.args.params.now (read_of c.args.params.now c.read.result c.read.ensures.rows c.read.ensures.refused)) c.judge_read.ensures.refused
+    IfErr-weaker c.judge_read.result _ _
+    (λ f refused.
+    refused c.args.params.now
+    (read_of c.args.params.now c.read.result c.read.ensures.rows c.read.ensures.refused))
+    c.judge_read.ensures.refused

@@ -8,7 +8,12 @@ returns-clause-judged c = record {
   numbers = c.in_ok-codes.codes.items;
   answered = c.in_ok-codes.ensures.codes;
   broken = c.in_ok-broken.broken.items;
-  judged = subst (λ (numbers : List ℕ). IsJudgedAfter c.args.permissions.now c.args.before.now numbers c.args.message.now c.in_ok-broken.broken.items) c.as_slice.ensures.value c.in_ok-broken.ensures.judged;
+  judged =
+      subst
+      (λ (numbers : List ℕ).
+      IsJudgedAfter c.args.permissions.now c.args.before.now numbers c.args.message.now
+      c.in_ok-broken.broken.items)
+      c.as_slice.ensures.value c.in_ok-broken.ensures.judged;
   text_is = c.in_ok-reply.ensures.text ∙ ap verdict_text c.as_slice-2.ensures.value;
   status_is = c.in_ok-reply.ensures.status ∙ ap verdict_status c.as_slice-2.ensures.value;
 }

@@ -5,7 +5,9 @@ use Rattle.fints_cli_texts.proofs.ShowLemmas.{kept}
 use Rattle.fints_cli_texts.proofs.showing.show.Goals as goal
 
 pub returns-in-Err-clause-refused : goal.returns-in-Err-clause-refused
-returns-in-Err-clause-refused c = subst (IsMemoryOrShowFault c.args.capture.now) (sym c.from.ensures) (kept c.args.capture.now c.in-Err.fault c.in-Err.ensures.refused)
+returns-in-Err-clause-refused c =
+    subst (IsMemoryOrShowFault c.args.capture.now) (sym c.from.ensures)
+    (kept c.args.capture.now c.in-Err.fault c.in-Err.ensures.refused)
 
 pub returns-clause-shown : goal.returns-clause-shown
 returns-clause-shown c =
@@ -17,5 +19,7 @@ returns-clause-shown c =
       feedback = told.codes.items;
       rows_are = c.in-Ok.ensures.params;
       feedback_is = c.in-Ok.ensures.codes;
-      text_is = c.in_ok-write_codes.ensures ∙ ap (λ xs. xs ++ flat_map code_line codes) rows ∙ ap (λ cs. rows_text told.params ++ flat_map code_line cs) c.as_slice.ensures.value;
+      text_is =
+          c.in_ok-write_codes.ensures ∙ ap (λ xs. xs ++ flat_map code_line codes) rows
+          ∙ ap (λ cs. rows_text told.params ++ flat_map code_line cs) c.as_slice.ensures.value;
     }

@@ -23,7 +23,9 @@ returns-in_err-params-clause-refused c =
 pub returns-in-Some-clause-refused : goal.returns-in-Some-clause-refused
 returns-in-Some-clause-refused c =
     let e = c.in_ok-rows.ensures.ok in
-    let rows = params_of c.args.capture.now e.0 c.in_ok-rows.field-0.rows c.in_ok-params.params e.1 e.2.0 (c.in_ok-params.ensures.complete e.0 e.2.0.rows) (c.in_ok-params.ensures.rows e.0 e.2.0.rows) in
+    let rows =
+    params_of c.args.capture.now e.0 c.in_ok-rows.field-0.rows c.in_ok-params.params e.1 e.2.0
+    (c.in_ok-params.ensures.complete e.0 e.2.0.rows) (c.in_ok-params.ensures.rows e.0 e.2.0.rows) in
     let fault = code_fault c.args.capture.now e.0 c.in_ok-rows.field-0.refused c.in_ok-rows.field-0.found.codes.items c.in-Some.fault c.in-Some.is e.1 e.2.1 in
     inr (inr (c.in_ok-params.params, rows, fault))
 
@@ -40,7 +42,8 @@ returns-in_err-rows-clause-refused c =
 pub returns-clause-params : goal.returns-clause-params
 returns-clause-params c =
     let e = c.in_ok-rows.ensures.ok in
-    params_of c.args.capture.now e.0 c.in_ok-rows.field-0.rows c.in_ok-params.params e.1 e.2.0 (c.in_ok-params.ensures.complete e.0 e.2.0.rows) (c.in_ok-params.ensures.rows e.0 e.2.0.rows)
+    params_of c.args.capture.now e.0 c.in_ok-rows.field-0.rows c.in_ok-params.params e.1 e.2.0
+    (c.in_ok-params.ensures.complete e.0 e.2.0.rows) (c.in_ok-params.ensures.rows e.0 e.2.0.rows)
 
 pub returns-clause-codes : goal.returns-clause-codes
 returns-clause-codes c =

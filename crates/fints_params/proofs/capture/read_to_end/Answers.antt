@@ -7,7 +7,9 @@ use Rattle.fints_params.proofs.capture.read_to_end.Goals as goal
 
 pub returns-clause-refused : goal.returns-clause-refused
 returns-clause-refused g c =
-    IfErr-weaker c.end.result (IsRefusedOf g.R.SegmentTaker.rule c.args.capture.now) (IsMemoryOr (IsRefusedOf g.R.SegmentTaker.rule c.args.capture.now)) (λ f h. inr h) c.end.ensures.refused
+    IfErr-weaker c.end.result (IsRefusedOf g.R.SegmentTaker.rule c.args.capture.now)
+    (IsMemoryOr (IsRefusedOf g.R.SegmentTaker.rule c.args.capture.now)) (λ f h. inr h)
+    c.end.ensures.refused
 
 pub returns-in_err-progress-clause-refused : goal.returns-in_err-progress-clause-refused
 returns-in_err-progress-clause-refused g c =

@@ -31,7 +31,9 @@ loop-i-preserved c =
     elim c.if-not-is_empty.branch [
       | then-not-is_empty+in-Some+in_ok-push-in-Some w ↦
           let z : 0 < length v = grind arith in
-          rw (w.codes-is, w.in_ok-push-in-Some.ensures.items) (left_more vs i c.loop-i.codes.items c.args.codes.now.items v w.in-Some.code c.loop-i.invariant lt e z (sym w.in-Some.ensures))
+          rw (w.codes-is, w.in_ok-push-in-Some.ensures.items)
+          (left_more vs i c.loop-i.codes.items c.args.codes.now.items v w.in-Some.code c.loop-i.invariant
+          lt e z (sym w.in-Some.ensures))
       | else-not-is_empty w ↦
           let z : length v ≡ 0 = grind arith in
           rw w.codes-is (left_skip vs i c.loop-i.codes.items c.args.codes.now.items v c.loop-i.invariant lt e z)

@@ -16,7 +16,8 @@ pub returns-then-not-is_sealed-clause-ok : goal.returns-then-not-is_sealed-claus
 returns-then-not-is_sealed-clause-ok g c =
     let s = c.in_ok-segment.segment in
     let e : is_sealed s ≡ false = sym c.is_sealed.ensures ∙ c.if-not-is_sealed.true in
-    subst (ContinuesOver g.R.SegmentTaker.good c.args.reader.now c.take.new.self) c.in_ok-segment.ensures (single_ok g.R.SegmentTaker.good c.args.reader.now c.take.new.self s e c.in_ok-take.ensures.ok)
+    subst (ContinuesOver g.R.SegmentTaker.good c.args.reader.now c.take.new.self) c.in_ok-segment.ensures
+    (single_ok g.R.SegmentTaker.good c.args.reader.now c.take.new.self s e c.in_ok-take.ensures.ok)
 
 pub returns-in_err-take-clause-stopped : goal.returns-in_err-take-clause-stopped
 returns-in_err-take-clause-stopped g c =
@@ -25,7 +26,13 @@ returns-in_err-take-clause-stopped g c =
     let f = c.in_err-take.field-0.0 in
     let e : is_sealed s ≡ false = sym c.is_sealed.ensures ∙ c.if-not-is_sealed.true in
     let m = single_stop g.R.SegmentTaker.rule g.R.SegmentTaker.good c.args.reader.now s (data_place view) f e c.in_err-take.ensures.stopped in
-    let here = subst (λ (x : OwnedSegment). IsMemoryOr (StopsAt g.R.SegmentTaker.rule g.R.SegmentTaker.good c.args.reader.now x (data_place view)) f) c.in_ok-segment.ensures m in
+    let here =
+    subst
+    (λ (x : OwnedSegment).
+    IsMemoryOr
+    (StopsAt g.R.SegmentTaker.rule g.R.SegmentTaker.good c.args.reader.now x (data_place view))
+    f)
+    c.in_ok-segment.ensures m in
     let q = err_from_is_err_and c.from_residual-in_err-take.result c.from_residual-in_err-take.ensures.1 in
     rw (q.1, q.2) here
 
@@ -46,4 +53,8 @@ returns-clause-stopped g c =
     let s = c.in_ok-segment.segment in
     let place = c.place_of-place.result in
     let P : OwnedSegment → ℕ → ParamFault → Type 0 = λ x n f. IsMemoryOr (StopsAt g.R.SegmentTaker.rule g.R.SegmentTaker.good c.args.reader.now x n) f in
-    IfErr-weaker c.add_sealed.result (P s place) (P (segment_of c.args.view.now) (data_place view)) (λ f h. subst (λ x. P x (data_place view) f) c.in_ok-segment.ensures (subst (λ n. P s n f) c.place_of-place.ensures.place h)) c.add_sealed.ensures.stopped
+    IfErr-weaker c.add_sealed.result (P s place) (P (segment_of c.args.view.now) (data_place view))
+    (λ f h.
+    subst (λ x. P x (data_place view) f) c.in_ok-segment.ensures
+    (subst (λ n. P s n f) c.place_of-place.ensures.place h))
+    c.add_sealed.ensures.stopped

@@ -14,4 +14,6 @@ overflow_add-placed c =
 pub returns-in-Err-clause-closed : goal.returns-in-Err-clause-closed
 returns-in-Err-clause-closed c =
     let e : data_of c.args.placed.now.segment ≡ Some c.in-Some.bytes.now = sym c.in-Some.ensures in
-    rw c.from.ensures (closed_by c.args.placed.now.segment c.args.placed.now.place c.in-Some.bytes.now c.in-Err.fault.kind c.in-Err.fault.offset e c.in-Err.ensures.fault)
+    rw c.from.ensures
+    (closed_by c.args.placed.now.segment c.args.placed.now.place c.in-Some.bytes.now c.in-Err.fault.kind
+    c.in-Err.fault.offset e c.in-Err.ensures.fault)

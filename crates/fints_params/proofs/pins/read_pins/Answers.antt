@@ -14,7 +14,8 @@ returns-then-not-is_good-clause-fault c =
     let p = pair_is vs at c.value-kind.result.now c.value-flag.result.now c.value-kind.ensures c.value-flag.ensures in
     let g : is_good_pair (pair_at vs at) ≡ false = ap is_good_pair (sym p) ∙ sym c.is_good.ensures ∙ c.if-not-is_good.true in
     let f = left_bad vs at c.loop-at.rows.items c.args.rows.now.items c.loop-at.invariant lt g in
-    let h : good_in (drop 5 (values_at c.args.segment.now 5)) ≡ false = subst (λ (x : List (List ℕ)). good_in (drop 5 x) ≡ false) c.items-items.ensures.values f in
+    let h : good_in (drop 5 (values_at c.args.segment.now 5)) ≡ false =
+    subst (λ (x : List (List ℕ)). good_in (drop 5 x) ≡ false) c.items-items.ensures.values f in
     rw (c.bad_element.ensures, h) (refl, refl)
 
 pub loop-at-preserved : goal.loop-at-preserved

@@ -6,31 +6,49 @@ use Rattle.fints_rules_messages.proofs.inner.read_inner.Goals as goal
 
 pub returns-then-not-can_stand-clause-stopped : goal.returns-then-not-can_stand-clause-stopped
 returns-then-not-can_stand-clause-stopped c =
-    let next : IsNextSegment (drop c.loop-view.at c.args.bytes.now) c.in-Some.view c.in-Some.len = subst (λ z. IsNextSegment z c.in-Some.view c.in-Some.len) c.split_at.ensures.back c.in-Some.ensures.some in
+    let next : IsNextSegment (drop c.loop-view.at c.args.bytes.now) c.in-Some.view c.in-Some.len =
+    subst (λ z. IsNextSegment z c.in-Some.view c.in-Some.len) c.split_at.ensures.back
+    c.in-Some.ensures.some in
     let b : c.len.result ≡ length c.loop-view.body.items = omega (arith, c.len.ensures) in
     let e : c.len-in-loop-view.result ≡ length c.loop-view.ends.items = omega (arith, c.len-in-loop-view.ensures) in
-    let none : CanStand (segment_of c.in-Some.view) c.loop-view.openers c.len.result c.len-in-loop-view.result → ⊥ = λ h. (let q : false ≡ true = c.if-not-can_stand.ensures.stands.1 h in cc) in
-    none_stands (drop c.loop-view.at c.args.bytes.now) c.in-Some.view c.in-Some.len c.loop-view.openers (length c.loop-view.body.items) (length c.loop-view.ends.items) next
-    (subst (λ n. CanStand (segment_of c.in-Some.view) c.loop-view.openers (length c.loop-view.body.items) n → ⊥) e (subst (λ n. CanStand (segment_of c.in-Some.view) c.loop-view.openers n c.len-in-loop-view.result → ⊥) b none))
+    let none : CanStand (segment_of c.in-Some.view) c.loop-view.openers c.len.result c.len-in-loop-view.result
+    → ⊥ =
+    λ h. (let q : false ≡ true = c.if-not-can_stand.ensures.stands.1 h in cc) in
+    none_stands (drop c.loop-view.at c.args.bytes.now) c.in-Some.view c.in-Some.len c.loop-view.openers
+    (length c.loop-view.body.items) (length c.loop-view.ends.items) next
+    (subst
+    (λ n. CanStand (segment_of c.in-Some.view) c.loop-view.openers (length c.loop-view.body.items) n → ⊥)
+    e
+    (subst (λ n. CanStand (segment_of c.in-Some.view) c.loop-view.openers n c.len-in-loop-view.result → ⊥)
+    b none))
 
 pub loop-view-preserved-in-Opener : goal.loop-view-preserved-in-Opener
 loop-view-preserved-in-Opener c =
-    let next : IsNextSegment (drop c.loop-view.at c.args.bytes.now) c.in-Some.view c.in-Some.len = subst (λ z. IsNextSegment z c.in-Some.view c.in-Some.len) c.split_at.ensures.back c.in-Some.ensures.some in
+    let next : IsNextSegment (drop c.loop-view.at c.args.bytes.now) c.in-Some.view c.in-Some.len =
+    subst (λ z. IsNextSegment z c.in-Some.view c.in-Some.len) c.split_at.ensures.back
+    c.in-Some.ensures.some in
     let stand : CanStand (segment_of c.in-Some.view) c.loop-view.openers c.len.result c.len-in-loop-view.result = c.if-not-can_stand.ensures.stands.0 refl in
     let few = c.if-not-can_stand.ensures.few refl in
     let past = after_opener (segment_of c.in-Some.view) c.loop-view.openers c.len.result c.len-in-loop-view.result stand c.in-Opener.ensures in
-    let front = front_opener c.args.bytes.now c.loop-view.at c.loop-view.openers c.in-Some.len c.loop-view.body.items c.loop-view.ends.items c.in-Some.view c.loop-view.invariant.front next
-    (omega (arith, stand.0, c.len.ensures, c.len-in-loop-view.ensures)) (sym c.in-Opener.ensures) (omega (arith, past.0, c.len.ensures)) (omega (arith, past.1, c.len-in-loop-view.ensures)) in
+    let front =
+    front_opener c.args.bytes.now c.loop-view.at c.loop-view.openers c.in-Some.len c.loop-view.body.items
+    c.loop-view.ends.items c.in-Some.view c.loop-view.invariant.front next
+    (omega (arith, stand.0, c.len.ensures, c.len-in-loop-view.ensures)) (sym c.in-Opener.ensures)
+    (omega (arith, past.0, c.len.ensures)) (omega (arith, past.1, c.len-in-loop-view.ensures)) in
     record { within = front_within _ _ _ _ _ front; few = omega (arith, few, c.len.ensures, c.len-in-loop-view.ensures); front = front }
 
 pub loop-view-preserved-in-Continue-1 : goal.loop-view-preserved-in-Continue-1
 loop-view-preserved-in-Continue-1 c =
-    let next : IsNextSegment (drop c.loop-view.at c.args.bytes.now) c.in-Some.view c.in-Some.len = subst (λ z. IsNextSegment z c.in-Some.view c.in-Some.len) c.split_at.ensures.back c.in-Some.ensures.some in
+    let next : IsNextSegment (drop c.loop-view.at c.args.bytes.now) c.in-Some.view c.in-Some.len =
+    subst (λ z. IsNextSegment z c.in-Some.view c.in-Some.len) c.split_at.ensures.back
+    c.in-Some.ensures.some in
     let stand : CanStand (segment_of c.in-Some.view) c.loop-view.openers c.len.result c.len-in-loop-view.result = c.if-not-can_stand.ensures.stands.0 refl in
     let few = c.if-not-can_stand.ensures.few refl in
     let past = after_ender (segment_of c.in-Some.view) c.loop-view.openers c.len.result c.len-in-loop-view.result stand c.in-Ender.ensures in
     let pushed : c.push.new.self.items ≡ c.loop-view.ends.items ++ c.in-Some.view ∷ [] = c.in_ok-push-in-Ender.ensures.items in
-    let front = front_ender c.args.bytes.now c.loop-view.at c.loop-view.openers c.in-Some.len c.loop-view.body.items c.loop-view.ends.items c.in-Some.view c.loop-view.invariant.front next
+    let front =
+    front_ender c.args.bytes.now c.loop-view.at c.loop-view.openers c.in-Some.len c.loop-view.body.items
+    c.loop-view.ends.items c.in-Some.view c.loop-view.invariant.front next
     (omega (arith, stand.0, c.len.ensures, c.len-in-loop-view.ensures)) (sym c.in-Ender.ensures) (omega (arith, past, c.len-in-loop-view.ensures)) in
     rw pushed (record {
       within = front_within _ _ _ _ _ front;
@@ -40,12 +58,19 @@ loop-view-preserved-in-Continue-1 c =
 
 pub loop-view-preserved : goal.loop-view-preserved
 loop-view-preserved c =
-    let next : IsNextSegment (drop c.loop-view.at c.args.bytes.now) c.in-Some.view c.in-Some.len = subst (λ z. IsNextSegment z c.in-Some.view c.in-Some.len) c.split_at.ensures.back c.in-Some.ensures.some in
+    let next : IsNextSegment (drop c.loop-view.at c.args.bytes.now) c.in-Some.view c.in-Some.len =
+    subst (λ z. IsNextSegment z c.in-Some.view c.in-Some.len) c.split_at.ensures.back
+    c.in-Some.ensures.some in
     let stand : CanStand (segment_of c.in-Some.view) c.loop-view.openers c.len.result c.len-in-loop-view.result = c.if-not-can_stand.ensures.stands.0 refl in
     let few = c.if-not-can_stand.ensures.few refl in
-    let (part, past) = after_body (segment_of c.in-Some.view) c.loop-view.openers c.len.result c.len-in-loop-view.result c.part_of.result stand c.part_of.ensures c.in_default-part_of.not-Opener c.in_default-part_of.not-Ender in
+    let (part, past) =
+    after_body (segment_of c.in-Some.view) c.loop-view.openers c.len.result c.len-in-loop-view.result
+    c.part_of.result stand c.part_of.ensures c.in_default-part_of.not-Opener
+    c.in_default-part_of.not-Ender in
     let pushed : c.push-in_default-part_of.new.self.items ≡ c.loop-view.body.items ++ c.in-Some.view ∷ [] = c.in_ok-push-in_default-part_of.ensures.items in
-    let front = front_body c.args.bytes.now c.loop-view.at c.loop-view.openers c.in-Some.len c.loop-view.body.items c.loop-view.ends.items c.in-Some.view c.loop-view.invariant.front next
+    let front =
+    front_body c.args.bytes.now c.loop-view.at c.loop-view.openers c.in-Some.len c.loop-view.body.items
+    c.loop-view.ends.items c.in-Some.view c.loop-view.invariant.front next
     (omega (arith, stand.0, c.len.ensures, c.len-in-loop-view.ensures)) part (omega (arith, past, c.len-in-loop-view.ensures)) in
     rw pushed (record {
       within = front_within _ _ _ _ _ front;

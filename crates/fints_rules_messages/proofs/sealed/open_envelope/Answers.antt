@@ -6,16 +6,25 @@ use Rattle.fints_rules_messages.proofs.sealed.open_envelope.Goals as goal
 pub returns-then-inner-data-clause-envelope : goal.returns-then-inner-data-clause-envelope
 returns-then-inner-data-clause-envelope c = λ inner b e is g n.
     let i = c.in_ok-inner.inner in
-    let all = data_inner one_segment_text c.in-Some.data.now i.at i.openers i.body.items i.ends.items inner b e c.in_ok-inner.ensures.front c.in_ok-inner.ensures.stopped (envelope_text inner _ c.in-Some.data.now c.in-Some.ensures.some is) g n in
+    let all =
+    data_inner one_segment_text c.in-Some.data.now i.at i.openers i.body.items i.ends.items inner b e
+    c.in_ok-inner.ensures.front c.in_ok-inner.ensures.stopped
+    (envelope_text inner _ c.in-Some.data.now c.in-Some.ensures.some is) g n in
     omega (arith, all.all, c.if-inner-data.true)
 
 pub returns-then-len-inner-clause-envelope : goal.returns-then-len-inner-clause-envelope
 returns-then-len-inner-clause-envelope c = λ inner b e is g n.
     let i = c.in_ok-inner.inner in
-    let all = data_inner one_segment_text c.in-Some.data.now i.at i.openers i.body.items i.ends.items inner b e c.in_ok-inner.ensures.front c.in_ok-inner.ensures.stopped (envelope_text inner _ c.in-Some.data.now c.in-Some.ensures.some is) g n in
+    let all =
+    data_inner one_segment_text c.in-Some.data.now i.at i.openers i.body.items i.ends.items inner b e
+    c.in_ok-inner.ensures.front c.in_ok-inner.ensures.stopped
+    (envelope_text inner _ c.in-Some.data.now c.in-Some.ensures.some is) g n in
     omega (arith, all.as_many, c.if-len-inner.true, c.len.ensures)
 
 pub returns-clause-envelope : goal.returns-clause-envelope
 returns-clause-envelope c =
     let i = c.in_ok-inner.inner in
-    opened _ c.in-Some.data.now i.at i.openers i.body.items i.ends.items (sym c.if-not-is_named.ensures) (head_number _ 999 (c.number.ensures ∙ ap Some c.if-number-ne-HNVSD_NUMBER.false)) c.in-Some.ensures.some c.in_ok-inner.ensures.front (omega (arith, c.if-inner-data.false)) (omega (arith, c.if-len-inner.false, c.len.ensures))
+    opened _ c.in-Some.data.now i.at i.openers i.body.items i.ends.items (sym c.if-not-is_named.ensures)
+    (head_number _ 999 (c.number.ensures ∙ ap Some c.if-number-ne-HNVSD_NUMBER.false))
+    c.in-Some.ensures.some c.in_ok-inner.ensures.front (omega (arith, c.if-inner-data.false))
+    (omega (arith, c.if-len-inner.false, c.len.ensures))

@@ -10,41 +10,67 @@ returns-in_default-clause-rest c = stop_first c.args.rest.now c.args.number c.re
 
 pub returns-in_default-2-clause-rest : goal.returns-in_default-2-clause-rest
 returns-in_default-2-clause-rest c =
-    stop_closed c.args.rest.now c.in-Some.len c.args.number c.in-Some.view c.requires c.in-Some.ensures.some (subst (λ o. EnvelopeIs o (segment_of c.in-Some.view)) c.in_default-2.is c.in_ok-inner.ensures.envelope)
+    stop_closed c.args.rest.now c.in-Some.len c.args.number c.in-Some.view c.requires c.in-Some.ensures.some
+    (subst (λ o. EnvelopeIs o (segment_of c.in-Some.view)) c.in_default-2.is
+    c.in_ok-inner.ensures.envelope)
 
 pub returns-in_default-next_segment-clause-rest : goal.returns-in_default-next_segment-clause-rest
 returns-in_default-next_segment-clause-rest c =
     let i = c.in-Some-2.inner in
-    let o : IsOpened (segment_of c.in-Some.view) i.openers (segments_of i.body.items) (segments_of i.ends.items) = subst (λ o. EnvelopeIs o (segment_of c.in-Some.view)) c.in-Some-2.is c.in_ok-inner.ensures.envelope in
+    let o : IsOpened (segment_of c.in-Some.view) i.openers (segments_of i.body.items)
+    (segments_of i.ends.items) =
+    subst (λ o. EnvelopeIs o (segment_of c.in-Some.view)) c.in-Some-2.is c.in_ok-inner.ensures.envelope in
     let none : HasNoNext (drop c.in-Some.len c.args.rest.now) = subst HasNoNext c.split_at.ensures.back c.in_default-next_segment.ensures.none in
-    stop_envelope one_segment_text c.args.rest.now c.in-Some.len i.openers c.args.number i.body.items i.ends.items c.in-Some.view c.requires c.in-Some.ensures.some o (λ u more is e _. none u more is e)
+    stop_envelope one_segment_text c.args.rest.now c.in-Some.len i.openers c.args.number i.body.items
+    i.ends.items c.in-Some.view c.requires c.in-Some.ensures.some o (λ u more is e _. none u more is e)
 
 pub returns-then-not-is_end-clause-rest : goal.returns-then-not-is_end-clause-rest
 returns-then-not-is_end-clause-rest c =
     let i = c.in-Some-2.inner in
-    let o : IsOpened (segment_of c.in-Some.view) i.openers (segments_of i.body.items) (segments_of i.ends.items) = subst (λ o. EnvelopeIs o (segment_of c.in-Some.view)) c.in-Some-2.is c.in_ok-inner.ensures.envelope in
-    let g : IsNextSegment (drop c.in-Some.len c.args.rest.now) c.in-Some-next_segment.last c.in-Some-next_segment.n = subst (λ z. IsNextSegment z c.in-Some-next_segment.last c.in-Some-next_segment.n) c.split_at.ensures.back c.in-Some-next_segment.ensures.some in
+    let o : IsOpened (segment_of c.in-Some.view) i.openers (segments_of i.body.items)
+    (segments_of i.ends.items) =
+    subst (λ o. EnvelopeIs o (segment_of c.in-Some.view)) c.in-Some-2.is c.in_ok-inner.ensures.envelope in
+    let g : IsNextSegment (drop c.in-Some.len c.args.rest.now) c.in-Some-next_segment.last
+    c.in-Some-next_segment.n =
+    subst (λ z. IsNextSegment z c.in-Some-next_segment.last c.in-Some-next_segment.n)
+    c.split_at.ensures.back c.in-Some-next_segment.ensures.some in
     let b : c.len.result ≡ length i.body.items = omega (arith, c.len.ensures) in
     let e : c.len-2.result ≡ length i.ends.items = omega (arith, c.len-2.ensures) in
-    stop_other one_segment_text c.args.rest.now c.in-Some.len c.in-Some-next_segment.n i.openers c.args.number i.body.items i.ends.items c.in-Some.view c.in-Some-next_segment.last c.requires c.in-Some.ensures.some o g
+    stop_other one_segment_text c.args.rest.now c.in-Some.len c.in-Some-next_segment.n i.openers c.args.number
+    i.body.items i.ends.items c.in-Some.view c.in-Some-next_segment.last c.requires c.in-Some.ensures.some
+    o g
     (λ end. let q : false ≡ true = c.if-not-is_end.ensures.1 (rw (b, e) end) in cc)
 
 pub returns-then-len-n-clause-rest : goal.returns-then-len-n-clause-rest
 returns-then-len-n-clause-rest c =
     let i = c.in-Some-2.inner in
-    let o : IsOpened (segment_of c.in-Some.view) i.openers (segments_of i.body.items) (segments_of i.ends.items) = subst (λ o. EnvelopeIs o (segment_of c.in-Some.view)) c.in-Some-2.is c.in_ok-inner.ensures.envelope in
-    let g : IsNextSegment (drop c.in-Some.len c.args.rest.now) c.in-Some-next_segment.last c.in-Some-next_segment.n = subst (λ z. IsNextSegment z c.in-Some-next_segment.last c.in-Some-next_segment.n) c.split_at.ensures.back c.in-Some-next_segment.ensures.some in
+    let o : IsOpened (segment_of c.in-Some.view) i.openers (segments_of i.body.items)
+    (segments_of i.ends.items) =
+    subst (λ o. EnvelopeIs o (segment_of c.in-Some.view)) c.in-Some-2.is c.in_ok-inner.ensures.envelope in
+    let g : IsNextSegment (drop c.in-Some.len c.args.rest.now) c.in-Some-next_segment.last
+    c.in-Some-next_segment.n =
+    subst (λ z. IsNextSegment z c.in-Some-next_segment.last c.in-Some-next_segment.n)
+    c.split_at.ensures.back c.in-Some-next_segment.ensures.some in
     let b : c.len.result ≡ length i.body.items = omega (arith, c.len.ensures) in
     let e : c.len-2.result ≡ length i.ends.items = omega (arith, c.len-2.ensures) in
     let end : IsEndOf c.args.number (segment_of c.in-Some-next_segment.last) i.openers c.len.result c.len-2.result = c.if-not-is_end.ensures.0 refl in
-    stop_last one_segment_text c.args.rest.now c.in-Some.len c.in-Some-next_segment.n i.openers c.args.number i.body.items i.ends.items c.in-Some.view c.in-Some-next_segment.last c.in-Some.ensures.some o g (rw (b, e) at end) c.if-len-n.true
+    stop_last one_segment_text c.args.rest.now c.in-Some.len c.in-Some-next_segment.n i.openers c.args.number
+    i.body.items i.ends.items c.in-Some.view c.in-Some-next_segment.last c.in-Some.ensures.some o g
+    (rw (b, e) at end) c.if-len-n.true
 
 pub returns-clause-rest : goal.returns-clause-rest
 returns-clause-rest c =
     let i = c.in-Some-2.inner in
-    let o : IsOpened (segment_of c.in-Some.view) i.openers (segments_of i.body.items) (segments_of i.ends.items) = subst (λ o. EnvelopeIs o (segment_of c.in-Some.view)) c.in-Some-2.is c.in_ok-inner.ensures.envelope in
-    let g : IsNextSegment (drop c.in-Some.len c.args.rest.now) c.in-Some-next_segment.last c.in-Some-next_segment.n = subst (λ z. IsNextSegment z c.in-Some-next_segment.last c.in-Some-next_segment.n) c.split_at.ensures.back c.in-Some-next_segment.ensures.some in
+    let o : IsOpened (segment_of c.in-Some.view) i.openers (segments_of i.body.items)
+    (segments_of i.ends.items) =
+    subst (λ o. EnvelopeIs o (segment_of c.in-Some.view)) c.in-Some-2.is c.in_ok-inner.ensures.envelope in
+    let g : IsNextSegment (drop c.in-Some.len c.args.rest.now) c.in-Some-next_segment.last
+    c.in-Some-next_segment.n =
+    subst (λ z. IsNextSegment z c.in-Some-next_segment.last c.in-Some-next_segment.n)
+    c.split_at.ensures.back c.in-Some-next_segment.ensures.some in
     let b : c.len.result ≡ length i.body.items = omega (arith, c.len.ensures) in
     let e : c.len-2.result ≡ length i.ends.items = omega (arith, c.len-2.ensures) in
     let end : IsEndOf c.args.number (segment_of c.in-Some-next_segment.last) i.openers c.len.result c.len-2.result = c.if-not-is_end.ensures.0 refl in
-    whole_rest c.args.rest.now c.in-Some.len c.in-Some-next_segment.n i.openers c.args.number i.body.items i.ends.items c.in-Some.view c.in-Some-next_segment.last c.in-Some.ensures.some o g (rw (b, e) at end) (omega (arith, c.if-len-n.false))
+    whole_rest c.args.rest.now c.in-Some.len c.in-Some-next_segment.n i.openers c.args.number i.body.items
+    i.ends.items c.in-Some.view c.in-Some-next_segment.last c.in-Some.ensures.some o g (rw (b, e) at end)
+    (omega (arith, c.if-len-n.false))

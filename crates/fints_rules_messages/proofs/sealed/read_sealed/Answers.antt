@@ -6,8 +6,17 @@ use Rattle.fints_rules_messages.proofs.sealed.read_sealed.Goals as goal
 
 pub returns-in-Whole-clause-tail : goal.returns-in-Whole-clause-tail
 returns-in-Whole-clause-tail c = whole_key c.args.tail.now c.args.len c.args.number _ _ c.requires.key.tree c.requires.key.is_next c.requires.key.is_key
-    (subst (λ z. IsReadBy (IsSealedRest c.args.number) z c.in-Whole.body.items c.in-Whole.ends.items) c.split_at.ensures.back (subst (TailIs (IsSealedRest c.args.number) c.split_at.result.1.now) c.in-Whole.is c.in_ok-body.ensures.rest))
+    (subst (λ z. IsReadBy (IsSealedRest c.args.number) z c.in-Whole.body.items c.in-Whole.ends.items)
+    c.split_at.ensures.back
+    (subst (TailIs (IsSealedRest c.args.number) c.split_at.result.1.now) c.in-Whole.is
+    c.in_ok-body.ensures.rest))
 
 pub returns-in-Stop-clause-tail : goal.returns-in-Stop-clause-tail
 returns-in-Stop-clause-tail c = stops_key c.args.tail.now c.args.len c.in-Stop.at c.args.number c.requires.key.tree c.requires.key.is_next c.requires.key.is_key
-    (subst (λ z. Stops (BeginsBy (IsSealedRest c.args.number)) (IsWholeBy (IsSealedRest c.args.number)) z c.in-Stop.at) c.split_at.ensures.back (subst (TailIs (IsSealedRest c.args.number) c.split_at.result.1.now) c.in-Stop.is c.in_ok-body.ensures.rest))
+    (subst
+    (λ z.
+    Stops (BeginsBy (IsSealedRest c.args.number)) (IsWholeBy (IsSealedRest c.args.number)) z
+    c.in-Stop.at)
+    c.split_at.ensures.back
+    (subst (TailIs (IsSealedRest c.args.number) c.split_at.result.1.now) c.in-Stop.is
+    c.in_ok-body.ensures.rest))

@@ -13,5 +13,6 @@ invariant-loop-i l = record {
   others : List NamedField;
   all : l.fields.items ≡ dialog ∷ others;
   built_in : field_value dialog ≡ dialog_value;
-  each : rows_from (λ n. places.Field n) (λ i row. field_in (take i (map view l.rows)) row) 0 (take l.i (map view l.rows)) ≡ Ok (map field_value others);
+  each : rows_from (λ n. places.Field n) (λ i row. field_in (take i (map view l.rows)) row) 0
+      (take l.i (map view l.rows)) ≡ Ok (map field_value others);
 }

@@ -15,8 +15,10 @@ first_in_step-fault-requires c =
     omega (arith, few.1)
 
 -- the first fault of a step's segments behind its signers' is that of the step
-of_step : (fields : List NamedField) (orders : List OrderRow) (n : ℕ) (step : StepValue) (signers : List ℕ) (templates : List Template) → signers ≡ step.signers → templates ≡ step.templates
-    → slice_get (segment_faults fields orders n (length signers + 2) templates) 0 ≡ slice_get (step_faults fields orders n step) 0
+of_step : (fields : List NamedField) (orders : List OrderRow) (n : ℕ) (step : StepValue) (signers : List ℕ)
+    (templates : List Template) → signers ≡ step.signers → templates ≡ step.templates
+    → slice_get (segment_faults fields orders n (length signers + 2) templates) 0 ≡ slice_get
+    (step_faults fields orders n step) 0
 of_step fields orders n step signers templates same all =
     ap (λ (k : ℕ). slice_get (segment_faults fields orders n (k + 2) templates) 0) (ap length same)
     ∙ ap (λ (ts : List Template). slice_get (segment_faults fields orders n (length step.signers + 2) ts) 0) all
@@ -30,7 +32,9 @@ returns-in-Some-clause-some c =
     let next : ℕ = c.loop-i.i + 1 in
     let rest = faults_from fields orders (next + 1) (drop next c.args.steps.now) in
     let found = some_first (step_faults fields orders next step) c.in-Some.fault
-    (sym c.in-Some.is ∙ c.first_in_step-fault.ensures ∙ of_step fields orders next step c.signers.result.now c.templates.result.now c.signers.ensures c.templates.ensures) in (
+    (sym c.in-Some.is ∙ c.first_in_step-fault.ensures
+    ∙ of_step fields orders next step c.signers.result.now c.templates.result.now c.signers.ensures
+    c.templates.ensures) in (
       found.0 ++ rest,
       c.loop-i.invariant ∙ step_more fields orders c.loop-i.i c.args.steps.now step here
           ∙ ap (λ x. step_faults fields orders next x ++ rest) (sym c.index-steps-i.is) ∙ ap (λ fs. fs ++ rest) found.1,
@@ -45,7 +49,9 @@ loop-i-preserved c =
     let next : ℕ = c.loop-i.i + 1 in
     let rest = faults_from fields orders (next + 1) (drop next c.args.steps.now) in
     let none = none_first (step_faults fields orders next step)
-    (sym c.in_default.is ∙ c.first_in_step-fault.ensures ∙ of_step fields orders next step c.signers.result.now c.templates.result.now c.signers.ensures c.templates.ensures) in
+    (sym c.in_default.is ∙ c.first_in_step-fault.ensures
+    ∙ of_step fields orders next step c.signers.result.now c.templates.result.now c.signers.ensures
+    c.templates.ensures) in
     c.loop-i.invariant ∙ step_more fields orders c.loop-i.i c.args.steps.now step here
     ∙ ap (λ x. step_faults fields orders next x ++ rest) (sym c.index-steps-i.is) ∙ ap (λ fs. fs ++ rest) none
 

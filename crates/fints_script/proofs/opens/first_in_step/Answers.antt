@@ -12,7 +12,10 @@ returns-in-Some c =
     let fields = c.args.fields.now in
     let orders = c.args.orders.now in
     let is = ap (open_of fields orders) (sym c.index-templates-i.is) ∙ sym c.open_of.ensures ∙ c.in-Some.is in
-    let faults = c.loop-i.invariant ∙ segment_open fields orders c.args.n c.args.first c.loop-i.i c.args.templates.now c.index-templates-i.result c.in-Some.left here is in
+    let faults =
+    c.loop-i.invariant
+    ∙ segment_open fields orders c.args.n c.args.first c.loop-i.i c.args.templates.now
+    c.index-templates-i.result c.in-Some.left here is in
     ap Some c.open_fault.ensures ∙ sym (ap (λ (fs : List PlanFault). slice_get fs 0) faults)
 
 pub loop-i-preserved : goal.loop-i-preserved
@@ -26,5 +29,9 @@ loop-i-preserved c =
 pub returns : goal.returns
 returns c =
     let all : length c.args.templates.now ≤ c.loop-i.i = omega arith in
-    let faults = c.loop-i.invariant ∙ at_drop_all (segment_faults c.args.fields.now c.args.orders.now c.args.n (c.args.first + c.loop-i.i)) c.args.templates.now c.loop-i.i all in
+    let faults =
+    c.loop-i.invariant
+    ∙ at_drop_all
+    (segment_faults c.args.fields.now c.args.orders.now c.args.n (c.args.first + c.loop-i.i))
+    c.args.templates.now c.loop-i.i all in
     sym (ap (λ (fs : List PlanFault). slice_get fs 0) faults)

@@ -12,9 +12,18 @@ pub returns-in_err-placed : goal.returns-in_err-placed
 returns-in_err-placed c =
     let rows = c.as_slice-rows.result.now in
     let here : c.loop-i.i < length c.as_slice-rows.result.now = omega arith in
-    let stop = read_stop (λ s. s) (λ n. places.Step n) (step_in (surroundings_of c.args.around.now)) rows c.loop-i.i c.index-rows-i.result c.step_in-step.result c.loop-i.steps.items here c.index-rows-i.is c.loop-i.invariant c.step_in-step.ensures
+    let stop =
+    read_stop (λ s. s) (λ n. places.Step n) (step_in (surroundings_of c.args.around.now)) rows c.loop-i.i
+    c.index-rows-i.result c.step_in-step.result c.loop-i.steps.items here c.index-rows-i.is
+    c.loop-i.invariant c.step_in-step.ensures
     c.in_err-placed.field-0.0 (sym c.placed.ensures ∙ c.in_err-placed.was) in
-    let told = subst (λ vs. (c.in_err-placed.field-0.0 ≡ no_memory) ⊎ (rows_from (λ n. places.Step n) (step_in (surroundings_of c.args.around.now)) 0 (map view vs) ≡ Err c.in_err-placed.field-0.0)) c.as_slice-rows.ensures stop in
+    let told =
+    subst
+    (λ vs.
+    (c.in_err-placed.field-0.0 ≡ no_memory)
+    ⊎ (rows_from (λ n. places.Step n) (step_in (surroundings_of c.args.around.now)) 0
+    (map view vs) ≡ Err c.in_err-placed.field-0.0))
+    c.as_slice-rows.ensures stop in
     let p = err_from_is_err_and c.from_residual.result c.from_residual.ensures.1 in
     rw (p.1, p.2) told
 
@@ -22,6 +31,8 @@ pub loop-i-preserved : goal.loop-i-preserved
 loop-i-preserved c =
     let rows = c.as_slice-rows.result.now in
     let here : c.loop-i.i < length c.as_slice-rows.result.now = omega arith in
-    read_more (λ s. s) (λ n. places.Step n) (step_in (surroundings_of c.args.around.now)) rows c.loop-i.i c.index-rows-i.result c.step_in-step.result c.loop-i.steps.items here c.index-rows-i.is c.loop-i.invariant c.step_in-step.ensures
+    read_more (λ s. s) (λ n. places.Step n) (step_in (surroundings_of c.args.around.now)) rows c.loop-i.i
+    c.index-rows-i.result c.step_in-step.result c.loop-i.steps.items here c.index-rows-i.is
+    c.loop-i.invariant c.step_in-step.ensures
     c.in_ok-placed.field-0 (sym c.placed.ensures ∙ c.in_ok-placed.was)
     ∙ ap Ok (sym c.in_ok-push.ensures.items)

@@ -9,10 +9,14 @@ pub read_fields-requires : goal.read_fields-requires
 read_fields-requires c = (rows_kept c.top_in.result (table_view c.args.table.now) c.top_in.ensures c.in_ok-top.top (sym c.placed.ensures ∙ c.in_ok-top.was)).0
 
 pub body_in-requires-clause-signers : goal.body_in-requires-clause-signers
-body_in-requires-clause-signers c = (rows_kept c.top_in.result (table_view c.args.table.now) c.top_in.ensures c.in_ok-top.top (sym c.placed.ensures ∙ c.in_ok-top.was)).1
+body_in-requires-clause-signers c =
+    (rows_kept c.top_in.result (table_view c.args.table.now) c.top_in.ensures c.in_ok-top.top
+    (sym c.placed.ensures ∙ c.in_ok-top.was)).1
 
 pub body_in-requires-clause-steps : goal.body_in-requires-clause-steps
-body_in-requires-clause-steps c = (rows_kept c.top_in.result (table_view c.args.table.now) c.top_in.ensures c.in_ok-top.top (sym c.placed.ensures ∙ c.in_ok-top.was)).2
+body_in-requires-clause-steps c =
+    (rows_kept c.top_in.result (table_view c.args.table.now) c.top_in.ensures c.in_ok-top.top
+    (sym c.placed.ensures ∙ c.in_ok-top.was)).2
 
 pub returns-clause-script : goal.returns-clause-script
 returns-clause-script c = record {
@@ -30,12 +34,17 @@ returns-in_err-top-clause-fault c =
 
 pub returns-in_err-fields-clause-fault : goal.returns-in_err-fields-clause-fault
 returns-in_err-fields-clause-fault c =
-    let f = field_faults c.top_in.result (table_view c.args.table.now) c.top_in.ensures c.in_ok-top.top c.in_err-fields.field-0.0 (sym c.placed.ensures ∙ c.in_ok-top.was) c.in_err-fields.ensures.fault in
+    let f =
+    field_faults c.top_in.result (table_view c.args.table.now) c.top_in.ensures c.in_ok-top.top
+    c.in_err-fields.field-0.0 (sym c.placed.ensures ∙ c.in_ok-top.was) c.in_err-fields.ensures.fault in
     let q = err_from_is_err_and c.from_residual-in_err-fields.result c.from_residual-in_err-fields.ensures.1 in
     rw (q.1, q.2) f
 
 pub returns-in_err-body-clause-fault : goal.returns-in_err-body-clause-fault
 returns-in_err-body-clause-fault c =
-    let f = body_faults c.top_in.result (table_view c.args.table.now) c.top_in.ensures c.in_ok-top.top c.in_ok-fields.fields c.in_err-body.field-0.0 (sym c.placed.ensures ∙ c.in_ok-top.was) c.in_ok-fields.ensures.fields c.in_err-body.ensures in
+    let f =
+    body_faults c.top_in.result (table_view c.args.table.now) c.top_in.ensures c.in_ok-top.top
+    c.in_ok-fields.fields c.in_err-body.field-0.0 (sym c.placed.ensures ∙ c.in_ok-top.was)
+    c.in_ok-fields.ensures.fields c.in_err-body.ensures in
     let q = err_from_is_err_and c.from_residual-in_err-body.result c.from_residual-in_err-body.ensures.1 in
     rw (q.1, q.2) f

@@ -11,4 +11,5 @@ returns c =
     let around = surroundings_of c.args.around.now in
     let ms = table_view c.args.table.now in
     subst (λ r. Gives seen_parts r (parts_in around c.args.row ms)) (sym c.both.ensures)
-    (both_gives seen_sent seen_course c.sent_in.result c.course_in.result (sent_in around ms) (course_in around.rows c.args.row ms) c.sent_in.ensures c.course_in.ensures)
+    (both_gives seen_sent seen_course c.sent_in.result c.course_in.result (sent_in around ms)
+    (course_in around.rows c.args.row ms) c.sent_in.ensures c.course_in.ensures)

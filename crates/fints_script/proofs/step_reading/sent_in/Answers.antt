@@ -14,6 +14,12 @@ returns c =
     let ms = table_view c.args.table.now in
     let has_seal : c.is_some.result ≡ is_some around.seal = search rules in
     let sealed = exact_gives c.sealed_at-sealed.result (sealed_at (is_some around.seal) ms) (c.sealed_at-sealed.ensures ∙ ap (λ b. sealed_at b ms) has_seal) in
-    let rest = both_gives (λ b. b) (λ v. v.items) c.sealed_at-sealed.result c.signatures_at-signers.result (sealed_at (is_some around.seal) ms) (signatures_at around.signers ms) sealed c.signatures_at-signers.ensures in
+    let rest =
+    both_gives (λ b. b) (λ v. v.items) c.sealed_at-sealed.result c.signatures_at-signers.result
+    (sealed_at (is_some around.seal) ms) (signatures_at around.signers ms) sealed
+    c.signatures_at-signers.ensures in
     subst (λ r. Gives seen_sent r (sent_in around ms)) (sym (c.both-2.ensures ∙ ap (both c.segments_at-segments.result) c.both.ensures))
-    (both_gives (λ v. v.items) (λ z. (z.0, z.1.items)) c.segments_at-segments.result (both c.sealed_at-sealed.result c.signatures_at-signers.result) (segments_at around.fields ms) (both (sealed_at (is_some around.seal) ms) (signatures_at around.signers ms)) c.segments_at-segments.ensures rest)
+    (both_gives (λ v. v.items) (λ z. (z.0, z.1.items)) c.segments_at-segments.result
+    (both c.sealed_at-sealed.result c.signatures_at-signers.result) (segments_at around.fields ms)
+    (both (sealed_at (is_some around.seal) ms) (signatures_at around.signers ms))
+    c.segments_at-segments.ensures rest)

@@ -10,4 +10,7 @@ pub returns : goal.returns
 returns c =
     let branches = c.args.branches.now in
     let own = get_or branches (c.args.branch - 1) c.index-branches-branch.result in
-    missed_cases branches c.args.branch c.args.code own c.missed.result (slice_get-get_or branches (c.args.branch - 1) c.index-branches-branch.result (omega (arith, c.requires.from, c.if-branches-branch.false))) c.missed.ensures
+    missed_cases branches c.args.branch c.args.code own c.missed.result
+    (slice_get-get_or branches (c.args.branch - 1) c.index-branches-branch.result
+    (omega (arith, c.requires.from, c.if-branches-branch.false)))
+    c.missed.ensures

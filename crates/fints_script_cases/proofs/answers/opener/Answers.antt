@@ -22,7 +22,8 @@ pub loop-code-preserved : goal.loop-code-preserved
 loop-code-preserved c =
     let same : c.in-Some.code ≡ c.loop-code.number = c.in-Some.ensures.1 in
     let size : ℕ = c.in-Some-barren_block.size in
-    let below : NoneBelow c.args.branches.now c.args.branch c.in-Some.code = subst (NoneBelow c.args.branches.now c.args.branch) (sym same) c.loop-code.invariant in
+    let below : NoneBelow c.args.branches.now c.args.branch c.in-Some.code =
+    subst (NoneBelow c.args.branches.now c.args.branch) (sym same) c.loop-code.invariant in
     subst (λ (n : ℕ). NoneBelow c.args.branches.now c.args.branch ((n / size + 1) * size)) same (c.in-Some-barren_block.ensures.none below)
 
 pub returns-clause-open : goal.returns-clause-open

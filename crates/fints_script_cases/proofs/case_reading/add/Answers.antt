@@ -11,4 +11,7 @@ returns-in_ok-add-in-Field-clause-names c =
     let before = c.args.taken.now.case.values in
     let pair = c.in-Field.pair in
     let more = names_more (value_names before) pair.name c.args.taken.now.names c.insert.new.self c.requires c.in_ok-insert-in-Field.ensures.updates.0 in
-    subst (λ names. HoldsNames names c.insert.new.self) (sym (ap value_names c.in_ok-add-in-Field.ensures.ok ∙ map-append (λ (p : NamedValue). p.name) before (pair ∷ []))) more
+    subst (λ names. HoldsNames names c.insert.new.self)
+    (sym (ap value_names c.in_ok-add-in-Field.ensures.ok
+    ∙ map-append (λ (p : NamedValue). p.name) before (pair ∷ [])))
+    more

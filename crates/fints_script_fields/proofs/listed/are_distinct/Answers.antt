@@ -9,9 +9,14 @@ use Rattle.fints_script_fields.proofs.listed.are_distinct.Goals as goal
 
 pub returns-then-not-fresh : goal.returns-then-not-fresh
 returns-then-not-fresh g c =
-    let found = old_found (contains key_cmp c.loop-value.seen (c.text.result, c.count.result)) c.in_ok-fresh.fresh c.in_ok-fresh.ensures.added c.if-not-fresh.true in (
+    let found =
+    old_found (contains key_cmp c.loop-value.seen (c.text.result, c.count.result)) c.in_ok-fresh.fresh
+    c.in_ok-fresh.ensures.added c.if-not-fresh.true in (
       λ h. absurd (false≢true h),
-      λ apart. absurd (found_twice g.T.Listed.text g.T.Listed.count g.T.Listed.told c.args.values.now c.loop-value.value-index c.value-item.result (c.text.result, c.count.result)
+      λ apart.
+          absurd
+          (found_twice g.T.Listed.text g.T.Listed.count g.T.Listed.told c.args.values.now
+          c.loop-value.value-index c.value-item.result (c.text.result, c.count.result)
           (contains key_cmp c.loop-value.seen) c.loop-value-test.true c.value-item.is c.text.ensures c.count.ensures c.loop-value.invariant.keys found apart),
     )
 
@@ -20,12 +25,20 @@ loop-value-preserved g c =
     let xs = c.args.values.now in
     let i = c.loop-value.value-index in
     let x = c.value-item.result in
-    let none = new_unfound (contains key_cmp c.loop-value.seen (c.text.result, c.count.result)) c.in_ok-fresh.fresh c.in_ok-fresh.ensures.added c.if-not-fresh.false in
+    let none =
+    new_unfound (contains key_cmp c.loop-value.seen (c.text.result, c.count.result)) c.in_ok-fresh.fresh
+    c.in_ok-fresh.ensures.added c.if-not-fresh.false in
     record {
-      keys = keys_more g.T.Listed.text g.T.Listed.count xs i x (c.text.result, c.count.result) (contains key_cmp c.loop-value.seen) (contains key_cmp c.insert.new.self) c.loop-value-test.true c.value-item.is c.text.ensures c.count.ensures
+      keys =
+          keys_more g.T.Listed.text g.T.Listed.count xs i x (c.text.result, c.count.result)
+          (contains key_cmp c.loop-value.seen) (contains key_cmp c.insert.new.self) c.loop-value-test.true
+          c.value-item.is c.text.ensures c.count.ensures
           c.loop-value.invariant.keys c.in_ok-fresh.ensures.updates.0;
       apart = distinct_more xs i x x c.loop-value-test.true c.value-item.is
-          (unfound g.T.Listed.text g.T.Listed.count _ x (c.text.result, c.count.result) (contains key_cmp c.loop-value.seen) c.text.ensures c.count.ensures c.loop-value.invariant.keys none) c.loop-value.invariant.apart;
+          (unfound g.T.Listed.text g.T.Listed.count _ x (c.text.result, c.count.result)
+          (contains key_cmp c.loop-value.seen) c.text.ensures c.count.ensures
+          c.loop-value.invariant.keys none)
+          c.loop-value.invariant.apart;
     }
 
 pub returns : goal.returns

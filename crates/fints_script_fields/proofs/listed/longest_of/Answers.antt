@@ -7,7 +7,9 @@ use Rattle.fints_script_fields.proofs.listed.longest_of.Goals.{then-size, else-s
 
 pub loop-v-init : goal.loop-v-init
 loop-v-init g c none =
-    longest_init g.T.Listed.size none c.index-values-0.result c.args.values.now c.requires ∙ ap (λ (x : g.row.T.Denot). longest_from g.T.Listed.size x c.args.values.now) (sym c.index-values-0.is)
+    longest_init g.T.Listed.size none c.index-values-0.result c.args.values.now c.requires
+    ∙ ap (λ (x : g.row.T.Denot). longest_from g.T.Listed.size x c.args.values.now)
+    (sym c.index-values-0.is)
 
 pub loop-v-preserved : goal.loop-v-preserved
 loop-v-preserved g c none =
@@ -19,9 +21,16 @@ loop-v-preserved g c none =
     let one = c.size.ensures in
     let two = c.size-in-loop-v.ensures in
     elim c.if-size.branch [
-      | then-size w ↦ rw w.best-is (c.loop-v.invariant none ∙ longest_step size c.loop-v.best.now d xs i c.loop-v-test.true (omega arith) ∙ ap (λ (x : g.row.T.Denot). longest_from size x (drop (i + 1) xs)) (sym c.v-item.is))
+      | then-size w ↦
+          rw w.best-is
+          (c.loop-v.invariant none
+          ∙ longest_step size c.loop-v.best.now d xs i c.loop-v-test.true (omega arith)
+          ∙ ap (λ (x : g.row.T.Denot). longest_from size x (drop (i + 1) xs)) (sym c.v-item.is))
       | else-size w ↦ rw w.best-is (c.loop-v.invariant none ∙ longest_stay size c.loop-v.best.now d xs i c.loop-v-test.true (omega arith))
     ]
 
 pub returns : goal.returns
-returns g c none = sym (c.loop-v.invariant none ∙ ap (λ (xs : List g.row.T.Denot). longest_from g.T.Listed.size c.loop-v.best.now xs) (drop_all c.loop-v.v-index c.args.values.now c.loop-v-test.false))
+returns g c none =
+    sym (c.loop-v.invariant none
+    ∙ ap (λ (xs : List g.row.T.Denot). longest_from g.T.Listed.size c.loop-v.best.now xs)
+    (drop_all c.loop-v.v-index c.args.values.now c.loop-v-test.false))

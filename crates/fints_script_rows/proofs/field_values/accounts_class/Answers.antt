@@ -9,7 +9,12 @@ AreApart accounts = AllPairs (λ s t. s ≢ t) accounts
 
 pub returns-then-not-distinct : goal.returns-then-not-distinct
 returns-then-not-distinct c =
-    inr (accounts_twice c.args.accounts.items c.requires (λ apart. false≢true (sym c.if-not-distinct.true ∙ c.in_ok-distinct.ensures.1 (subst AreApart (sym c.deref.ensures.value) apart))))
+    inr
+    (accounts_twice c.args.accounts.items c.requires
+    (λ apart.
+    false≢true
+    (sym c.if-not-distinct.true
+    ∙ c.in_ok-distinct.ensures.1 (subst AreApart (sym c.deref.ensures.value) apart))))
 
 pub returns-in-None : goal.returns-in-None
 returns-in-None c =
@@ -20,4 +25,6 @@ pub returns-in-Some : goal.returns-in-Some
 returns-in-Some c =
     let class = c.in-Some.class in
     let values = c.in-Some.ensures.values ∙ c.new.ensures in
-    accounts_made c.args.accounts.items c.requires (subst AreAccounts values (class.some, class.few, class.each, class.distinct)) ∙ ap (λ l. Ok (account l)) (sym values)
+    accounts_made c.args.accounts.items c.requires
+    (subst AreAccounts values (class.some, class.few, class.each, class.distinct))
+    ∙ ap (λ l. Ok (account l)) (sym values)

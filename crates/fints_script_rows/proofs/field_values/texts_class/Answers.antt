@@ -9,7 +9,12 @@ AreApart texts = AllPairs (λ s t. s ≢ t) texts
 
 pub returns-then-not-distinct : goal.returns-then-not-distinct
 returns-then-not-distinct c =
-    inr (texts_twice c.args.texts.items (λ apart. false≢true (sym c.if-not-distinct.true ∙ c.in_ok-distinct.ensures.1 (subst AreApart (sym c.deref.ensures.value) apart))))
+    inr
+    (texts_twice c.args.texts.items
+    (λ apart.
+    false≢true
+    (sym c.if-not-distinct.true
+    ∙ c.in_ok-distinct.ensures.1 (subst AreApart (sym c.deref.ensures.value) apart))))
 
 pub returns-in-None : goal.returns-in-None
 returns-in-None c =

@@ -10,6 +10,17 @@ pub loop-i-preserved : goal.loop-i-preserved
 loop-i-preserved c name =
     let here : c.loop-i.i < length c.args.rows.now = omega arith in
     elim c.match-name_in.branch [
-      | in-Some+in_ok-note w ↦ ap (λ m. place_in m name) w.places-is ∙ w.in_ok-note.ensures name ∙ row_more c.args.rows.now c.loop-i.i c.index-rows-i.result name _ _ here (named_as name w.in-Some.name.now (view (get_or c.args.rows.now c.loop-i.i c.index-rows-i.result)) (w.in-Some.ensures ∙ ap (λ row. name_in (view row)) c.index-rows-i.is)) (c.loop-i.invariant name)
-      | in_default w ↦ ap (λ m. place_in m name) w.places-is ∙ sym (nameless _ c.loop-i.i) ∙ row_more c.args.rows.now c.loop-i.i c.index-rows-i.result name _ false here (not_named name (view (get_or c.args.rows.now c.loop-i.i c.index-rows-i.result)) (w.in_default.ensures ∙ ap (λ row. name_in (view row)) c.index-rows-i.is)) (c.loop-i.invariant name)
+      | in-Some+in_ok-note w ↦
+          ap (λ m. place_in m name) w.places-is ∙ w.in_ok-note.ensures name
+          ∙ row_more c.args.rows.now c.loop-i.i c.index-rows-i.result name _ _ here
+          (named_as name w.in-Some.name.now
+          (view (get_or c.args.rows.now c.loop-i.i c.index-rows-i.result))
+          (w.in-Some.ensures ∙ ap (λ row. name_in (view row)) c.index-rows-i.is))
+          (c.loop-i.invariant name)
+      | in_default w ↦
+          ap (λ m. place_in m name) w.places-is ∙ sym (nameless _ c.loop-i.i)
+          ∙ row_more c.args.rows.now c.loop-i.i c.index-rows-i.result name _ false here
+          (not_named name (view (get_or c.args.rows.now c.loop-i.i c.index-rows-i.result))
+          (w.in_default.ensures ∙ ap (λ row. name_in (view row)) c.index-rows-i.is))
+          (c.loop-i.invariant name)
     ]

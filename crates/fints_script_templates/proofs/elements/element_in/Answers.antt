@@ -9,5 +9,7 @@ use Rattle.fints_script_templates.proofs.elements.element_in.Goals as goal
 pub returns-in-Array : goal.returns-in-Array
 returns-in-Array c =
     subst (λ (part : Part (List TemplateItem)). Gives (λ v. v.items) c.array_in.result part)
-    (ap (λ vs. array_in c.args.fields.now (map view vs)) c.as_slice.ensures.value ∙ of_array (element_in c.args.fields.now c.args.free) (array_in c.args.fields.now) (λ ds. refl) c.args.value.now c.in-Array.values c.in-Array.is)
+    (ap (λ vs. array_in c.args.fields.now (map view vs)) c.as_slice.ensures.value
+    ∙ of_array (element_in c.args.fields.now c.args.free) (array_in c.args.fields.now) (λ ds. refl)
+    c.args.value.now c.in-Array.values c.in-Array.is)
     c.array_in.ensures

@@ -10,6 +10,11 @@ pub loop-value-preserved : goal.loop-value-preserved
 loop-value-preserved c =
     let element = element_in c.args.fields.now c.args.free in
     let items = seen (λ v. v.items) c.element_in.result in
-    each_step (λ e. e) element c.args.values.now c.loop-value.value-index c.value-item.result c.loop-value.elements c.more_elements-elements.result items c.loop-value-test.true c.value-item.is c.loop-value.invariant
+    each_step (λ e. e) element c.args.values.now c.loop-value.value-index c.value-item.result
+    c.loop-value.elements c.more_elements-elements.result items c.loop-value-test.true c.value-item.is
+    c.loop-value.invariant
     (gives_seen (λ v. v.items) c.element_in.result (element (view c.value-item.result)) c.element_in.ensures)
-    (subst (λ (p : Part (List (List TemplateItem))). Gives (λ e. e) c.more_elements-elements.result (more p items)) (sym (seen_same c.loop-value.elements)) c.more_elements-elements.ensures)
+    (subst
+    (λ (p : Part (List (List TemplateItem))).
+    Gives (λ e. e) c.more_elements-elements.result (more p items))
+    (sym (seen_same c.loop-value.elements)) c.more_elements-elements.ensures)

@@ -10,4 +10,5 @@ returns c =
     let fields = c.args.fields.now in
     let ms = table_view c.args.table.now in
     subst (λ r. Gives (λ p. p) r (frames_in fields ms)) (sym c.both.ensures)
-    (both_gives (λ e. e) (λ e. e) c.frame_at.result c.frame_at-2.result (frame_at (codes "head") fields ms) (frame_at (codes "end") fields ms) c.frame_at.ensures c.frame_at-2.ensures)
+    (both_gives (λ e. e) (λ e. e) c.frame_at.result c.frame_at-2.result (frame_at (codes "head") fields ms)
+    (frame_at (codes "end") fields ms) c.frame_at.ensures c.frame_at-2.ensures)

@@ -16,13 +16,17 @@ pub loop-found-preserved-in-Continue-branch-2 : goal.loop-found-preserved-in-Con
 loop-found-preserved-in-Continue-branch-2 c =
     let f = c.loop-found in
     rw (c.in_ok-close.ensures.closed, c.in_ok-add.ensures.added)
-    (filled_other (drop 1 (values_of (read_segment c.args.source.now))) f.cursor c.step.new.self f.filling.elements f.filling.items c.in-Some.found f.invariant c.in-Some.ensures.taken c.if-found-ne58.true)
+    (filled_other (drop 1 (values_of (read_segment c.args.source.now))) f.cursor c.step.new.self
+    f.filling.elements f.filling.items c.in-Some.found f.invariant c.in-Some.ensures.taken
+    c.if-found-ne58.true)
 
 pub loop-found-preserved : goal.loop-found-preserved
 loop-found-preserved c =
     let f = c.loop-found in
     rw c.in_ok-add.ensures.added
-    (filled_colon (drop 1 (values_of (read_segment c.args.source.now))) f.cursor c.step.new.self f.filling.elements f.filling.items c.in-Some.found f.invariant c.in-Some.ensures.taken c.if-found-ne58.false)
+    (filled_colon (drop 1 (values_of (read_segment c.args.source.now))) f.cursor c.step.new.self
+    f.filling.elements f.filling.items c.in-Some.found f.invariant c.in-Some.ensures.taken
+    c.if-found-ne58.false)
 
 abbrev make : List (List OwnedItem) → List OwnedItem → flat.Filled
 make es is = record { elements = es; items = is }
@@ -30,5 +34,7 @@ make es is = record { elements = es; items = is }
 pub returns : goal.returns
 returns c =
     let f = c.loop-found in
-    let e = filled_end (drop 1 (values_of (read_segment c.args.source.now))) f.cursor f.filling.elements f.filling.items f.invariant c.in_default.ensures.end.0 in
+    let e =
+    filled_end (drop 1 (values_of (read_segment c.args.source.now))) f.cursor f.filling.elements
+    f.filling.items f.invariant c.in_default.ensures.end.0 in
     ap (λ x. make x f.filling.items) e.0 ∙ ap (λ x. make (drop 1 (values_of (read_segment c.args.source.now))) x) e.1

@@ -21,12 +21,14 @@ loop-start-preserved g c =
     let l = c.loop-start in
     let p = record { start = l.start; segment = c.in-Ok.segment } ∷ [] in
     let f = rw c.split_at.ensures.back at c.in-Ok.ensures.found in
-    let e : c.split_at-in-Ok.result.1.now ≡ drop c.in-Ok.len (drop l.start c.args.bytes.now) = c.split_at-in-Ok.ensures.back ∙ ap (drop c.in-Ok.len) c.split_at.ensures.back in
+    let e : c.split_at-in-Ok.result.1.now ≡ drop c.in-Ok.len (drop l.start c.args.bytes.now) =
+    c.split_at-in-Ok.ensures.back ∙ ap (drop c.in-Ok.len) c.split_at.ensures.back in
     let b = rw e at c.breaks_len.ensures.breaks in
     let w = rw e at c.breaks_len.ensures.within in
     let n = rw e at c.breaks_len.ensures.clean in (
       l.invariant.0 ++ p,
-      going_more c.args.bytes.now l.whole l.start l.search c.new-search.result l.invariant.0 c.in-Ok.segment c.in-Ok.len c.breaks_len.result l.invariant.1 f.0 f.1 f.2 w b n c.new-search.ensures,
+      going_more c.args.bytes.now l.whole l.start l.search c.new-search.result l.invariant.0 c.in-Ok.segment
+          c.in-Ok.len c.breaks_len.result l.invariant.1 f.0 f.1 f.2 w b n c.new-search.ensures,
       taken_more g.T.Taker.good c.args.taker.now l.taker c.take.new.self c.args.at l.invariant.0 p l.invariant.2 c.in_ok-take-in-Ok.ensures,
     )
 
@@ -34,7 +36,10 @@ pub returns-then-is_unfinished-clause-read : goal.returns-then-is_unfinished-cla
 returns-then-is_unfinished-clause-read g c =
     let l = c.loop-start in
     let same : c.in-Err.fault.kind ≡ Incomplete = c.is_unfinished.ensures.0 c.if-is_unfinished.true in
-    let r = going_unfinished c.args.bytes.now c.split_at.result.1.now l.whole l.start l.search c.parse_on.new.search l.invariant.0 c.in-Err.fault.kind c.in-Err.fault.offset l.invariant.1 c.split_at.ensures.back same c.in-Err.ensures.fault (c.in-Err.ensures.searched same) in
+    let r =
+    going_unfinished c.args.bytes.now c.split_at.result.1.now l.whole l.start l.search
+    c.parse_on.new.search l.invariant.0 c.in-Err.fault.kind c.in-Err.fault.offset l.invariant.1
+    c.split_at.ensures.back same c.in-Err.ensures.fault (c.in-Err.ensures.searched same) in
     (l.invariant.0, rw c.read_to.ensures r, l.invariant.2)
 
 pub overflow_add-result : goal.overflow_add-result
@@ -53,9 +58,21 @@ pub returns-in-Err-clause-stopped : goal.returns-in-Err-clause-stopped
 returns-in-Err-clause-stopped g c =
     let l = c.loop-start in
     let other : c.in-Err.fault.kind ≡ Incomplete → ⊥ = λ e. let t = c.is_unfinished.ensures.1 e in absurd cc in
-    inr (l.start + c.in-Err.fault.offset, refl, other, going_faults c.args.bytes.now c.split_at.result.1.now l.whole l.start l.search l.invariant.0 c.in-Err.fault.kind c.in-Err.fault.offset l.invariant.1 c.split_at.ensures.back c.loop-start-test.true c.in-Err.ensures.fault)
+    inr (
+      l.start + c.in-Err.fault.offset,
+      refl,
+      other,
+      going_faults c.args.bytes.now c.split_at.result.1.now l.whole l.start l.search l.invariant.0
+          c.in-Err.fault.kind c.in-Err.fault.offset l.invariant.1 c.split_at.ensures.back
+          c.loop-start-test.true c.in-Err.ensures.fault,
+    )
 
 pub returns-clause-read : goal.returns-clause-read
 returns-clause-read g c =
-    let l = c.loop-start in
-    (l.invariant.0, rw c.read_to-2.ensures (going_end c.args.bytes.now l.whole l.start l.search l.invariant.0 l.invariant.1 (inl (drop_all l.start c.args.bytes.now (omega arith)))), l.invariant.2)
+    let l = c.loop-start in (
+      l.invariant.0,
+      rw c.read_to-2.ensures
+          (going_end c.args.bytes.now l.whole l.start l.search l.invariant.0 l.invariant.1
+          (inl (drop_all l.start c.args.bytes.now (omega arith)))),
+      l.invariant.2,
+    )

@@ -26,10 +26,14 @@ invariant_of-result c =
     }
 
 pub returns-in-Bad-clause-only : goal.returns-in-Bad-clause-only
-returns-in-Bad-clause-only c = subst (λ w. BeginsWithSegment w → ⊥) c.window-window.ensures.window (bad_only c.window-window.result.now c.in-Bad.at c.in-Bad.ensures)
+returns-in-Bad-clause-only c =
+    subst (λ w. BeginsWithSegment w → ⊥) c.window-window.ensures.window
+    (bad_only c.window-window.result.now c.in-Bad.at c.in-Bad.ensures)
 
 pub returns-in-TooMany-clause-only : goal.returns-in-TooMany-clause-only
-returns-in-TooMany-clause-only c = subst (λ w. BeginsWithSegment w → ⊥) c.window-window.ensures.window (too_many_only c.window-window.result.now c.in-TooMany.ensures)
+returns-in-TooMany-clause-only c =
+    subst (λ w. BeginsWithSegment w → ⊥) c.window-window.ensures.window
+    (too_many_only c.window-window.result.now c.in-TooMany.ensures)
 
 pub returns-after-input-lt-MAX_BYTES-clause-fault : goal.returns-after-input-lt-MAX_BYTES-clause-fault
 returns-after-input-lt-MAX_BYTES-clause-fault c =
@@ -47,7 +51,9 @@ returns-in-Some-clause-found c =
     let h : head_of (values_of (read_segment c.split_at.result.0.now)) ≡ Some c.in-Some.head = sym c.in-Some.ensures in
     let le : c.in-End.len ≤ length w = frame_len w c.in-End.len c.in-End.elements f in
     let le' : c.in-End.len ≤ length (window_of c.args.input.now) = rw (← c.window-window.ensures.window) le in
-    let t : take c.in-End.len c.args.input.now ≡ take c.in-End.len w = take_window c.args.input.now c.in-End.len le' ∙ ap (take c.in-End.len) (sym c.window-window.ensures.window) in (
+    let t : take c.in-End.len c.args.input.now ≡ take c.in-End.len w =
+    take_window c.args.input.now c.in-End.len le'
+    ∙ ap (take c.in-End.len) (sym c.window-window.ensures.window) in (
       rw e (frame_segment w c.in-End.len c.in-End.elements c.in-Some.head f (rw e at h)),
       t ∙ rw e (frame_text w c.in-End.len c.in-End.elements f).text,
       omega (arith, length-take 1048576 c.args.input.now),

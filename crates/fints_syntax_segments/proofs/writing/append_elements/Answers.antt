@@ -17,7 +17,10 @@ loop-i-preserved c =
     ] in
     let new : c.append_element.new.out.items ≡ c.loop-i.out.items ++ element_text end (get_or es i []) =
     c.in_ok-append_element.ensures.written ∙ ap (λ s. c.loop-i.out.items ++ element_text end s) c.items.ensures in
-    let text = moves c.loop-i.out.items c.append_element.new.out.items (elements_text (drop i es)) (element_text end (get_or es i [])) (elements_text (drop (i + 1) es)) (c.args.out.now.items ++ elements_text es) e c.loop-i.invariant.text new in
+    let text =
+    moves c.loop-i.out.items c.append_element.new.out.items (elements_text (drop i es))
+    (element_text end (get_or es i [])) (elements_text (drop (i + 1) es))
+    (c.args.out.now.items ++ elements_text es) e c.loop-i.invariant.text new in
     let element = kept_more c.loop-i.out.items c.append_element.new.out.items _ new in
     record {
       text = text;
@@ -26,5 +29,7 @@ loop-i-preserved c =
 
 pub returns-in_err-append_element-clause-kept : goal.returns-in_err-append_element-clause-kept
 returns-in_err-append_element-clause-kept c =
-    let kept : KeepsFront c.args.out.now.items c.append_element.new.out.items = kept_after c.args.out.now.items c.loop-i.out.items c.append_element.new.out.items c.loop-i.invariant.kept c.in_err-append_element.ensures.kept in
+    let kept : KeepsFront c.args.out.now.items c.append_element.new.out.items =
+    kept_after c.args.out.now.items c.loop-i.out.items c.append_element.new.out.items
+    c.loop-i.invariant.kept c.in_err-append_element.ensures.kept in
     search rules

@@ -8,7 +8,9 @@ use Rattle.fints_syntax_toml.proofs.document.only_keys.Goals as goal
 
 pub returns-then-not-is_among : goal.returns-then-not-is_among
 returns-then-not-is_among c =
-    let seen : false ≡ list_all (λ k. is_among (map (λ n. n.now) c.args.names.now) (string_bytes k)) (keys_of c.args.table.now.entries) = grind (arith, common_steps) in
+    let seen : false ≡ list_all (λ k. is_among (map (λ n. n.now) c.args.names.now) (string_bytes k))
+    (keys_of c.args.table.now.entries) =
+    grind (arith, common_steps) in
     seen ∙ only_keys_view _ c.args.table.now.entries
 
 pub returns : goal.returns

@@ -6,4 +6,5 @@ use Rattle.fints_syntax_toml.proofs.document.only_keys.Given as goal
 
 abbrev pub invariant-loop-key : goal.invariant-loop-key
 invariant-loop-key l =
-    list_all (λ k. is_among (map (λ n. n.now) l.names) (string_bytes k)) l.key-iterator ≡ list_all (λ k. is_among (map (λ n. n.now) l.names) (string_bytes k)) (keys_of l.table.entries)
+    list_all (λ k. is_among (map (λ n. n.now) l.names) (string_bytes k)) l.key-iterator ≡ list_all
+    (λ k. is_among (map (λ n. n.now) l.names) (string_bytes k)) (keys_of l.table.entries)

@@ -22,15 +22,30 @@ later_text-requires-clause-filled c =
     let script = c.args.plan.now.script in
     let step = c.step-step.result.now in
     let h = sound_step_of c.args.step step c.step-step.ensures.read c.step-step.ensures.numbered in
-    subst (λ (f : FillingValue). TemplatesAreFilled f (templates_of script step)) (sym (filling_is c.in_ok-filling.filling c.fields.result.now c.args.plan.now.script.fields c.pairs.result.now c.args.values.now c.args.number c.in_ok-filling.ensures c.fields.ensures c.pairs.ensures)) (templates_filled script c.args.values.now c.args.number (sound_of c.step-step.ensures.read) c.requires.admits step h)
+    subst (λ (f : FillingValue). TemplatesAreFilled f (templates_of script step))
+    (sym (filling_is c.in_ok-filling.filling c.fields.result.now c.args.plan.now.script.fields
+    c.pairs.result.now c.args.values.now c.args.number c.in_ok-filling.ensures c.fields.ensures
+    c.pairs.ensures))
+    (templates_filled script c.args.values.now c.args.number (sound_of c.step-step.ensures.read)
+    c.requires.admits step h)
 
 pub later_text-requires-clause-seal : goal.later_text-requires-clause-seal
 later_text-requires-clause-seal c =
-    subst (λ (f : FillingValue). AreFilled f (seal_of c.args.plan.now.script)) (sym (filling_is c.in_ok-filling.filling c.fields.result.now c.args.plan.now.script.fields c.pairs.result.now c.args.values.now c.args.number c.in_ok-filling.ensures c.fields.ensures c.pairs.ensures)) (sealed_filled c.args.plan.now.script c.args.values.now c.args.number (sound_of c.step-step.ensures.read) c.requires.admits)
+    subst (λ (f : FillingValue). AreFilled f (seal_of c.args.plan.now.script))
+    (sym (filling_is c.in_ok-filling.filling c.fields.result.now c.args.plan.now.script.fields
+    c.pairs.result.now c.args.values.now c.args.number c.in_ok-filling.ensures c.fields.ensures
+    c.pairs.ensures))
+    (sealed_filled c.args.plan.now.script c.args.values.now c.args.number
+    (sound_of c.step-step.ensures.read) c.requires.admits)
 
 pub message_text-requires : goal.message_text-requires
 message_text-requires c =
-    subst (λ (f : FillingValue). 0 < length f.dialog) (sym (filling_is c.in_ok-filling.filling c.fields.result.now c.args.plan.now.script.fields c.pairs.result.now c.args.values.now c.args.number c.in_ok-filling.ensures c.fields.ensures c.pairs.ensures)) (dialog_some c.args.plan.now.script c.args.values.now c.args.number (sound_of c.step-step.ensures.read) c.requires.admits)
+    subst (λ (f : FillingValue). 0 < length f.dialog)
+    (sym (filling_is c.in_ok-filling.filling c.fields.result.now c.args.plan.now.script.fields
+    c.pairs.result.now c.args.values.now c.args.number c.in_ok-filling.ensures c.fields.ensures
+    c.pairs.ensures))
+    (dialog_some c.args.plan.now.script c.args.values.now c.args.number
+    (sound_of c.step-step.ensures.read) c.requires.admits)
 
 pub returns-clause-bytes : goal.returns-clause-bytes
 returns-clause-bytes c s found =
@@ -43,7 +58,9 @@ returns-clause-bytes c s found =
     let same : step ≡ s = sym (found_at script.steps i step step c.step-step.ensures.step) ∙ found_at script.steps i s step found in
     let text : later ≡ segments_text (later_segments script step filling number) = c.as_slice.ensures.value ∙ c.in_ok-later.ensures in
     let message = message_is script step filling number later text in
-    let full = filling_is filling c.fields.result.now script.fields c.pairs.result.now c.args.values.now number c.in_ok-filling.ensures c.fields.ensures c.pairs.ensures in
+    let full =
+    filling_is filling c.fields.result.now script.fields c.pairs.result.now c.args.values.now number
+    c.in_ok-filling.ensures c.fields.ensures c.pairs.ensures in
     c.in_ok-message.ensures
     ∙ message
     ∙ ap (λ (f : FillingValue). segments_text (message_with script step f number (message_size script step f number))) full

@@ -27,4 +27,9 @@ loop-i-preserved c =
     let lt : i < length ts = omega arith in
     let new : c.write_part.new.out.items ≡ c.loop-i.out.items ++ written_segment (filled_segment filling (i + 2) (get_or ts i t)) =
     c.in_ok-write_part.ensures ∙ ap (λ (x : Template). c.loop-i.out.items ++ written_segment (filled_segment filling (i + 2) x)) (c.part_at-part.ensures t) in
-    moves c.loop-i.out.items c.write_part.new.out.items (segments_text (filled_segments filling (i + 2) (drop i ts))) (written_segment (filled_segment filling (i + 2) (get_or ts i t))) (segments_text (filled_segments filling (i + 1 + 2) (drop (i + 1) ts))) (segments_text (inner_segments script c.args.step.now filling)) (segments_more filling i ts t lt) c.loop-i.invariant new
+    moves c.loop-i.out.items c.write_part.new.out.items
+    (segments_text (filled_segments filling (i + 2) (drop i ts)))
+    (written_segment (filled_segment filling (i + 2) (get_or ts i t)))
+    (segments_text (filled_segments filling (i + 1 + 2) (drop (i + 1) ts)))
+    (segments_text (inner_segments script c.args.step.now filling)) (segments_more filling i ts t lt)
+    c.loop-i.invariant new

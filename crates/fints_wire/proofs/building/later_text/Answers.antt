@@ -11,7 +11,8 @@ returns c =
     let between = between_segments script step c.args.filling.now in
     let count = c.part_count.ensures.count script in
     let n : c.part_count.result + 2 ≡ 2 + length (templates_of script step) = omega (arith, count) in
-    let last : c.in_ok-last.last ≡ last_segment (2 + length (templates_of script step)) c.args.number = c.in_ok-last.ensures ∙ ap (λ k. last_segment k c.args.number) n in
+    let last : c.in_ok-last.last ≡ last_segment (2 + length (templates_of script step)) c.args.number =
+    c.in_ok-last.ensures ∙ ap (λ k. last_segment k c.args.number) n in
     c.in_ok-write_segment.ensures.written
     ∙ ap (λ text. text ++ written_segment c.in_ok-last.last) c.in_ok-out.ensures
     ∙ ap (λ s. segments_text between ++ written_segment s) last

@@ -11,5 +11,8 @@ build-requires-clause-last c =
 pub returns : goal.returns
 returns c =
     let here = numbered_at c.args.plan.now.script.steps c.args.visit.step c.requires.within.from c.requires.within.to in
-    let bytes = c.in_ok-bytes.ensures.bytes here.0 (subst (λ n. slice_get c.args.plan.now.script.steps (n - 1) ≡ Some here.0) (sym c.from.ensures) (numbered_from c.args.plan.now.script.steps c.args.visit.step here.0 here.1)) in
+    let bytes =
+    c.in_ok-bytes.ensures.bytes here.0
+    (subst (λ n. slice_get c.args.plan.now.script.steps (n - 1) ≡ Some here.0) (sym c.from.ensures)
+    (numbered_from c.args.plan.now.script.steps c.args.visit.step here.0 here.1)) in
     record { at = here.0; of = here.1; is = ap (λ b. record { step = c.args.visit.step; number = c.args.visit.number; bytes = b }) (c.new.ensures ∙ bytes) }

@@ -6,7 +6,9 @@ use Rattle.fints_wire.proofs.worst.message_size.Goals as goal
 pub overflow_add-result-2 : goal.overflow_add-result-2
 overflow_add-result-2 c =
     let script = c.args.plan.now.script in
-    let short = step_short script c.args.step.now (longest_sizes script.fields c.args.number) c.args.number c.requires.step (longest_within script c.args.number c.requires.sound) c.requires.number in
+    let short =
+    step_short script c.args.step.now (longest_sizes script.fields c.args.number) c.args.number
+    c.requires.step (longest_within script c.args.number c.requires.sound) c.requires.number in
     let whole = short.whole in
     let middle = c.middle_size-middle.ensures in
     let within = (longest_within script c.args.number c.requires.sound).dialog in

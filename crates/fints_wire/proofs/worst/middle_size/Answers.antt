@@ -7,7 +7,9 @@ use Rattle.fints_wire.proofs.worst.middle_size.Goals as goal
 pub envelope_size-envelope-requires : goal.envelope_size-envelope-requires
 envelope_size-envelope-requires c =
     let script = c.args.plan.now.script in
-    let short = step_short script c.args.step.now (longest_sizes script.fields c.args.number) c.args.number c.requires.step (longest_within script c.args.number c.requires.sound) c.requires.number in
+    let short =
+    step_short script c.args.step.now (longest_sizes script.fields c.args.number) c.args.number
+    c.requires.step (longest_within script c.args.number c.requires.sound) c.requires.number in
     let inner = short.inner in
     let size = c.segments_size-inner.ensures in
     omega arith
@@ -22,6 +24,15 @@ seal_size-requires c =
     let inner = c.segments_size-inner.ensures in
     let envelope = c.envelope_size-envelope.ensures in
     let sealed : step.sealed ≡ true = sym c.sealed.ensures ∙ c.if-not-sealed.false in
-    let middle : middle_len step.sealed (elements_len sizes (seal_of script)) (segments_len sizes 2 (templates_of script step)) ≡ middle_len true (elements_len sizes (seal_of script)) (segments_len sizes 2 (templates_of script step)) = ap (λ (b : Bool). middle_len b (elements_len sizes (seal_of script)) (segments_len sizes 2 (templates_of script step))) sealed in
-    let bytes : binary_size c.segments_size-inner.result ≡ binary_size (segments_len sizes 2 (templates_of script step)) = ap (λ (n : ℕ). binary_size n) inner in
+    let middle : middle_len step.sealed (elements_len sizes (seal_of script))
+    (segments_len sizes 2 (templates_of script step)) ≡ middle_len true
+    (elements_len sizes (seal_of script)) (segments_len sizes 2 (templates_of script step)) =
+    ap
+    (λ (b : Bool).
+    middle_len b (elements_len sizes (seal_of script))
+    (segments_len sizes 2 (templates_of script step)))
+    sealed in
+    let bytes : binary_size c.segments_size-inner.result ≡ binary_size
+    (segments_len sizes 2 (templates_of script step)) =
+    ap (λ (n : ℕ). binary_size n) inner in
     omega arith

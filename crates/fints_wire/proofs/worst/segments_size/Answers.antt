@@ -24,7 +24,9 @@ count_part-size-requires c =
     let inv = c.loop-i.invariant in
     let d = segments-drop sizes (i + 2) i ts t lt in
     let k = small_templates script step (map figures_of script.fields) c.requires.step i t lt in
-    let same : head_len t.kind (i + 2) t.version + elements_len sizes t.elements ≡ head_len (get_or ts i t).kind (i + 2) (get_or ts i t).version + elements_len sizes (get_or ts i t).elements = ap (λ (x : Template). head_len x.kind (i + 2) x.version + elements_len sizes x.elements) e in
+    let same : head_len t.kind (i + 2) t.version + elements_len sizes t.elements ≡ head_len
+    (get_or ts i t).kind (i + 2) (get_or ts i t).version + elements_len sizes (get_or ts i t).elements =
+    ap (λ (x : Template). head_len x.kind (i + 2) x.version + elements_len sizes x.elements) e in
     record { kind = subst (λ (x : Template). IsKindText x.kind) (sym e) k.0; small = omega arith }
 
 pub loop-i-preserved : goal.loop-i-preserved
@@ -43,8 +45,12 @@ loop-i-preserved c =
     let inv = c.loop-i.invariant in
     let d = segments-drop sizes (i + 2) i ts t lt in
     let next : i + 2 + 1 ≡ i + 1 + 2 = omega arith in
-    let later : segments_len sizes (i + 2 + 1) (drop (i + 1) ts) ≡ segments_len sizes (i + 1 + 2) (drop (i + 1) ts) = ap (λ (n : ℕ). segments_len sizes n (drop (i + 1) ts)) next in
-    let same : head_len t.kind (i + 2) t.version + elements_len sizes t.elements ≡ head_len (get_or ts i t).kind (i + 2) (get_or ts i t).version + elements_len sizes (get_or ts i t).elements = ap (λ (x : Template). head_len x.kind (i + 2) x.version + elements_len sizes x.elements) e in
+    let later : segments_len sizes (i + 2 + 1) (drop (i + 1) ts) ≡ segments_len sizes (i + 1 + 2)
+    (drop (i + 1) ts) =
+    ap (λ (n : ℕ). segments_len sizes n (drop (i + 1) ts)) next in
+    let same : head_len t.kind (i + 2) t.version + elements_len sizes t.elements ≡ head_len
+    (get_or ts i t).kind (i + 2) (get_or ts i t).version + elements_len sizes (get_or ts i t).elements =
+    ap (λ (x : Template). head_len x.kind (i + 2) x.version + elements_len sizes x.elements) e in
     let size = c.count_part-size.ensures in
     omega arith
 

@@ -21,7 +21,9 @@ returns-clause-attained c s found =
     let number = c.args.number in
     let same = same_Some c.step.result.now s (sym c.step.ensures.numbered ∙ found) in
     c.message_size.ensures
-    ∙ size_attained script c.step.result.now number (sound_of c.step.ensures.read) (sound_step_of c.args.step c.step.result.now c.step.ensures.read c.step.ensures.numbered) c.requires.last
+    ∙ size_attained script c.step.result.now number (sound_of c.step.ensures.read)
+    (sound_step_of c.args.step c.step.result.now c.step.ensures.read c.step.ensures.numbered)
+    c.requires.last
     ∙ ap (λ (x : StepValue). length (message_bytes script x number (longest_choice script.fields))) same
 
 pub returns-clause-most : goal.returns-clause-most
@@ -29,7 +31,10 @@ returns-clause-most c s values lower found admits low le =
     let script = c.args.plan.now.script in
     let number = c.args.number in
     let same = same_Some c.step.result.now s (sym c.step.ensures.numbered ∙ found) in
-    let bound = size_bound script c.step.result.now number (sound_of c.step.ensures.read) (sound_step_of c.args.step c.step.result.now c.step.ensures.read c.step.ensures.numbered) c.requires.last values lower admits low le in
+    let bound =
+    size_bound script c.step.result.now number (sound_of c.step.ensures.read)
+    (sound_step_of c.args.step c.step.result.now c.step.ensures.read c.step.ensures.numbered)
+    c.requires.last values lower admits low le in
     let size = c.message_size.ensures in
     subst (λ (x : StepValue). length (message_bytes script x lower values) ≤ c.message_size.result) same (omega arith)
 
@@ -37,7 +42,14 @@ pub returns-clause-short : goal.returns-clause-short
 returns-clause-short c =
     let script = c.args.plan.now.script in
     let number = c.args.number in
-    let attained = size_attained script c.step.result.now number (sound_of c.step.ensures.read) (sound_step_of c.args.step c.step.result.now c.step.ensures.read c.step.ensures.numbered) c.requires.last in
-    let light = message_light script c.step.result.now (longest_choice script.fields) number (sound_of c.step.ensures.read) (sound_step_of c.args.step c.step.result.now c.step.ensures.read c.step.ensures.numbered) (longest_admitted script.fields) c.requires.last in
+    let attained =
+    size_attained script c.step.result.now number (sound_of c.step.ensures.read)
+    (sound_step_of c.args.step c.step.result.now c.step.ensures.read c.step.ensures.numbered)
+    c.requires.last in
+    let light =
+    message_light script c.step.result.now (longest_choice script.fields) number
+    (sound_of c.step.ensures.read)
+    (sound_step_of c.args.step c.step.result.now c.step.ensures.read c.step.ensures.numbered)
+    (longest_admitted script.fields) c.requires.last in
     let size = c.message_size.ensures in
     omega (arith, light.1)

@@ -11,7 +11,9 @@ returns-in_default-clause-refusal c = no_header c.args.text.now c.in_default.ens
 pub returns-in-None-clause-refusal : goal.returns-in-None-clause-refusal
 returns-in-None-clause-refusal c =
     let some : 0 < length c.loop-rest.rest.now = search rules in
-    refused c.args.text.now c.loop-rest.rest.now c.loop-rest.taken.lines.items c.loop-rest.line c.loop-rest.invariant.read (rw c.in-None.is at c.in_ok-more.ensures.line) (λ none. absurd (omega arith))
+    refused c.args.text.now c.loop-rest.rest.now c.loop-rest.taken.lines.items c.loop-rest.line
+    c.loop-rest.invariant.read (rw c.in-None.is at c.in_ok-more.ensures.line)
+    (λ none. absurd (omega arith))
 
 pub overflow_add-line : goal.overflow_add-line
 overflow_add-line c =
@@ -23,7 +25,9 @@ pub loop-rest-preserved : goal.loop-rest-preserved
 loop-rest-preserved c =
     let taken = rw c.in-Some-2.is at c.in_ok-more.ensures.line in
     record {
-      read = read_more c.args.text.now c.loop-rest.rest.now c.in-Some-2.more.now c.loop-rest.taken.lines.items c.take_line.new.taken.lines.items c.loop-rest.line c.loop-rest.invariant.read taken;
+      read =
+          read_more c.args.text.now c.loop-rest.rest.now c.in-Some-2.more.now c.loop-rest.taken.lines.items
+          c.take_line.new.taken.lines.items c.loop-rest.line c.loop-rest.invariant.read taken;
       names = rw c.in-Some-2.is at c.in_ok-more.ensures.names;
     }
 
@@ -38,4 +42,6 @@ pub returns-clause-certificate : goal.returns-clause-certificate
 returns-clause-certificate c =
     let done : length c.loop-rest.rest.now ≡ 0 = grind (arith, nat_tests) in
     let some : 0 < length c.loop-rest.taken.lines.items = grind (arith, nat_tests) in
-    subst (IsCertificateOf c.args.text.now) (sym c.new-3.ensures) (read_all c.args.text.now c.loop-rest.rest.now c.loop-rest.taken.lines.items c.loop-rest.line c.loop-rest.invariant.read done some)
+    subst (IsCertificateOf c.args.text.now) (sym c.new-3.ensures)
+    (read_all c.args.text.now c.loop-rest.rest.now c.loop-rest.taken.lines.items c.loop-rest.line
+    c.loop-rest.invariant.read done some)

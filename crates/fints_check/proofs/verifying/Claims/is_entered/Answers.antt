@@ -22,7 +22,9 @@ returns-in-Some c =
       λ e.
           let figures = same_Some e.figures c.in-Some.reached (sym e.named ∙ named) in
           let step = same_Some e.step c.step.result.now (sym e.at ∙ at) in
-          c.covers.ensures.1 (subst (λ s. Covers s c.args.from c.in-Some.reached.number) step (subst (λ r. Covers e.step c.args.from r.number) figures e.covers)),
+          c.covers.ensures.1
+          (subst (λ s. Covers s c.args.from c.in-Some.reached.number) step
+          (subst (λ r. Covers e.step c.args.from r.number) figures e.covers)),
     )
 
 pub returns-in-None : goal.returns-in-None

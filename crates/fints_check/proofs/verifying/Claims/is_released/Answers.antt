@@ -10,7 +10,11 @@ is_released_step-requires-clause-to c = subst (λ (v : ClaimsValue). c.args.t �
 pub returns-in-Some : goal.returns-in-Some
 returns-in-Some c =
     let named = sym c.figures.ensures ∙ c.in-Some.is in
-    let told = subst (λ (v : ClaimsValue). IsTrue c.is_released_step.result ↔ ((s : ℕ) → IsUnreleased v.script c.args.t s → ⊥)) c.self.view_is c.is_released_step.ensures in
+    let told =
+    subst
+    (λ (v : ClaimsValue).
+    IsTrue c.is_released_step.result ↔ ((s : ℕ) → IsUnreleased v.script c.args.t s → ⊥))
+    c.self.view_is c.is_released_step.ensures in
     (λ h s figures other u. told.0 h s u, λ none. told.1 (λ s u. none s c.in-Some.field-0 named u))
 
 pub returns-in-None : goal.returns-in-None

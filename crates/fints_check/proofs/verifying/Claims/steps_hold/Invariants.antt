@@ -7,4 +7,6 @@ use Rattle.fints_check.proofs.verifying.Claims.steps_hold.Given as goal
 
 -- what is named of the steps so far holds
 abbrev pub invariant-loop-n : goal.invariant-loop-n
-invariant-loop-n l = (k : ℕ) (step : StepValue) (figures : Reached) → k < l.n → numbered l.self.script.steps k ≡ Some step → Names l.self.lines k figures → LineHolds l.self.granted l.self.script l.self.lines step figures
+invariant-loop-n l =
+    (k : ℕ) (step : StepValue) (figures : Reached) → k < l.n → numbered l.self.script.steps k ≡ Some step
+    → Names l.self.lines k figures → LineHolds l.self.granted l.self.script l.self.lines step figures

@@ -22,8 +22,16 @@ returns c =
     let f = message_for inside.facts (wants_tan r) in
     let s : AtStepValue = record { granted = inside.permissions.now; script = inside.plan.now.script; n = inside.n; step = inside.step.now } in
     let d = decided inside.permissions.now inside.plan.now.script inside.n inside.step.now inside.facts c.self.invariant r in
-    let chosen = subst (λ (fields : List NamedField). StepBreaks inside.permissions.now fields inside.step.now f r place → BreaksWith inside.permissions.now fields inside.step.now f r place c.step_choice.result) c.fields.ensures c.step_choice.ensures in
+    let chosen =
     subst
-    (λ (v : AtStepValue). (other values : List NamedValue) (lower : ℕ) → Admits v.script.fields other → BreaksByContent v.granted (message_view v.script v.step lower other) r place → IsChoice (wants_tan r) v.script.fields c.step_choice.result values
+    (λ (fields : List NamedField).
+    StepBreaks inside.permissions.now fields inside.step.now f r place
+    → BreaksWith inside.permissions.now fields inside.step.now f r place c.step_choice.result)
+    c.fields.ensures c.step_choice.ensures in
+    subst
+    (λ (v : AtStepValue).
+    (other values : List NamedValue) (lower : ℕ) → Admits v.script.fields other
+    → BreaksByContent v.granted (message_view v.script v.step lower other) r place
+    → IsChoice (wants_tan r) v.script.fields c.step_choice.result values
     → AreChosenAt v r place values) c.self.view_is
     (λ other values lower admits h is. chosen_at s r f d place c.step_choice.result values (chosen (d.each lower other place admits h)) is)

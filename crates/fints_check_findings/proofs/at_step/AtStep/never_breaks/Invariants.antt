@@ -7,4 +7,7 @@ use Rattle.fints_check_findings.proofs.at_step.AtStep.never_breaks.Given as goal
 
 -- the rule is broken at no place so far
 abbrev pub invariant-loop-place : goal.invariant-loop-place
-invariant-loop-place l = (number : ℕ) (values : List NamedValue) (place : ℕ) → Admits l.self.script.fields values → place < l.place → BreaksByContent l.self.granted (message_view l.self.script l.self.step number values) l.rule place → ⊥
+invariant-loop-place l =
+    (number : ℕ) (values : List NamedValue) (place : ℕ) → Admits l.self.script.fields values → place < l.place
+    → BreaksByContent l.self.granted (message_view l.self.script l.self.step number values) l.rule place
+    → ⊥

@@ -17,6 +17,11 @@ invariant_of-result c =
       at = step.ensures.numbered;
       sound = sound_of step.ensures.read;
       sound_step = sound_step_of c.args.n step.result.now step.ensures.read step.ensures.numbered;
-      closed = λ i t there. subst (λ (table : List OrderRow). IsClosedTemplate script.fields table t) (sym c.requires.orders) (closed_segments script c.args.plan.now.orders c.keeps.ensures.closed c.args.n i step.result.now t step.ensures.numbered there);
+      closed =
+          λ i t there.
+          subst (λ (table : List OrderRow). IsClosedTemplate script.fields table t)
+          (sym c.requires.orders)
+          (closed_segments script c.args.plan.now.orders c.keeps.ensures.closed c.args.n i
+          step.result.now t step.ensures.numbered there);
       facts_are = c.step_facts.ensures;
     }

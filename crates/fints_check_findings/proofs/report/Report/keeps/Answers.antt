@@ -20,8 +20,11 @@ returns-clause-clean c =
     let script = inside.plan.now.script in
     let granted = inside.permissions.now in
     let sound = sound_of c.keeps.ensures.read in
-    let closed : (n i : ℕ) (step : StepValue) (t : Template) → numbered script.steps n ≡ Some step → slice_get step.templates i ≡ Some t → IsClosedTemplate script.fields granted.orders t =
-    λ n i step t at there. subst (λ (orders : List OrderRow). IsClosedTemplate script.fields orders t) (sym c.self.invariant.0) (closed_segments script inside.plan.now.orders c.keeps.ensures.closed n i step t at there)
+    let closed : (n i : ℕ) (step : StepValue) (t : Template) → numbered script.steps n ≡ Some step
+    → slice_get step.templates i ≡ Some t → IsClosedTemplate script.fields granted.orders t =
+    λ n i step t at there.
+    subst (λ (orders : List OrderRow). IsClosedTemplate script.fields orders t) (sym c.self.invariant.0)
+    (closed_segments script inside.plan.now.orders c.keeps.ensures.closed n i step t at there)
     in
     subst (λ (r : ReportValue). r.findings ≡ [] → SentStepsAreClean r.granted r.plan.script) c.self.view_is
     (λ none. clean_steps script granted sound closed (nothing_real granted script inside.findings.items c.self.invariant.1 none))
@@ -34,7 +37,9 @@ returns-clause-released c =
     let sound = sound_of c.keeps.ensures.read in
     let closed = subst (IsClosed script) (sym c.self.invariant.0) c.keeps.ensures.closed in
     subst (λ (r : ReportValue). r.findings ≡ [] → SentStepsAreReleased r.plan.script) c.self.view_is
-    (λ none. released_steps granted script sound (λ v s. unreleased_is_real granted script v s sound closed) (nothing_real granted script inside.findings.items c.self.invariant.1 none))
+    (λ none.
+    released_steps granted script sound (λ v s. unreleased_is_real granted script v s sound closed)
+    (nothing_real granted script inside.findings.items c.self.invariant.1 none))
 
 pub returns-clause-permitted : goal.returns-clause-permitted
 returns-clause-permitted c =

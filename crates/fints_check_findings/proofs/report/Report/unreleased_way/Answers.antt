@@ -77,7 +77,9 @@ way_behind-requires-clause-from c =
     let script = inside.plan.now.script in
     let holders = inside.holders.items in
     let f = c.args.finding in
-    let noted : Has holders f.step c.holder_of-t.result = subst (λ (xs : List (Option ℕ)). Has xs f.step c.holder_of-t.result) c.as_slice.ensures.value c.holder_of-t.ensures in
+    let noted : Has holders f.step c.holder_of-t.result =
+    subst (λ (xs : List (Option ℕ)). Has xs f.step c.holder_of-t.result) c.as_slice.ensures.value
+    c.holder_of-t.ensures in
     let h = c.self.invariant.6.each f.step c.holder_of-t.result noted in
     (numbered_within script.steps c.holder_of-t.result h.1.step h.1.at).0
 
@@ -87,7 +89,9 @@ way_behind-requires-clause-to c =
     let script = inside.plan.now.script in
     let holders = inside.holders.items in
     let f = c.args.finding in
-    let noted : Has holders f.step c.holder_of-t.result = subst (λ (xs : List (Option ℕ)). Has xs f.step c.holder_of-t.result) c.as_slice.ensures.value c.holder_of-t.ensures in
+    let noted : Has holders f.step c.holder_of-t.result =
+    subst (λ (xs : List (Option ℕ)). Has xs f.step c.holder_of-t.result) c.as_slice.ensures.value
+    c.holder_of-t.ensures in
     let h = c.self.invariant.6.each f.step c.holder_of-t.result noted in
     (numbered_within script.steps c.holder_of-t.result h.1.step h.1.at).1
 
@@ -97,7 +101,9 @@ way_behind-requires-clause-reached c =
     let script = inside.plan.now.script in
     let holders = inside.holders.items in
     let f = c.args.finding in
-    let noted : Has holders f.step c.holder_of-t.result = subst (λ (xs : List (Option ℕ)). Has xs f.step c.holder_of-t.result) c.as_slice.ensures.value c.holder_of-t.ensures in
+    let noted : Has holders f.step c.holder_of-t.result =
+    subst (λ (xs : List (Option ℕ)). Has xs f.step c.holder_of-t.result) c.as_slice.ensures.value
+    c.holder_of-t.ensures in
     let h = c.self.invariant.6.each f.step c.holder_of-t.result noted in
     h.0
 
@@ -107,10 +113,14 @@ way_behind-requires-clause-carries c step at =
     let script = inside.plan.now.script in
     let holders = inside.holders.items in
     let f = c.args.finding in
-    let noted : Has holders f.step c.holder_of-t.result = subst (λ (xs : List (Option ℕ)). Has xs f.step c.holder_of-t.result) c.as_slice.ensures.value c.holder_of-t.ensures in
+    let noted : Has holders f.step c.holder_of-t.result =
+    subst (λ (xs : List (Option ℕ)). Has xs f.step c.holder_of-t.result) c.as_slice.ensures.value
+    c.holder_of-t.ensures in
     let h = c.self.invariant.6.each f.step c.holder_of-t.result noted in
     let same : h.1.step ≡ step = same_Some h.1.step step (sym h.1.at ∙ at) in
-    subst (λ (code : ℕ). CarriesTo step c.holder_of-t.result code f.step) (sym c.release_code.ensures) (subst (λ (x : StepValue). CarriesTo x c.holder_of-t.result RELEASE f.step) same (h.1.branch, h.1.is.carried))
+    subst (λ (code : ℕ). CarriesTo step c.holder_of-t.result code f.step) (sym c.release_code.ensures)
+    (subst (λ (x : StepValue). CarriesTo x c.holder_of-t.result RELEASE f.step) same
+    (h.1.branch, h.1.is.carried))
 
 pub returns : goal.returns
 returns c =
@@ -118,10 +128,23 @@ returns c =
     let script = inside.plan.now.script in
     let holders = inside.holders.items in
     let f = c.args.finding in
-    let noted : Has holders f.step c.holder_of-t.result = subst (λ (xs : List (Option ℕ)). Has xs f.step c.holder_of-t.result) c.as_slice.ensures.value c.holder_of-t.ensures in
+    let noted : Has holders f.step c.holder_of-t.result =
+    subst (λ (xs : List (Option ℕ)). Has xs f.step c.holder_of-t.result) c.as_slice.ensures.value
+    c.holder_of-t.ensures in
     let h = c.self.invariant.6.each f.step c.holder_of-t.result noted in
     let sound = sound_of c.keeps.ensures.read in
     let u = (held_is_unreleased script inside.plan.now.orders c.holder_of-t.result f.step sound c.keeps.ensures.closed).0 h.1 in
     subst (λ (r : ReportValue). IfOk c.way_behind.result (λ answers. LeadsUnreleased r.plan.script f.step answers.items)) c.self.view_is
-    (if_ok (λ answers. LeadsBehind script.steps c.holder_of-t.result c.release_code.result f.step answers.items) (λ answers. LeadsUnreleased script f.step answers.items) c.way_behind.result
-    (λ answers way. record { before = c.holder_of-t.result; unreleased = u; leads = subst (λ (code : ℕ). LeadsBehind script.steps c.holder_of-t.result code f.step answers.items) c.release_code.ensures way }) c.way_behind.ensures)
+    (if_ok
+    (λ answers. LeadsBehind script.steps c.holder_of-t.result c.release_code.result f.step answers.items)
+    (λ answers. LeadsUnreleased script f.step answers.items) c.way_behind.result
+    (λ answers way.
+    record {
+      before = c.holder_of-t.result;
+      unreleased = u;
+      leads =
+          subst
+          (λ (code : ℕ). LeadsBehind script.steps c.holder_of-t.result code f.step answers.items)
+          c.release_code.ensures way;
+    })
+    c.way_behind.ensures)

@@ -17,7 +17,9 @@ case_values-requires-clause-from c =
     let script = inside.plan.now.script in
     let granted = inside.permissions.now in
     let sound = sound_of c.keeps.ensures.read in
-    let few : c.args.i < length inside.findings.items = subst (λ (m : ℕ). c.args.i < m) (sym (ap (λ (r : ReportValue). length r.findings) c.self.view_is)) c.requires in
+    let few : c.args.i < length inside.findings.items =
+    subst (λ (m : ℕ). c.args.i < m) (sym (ap (λ (r : ReportValue). length r.findings) c.self.view_is))
+    c.requires in
     let real = real_at granted script inside.findings.items c.args.i c.index-finding.result.now c.self.invariant.1 few c.index-finding.ensures in
     (real_within granted script sound c.index-finding.result.now real).0
 
@@ -27,7 +29,9 @@ case_values-requires-clause-to c =
     let script = inside.plan.now.script in
     let granted = inside.permissions.now in
     let sound = sound_of c.keeps.ensures.read in
-    let few : c.args.i < length inside.findings.items = subst (λ (m : ℕ). c.args.i < m) (sym (ap (λ (r : ReportValue). length r.findings) c.self.view_is)) c.requires in
+    let few : c.args.i < length inside.findings.items =
+    subst (λ (m : ℕ). c.args.i < m) (sym (ap (λ (r : ReportValue). length r.findings) c.self.view_is))
+    c.requires in
     let real = real_at granted script inside.findings.items c.args.i c.index-finding.result.now c.self.invariant.1 few c.index-finding.ensures in
     (real_within granted script sound c.index-finding.result.now real).1
 
@@ -37,16 +41,26 @@ returns-clause-shown c =
     let script = inside.plan.now.script in
     let granted = inside.permissions.now in
     let sound = sound_of c.keeps.ensures.read in
-    let few : c.args.i < length inside.findings.items = subst (λ (m : ℕ). c.args.i < m) (sym (ap (λ (r : ReportValue). length r.findings) c.self.view_is)) c.requires in
+    let few : c.args.i < length inside.findings.items =
+    subst (λ (m : ℕ). c.args.i < m) (sym (ap (λ (r : ReportValue). length r.findings) c.self.view_is))
+    c.requires in
     let real = real_at granted script inside.findings.items c.args.i c.index-finding.result.now c.self.invariant.1 few c.index-finding.ensures in
-    let report : ReportValue = record { plan = inside.plan.now; granted = granted; figures = inside.figures.items; findings = inside.findings.items; visits = inside.numbers.visits } in
+    let report : ReportValue =
+    record {
+      plan = inside.plan.now;
+      granted = granted;
+      figures = inside.figures.items;
+      findings = inside.findings.items;
+      visits = inside.numbers.visits;
+    } in
     let closed = subst (IsClosed script) (sym c.self.invariant.0) c.keeps.ensures.closed in
     subst (λ (r : ReportValue). IfOk c.case_values.result (AreValuesOf r c.args.i)) c.self.view_is
     (if_ok (AreCaseValues granted script c.index-finding.result.now) (AreValuesOf report c.args.i) c.case_values.result
     (λ values are f answers at leads.
     let same = same_at inside.findings.items c.args.i c.index-finding.result.now f few c.index-finding.ensures at in
     subst (λ (x : Finding). Shows granted script x values answers) same
-    (case_shown report sound closed c.self.invariant.2 c.index-finding.result.now values answers real are (subst (λ (x : Finding). LeadsFor script inside.figures.items x answers) (sym same) leads)))
+    (case_shown report sound closed c.self.invariant.2 c.index-finding.result.now values answers real are
+    (subst (λ (x : Finding). LeadsFor script inside.figures.items x answers) (sym same) leads)))
     c.case_values.ensures)
 
 pub returns-clause-chosen : goal.returns-clause-chosen
@@ -55,10 +69,19 @@ returns-clause-chosen c =
     let script = inside.plan.now.script in
     let granted = inside.permissions.now in
     let sound = sound_of c.keeps.ensures.read in
-    let few : c.args.i < length inside.findings.items = subst (λ (m : ℕ). c.args.i < m) (sym (ap (λ (r : ReportValue). length r.findings) c.self.view_is)) c.requires in
+    let few : c.args.i < length inside.findings.items =
+    subst (λ (m : ℕ). c.args.i < m) (sym (ap (λ (r : ReportValue). length r.findings) c.self.view_is))
+    c.requires in
     let finding = c.index-finding.result.now in
     let real = real_at granted script inside.findings.items c.args.i finding c.self.invariant.1 few c.index-finding.ensures in
-    let report : ReportValue = record { plan = inside.plan.now; granted = granted; figures = inside.figures.items; findings = inside.findings.items; visits = inside.numbers.visits } in
+    let report : ReportValue =
+    record {
+      plan = inside.plan.now;
+      granted = granted;
+      figures = inside.figures.items;
+      findings = inside.findings.items;
+      visits = inside.numbers.visits;
+    } in
     let inside_steps = real_within granted script sound finding real in
     let step = numbered_at script.steps finding.step inside_steps.0 inside_steps.1 in
     let number = real_has script granted sound inside.numbers.greatest.items c.self.invariant.4 finding real in

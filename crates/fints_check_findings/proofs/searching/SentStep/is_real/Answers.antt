@@ -13,7 +13,11 @@ returns-then-breaks_at_zero c =
     let place = c.args.place in
     let b = subst (λ (v : SentStepValue). (place ≡ 0) × BreaksAsSent v r) (sym c.self.view_is) (c.breaks_at_zero.ensures.0 c.if-breaks_at_zero.true) in
     let real = sent_real s.at s.figures s.unreleased c.self.invariant k.at k.sound k.sound_step r place b.0 b.1 in
-    subst (λ (v : SentStepValue). IsTrue c.breaks_at_zero.result ↔ IsReal v.at.granted v.at.script (record { step = v.at.n; rule = r; segment = place })) c.self.view_is (λ _. real, λ _. c.if-breaks_at_zero.true)
+    subst
+    (λ (v : SentStepValue).
+    IsTrue c.breaks_at_zero.result
+    ↔ IsReal v.at.granted v.at.script (record { step = v.at.n; rule = r; segment = place }))
+    c.self.view_is (λ _. real, λ _. c.if-breaks_at_zero.true)
 
 pub returns-else-breaks_at_zero : goal.returns-else-breaks_at_zero
 returns-else-breaks_at_zero c =
@@ -21,7 +25,11 @@ returns-else-breaks_at_zero c =
     let k = c.keeps.ensures in
     let r = c.args.rule in
     let place = c.args.place in
-    subst (λ (v : SentStepValue). IsTrue c.breaks.result ↔ IsReal v.at.granted v.at.script (record { step = v.at.n; rule = r; segment = place })) c.self.view_is (
+    subst
+    (λ (v : SentStepValue).
+    IsTrue c.breaks.result
+    ↔ IsReal v.at.granted v.at.script (record { step = v.at.n; rule = r; segment = place }))
+    c.self.view_is (
       λ t. held_real s.at s.figures s.unreleased c.self.invariant k.at k.sound k.sound_step r place (c.breaks.ensures.some t),
       λ real. elim (real_sent s.at s.figures s.unreleased c.self.invariant k.at k.sound k.sound_step r place real) [
         | inl whole ↦

@@ -35,10 +35,15 @@ loop-place-preserved c =
       | then-is_real+in_ok-push w ↦
           let number = w.number.ensures ∙ ap (λ (v : SentStepValue). v.at.n) c.self.view_is in
           let found = w.finding_at.ensures ∙ ap (finding_of r place) number in
-          subst P (sym w.findings-is) (subst (AreFoundTo s.granted s.script s.n (rule_number r) (place + 1)) (sym (w.in_ok-push.ensures.items ∙ ap (λ (f : Finding). findings ++ f ∷ []) found))
+          subst P (sym w.findings-is)
+          (subst (AreFoundTo s.granted s.script s.n (rule_number r) (place + 1))
+          (sym (w.in_ok-push.ensures.items ∙ ap (λ (f : Finding). findings ++ f ∷ []) found))
           (found_push s.granted s.script s.n place r findings (c.is_real.ensures.0 w.if-is_real.true) c.loop-place.invariant))
       | else-is_real w ↦
-          subst P (sym w.findings-is) (found_skip s.granted s.script s.n place r findings (λ real. false≢true (sym w.if-is_real.false ∙ c.is_real.ensures.1 real)) c.loop-place.invariant)
+          subst P (sym w.findings-is)
+          (found_skip s.granted s.script s.n place r findings
+          (λ real. false≢true (sym w.if-is_real.false ∙ c.is_real.ensures.1 real))
+          c.loop-place.invariant)
     ]
 
 pub returns : goal.returns
@@ -47,6 +52,9 @@ returns c =
     let inside = c.self.inside in
     let k = c.keeps.ensures in
     let few = subst (λ (v : SentStepValue). (f : Finding) → f.step ≡ v.at.n → IsReal v.at.granted v.at.script f → f.segment < c.loop-place.place) c.self.view_is
-    (λ f here real. let low = few_places inside.at inside.figures inside.unreleased c.self.invariant k.at k.sound k.sound_step f here real in omega (arith, low, c.place_count-place-end.ensures, c.loop-place-test.false))
+    (λ f here real.
+    let low = few_places inside.at inside.figures inside.unreleased c.self.invariant k.at k.sound
+    k.sound_step f here real in omega
+    (arith, low, c.place_count-place-end.ensures, c.loop-place-test.false))
     in
     found_rule s.granted s.script s.n (rule_number c.args.rule) c.loop-place.place c.loop-place.findings.items few c.loop-place.invariant

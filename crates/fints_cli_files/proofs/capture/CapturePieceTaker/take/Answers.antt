@@ -14,13 +14,31 @@ returns-then-is_some c =
 
 pub returns-in-Err-Syntax : goal.returns-in-Err-Syntax
 returns-in-Err-Syntax c =
-    let seen : FedReader = record { reader = c.self.inside.reader; fault = c.self.inside.fault; keeps = c.self.inside.keeps; kept = c.self.inside.bytes.items } in
-    let refused = subst (λ f. IsNotReceived c.self.inside.reader.failed c.self.inside.reader c.args.piece.now f c.feed.new.self) c.in-Err-Syntax.field-0-is c.in-Err-Syntax.ensures.refused in
+    let seen : FedReader =
+    record {
+      reader = c.self.inside.reader;
+      fault = c.self.inside.fault;
+      keeps = c.self.inside.keeps;
+      kept = c.self.inside.bytes.items;
+    } in
+    let refused =
+    subst
+    (λ f.
+    IsNotReceived c.self.inside.reader.failed c.self.inside.reader c.args.piece.now f
+    c.feed.new.self)
+    c.in-Err-Syntax.field-0-is c.in-Err-Syntax.ensures.refused in
     with_piece c.args.self.now seen c.feed.new.self (Some (Syntax c.in-Err-Syntax.fault)) c.args.piece.now (c.self.view_is ∙ c.in_ok-keep.ensures)
-    (fed_fault c.self.inside.fault c.self.inside.reader c.feed.new.self c.args.piece.now (Syntax c.in-Err-Syntax.fault) (sym c.if-is_some.ensures) (λ e. cc) refused)
+    (fed_fault c.self.inside.fault c.self.inside.reader c.feed.new.self c.args.piece.now
+    (Syntax c.in-Err-Syntax.fault) (sym c.if-is_some.ensures) (λ e. cc) refused)
 
 pub returns-in-Ok : goal.returns-in-Ok
 returns-in-Ok c =
-    let seen : FedReader = record { reader = c.self.inside.reader; fault = c.self.inside.fault; keeps = c.self.inside.keeps; kept = c.self.inside.bytes.items } in
+    let seen : FedReader =
+    record {
+      reader = c.self.inside.reader;
+      fault = c.self.inside.fault;
+      keeps = c.self.inside.keeps;
+      kept = c.self.inside.bytes.items;
+    } in
     with_piece c.args.self.now seen c.feed.new.self c.self.inside.fault c.args.piece.now (c.self.view_is ∙ c.in_ok-keep.ensures)
     (fed_more c.self.inside.fault c.self.inside.reader c.feed.new.self c.args.piece.now (sym c.if-is_some.ensures) c.in-Ok.ensures.received)

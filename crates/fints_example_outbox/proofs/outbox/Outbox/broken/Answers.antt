@@ -11,9 +11,13 @@ returns-in-Some c =
     let s = outbox_of c.self.inside in
     let message = c.args.message.now in
     let before = c.in-Some.before.now in
-    let last : slice_get s.sent (length s.sent - 1) ≡ Some before = ap (λ (xs : List SentValue). slice_get xs (length xs - 1)) (sym c.deref.ensures.value) ∙ sym c.in-Some.ensures.value in
+    let last : slice_get s.sent (length s.sent - 1) ≡ Some before =
+    ap (λ (xs : List SentValue). slice_get xs (length xs - 1)) (sym c.deref.ensures.value)
+    ∙ sym c.in-Some.ensures.value in
     subst (λ (v : OutboxValue). IfOk c.judge_after.result (λ broken. broken.items ≡ [] → IsNextIn v message)) c.self.view_is
-    (IfOk-weaker c.judge_after.result (λ broken. IsJudgedAfter s.granted c.message.result.now c.as_slice.result.now message broken.items) (λ broken. broken.items ≡ [] → IsNextIn s message)
+    (IfOk-weaker c.judge_after.result
+    (λ broken. IsJudgedAfter s.granted c.message.result.now c.as_slice.result.now message broken.items)
+    (λ broken. broken.items ≡ [] → IsNextIn s message)
     (λ broken h none.
     let one = permitted_after s.granted c.message.result.now c.as_slice.result.now message broken.items h none in
     let two = subst (λ (b : List ℕ). PermittedAfter s.granted b c.as_slice.result.now message) c.message.ensures one in
@@ -25,8 +29,12 @@ pub returns-in-None : goal.returns-in-None
 returns-in-None c =
     let s = outbox_of c.self.inside in
     let message = c.args.message.now in
-    let last : slice_get s.sent (length s.sent - 1) ≡ None = ap (λ (xs : List SentValue). slice_get xs (length xs - 1)) (sym c.deref.ensures.value) ∙ sym c.in-None.ensures.value in
+    let last : slice_get s.sent (length s.sent - 1) ≡ None =
+    ap (λ (xs : List SentValue). slice_get xs (length xs - 1)) (sym c.deref.ensures.value)
+    ∙ sym c.in-None.ensures.value in
     subst (λ (v : OutboxValue). IfOk c.judge.result (λ broken. broken.items ≡ [] → IsNextIn v message)) c.self.view_is
     (IfOk-weaker c.judge.result (λ broken. IsJudged s.granted message broken.items) (λ broken. broken.items ≡ [] → IsNextIn s message)
-    (λ broken h none. subst (λ (o : Option SentValue). IsPermittedAfter s.granted o s.codes message) (sym last) (permitted s.granted message broken.items h none))
+    (λ broken h none.
+    subst (λ (o : Option SentValue). IsPermittedAfter s.granted o s.codes message) (sym last)
+    (permitted s.granted message broken.items h none))
     c.judge.ensures.judged)

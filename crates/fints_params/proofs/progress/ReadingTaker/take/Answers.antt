@@ -14,11 +14,15 @@ pub returns-in-Ok : goal.returns-in-Ok
 returns-in-Ok g c =
     let view : syntax.Placed = record { start = c.args.start; segment = c.args.segment.now } in
     let none : is_some c.args.self.now.refused ≡ false = sym c.is_some.ensures ∙ c.if-is_some.false in
-    rw c.read.ensures.kept (read_next g.R.SegmentTaker.rule g.R.SegmentTaker.good c.args.self.now.refused c.args.self.now.reader c.read.new.self.reader view none c.in-Ok.ensures.ok)
+    rw c.read.ensures.kept
+    (read_next g.R.SegmentTaker.rule g.R.SegmentTaker.good c.args.self.now.refused c.args.self.now.reader
+    c.read.new.self.reader view none c.in-Ok.ensures.ok)
 
 pub returns-else-is_memory : goal.returns-else-is_memory
 returns-else-is_memory g c =
     let view : syntax.Placed = record { start = c.args.start; segment = c.args.segment.now } in
     let none : is_some c.args.self.now.refused ≡ false = sym c.is_some.ensures ∙ c.if-is_some.false in
     let other : c.in-Err.fault ≢ Memory = λ e. let t = c.is_memory.ensures.1 e in absurd cc in
-    read_stop g.R.SegmentTaker.rule g.R.SegmentTaker.good c.args.self.now.refused c.args.self.now.reader view c.in-Err.fault (λ seen h. g.met.R.SegmentTaker.none_refused seen c.args.self.now.reader h) none other c.in-Err.ensures.stopped
+    read_stop g.R.SegmentTaker.rule g.R.SegmentTaker.good c.args.self.now.refused c.args.self.now.reader view
+    c.in-Err.fault (λ seen h. g.met.R.SegmentTaker.none_refused seen c.args.self.now.reader h) none other
+    c.in-Err.ensures.stopped

@@ -13,7 +13,10 @@ pub invariant_of-self : goal.invariant_of-self
 invariant_of-self c =
     let i = c.self.inside in
     let (next, h, goes) = c.in-Ok.ensures.fed in
-    let come = come_with fault_after ParamsSoFar i.buffer c.args.piece.now next c.feed.new.self i.reading.refused c.feed.new.taker.refused i.reading.reader c.feed.new.taker.reader c.self.invariant.start c.self.invariant.come h goes in
+    let come =
+    come_with fault_after ParamsSoFar i.buffer c.args.piece.now next c.feed.new.self i.reading.refused
+    c.feed.new.taker.refused i.reading.reader c.feed.new.taker.reader c.self.invariant.start
+    c.self.invariant.come h goes in
     record {
       start = ap (λ (b : Buffered). b.at) h.new_is ∙ c.self.invariant.start;
       come = come_all fault_after ParamsSoFar i.buffer c.args.piece.now next c.feed.new.self c.feed.new.taker.refused c.feed.new.taker.reader h come;
@@ -23,23 +26,42 @@ pub invariant_of-self-in-Err : goal.invariant_of-self-in-Err
 invariant_of-self-in-Err c =
     let i = c.self.inside in
     record {
-      start = c.read_anew.ensures.kept.1 ∙ start_stays i.buffer.failed i.buffer c.args.piece.now c.in-Err.fault c.feed.new.self c.in-Err.ensures.refused ∙ c.self.invariant.start;
-      come = rw (c.new.ensures.reader, c.new.ensures.none) (come_anew fault_after ParamsSoFar c.read_anew.new.self.bytes c.read_anew.new.self.to c.no_rows.result c.read_anew.ensures.unread c.no_rows.ensures);
+      start =
+          c.read_anew.ensures.kept.1
+          ∙ start_stays i.buffer.failed i.buffer c.args.piece.now c.in-Err.fault c.feed.new.self
+          c.in-Err.ensures.refused
+          ∙ c.self.invariant.start;
+      come =
+          rw (c.new.ensures.reader, c.new.ensures.none)
+          (come_anew fault_after ParamsSoFar c.read_anew.new.self.bytes c.read_anew.new.self.to
+          c.no_rows.result c.read_anew.ensures.unread c.no_rows.ensures);
     }
 
 pub returns-in-Ok-clause-received : goal.returns-in-Ok-clause-received
 returns-in-Ok-clause-received c =
     let i = c.self.inside in
     let (next, h, goes) = c.in-Ok.ensures.fed in
-    let come = come_with fault_after ParamsSoFar i.buffer c.args.piece.now next c.feed.new.self i.reading.refused c.feed.new.taker.refused i.reading.reader c.feed.new.taker.reader c.self.invariant.start c.self.invariant.come h goes in
+    let come =
+    come_with fault_after ParamsSoFar i.buffer c.args.piece.now next c.feed.new.self i.reading.refused
+    c.feed.new.taker.refused i.reading.reader c.feed.new.taker.reader c.self.invariant.start
+    c.self.invariant.come h goes in
     let made = received fault_after ParamsSoFar i.buffer c.args.piece.now next c.feed.new.self c.feed.new.taker.refused c.feed.new.taker.reader h come in
     subst (λ (r : Received). IsReceived r c.args.piece.now (received_by c.feed.new.self)) c.self.view_is made
 
 pub returns-in-Err-clause-refused : goal.returns-in-Err-clause-refused
 returns-in-Err-clause-refused c =
     let i = c.self.inside in
-    let made = not_received fault_after ParamsSoFar i.buffer c.args.piece.now c.in-Err.fault c.feed.new.self i.reading.refused i.reading.reader c.self.invariant.start c.self.invariant.come c.in-Err.ensures.refused in
-    let kept : received_by c.feed.new.self ≡ received_by c.read_anew.new.self = λ n. record { bytes = sym c.read_anew.ensures.kept.0 n; failed = sym c.read_anew.ensures.kept.2 n } in
+    let made =
+    not_received fault_after ParamsSoFar i.buffer c.args.piece.now c.in-Err.fault c.feed.new.self
+    i.reading.refused i.reading.reader c.self.invariant.start c.self.invariant.come
+    c.in-Err.ensures.refused in
+    let kept : received_by c.feed.new.self ≡ received_by c.read_anew.new.self =
+    λ n. record { bytes = sym c.read_anew.ensures.kept.0 n; failed = sym c.read_anew.ensures.kept.2 n } in
     let here = subst (λ (new : Received). IsNotReceived i.buffer.failed (received_of i) c.args.piece.now (as_param_fault c.in-Err.fault) new) kept made in
-    let told = subst (λ (f : ParamFault). IsNotReceived i.buffer.failed (received_of i) c.args.piece.now f (received_by c.read_anew.new.self)) (sym c.from.ensures) here in
+    let told =
+    subst
+    (λ (f : ParamFault).
+    IsNotReceived i.buffer.failed (received_of i) c.args.piece.now f
+    (received_by c.read_anew.new.self))
+    (sym c.from.ensures) here in
     subst (λ (r : Received). IsNotReceived r.failed r c.args.piece.now c.from.result (received_by c.read_anew.new.self)) c.self.view_is told

@@ -11,5 +11,10 @@ pub returns-clause-refused : goal.returns-clause-refused
 returns-clause-refused c =
     let i = c.self.inside in
     let none = unfailed i.buffer.failed c.failure.result c.failure.ensures c.in_default.not-Some in
-    let own = IfErr-weaker c.params_in.result (IsMemoryOr (IsParamFault c.as_bytes.result.now)) (HasNoParams i.buffer.failed (received_of i)) (λ f h. unfinished i.buffer.failed (received_of i) c.as_bytes.result.now f none c.as_bytes.ensures h) c.params_in.ensures.refused in
+    let own =
+    IfErr-weaker c.params_in.result (IsMemoryOr (IsParamFault c.as_bytes.result.now))
+    (HasNoParams i.buffer.failed (received_of i))
+    (λ f h.
+    unfinished i.buffer.failed (received_of i) c.as_bytes.result.now f none c.as_bytes.ensures h)
+    c.params_in.ensures.refused in
     subst (λ (r : Received). IfErr c.params_in.result (λ f. HasNoParams r.failed r f)) c.self.view_is own

@@ -7,5 +7,8 @@ pub invariant_of-result : goal.invariant_of-result
 invariant_of-result c =
     record {
       start = c.new.ensures.at;
-      come = rw (c.new-2.ensures.reader, c.new-2.ensures.none) (come_anew fault_after ParamsSoFar c.new.result.bytes c.new.result.to c.no_rows.result c.new.ensures.unread c.no_rows.ensures);
+      come =
+          rw (c.new-2.ensures.reader, c.new-2.ensures.none)
+          (come_anew fault_after ParamsSoFar c.new.result.bytes c.new.result.to c.no_rows.result
+          c.new.ensures.unread c.no_rows.ensures);
     }

@@ -7,4 +7,5 @@ use Rattle.fints_rules_permissions.proofs.needs.Needs.of.Goals as goal
 pub returns : goal.returns
 returns c =
     let e : map (seen_at c.args.rows.now) c.in_ok-places.places.items ≡ seen_in c.args.rows.now = search rules in
-    subst (λ l. IsPermutation l (map (seen_at c.args.rows.now) c.sort.new.places.items)) e (IsPermutation-map (seen_at c.args.rows.now) _ _ c.sort.ensures.permutation)
+    subst (λ l. IsPermutation l (map (seen_at c.args.rows.now) c.sort.new.places.items)) e
+    (IsPermutation-map (seen_at c.args.rows.now) _ _ c.sort.ensures.permutation)

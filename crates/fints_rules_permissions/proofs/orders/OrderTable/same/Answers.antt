@@ -23,8 +23,16 @@ form_decides International International = (λ h. refl, λ h. refl)
 
 row_decides : (a b : OrderRow) → Decides (eq-value.it a b) (a ≡ b)
 row_decides a b =
-    let d = Decides-and _ _ (bytes_decides a.kind b.kind) (Decides-and _ _ (unsigned_Decides a.version b.version) (form_decides a.form b.form)) in
-    (λ h. let p = d.0 h in λ i. record { kind = p.0 i; version = p.1.0 i; form = p.1.1 i }, λ e. d.1 (ap (λ (r : OrderRow). r.kind) e, (ap (λ (r : OrderRow). r.version) e, ap (λ (r : OrderRow). r.form) e)))
+    let d = Decides-and _ _ (bytes_decides a.kind b.kind) (Decides-and _ _ (unsigned_Decides a.version b.version) (form_decides a.form b.form)) in (
+      λ h.
+          let p = d.0 h in λ i.
+          record { kind = p.0 i; version = p.1.0 i; form = p.1.1 i },
+      λ e.
+          d.1 (
+            ap (λ (r : OrderRow). r.kind) e,
+            (ap (λ (r : OrderRow). r.version) e, ap (λ (r : OrderRow). r.form) e),
+          ),
+    )
 
 pub returns : goal.returns
 returns c =

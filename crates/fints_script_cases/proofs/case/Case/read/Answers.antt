@@ -11,11 +11,15 @@ pub returns-in-None-clause-refusal : goal.returns-in-None-clause-refusal
 returns-in-None-clause-refusal c =
     let read = c.loop-rest.invariant.read in
     let some : 0 < length c.loop-rest.rest.now = search rules in
-    refused c.args.text.now c.loop-rest.rest.now c.loop-rest.taken.case.values c.loop-rest.taken.case.answers.items c.loop-rest.line read (rw c.in-None.is at c.in_ok-more.ensures.line) (λ none. absurd (omega arith))
+    refused c.args.text.now c.loop-rest.rest.now c.loop-rest.taken.case.values
+    c.loop-rest.taken.case.answers.items c.loop-rest.line read
+    (rw c.in-None.is at c.in_ok-more.ensures.line) (λ none. absurd (omega arith))
 
 pub overflow_add-line : goal.overflow_add-line
 overflow_add-line c =
-    let few = few_lines c.args.text.now c.loop-rest.rest.now c.loop-rest.taken.case.values c.loop-rest.taken.case.answers.items c.loop-rest.line c.loop-rest.invariant.read in
+    let few =
+    few_lines c.args.text.now c.loop-rest.rest.now c.loop-rest.taken.case.values
+    c.loop-rest.taken.case.answers.items c.loop-rest.line c.loop-rest.invariant.read in
     let small : c.loop-rest.line + 1 < 2 ^ 32 = omega arith in
     search rules
 
@@ -23,7 +27,10 @@ pub loop-rest-preserved : goal.loop-rest-preserved
 loop-rest-preserved c =
     let taken = rw c.in-Some-2.is at c.in_ok-more.ensures.line in
     record {
-      read = read_more c.args.text.now c.loop-rest.rest.now c.in-Some-2.more.now c.loop-rest.taken.case.values c.loop-rest.taken.case.answers.items c.take_line.new.taken.case.values c.take_line.new.taken.case.answers.items c.loop-rest.line c.loop-rest.invariant.read taken;
+      read =
+          read_more c.args.text.now c.loop-rest.rest.now c.in-Some-2.more.now c.loop-rest.taken.case.values
+          c.loop-rest.taken.case.answers.items c.take_line.new.taken.case.values
+          c.take_line.new.taken.case.answers.items c.loop-rest.line c.loop-rest.invariant.read taken;
       names = rw c.in-Some-2.is at c.in_ok-more.ensures.names;
     }
 
@@ -32,10 +39,12 @@ returns-then-is_empty-clause-refusal c =
     let done : length c.loop-rest.rest.now ≡ 0 = grind (arith, nat_tests) in
     let none : length c.loop-rest.taken.case.values ≡ 0 = grind (arith, nat_tests) in
     let no_line = nothing_no_line (length c.args.text.now) c.loop-rest.rest.now c.loop-rest.taken.case.values c.loop-rest.taken.case.answers.items done in
-    refused c.args.text.now c.loop-rest.rest.now c.loop-rest.taken.case.values c.loop-rest.taken.case.answers.items c.loop-rest.line c.loop-rest.invariant.read no_line (λ _. none)
+    refused c.args.text.now c.loop-rest.rest.now c.loop-rest.taken.case.values
+    c.loop-rest.taken.case.answers.items c.loop-rest.line c.loop-rest.invariant.read no_line (λ _. none)
 
 pub returns-clause-case : goal.returns-clause-case
 returns-clause-case c =
     let done : length c.loop-rest.rest.now ≡ 0 = grind (arith, nat_tests) in
     let some : 0 < length c.loop-rest.taken.case.values = grind (arith, nat_tests) in
-    read_all c.args.text.now c.loop-rest.rest.now c.loop-rest.taken.case.values c.loop-rest.taken.case.answers.items c.loop-rest.line c.loop-rest.invariant.read done some
+    read_all c.args.text.now c.loop-rest.rest.now c.loop-rest.taken.case.values
+    c.loop-rest.taken.case.answers.items c.loop-rest.line c.loop-rest.invariant.read done some

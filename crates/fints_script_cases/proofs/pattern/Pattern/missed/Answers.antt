@@ -5,4 +5,7 @@ use Rattle.fints_script_cases.proofs.pattern.Pattern.missed.Goals as goal
 
 pub returns : goal.returns
 returns c = fits_all c.args.self.now c.args.code (subst (λ (p : List ℕ). length p ≡ 4) c.self.view_is c.self.told)
-    (λ k lt. subst (λ (ds : List ℕ). fits (get_or c.args.self.now k 0) (get_or ds k 0) ≡ true) c.digits_of-digits.ensures.digits (c.loop-place.invariant k (omega (arith, lt, c.loop-place-test.false))))
+    (λ k lt.
+    subst (λ (ds : List ℕ). fits (get_or c.args.self.now k 0) (get_or ds k 0) ≡ true)
+    c.digits_of-digits.ensures.digits
+    (c.loop-place.invariant k (omega (arith, lt, c.loop-place-test.false))))

@@ -5,4 +5,12 @@ use Rattle.fints_script_fields.proofs.name.Name.parse.Goals as goal
 
 pub invariant_of-result : goal.invariant_of-result
 invariant_of-result c =
-    subst (λ (bytes : List ℕ). IsPadded (record { bytes = bytes ++ drop (length c.args.text.now) (replicate 40 0); len = length c.args.text.now })) (sym c.copy_from_slice.ensures.after) (padded c.args.text.now (c.is_name.ensures.0 c.if-not-is_name.false))
+    subst
+    (λ (bytes : List ℕ).
+    IsPadded
+    (record {
+      bytes = bytes ++ drop (length c.args.text.now) (replicate 40 0);
+      len = length c.args.text.now;
+    }))
+    (sym c.copy_from_slice.ensures.after)
+    (padded c.args.text.now (c.is_name.ensures.0 c.if-not-is_name.false))

@@ -5,4 +5,6 @@ use Rattle.fints_syntax_toml.specs.Entries.{is_named}
 use Rattle.fints_script_rows.proofs.named_rows.NamedRows.place_of.Goals as goal
 
 pub returns : goal.returns
-returns c = c.copied.ensures ∙ c.get.ensures.value ∙ c.self.invariant c.args.name.now ∙ ap (λ rows. position (is_named c.args.name.now) (map view rows)) c.self.view_is
+returns c =
+    c.copied.ensures ∙ c.get.ensures.value ∙ c.self.invariant c.args.name.now
+    ∙ ap (λ rows. position (is_named c.args.name.now) (map view rows)) c.self.view_is

@@ -16,7 +16,10 @@ returns-in-Some-begun_at-clause-unended c =
     let f : SyntaxFault = record { kind = Incomplete; offset = c.in-Some-begun_at.offset } in
     let none = unfailed i.buffer.failed c.failure.result c.failure.ensures c.in_default.not-Some in
     let begun = c.in-Some-begun_at.ensures in
-    let made : IsUnended i.buffer.failed (fed_of i) f = unended i.buffer.failed (fed_of i) f gap none refl (omega (arith, begun.1, c.self.invariant.rest)) (omega (arith, begun.0, c.self.invariant.rest)) c.self.invariant.ready.breaks c.self.invariant.unended in
+    let made : IsUnended i.buffer.failed (fed_of i) f =
+    unended i.buffer.failed (fed_of i) f gap none refl (omega (arith, begun.1, c.self.invariant.rest))
+    (omega (arith, begun.0, c.self.invariant.rest)) c.self.invariant.ready.breaks
+    c.self.invariant.unended in
     subst (λ (fed : Fed). IsUnended fed.failed fed f) c.self.view_is made
 
 pub returns-clause-ended : goal.returns-clause-ended

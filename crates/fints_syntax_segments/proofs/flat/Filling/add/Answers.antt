@@ -41,7 +41,9 @@ returns-in_err-push-clause-unchanged g c =
     let bs = f.bytes.items in
     let new : c.append_value.new.out.items ≡ bs ++ item_value (g.V.Valued.owned c.args.item.now) = c.in_ok-append_value.ensures.added in
     let spans : c.push.new.self.items ≡ f.spans.items = c.in_err-push.ensures.items in
-    let k = view_front bs (item_value (g.V.Valued.owned c.args.item.now)) f.spans.items f.groups.items f.open c.self.invariant.spans c.self.invariant.groups c.self.invariant.within in
+    let k =
+    view_front bs (item_value (g.V.Valued.owned c.args.item.now)) f.spans.items f.groups.items f.open
+    c.self.invariant.spans c.self.invariant.groups c.self.invariant.within in
     on_err c.from_residual-in_err-push.result (rw (new, spans) (same k.0 k.1) ∙ c.self.view_is)
 
 pub invariant_of-self-2 : goal.invariant_of-self-2
@@ -53,9 +55,14 @@ invariant_of-self-2 g c =
     let s : Span = record { start = c.len-start.result; len = c.len.result - c.len-start.result; binary = c.is_binary-binary.result } in
     let spans : c.push.new.self.items ≡ f.spans.items ++ s ∷ [] = c.in_ok-push.ensures.items in
     let start : c.len-start.result ≡ length bs = grind arith in
-    let len : c.len.result - c.len-start.result ≡ length v = (let size : c.len.result ≡ length c.append_value.new.out.items = grind arith in omega (arith, size, start, ap length new, length-append bs v)) in
+    let len : c.len.result - c.len-start.result ≡ length v =
+    (let size : c.len.result ≡ length c.append_value.new.out.items = grind arith in omega
+    (arith, size, start, ap length new, length-append bs v)) in
     record {
-      spans = rw (new, spans) (spans_added bs v f.spans.items f.groups.items f.open c.self.invariant.spans c.self.invariant.groups c.self.invariant.within s start len);
+      spans =
+          rw (new, spans)
+          (spans_added bs v f.spans.items f.groups.items f.open c.self.invariant.spans
+          c.self.invariant.groups c.self.invariant.within s start len);
       groups = c.self.invariant.groups;
       within = rw spans (within_added bs v f.spans.items f.groups.items f.open c.self.invariant.spans c.self.invariant.groups c.self.invariant.within s);
     }
@@ -69,8 +76,12 @@ returns-clause-added g c =
     let s : Span = record { start = c.len-start.result; len = c.len.result - c.len-start.result; binary = c.is_binary-binary.result } in
     let spans : c.push.new.self.items ≡ f.spans.items ++ s ∷ [] = c.in_ok-push.ensures.items in
     let start : c.len-start.result ≡ length bs = grind arith in
-    let len : c.len.result - c.len-start.result ≡ length v = (let size : c.len.result ≡ length c.append_value.new.out.items = grind arith in omega (arith, size, start, ap length new, length-append bs v)) in
-    let k = view_added bs v f.spans.items f.groups.items f.open c.self.invariant.spans c.self.invariant.groups c.self.invariant.within s start len (g.V.Valued.owned c.args.item.now) c.is_binary-binary.ensures in
+    let len : c.len.result - c.len-start.result ≡ length v =
+    (let size : c.len.result ≡ length c.append_value.new.out.items = grind arith in omega
+    (arith, size, start, ap length new, length-append bs v)) in
+    let k =
+    view_added bs v f.spans.items f.groups.items f.open c.self.invariant.spans c.self.invariant.groups
+    c.self.invariant.within s start len (g.V.Valued.owned c.args.item.now) c.is_binary-binary.ensures in
     let es = k.0 ∙ ap (λ (x : Filled). x.elements) c.self.view_is in
     let is = k.1 ∙ ap (λ (x : Filled). x.items ++ g.V.Valued.owned c.args.item.now ∷ []) c.self.view_is in
     rw (new, spans) (same es is)
