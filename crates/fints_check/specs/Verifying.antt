@@ -8,7 +8,7 @@ use Rattle.fints_script.specs.Scripts.{ScriptValue}
 use Rattle.fints_script.specs.Steps.{StepValue}
 use Rattle.fints_check_findings.specs.declared.finding.Reached.{Reached}
 use Rattle.fints_check_findings.specs.Releases.{IsUnreleased}
-use Rattle.fints_check.specs.Certificates.{BranchGoesOn, LineHolds, Names}
+use Rattle.fints_check.specs.Certificates.{BranchGoesOn, Covers, LineHolds, Names}
 use Rattle.fints_check.specs.declared.certificate.Line.{Line}
 
 -- the flag of a step tells whether an open branch leads back to it
@@ -21,6 +21,10 @@ pub record ClaimsValue : Type 0 where
   pub granted : Granted
   pub script : ScriptValue
   pub lines : List Line
+
+-- it tells whether the number is enough for step n where its first message in a row has at most number `from`
+abbrev pub TellsEnough : ClaimsValue → ℕ → ℕ → ℕ → Bool → Type 0
+TellsEnough c n from number told = (step : StepValue) → numbered c.script.steps n ≡ Some step → (IsTrue told ↔ Covers step from number)
 
 -- it tells whether each open branch of step n goes on behind messages of at most this number
 abbrev pub TellsOnward : ClaimsValue → ℕ → ℕ → Bool → Type 0

@@ -1,13 +1,12 @@
 //! Whether a certificate is closed, whoever wrote it.
-ghost use Rattle.std.specs.Prelude.{◌≡◌, ◌↔◌, ◌≤◌, Some, true, length, IsTrue};
+ghost use Rattle.std.specs.Prelude.{◌≡◌, ◌↔◌, ◌≤◌, Some, true, length, IsTrue, SomeIff};
 ghost use Rattle.fints_script_cases.specs.Answers.{IsOpenTo};
 ghost use Rattle.fints_check_findings.specs.Findings.{EachIsPermitted};
 ghost use Rattle.fints_script.specs.Numbered.{numbered};
 ghost use Rattle.fints_rules.specs.Rules.{FiguresBreak};
 ghost use Rattle.fints_rules.specs.declared.rule.Rule.{Rule as RuleValue};
-ghost use Rattle.fints_check.specs.Certificates.{figures_at, line_names, step_names, AreLinesTrue, AreReleased, Covers, GoesOn, IsClosedCertificate, IsEntered, KeepsPromise};
-ghost use Rattle.fints_check.specs.Verifying.{AreRepeats, TellsFigures, TellsLine, TellsOnward, TellsReleased};
-ghost use Rattle.fints_script.specs.Sound.{IsOnward};
+ghost use Rattle.fints_check.specs.Certificates.{figures_at, line_names, step_names, AreLinesTrue, AreReleased, GoesOn, IsClosedCertificate, IsEntered, KeepsPromise};
+ghost use Rattle.fints_check.specs.Verifying.{AreRepeats, TellsEnough, TellsFigures, TellsLine, TellsOnward, TellsReleased};
 
 use crate::certificate::{Certificate, Line};
 use fints_check_findings::{AtStep, Reached, is_released_step};
@@ -39,17 +38,6 @@ fn repeats(plan: &Plan<'_>) -> [bool; MAX_STEPS]
     flags
 }
 
-// Whether a number is enough for a step whose first message in a row has at most number `from`.
-fn covers(step: &Step, repeated: bool, from: u64, number: u32) -> bool
-    requires { IsTrue repeated ↔ IsOpenTo step.now.branches step.now.otherwise Target.Again }
-    ensures { IsTrue result ↔ Covers step.now from number }
-{
-    if repeated {
-        return from.saturating_add((step.repeat() as u64).saturating_sub(1)) <= u64::from(number);
-    }
-    from <= u64::from(number)
-}
-
 #[tactic(auto, using(crate::proofs::Numbered::numbered_is))]
 // The flag of step n.
 fn flag(flags: &[bool], n: usize) -> bool
@@ -75,8 +63,29 @@ fn are_permitted(permissions: &Permissions<'_>, figures: Figures) -> bool
     true
 }
 
-// What a certificate names of the steps of a plan, and which of them an open branch leads back to. A
-// contract sees the permissions, the script and the lines.
+fn is_named(line: &Line, step: &Step) -> bool
+    ensures { IsTrue result ↔ (line.now.name ≡ step.now.name) }
+{
+    line.name == step.name()
+}
+
+// Whether there is one line for each step, in order, with its name.
+fn has_names(plan: &Plan<'_>, lines: &[Line]) -> bool
+    ensures { IsTrue result ↔ (line_names lines.now ≡ step_names plan.now.script.steps) }
+{
+    if lines.len() != plan.step_count() {
+        return false;
+    }
+    for i in 0..lines.len() {
+        if !is_named(&lines[i], plan.step(i + 1)) {
+            return false;
+        }
+    }
+    true
+}
+
+// What a certificate names of the steps of a plan, one line for each, in order, with its name; and which
+// of the steps an open branch leads back to. A contract sees the permissions, the script and the lines.
 #[derive(Drop)]
 struct Claims<'a> {
     permissions: &'a Permissions<'a>,
@@ -87,6 +96,7 @@ struct Claims<'a> {
 
 impl<'a> Model for Claims<'a> {
     ghost use Rattle.std.specs.Prelude.{◌≡◌};
+    ghost use Rattle.fints_check.specs.Certificates.{line_names, step_names};
     ghost use Rattle.fints_check.specs.Verifying.{AreRepeats, ClaimsValue};
 
     ghost Value = { ClaimsValue };
@@ -97,55 +107,67 @@ impl<'a> Model for Claims<'a> {
       lines = c.lines.now;
     } };
 
-    ghost invariant = { λ c. (c.permissions.now.orders ≡ c.plan.now.orders) × AreRepeats c.plan.now.script.steps c.repeats };
+    ghost invariant = { λ c. (c.permissions.now.orders ≡ c.plan.now.orders)
+        × AreRepeats c.plan.now.script.steps c.repeats
+        × (line_names c.lines.now ≡ step_names c.plan.now.script.steps) };
 }
 
 impl<'a> Claims<'a> {
-    fn new(permissions: &'a Permissions<'a>, plan: &'a Plan<'a>, lines: &'a [Line]) -> Claims<'a>
+    // What the lines name of the steps, if they have the steps' names.
+    fn of(
+        permissions: &'a Permissions<'a>,
+        plan: &'a Plan<'a>,
+        lines: &'a [Line],
+    ) -> Option<Claims<'a>>
         requires { permissions.now.orders ≡ plan.now.orders }
-        ensures { result ≡ record { granted = permissions.now; script = plan.now.script; lines = lines.now } }
+        ensures { SomeIff result (line_names lines.now ≡ step_names plan.now.script.steps)
+            (record { granted = permissions.now; script = plan.now.script; lines = lines.now }) }
     {
-        Claims {
+        if !has_names(plan, lines) {
+            return None;
+        }
+        Some(Claims {
             permissions,
             plan,
             lines,
             repeats: repeats(plan),
-        }
+        })
     }
 
-    #[tactic(auto, using(crate::proofs::Numbered::numbered_is))]
     // The figures of step n, if it is named as reached.
     fn figures(&self, n: usize) -> Option<Reached>
-        requires { 1 ≤ n }
         ensures { result ≡ figures_at self.now.lines n }
     {
-        match self.lines.get(n - 1) {
-            Some(line) => line.reached,
-            None => None,
+        let line = self.lines.get(n.checked_sub(1)?)?;
+        line.reached
+    }
+
+    // Whether a number is enough for step n where its first message in a row has at most number `from`.
+    fn covers(&self, n: usize, from: u64, number: u32) -> bool
+        requires first { 1 ≤ n }
+        requires last { n ≤ length self.now.script.steps }
+        ensures { TellsEnough self.now n from number result }
+    {
+        if flag(&self.repeats, n) {
+            let more = (self.plan.step(n).repeat() as u64).saturating_sub(1);
+            return from.saturating_add(more) <= u64::from(number);
         }
+        from <= u64::from(number)
     }
 
     // Whether step n is reached, with a number that is enough where its first message in a row has at
     // most number `from`.
     fn is_entered(&self, n: usize, from: u64) -> bool
-        requires first { 1 ≤ n }
-        requires last { n ≤ length self.now.script.steps }
         ensures { IsTrue result ↔ IsEntered self.now.script.steps self.now.lines n from }
     {
         match self.figures(n) {
-            Some(reached) => covers(
-                self.plan.step(n),
-                flag(&self.repeats, n),
-                from,
-                reached.number,
-            ),
+            Some(reached) => self.covers(n, from, reached.number),
             None => false,
         }
     }
 
     // Whether a target is as it must be behind messages of at most this number.
     fn target_goes_on(&self, target: Target, number: u32) -> bool
-        requires { IsOnward (length self.now.script.steps) 0 target }
         ensures { IsTrue result ↔ GoesOn self.now.script.steps self.now.lines number target }
     {
         match target {
@@ -236,36 +258,13 @@ impl<'a> Claims<'a> {
     }
 }
 
-fn is_named(line: &Line, step: &Step) -> bool
-    ensures { IsTrue result ↔ (line.now.name ≡ step.now.name) }
-{
-    line.name == step.name()
-}
-
-// Whether there is one line for each step, in order, with its name.
-fn has_names(plan: &Plan<'_>, lines: &[Line]) -> bool
-    ensures { IsTrue result ↔ (line_names lines.now ≡ step_names plan.now.script.steps) }
-{
-    if lines.len() != plan.step_count() {
-        return false;
-    }
-    for i in 0..lines.len() {
-        if !is_named(&lines[i], plan.step(i + 1)) {
-            return false;
-        }
-    }
-    true
-}
-
 fn is_closed(permissions: &Permissions<'_>, plan: &Plan<'_>, lines: &[Line]) -> bool
     requires { permissions.now.orders ≡ plan.now.orders }
     ensures { IsTrue result ↔ IsClosedCertificate permissions.now plan.now.script lines.now }
 {
-    plan.keeps();
-    if !has_names(plan, lines) {
+    let Some(claims) = Claims::of(permissions, plan, lines) else {
         return false;
-    }
-    let claims = Claims::new(permissions, plan, lines);
+    };
     if !claims.is_entered(1, 1) {
         return false;
     }

@@ -28,7 +28,7 @@ pub chosen_at : (s : AtStepValue) (r : Rule) (f : MessageFacts) → Decides s.gr
     → BreaksWith s.granted s.script.fields s.step f r place choice
     → IsChoice (wants_tan r) s.script.fields choice values
     → AreChosenAt s r place values
-chosen_at s r f d place None values b is = let c = d.chosen place None values b is in record { admitted = c.0; breaks = c.1; chosen = inl is }
+chosen_at s r f d place None values b is = let c = d.chosen place None values b is in record { admitted = c.0; breaks = c.1; chosen = inl (is, d.unset place b) }
 chosen_at s r f d place (Some set) values b is =
     let c = d.chosen place (Some set) values b is in
     record { admitted = c.0; breaks = c.1; chosen = inr (d.set place set values b is) }

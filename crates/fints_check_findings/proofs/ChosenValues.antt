@@ -13,19 +13,15 @@ use Rattle.fints_script_cases.specs.declared.values.NamedValue.{NamedValue}
 use Rattle.fints_wire.specs.Choices.{longest_choice, shortest_choice}
 use Rattle.fints_wire.specs.Views.{message_view}
 use Rattle.fints_check_findings.specs.AtStep.{AreChosenAt, AtStepValue}
-use Rattle.fints_check_findings.specs.Cases.{AreChosenFor, AreShortestFor, HaveFirstAccount}
+use Rattle.fints_check_findings.specs.Cases.{AreChosenFor, AreShortestFor, AsksNoField, HaveFirstAccount}
 use Rattle.fints_check_findings.specs.Choosing.{IsChoice, extreme_choice}
-use Rattle.fints_check_findings.specs.Elements.{asks_account, wants_tan}
+use Rattle.fints_check_findings.specs.Elements.{wants_tan}
 use Rattle.fints_check_findings.specs.declared.choosing.SetAccount.{SetAccount}
 use Rattle.fints_check_findings.specs.declared.finding.Finding.{Finding}
 
-asked_rules : (r : Rule) → asks_account r ≡ true → (r ≡ Signatures) ⊎ (r ≡ Account)
-asked_rules Signatures h = inl refl
-asked_rules Account h = inr refl
-asked_rules _ h = absurd cc
-
-not_asked : (r : Rule) → r ≡ Procedure → asks_account r ≡ true → ⊥
-not_asked r is asks = let clash : false ≡ true = ap asks_account (sym is) ∙ asks in cc
+not_asked : (r : Rule) → r ≡ Procedure → (r ≡ Signatures) ⊎ (r ≡ Account) → ⊥
+not_asked r is (inl e) = let clash : Procedure ≡ Signatures = sym is ∙ e in cc
+not_asked r is (inr e) = let clash : Procedure ≡ Account = sym is ∙ e in cc
 
 wants_none : (r : Rule) → (r ≡ Procedure → ⊥) → wants_tan r ≡ false
 wants_none Procedure h = absurd (h refl)
@@ -49,32 +45,33 @@ module _ (granted : Granted) (script : ScriptValue) (f : Finding) (values : List
   size_chosen size is = record { longest = λ _. is; shortest = λ not_size _. absurd (not_size size) }
 
   pub other_chosen : (r : Rule) → f.rule ≡ r → (r ≡ Size → ⊥) → (r ≡ Procedure → ⊥)
-      → values ≡ shortest_choice script.fields → AreChosenFor granted script f values
-  other_chosen r same not_size not_procedure is = record {
+      → ((r ≡ Signatures) ⊎ (r ≡ Account) → ⊥) → values ≡ shortest_choice script.fields
+      → AreChosenFor granted script f values
+  other_chosen r same not_size not_procedure not_asks is = record {
     longest = λ h. absurd (elim h [ inl size ↦ not_size (sym same ∙ size) | inr procedure ↦ not_procedure (sym same ∙ procedure) ]);
-    shortest = λ _ _. inl is;
+    shortest = λ _ _ step at. inl (is, λ place field a. not_asks (elim a.asks [ inl e ↦ inl (sym same ∙ e) | inr e ↦ inr (sym same ∙ e) ]));
   }
 
   pub chosen_for : (step : StepValue) → numbered script.steps f.step ≡ Some step → (f.rule ≡ Size → ⊥)
-      → (values ≡ extreme_choice (wants_tan f.rule) script.fields)
-      ⊎ ((asks_account f.rule ≡ true) × HaveFirstAccount granted script step f.rule f.segment values)
+      → ((values ≡ extreme_choice (wants_tan f.rule) script.fields) × AsksNoField script step f.rule f.segment)
+      ⊎ HaveFirstAccount granted script step f.rule f.segment values
       → AreChosenFor granted script f values
   chosen_for step at not_size chosen = record {
     longest = λ h. elim h [
       | inl size ↦ absurd (not_size size)
       | inr procedure ↦ elim chosen [
-        | inl is ↦ is ∙ ap (λ (r : Rule). extreme_choice (wants_tan r) script.fields) procedure
-        | inr set ↦ absurd (not_asked f.rule procedure set.0)
+        | inl (is, _) ↦ is ∙ ap (λ (r : Rule). extreme_choice (wants_tan r) script.fields) procedure
+        | inr set ↦ absurd (not_asked f.rule procedure set.asked.asks)
       ]
     ];
-    shortest = λ _ not_procedure. elim chosen [
-      | inl is ↦ inl (is ∙ ap (λ (most : Bool). extreme_choice most script.fields) (wants_none f.rule not_procedure))
-      | inr set ↦
-          inr (
-            asked_rules f.rule set.0,
-            λ other there.
-                subst (λ (x : StepValue). HaveFirstAccount granted script x f.rule f.segment values)
-                (same_Some step other (sym at ∙ there)) set.1,
-          )
-    ];
+    shortest = λ _ not_procedure other there.
+        let same : step ≡ other = same_Some step other (sym at ∙ there) in
+        elim chosen [
+          | inl (is, none) ↦
+              inl (
+                is ∙ ap (λ (most : Bool). extreme_choice most script.fields) (wants_none f.rule not_procedure),
+                subst (λ (x : StepValue). AsksNoField script x f.rule f.segment) same none,
+              )
+          | inr set ↦ inr (subst (λ (x : StepValue). HaveFirstAccount granted script x f.rule f.segment values) same set)
+        ];
   }

@@ -1,5 +1,5 @@
 -- The facts of a step decide what some choice makes its message break.
-use Rattle.std.proofs.Common.{ℕ, ◌+◌, ◌<◌, ◌≡◌, Bool, true, false, List, length, Option, Some, ap, sym, subst, ◌∙◌, arith, inl, inr}
+use Rattle.std.proofs.Common.{ℕ, ◌+◌, ◌<◌, ◌≡◌, Bool, true, false, List, length, Option, Some, None, ap, sym, subst, ◌∙◌, arith, inl, inr}
 use Rattle.std.specs.Prelude.{codes, ◌↔◌, IsTrue}
 use Rattle.std.specs.List.{slice_get}
 use Rattle.std.specs.Set.{distinct_count}
@@ -16,7 +16,7 @@ use Rattle.fints_rules_permissions.specs.Permits.{Granted}
 use Rattle.fints_rules.specs.Rules.{MessageBreaks, SegmentBreaks}
 use Rattle.fints_rules.specs.declared.facts.MessageFacts.{MessageFacts}
 use Rattle.fints_rules.specs.declared.rule.Rule.{Rule}
-use Rattle.fints_script.specs.Plans.{Admits, IsClosedTemplate}
+use Rattle.fints_script.specs.Plans.{Admits, IsClosedTemplate, element_two}
 use Rattle.fints_script.specs.Scripts.{ScriptValue}
 use Rattle.fints_script.specs.Sound.{IsSound, IsSoundStep}
 use Rattle.fints_script.specs.Steps.{StepValue}
@@ -24,14 +24,15 @@ use Rattle.fints_script_templates.specs.declared.template.Template.{Template}
 use Rattle.fints_wire.specs.Filling.{FillingValue, filled_segment, filling_of}
 use Rattle.fints_wire.specs.Views.{message_view}
 use Rattle.fints_check_findings.specs.Breakable.{CanBreak}
-use Rattle.fints_check_findings.specs.Cases.{HaveFirstAccount, with_account}
+use Rattle.fints_check_findings.specs.Cases.{AsksNoField, HaveFirstAccount, with_account}
 use Rattle.fints_check_findings.specs.Choosing.{BreaksWith, BreaksWithAt, IsChoice, IsChoiceWith, extreme_choice}
-use Rattle.fints_check_findings.specs.Elements.{asks_account, template_facts, wants_tan}
+use Rattle.fints_check_findings.specs.Elements.{template_facts, wants_tan}
 use Rattle.fints_check_findings.specs.Kinds.{template_count}
 use Rattle.fints_check_findings.specs.StepFacts.{AreMessageFacts, AreStepFacts, StepBreaks, TemplatesDecide, message_for}
 use Rattle.fints_check_findings.specs.Tans.{TanUnder}
 use Rattle.fints_check_findings.specs.declared.choosing.SetAccount.{SetAccount}
 use Rattle.fints_check_findings.specs.declared.step_facts.StepFacts.{StepFacts}
+use Rattle.fints_check_findings.proofs.AskedFields.{asked_none, asked_rules, some_listed}
 use Rattle.fints_check_findings.proofs.Counted.{count_is, demanding_is, plain_kinds_are, tan_orders_are}
 use Rattle.fints_check_findings.proofs.ElementTwo.{IsBrokenBy, IsExtreme, extreme_admitted, extreme_is, other_admitted, template_complete, template_first, template_sound, template_with}
 use Rattle.fints_check_findings.proofs.Lists.{any_there, slice_there, there_of}
@@ -248,22 +249,41 @@ module _ (script : ScriptValue) (granted : Granted) (step : StepValue) (r : Rule
 
   step_set : (place : ℕ) (s : SetAccount) (values : List NamedValue)
       → BreaksWith granted script.fields step f r place (Some s) → IsChoiceWith script.fields s values
-      → (asks_account r ≡ true) × HaveFirstAccount granted script step r place values
+      → HaveFirstAccount granted script step r place values
   step_set place s values (inl (at, h, none)) is = absurd cc
   step_set place s values (inr b) is =
-      let w = b.breaks in (
-        w.asks,
-        record {
-          place = s.field;
-          field = w.field;
+      let w = b.breaks in
+      record {
+        place = s.field;
+        field = w.field;
+        asked = record {
+          asks = asked_rules r w.asks;
+          i = b.i;
+          template = b.template;
+          at = b.there;
+          number = b.number_is;
+          element = w.items_are;
           there = w.there;
-          row = s.account;
-          account = w.breaking.account;
-          listed = w.breaking.listed;
-          values_are = is w.field w.breaking.account w.there w.breaking.listed;
-          first = λ earlier number other less listed h. step_first place s b earlier number other less listed h;
-        },
-      )
+          accounts = some_listed (field_accounts w.field.class) s.account w.breaking.account w.breaking.listed;
+        };
+        row = s.account;
+        account = w.breaking.account;
+        listed = w.breaking.listed;
+        values_are = is w.field w.breaking.account w.there w.breaking.listed;
+        first = λ earlier number other less listed h. step_first place s b earlier number other less listed h;
+      }
+
+  -- where no account is set, none is asked for
+  step_unset : (place : ℕ) → BreaksWith granted script.fields step f r place None
+      → AsksNoField script step r place
+  step_unset place (inl (at, h, none)) p field a = absurd (omega (arith, at, a.number))
+  step_unset place (inr b) p field a =
+      let own : a.i ≡ b.i = omega (arith, a.number, b.number_is) in
+      let one : a.template ≡ b.template =
+      same_Some a.template b.template (sym a.at ∙ (ap (λ (j : ℕ). slice_get step.templates j) own ∙ b.there)) in
+      a.accounts
+      (asked_none script.fields r b.template p field a.asks (ap element_two (sym one) ∙ a.element) a.there
+      b.breaks.0)
 
   step_each : (number : ℕ) (values : List NamedValue) (place : ℕ) → Admits script.fields values
       → BreaksByContent granted (Sent values number) r place → StepBreaks granted script.fields step f r place
@@ -297,6 +317,7 @@ decides script granted step r f sound sound_step closed facts = record {
   some = step_some script granted step r f sound sound_step closed facts;
   chosen = step_chosen script granted step r f sound sound_step closed facts;
   set = step_set script granted step r f sound sound_step closed facts;
+  unset = step_unset script granted step r f sound sound_step closed facts;
   each = step_each script granted step r f sound sound_step closed facts;
 }
 

@@ -13,9 +13,9 @@ use Rattle.fints_script.specs.Sound.{IsSound, IsSoundStep}
 use Rattle.fints_script.specs.Steps.{StepValue}
 use Rattle.fints_script_templates.specs.declared.template.Template.{Template}
 use Rattle.fints_wire.specs.Views.{message_view}
-use Rattle.fints_check_findings.specs.Cases.{HaveFirstAccount}
+use Rattle.fints_check_findings.specs.Cases.{AsksNoField, HaveFirstAccount}
 use Rattle.fints_check_findings.specs.Choosing.{extreme_choice}
-use Rattle.fints_check_findings.specs.Elements.{asks_account, wants_tan}
+use Rattle.fints_check_findings.specs.Elements.{wants_tan}
 use Rattle.fints_check_findings.specs.Figures.{reached_figures}
 use Rattle.fints_check_findings.specs.Findings.{IsReal}
 use Rattle.fints_check_findings.specs.Laws.{release_of}
@@ -60,4 +60,5 @@ BreaksAsSent s r = FiguresBreak s.at.granted.rows.bank (reached_figures s.figure
 pub record AreChosenAt (s : AtStepValue) (r : Rule) (place : ℕ) (values : List NamedValue) : Type 0 where
   pub admitted : Admits s.script.fields values
   pub breaks : (number : ℕ) → BreaksByContent s.granted (message_view s.script s.step number values) r place
-  pub chosen : (values ≡ extreme_choice (wants_tan r) s.script.fields) ⊎ ((asks_account r ≡ true) × HaveFirstAccount s.granted s.script s.step r place values)
+  pub chosen : ((values ≡ extreme_choice (wants_tan r) s.script.fields) × AsksNoField s.script s.step r place)
+      ⊎ HaveFirstAccount s.granted s.script s.step r place values

@@ -17,9 +17,9 @@ use Rattle.fints_script.specs.Steps.{StepValue}
 use Rattle.fints_script_templates.specs.declared.template.Template.{Template}
 use Rattle.fints_wire.specs.Views.{message_view}
 use Rattle.fints_check_findings.specs.Breakable.{CanBreak}
-use Rattle.fints_check_findings.specs.Cases.{HaveFirstAccount}
+use Rattle.fints_check_findings.specs.Cases.{AsksNoField, HaveFirstAccount}
 use Rattle.fints_check_findings.specs.Choosing.{BreaksWith, IsChoice, IsChoiceWith, TemplateBreaksWith}
-use Rattle.fints_check_findings.specs.Elements.{accounts_asked, asks_account, has_process, literals, template_facts, wants_tan}
+use Rattle.fints_check_findings.specs.Elements.{accounts_asked, has_process, literals, template_facts, wants_tan}
 use Rattle.fints_check_findings.specs.Kinds.{AreCounts, demanding_count, is_end, is_tan_segment, template_count, template_kinds}
 use Rattle.fints_check_findings.specs.Tans.{TanUnder}
 use Rattle.fints_check_findings.specs.declared.choosing.SetAccount.{SetAccount}
@@ -79,7 +79,7 @@ IsStepChoice granted fields step f r place choice = StepBreaks granted fields st
 -- ---- the law that joins the step's facts and its messages
 
 -- where the facts break the rule some choice makes the message break it at every number, in particular the
--- one that sets the first account with which they do; and what a choice at some number does the facts do
+-- one that sets the first account with which they do, where one is asked for; and what a choice at some number does the facts do
 pub record Decides (granted : Granted) (script : ScriptValue) (step : StepValue) (r : Rule) (f : MessageFacts) : Type 0 where
   pub some : (place : ℕ) → StepBreaks granted script.fields step f r place → CanBreak granted script step r place
   pub chosen : (place : ℕ) (choice : Option SetAccount) (values : List NamedValue)
@@ -88,7 +88,8 @@ pub record Decides (granted : Granted) (script : ScriptValue) (step : StepValue)
       → Admits script.fields values × ((number : ℕ) → BreaksByContent granted (message_view script step number values) r place)
   pub set : (place : ℕ) (s : SetAccount) (values : List NamedValue)
       → BreaksWith granted script.fields step f r place (Some s) → IsChoiceWith script.fields s values
-      → (asks_account r ≡ true) × HaveFirstAccount granted script step r place values
+      → HaveFirstAccount granted script step r place values
+  pub unset : (place : ℕ) → BreaksWith granted script.fields step f r place None → AsksNoField script step r place
   pub each : (number : ℕ) (values : List NamedValue) (place : ℕ) → Admits script.fields values
       → BreaksByContent granted (message_view script step number values) r place
       → StepBreaks granted script.fields step f r place

@@ -166,12 +166,13 @@ impl<'a> Report<'a> {
         case_values(alloc, self.permissions, self.plan, finding)
     }
 
-    /// A run that a finding speaks of: it ends with the step's message of greatest number, for P11 with
-    /// one behind an order that it leaves unreleased. The values are the worst ones for P3 and P12, and
-    /// else the least, of which at most one is another listed account. Findings count from 0.
+    /// A run that a finding speaks of: its answers are those of `way`, and its values those of `values`.
+    /// Findings count from 0.
     pub fn case(&self, alloc: Global, i: usize) -> Result<Case, Memory>
         requires { i < length self.now.findings }
-        ensures { IfOk result (λ case. ShowsFindingAt self.now i case.values case.answers.items) }
+        ensures shows { IfOk result (λ case. ShowsFindingAt self.now i case.values case.answers.items) }
+        ensures way { IfOk result (λ case. IsWayOf self.now i case.answers.items) }
+        ensures chosen { IfOk result (λ case. AreChosenOf self.now i case.values) }
     {
         let answers = self.way(alloc, i)?;
         let values = self.values(alloc, i)?;

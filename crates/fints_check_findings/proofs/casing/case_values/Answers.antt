@@ -49,7 +49,7 @@ returns-in-Number c =
       greatest = λ other.
           let admits : Admits script.fields v = subst (Admits script.fields) (sym is) (extremes_are_admitted_shortest script.fields) in
           number_values script granted c.args.finding sound v admits c.in-Number.is;
-      chosen = λ number step at peak real. other_chosen granted script c.args.finding v rule.Number c.in-Number.is (λ e. cc) (λ e. cc) is;
+      chosen = λ number step at peak real. other_chosen granted script c.args.finding v rule.Number c.in-Number.is (λ e. cc) (λ e. cc) (λ e. elim e [ inl n ↦ cc | inr n ↦ cc ]) is;
     }) c.values_of-in-Number.ensures
 
 pub returns-in-Release : goal.returns-in-Release
@@ -65,7 +65,7 @@ returns-in-Release c =
       chosen =
           λ number step at peak real.
           other_chosen granted script c.args.finding v rule.Release c.in-Release.is (λ e. cc)
-          (λ e. cc) is;
+          (λ e. cc) (λ e. elim e [ inl n ↦ cc | inr n ↦ cc ]) is;
     })
     c.values_of-in-Release.ensures
 
