@@ -6,6 +6,7 @@ use fints_cli_hints_words::keys::{
 use fints_cli_hints_words::places::{Told, names_of, numbered, told, told_at};
 use fints_cli_hints_words::quoting::{Quoted, misfit_of};
 use fints_script_cases::Pattern;
+use fints_script_rows::keys::BRANCH_KEYS;
 use fints_script_rows::{FaultKind, NamedRows};
 use fints_syntax_toml::document::member;
 use fints_syntax_toml::entries::text_at;
@@ -115,8 +116,8 @@ fn table_slip(
     table: &Table,
 ) -> Told {
     match kind {
-        FaultKind::UnknownKey => unknown_key(alloc, table, &["on", "to"], "a branch"),
-        FaultKind::Missing => missing_key(alloc, table, &["on", "to"], "a branch"),
+        FaultKind::UnknownKey => unknown_key(alloc, table, &BRANCH_KEYS, "a branch"),
+        FaultKind::Missing => missing_key(alloc, table, &BRANCH_KEYS, "a branch"),
         FaultKind::WrongKind => wrong_value(alloc, table, &KEYS),
         FaultKind::BadPattern => pattern_slip(alloc, text_at(table, "on").unwrap_or("****")),
         _ => target_slip(alloc, kind, steps, row, member(table, "to")),

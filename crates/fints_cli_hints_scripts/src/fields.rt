@@ -6,6 +6,7 @@ use fints_cli_hints_words::keys::{
 use fints_cli_hints_words::listed::values_slip;
 use fints_cli_hints_words::places::{Told, row_at, row_named, told, told_at};
 use fints_script_fields::MAX_LEN;
+use fints_script_rows::keys::{BOUNDED_FIELD_KEYS, FIELD_KEYS, LISTED_FIELD_KEYS};
 use fints_script_rows::{FaultKind, NamedRows};
 use fints_syntax_toml::document::member;
 use fints_syntax_toml::entries::text_at;
@@ -69,21 +70,16 @@ fn unknown(alloc: Global, table: &Table) -> Told {
         Class::Bounded => unknown_key(
             alloc,
             table,
-            &["name", "class", "min", "max"],
+            &BOUNDED_FIELD_KEYS,
             "a field of class digits, plain, text or bin",
         ),
         Class::Listed => unknown_key(
             alloc,
             table,
-            &["name", "class", "values"],
+            &LISTED_FIELD_KEYS,
             "a field of class oneof or account",
         ),
-        Class::Unknown => unknown_key(
-            alloc,
-            table,
-            &["name", "class", "min", "max", "values"],
-            "a field",
-        ),
+        Class::Unknown => unknown_key(alloc, table, &FIELD_KEYS, "a field"),
     }
 }
 
@@ -92,13 +88,13 @@ fn missing(alloc: Global, table: &Table) -> Told {
         Class::Bounded => missing_key(
             alloc,
             table,
-            &["name", "class", "min", "max"],
+            &BOUNDED_FIELD_KEYS,
             "a field of class digits, plain, text or bin",
         ),
         Class::Listed => missing_key(
             alloc,
             table,
-            &["name", "class", "values"],
+            &LISTED_FIELD_KEYS,
             "a field of class oneof or account",
         ),
         Class::Unknown => missing_key(alloc, table, &["name", "class"], "a field"),

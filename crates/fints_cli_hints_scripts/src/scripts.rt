@@ -7,6 +7,7 @@ use fints_cli_hints_words::keys::{Form, Wanted, missing_key, unknown_key, wrong_
 use fints_cli_hints_words::places::{Told, told_at};
 use fints_cli_hints_words::tables::rows_of;
 use fints_cli_hints_words::unread::{too_long, why_no_toml};
+use fints_script_rows::keys::SCRIPT_KEYS;
 use fints_script_rows::limits::{MAX_FIELDS, MAX_SIGNERS, MAX_STEPS};
 use fints_script_rows::{FaultKind, NamedRows, Place, ScriptFault};
 use fints_syntax::Memory;
@@ -50,12 +51,7 @@ const ROWS: [Most; 3] = [
 
 fn top_slip(alloc: Global, kind: FaultKind, table: &Table) -> Told {
     match kind {
-        FaultKind::UnknownKey => unknown_key(
-            alloc,
-            table,
-            &["seal", "field", "signer", "step"],
-            "a script",
-        ),
+        FaultKind::UnknownKey => unknown_key(alloc, table, &SCRIPT_KEYS, "a script"),
         FaultKind::Missing => missing_key(alloc, table, &["step"], "a script"),
         FaultKind::WrongKind => wrong_value(alloc, table, &KEYS),
         FaultKind::Limit => too_many(alloc, table, "rows", &ROWS),

@@ -3,6 +3,7 @@ use fints_cli_hints_words::elements::elements_slip;
 use fints_cli_hints_words::keys::{Form, Wanted, missing_key, no_table, unknown_key, wrong_value};
 use fints_cli_hints_words::places::{Told, row_named, told, told_at};
 use fints_cli_hints_words::quoting::Quoted;
+use fints_script_rows::keys::SEGMENT_KEYS;
 use fints_script_rows::{FaultKind, NamedRows};
 use fints_syntax::{Kind, is_frame_kind};
 use fints_syntax_toml::document::member;
@@ -69,9 +70,7 @@ fn wrong_kind(alloc: Global, fields: &NamedRows<'_>, table: &Table) -> Told {
 
 fn table_slip(alloc: Global, kind: FaultKind, fields: &NamedRows<'_>, table: &Table) -> Told {
     match kind {
-        FaultKind::UnknownKey => {
-            unknown_key(alloc, table, &["kind", "version", "elements"], "a segment")
-        }
+        FaultKind::UnknownKey => { unknown_key(alloc, table, &SEGMENT_KEYS, "a segment") }
         FaultKind::Missing => missing_key(alloc, table, &["kind", "version"], "a segment"),
         FaultKind::WrongKind => wrong_kind(alloc, fields, table),
         FaultKind::Limit => wrong_value(alloc, table, &[VERSION]),

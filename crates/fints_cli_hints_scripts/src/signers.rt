@@ -4,6 +4,7 @@ use fints_cli_hints_words::keys::{
     Form, Wanted, missing_key, must_be, name_taken, no_table, unknown_key, wrong_value,
 };
 use fints_cli_hints_words::places::{Told, row_at, row_named, told, told_at};
+use fints_script_rows::keys::SIGNER_KEYS;
 use fints_script_rows::limits::MAX_TEMPLATE_ITEMS;
 use fints_script_rows::{FaultKind, NamedRows};
 use fints_syntax_toml::document::member;
@@ -107,8 +108,8 @@ fn table_slip(
     table: &Table,
 ) -> Told {
     match kind {
-        FaultKind::UnknownKey => unknown_key(alloc, table, &["name", "head", "end"], "a signer"),
-        FaultKind::Missing => missing_key(alloc, table, &["name", "head", "end"], "a signer"),
+        FaultKind::UnknownKey => unknown_key(alloc, table, &SIGNER_KEYS, "a signer"),
+        FaultKind::Missing => missing_key(alloc, table, &SIGNER_KEYS, "a signer"),
         FaultKind::WrongKind => wrong_kind(alloc, fields, table),
         FaultKind::Duplicate => twice(alloc, rows, table),
         _ => ends_slip(alloc, kind, fields, table),

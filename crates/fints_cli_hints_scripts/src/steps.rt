@@ -10,6 +10,7 @@ use fints_cli_hints_words::keys::{
 use fints_cli_hints_words::places::{Told, names_of, row_at, row_named, told, told_at};
 use fints_cli_hints_words::quoting::Quoted;
 use fints_cli_hints_words::tables::{is_set, rows_of};
+use fints_script_rows::keys::STEP_KEYS;
 use fints_script_rows::limits::{MAX_BRANCHES, MAX_REPEAT, MAX_SEGMENTS, MAX_SIGNATURES};
 use fints_script_rows::{FaultKind, NamedRows};
 use fints_syntax_toml::document::member;
@@ -149,14 +150,7 @@ fn own_slip(
     table: &Table,
 ) -> Told {
     match kind {
-        FaultKind::UnknownKey => unknown_key(
-            alloc,
-            table,
-            &[
-                "name", "segments", "sealed", "signers", "repeat", "branches", "default",
-            ],
-            "a step",
-        ),
+        FaultKind::UnknownKey => unknown_key(alloc, table, &STEP_KEYS, "a step"),
         FaultKind::Missing => missing(alloc, around, table),
         FaultKind::WrongKind => wrong_value(alloc, table, &KEYS),
         FaultKind::Duplicate => twice(alloc, around.steps, row, table),

@@ -6,6 +6,7 @@ ghost use Rattle.fints_script.specs.StepParts.{branch_in_parts, on_at, target_at
 ghost use Rattle.fints_script.specs.Steps.{branch_in, branches_in, is_word, on_in, target_in, target_named};
 
 use fints_script_cases::{Branch, Pattern, Target};
+use fints_script_rows::keys::BRANCH_KEYS;
 use fints_script_rows::limits::MAX_BRANCHES;
 use fints_script_rows::parts::{at_most, both, entries_of, more, required};
 use fints_script_rows::{FaultKind, NamedRows};
@@ -73,7 +74,7 @@ fn table_branch(rows: &NamedRows<'_>, row: usize, table: &Table) -> Result<Branc
     requires { length rows.now < 65535 }
     ensures { result ≡ branch_in_parts (map view rows.now) row (table_view table.now) }
 {
-    if !document::only_keys(table, &["on", "to"]) {
+    if !document::only_keys(table, &BRANCH_KEYS) {
         return Err(FaultKind::UnknownKey);
     }
     let (on, to) = both(on_at(table), target_at(rows, row, table))?;

@@ -15,6 +15,7 @@ use crate::branches::{branches_in, is_word, target_in};
 use crate::steps::{Course, Sent, Step, sized_step, whole_step};
 use fints_script_cases::{Branch, Target};
 use fints_script_fields::Name;
+use fints_script_rows::keys::STEP_KEYS;
 use fints_script_rows::limits::{MAX_REPEAT, MAX_SEGMENTS, MAX_SIGNATURES};
 use fints_script_rows::names::{name_text, new_name};
 use fints_script_rows::parts::{
@@ -205,12 +206,7 @@ fn step_name(rows: &NamedRows<'_>, row: usize, table: &Table) -> Result<Name, Fa
 fn only_step_keys(table: &Table) -> bool
     ensures { result ≡ only_keys step_keys (table_view table.now) }
 {
-    only_keys(
-        table,
-        &[
-            "name", "segments", "sealed", "signers", "repeat", "branches", "default",
-        ],
-    )
+    only_keys(table, &STEP_KEYS)
 }
 
 fn parts_in(

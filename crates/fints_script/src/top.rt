@@ -6,6 +6,7 @@ ghost use Rattle.fints_script.specs.Around.{seen_top};
 ghost use Rattle.fints_script.specs.Scripts.{rows_at, step_rows, top_in};
 
 use fints_script_rows::FaultKind;
+use fints_script_rows::keys::SCRIPT_KEYS;
 use fints_script_rows::limits::{MAX_FIELDS, MAX_SIGNERS, MAX_STEPS};
 use fints_script_rows::parts::{both, entries_of, not_empty, required};
 use fints_syntax_toml::document::{member, only_keys};
@@ -50,7 +51,7 @@ fn step_rows(table: &Table) -> Result<&[Value], FaultKind>
 pub fn top_in(table: &Table) -> Result<Top<'_>, FaultKind>
     ensures { seen seen_top result ≡ top_in (table_view table.now) }
 {
-    if !only_keys(table, &["seal", "field", "signer", "step"]) {
+    if !only_keys(table, &SCRIPT_KEYS) {
         return Err(FaultKind::UnknownKey);
     }
     let rows = both(

@@ -5,6 +5,7 @@ ghost use Rattle.fints_syntax_toml.specs.Document.{only_keys};
 ghost use Rattle.fints_script_rows.specs.Fields.{class_name_in, class_named, class_of, field_keys, is_sized};
 
 use crate::fault::FaultKind;
+use crate::keys::{BOUNDED_FIELD_KEYS, FIELD_KEYS, LISTED_FIELD_KEYS};
 use crate::parts::required;
 use fints_script_fields::Alphabet;
 use fints_syntax_toml::document::only_keys;
@@ -61,8 +62,8 @@ pub fn only_field_keys(class: Result<ClassName, FaultKind>, table: &Table) -> bo
     ensures { result ≡ only_keys (field_keys class) (table_view table.now) }
 {
     match class {
-        Err(_) => only_keys(table, &["name", "class", "min", "max", "values"]),
-        Ok(class) if is_sized(class) => only_keys(table, &["name", "class", "min", "max"]),
-        Ok(_) => only_keys(table, &["name", "class", "values"]),
+        Err(_) => only_keys(table, &FIELD_KEYS),
+        Ok(class) if is_sized(class) => only_keys(table, &BOUNDED_FIELD_KEYS),
+        Ok(_) => only_keys(table, &LISTED_FIELD_KEYS),
     }
 }

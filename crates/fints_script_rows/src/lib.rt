@@ -6,6 +6,7 @@ mod field_class;
 mod field_entry;
 mod field_values;
 mod fields;
+pub mod keys;
 pub mod laws;
 pub mod limits;
 mod named_rows;

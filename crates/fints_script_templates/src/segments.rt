@@ -6,6 +6,7 @@ ghost use Rattle.fints_script_templates.specs.Segments.{body_in, body_kind, kind
 
 use crate::elements::elements_in;
 use crate::template::{Template, TemplateElements};
+use fints_script_rows::keys::SEGMENT_KEYS;
 use fints_script_rows::parts::{both, integer_in, required};
 use fints_script_rows::{FaultKind, Fields};
 use fints_syntax_kinds::{Kind, is_frame_kind};
@@ -56,7 +57,7 @@ fn body_in(alloc: Global, fields: &Fields, table: &Table) -> Result<TemplateElem
 fn table_segment(alloc: Global, fields: &Fields, table: &Table) -> Result<Template, FaultKind>
     ensures { Gives (λ t. t) result (table_segment fields.now (table_view table.now)) }
 {
-    if !document::only_keys(table, &["kind", "version", "elements"]) {
+    if !document::only_keys(table, &SEGMENT_KEYS) {
         return Err(FaultKind::UnknownKey);
     }
     let head = both(kind_at(table), version_at(table));

@@ -11,6 +11,7 @@ use crate::elements::elements_in;
 use crate::template::{Signer, TemplateElements};
 use crate::weights::has_many_items;
 use fints_script_fields::Name;
+use fints_script_rows::keys::SIGNER_KEYS;
 use fints_script_rows::names::{name_text, new_name};
 use fints_script_rows::parts::{both, required};
 use fints_script_rows::{FaultKind, Fields};
@@ -80,7 +81,7 @@ fn table_signer(
 ) -> Result<Signer, FaultKind>
     ensures { Gives (λ s. s) result (table_signer fields.now (map view earlier.now) (table_view table.now)) }
 {
-    if !document::only_keys(table, &["name", "head", "end"]) {
+    if !document::only_keys(table, &SIGNER_KEYS) {
         return Err(FaultKind::UnknownKey);
     }
     let frames = frames_in(alloc, fields, table);
