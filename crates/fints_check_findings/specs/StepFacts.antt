@@ -1,5 +1,5 @@
 -- The facts of a step's message, as far as the step tells them, and the rules over them. Private contracts alone cite these words.
-use Rattle.std.specs.Prelude.{codes, ◌≡◌, ◌⊎◌, ◌↔◌, ℕ, ◌+◌, Bool, true, false, List, [], length, slice_get, Option, Some, Any, IsTrue}
+use Rattle.std.specs.Prelude.{codes, ◌≡◌, ◌⊎◌, ◌↔◌, ℕ, ◌+◌, Bool, true, false, List, [], length, slice_get, Option, None, Some, Any, IsTrue}
 use Rattle.std.specs.List.{list_any}
 use Rattle.std.specs.Set.{distinct_count}
 use Rattle.std.specs.Str.{bytes_eq}
