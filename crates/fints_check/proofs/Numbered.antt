@@ -1,11 +1,11 @@
 -- Lists that count from 1, and lists of names.
 use Rattle.std.proofs.Common.{ℕ, suc, zero, ◌+◌, ◌-◌, ◌<◌, ◌≤◌, ◌≡◌, ◌≢◌, inl, inr, Some, List, [], ◌∷◌, ◌++◌, length, map, take, get_or, slice_get, ap, sym, subst, ◌∙◌, arith}
-use Rattle.std.proofs.lemmas.List.{take_more, map-append, length-map, length-set, get_or-set_same, get_or-set_other}
+use Rattle.std.proofs.lemmas.List.{take_more, map-append, length-set, get_or-set_same, get_or-set_other}
 use Rattle.std.proofs.lemmas.Bool.{cases_lt}
 use Rattle.std.proofs.Math.ListN.{set}
 use Rattle.std.proofs.lemmas.Option.{slice_get-get_or, slice_get-map, slice_get_past, same_Some}
 use Rattle.std.specs.Option.{option_map}
-use Rattle.fints_script.specs.Numbered.{numbered, numbered_within}
+use Rattle.fints_script.specs.Numbered.{numbered}
 
 pub numbered_is : {X : Type 0} (xs : List X) (n : ℕ) → 1 ≤ n → numbered xs n ≡ slice_get xs (n - 1)
 numbered_is xs zero low = absurd (omega arith)
@@ -66,11 +66,3 @@ set_other xs i k x other =
           slice_get-get_or (set xs i x) k x inside ∙ (ap (λ y. Some y) (get_or-set_other xs i k x x other) ∙ sym (slice_get-get_or xs k x within))
       | inr past ↦ slice_get_past (set xs i x) k (subst (λ (n : ℕ). n ≤ k) (sym (length-set xs i x)) past) ∙ sym (slice_get_past xs k past)
     ]
-
--- what has a number in a list of names has it in each list with the same names
-pub named_within : {X Y : Type 0} (f : X → List ℕ) (g : Y → List ℕ) (xs : List X) (ys : List Y) (n : ℕ) (x : X)
-    → map f xs ≡ map g ys → numbered xs n ≡ Some x → (1 ≤ n) × (n ≤ length ys)
-named_within f g xs ys n x same at =
-    let long : length xs ≡ length ys = sym (length-map xs f) ∙ (ap length same ∙ length-map ys g) in
-    let within = numbered_within xs n x at in
-    (within.0, subst (λ (m : ℕ). n ≤ m) long within.1)

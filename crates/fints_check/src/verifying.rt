@@ -1,5 +1,5 @@
 //! Whether a certificate is closed, whoever wrote it.
-ghost use Rattle.std.specs.Prelude.{◌≡◌, ◌↔◌, ◌≤◌, Some, true, length, IsTrue, SomeIff};
+ghost use Rattle.std.specs.Prelude.{◌≡◌, ◌↔◌, ◌≤◌, Some, true, length, IsTrue, IfSome, SomeIff};
 ghost use Rattle.fints_script_cases.specs.Answers.{IsOpenTo};
 ghost use Rattle.fints_check_findings.specs.Findings.{EachIsPermitted};
 ghost use Rattle.fints_script.specs.Numbered.{numbered};
@@ -134,9 +134,10 @@ impl<'a> Claims<'a> {
         })
     }
 
-    // The figures of step n, if it is named as reached.
+    // The figures of step n, if it is named as reached; it is one of the script's then.
     fn figures(&self, n: usize) -> Option<Reached>
-        ensures { result ≡ figures_at self.now.lines n }
+        ensures figures { result ≡ figures_at self.now.lines n }
+        ensures within { IfSome result (λ _. (1 ≤ n) × (n ≤ length self.now.script.steps)) }
     {
         let line = self.lines.get(n.checked_sub(1)?)?;
         line.reached

@@ -1,10 +1,23 @@
-use Rattle.std.proofs.Common.{ℕ, ◌≡◌, ◌≤◌, ◌×◌, Option, Some, None, length, ap, sym, subst, ◌∙◌}
+use Rattle.std.proofs.Common.{◌≡◌, ◌∙◌, sym, subst}
 use Rattle.std.proofs.lemmas.Option.{same_Some}
-use Rattle.fints_script.specs.Numbered.{numbered, numbered_at}
-use Rattle.fints_script.specs.Steps.{StepValue}
-use Rattle.fints_check.specs.Certificates.{Covers, Names}
-use Rattle.fints_check.specs.Verifying.{ClaimsValue}
-use Rattle.fints_check.specs.declared.certificate.Line.{Line}
-use Rattle.fints_check_findings.specs.declared.finding.Reached.{Reached}
-use Rattle.fints_check.proofs.Numbered.{named_within}
+use Rattle.fints_script.specs.Numbered.{numbered_at}
+use Rattle.fints_check.specs.Certificates.{Covers}
 use Rattle.fints_check.proofs.verifying.Claims.is_entered.Goals as goal
+
+pub returns-in-Some : goal.returns-in-Some
+returns-in-Some c =
+    let named = sym c.figures.ensures.figures ∙ c.in-Some.is in
+    let within = c.in-Some.ensures.within in
+    let step = numbered_at c.args.self.now.script.steps c.args.n within.0 within.1 in
+    let told = c.covers.ensures step.0 step.1 in (
+      λ h. record { step = step.0; at = step.1; figures = c.in-Some.reached; named = named; covers = told.0 h },
+      λ e.
+          let figures = same_Some e.figures c.in-Some.reached (sym e.named ∙ named) in
+          let one = same_Some e.step step.0 (sym e.at ∙ step.1) in
+          told.1
+          (subst (λ s. Covers s c.args.from c.in-Some.reached.number) one
+          (subst (λ r. Covers e.step c.args.from r.number) figures e.covers)),
+    )
+
+pub returns-in-None : goal.returns-in-None
+returns-in-None c = let named = sym c.figures.ensures.figures ∙ c.in-None.is in (λ h. absurd cc, λ e. let both = sym named ∙ e.named in absurd cc)

@@ -9,7 +9,7 @@ is_released_step-requires-clause-to c = subst (λ (v : ClaimsValue). c.args.t �
 
 pub returns-in-Some : goal.returns-in-Some
 returns-in-Some c =
-    let named = sym c.figures.ensures ∙ c.in-Some.is in
+    let named = sym c.figures.ensures.figures ∙ c.in-Some.is in
     let told =
     subst
     (λ (v : ClaimsValue).
@@ -18,4 +18,4 @@ returns-in-Some c =
     (λ h s figures other u. told.0 h s u, λ none. told.1 (λ s u. none s c.in-Some.field-0 named u))
 
 pub returns-in-None : goal.returns-in-None
-returns-in-None c = let named = sym c.figures.ensures ∙ c.in-None.is in (λ h s figures other. let both = sym named ∙ other in absurd cc, λ none. cc)
+returns-in-None c = let named = sym c.figures.ensures.figures ∙ c.in-None.is in (λ h s figures other. let both = sym named ∙ other in absurd cc, λ none. cc)

@@ -7,7 +7,7 @@ use Rattle.fints_check.proofs.verifying.Claims.step_holds.Goals as goal
 pub returns-in-Some : goal.returns-in-Some
 returns-in-Some c step at =
     let self = c.args.self.now in
-    let named = sym c.figures.ensures ∙ c.in-Some.is in
+    let named = sym c.figures.ensures.figures ∙ c.in-Some.is in
     let e = c.line_holds.ensures step at in (
       λ h figures other.
           let same : c.in-Some.reached ≡ figures = same_Some c.in-Some.reached figures (sym named ∙ other) in
@@ -16,4 +16,4 @@ returns-in-Some c step at =
     )
 
 pub returns-in-None : goal.returns-in-None
-returns-in-None c step at = let named = sym c.figures.ensures ∙ c.in-None.is in (λ h figures other. let both = sym named ∙ other in absurd cc, λ all. cc)
+returns-in-None c step at = let named = sym c.figures.ensures.figures ∙ c.in-None.is in (λ h figures other. let both = sym named ∙ other in absurd cc, λ all. cc)
