@@ -85,7 +85,7 @@ opens_data : (rule : Rule) (seen : List OwnedSegment) (s : OwnedSegment) (place 
     → NoneRefused rule seen → is_sealed s ≡ true → data_of s ≡ Some bytes → Opens rule seen s place
 opens_data rule seen s place bytes none e d =
     elim (capture_or_fault bytes) [
-      | inl h ↦ opens_among rule seen s place (values_in h.1) none (inr (e, bytes, d, (map (λ p. p.segment) h.1, (h.1, h.2, refl), refl)))
+      | inl h ↦ opens_among rule seen s place (values_in h.1) none (inr (e, (bytes, d, (map (λ p. p.segment) h.1, (h.1, h.2, refl), refl))))
       | inr h ↦ inr (Syntax (record { kind = h.0.kind; offset = place + h.0.offset }), inr (e, inr (bytes, h.0, d, (h.1, h.2), refl)))
     ]
 

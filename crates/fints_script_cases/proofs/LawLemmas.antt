@@ -33,5 +33,5 @@ carried_where = carries_where
 pub carrying_leads : (branches : List Branch) (otherwise : Target) → CarryingLeads branches otherwise
 carrying_leads = carried.carrying_leads
 
-pub some_answer : (text : List ℕ) → CaseOrBadLine text
-some_answer = reads.case_or_bad_line
+pub case_or_bad_line : (text : List ℕ) → CaseOrBadLine text
+case_or_bad_line = reads.case_or_bad_line

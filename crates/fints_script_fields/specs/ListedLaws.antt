@@ -260,14 +260,6 @@ module _ {X : Type 0} (size : X → ℕ) where
   pub shortest_is : (none x : X) (xs : List X) → first_shortest size none (x ∷ xs) ≡ shortest_from size x xs
   shortest_is none x xs = found_shortest none (x ∷ xs) (shortest_from size x xs) (shortest_first size x xs)
 
-  pub longest_is_first : (none : X) (xs : List X) → 0 < length xs → IsFirstOfGreatest size xs (first_longest size none xs)
-  longest_is_first none [] h = absurd (omega arith)
-  longest_is_first none (x ∷ xs) h = subst (IsFirstOfGreatest size (x ∷ xs)) (sym (longest_is none x xs)) (longest_first size x xs)
-
-  pub shortest_is_first : (none : X) (xs : List X) → 0 < length xs → IsFirstOfLeast size xs (first_shortest size none xs)
-  shortest_is_first none [] h = absurd (omega arith)
-  shortest_is_first none (x ∷ xs) h = subst (IsFirstOfLeast size (x ∷ xs)) (sym (shortest_is none x xs)) (shortest_first size x xs)
-
 -- ---- how long they are
 
 module _ {X : Type 0} (text : X → List ℕ) (g : List ℕ → ℕ) where

@@ -1,5 +1,5 @@
-use Rattle.fints_check.proofs.LawLemmas.{some_answer}
-use Rattle.fints_check.proofs.laws.some_answer.Goals as goal
+use Rattle.fints_check.proofs.LawLemmas.{certificate_or_bad_line}
+use Rattle.fints_check.proofs.laws.certificate_or_bad_line.Goals as goal
 
 pub returns : goal.returns
-returns c = some_answer
+returns c = certificate_or_bad_line

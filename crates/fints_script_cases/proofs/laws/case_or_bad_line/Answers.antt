@@ -1,5 +1,5 @@
-use Rattle.fints_script_cases.proofs.LawLemmas.{some_answer}
-use Rattle.fints_script_cases.proofs.laws.some_answer.Goals as goal
+use Rattle.fints_script_cases.proofs.LawLemmas.{case_or_bad_line}
+use Rattle.fints_script_cases.proofs.laws.case_or_bad_line.Goals as goal
 
 pub returns : goal.returns
-returns c = some_answer
+returns c = case_or_bad_line
