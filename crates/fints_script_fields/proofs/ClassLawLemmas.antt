@@ -1,5 +1,5 @@
 -- The laws, each with its proof, for the proofs of the crates above.
-use Rattle.std.specs.Prelude.{◌≡◌, ℕ, List, [], ◌∷◌, length, map}
+use Rattle.std.specs.Prelude.{◌≡◌, ℕ, List, [], ◌∷◌}
 use Rattle.fints_script_fields.specs.AccountLaws.{IsListedSomewhere, ListedAreAdmitted, ListedStandAsItems, TextIsOneAccount}
 use Rattle.fints_script_fields.specs.Fields.{field_accounts, field_domain, field_items, field_longest, field_shortest, field_written}
 use Rattle.fints_syntax_segments.specs.Segment.{item_value}
@@ -10,7 +10,7 @@ use Rattle.fints_script_fields.specs.declared.counted.Bin.{Bin}
 use Rattle.fints_script_fields.specs.declared.counted.Text.{Text}
 use Rattle.fints_script_fields.specs.declared.listing.Account.{Account}
 use Rattle.fints_script_fields.specs.declared.listing.OneOf.{OneOf}
-use Rattle.std.proofs.Common.{[], length}
+use Rattle.std.proofs.Common.{[]}
 use Rattle.fints_script_fields.proofs.Telling.{found_is}
 use Rattle.fints_script_fields.proofs.Domains.{value_listed, listed_admitted, listed_items, one_item, empty_shortest, longest_alone, longest_empty}
 use Rattle.fints_script_fields.proofs.OneClass.{one_account, one_bin, one_oneof, one_text}
