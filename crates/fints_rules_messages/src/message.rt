@@ -1,10 +1,7 @@
 //! Messages, as they are read.
-ghost use Rattle.std.specs.Prelude.{◌≡◌, ◌<◌, ◌≤◌, ◌^◌, ℕ, List, length, map, Option, Some, IfOk, IfErr, IfSome, IfNone};
-ghost use Rattle.fints_syntax_segments.specs.Number.{number_of};
+ghost use Rattle.std.specs.Prelude.{◌≡◌, ◌<◌, ℕ, Option, Some, IfOk, IfErr, IfSome, IfNone};
 ghost use Rattle.fints_syntax.specs.Owned.{segment_of, segments_of};
-ghost use Rattle.fints_syntax_segments.specs.Values.{value_at};
 ghost use Rattle.fints_rules_messages.specs.Messages.{MessageView, IsMessage, IsFirst};
-ghost use Rattle.fints_rules_messages.specs.Front.{IsNumber};
 ghost use Rattle.fints_rules_messages.specs.Read.{IsJudgeFault};
 ghost use Rattle.fints_rules_messages.specs.declared.message.JudgeFault.TheVariants as fault;
 

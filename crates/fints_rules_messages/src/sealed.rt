@@ -1,5 +1,5 @@
 //! The sealed form of a message.
-ghost use Rattle.std.specs.Prelude.{◌≡◌, ◌+◌, ◌^◌, ◌<◌, ◌≤◌, IfOk, IfSome, length, drop};
+ghost use Rattle.std.specs.Prelude.{◌+◌, ◌^◌, ◌<◌, IfOk, IfSome, length};
 ghost use Rattle.fints_syntax.specs.Owned.{segment_of};
 ghost use Rattle.fints_rules_messages.specs.Messages.{IsTail};
 ghost use Rattle.fints_rules_messages.specs.Front.{IsNumber, TailIs, StopsWithin, IsSealedRest, HasSealHead, EnvelopeIs};
