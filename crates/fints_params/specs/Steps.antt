@@ -8,8 +8,7 @@ use Rattle.fints_syntax.specs.declared.capture.Placed.{Placed}
 use Rattle.fints_syntax.specs.declared.stream.ReadTo.{ReadTo}
 use Rattle.fints_syntax_segments.specs.declared.item.OwnedSegment.{OwnedSegment}
 use Rattle.fints_params.specs.declared.fault.ParamFault.{ParamFault}
-use Rattle.fints_params.specs.Sealed.{data_of}
-use Rattle.fints_params.specs.Opened.{ReadsAs, OpensTo, OpenTo, AreSegmentsOf}
+use Rattle.fints_params.specs.Opened.{OpensTo, OpenTo, AreSegmentsOf}
 use Rattle.fints_params.specs.Refused.{Rule, IsFirstRefused, IsRefusedAt, IsRefusedIn, values_in}
 use Rattle.fints_syntax.specs.declared.capture.TheConstants.{MAX_CAPTURE}
 

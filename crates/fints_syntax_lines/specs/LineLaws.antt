@@ -268,8 +268,8 @@ module _ (Good : List (List ℕ) → Type 0) (text : List ℕ)
       goes_on_behind lines rest is begins (λ line more split b. omega (arith, few, shorter rest line more split))
   text_or_bad_line_from (suc n) lines rest few is begins =
       goes_on_behind lines rest is begins (λ line more split b.
-          text_or_bad_line_from n (lines ++ line ∷ []) more (omega (arith, few, shorter rest line more split))
-          (text_taken text rest line more lines is split) b)
+      text_or_bad_line_from n (lines ++ line ∷ []) more (omega (arith, few, shorter rest line more split))
+      (text_taken text rest line more lines is split) b)
 
 pub text_or_bad_line :
     (Good : List (List ℕ) → Type 0) (text : List ℕ) → BeginsText Good []

@@ -1,5 +1,4 @@
 -- The message of a step. Words of private contracts and proofs alone stand last, under a heading.
-use Rattle.fints_wire.specs.declared.building.TheConstants.{MAX_NUMBER}
 use Rattle.std.specs.Prelude.{ℕ, ◌≡◌, ◌+◌, ◌-◌, codes, List, [], ◌∷◌, ◌++◌, length, map, get_or, replicate, slice_get, Bool, true, false, Some, None}
 use Rattle.std.specs.List.{flat_map}
 use Rattle.std.specs.Fmt.{decimal}
