@@ -6,7 +6,7 @@ use Rattle.std.proofs.lemmas.List.Elements.{All-cons, All-nil, All-push}
 use Rattle.std.proofs.lemmas.List.Quantifiers.{all_pairs_push}
 use Rattle.fints_script_fields.specs.Names.{IsNameByte}
 use Rattle.fints_syntax_lines.specs.Lines.{text_of_lines, BeginsText}
-use Rattle.fints_syntax_lines.specs.LineLaws.{text_taken, length_taken, lines_long, same_lines, refused_at, some_answer}
+use Rattle.fints_syntax_lines.specs.LineLaws.{text_taken, length_taken, lines_long, same_lines, refused_at, text_or_bad_line}
 use Rattle.fints_check.specs.CertTexts.{step_text, cert_lines, cert_text, IsStepLine, IsCertificate, IsCertificateOf, OneCertificate, CertificateOrBadLine, AreCertLines, IsFirstBadLine}
 use Rattle.fints_check.specs.CertReading.{IsNew, IsBegun, IsLineTaken, HasNoLine}
 use Rattle.fints_check.specs.declared.certificate.Line.{Line}
@@ -147,7 +147,7 @@ no_header text none =
 
 pub certificate_or_bad_line : (text : List ℕ) → CertificateOrBadLine text
 certificate_or_bad_line text none never =
-    some_answer AreCertLines text
+    text_or_bad_line AreCertLines text
     (record { later = cert_lines (least_line ∷ []); good = record { lines = least_line ∷ []; is = least; same = refl } })
     (λ all good is. none good.lines (good.is, is ∙ ap text_of_lines good.same)) never
 

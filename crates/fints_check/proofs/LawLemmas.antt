@@ -27,5 +27,5 @@ greatest_are_readable script lines sound same names figures = greatest_readable 
 pub one_certificate : (text : List ℕ) → OneCertificate text
 one_certificate = reads.one_certificate
 
-pub some_answer : (text : List ℕ) → CertificateOrBadLine text
-some_answer = reads.certificate_or_bad_line
+pub certificate_or_bad_line : (text : List ℕ) → CertificateOrBadLine text
+certificate_or_bad_line = reads.certificate_or_bad_line

@@ -73,6 +73,6 @@ abbrev pub CertificateOrBadLine : List ℕ → Type 0
 CertificateOrBadLine text =
     ((lines : List Line) → IsCertificateOf text lines → ⊥) → ((n : ℕ) → IsFirstBadLine text n → ⊥) → ⊥
 
-abbrev pub IsRefusal : List ℕ → CertFault → Type 0
-IsRefusal text (Bad line) = IsFirstBadLine text line
-IsRefusal text Memory = Unit {0}
+abbrev pub IsCertFault : List ℕ → CertFault → Type 0
+IsCertFault text (Bad line) = IsFirstBadLine text line
+IsCertFault text Memory = Unit {0}

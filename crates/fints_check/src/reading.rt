@@ -5,7 +5,7 @@ ghost use Rattle.fints_check_findings.specs.declared.finding.Reached.{Reached as
 ghost use Rattle.fints_script_fields.specs.NameSets.{HoldsNames};
 ghost use Rattle.fints_syntax_lines.specs.Lines.{IsReadAs};
 ghost use Rattle.fints_check.specs.Certificates.{line_names};
-ghost use Rattle.fints_check.specs.CertTexts.{figures_text, step_text, IsFigure, AreShown, IsStepLine, IsCertificateOf, IsRefusal};
+ghost use Rattle.fints_check.specs.CertTexts.{figures_text, step_text, IsFigure, AreShown, IsStepLine, IsCertificateOf, IsCertFault};
 ghost use Rattle.fints_check.specs.CertReading.{IsNew, IsLineTaken, HasNoLine};
 
 use crate::cert_fault::CertFault;
@@ -157,7 +157,7 @@ impl Certificate {
     /// The certificate that the text stands for. Each name is looked up in an ordered set.
     pub fn read(alloc: Global, text: &[u8]) -> Result<Certificate, CertFault>
         ensures certificate { IfOk result (λ certificate. IsCertificateOf text.now certificate) }
-        ensures refusal { IfErr result (IsRefusal text.now) }
+        ensures refusal { IfErr result (IsCertFault text.now) }
     {
         let Some(mut rest) = after(text, b"fints-cert 2\n") else {
             return Err(CertFault::Bad { line: 1 });

@@ -1,7 +1,9 @@
 //! Elements of a capture that can't be read.
 use fints_cli_hints_words::quoting::Sample;
 use fints_params::Code;
-use fints_syntax::{ElementRef, Item, Memory, OwnedSegment, Placed, parse_number, parse_placed};
+use fints_syntax::{
+    ElementRef, HNVSD_VERSION, Item, Memory, OwnedSegment, Placed, parse_number, parse_placed,
+};
 use std::alloc::Global;
 use std::fmt;
 use std::fmt::{Display, Formatter, Write};
@@ -24,7 +26,7 @@ pub struct Data<'a> {
 /// The data of an HNVSD version 1.
 pub fn data_of<'a>(placed: &Placed<'a>) -> Option<Data<'a>> {
     let view = &placed.segment;
-    if !view.id().is(b"HNVSD") || view.version() != 1 {
+    if !view.id().is(b"HNVSD") || view.version() != HNVSD_VERSION {
         return None;
     }
     match (view.item(2, 1), view.item_start(2, 1)) {
@@ -225,7 +227,7 @@ fn bad_params(found: &Found) -> Option<BadElement<'_>> {
     if segment.is_named(b"HIPINS", 1) {
         return bad_pin(&segment.items(5));
     }
-    if segment.is_named(b"HNVSD", 1) && !found.inner {
+    if segment.is_named(b"HNVSD", HNVSD_VERSION) && !found.inner {
         let words = "a binary item, @length@ and so many bytes";
         return Some(bad_element(2, segment.value(2, 1), words));
     }

@@ -2,7 +2,10 @@
 use crate::syntax::{Numbered, front_of, trouble};
 use fints_cli_hints_words::places::{Told, told, written};
 use fints_cli_hints_words::quoting::Sample;
-use fints_syntax::{Kind, Memory, SegmentView, parse_number, parse_segment};
+use fints_syntax::{
+    HNHBK_VERSION, HNHBS_VERSION, HNSHA_VERSION, HNSHK_VERSION, HNVSD_VERSION, HNVSK_NUMBER,
+    HNVSK_VERSION, Kind, Memory, SegmentView, parse_number, parse_segment,
+};
 use std::alloc::Global;
 
 /// What a segment is within a message.
@@ -16,10 +19,12 @@ enum Part {
 
 fn frame_version(kind: Kind) -> Option<u16> {
     match kind.as_bytes() {
-        b"HNHBK" | b"HNVSK" => Some(3),
-        b"HNSHK" => Some(4),
-        b"HNSHA" => Some(2),
-        b"HNVSD" | b"HNHBS" => Some(1),
+        b"HNHBK" => Some(HNHBK_VERSION),
+        b"HNVSK" => Some(HNVSK_VERSION),
+        b"HNSHK" => Some(HNSHK_VERSION),
+        b"HNSHA" => Some(HNSHA_VERSION),
+        b"HNVSD" => Some(HNVSD_VERSION),
+        b"HNHBS" => Some(HNHBS_VERSION),
         _ => None,
     }
 }
@@ -28,8 +33,8 @@ fn frame_version(kind: Kind) -> Option<u16> {
 fn part_of(view: &SegmentView<'_>) -> Part {
     let kind = view.id();
     match (kind.as_bytes(), view.version()) {
-        (b"HNSHK", 4) => Part::Opener,
-        (b"HNSHA", 2) => Part::Ender,
+        (b"HNSHK", HNSHK_VERSION) => Part::Opener,
+        (b"HNSHA", HNSHA_VERSION) => Part::Ender,
         _ if frame_version(kind).is_some() => Part::Other,
         _ => Part::Body,
     }
@@ -132,7 +137,7 @@ fn version_text(alloc: Global, view: &SegmentView<'_>, wanted: u16) -> Result<St
 fn frame_text(alloc: Global, view: &SegmentView<'_>) -> Result<String, Memory> {
     match frame_version(view.id()) {
         Some(wanted) if wanted != view.version() => version_text(alloc, view, wanted),
-        _ if view.id().is(b"HNVSK") && view.number() != 998 => order_text(
+        _ if view.id().is(b"HNVSK") && view.number() != HNVSK_NUMBER => order_text(
             alloc,
             view,
             "can't stand there: HNVSK has the number 998, and stands behind HNHBK",
@@ -236,7 +241,9 @@ fn unread_slip(alloc: Global, rest: &[u8], walk: &Walk) -> Result<String, Memory
 /// Why no segment of a message stands at the front of bytes behind this walk.
 pub fn slip_at(alloc: Global, rest: &[u8], walk: &Walk, number: u32) -> Result<String, Memory> {
     match parse_segment(rest) {
-        Ok((view, _)) if is_named(&view, b"HNHBS", 1) => last_slip(alloc, &view, walk, number),
+        Ok((view, _)) if is_named(&view, b"HNHBS", HNHBS_VERSION) => last_slip(
+            alloc, &view, walk, number,
+        ),
         Ok((view, _)) => order_slip(alloc, &view, walk),
         Err(_) => unread_slip(alloc, rest, walk),
     }

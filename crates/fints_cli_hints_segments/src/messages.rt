@@ -7,11 +7,14 @@ use crate::syntax::{front_of, trouble};
 use fints_cli_hints_words::places::{Told, told, written};
 use fints_cli_hints_words::quoting::Sample;
 use fints_rules_messages::JudgeFault;
-use fints_syntax::{Item, Memory, OwnedSegment, SegmentView, parse_number, parse_segment};
+use fints_syntax::{
+    HNHBK_NUMBER, HNHBK_VERSION, HNHBS_VERSION, HNVSD_NUMBER, HNVSD_VERSION, HNVSK_NUMBER,
+    HNVSK_VERSION, Item, Memory, OwnedSegment, SegmentView, parse_number, parse_segment,
+};
 use std::alloc::Global;
 
-fn is_key(view: &SegmentView<'_>) -> bool {
-    is_named(view, b"HNVSK", 3) && view.number() == 998
+fn is_seal_head(view: &SegmentView<'_>) -> bool {
+    is_named(view, b"HNVSK", HNVSK_VERSION) && view.number() == HNVSK_NUMBER
 }
 
 // The number that digits spell; more than twelve spell none.
@@ -71,7 +74,7 @@ fn head_slip(alloc: Global, segment: &OwnedSegment, bytes: &[u8]) -> Result<Stri
 fn first_slip(alloc: Global, view: &SegmentView<'_>, bytes: &[u8]) -> Result<String, Memory> {
     let name = named(view);
     let version = view.version();
-    if !is_named(view, b"HNHBK", 3) {
+    if !is_named(view, b"HNHBK", HNHBK_VERSION) {
         return written(
             alloc,
             format_args!(
@@ -79,7 +82,7 @@ fn first_slip(alloc: Global, view: &SegmentView<'_>, bytes: &[u8]) -> Result<Str
             ),
         );
     }
-    if view.number() != 1 {
+    if view.number() != HNHBK_NUMBER {
         return written(alloc, format_args!("{name} must have the number 1"));
     }
     let segment = view.to_owned(alloc)?;
@@ -154,7 +157,7 @@ fn data_slip(alloc: Global, data: &[u8]) -> Result<String, Memory> {
 fn envelope_slip(alloc: Global, view: &SegmentView<'_>) -> Result<String, Memory> {
     let name = named(view);
     let version = view.version();
-    if !is_named(view, b"HNVSD", 1) {
+    if !is_named(view, b"HNVSD", HNVSD_VERSION) {
         return written(
             alloc,
             format_args!(
@@ -162,7 +165,7 @@ fn envelope_slip(alloc: Global, view: &SegmentView<'_>) -> Result<String, Memory
             ),
         );
     }
-    if view.number() != 999 {
+    if view.number() != HNVSD_NUMBER {
         return written(alloc, format_args!("{name} must have the number 999"));
     }
     match view.item(2, 1) {
@@ -190,7 +193,7 @@ fn behind_envelope(
     number: u32,
 ) -> Result<String, Memory> {
     match parse_segment(rest) {
-        Ok((last, _)) if is_named(&last, b"HNHBS", 1) => {
+        Ok((last, _)) if is_named(&last, b"HNHBS", HNHBS_VERSION) => {
             last_slip(alloc, &last, &inner_walk(view), number)
         }
         Ok((other, _)) => {
@@ -238,7 +241,7 @@ fn rest_text(
     let walk = walk_from(bytes, first);
     let rest = bytes.get(walk.at..).unwrap_or(&[]);
     match parse_segment(rest) {
-        Ok((view, len)) if walk.at == first && is_key(&view) => {
+        Ok((view, len)) if walk.at == first && is_seal_head(&view) => {
             sealed_text(alloc, bytes, first.saturating_add(len), at, number)
         }
         _ if at == walk.at => slip_at(alloc, rest, &walk, number),

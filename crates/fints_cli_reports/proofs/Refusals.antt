@@ -9,7 +9,7 @@ use Rattle.fints_rules_permissions.specs.declared.orders.OrderRow.{OrderRow}
 use Rattle.fints_rules_permissions.specs.declared.orders.TableFault.{TableFault}
 use Rattle.fints_rules_permissions.specs.declared.orders.TableFault.TheVariants as orders
 use Rattle.fints_rules_permissions.specs.Orders.{DenotesTable, IsTableFault}
-use Rattle.fints_script_cases.specs.Cases.{IsCaseOf, IsRefusal}
+use Rattle.fints_script_cases.specs.Cases.{IsCaseOf, IsCaseFault}
 use Rattle.fints_script_cases.specs.declared.values.NamedValue.{NamedValue}
 use Rattle.fints_script_cases.specs.declared.case_fault.CaseFault.{CaseFault}
 use Rattle.fints_script_cases.specs.declared.case_fault.CaseFault.TheVariants as cases
@@ -50,7 +50,7 @@ script_refused table script rows f h (inr p) = script_placed table script rows f
 
 -- ---- runs
 
-pub case_refused : (script : ScriptValue) (case : List ℕ) (only : Option ℕ) (f : CaseFault) → IsRefusal case f
+pub case_refused : (script : ScriptValue) (case : List ℕ) (only : Option ℕ) (f : CaseFault) → IsCaseFault case f
     → IsCaseRefusal script case only (case_fault_of f)
 case_refused script case only cases.Memory p = tt
 case_refused script case only (cases.Bad line) p = p

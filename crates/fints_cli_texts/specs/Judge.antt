@@ -10,7 +10,7 @@ use Rattle.fints_rules_permissions.specs.Orders.{DenotesTable, IsTableFault}
 use Rattle.fints_rules_permissions.specs.declared.orders.TableFault.{TableFault}
 use Rattle.fints_rules_permissions.specs.declared.orders.TableFault.TheVariants as table_faults
 use Rattle.fints_rules.specs.Breaks.{IsJudged}
-use Rattle.fints_rules_messages.specs.Messages.{IsNoMessage}
+use Rattle.fints_rules_messages.specs.Messages.{CeasesAt}
 use Rattle.fints_rules_messages.specs.declared.message.JudgeFault.{JudgeFault}
 use Rattle.fints_rules_messages.specs.declared.message.JudgeFault.TheVariants as message_faults
 use Rattle.fints_rules.specs.Rules.{rule_name}
@@ -62,7 +62,7 @@ IsTableRefusal orders f = IsTableFault orders f
 -- why bytes are no message, which is never want of memory
 abbrev pub IsStop : List ℕ → JudgeFault → Type 0
 IsStop message message_faults.Memory = ⊥
-IsStop message (message_faults.NotAMessage offset) = IsNoMessage message offset
+IsStop message (message_faults.NotAMessage offset) = CeasesAt message offset
 IsStop message (message_faults.NotAMessageBefore offset) = ⊥
 
 -- want of memory, or the first refusal: of the capture, of the order table, and of what is read after them

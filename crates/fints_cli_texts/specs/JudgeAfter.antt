@@ -1,6 +1,6 @@
 -- The text of `judge` for a message behind another one and the bank's answer to that. Words of private contracts and proofs alone stand last, under a heading.
 use Rattle.std.specs.Prelude.{◌≡◌, ℕ, List}
-use Rattle.fints_rules_messages.specs.Messages.{MessageView, IsMessage, IsNoMessage}
+use Rattle.fints_rules_messages.specs.Messages.{MessageView, IsMessage, CeasesAt}
 use Rattle.fints_params.specs.Captures.{IsCodeFault, IsCodesOf, IsParamsOf}
 use Rattle.fints_params.specs.Parameters.{Rows}
 use Rattle.fints_rules.specs.Breaks.{IsJudgedAfter}
@@ -35,7 +35,7 @@ IsSomeMessage bytes = (m : MessageView) × IsMessage bytes m
 -- want of memory, or the first refusal: of the message before, of the answer to it, of the message
 abbrev pub IsRefusalOfThree : List ℕ → List ℕ → List ℕ → Fault → Type 0
 IsRefusalOfThree before answer message Memory = Unit {0}
-IsRefusalOfThree before answer message (Before offset) = IsNoMessage before offset
+IsRefusalOfThree before answer message (Before offset) = CeasesAt before offset
 IsRefusalOfThree before answer message (Answer f) = IsSomeMessage before × IsCodeFault answer f
 IsRefusalOfThree before answer message (Message f) = (IsSomeMessage before × ((numbers : List ℕ) × IsCodesOf answer numbers)) × IsStop message f
 IsRefusalOfThree before answer message _ = ⊥
@@ -49,7 +49,7 @@ IsJudgeAfterRefusal params orders before answer message = IsFirstRefusal params 
 -- want of memory, or the refusal of the message before
 abbrev pub IsBeforeRefusal : List ℕ → Fault → Type 0
 IsBeforeRefusal before Memory = Unit {0}
-IsBeforeRefusal before (Before offset) = IsNoMessage before offset
+IsBeforeRefusal before (Before offset) = CeasesAt before offset
 IsBeforeRefusal before _ = ⊥
 
 -- want of memory, or the refusal of the answer

@@ -66,7 +66,7 @@ same_skips xs ys e = ap skipped_in e
 one_skips : (q : Piece) (s : OwnedSegment) (mine : List OwnedSegment) → IsPiece q → s ≡ segment_of q.elements
     → OpensTo s mine → skipped_in mine ≤ length (segment_bytes q.elements)
 one_skips q s mine piece own (inl (e, h)) = omega (arith, same_skips mine (s ∷ []) h, skipped_within q.elements s piece.segment own)
-one_skips q s mine piece own (inr (e, bytes, d, r)) = omega (arith, reads_within bytes mine r, data_within q.elements s bytes own d)
+one_skips q s mine piece own (inr (e, (bytes, d, r))) = omega (arith, reads_within bytes mine r, data_within q.elements s bytes own d)
 
 all_skips : (at : ℕ) (qs : List Piece) (segments : List OwnedSegment) → AllByRecursion IsPiece qs
     → OpenTo (values_in (placed_from at qs)) segments → skipped_in segments ≤ length (flat_map piece_bytes qs)

@@ -1,5 +1,5 @@
 -- Each capture tells rows or is refused, and each message tells codes or is refused.
-use Rattle.std.proofs.Common.{◌≡◌, ◌⊎◌, ℕ, ◌+◌, Bool, true, false, ◌&&◌, not, if◌then◌else◌, List, [], ◌∷◌, ◌++◌, map, refl, ap, ◌∙◌, sym, subst, inl, inr, append_assoc, Option, Some, None}
+use Rattle.std.proofs.Common.{◌≡◌, ◌⊎◌, ℕ, ◌+◌, Bool, true, false, if◌then◌else◌, List, [], ◌∷◌, ◌++◌, map, refl, ap, ◌∙◌, sym, subst, inl, inr, append_assoc, Option, Some, None}
 use Rattle.std.specs.List.{filter, filter_map, flat_map}
 use Rattle.std.proofs.lemmas.Bool.{cases_Bool}
 use Rattle.std.proofs.lemmas.List.{append-nil}
@@ -11,7 +11,6 @@ use Rattle.fints_syntax.proofs.OneAnswer.{capture_or_fault}
 use Rattle.fints_syntax_segments.specs.declared.item.OwnedSegment.{OwnedSegment}
 use Rattle.fints_params.specs.declared.fault.ParamFault.{ParamFault}
 use Rattle.fints_params.specs.declared.fault.ParamFault.TheVariants.{Syntax, BadElement, TwoBankParameters, NoBankParameters, NoPinParameters}
-use Rattle.fints_params.specs.declared.rows.BankRow.{BankRow}
 use Rattle.fints_params.specs.Reading.{is_empty}
 use Rattle.fints_params.specs.Bank.{is_bank, bank_row}
 use Rattle.fints_params.specs.Orders.{order_in}
@@ -21,7 +20,7 @@ use Rattle.fints_params.specs.Accounts.{is_account, account_row}
 use Rattle.fints_params.specs.Sealed.{is_sealed, data_of}
 use Rattle.fints_params.specs.Opened.{OpensTo, OpenTo, AreSegmentsOf}
 use Rattle.fints_params.specs.Refused.{Rule, NoneRefused, IsFirstRefused, IsRefusedAt, IsRefusedIn, IsRefusedOf, values_in}
-use Rattle.fints_params.specs.Parameters.{Rows, read_each, usage_in, skipped_in, own_fault, fault_after, end_fault}
+use Rattle.fints_params.specs.Parameters.{Rows, read_each, usage_in, skipped_in, fault_after, end_fault}
 use Rattle.fints_params.specs.Feedback.{codes_in, feedback_fault}
 use Rattle.fints_params.specs.Laws.{ParamsOrFault, CodesOrFault}
 use Rattle.fints_params.proofs.Fine.{each_bad_element, each_bad_code, some_pins}
@@ -85,7 +84,7 @@ opens_data : (rule : Rule) (seen : List OwnedSegment) (s : OwnedSegment) (place 
     → NoneRefused rule seen → is_sealed s ≡ true → data_of s ≡ Some bytes → Opens rule seen s place
 opens_data rule seen s place bytes none e d =
     elim (capture_or_fault bytes) [
-      | inl h ↦ opens_among rule seen s place (values_in h.1) none (inr (e, bytes, d, (map (λ p. p.segment) h.1, (h.1, h.2, refl), refl)))
+      | inl h ↦ opens_among rule seen s place (values_in h.1) none (inr (e, (bytes, d, (map (λ p. p.segment) h.1, (h.1, h.2, refl), refl))))
       | inr h ↦ inr (Syntax (record { kind = h.0.kind; offset = place + h.0.offset }), inr (e, inr (bytes, h.0, d, (h.1, h.2), refl)))
     ]
 

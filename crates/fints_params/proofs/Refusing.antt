@@ -8,9 +8,9 @@ use Rattle.fints_syntax.specs.declared.fault.SyntaxKind.TheVariants as kinds
 use Rattle.fints_syntax.specs.Capture.{CaptureFaultAt}
 use Rattle.fints_params.specs.Sealed.{is_sealed, data_of}
 use Rattle.fints_params.specs.Faults.{IsMemoryOr, fault_from}
-use Rattle.fints_params.specs.Opened.{OpensTo, OpenTo}
+use Rattle.fints_params.specs.Opened.{HasInside, OpensTo, OpenTo}
 use Rattle.fints_params.specs.Refused.{Rule, NoneRefused, IsFirstRefused, StaysClosed}
-use Rattle.fints_params.specs.Steps.{Continues, StopsIn, ContinuesOver, StopsAt, HasInside}
+use Rattle.fints_params.specs.Steps.{Continues, StopsIn, ContinuesOver, StopsAt}
 use Rattle.fints_params.proofs.Lists.{split_at, next_is, push_split}
 
 pub none_nil : (rule : Rule) → NoneRefused rule []
@@ -126,14 +126,14 @@ single_stop rule Good a s place f e m =
 pub opened_ok : {S : Type 0} (Good : List OwnedSegment → S → Type 0) (a b : S) (s : OwnedSegment)
     (mine : List OwnedSegment) → is_sealed s ≡ true → HasInside s mine → Continues Good a b mine
     → ContinuesOver Good a b s
-opened_ok Good a b s mine e (bytes, d, r) k = (mine, inr (e, bytes, d, r), k)
+opened_ok Good a b s mine e (bytes, d, r) k = (mine, inr (e, (bytes, d, r)), k)
 
 pub opened_stop : {S : Type 0} (rule : Rule) (Good : List OwnedSegment → S → Type 0) (a : S)
     (s : OwnedSegment) (place : ℕ) (mine : List OwnedSegment) (f : ParamFault)
     → is_sealed s ≡ true → HasInside s mine → IsMemoryOr (StopsIn rule Good a mine) f
     → IsMemoryOr (StopsAt rule Good a s place) f
 opened_stop rule Good a s place mine f e (bytes, d, r) m =
-    memory_or (StopsIn rule Good a mine) (StopsAt rule Good a s place) f (λ g k. λ seen h. inl (mine, inr (e, bytes, d, r), k seen h)) m
+    memory_or (StopsIn rule Good a mine) (StopsAt rule Good a s place) f (λ g k. λ seen h. inl (mine, inr (e, (bytes, d, r)), k seen h)) m
 
 -- data that can't be opened
 pub closed_stop : {S : Type 0} (rule : Rule) (Good : List OwnedSegment → S → Type 0) (a : S)

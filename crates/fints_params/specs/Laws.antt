@@ -1,4 +1,5 @@
--- The laws of what captures tell: their bytes have one meaning at most. Each is the contract of a public function.
+-- The laws of what captures tell. Each is the contract of a public function. `OneParams` and `OneCodes`, with
+-- the laws beside them, say that bytes have one meaning at most; proofs above cite the lemmas of these laws by name.
 use Rattle.std.specs.Prelude.{◌≡◌, ◌⊎◌, ◌++◌, ℕ, List, None}
 use Rattle.std.specs.List.{flat_map}
 use Rattle.fints_params.specs.declared.fault.ParamFault.{ParamFault}

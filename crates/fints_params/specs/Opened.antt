@@ -11,9 +11,13 @@ use Rattle.fints_params.specs.Sealed.{is_sealed, data_of}
 abbrev pub ReadsAs : List ℕ → List OwnedSegment → Type 0
 ReadsAs bytes segments = (trees : List (List (List Spelled))) × IsCapture bytes trees × (segments ≡ segments_of trees)
 
+-- the data of a segment are these segments
+abbrev pub HasInside : OwnedSegment → List OwnedSegment → Type 0
+HasInside s mine = (bytes : List ℕ) × (data_of s ≡ Some bytes) × ReadsAs bytes mine
+
 -- what a segment stands for: itself, or an HNVSD for the segments of its data
 abbrev pub OpensTo : OwnedSegment → List OwnedSegment → Type 0
-OpensTo s mine = ((is_sealed s ≡ false) × (mine ≡ s ∷ [])) ⊎ ((is_sealed s ≡ true) × (bytes : List ℕ) × (data_of s ≡ Some bytes) × ReadsAs bytes mine)
+OpensTo s mine = ((is_sealed s ≡ false) × (mine ≡ s ∷ [])) ⊎ ((is_sealed s ≡ true) × HasInside s mine)
 
 -- what all of them stand for, in their order
 abbrev pub OpenTo : List OwnedSegment → List OwnedSegment → Type 0

@@ -8,8 +8,7 @@ use Rattle.fints_syntax.specs.declared.capture.Placed.{Placed}
 use Rattle.fints_syntax.specs.declared.stream.ReadTo.{ReadTo}
 use Rattle.fints_syntax_segments.specs.declared.item.OwnedSegment.{OwnedSegment}
 use Rattle.fints_params.specs.declared.fault.ParamFault.{ParamFault}
-use Rattle.fints_params.specs.Sealed.{data_of}
-use Rattle.fints_params.specs.Opened.{ReadsAs, OpensTo, OpenTo, AreSegmentsOf}
+use Rattle.fints_params.specs.Opened.{OpensTo, OpenTo, AreSegmentsOf}
 use Rattle.fints_params.specs.Refused.{Rule, IsFirstRefused, IsRefusedAt, IsRefusedIn, values_in}
 use Rattle.fints_syntax.specs.declared.capture.TheConstants.{MAX_CAPTURE}
 
@@ -21,16 +20,14 @@ Continues Good old new segments = (seen : List OwnedSegment) → Good seen old �
 abbrev pub StopsIn : {S : Type 0} → Rule → (List OwnedSegment → S → Type 0) → S → List OwnedSegment → ParamFault → Type 0
 StopsIn rule Good old segments f = (seen : List OwnedSegment) → Good seen old → IsFirstRefused rule seen segments f
 
--- the same for what a segment stands for, whose data start at this place
+-- a state that is right for what was seen is right after what a segment stands for too
 abbrev pub ContinuesOver : {S : Type 0} → (List OwnedSegment → S → Type 0) → S → S → OwnedSegment → Type 0
 ContinuesOver Good old new s = (mine : List OwnedSegment) × OpensTo s mine × Continues Good old new mine
 
-abbrev pub StopsAt : {S : Type 0} → Rule → (List OwnedSegment → S → Type 0) → S → OwnedSegment → ℕ → ParamFault → Type 0
+-- the first refusal in what a segment stands for, whose data start at this place, after what was seen
+abbrev pub StopsAt :
+    {S : Type 0} → Rule → (List OwnedSegment → S → Type 0) → S → OwnedSegment → ℕ → ParamFault → Type 0
 StopsAt rule Good old s place f = (seen : List OwnedSegment) → Good seen old → IsRefusedAt rule seen s place f
-
--- the data of a segment are these segments
-abbrev pub HasInside : OwnedSegment → List OwnedSegment → Type 0
-HasInside s mine = (bytes : List ℕ) × (data_of s ≡ Some bytes) × ReadsAs bytes mine
 
 -- the segment ends within the longest capture
 abbrev pub EndsWithin : Placed → Type 0

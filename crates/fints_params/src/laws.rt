@@ -17,7 +17,7 @@ pub fn one_codes()
 
 /// Each list of bytes has an answer: as a capture it has rows or a first refusal, and as a message
 /// it has a list of feedback codes or a first refusal.
-pub fn one_answer()
+pub fn params_or_fault()
     ensures rows { ParamsOrFault }
     ensures codes { CodesOrFault }
 {}

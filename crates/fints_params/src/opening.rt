@@ -5,12 +5,13 @@ ghost use Rattle.fints_params.specs.Sealed.{is_sealed, data_of};
 ghost use Rattle.fints_params.specs.Faults.{IsMemoryOr};
 ghost use Rattle.fints_syntax.specs.Owned.{segments_of};
 ghost use Rattle.fints_params.specs.Refused.{Rule, NoneRefused, StaysClosed};
-ghost use Rattle.fints_params.specs.Steps.{Continues, StopsIn, ContinuesOver, StopsAt, HasInside, EndsWithin, ReadsNext, StopsNext};
+ghost use Rattle.fints_params.specs.Opened.{HasInside};
+ghost use Rattle.fints_params.specs.Steps.{Continues, StopsIn, ContinuesOver, StopsAt, EndsWithin, ReadsNext, StopsNext};
 
 use crate::fault::{ParamFault, bad_element};
 use crate::placed::PlacedSegment;
 use fints_syntax::{
-    Elements, ItemRef, OwnedSegment, SegmentView, SyntaxFault, parse_all, place_of,
+    Elements, ItemRef, OwnedSegment, SegmentView, SyntaxFault, data_place, parse_all,
 };
 use fints_syntax_segments::HNVSD_VERSION;
 use std::alloc::Global;
@@ -23,6 +24,7 @@ pub trait SegmentTaker {
     /// The state is right for these segments, none of which is refused.
     ghost good: { List OwnedSegment → Self → Type 0 };
 
+    /// Takes one segment behind those before it. After an error the state isn't to be used again.
     fn take(&mut self, alloc: Global, segment: &OwnedSegment) -> Result<(), ParamFault>
         ensures ok { IfOk result (λ _. Continues good self.old self.new (segment.now ∷ [])) }
         ensures stopped { IfErr result (λ f. IsMemoryOr (StopsIn rule good self.old (segment.now ∷ [])) f) };
@@ -64,61 +66,61 @@ fn open<'a>(alloc: Global, placed: &'a PlacedSegment) -> Result<Vec<SegmentView<
 }
 
 // All segments, each read into the memory of the one before.
-fn add_all<R: SegmentTaker>(
+fn take_all<R: SegmentTaker>(
     alloc: Global,
     views: &[SegmentView<'_>],
-    reader: &mut R,
+    taker: &mut R,
 ) -> Result<(), ParamFault>
-    ensures ok { IfOk result (λ _. Continues R.good reader.old reader.new (segments_of views.now)) }
+    ensures ok { IfOk result (λ _. Continues R.good taker.old taker.new (segments_of views.now)) }
     ensures stopped { IfErr result
-        (λ f. IsMemoryOr (StopsIn R.rule R.good reader.old (segments_of views.now)) f) }
+        (λ f. IsMemoryOr (StopsIn R.rule R.good taker.old (segments_of views.now)) f) }
 {
     let mut elements = Elements::new(alloc);
     for view in views {
         let segment = view.to_owned_in(elements)?;
-        reader.take(alloc, &segment)?;
+        taker.take(alloc, &segment)?;
         elements = segment.into_elements();
     }
     Ok(())
 }
 
 // The segments of the data of an HNVSD, whose own memory is handed back.
-fn add_sealed<R: SegmentTaker>(
+fn take_sealed<R: SegmentTaker>(
     alloc: Global,
     placed: PlacedSegment,
-    reader: &mut R,
+    taker: &mut R,
 ) -> Result<Elements, ParamFault>
     requires { is_sealed placed.segment ≡ true }
-    ensures ok { IfOk result (λ _. ContinuesOver R.good reader.old reader.new placed.segment) }
+    ensures ok { IfOk result (λ _. ContinuesOver R.good taker.old taker.new placed.segment) }
     ensures stopped { IfErr result
-        (λ f. IsMemoryOr (StopsAt R.rule R.good reader.old placed.segment placed.place) f) }
+        (λ f. IsMemoryOr (StopsAt R.rule R.good taker.old placed.segment placed.place) f) }
 {
     let views = open(alloc, &placed)?;
-    add_all(alloc, views.as_slice(), reader)?;
+    take_all(alloc, views.as_slice(), taker)?;
     drop(views);
     Ok(placed.into_elements())
 }
 
 /// Reads a segment that starts at this offset of a capture, in the memory of these elements, which
 /// it hands back.
-pub fn add_view<R: SegmentTaker>(
+pub fn take_view<R: SegmentTaker>(
     alloc: Global,
     start: usize,
     view: &SegmentView<'_>,
     elements: Elements,
-    reader: &mut R,
+    taker: &mut R,
 ) -> Result<Elements, ParamFault>
     requires { EndsWithin (record { start = start; segment = view.now }) }
-    ensures ok { IfOk result (λ _. ReadsNext R.good reader.old reader.new
+    ensures ok { IfOk result (λ _. ReadsNext R.good taker.old taker.new
         (record { start = start; segment = view.now })) }
     ensures stopped { IfErr result (λ f. IsMemoryOr
-        (StopsNext R.rule R.good reader.old (record { start = start; segment = view.now })) f) }
+        (StopsNext R.rule R.good taker.old (record { start = start; segment = view.now })) f) }
 {
     let segment = view.to_owned_in(elements)?;
     if !is_sealed(&segment) {
-        reader.take(alloc, &segment)?;
+        taker.take(alloc, &segment)?;
         return Ok(segment.into_elements());
     }
-    let place = place_of(start, view);
-    add_sealed(alloc, PlacedSegment { segment, place }, reader)
+    let place = data_place(start, view);
+    take_sealed(alloc, PlacedSegment { segment, place }, taker)
 }

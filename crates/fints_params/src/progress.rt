@@ -6,7 +6,7 @@ ghost use Rattle.fints_params.specs.Pieces.{IsPieceFault};
 ghost use Rattle.fints_params.specs.Steps.{HasRead, HasCome, HasComeIn, EndsWithin, ReadsCapture, ReadsNext, StopsNext};
 
 use crate::fault::{ParamFault, is_memory};
-use crate::opening::{SegmentTaker, add_view};
+use crate::opening::{SegmentTaker, take_view};
 use fints_syntax::{
     Begun, Elements, Memory, ReadTo, SegmentView, SyntaxFault, SyntaxKind, Taker, read_piece,
 };
@@ -47,7 +47,7 @@ impl<R: SegmentTaker + Drop> Reading<R> {
             (StopsNext R.rule R.good self.old.reader (record { start = start; segment = segment.now })) f) }
     {
         let elements = replace(&mut self.elements, Elements::new(self.alloc));
-        self.elements = add_view(self.alloc, start, segment, elements, &mut self.reader)?;
+        self.elements = take_view(self.alloc, start, segment, elements, &mut self.reader)?;
         Ok(())
     }
 }

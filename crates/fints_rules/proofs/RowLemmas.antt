@@ -51,11 +51,3 @@ limit_allows s rows n l h = (
       let least = All-contains (λ r. r.orders ≢ 0 → (l.orders ≢ 0) × (l.orders ≤ r.orders)) (rows_for s rows) row h.orders.least (k, lt, at) in
       let both = least ne in (both.0, omega (arith, both.1)),
 )
-
--- P8, first half
-pub limit_needs : (s : SegmentFactsValue) (rows : List OrderParam) (n : ℕ) (l : Limits)
-    → IsLimits (rows_for s rows) l → (n < l.signatures) ↔ Any (λ row. n < row.signatures) (rows_for s rows)
-limit_needs s rows n l h = (
-  λ lt. any_weaker (λ row. row.signatures ≡ l.signatures) (λ row. n < row.signatures) (λ row is. omega arith) (rows_for s rows) h.signatures.some,
-  λ (k, row, lt, at, more). let most = All-contains (λ r. r.signatures ≤ l.signatures) (rows_for s rows) row h.signatures.greatest (k, lt, at) in omega arith,
-)

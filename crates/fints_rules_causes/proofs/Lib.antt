@@ -1,0 +1,2 @@
+-- The law, with its proof, for the proofs of the crates above.
+pub mod LawLemmas

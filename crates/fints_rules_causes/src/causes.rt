@@ -1,8 +1,6 @@
 //! The causes of the rules of a segment, P5 to P10 and P12.
-ghost use Rattle.std.specs.Prelude.{◌<◌, ◌↔◌, Any, IsTrue, MatchOption};
-ghost use Rattle.fints_rules_permissions.specs.Permits.{params_of};
-ghost use Rattle.fints_rules.specs.declared.rule.Rule.TheVariants as rule_is;
-ghost use Rattle.fints_rules_causes.specs.Causes.{IsCauseOf, IsNeverBroken};
+ghost use Rattle.std.specs.Prelude.{◌≡◌, IfSome, MatchOption};
+ghost use Rattle.fints_rules_causes.specs.Causes.{cause_rule, IsCauseOf, IsNeverBroken};
 
 use fints_rules::kinds::{is_tan_order, own_version};
 use fints_rules::{Permissions, Rule};
@@ -37,90 +35,6 @@ pub enum Cause {
     NoOneStep,
 }
 
-// Whether some row of the kind and version needs more signatures.
-fn row_needs_more(
-    permissions: &Permissions<'_>,
-    kind: Kind,
-    version: u16,
-    signatures: usize,
-) -> bool
-    ensures { IsTrue result
-        ↔ Any (λ row. signatures < row.signatures) (params_of kind version permissions.now.rows.orders) }
-{
-    match permissions.limits(kind, version) {
-        None => false,
-        Some(limits) => signatures < limits.signatures as usize,
-    }
-}
-
-fn version_cause(
-    permissions: &Permissions<'_>,
-    kind: Kind,
-    version: u16,
-    signatures: usize,
-) -> Cause
-    ensures { IsCauseOf permissions.now rule_is.Version kind version signatures result }
-{
-    match own_version(kind) {
-        Some(_) => Cause::OtherVersion,
-        None => Cause::NoParameters,
-    }
-}
-
-fn signatures_cause(
-    permissions: &Permissions<'_>,
-    kind: Kind,
-    version: u16,
-    signatures: usize,
-) -> Cause
-    ensures { IsCauseOf permissions.now rule_is.Signatures kind version signatures result }
-{
-    if row_needs_more(permissions, kind, version, signatures) {
-        Cause::OrderNeedsMore
-    } else {
-        Cause::AccountNeedsMore
-    }
-}
-
-fn account_cause(
-    permissions: &Permissions<'_>,
-    kind: Kind,
-    version: u16,
-    signatures: usize,
-) -> Cause
-    ensures { IsCauseOf permissions.now rule_is.Account kind version signatures result }
-{
-    match permissions.form(kind, version) {
-        None => Cause::NoOrderRow,
-        Some(_) => Cause::AccountLocked,
-    }
-}
-
-fn tan_cause(permissions: &Permissions<'_>, kind: Kind, version: u16, signatures: usize) -> Cause
-    ensures { IsCauseOf permissions.now rule_is.Tan kind version signatures result }
-{
-    if is_tan_order(kind) {
-        Cause::NoTanSent
-    } else {
-        Cause::NoTan
-    }
-}
-
-fn procedure_cause(
-    permissions: &Permissions<'_>,
-    kind: Kind,
-    version: u16,
-    signatures: usize,
-) -> Cause
-    ensures { IsCauseOf permissions.now rule_is.Procedure kind version signatures result }
-{
-    if is_tan_order(kind) {
-        Cause::OneOrderAtATime
-    } else {
-        Cause::NoOneStep
-    }
-}
-
 /// Why a segment of this kind and version breaks the rule, wherever it does so in a message with so many
 /// signatures; none for a rule that no segment breaks. It takes no memory.
 pub fn segment_cause(
@@ -130,17 +44,25 @@ pub fn segment_cause(
     version: u16,
     signatures: usize,
 ) -> Option<Cause>
-    ensures { MatchOption result (IsNeverBroken permissions.now rule)
+    ensures rule { IfSome result (λ cause. cause_rule cause ≡ rule) }
+    ensures cause { MatchOption result (IsNeverBroken permissions.now rule)
         (IsCauseOf permissions.now rule kind version signatures) }
 {
     match rule {
-        Rule::Version => Some(version_cause(permissions, kind, version, signatures)),
+        Rule::Version if own_version(kind).is_some() => Some(Cause::OtherVersion),
+        Rule::Version => Some(Cause::NoParameters),
         Rule::Orders => Some(Cause::TooManyOrders),
         Rule::Listed => Some(Cause::Unlisted),
-        Rule::Signatures => Some(signatures_cause(permissions, kind, version, signatures)),
-        Rule::Account => Some(account_cause(permissions, kind, version, signatures)),
-        Rule::Tan => Some(tan_cause(permissions, kind, version, signatures)),
-        Rule::Procedure => Some(procedure_cause(permissions, kind, version, signatures)),
+        Rule::Signatures if permissions.needs_more(kind, version, signatures) => {
+            Some(Cause::OrderNeedsMore)
+        }
+        Rule::Signatures => Some(Cause::AccountNeedsMore),
+        Rule::Account if permissions.form(kind, version).is_none() => Some(Cause::NoOrderRow),
+        Rule::Account => Some(Cause::AccountLocked),
+        Rule::Tan if is_tan_order(kind) => Some(Cause::NoTanSent),
+        Rule::Tan => Some(Cause::NoTan),
+        Rule::Procedure if is_tan_order(kind) => Some(Cause::OneOrderAtATime),
+        Rule::Procedure => Some(Cause::NoOneStep),
         _ => None,
     }
 }

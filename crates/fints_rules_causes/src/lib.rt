@@ -2,5 +2,6 @@
 #![tactic(auto)]
 
 mod causes;
+pub mod laws;
 
 pub use causes::{Cause, segment_cause};

@@ -10,7 +10,7 @@ use Rattle.fints_syntax_segments.specs.declared.item.OwnedSegment.{OwnedSegment}
 use Rattle.fints_syntax_segments.specs.Number.{number_of}
 use Rattle.fints_syntax_segments.specs.Values.{is_named}
 use Rattle.fints_rules_messages.specs.Parts.{part_of}
-use Rattle.fints_rules_messages.specs.Messages.{IsNumbered, IsInner, IsLast, IsKey, Seals, IsTail}
+use Rattle.fints_rules_messages.specs.Messages.{IsNumbered, IsInner, IsLast, IsSealHead, Seals, IsTail}
 use Rattle.fints_rules_messages.specs.Front.{IsHalf, CanFollow, CanStand, BeginsBy, IsNumber}
 use Rattle.fints_rules_messages.specs.declared.part.Part.{Part}
 use Rattle.fints_rules_messages.specs.declared.part.Part.TheVariants.{Opener, Body, Ender, Other}
@@ -111,14 +111,14 @@ kind_is : (kind : List ℕ) (version : ℕ) (s : OwnedSegment) → IsTrue (is_na
     → s.head.id ≡ kind
 kind_is kind version s h = (bytes_eq-Decides s.head.id kind).0 (and_parts (bytes_eq s.head.id kind) (s.head.version == version) h).0
 
-pub key_other : (s : OwnedSegment) → IsKey s → part_of s ≡ Other
-key_other s h = ap (λ id. part_by id s.head.version) (kind_is (codes "HNVSK") 3 s h.kind)
+pub seal_head_other : (s : OwnedSegment) → IsSealHead s → part_of s ≡ Other
+seal_head_other s h = ap (λ id. part_by id s.head.version) (kind_is (codes "HNVSK") 3 s h.kind)
 
 pub last_other : (number : ℕ) (s : OwnedSegment) → IsLast number s → part_of s ≡ Other
 last_other number s h = ap (λ id. part_by id s.head.version) (kind_is (codes "HNHBS") 1 s h.kind)
 
-pub key_not_last : (number : ℕ) (s : OwnedSegment) → IsKey s → IsLast number s → ⊥
-key_not_last number s h g =
+pub seal_head_not_last : (number : ℕ) (s : OwnedSegment) → IsSealHead s → IsLast number s → ⊥
+seal_head_not_last number s h g =
     let e : codes "HNVSK" ≡ codes "HNHBS" = sym (kind_is (codes "HNVSK") 3 s h.kind) ∙ kind_is (codes "HNHBS") 1 s g.kind in
     let f : false ≡ true = ap (λ id. bytes_eq id (codes "HNHBS")) e in cc
 
@@ -140,7 +140,7 @@ plain_segments number ss b e t plain = t.together ∙ ap (λ z. z ++ t.last ∷ 
 -- HNVSK, HNVSD and HNHBS
 pub sealed_segments : (number : ℕ) (ss b e : List OwnedSegment) (t : IsTail number ss b e)
     (q : Seals t.inner t.outer)
-    → ss ≡ q.key ∷ q.envelope ∷ t.last ∷ []
+    → ss ≡ q.seal_head ∷ q.envelope ∷ t.last ∷ []
 sealed_segments number ss b e t q = t.together ∙ ap (λ z. z ++ t.last ∷ []) q.together
 
 -- ---- what follows some inner segments
@@ -174,7 +174,7 @@ pub data Next (number : ℕ) (ss body ends : List OwnedSegment) (k : ℕ) (s : O
     0 where
   inner : CanStand s k (length body) (length ends) → Next number ss body ends k s more
   end : IsEnd number s (length ss) (length ends) k more → Next number ss body ends k s more
-  key : ss ≡ [] → IsKey s → Next number ss body ends k s more
+  seal_head : ss ≡ [] → IsSealHead s → Next number ss body ends k s more
 
 pub numbered_front : (n : ℕ) (xs ys : List OwnedSegment) → IsNumbered n (xs ++ ys) → IsNumbered n xs
 numbered_front n [] ys h = tt
@@ -211,11 +211,11 @@ sealed_next : (number : ℕ) (ss body ends : List OwnedSegment) (k : ℕ) (s : O
     → Next number ss body ends k s more
 sealed_next number [] body ends k s more b e h t q =
     let all = sealed_segments number (s ∷ more) b e t q in
-    let first : s ≡ q.key = cc in key refl (subst IsKey (sym first) q.is_key)
+    let first : s ≡ q.seal_head = cc in seal_head refl (subst IsSealHead (sym first) q.is_seal_head)
 sealed_next number (x ∷ ss) body ends k s more b e h t q =
     let all = sealed_segments number (x ∷ (ss ++ s ∷ more)) b e t q in
-    let first : x ≡ q.key = cc in
-    absurd (half_no_other (x ∷ ss) body ends k [] x ss h refl (ap part_of first ∙ key_other q.key q.is_key))
+    let first : x ≡ q.seal_head = cc in
+    absurd (half_no_other (x ∷ ss) body ends k [] x ss h refl (ap part_of first ∙ seal_head_other q.seal_head q.is_seal_head))
 
 pub next : (number : ℕ) (ss body ends : List OwnedSegment) (k : ℕ) (s : OwnedSegment)
     (more b e : List OwnedSegment)
@@ -320,21 +320,21 @@ none_after number ss body ends k s t more b e h last tail =
     elim (next number ss body ends k s (t ∷ more) b e h tail) [
       | inner stand ↦ subst (λ p. CanFollow p k (length body) (length ends)) (last_other number s last) stand.1
       | end q ↦ let none = q.none in cc
-      | key none is ↦ key_not_last number s is last
+      | seal_head none is ↦ seal_head_not_last number s is last
     ]
 
 inner_no_other : (ss body ends : List OwnedSegment) (s : OwnedSegment) (more : List OwnedSegment)
     → IsInner ss body ends → ss ≡ s ∷ more → part_of s ≡ Other → ⊥
 inner_no_other ss body ends s more h e p = none_3 rank_of h.openers body ends [] s more (inner_ranked ss body ends h) (sym e ∙ h.together) (ap rank p)
 
-key_first : (number : ℕ) (s : OwnedSegment) (ss inner b e : List OwnedSegment) (last : OwnedSegment) → IsKey s
+seal_head_first : (number : ℕ) (s : OwnedSegment) (ss inner b e : List OwnedSegment) (last : OwnedSegment) → IsSealHead s
     → IsInner inner b e → IsLast number last → s ∷ ss ≡ inner ++ last ∷ [] → ⊥
-key_first number s ss [] b e last h i l q = let same : s ≡ last = cc in key_not_last number s h (subst (IsLast number) (sym same) l)
-key_first number s ss (x ∷ xs) b e last h i l q = let same : x ≡ s = cc in inner_no_other (x ∷ xs) b e x xs i refl (ap part_of same ∙ key_other s h)
+seal_head_first number s ss [] b e last h i l q = let same : s ≡ last = cc in seal_head_not_last number s h (subst (IsLast number) (sym same) l)
+seal_head_first number s ss (x ∷ xs) b e last h i l q = let same : x ≡ s = cc in inner_no_other (x ∷ xs) b e x xs i refl (ap part_of same ∙ seal_head_other s h)
 
 -- what begins with HNVSK is not plain
-pub key_not_plain : (number : ℕ) (s : OwnedSegment) (more ss b e : List OwnedSegment) → IsKey s
+pub seal_head_not_plain : (number : ℕ) (s : OwnedSegment) (more ss b e : List OwnedSegment) → IsSealHead s
     → (t : IsTail number ss b e) → ss ≡ s ∷ more → t.outer ≡ t.inner → ⊥
-key_not_plain number s more ss b e h t first plain =
-    key_first number s more t.inner b e t.last h t.is_inner t.is_last
+seal_head_not_plain number s more ss b e h t first plain =
+    seal_head_first number s more t.inner b e t.last h t.is_inner t.is_last
     (sym first ∙ plain_segments number ss b e t plain)

@@ -4,7 +4,7 @@ use Rattle.fints_rules_messages.specs.Messages.{MessageView, IsMessage, IsNumber
 use Rattle.fints_rules_messages.specs.Laws.{OneStop, NoStopInMessage, MessageOrStop, OneRefusal}
 use Rattle.fints_rules_messages.proofs.Uniques.{message_one}
 use Rattle.fints_rules_messages.proofs.OneStop.{one_stop, no_stop, one_refusal}
-use Rattle.fints_rules_messages.proofs.SomeAnswer.{message_or_stop}
+use Rattle.fints_rules_messages.proofs.SomeAnswer.{message_or_stop as neither}
 use Rattle.fints_rules_messages.proofs.Numbers.{numbered_body}
 use Rattle.fints_syntax.proofs.LawLemmas.{one_segment_text}
 
@@ -20,8 +20,8 @@ one_stop_not_both = no_stop one_segment_text
 pub one_stop_refusal : OneRefusal
 one_stop_refusal = one_refusal one_segment_text
 
-pub some_answer : MessageOrStop
-some_answer = message_or_stop
+pub message_or_stop : MessageOrStop
+message_or_stop = neither
 
 pub numbered_bodies : (bytes : List ℕ) (m : MessageView) → IsMessage bytes m
     → IsNumbered (2 + length m.ends) m.body

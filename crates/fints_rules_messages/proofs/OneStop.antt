@@ -8,7 +8,7 @@ use Rattle.fints_syntax.specs.Laws.{OneSegmentText}
 use Rattle.fints_syntax_segments.specs.declared.item.OwnedSegment.{OwnedSegment}
 use Rattle.fints_syntax.specs.Owned.{segment_of, segments_of}
 use Rattle.fints_rules_messages.specs.Segments.{texts_of}
-use Rattle.fints_rules_messages.specs.Messages.{MessageView, IsMessage, IsNoMessage, AreMessage, Begins}
+use Rattle.fints_rules_messages.specs.Messages.{MessageView, IsMessage, CeasesAt, AreMessage, Begins}
 use Rattle.fints_rules_messages.specs.Read.{IsJudgeFault}
 use Rattle.fints_rules_messages.specs.declared.message.JudgeFault.{JudgeFault}
 use Rattle.fints_rules_messages.specs.declared.message.JudgeFault.TheVariants.{Memory, NotAMessage, NotAMessageBefore}
@@ -57,14 +57,14 @@ fronts_one law Good less (x ∷ xs) (y ∷ ys) r s h g p q n m e =
     (λ t more is d w. m t more is d (subst (λ (z : Tree). Good (z ∷ (ys ++ t ∷ []))) same w)) tail in
     ap (λ (zs : List Tree). x ∷ zs) rest ∙ ap (λ (z : Tree). z ∷ ys) same
 
-pub one_stop : OneSegmentText → (bytes : List ℕ) (a b : ℕ) → IsNoMessage bytes a → IsNoMessage bytes b → a ≡ b
+pub one_stop : OneSegmentText → (bytes : List ℕ) (a b : ℕ) → CeasesAt bytes a → CeasesAt bytes b → a ≡ b
 one_stop law bytes a b s t =
     let same =
     fronts_one law (λ zs. Begins (length bytes) (segments_of zs)) (begins_front (length bytes)) s.front
     t.front s.rest t.rest s.each t.each s.begins t.begins s.no_next t.no_next (sym s.text ∙ t.text) in
     s.offset_is ∙ ap (λ (zs : List Tree). length (texts_of zs)) same ∙ sym t.offset_is
 
-pub no_stop : OneSegmentText → (bytes : List ℕ) (a : ℕ) (m : MessageView) → IsNoMessage bytes a
+pub no_stop : OneSegmentText → (bytes : List ℕ) (a : ℕ) (m : MessageView) → CeasesAt bytes a
     → IsMessage bytes m → ⊥
 no_stop law bytes a m s h = no_message law bytes a s m h
 

@@ -13,11 +13,14 @@ use Rattle.fints_syntax.specs.Owned.{no_head, segment_of, segments_of}
 use Rattle.fints_rules_messages.specs.Segments.{texts_of, IsText}
 use Rattle.fints_syntax_segments.specs.Values.{item_at}
 use Rattle.fints_syntax_segments.specs.Values.{is_named}
-use Rattle.fints_rules_messages.specs.Messages.{IsInner, IsTail, IsKey, IsEnvelope, IsLast, IsNumbered, Stops}
-use Rattle.fints_rules_messages.specs.Front.{IsFront, IsNextSegment, HasNoNext, NoneStands, CanStand, IsNumber, IsEndOf, BeginsBy, IsWholeBy, IsReadBy, IsSealedRest, IsOpened}
+use Rattle.fints_rules_messages.specs.Messages.{IsInner, IsTail, IsSealHead, IsEnvelope, IsLast, IsNumbered, Stops}
+use Rattle.fints_rules_messages.specs.Front.{IsFront, IsNextSegment, HasNoNext, NoneStands, CanStand, IsNumber, IsEndOf, BeginsBy, IsWholeBy, IsReadBy, IsSealedRest, IsOpened, TailIs, ClosesAs}
+use Rattle.fints_rules_messages.specs.declared.front.Inner.{Inner}
+use Rattle.fints_rules_messages.specs.declared.tail.Tail.{Tail}
+use Rattle.fints_rules_messages.specs.declared.tail.Tail.TheVariants.{Whole, Stop}
 use Rattle.fints_rules_messages.proofs.Texts.{segment_positive, rest_of}
 use Rattle.fints_rules_messages.proofs.Fronts.{length-half, numbered-append}
-use Rattle.fints_rules_messages.proofs.Forms.{stands, ends_all, inner_half, number_at, last_of, last_is, last_number, sealed_segments, key_not_plain, numbered_front}
+use Rattle.fints_rules_messages.proofs.Forms.{stands, ends_all, inner_half, number_at, last_of, last_is, last_number, sealed_segments, seal_head_not_plain, numbered_front}
 
 -- ---- one list for a text
 
@@ -264,24 +267,24 @@ whole_rest rest n m k number body ends t u h o g q le = record {
 
 -- ---- with HNVSK before it
 
-with_key : (number : ℕ) (s : OwnedSegment) (ss b e : List OwnedSegment) → IsKey s → IsSealedRest number ss b e
+with_seal_head : (number : ℕ) (s : OwnedSegment) (ss b e : List OwnedSegment) → IsSealHead s → IsSealedRest number ss b e
     → IsTail number (s ∷ ss) b e
-with_key number s ss b e h w = record {
+with_seal_head number s ss b e h w = record {
   inner = w.inner;
   outer = s ∷ w.envelope ∷ [];
   last = w.last;
   is_inner = w.is_inner;
-  stands = inr (record { key = s; envelope = w.envelope; is_key = h; is_envelope = w.is_envelope; together = refl });
+  stands = inr (record { seal_head = s; envelope = w.envelope; is_seal_head = h; is_envelope = w.is_envelope; together = refl });
   is_last = w.is_last;
   numbered = w.numbered;
   together = ap (λ z. s ∷ z) w.together;
 }
 
-without_key : (number : ℕ) (s : OwnedSegment) (ss b e : List OwnedSegment) → IsKey s
+without_seal_head : (number : ℕ) (s : OwnedSegment) (ss b e : List OwnedSegment) → IsSealHead s
     → IsTail number (s ∷ ss) b e → IsSealedRest number ss b e
-without_key number s ss b e h t =
+without_seal_head number s ss b e h t =
     elim t.stands [
-      | inl p ↦ absurd (key_not_plain number s ss (s ∷ ss) b e h t refl p)
+      | inl p ↦ absurd (seal_head_not_plain number s ss (s ∷ ss) b e h t refl p)
       | inr q ↦
           let all = sealed_segments number (s ∷ ss) b e t q in
           record {
@@ -296,37 +299,37 @@ without_key number s ss b e h t =
           }
     ]
 
-pub stops_key : (tail : List ℕ) (n at number : ℕ) (t : List (List Spelled)) → IsNextSegment tail t n
-    → IsKey (segment_of t)
+pub stops_seal_head : (tail : List ℕ) (n at number : ℕ) (t : List (List Spelled)) → IsNextSegment tail t n
+    → IsSealHead (segment_of t)
     → Stops (BeginsBy (IsSealedRest number)) (IsWholeBy (IsSealedRest number)) (drop n tail) at
     → Stops (BeginsBy (IsTail number)) (IsWholeBy (IsTail number)) tail (n + at)
-stops_key tail n at number t h key s = record {
+stops_seal_head tail n at number t h seal_head s = record {
   front = t ∷ s.front;
   rest = s.rest;
   each = (h.segment, s.each);
   text = h.text ∙ ap (λ z. segment_bytes t ++ z) s.text ∙ sym (append_assoc (segment_bytes t) (texts_of s.front) s.rest);
   offset_is = omega (arith, h.len_is, s.offset_is, length-append (segment_bytes t) (texts_of s.front));
-  begins = (s.begins.0, s.begins.1, s.begins.2, with_key number (segment_of t) (segments_of s.front ++ s.begins.0) s.begins.1 s.begins.2 key s.begins.3);
+  begins = (s.begins.0, s.begins.1, s.begins.2, with_seal_head number (segment_of t) (segments_of s.front ++ s.begins.0) s.begins.1 s.begins.2 seal_head s.begins.3);
   no_next =
       λ u more is e (after, b, c, w).
       s.no_next u more is e (
         after,
         b,
         c,
-        without_key number (segment_of t) (segments_of (s.front ++ u ∷ []) ++ after) b c key w,
+        without_seal_head number (segment_of t) (segments_of (s.front ++ u ∷ []) ++ after) b c seal_head w,
       );
-  unfinished = λ e (b, c, w). s.unfinished e (b, c, without_key number (segment_of t) (segments_of s.front) b c key w);
+  unfinished = λ e (b, c, w). s.unfinished e (b, c, without_seal_head number (segment_of t) (segments_of s.front) b c seal_head w);
 }
 
-pub whole_key : (tail : List ℕ) (n number : ℕ) (body ends : List (List (List Spelled)))
+pub whole_seal_head : (tail : List ℕ) (n number : ℕ) (body ends : List (List (List Spelled)))
     (t : List (List Spelled))
-    → IsNextSegment tail t n → IsKey (segment_of t) → IsReadBy (IsSealedRest number) (drop n tail) body ends
+    → IsNextSegment tail t n → IsSealHead (segment_of t) → IsReadBy (IsSealedRest number) (drop n tail) body ends
     → IsReadBy (IsTail number) tail body ends
-whole_key tail n number body ends t h key r = record {
+whole_seal_head tail n number body ends t h seal_head r = record {
   trees = t ∷ r.trees;
   each = (h.segment, r.each);
   text = h.text ∙ ap (λ z. segment_bytes t ++ z) r.text;
-  is = with_key number (segment_of t) (segments_of r.trees) (segments_of body) (segments_of ends) key r.is;
+  is = with_seal_head number (segment_of t) (segments_of r.trees) (segments_of body) (segments_of ends) seal_head r.is;
 }
 
 -- ---- as the code meets it
@@ -358,3 +361,16 @@ pub stop_other : OneSegmentText
 stop_other law rest n m k number body ends t u v h o g not_end = stop_envelope law rest n k number body ends t v h o (λ x more is e end.
     let same : u ≡ x = g.only x more is e in
     not_end (subst (λ z. IsEndOf number (segment_of z) k (length body) (length ends)) (sym same) end))
+
+pub closed_rest : OneSegmentText
+    → (rest : List ℕ) (n m number : ℕ) (i : Inner) (t u : List (List Spelled)) (r : Tail)
+    → IsNumber number → IsNextSegment rest t n
+    → IsOpened (segment_of t) i.openers (segments_of i.body.items) (segments_of i.ends.items)
+    → IsNextSegment (drop n rest) u m → ClosesAs number (segment_of u) i n m (length rest) r
+    → TailIs (IsSealedRest number) rest r
+closed_rest law rest n m number i t u (Whole body ends) v h o g (end, le, b, e) =
+    rw (b, e) (whole_rest rest n m i.openers number i.body.items i.ends.items t u h o g end le)
+closed_rest law rest n m number i t u (Stop _) v h o g (inl (at, not_end)) =
+    rw at (stop_other law rest n m i.openers number i.body.items i.ends.items t u v h o g not_end)
+closed_rest law rest n m number i t u (Stop _) v h o g (inr (at, end, lt)) =
+    rw at (stop_last law rest n m i.openers number i.body.items i.ends.items t u h o g end lt)

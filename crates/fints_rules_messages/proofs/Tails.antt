@@ -1,16 +1,19 @@
 -- Where what follows HNHBK stops, and where it is whole.
-use Rattle.std.proofs.Common.{◌≡◌, ℕ, ◌+◌, ◌<◌, ◌≤◌, List, [], ◌∷◌, ◌++◌, length, drop, refl, ap, ◌∙◌, sym, subst, arith, append_assoc, length-append}
+use Rattle.std.proofs.Common.{◌≡◌, ℕ, ◌+◌, ◌<◌, ◌≤◌, List, [], ◌∷◌, ◌++◌, length, drop, refl, ap, ◌∙◌, sym, subst, arith, append_assoc, length-append, inl, inr}
 use Rattle.std.proofs.lemmas.List.{append-nil, length-map, length-drop, drop_all}
 use Rattle.fints_syntax_segments.specs.Spelling.{Spelled}
 use Rattle.fints_syntax_segments.specs.Segment.{segment_bytes, IsSegment}
 use Rattle.fints_syntax_segments.specs.declared.item.OwnedSegment.{OwnedSegment}
 use Rattle.fints_syntax.specs.Owned.{segment_of, segments_of}
 use Rattle.fints_rules_messages.specs.Segments.{texts_of}
-use Rattle.fints_rules_messages.specs.Messages.{IsTail, IsKey, Stops}
-use Rattle.fints_rules_messages.specs.Front.{IsFront, IsNextSegment, HasNoNext, NoneStands, CanStand, IsNumber, IsEndOf, BeginsBy, IsWholeBy, IsReadBy}
+use Rattle.fints_rules_messages.specs.Messages.{IsTail, IsSealHead, Stops}
+use Rattle.fints_rules_messages.specs.Front.{IsFront, IsNextSegment, HasNoNext, NoneStands, CanStand, IsNumber, IsEndOf, BeginsBy, IsWholeBy, IsReadBy, TailIs, ClosesAs, StopsWithin}
+use Rattle.fints_rules_messages.specs.declared.front.Inner.{Inner}
+use Rattle.fints_rules_messages.specs.declared.tail.Tail.{Tail}
+use Rattle.fints_rules_messages.specs.declared.tail.Tail.TheVariants.{Whole, Stop}
 use Rattle.fints_rules_messages.proofs.Texts.{all_append, text-snoc, segments-snoc}
 use Rattle.fints_rules_messages.proofs.Fronts.{front_text, length-half}
-use Rattle.fints_rules_messages.proofs.Forms.{inner, end, key, next, half_not_tail, begins_half, tail_whole, none_after}
+use Rattle.fints_rules_messages.proofs.Forms.{inner, end, seal_head, next, half_not_tail, begins_half, tail_whole, none_after}
 
 -- the segments to come, by the text that is next
 with_next : (number : ℕ) (front : List (List (List Spelled))) (t : List (List Spelled))
@@ -49,10 +52,10 @@ at_start tail at k body ends f e = omega (arith, f.at_is, empty f.trees e)
 pub stop_here : (tail : List ℕ) (at k n number : ℕ) (body ends : List (List (List Spelled)))
     (t : List (List Spelled))
     → IsNumber number → IsFront tail at k body ends → IsNextSegment (drop at tail) t n
-    → NoneStands (drop at tail) k (length body) (length ends) → (at ≡ 0 → IsKey (segment_of t) → ⊥)
+    → NoneStands (drop at tail) k (length body) (length ends) → (at ≡ 0 → IsSealHead (segment_of t) → ⊥)
     → (IsEndOf number (segment_of t) k (length body) (length ends) → ⊥)
     → Stops (BeginsBy (IsTail number)) (IsWholeBy (IsTail number)) tail at
-stop_here tail at k n number body ends t v f is_next none not_key not_end = record {
+stop_here tail at k n number body ends t v f is_next none not_seal_head not_end = record {
   front = f.trees;
   rest = drop at tail;
   each = f.each;
@@ -85,7 +88,7 @@ stop_here tail at k n number body ends t v f is_next none not_key not_end = reco
                   );
               all = omega (arith, q.all, length-map ends segment_of);
             }))
-        | key nil is_key ↦ not_key (at_start tail at k body ends f nil) (subst (λ z. IsKey (segment_of z)) (sym same) is_key)
+        | seal_head nil is_seal_head ↦ not_seal_head (at_start tail at k body ends f nil) (subst (λ z. IsSealHead (segment_of z)) (sym same) is_seal_head)
       ];
   unfinished = λ _ (b, e, w). half_not_tail number (segments_of f.trees) (segments_of body) (segments_of ends) k b e f.half w;
 }
@@ -153,3 +156,23 @@ whole tail at k n number body ends t f is_next is_end le = record {
       ∙ append-nil (texts_of (f.trees ++ t ∷ []));
   is = end_whole tail at k n number body ends t f is_end;
 }
+
+-- ---- as the code meets it
+
+pub closed : (tail : List ℕ) (number n : ℕ) (i : Inner) (t : List (List Spelled)) (r : Tail) → IsNumber number
+    → IsFront tail i.at i.openers i.body.items i.ends.items → IsNextSegment (drop i.at tail) t n
+    → NoneStands (drop i.at tail) i.openers (length i.body.items) (length i.ends.items)
+    → (i.at ≡ 0 → IsSealHead (segment_of t) → ⊥)
+    → ClosesAs number (segment_of t) i i.at n (length tail) r → TailIs (IsTail number) tail r
+closed tail number n i t (Whole body ends) v f is_next none not_seal_head (is_end, le, b, e) =
+    rw (b, e) (whole tail i.at i.openers n number i.body.items i.ends.items t f is_next is_end le)
+closed tail number n i t (Stop _) v f is_next none not_seal_head (inl (at, not_end)) =
+    rw at (stop_here tail i.at i.openers n number i.body.items i.ends.items t v f is_next none not_seal_head not_end)
+closed tail number n i t (Stop _) v f is_next none not_seal_head (inr (at, is_end, lt)) =
+    rw at (stop_after tail i.at i.openers n number i.body.items i.ends.items t v f is_next is_end lt)
+
+pub closes_within : (number at n size : ℕ) (s : OwnedSegment) (i : Inner) (r : Tail) → at + n ≤ size
+    → ClosesAs number s i at n size r → StopsWithin r size
+closes_within number at n size s i (Whole body ends) le h = tt
+closes_within number at n size s i (Stop stop) le (inl (is, _)) = omega arith
+closes_within number at n size s i (Stop stop) le (inr (is, _, _)) = omega arith

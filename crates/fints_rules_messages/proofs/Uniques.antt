@@ -9,7 +9,7 @@ use Rattle.fints_rules_messages.specs.Messages.{MessageView, IsInner, IsTail, Is
 use Rattle.fints_syntax_segments.specs.Number.{number_of}
 use Rattle.fints_syntax_segments.specs.Values.{value_at}
 use Rattle.fints_rules_messages.proofs.Ranks.{IsRanked}
-use Rattle.fints_rules_messages.proofs.Forms.{rank_of, inner_ranked, split, at_end, inside, plain_segments, sealed_segments, key_not_plain}
+use Rattle.fints_rules_messages.proofs.Forms.{rank_of, inner_ranked, split, at_end, inside, plain_segments, sealed_segments, seal_head_not_plain}
 use Rattle.fints_rules_messages.proofs.Seals.{text_one, envelope_text}
 
 -- those of rank c
@@ -83,10 +83,10 @@ tail_one law number ss a b c d h g = elim h.stands [
     | inl q ↦
         let both = sym (plain_segments number ss a b h p) ∙ plain_segments number ss c d g q in
         inner_one g.inner a b c d (subst (λ z. IsInner z a b) (snoc_one h.inner g.inner h.last g.last both) h.is_inner) g.is_inner
-    | inr q ↦ absurd (key_not_plain number q.key (q.envelope ∷ g.last ∷ []) ss a b q.is_key h (sealed_segments number ss c d g q) p)
+    | inr q ↦ absurd (seal_head_not_plain number q.seal_head (q.envelope ∷ g.last ∷ []) ss a b q.is_seal_head h (sealed_segments number ss c d g q) p)
   ]
   | inr p ↦ elim g.stands [
-    | inl q ↦ absurd (key_not_plain number p.key (p.envelope ∷ h.last ∷ []) ss c d p.is_key g (sealed_segments number ss a b h p) q)
+    | inl q ↦ absurd (seal_head_not_plain number p.seal_head (p.envelope ∷ h.last ∷ []) ss c d p.is_seal_head g (sealed_segments number ss a b h p) q)
     | inr q ↦
         let both = sym (sealed_segments number ss a b h p) ∙ sealed_segments number ss c d g q in
         let env : q.envelope ≡ p.envelope = cc in

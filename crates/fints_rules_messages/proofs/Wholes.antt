@@ -10,7 +10,7 @@ use Rattle.fints_syntax_segments.specs.Number.{number_of}
 use Rattle.fints_syntax.specs.Owned.{segment_of, segments_of}
 use Rattle.fints_rules_messages.specs.Segments.{texts_of}
 use Rattle.fints_syntax_segments.specs.Values.{value_at}
-use Rattle.fints_rules_messages.specs.Messages.{MessageView, IsFirst, IsTail, IsForm, IsMessage, AreMessage, Begins, Stops, IsNoMessage}
+use Rattle.fints_rules_messages.specs.Messages.{MessageView, IsFirst, IsTail, IsForm, IsMessage, AreMessage, Begins, Stops, CeasesAt}
 use Rattle.fints_rules_messages.specs.Front.{IsNextSegment, HasNoNext, BeginsBy, IsWholeBy, IsReadBy}
 use Rattle.fints_rules_messages.proofs.Texts.{segments-snoc, rest_of}
 
@@ -28,7 +28,7 @@ none_at size bytes o (t ∷ ts) m s each text form e =
     ∙ append_assoc (segments_of s.front) (segment_of t ∷ []) (segments_of ts)) in
     s.no_next t (texts_of ts) each.0 text (inr (segments_of ts, (m, subst (λ z. IsForm z m) joined form, e)))
 
-pub no_message : OneSegmentText → (bytes : List ℕ) (o : ℕ) → IsNoMessage bytes o → (m : MessageView)
+pub no_message : OneSegmentText → (bytes : List ℕ) (o : ℕ) → CeasesAt bytes o → (m : MessageView)
     → IsMessage bytes m → ⊥
 no_message law bytes o s m h =
     let r = rest_of law s.front h.text.trees s.rest s.each h.text.each (sym s.text ∙ h.text.text) in
@@ -40,7 +40,7 @@ no_message law bytes o s m h =
 stop_zero : (bytes : List ℕ)
     → ((t : List (List Spelled)) (more : List ℕ) → IsSegment t → bytes ≡ segment_bytes t ++ more → (n : ℕ)
     → IsFirst (length bytes) n (segment_of t) → ⊥)
-    → IsNoMessage bytes 0
+    → CeasesAt bytes 0
 stop_zero bytes none = record {
   front = [];
   rest = bytes;
@@ -59,11 +59,11 @@ stop_zero bytes none = record {
   unfinished = λ _ w. let q = w.1.together in cc;
 }
 
-pub refused_first : (bytes : List ℕ) → HasNoNext bytes → IsNoMessage bytes 0
+pub refused_first : (bytes : List ℕ) → HasNoNext bytes → CeasesAt bytes 0
 refused_first bytes none = stop_zero bytes (λ t more is e _ _. none t more is e)
 
 pub refused_head : (bytes : List ℕ) (t : List (List Spelled)) (n : ℕ) → IsNextSegment bytes t n
-    → ((k : ℕ) → IsFirst (length bytes) k (segment_of t) → ⊥) → IsNoMessage bytes 0
+    → ((k : ℕ) → IsFirst (length bytes) k (segment_of t) → ⊥) → CeasesAt bytes 0
 refused_head bytes t n h none = stop_zero bytes (λ u more is e k first.
     let same : t ≡ u = h.only u more is e in
     none k (subst (λ z. IsFirst (length bytes) k (segment_of z)) (sym same) first))
@@ -92,7 +92,7 @@ tail_in size number first tail m f form =
 pub refused_tail : (bytes : List ℕ) (n at number : ℕ) (t : List (List Spelled)) → IsNextSegment bytes t n
     → IsFirst (length bytes) number (segment_of t)
     → Stops (BeginsBy (IsTail number)) (IsWholeBy (IsTail number)) (drop n bytes) at
-    → IsNoMessage bytes (n + at)
+    → CeasesAt bytes (n + at)
 refused_tail bytes n at number t h f s = record {
   front = t ∷ s.front;
   rest = s.rest;

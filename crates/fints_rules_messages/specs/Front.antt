@@ -1,5 +1,5 @@
 -- What a look at the segments between HNHBK and HNHBS finds. Private contracts alone cite these words.
-use Rattle.std.specs.Prelude.{◌≡◌, ℕ, ◌+◌, ◌<◌, ◌≤◌, List, [], ◌∷◌, ◌++◌, length, drop, Option, Some, None}
+use Rattle.std.specs.Prelude.{◌≡◌, ◌⊎◌, ℕ, ◌+◌, ◌<◌, ◌≤◌, List, [], ◌∷◌, ◌++◌, length, drop, Option, Some, None}
 use Rattle.std.specs.List.{AllByRecursion}
 use Rattle.fints_syntax_segments.specs.Spelling.{Spelled}
 use Rattle.fints_syntax_segments.specs.Segment.{segment_bytes, IsSegment}
@@ -8,7 +8,7 @@ use Rattle.fints_syntax_segments.specs.Number.{number_of}
 use Rattle.fints_syntax.specs.Owned.{segment_of, segments_of}
 use Rattle.fints_rules_messages.specs.Segments.{texts_of}
 use Rattle.fints_rules_messages.specs.Parts.{part_of}
-use Rattle.fints_rules_messages.specs.Messages.{IsNumbered, IsInner, IsEnvelope, IsKey, IsLast, Stops}
+use Rattle.fints_rules_messages.specs.Messages.{IsNumbered, IsInner, IsEnvelope, IsSealHead, IsLast, Stops}
 use Rattle.fints_rules_messages.specs.declared.front.Inner.{Inner}
 use Rattle.fints_rules_messages.specs.declared.tail.Tail.{Tail}
 use Rattle.fints_rules_messages.specs.declared.tail.Tail.TheVariants.{Whole, Stop}
@@ -109,11 +109,25 @@ pub record IsEndOf (number : ℕ) (s : OwnedSegment) (openers body ends : ℕ) :
   pub place : s.head.number ≡ 2 + (openers + (body + ends))
   pub all : ends ≡ openers
 
+-- the same behind these inner segments
+abbrev pub IsEndBehind : ℕ → OwnedSegment → Inner → Type 0
+IsEndBehind number s inner = IsEndOf number s inner.openers (length inner.body.items) (length inner.ends.items)
+
+-- how bytes close where this segment, of so many bytes, stands at a place in them behind the inner segments: they
+-- stop at it where it isn't HNHBS, and behind it where more bytes follow
+abbrev pub ClosesAs : ℕ → OwnedSegment → Inner → ℕ → ℕ → ℕ → Tail → Type 0
+ClosesAs number s inner at len size (Whole body ends) =
+    IsEndBehind number s inner × (size ≤ at + len) × (body.items ≡ inner.body.items)
+    × (ends.items ≡ inner.ends.items)
+ClosesAs number s inner at len size (Stop stop) =
+    ((stop ≡ at) × (IsEndBehind number s inner → ⊥))
+    ⊎ ((stop ≡ at + len) × IsEndBehind number s inner × (at + len < size))
+
 -- the bytes begin with an HNVSK of so many bytes
-pub record HasKey (bytes : List ℕ) (len : ℕ) : Type 0 where
+pub record HasSealHead (bytes : List ℕ) (len : ℕ) : Type 0 where
   pub tree : List (List Spelled)
   pub is_next : IsNextSegment bytes tree len
-  pub is_key : IsKey (segment_of tree)
+  pub is_seal_head : IsSealHead (segment_of tree)
 
 -- the envelope holds the inner segments of a message
 pub record IsOpened (s : OwnedSegment) (openers : ℕ) (body ends : List OwnedSegment) : Type 0 where

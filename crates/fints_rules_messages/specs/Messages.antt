@@ -50,7 +50,7 @@ pub record IsLast (number : ℕ) (s : OwnedSegment) : Type 0 where
   pub number_is : number_of (value_at s 2 1) ≡ Some number
 
 -- HNVSK, numbered 998
-pub record IsKey (s : OwnedSegment) : Type 0 where
+pub record IsSealHead (s : OwnedSegment) : Type 0 where
   pub kind : IsTrue (is_named s (codes "HNVSK") HNVSK_VERSION)
   pub place : s.head.number ≡ HNVSK_NUMBER
 
@@ -64,11 +64,11 @@ pub record IsEnvelope (inner : List OwnedSegment) (s : OwnedSegment) : Type 0 wh
 
 -- the inner segments as they stand in the sealed form: HNVSK, and HNVSD with them in it
 pub record Seals (inner outer : List OwnedSegment) : Type 0 where
-  pub key : OwnedSegment
+  pub seal_head : OwnedSegment
   pub envelope : OwnedSegment
-  pub is_key : IsKey key
+  pub is_seal_head : IsSealHead seal_head
   pub is_envelope : IsEnvelope inner envelope
-  pub together : outer ≡ key ∷ envelope ∷ []
+  pub together : outer ≡ seal_head ∷ envelope ∷ []
 
 -- What follows HNHBK: the inner segments, plain or sealed, and HNHBS. In both forms HNHBS has the number behind the last inner segment.
 pub record IsTail (number : ℕ) (segments body ends : List OwnedSegment) : Type 0 where
@@ -120,5 +120,5 @@ pub record Stops (BeginsOne IsOne : List OwnedSegment → Type 0) (bytes : List 
   pub unfinished : rest ≡ [] → IsOne (segments_of front) → ⊥
 
 -- The bytes cease to be a message at the offset. By the laws they are none then, and cease nowhere else.
-abbrev pub IsNoMessage : List ℕ → ℕ → Type 0
-IsNoMessage bytes offset = Stops (Begins (length bytes)) (AreMessage (length bytes)) bytes offset
+abbrev pub CeasesAt : List ℕ → ℕ → Type 0
+CeasesAt bytes offset = Stops (Begins (length bytes)) (AreMessage (length bytes)) bytes offset

@@ -1,10 +1,12 @@
 //! Single segments of the frame.
-ghost use Rattle.std.specs.Prelude.{◌≡◌, ◌↔◌, ◌+◌, ◌^◌, ◌<◌, ◌≤◌, IsTrue};
+ghost use Rattle.std.specs.Prelude.{◌↔◌, ◌+◌, ◌^◌, ◌<◌, ◌≤◌, IsTrue, length};
 ghost use Rattle.fints_syntax.specs.Owned.{segment_of};
-ghost use Rattle.fints_rules_messages.specs.Messages.{IsLast, IsKey};
-ghost use Rattle.fints_rules_messages.specs.Front.{IsEndOf};
+ghost use Rattle.fints_rules_messages.specs.Messages.{IsLast, IsSealHead};
+ghost use Rattle.fints_rules_messages.specs.Front.{IsEndBehind, ClosesAs};
 
+use crate::front::Inner;
 use crate::part::is_named;
+use crate::tail::Tail;
 use crate::values::number_at;
 use fints_syntax::SegmentView;
 use fints_syntax_segments::{HNHBS_VERSION, HNVSK_NUMBER, HNVSK_VERSION};
@@ -23,22 +25,45 @@ pub fn is_last(view: &SegmentView<'_>, number: u64) -> bool
 }
 
 /// Whether it is HNVSK.
-pub fn is_key(view: &SegmentView<'_>) -> bool
-    ensures { IsTrue result ↔ IsKey (segment_of view.now) }
+pub fn is_seal_head(view: &SegmentView<'_>) -> bool
+    ensures { IsTrue result ↔ IsSealHead (segment_of view.now) }
 {
     is_named(view, b"HNVSK", HNVSK_VERSION) && view.number() == HNVSK_NUMBER
 }
 
-/// Whether HNHBS stands behind so many HNSHK, segments of the body and HNSHA.
-pub fn is_end(view: &SegmentView<'_>, number: u64, openers: usize, body: usize, ends: usize) -> bool
-    requires { openers + (body + ends) < 2 ^ 16 }
-    ensures { IsTrue result ↔ IsEndOf number (segment_of view.now) openers body ends }
+// Whether it is HNHBS behind the inner segments.
+fn is_end(view: &SegmentView<'_>, number: u64, inner: &Inner<'_>) -> bool
+    requires { inner.now.openers + (length inner.now.body.items + length inner.now.ends.items) < 2 ^ 16 }
+    ensures { IsTrue result ↔ IsEndBehind number (segment_of view.now) inner.now }
 {
     if !is_last(view, number) {
         return false;
     }
-    if usize::from(view.number()) != 2 + (openers + (body + ends)) {
+    let (openers, ends) = (inner.openers, inner.ends.len());
+    if usize::from(view.number()) != 2 + (openers + (inner.body.len() + ends)) {
         return false;
     }
     ends == openers
+}
+
+/// What closes the bytes of a message: the segment of `len` bytes at this offset, behind the inner segments.
+pub fn close<'a>(
+    bytes: &[u8],
+    at: usize,
+    last: &SegmentView<'_>,
+    len: usize,
+    number: u64,
+    inner: Inner<'a>,
+) -> Tail<'a>
+    requires within { at + len ≤ length bytes.now }
+    requires few { inner.openers + (length inner.body.items + length inner.ends.items) < 2 ^ 16 }
+    ensures { ClosesAs number (segment_of last.now) inner.entry at len (length bytes.now) result }
+{
+    if !is_end(last, number, &inner) {
+        return Tail::Stop(at);
+    }
+    if at + len < bytes.len() {
+        return Tail::Stop(at + len);
+    }
+    Tail::Whole(inner.body, inner.ends)
 }

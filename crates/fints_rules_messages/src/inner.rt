@@ -1,5 +1,5 @@
 //! The segments between the first and the last of a message.
-ghost use Rattle.std.specs.Prelude.{◌≡◌, ◌↔◌, ◌+◌, ◌^◌, ◌<◌, ◌≤◌, IsTrue, IfOk, IfSome, IfNone, length, drop};
+ghost use Rattle.std.specs.Prelude.{◌↔◌, ◌+◌, ◌^◌, ◌<◌, ◌≤◌, IsTrue, IfOk, IfSome, IfNone, length, drop};
 ghost use Rattle.fints_syntax.specs.Owned.{segment_of};
 ghost use Rattle.fints_rules_messages.specs.Front.{IsNextSegment, HasNoNext, CanStand, IsFront, NoneStands};
 
@@ -36,6 +36,25 @@ pub fn can_stand(view: &SegmentView<'_>, openers: usize, body: usize, ends: usiz
     }
 }
 
+// The segment at the front, where it can stand behind so many, and its length.
+fn next_inner(
+    bytes: &[u8],
+    openers: usize,
+    body: usize,
+    ends: usize,
+) -> Option<(SegmentView<'_>, usize)>
+    requires { openers + (body + ends) < 2 ^ 16 }
+    ensures next { IfSome result (λ r. IsNextSegment bytes.now r.0 r.1) }
+    ensures stands { IfSome result (λ r. CanStand (segment_of r.0) openers body ends) }
+    ensures few { IfSome result (λ _. 2 + (openers + (body + ends)) < 2 ^ 16) }
+    ensures none { IfNone result (NoneStands bytes.now openers body ends) }
+{
+    match next_segment(bytes) {
+        Some((view, len)) if can_stand(&view, openers, body, ends) => Some((view, len)),
+        _ => None,
+    }
+}
+
 /// Reads segments as long as they can stand between the first and the last of a message.
 pub fn read_inner<'a>(alloc: Global, bytes: &'a [u8]) -> Result<Inner<'a>, AllocError>
     ensures front { IfOk result (λ r. IsFront bytes.now r.at r.openers r.body.items r.ends.items) }
@@ -50,7 +69,7 @@ pub fn read_inner<'a>(alloc: Global, bytes: &'a [u8]) -> Result<Inner<'a>, Alloc
     let mut ends = Vec::new(alloc);
     loop {
         let (_, rest) = bytes.split_at(at);
-        let Some((view, len)) = next_segment(rest) else {
+        let Some((view, len)) = next_inner(rest, openers, body.len(), ends.len()) else {
             return Ok(Inner {
                 at,
                 openers,
@@ -58,14 +77,6 @@ pub fn read_inner<'a>(alloc: Global, bytes: &'a [u8]) -> Result<Inner<'a>, Alloc
                 ends,
             });
         };
-        if !can_stand(&view, openers, body.len(), ends.len()) {
-            return Ok(Inner {
-                at,
-                openers,
-                body,
-                ends,
-            });
-        }
         at += len;
         match part_of(&view) {
             Part::Opener => openers += 1,

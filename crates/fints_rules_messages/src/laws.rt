@@ -17,7 +17,7 @@ pub fn one_stop()
 {}
 
 /// Bytes are a message, or cease somewhere to be one: it can't be that they do neither.
-pub fn some_answer()
+pub fn message_or_stop()
     ensures { MessageOrStop }
 {}
 

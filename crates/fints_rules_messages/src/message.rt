@@ -1,11 +1,9 @@
 //! Messages, as they are read.
-ghost use Rattle.std.specs.Prelude.{◌≡◌, ◌<◌, ◌≤◌, ◌^◌, ℕ, List, length, map, Option, Some, IfOk, IfErr, IfSome, IfNone};
-ghost use Rattle.fints_syntax_segments.specs.Number.{number_of};
+ghost use Rattle.std.specs.Prelude.{◌≡◌, ◌<◌, ℕ, Option, Some, IfOk, IfErr, IfSome, IfNone};
 ghost use Rattle.fints_syntax.specs.Owned.{segment_of, segments_of};
-ghost use Rattle.fints_syntax_segments.specs.Values.{value_at};
-ghost use Rattle.fints_rules_messages.specs.Messages.{IsMessage, IsFirst};
-ghost use Rattle.fints_rules_messages.specs.Front.{IsNumber};
+ghost use Rattle.fints_rules_messages.specs.Messages.{MessageView, IsMessage, IsFirst};
 ghost use Rattle.fints_rules_messages.specs.Read.{IsJudgeFault};
+ghost use Rattle.fints_rules_messages.specs.declared.message.JudgeFault.TheVariants as fault;
 
 use crate::inner::next_segment;
 use crate::part::is_named;
@@ -175,6 +173,7 @@ fn read_first(view: &SegmentView<'_>, size: usize) -> Option<u64>
 pub fn read_message(alloc: Global, bytes: &[u8]) -> Result<Message, JudgeFault>
     ensures message { IfOk result (λ m. IsMessage bytes.now m) }
     ensures refusal { IfErr result (λ f. IsJudgeFault bytes.now f) }
+    ensures memory_alone { (m : MessageView) → IsMessage bytes.now m → IfErr result (λ f. f ≡ fault.Memory) }
 {
     let Some((first, len)) = next_segment(bytes) else {
         return Err(JudgeFault::NotAMessage { offset: 0 });

@@ -1,10 +1,10 @@
 //! The plain form of a message.
-ghost use Rattle.std.specs.Prelude.{◌≡◌, ◌↔◌, ◌+◌, ◌^◌, ◌<◌, ◌≤◌, IsTrue, IfOk, length, drop};
+ghost use Rattle.std.specs.Prelude.{◌≡◌, ◌↔◌, ◌<◌, IsTrue, IfOk, length};
 ghost use Rattle.fints_syntax.specs.Owned.{segment_of};
-ghost use Rattle.fints_rules_messages.specs.Messages.{IsTail, IsKey};
+ghost use Rattle.fints_rules_messages.specs.Messages.{IsTail, IsSealHead};
 ghost use Rattle.fints_rules_messages.specs.Front.{IsNumber, TailIs, StopsWithin};
 
-use crate::frame::{is_end, is_key};
+use crate::frame::{close, is_seal_head};
 use crate::inner::{next_segment, read_inner};
 use crate::sealed::read_sealed;
 use crate::tail::Tail;
@@ -12,10 +12,10 @@ use fints_syntax::SegmentView;
 use std::alloc::{AllocError, Global};
 
 /// Whether it is HNVSK, at the start.
-fn is_key_at(view: &SegmentView<'_>, at: usize) -> bool
-    ensures { IsTrue result ↔ ((at ≡ 0) × IsKey (segment_of view.now)) }
+fn is_seal_head_at(view: &SegmentView<'_>, at: usize) -> bool
+    ensures { IsTrue result ↔ ((at ≡ 0) × IsSealHead (segment_of view.now)) }
 {
-    at == 0 && is_key(view)
+    at == 0 && is_seal_head(view)
 }
 
 /// What follows HNHBK, of either form.
@@ -25,24 +25,13 @@ pub fn read_tail<'a>(alloc: Global, tail: &'a [u8], number: u64) -> Result<Tail<
     ensures within { IfOk result (λ r. StopsWithin r (length tail.now)) }
 {
     let inner = read_inner(alloc, tail)?;
-    let (_, rest) = tail.split_at(inner.at);
+    let at = inner.at;
+    let (_, rest) = tail.split_at(at);
     let Some((view, len)) = next_segment(rest) else {
-        return Ok(Tail::Stop(inner.at));
+        return Ok(Tail::Stop(at));
     };
-    if is_key_at(&view, inner.at) {
+    if is_seal_head_at(&view, at) {
         return read_sealed(alloc, tail, len, number);
     }
-    if !is_end(
-        &view,
-        number,
-        inner.openers,
-        inner.body.len(),
-        inner.ends.len(),
-    ) {
-        return Ok(Tail::Stop(inner.at));
-    }
-    if inner.at + len < tail.len() {
-        return Ok(Tail::Stop(inner.at + len));
-    }
-    Ok(Tail::Whole(inner.body, inner.ends))
+    Ok(close(tail, at, &view, len, number, inner))
 }

@@ -1,10 +1,10 @@
 //! The sealed form of a message.
-ghost use Rattle.std.specs.Prelude.{◌≡◌, ◌+◌, ◌^◌, ◌<◌, ◌≤◌, IfOk, IfSome, length, drop};
+ghost use Rattle.std.specs.Prelude.{◌+◌, ◌^◌, ◌<◌, IfOk, IfSome, length};
 ghost use Rattle.fints_syntax.specs.Owned.{segment_of};
 ghost use Rattle.fints_rules_messages.specs.Messages.{IsTail};
-ghost use Rattle.fints_rules_messages.specs.Front.{IsNumber, TailIs, StopsWithin, IsSealedRest, HasKey, EnvelopeIs};
+ghost use Rattle.fints_rules_messages.specs.Front.{IsNumber, TailIs, StopsWithin, IsSealedRest, HasSealHead, EnvelopeIs};
 
-use crate::frame::is_end;
+use crate::frame::close;
 use crate::front::Inner;
 use crate::inner::{next_segment, read_inner};
 use crate::part::is_named;
@@ -55,19 +55,7 @@ fn read_rest<'a>(alloc: Global, rest: &'a [u8], number: u64) -> Result<Tail<'a>,
     let Some((last, n)) = next_segment(end) else {
         return Ok(Tail::Stop(len));
     };
-    if !is_end(
-        &last,
-        number,
-        inner.openers,
-        inner.body.len(),
-        inner.ends.len(),
-    ) {
-        return Ok(Tail::Stop(len));
-    }
-    if len + n < rest.len() {
-        return Ok(Tail::Stop(len + n));
-    }
-    Ok(Tail::Whole(inner.body, inner.ends))
+    Ok(close(rest, len, &last, n, number, inner))
 }
 
 /// What follows HNHBK, where it begins with an HNVSK, which has `len` bytes.
@@ -78,7 +66,7 @@ pub fn read_sealed<'a>(
     number: u64,
 ) -> Result<Tail<'a>, AllocError>
     requires number { IsNumber number }
-    requires key { HasKey tail.now len }
+    requires seal_head { HasSealHead tail.now len }
     ensures tail { IfOk result (λ r. TailIs (IsTail number) tail.now r) }
     ensures within { IfOk result (λ r. StopsWithin r (length tail.now)) }
 {

@@ -1,5 +1,5 @@
 //! What a bank permits, as look-ups in the rows of a capture and an order table.
-ghost use Rattle.std.specs.Prelude.{◌≡◌, IfOk};
+ghost use Rattle.std.specs.Prelude.{◌≡◌, ◌<◌, ◌↔◌, Any, IfOk, IsTrue};
 ghost use Rattle.fints_rules_permissions.specs.Orders.{form_of};
 ghost use Rattle.fints_rules_permissions.specs.Needs.{IsLeastNeed};
 ghost use Rattle.fints_rules_permissions.specs.Permits.{LimitsAre, params_of, DemandIs, PermitIs, is_demanding, is_listed_with_tan};
@@ -102,6 +102,17 @@ impl<'a> Permissions<'a> {
         ensures { LimitsAre (params_of kind version self.now.rows.orders) result }
     {
         self.limits.get(&OrderKey { kind, version }).copied()
+    }
+
+    /// Whether some row of a kind and version needs more signatures.
+    pub fn needs_more(&self, kind: Kind, version: u16, signatures: usize) -> bool
+        ensures { IsTrue result
+            ↔ Any (λ row. signatures < row.signatures) (params_of kind version self.now.rows.orders) }
+    {
+        match self.limits(kind, version) {
+            None => false,
+            Some(limits) => signatures < limits.signatures as usize,
+        }
     }
 
     /// Whether a kind is listed in HIPINS, and demands a TAN.

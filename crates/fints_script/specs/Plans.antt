@@ -67,25 +67,25 @@ open_fault opens.Account step segment = faults.OpenAccount step segment
 open_fault opens.Process step segment = faults.OpenProcess step segment
 
 -- the faults of these segments of step n, in order; the first has this number in the message
-abbrev pub segment_faults : List NamedField → List OrderRow → ℕ → ℕ → List Template → List PlanFault
-segment_faults fields orders n first templates =
+abbrev pub faults_in_segments : List NamedField → List OrderRow → ℕ → ℕ → List Template → List PlanFault
+faults_in_segments fields orders n first templates =
     filter_map (λ (p : ℕ × Template). option_map (λ left. open_fault left n p.0) (open_of fields orders p.1)) (enumerate_from first templates)
 
 -- the faults of step n: before its segments stand HNHBK and the signers' HNSHK
-abbrev pub step_faults : List NamedField → List OrderRow → ℕ → StepValue → List PlanFault
-step_faults fields orders n step = segment_faults fields orders n (length step.signers + 2) step.templates
+abbrev pub faults_in_step : List NamedField → List OrderRow → ℕ → StepValue → List PlanFault
+faults_in_step fields orders n step = faults_in_segments fields orders n (length step.signers + 2) step.templates
 
 -- the faults of the steps, in order
-abbrev pub steps_faults : List NamedField → List OrderRow → List StepValue → List PlanFault
-steps_faults fields orders steps = flat_map (λ (p : ℕ × StepValue). step_faults fields orders p.0 p.1) (enumerate_from 1 steps)
+abbrev pub faults_in_steps : List NamedField → List OrderRow → List StepValue → List PlanFault
+faults_in_steps fields orders steps = flat_map (λ (p : ℕ × StepValue). faults_in_step fields orders p.0 p.1) (enumerate_from 1 steps)
 
 -- the first of a script's faults
 abbrev pub IsPlanFault : ScriptValue → List OrderRow → PlanFault → Type 0
-IsPlanFault s orders fault = (later : List PlanFault) × (steps_faults s.fields orders s.steps ≡ fault ∷ later)
+IsPlanFault s orders fault = slice_get (faults_in_steps s.fields orders s.steps) 0 ≡ Some fault
 
 -- the script has none: no segment of it leaves anything open
 abbrev pub IsClosed : ScriptValue → List OrderRow → Type 0
-IsClosed s orders = steps_faults s.fields orders s.steps ≡ []
+IsClosed s orders = faults_in_steps s.fields orders s.steps ≡ []
 
 -- ---- values
 

@@ -71,6 +71,7 @@ branch_keys = codes "on" ∷ codes "to" ∷ []
 abbrev pub branch_value : List ℕ → Target → Branch
 branch_value on to = record { on = on; to = to }
 
+-- the branch that a table gives, key by key, or its first kind of fault
 unfoldable pub table_branch : List Data → ℕ → Members → Part Branch
 table_branch rows i ms =
     if only_keys branch_keys ms then Ok branch_value <*> must ms (codes "on") on_in <*> must ms (codes "to") (target_in rows i)
@@ -152,7 +153,8 @@ step_value name templates sealed signers repeat branches otherwise =
 abbrev pub sized_step : Surroundings → StepValue → Part StepValue
 sized_step around step = if is_too_large around step then Err kinds.Limit else Ok step
 
--- without a default, an answer that no branch matches ends the run
+-- the step that a table gives, key by key, or its first kind of fault; without a default, an answer that no
+-- branch matches ends the run
 unfoldable pub table_step : Surroundings → ℕ → Members → Part StepValue
 table_step around i ms =
     if only_keys step_keys ms then

@@ -1,8 +1,7 @@
 //! Accounts and TAN processes that a script leaves open.
-ghost use Rattle.std.specs.Prelude.{◌≡◌, ◌<◌, ◌^◌, List, [], ◌∷◌, slice_get, IfSome, IfNone};
+ghost use Rattle.std.specs.Prelude.{◌≡◌, slice_get};
 ghost use Rattle.std.specs.List.{list_all};
-ghost use Rattle.fints_script.specs.Plans.{is_literal, is_account_field, element_two, names_account, is_open_account, is_open_process, open_of, open_fault, segment_faults, steps_faults};
-ghost use Rattle.fints_script.specs.declared.opens.PlanFault.{PlanFault};
+ghost use Rattle.fints_script.specs.Plans.{is_literal, is_account_field, element_two, names_account, is_open_account, is_open_process, open_of, open_fault, faults_in_step, faults_in_steps};
 ghost use Rattle.fints_script_rows.specs.NamedFields.{is_account_at};
 
 use crate::steps::Step;
@@ -114,17 +113,17 @@ fn open_fault(left: Open, step: usize, segment: usize) -> PlanFault
     }
 }
 
-// The first fault of these segments of step n; the first of them has this number in the message.
+// The first fault of step n.
 fn first_in_step(
     fields: &[NamedField],
     orders: &OrderTable,
     n: usize,
-    first: usize,
-    templates: &[Template],
+    step: &Step,
 ) -> Option<PlanFault>
-    requires { first < 2 ^ 63 }
-    ensures { result ≡ slice_get (segment_faults fields.now orders.now n first templates.now) 0 }
+    ensures { result ≡ slice_get (faults_in_step fields.now orders.now n step.now) 0 }
 {
+    let first = step.signers().len() + 2;
+    let templates = step.templates();
     for i in 0..templates.len() {
         if let Some(left) = open_of(fields, orders, &templates[i]) {
             return Some(open_fault(left, n, first + i));
@@ -135,14 +134,10 @@ fn first_in_step(
 
 /// The fault of the first segment, in order of step and segment, that leaves something open.
 pub fn first_fault(fields: &[NamedField], orders: &OrderTable, steps: &[Step]) -> Option<PlanFault>
-    ensures none { IfNone result (steps_faults fields.now orders.now steps.now ≡ []) }
-    ensures some { IfSome result (λ fault. (later : List PlanFault) × (steps_faults fields.now orders.now steps.now ≡ fault ∷ later)) }
+    ensures { result ≡ slice_get (faults_in_steps fields.now orders.now steps.now) 0 }
 {
     for i in 0..steps.len() {
-        let step = &steps[i];
-        let first = step.signers().len() + 2;
-        let fault = first_in_step(fields, orders, i + 1, first, step.templates());
-        if let Some(fault) = fault {
+        if let Some(fault) = first_in_step(fields, orders, i + 1, &steps[i]) {
             return Some(fault);
         }
     }

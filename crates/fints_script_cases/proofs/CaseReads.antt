@@ -10,7 +10,7 @@ use Rattle.std.proofs.lemmas.List.Elements.{All-cons, All-nil, All-head, All-tai
 use Rattle.std.proofs.lemmas.List.Quantifiers.{all_pairs_push}
 use Rattle.fints_script_fields.specs.Names.{IsNameByte}
 use Rattle.fints_syntax_lines.specs.Lines.{text_of_lines, BeginsText}
-use Rattle.fints_syntax_lines.specs.LineLaws.{text_taken, length_taken, lines_long, same_lines, refused_at, some_answer}
+use Rattle.fints_syntax_lines.specs.LineLaws.{text_taken, length_taken, lines_long, same_lines, refused_at, text_or_bad_line}
 use Rattle.fints_script_cases.specs.Answers.{IsAnswer}
 use Rattle.fints_script_cases.specs.Cases.{field_text, answer_text, case_lines, case_text, AreFields, IsNamedValue, IsCase, IsCaseOf, OneCase, CaseOrBadLine, AreCaseLines, IsFirstBadLine}
 use Rattle.fints_script_cases.specs.CaseReading.{IsCaseLine, line_text, IsNext, values_with, answers_with, IsBegun, HasNoLine, IsLineTaken}
@@ -217,7 +217,7 @@ no_header text none =
 
 pub case_or_bad_line : (text : List ℕ) → CaseOrBadLine text
 case_or_bad_line text none never =
-    some_answer AreCaseLines text begins_first
+    text_or_bad_line AreCaseLines text begins_first
     (λ all good is. none good.values good.answers (good.is, is ∙ ap text_of_lines good.lines_are)) never
 
 -- ---- one case

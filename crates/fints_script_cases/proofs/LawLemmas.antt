@@ -1,8 +1,8 @@
 -- The laws, each with its proof, for the proofs of the crates above.
-use Rattle.std.specs.Prelude.{◌≡◌, ◌↔◌, ◌<◌, ℕ, List}
+use Rattle.std.specs.Prelude.{◌↔◌, ◌<◌, ℕ, List}
 use Rattle.fints_script_cases.specs.Answers.{OneCodeFires, OneBranchFires, OpenersLead, CanLead, IsOpenTo}
 use Rattle.fints_script_cases.specs.Carrying.{CarriesWhere, CarryingLeads}
-use Rattle.fints_script_cases.specs.Cases.{CaseOrBadLine, OneCase, IsFirstBadLine}
+use Rattle.fints_script_cases.specs.Cases.{CaseOrBadLine, OneCase}
 use Rattle.fints_script_cases.specs.declared.answers.Branch.{Branch}
 use Rattle.fints_script_cases.specs.declared.answers.Target.{Target}
 use Rattle.fints_script_cases.proofs.Firing.{one_code, one_branch, open_leads, opener_leads}
@@ -33,5 +33,5 @@ carried_where = carries_where
 pub carrying_leads : (branches : List Branch) (otherwise : Target) → CarryingLeads branches otherwise
 carrying_leads = carried.carrying_leads
 
-pub some_answer : (text : List ℕ) → CaseOrBadLine text
-some_answer = reads.case_or_bad_line
+pub case_or_bad_line : (text : List ℕ) → CaseOrBadLine text
+case_or_bad_line = reads.case_or_bad_line

@@ -82,6 +82,6 @@ CaseOrBadLine text =
     ((values : List NamedValue) (answers : List (List ℕ)) → IsCaseOf text values answers → ⊥)
     → ((n : ℕ) → IsFirstBadLine text n → ⊥) → ⊥
 
-abbrev pub IsRefusal : List ℕ → CaseFault → Type 0
-IsRefusal text (Bad line) = IsFirstBadLine text line
-IsRefusal text Memory = Unit {0}
+abbrev pub IsCaseFault : List ℕ → CaseFault → Type 0
+IsCaseFault text (Bad line) = IsFirstBadLine text line
+IsCaseFault text Memory = Unit {0}

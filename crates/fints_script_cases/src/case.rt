@@ -25,7 +25,7 @@ impl Model for Answer {
     ghost invariant = { λ a. IsAnswer a.codes.items };
 }
 
-// Each code is below 10,000, as it keeps by itself.
+// Each code is below 10,000, which the type `Code` keeps.
 fn are_codes(codes: &[Code])
     ensures { All (λ code. code < 10000) codes.now }
 {

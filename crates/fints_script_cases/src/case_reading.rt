@@ -6,7 +6,7 @@ ghost use Rattle.hex.specs.Hex.{encode_lower};
 ghost use Rattle.fints_syntax_lines.specs.Lines.{IsReadAs};
 ghost use Rattle.fints_script_cases.specs.Patterns.{code_text};
 ghost use Rattle.fints_script_cases.specs.Answers.{IsAnswer};
-ghost use Rattle.fints_script_cases.specs.Cases.{value_text, field_text, codes_text, answer_text, IsNamedValue, IsCaseOf, IsRefusal};
+ghost use Rattle.fints_script_cases.specs.Cases.{value_text, field_text, codes_text, answer_text, IsNamedValue, IsCaseOf, IsCaseFault};
 ghost use Rattle.fints_script_cases.specs.CaseReading.{IsCapital, IsValue, IsCaseLine, line_text, IsNext, values_with, answers_with, value_names, IsLineTaken, HasNoLine};
 
 use crate::case::{Answer, Case};
@@ -224,7 +224,7 @@ impl Case {
     /// The case that the text stands for. Each name is looked up in an ordered set.
     pub fn read(alloc: Global, text: &[u8]) -> Result<Case, CaseFault>
         ensures case { IfOk result (λ case. IsCaseOf text.now case.values case.answers.items) }
-        ensures refusal { IfErr result (IsRefusal text.now) }
+        ensures refusal { IfErr result (IsCaseFault text.now) }
     {
         let Some(mut rest) = after(text, b"fints-case 1\n") else {
             return Err(CaseFault::Bad { line: 1 });

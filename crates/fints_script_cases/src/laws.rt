@@ -37,7 +37,7 @@ pub fn one_bad_line()
 {}
 
 /// A text is a case, or has a first bad line.
-pub fn some_answer()
+pub fn case_or_bad_line()
     ensures { (text : List ℕ) → CaseOrBadLine text }
 {}
 

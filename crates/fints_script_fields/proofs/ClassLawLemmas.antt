@@ -1,42 +1,19 @@
 -- The laws, each with its proof, for the proofs of the crates above.
-use Rattle.std.specs.Prelude.{◌≡◌, ℕ, List, [], ◌∷◌, length, map}
+use Rattle.std.specs.Prelude.{◌≡◌, ℕ, List, [], ◌∷◌}
 use Rattle.fints_script_fields.specs.AccountLaws.{IsListedSomewhere, ListedAreAdmitted, ListedStandAsItems, TextIsOneAccount}
 use Rattle.fints_script_fields.specs.Fields.{field_accounts, field_domain, field_items, field_longest, field_shortest, field_written}
 use Rattle.fints_syntax_segments.specs.Segment.{item_value}
 use Rattle.fints_syntax_segments.specs.declared.item.OwnedItem.{OwnedItem}
 use Rattle.fints_script_fields.specs.declared.field.Field.{Field}
-use Rattle.fints_script_fields.specs.Lengths.{text_len}
-use Rattle.fints_script_fields.specs.Listed.{account_text, account_len, first_longest, first_shortest}
-use Rattle.fints_script_fields.specs.ListedLaws.{IsFirstOfGreatest, IsFirstOfLeast, longest_is_first, shortest_is_first}
 use Rattle.fints_script_fields.specs.declared.field.Field.TheVariants as fields
 use Rattle.fints_script_fields.specs.declared.counted.Bin.{Bin}
 use Rattle.fints_script_fields.specs.declared.counted.Text.{Text}
 use Rattle.fints_script_fields.specs.declared.listing.Account.{Account}
 use Rattle.fints_script_fields.specs.declared.listing.OneOf.{OneOf}
-use Rattle.std.proofs.Common.{[], length}
-use Rattle.fints_script_fields.proofs.FirstOf.{greatest_text, least_text}
+use Rattle.std.proofs.Common.{[]}
 use Rattle.fints_script_fields.proofs.Telling.{found_is}
 use Rattle.fints_script_fields.proofs.Domains.{value_listed, listed_admitted, listed_items, one_item, empty_shortest, longest_alone, longest_empty}
 use Rattle.fints_script_fields.proofs.OneClass.{one_account, one_bin, one_oneof, one_text}
-
-pub longest_is_first_texts : (c : OneOf)
-    → IsFirstOfGreatest text_len c.values (field_longest (fields.OneOf c))
-longest_is_first_texts f = longest_is_first text_len [] f.values f.some
-
-pub longest_is_first_accounts : (c : Account)
-    → IsFirstOfGreatest length (map account_text c.values) (field_longest (fields.Account c))
-longest_is_first_accounts f =
-    greatest_text account_text length f.values (first_longest account_len [] f.values)
-    (longest_is_first account_len [] f.values f.some)
-
-pub shortest_is_first_texts : (c : OneOf) → IsFirstOfLeast text_len c.values (field_shortest (fields.OneOf c))
-shortest_is_first_texts f = shortest_is_first text_len [] f.values f.some
-
-pub shortest_is_first_accounts : (c : Account)
-    → IsFirstOfLeast length (map account_text c.values) (field_shortest (fields.Account c))
-shortest_is_first_accounts f =
-    least_text account_text length f.values (first_shortest account_len [] f.values)
-    (shortest_is_first account_len [] f.values f.some)
 
 pub text_is_one_account : TextIsOneAccount
 text_is_one_account f j a at = found_is f.values j a f.each at

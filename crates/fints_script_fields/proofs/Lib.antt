@@ -3,7 +3,6 @@ pub mod Picks
 pub mod ListedSteps
 pub mod KeyedSteps
 pub mod Greatest
-pub mod FirstOf
 pub mod Telling
 pub mod Domains
 pub mod OneClass

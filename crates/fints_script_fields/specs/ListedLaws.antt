@@ -1,9 +1,9 @@
 -- The longest and the shortest of listed values are listed, and none is longer or shorter. Lemmas with their proofs: nothing here need be believed.
-use Rattle.std.specs.Prelude.{ℕ, ◌≡◌, ◌<◌, ◌≤◌, ◌⊎◌, max, nat_lt, if◌then◌else◌, Bool, true, false, List, [], ◌∷◌, ◌++◌, length, map, All, Option, Some}
+use Rattle.std.specs.Prelude.{ℕ, ◌≡◌, ◌<◌, ◌≤◌, ◌⊎◌, max, nat_le, nat_lt, if◌then◌else◌, Bool, true, false, List, [], ◌∷◌, ◌++◌, length, map, All, Option, Some}
 use Rattle.std.specs.List.{find, list_all}
 use Rattle.std.specs.Option.{unwrap_or}
 use Rattle.std.specs.Str.{bytes_eq}
-use Rattle.std.proofs.Common.{refl, ap, sym, subst, ◌∙◌, arith, inl, inr, ltb, leb}
+use Rattle.std.proofs.Common.{refl, ap, sym, subst, ◌∙◌, arith, inl, inr}
 use Rattle.std.proofs.lemmas.Bool.{cases_Bool, false≢true}
 use Rattle.std.proofs.lemmas.Bool.Decides.{nat_tests}
 use Rattle.std.proofs.lemmas.Slice.Eq.{bytes_eq-Decides}
@@ -14,190 +14,38 @@ use Rattle.fints_syntax_segments.specs.declared.item.OwnedItem.TheVariants.{Text
 use Rattle.fints_script_fields.specs.Joined.{joined}
 use Rattle.fints_script_fields.specs.Listed.{IsListed, first_with, first_longest, first_shortest, account_text, account_items, IsAccountList, greatest}
 
--- ---- the first of greatest size and of least, one by one
+-- ---- what is listed
+
+-- what holds of the texts of all holds of each that is listed
+listed_holds : {X : Type 0} (text : X → List ℕ) (P : List ℕ → Type 0) (xs : List X) (v : List ℕ)
+    → All (λ x. P (text x)) xs → IsListed text xs v → P v
+listed_holds text P [] v each l = absurd l
+listed_holds text P (x ∷ xs) v each (inl e) = subst P e (All-head (λ y. P (text y)) x xs each)
+listed_holds text P (x ∷ xs) v each (inr l) = listed_holds text P xs v (All-tail (λ y. P (text y)) x xs each) l
+
+listed_there : {X : Type 0} (text : X → List ℕ) (before after : List X) (x : X)
+    → IsListed text (before ++ x ∷ after) (text x)
+listed_there text [] after x = inl refl
+listed_there text (y ∷ before) after x = inr (listed_there text before after x)
+
+-- ---- the best by a comparison of sizes, one by one
+
+-- the first best among `best` and what follows it, where a test says which of two sizes is better
+abbrev pub best_from : {X : Type 0} → (ℕ → ℕ → Bool) → (X → ℕ) → X → List X → X
+best_from better size best [] = best
+best_from better size best (x ∷ xs) = best_from better size (if better (size x) (size best) then x else best) xs
+
+-- a greater size is better
+abbrev longer : ℕ → ℕ → Bool
+longer m n = nat_lt n m
 
 -- the first of greatest size among `best` and what follows it
 abbrev pub longest_from : {X : Type 0} → (X → ℕ) → X → List X → X
-longest_from size best [] = best
-longest_from size best (x ∷ xs) = longest_from size (if nat_lt (size best) (size x) then x else best) xs
+longest_from size best xs = best_from longer size best xs
 
 -- the first of least size among `best` and what follows it
 abbrev pub shortest_from : {X : Type 0} → (X → ℕ) → X → List X → X
-shortest_from size best [] = best
-shortest_from size best (x ∷ xs) = shortest_from size (if nat_lt (size x) (size best) then x else best) xs
-
--- best is the first of greatest size
-pub record IsFirstOfGreatest {X : Type 0} (size : X → ℕ) (xs : List X) (best : X) : Type 0 where
-  pub before : List X
-  pub after : List X
-  pub place : xs ≡ before ++ best ∷ after
-  pub earlier : All (λ x. size x < size best) before
-  pub later : All (λ x. size x ≤ size best) after
-
--- best is the first of least size
-pub record IsFirstOfLeast {X : Type 0} (size : X → ℕ) (xs : List X) (best : X) : Type 0 where
-  pub before : List X
-  pub after : List X
-  pub place : xs ≡ before ++ best ∷ after
-  pub earlier : All (λ x. size best < size x) before
-  pub later : All (λ x. size best ≤ size x) after
-
-module _ {X : Type 0} (size : X → ℕ) where
-  -- the best of some is among those that follow the first, and greater than it
-  record Rises (best : X) (xs : List X) (r : X) : Type 0 where
-    before : List X
-    after : List X
-    place : xs ≡ before ++ r ∷ after
-    earlier : All (λ x. size x < size r) before
-    rise : size best < size r
-    later : All (λ x. size x ≤ size r) after
-
-  abbrev Best : X → List X → X → Type 0
-  Best best xs r = ((r ≡ best) × All (λ x. size x ≤ size best) xs) ⊎ Rises best xs r
-
-  best_of : (best : X) (xs : List X) → Best best xs (longest_from size best xs)
-  best_of best [] = inl (refl, All-nil (λ x. size x ≤ size best))
-  best_of best (x ∷ xs) =
-      elim (cases_Bool (ltb (size best) (size x))) [
-        | inl h ↦
-            let lt : size best < size x = grind (arith, nat_tests) in
-            let P : X → Type 0 = Best best (x ∷ xs) in
-            rw h (elim (best_of x xs) [
-              | inl (e, all) ↦
-                  subst P (sym e)
-                  (inr
-                  (record {
-                    before = [];
-                    after = xs;
-                    place = refl;
-                    earlier = All-nil (λ y. size y < size x);
-                    rise = lt;
-                    later = all;
-                  }))
-              | inr m ↦
-                  inr
-                  (record {
-                    before = x ∷ m.before;
-                    after = m.after;
-                    place = ap (λ l. x ∷ l) m.place;
-                    earlier =
-                        All-cons (λ y. size y < size (longest_from size x xs)) x m.before m.rise
-                        m.earlier;
-                    rise = omega (arith, m.rise);
-                    later = m.later;
-                  })
-            ])
-        | inr h ↦
-            let le : size x ≤ size best = grind (arith, nat_tests) in
-            rw h (elim (best_of best xs) [
-              | inl (e, all) ↦ inl (e, All-cons (λ y. size y ≤ size best) x xs le all)
-              | inr m ↦
-                  inr
-                  (record {
-                    before = x ∷ m.before;
-                    after = m.after;
-                    place = ap (λ l. x ∷ l) m.place;
-                    earlier =
-                        All-cons (λ y. size y < size (longest_from size best xs)) x m.before
-                        (omega (arith, m.rise)) m.earlier;
-                    rise = m.rise;
-                    later = m.later;
-                  })
-            ])
-      ]
-
-  longest_first : (x : X) (xs : List X) → IsFirstOfGreatest size (x ∷ xs) (longest_from size x xs)
-  longest_first x xs =
-      let P : X → Type 0 = IsFirstOfGreatest size (x ∷ xs) in
-      elim (best_of x xs) [
-        | inl (e, all) ↦ subst P (sym e) (record { before = []; after = xs; place = refl; earlier = All-nil (λ y. size y < size x); later = all })
-        | inr m ↦
-            record {
-              before = x ∷ m.before;
-              after = m.after;
-              place = ap (λ l. x ∷ l) m.place;
-              earlier = All-cons (λ y. size y < size (longest_from size x xs)) x m.before m.rise m.earlier;
-              later = m.later;
-            }
-      ]
-
-  -- the same for the least
-  record Falls (best : X) (xs : List X) (r : X) : Type 0 where
-    before : List X
-    after : List X
-    place : xs ≡ before ++ r ∷ after
-    earlier : All (λ x. size r < size x) before
-    fall : size r < size best
-    later : All (λ x. size r ≤ size x) after
-
-  abbrev Least : X → List X → X → Type 0
-  Least best xs r = ((r ≡ best) × All (λ x. size best ≤ size x) xs) ⊎ Falls best xs r
-
-  least_of : (best : X) (xs : List X) → Least best xs (shortest_from size best xs)
-  least_of best [] = inl (refl, All-nil (λ x. size best ≤ size x))
-  least_of best (x ∷ xs) =
-      elim (cases_Bool (ltb (size x) (size best))) [
-        | inl h ↦
-            let lt : size x < size best = grind (arith, nat_tests) in
-            let P : X → Type 0 = Least best (x ∷ xs) in
-            rw h (elim (least_of x xs) [
-              | inl (e, all) ↦
-                  subst P (sym e)
-                  (inr
-                  (record {
-                    before = [];
-                    after = xs;
-                    place = refl;
-                    earlier = All-nil (λ y. size x < size y);
-                    fall = lt;
-                    later = all;
-                  }))
-              | inr m ↦
-                  inr
-                  (record {
-                    before = x ∷ m.before;
-                    after = m.after;
-                    place = ap (λ l. x ∷ l) m.place;
-                    earlier =
-                        All-cons (λ y. size (shortest_from size x xs) < size y) x m.before m.fall
-                        m.earlier;
-                    fall = omega (arith, m.fall);
-                    later = m.later;
-                  })
-            ])
-        | inr h ↦
-            let le : size best ≤ size x = grind (arith, nat_tests) in
-            rw h (elim (least_of best xs) [
-              | inl (e, all) ↦ inl (e, All-cons (λ y. size best ≤ size y) x xs le all)
-              | inr m ↦
-                  inr
-                  (record {
-                    before = x ∷ m.before;
-                    after = m.after;
-                    place = ap (λ l. x ∷ l) m.place;
-                    earlier =
-                        All-cons (λ y. size (shortest_from size best xs) < size y) x m.before
-                        (omega (arith, m.fall)) m.earlier;
-                    fall = m.fall;
-                    later = m.later;
-                  })
-            ])
-      ]
-
-  shortest_first : (x : X) (xs : List X) → IsFirstOfLeast size (x ∷ xs) (shortest_from size x xs)
-  shortest_first x xs =
-      let P : X → Type 0 = IsFirstOfLeast size (x ∷ xs) in
-      elim (least_of x xs) [
-        | inl (e, all) ↦ subst P (sym e) (record { before = []; after = xs; place = refl; earlier = All-nil (λ y. size x < size y); later = all })
-        | inr m ↦
-            record {
-              before = x ∷ m.before;
-              after = m.after;
-              place = ap (λ l. x ∷ l) m.place;
-              earlier = All-cons (λ y. size (shortest_from size x xs) < size y) x m.before m.fall m.earlier;
-              later = m.later;
-            }
-      ]
+shortest_from size best xs = best_from nat_lt size best xs
 
 -- ---- the first that passes
 
@@ -226,132 +74,199 @@ first_passes {X} q before after best fails earlier here later =
     (All-append (λ y. q best y ≡ true) before (best ∷ after) earlier
     (All-cons (λ y. q best y ≡ true) best after here later)))
 
+-- ---- the first best
+
+-- one test says that a size is better than another, the other that it is no better
+record AreTests (better within : ℕ → ℕ → Bool) : Type 0 where
+  yes : (m n : ℕ) → better m n ≡ true → within m n ≡ false
+  no : (m n : ℕ) → better m n ≡ false → within m n ≡ true
+  worse : (m n : ℕ) → better m n ≡ true → within n m ≡ true
+  same : (n : ℕ) → within n n ≡ true
+  through : (m n k : ℕ) → better m n ≡ true → better n k ≡ true → better m k ≡ true
+  above : (m n k : ℕ) → better m n ≡ true → within k n ≡ true → better m k ≡ true
+
+-- the first than which none is better
+abbrev first_best : {X : Type 0} → (ℕ → ℕ → Bool) → (X → ℕ) → X → List X → X
+first_best within size none xs = unwrap_or (find (λ x. list_all (λ y. within (size y) (size x)) xs) xs) none
+
+module _ (better within : ℕ → ℕ → Bool) (tests : AreTests better within) where
+  module _ {X : Type 0} (size : X → ℕ) where
+    abbrev IsWorse : X → X → Type 0
+    IsWorse best x = better (size best) (size x) ≡ true
+
+    abbrev IsNoBetter : X → X → Type 0
+    IsNoBetter best x = within (size x) (size best) ≡ true
+
+    -- this is the first best
+    record IsFirstBest (xs : List X) (best : X) : Type 0 where
+      before : List X
+      after : List X
+      place : xs ≡ before ++ best ∷ after
+      earlier : All (IsWorse best) before
+      later : All (IsNoBetter best) after
+
+    -- the first best of some is better than what stands before them, or that is best
+    abbrev Best : X → List X → X → Type 0
+    Best best xs r = ((r ≡ best) × All (IsNoBetter best) xs) ⊎ (IsFirstBest xs r × IsWorse r best)
+
+    best_of : (best : X) (xs : List X) → Best best xs (best_from better size best xs)
+    best_of best [] = inl (refl, All-nil (IsNoBetter best))
+    best_of best (x ∷ xs) =
+        elim (cases_Bool (better (size x) (size best))) [
+          | inl h ↦
+              let P : X → Type 0 = Best best (x ∷ xs) in
+              rw h (elim (best_of x xs) [
+                | inl (e, all) ↦
+                    subst P (sym e)
+                    (inr
+                    (record { before = []; after = xs; place = refl; earlier = All-nil (IsWorse x); later = all }, h))
+                | inr (m, rise) ↦
+                    inr (
+                      record {
+                        before = x ∷ m.before;
+                        after = m.after;
+                        place = ap (λ l. x ∷ l) m.place;
+                        earlier = All-cons (IsWorse (best_from better size x xs)) x m.before rise m.earlier;
+                        later = m.later;
+                      },
+                      tests.through _ _ _ rise h,
+                    )
+              ])
+          | inr h ↦
+              let no_better = tests.no (size x) (size best) h in
+              rw h (elim (best_of best xs) [
+                | inl (e, all) ↦ inl (e, All-cons (IsNoBetter best) x xs no_better all)
+                | inr (m, rise) ↦
+                    inr (
+                      record {
+                        before = x ∷ m.before;
+                        after = m.after;
+                        place = ap (λ l. x ∷ l) m.place;
+                        earlier =
+                            All-cons (IsWorse (best_from better size best xs)) x m.before
+                            (tests.above _ _ _ rise no_better) m.earlier;
+                        later = m.later;
+                      },
+                      rise,
+                    )
+              ])
+        ]
+
+    best_first : (x : X) (xs : List X) → IsFirstBest (x ∷ xs) (best_from better size x xs)
+    best_first x xs =
+        let P : X → Type 0 = IsFirstBest (x ∷ xs) in
+        elim (best_of x xs) [
+          | inl (e, all) ↦
+              subst P (sym e)
+              (record { before = []; after = xs; place = refl; earlier = All-nil (IsWorse x); later = all })
+          | inr (m, rise) ↦
+              record {
+                before = x ∷ m.before;
+                after = m.after;
+                place = ap (λ l. x ∷ l) m.place;
+                earlier = All-cons (IsWorse (best_from better size x xs)) x m.before rise m.earlier;
+                later = m.later;
+              }
+        ]
+
+    none_before : (before : List X) (best : X) → All (IsWorse best) before → All (IsNoBetter best) before
+    none_before before best all =
+        All-weaker (IsWorse best) (IsNoBetter best) (λ x h. tests.worse (size best) (size x) h) before all
+
+    none_better : (xs : List X) (best : X) → IsFirstBest xs best → All (IsNoBetter best) xs
+    none_better xs best f =
+        subst (All (IsNoBetter best)) (sym f.place)
+        (All-append (IsNoBetter best) f.before (best ∷ f.after) (none_before f.before best f.earlier)
+        (All-cons (IsNoBetter best) best f.after (tests.same (size best)) f.later))
+
+    found_best : (none : X) (xs : List X) (best : X) → IsFirstBest xs best → first_best within size none xs ≡ best
+    found_best none xs best f =
+        let at = first_passes (λ x y. within (size y) (size x)) f.before f.after best
+        (All-weaker (IsWorse best) (λ x. within (size best) (size x) ≡ false) (λ x h. tests.yes (size best) (size x) h)
+        f.before f.earlier)
+        (none_before f.before best f.earlier) (tests.same (size best)) f.later in
+        ap (first_best within size none) f.place ∙ ap (λ (o : Option X). unwrap_or o none) at
+
+    -- one by one, from the first on
+    best_is : (none x : X) (xs : List X) → first_best within size none (x ∷ xs) ≡ best_from better size x xs
+    best_is none x xs = found_best none (x ∷ xs) (best_from better size x xs) (best_first x xs)
+
+  -- ---- how long they are
+
+  module _ {X : Type 0} (text : X → List ℕ) (g : List ℕ → ℕ) where
+    abbrev best_text : X → List X → List ℕ
+    best_text none xs = text (first_best within (λ x. g (text x)) none xs)
+
+    best_most : (none : X) (xs : List X) (v : List ℕ) → IsListed text xs v → within (g v) (g (best_text none xs)) ≡ true
+    best_most none [] v l = absurd l
+    best_most none (x ∷ xs) v l =
+        let size : X → ℕ = λ y. g (text y) in
+        let best = best_from better size x xs in
+        subst (λ y. within (g v) (g (text y)) ≡ true) (sym (best_is size none x xs))
+        (listed_holds text (λ t. within (g t) (g (text best)) ≡ true) (x ∷ xs) v
+        (none_better size (x ∷ xs) best (best_first size x xs)) l)
+
+    best_listed : (none : X) (xs : List X) → 0 < length xs → IsListed text xs (best_text none xs)
+    best_listed none [] h = absurd (omega arith)
+    best_listed none (x ∷ xs) h =
+        let size : X → ℕ = λ y. g (text y) in
+        let best = best_from better size x xs in
+        let f = best_first size x xs in
+        subst (λ y. IsListed text (x ∷ xs) (text y)) (sym (best_is size none x xs))
+        (subst (λ (l : List X). IsListed text l (text best)) (sym f.place) (listed_there text f.before f.after best))
+
+-- ---- the longest and the shortest
+
+longer_tests : AreTests longer nat_le
+longer_tests = record {
+  yes = λ m n h. grind (arith, nat_tests);
+  no = λ m n h. grind (arith, nat_tests);
+  worse = λ m n h. grind (arith, nat_tests);
+  same = λ n. grind (arith, nat_tests);
+  through = λ m n k h i. grind (arith, nat_tests);
+  above = λ m n k h i. grind (arith, nat_tests);
+}
+
+-- a size that isn't below
+abbrev not_below : ℕ → ℕ → Bool
+not_below m n = nat_le n m
+
+shorter_tests : AreTests nat_lt not_below
+shorter_tests = record {
+  yes = λ m n h. grind (arith, nat_tests);
+  no = λ m n h. grind (arith, nat_tests);
+  worse = λ m n h. grind (arith, nat_tests);
+  same = λ n. grind (arith, nat_tests);
+  through = λ m n k h i. grind (arith, nat_tests);
+  above = λ m n k h i. grind (arith, nat_tests);
+}
+
+at_most : (m n : ℕ) → nat_le m n ≡ true → m ≤ n
+at_most m n h = grind (arith, nat_tests)
+
 module _ {X : Type 0} (size : X → ℕ) where
-  no_more : (x y : X) → size x ≤ size y → leb (size x) (size y) ≡ true
-  no_more x y h = grind (arith, nat_tests)
-
-  more : (x y : X) → size x < size y → leb (size y) (size x) ≡ false
-  more x y h = grind (arith, nat_tests)
-
-  pub found_longest : (none : X) (xs : List X) (best : X) → IsFirstOfGreatest size xs best → first_longest size none xs ≡ best
-  found_longest none xs best f =
-      let q : X → X → Bool = λ x y. leb (size y) (size x) in
-      let at = first_passes q f.before f.after best
-      (All-weaker (λ x. size x < size best) (λ x. q x best ≡ false) (λ x h. more x best h) f.before f.earlier)
-      (All-weaker (λ x. size x < size best) (λ x. q best x ≡ true) (λ x h. no_more x best (omega (arith, h))) f.before f.earlier)
-      (no_more best best (omega arith))
-      (All-weaker (λ x. size x ≤ size best) (λ x. q best x ≡ true) (λ x h. no_more x best h) f.after f.later) in
-      ap (first_longest size none) f.place ∙ ap (λ (o : Option X). unwrap_or o none) at
-
-  pub found_shortest : (none : X) (xs : List X) (best : X) → IsFirstOfLeast size xs best → first_shortest size none xs ≡ best
-  found_shortest none xs best f =
-      let q : X → X → Bool = λ x y. leb (size x) (size y) in
-      let at = first_passes q f.before f.after best
-      (All-weaker (λ x. size best < size x) (λ x. q x best ≡ false) (λ x h. more best x h) f.before f.earlier)
-      (All-weaker (λ x. size best < size x) (λ x. q best x ≡ true) (λ x h. no_more best x (omega (arith, h))) f.before f.earlier)
-      (no_more best best (omega arith))
-      (All-weaker (λ x. size best ≤ size x) (λ x. q best x ≡ true) (λ x h. no_more best x h) f.after f.later) in
-      ap (first_shortest size none) f.place ∙ ap (λ (o : Option X). unwrap_or o none) at
-
-  -- one by one, from the first on
   pub longest_is : (none x : X) (xs : List X) → first_longest size none (x ∷ xs) ≡ longest_from size x xs
-  longest_is none x xs = found_longest none (x ∷ xs) (longest_from size x xs) (longest_first size x xs)
+  longest_is none x xs = best_is longer nat_le longer_tests size none x xs
 
   pub shortest_is : (none x : X) (xs : List X) → first_shortest size none (x ∷ xs) ≡ shortest_from size x xs
-  shortest_is none x xs = found_shortest none (x ∷ xs) (shortest_from size x xs) (shortest_first size x xs)
-
-  pub longest_is_first : (none : X) (xs : List X) → 0 < length xs → IsFirstOfGreatest size xs (first_longest size none xs)
-  longest_is_first none [] h = absurd (omega arith)
-  longest_is_first none (x ∷ xs) h = subst (IsFirstOfGreatest size (x ∷ xs)) (sym (longest_is none x xs)) (longest_first size x xs)
-
-  pub shortest_is_first : (none : X) (xs : List X) → 0 < length xs → IsFirstOfLeast size xs (first_shortest size none xs)
-  shortest_is_first none [] h = absurd (omega arith)
-  shortest_is_first none (x ∷ xs) h = subst (IsFirstOfLeast size (x ∷ xs)) (sym (shortest_is none x xs)) (shortest_first size x xs)
-
--- ---- how long they are
+  shortest_is none x xs = best_is nat_lt not_below shorter_tests size none x xs
 
 module _ {X : Type 0} (text : X → List ℕ) (g : List ℕ → ℕ) where
-  longest_best : (best : X) (xs : List X) → g (text best) ≤ g (text (longest_from (λ x. g (text x)) best xs))
-  longest_best best [] = omega arith
-  longest_best best (x ∷ xs) =
-      elim (cases_Bool (ltb (g (text best)) (g (text x)))) [
-        | inl h ↦ let le : g (text best) ≤ g (text x) = grind (arith, nat_tests) in let ih = longest_best x xs in rw h (omega arith)
-        | inr h ↦ let ih = longest_best best xs in rw h ih
-      ]
+  pub longest_most : (none : X) (xs : List X) (v : List ℕ) → IsListed text xs v
+      → g v ≤ g (text (first_longest (λ x. g (text x)) none xs))
+  longest_most none xs v l = at_most _ _ (best_most longer nat_le longer_tests text g none xs v l)
 
-  longest_rest : (best : X) (xs : List X) (v : List ℕ) → IsListed text xs v → g v ≤ g (text (longest_from (λ x. g (text x)) best xs))
-  longest_rest best (x ∷ xs) v (inl e) =
-      let same : g (text x) ≡ g v = ap g e in
-      elim (cases_Bool (ltb (g (text best)) (g (text x)))) [
-        | inl h ↦ let ih = longest_best x xs in rw h (omega arith)
-        | inr h ↦ let le : g (text x) ≤ g (text best) = grind (arith, nat_tests) in let ih = longest_best best xs in rw h (omega arith)
-      ]
-  longest_rest best (x ∷ xs) v (inr l) =
-      elim (cases_Bool (ltb (g (text best)) (g (text x)))) [
-        | inl h ↦ rw h (longest_rest x xs v l)
-        | inr h ↦ rw h (longest_rest best xs v l)
-      ]
-  longest_rest best [] v l = absurd l
+  pub shortest_least : (none : X) (xs : List X) (v : List ℕ) → IsListed text xs v
+      → g (text (first_shortest (λ x. g (text x)) none xs)) ≤ g v
+  shortest_least none xs v l = at_most _ _ (best_most nat_lt not_below shorter_tests text g none xs v l)
 
-  longest_in : (best : X) (xs : List X) → IsListed text (best ∷ xs) (text (longest_from (λ x. g (text x)) best xs))
-  longest_in best [] = inl refl
-  longest_in best (x ∷ xs) =
-      elim (cases_Bool (ltb (g (text best)) (g (text x)))) [
-        | inl h ↦ rw h (inr (longest_in x xs))
-        | inr h ↦ rw h (elim (longest_in best xs) [ inl e ↦ inl e | inr l ↦ inr (inr l) ])
-      ]
+  pub longest_listed : (none : X) (xs : List X) → 0 < length xs
+      → IsListed text xs (text (first_longest (λ x. g (text x)) none xs))
+  longest_listed none xs h = best_listed longer nat_le longer_tests text g none xs h
 
-  shortest_best : (best : X) (xs : List X) → g (text (shortest_from (λ x. g (text x)) best xs)) ≤ g (text best)
-  shortest_best best [] = omega arith
-  shortest_best best (x ∷ xs) =
-      elim (cases_Bool (ltb (g (text x)) (g (text best)))) [
-        | inl h ↦ let le : g (text x) ≤ g (text best) = grind (arith, nat_tests) in let ih = shortest_best x xs in rw h (omega arith)
-        | inr h ↦ let ih = shortest_best best xs in rw h ih
-      ]
-
-  shortest_rest : (best : X) (xs : List X) (v : List ℕ) → IsListed text xs v → g (text (shortest_from (λ x. g (text x)) best xs)) ≤ g v
-  shortest_rest best (x ∷ xs) v (inl e) =
-      let same : g (text x) ≡ g v = ap g e in
-      elim (cases_Bool (ltb (g (text x)) (g (text best)))) [
-        | inl h ↦ let ih = shortest_best x xs in rw h (omega arith)
-        | inr h ↦ let le : g (text best) ≤ g (text x) = grind (arith, nat_tests) in let ih = shortest_best best xs in rw h (omega arith)
-      ]
-  shortest_rest best (x ∷ xs) v (inr l) =
-      elim (cases_Bool (ltb (g (text x)) (g (text best)))) [
-        | inl h ↦ rw h (shortest_rest x xs v l)
-        | inr h ↦ rw h (shortest_rest best xs v l)
-      ]
-  shortest_rest best [] v l = absurd l
-
-  shortest_in : (best : X) (xs : List X) → IsListed text (best ∷ xs) (text (shortest_from (λ x. g (text x)) best xs))
-  shortest_in best [] = inl refl
-  shortest_in best (x ∷ xs) =
-      elim (cases_Bool (ltb (g (text x)) (g (text best)))) [
-        | inl h ↦ rw h (inr (shortest_in x xs))
-        | inr h ↦ rw h (elim (shortest_in best xs) [ inl e ↦ inl e | inr l ↦ inr (inr l) ])
-      ]
-
-  pub longest_most : (none : X) (xs : List X) (v : List ℕ) → IsListed text xs v → g v ≤ g (text (first_longest (λ x. g (text x)) none xs))
-  longest_most none [] v l = absurd l
-  longest_most none (x ∷ xs) v (inl e) =
-      let same : g (text x) ≡ g v = ap g e in let b = longest_best x xs in
-      subst (λ y. g v ≤ g (text y)) (sym (longest_is (λ x. g (text x)) none x xs)) (omega arith)
-  longest_most none (x ∷ xs) v (inr l) = subst (λ y. g v ≤ g (text y)) (sym (longest_is (λ x. g (text x)) none x xs)) (longest_rest x xs v l)
-
-  pub shortest_least : (none : X) (xs : List X) (v : List ℕ) → IsListed text xs v → g (text (first_shortest (λ x. g (text x)) none xs)) ≤ g v
-  shortest_least none [] v l = absurd l
-  shortest_least none (x ∷ xs) v (inl e) =
-      let same : g (text x) ≡ g v = ap g e in let b = shortest_best x xs in
-      subst (λ y. g (text y) ≤ g v) (sym (shortest_is (λ x. g (text x)) none x xs)) (omega arith)
-  shortest_least none (x ∷ xs) v (inr l) = subst (λ y. g (text y) ≤ g v) (sym (shortest_is (λ x. g (text x)) none x xs)) (shortest_rest x xs v l)
-
-  pub longest_listed : (none : X) (xs : List X) → 0 < length xs → IsListed text xs (text (first_longest (λ x. g (text x)) none xs))
-  longest_listed none [] h = absurd (omega arith)
-  longest_listed none (x ∷ xs) h = subst (λ y. IsListed text (x ∷ xs) (text y)) (sym (longest_is (λ x. g (text x)) none x xs)) (longest_in x xs)
-
-  pub shortest_listed : (none : X) (xs : List X) → 0 < length xs → IsListed text xs (text (first_shortest (λ x. g (text x)) none xs))
-  shortest_listed none [] h = absurd (omega arith)
-  shortest_listed none (x ∷ xs) h = subst (λ y. IsListed text (x ∷ xs) (text y)) (sym (shortest_is (λ x. g (text x)) none x xs)) (shortest_in x xs)
+  pub shortest_listed : (none : X) (xs : List X) → 0 < length xs
+      → IsListed text xs (text (first_shortest (λ x. g (text x)) none xs))
+  shortest_listed none xs h = best_listed nat_lt not_below shorter_tests text g none xs h
 
 -- ---- the items of a listed account
 

@@ -58,7 +58,7 @@ fn note(places: &mut IndexMap<Name, usize>, name: Name, place: usize) -> Result<
     Ok(())
 }
 
-// The place of each name. A field's name is one, as its type says: so a text that is none is no field's.
+// The place of each name. The name of each field is a `Name`, so that a text which can't be a name names no field.
 fn places_of(alloc: Global, fields: &[NamedField]) -> Result<IndexMap<Name, usize>, Memory>
     ensures places { IfOk result (λ m. HoldsPlaces is_field_named fields.now (get bytes_eq m)) }
     ensures named { IfOk result (λ m. AreNamed fields.now) }

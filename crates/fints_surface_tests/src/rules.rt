@@ -80,7 +80,7 @@ fn are_demands(permissions: &Permissions<'_>) -> Result<bool, Fail> {
     Ok(true)
 }
 
-// Orders, and how many of them a message may have, with how many signatures.
+// Orders, and how many of them a message may have, with how many signatures, of which none is too few.
 const LIMITS: [(&[u8], u16, Option<Limits>); 2] = [
     (
         b"HKKAZ",
@@ -97,6 +97,9 @@ fn are_limits(permissions: &Permissions<'_>) -> Result<bool, Fail> {
     for (kind, version, limits) in LIMITS {
         let kind = Kind::parse(kind).ok_or("a kind")?;
         if permissions.limits(kind, version) != limits {
+            return Ok(false);
+        }
+        if permissions.needs_more(kind, version, 0) != limits.is_some() {
             return Ok(false);
         }
     }

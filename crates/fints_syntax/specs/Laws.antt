@@ -1,4 +1,4 @@
--- The laws of segment texts. Each is the contract of a public function, which a proof in a crate above calls for it.
+-- The laws of segment texts. Each is the contract of a public function, and proofs above cite its lemma by name.
 use Rattle.std.specs.Prelude.{◌≡◌, ◌≢◌, ◌⊎◌, ◌≤◌, ◌↔◌, ◌+◌, ◌++◌, ℕ, List, length, take, drop, Some}
 use Rattle.std.specs.List.{count_by}
 use Rattle.fints_syntax_segments.specs.Spelling.{Spelled}

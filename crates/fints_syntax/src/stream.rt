@@ -60,7 +60,7 @@ pub trait Taker {
 
 /// The offset of item 1 of element 2 of a segment that starts at `start`, counted from where that
 /// is counted from; of a binary item, the offset of its data. It is 0 where there is no element 2.
-pub fn place_of(start: usize, segment: &SegmentView<'_>) -> usize
+pub fn data_place(start: usize, segment: &SegmentView<'_>) -> usize
     requires { start + length (segment_bytes segment.now) ≤ MAX_CAPTURE }
     ensures place { result ≡ data_place (record { start = start; segment = segment.now }) }
     ensures within { result ≤ MAX_CAPTURE }

@@ -2,7 +2,7 @@
 ghost use Rattle.std.specs.Prelude.{[]};
 ghost use Rattle.fints_syntax.specs.Taken.{AreTaken};
 
-use crate::stream::{Taker, place_of};
+use crate::stream::{Taker, data_place};
 use crate::view::SegmentView;
 use fints_syntax_segments::{Memory, OwnedSegment};
 use std::alloc::Global;
@@ -32,7 +32,7 @@ impl Taker for Taken {
     fn take(&mut self, start: usize, segment: &SegmentView<'_>) -> Result<(), Memory> {
         let alloc = *self.segments.allocator();
         self.segments.push(segment.to_owned(alloc)?)?;
-        self.places.push(place_of(start, segment))?;
+        self.places.push(data_place(start, segment))?;
         Ok(())
     }
 }

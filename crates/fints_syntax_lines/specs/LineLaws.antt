@@ -241,40 +241,39 @@ shorter rest line more is =
     let size : length rest ≡ length line + length (10 ∷ more) = ap length is ∙ length-append line (10 ∷ more) in
     omega (arith, size)
 
--- Where some lines make a text of the kind, a text is one, or some line of it is the first that is none of one:
--- it can't be that it is neither. It is read from the front, and `fuel` bounds what is left.
-some_answer_from :
-    (Good : List (List ℕ) → Type 0) (text : List ℕ)
-    → ((all : List (List ℕ)) → Good all → text ≢ text_of_lines all)
-    → ((n : ℕ) → IsFirstBadLineOf Good text n → ⊥)
-    → (fuel : ℕ) (lines : List (List ℕ)) (rest : List ℕ)
-    → length rest ≤ fuel → text ≡ text_of_lines lines ++ rest → BeginsText Good lines → ⊥
-some_answer_from Good text none never zero lines rest few is begins =
-    never (length lines + 1) (record {
-      lines = lines;
-      rest = rest;
-      text_is = is;
-      number = refl;
-      begins = begins;
-      bad = λ line more split b. omega (arith, few, shorter rest line more split);
-      no_text = none;
-    })
-some_answer_from Good text none never (suc n) lines rest few is begins =
-    never (length lines + 1) (record {
-      lines = lines;
-      rest = rest;
-      text_is = is;
-      number = refl;
-      begins = begins;
-      bad = λ line more split b.
-          some_answer_from Good text none never n (lines ++ line ∷ []) more
-          (omega (arith, few, shorter rest line more split)) (text_taken text rest line more lines is split) b;
-      no_text = none;
-    })
+-- Where some lines make a text of the kind, it can't be that a text is none of the kind and has no first bad
+-- line. The text is read line by line from the front.
+module _ (Good : List (List ℕ) → Type 0) (text : List ℕ)
+    (none : (all : List (List ℕ)) → Good all → text ≢ text_of_lines all)
+    (never : (n : ℕ) → IsFirstBadLineOf Good text n → ⊥) where
+  -- behind lines that begin a text of the kind stands a line that goes on with them
+  goes_on_behind : (lines : List (List ℕ)) (rest : List ℕ) → text ≡ text_of_lines lines ++ rest
+      → BeginsText Good lines
+      → ((line more : List ℕ) → rest ≡ line ++ 10 ∷ more → BeginsText Good (lines ++ line ∷ []) → ⊥) → ⊥
+  goes_on_behind lines rest is begins bad =
+      never (length lines + 1) (record {
+        lines = lines;
+        rest = rest;
+        text_is = is;
+        number = refl;
+        begins = begins;
+        bad = bad;
+        no_text = none;
+      })
 
-pub some_answer :
+  -- `fuel` bounds the length of what is left
+  text_or_bad_line_from : (fuel : ℕ) (lines : List (List ℕ)) (rest : List ℕ) → length rest ≤ fuel
+      → text ≡ text_of_lines lines ++ rest → BeginsText Good lines → ⊥
+  text_or_bad_line_from zero lines rest few is begins =
+      goes_on_behind lines rest is begins (λ line more split b. omega (arith, few, shorter rest line more split))
+  text_or_bad_line_from (suc n) lines rest few is begins =
+      goes_on_behind lines rest is begins (λ line more split b.
+      text_or_bad_line_from n (lines ++ line ∷ []) more (omega (arith, few, shorter rest line more split))
+      (text_taken text rest line more lines is split) b)
+
+pub text_or_bad_line :
     (Good : List (List ℕ) → Type 0) (text : List ℕ) → BeginsText Good []
     → ((all : List (List ℕ)) → Good all → text ≢ text_of_lines all)
     → ((n : ℕ) → IsFirstBadLineOf Good text n → ⊥) → ⊥
-some_answer Good text begins none never =
-    some_answer_from Good text none never (length text) [] text (omega arith) refl begins
+text_or_bad_line Good text begins none never =
+    text_or_bad_line_from Good text none never (length text) [] text (omega arith) refl begins

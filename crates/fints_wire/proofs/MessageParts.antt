@@ -137,9 +137,9 @@ module _ (script : ScriptValue) (step : StepValue) (filling : FillingValue) (sou
       → (middle_segments sealed seal inner ≡ inner) ⊎ Seals inner (middle_segments sealed seal inner)
   stand_in false seal inner text = inl refl
   stand_in true seal inner text = inr (record {
-    key = make_segment (codes "HNVSK") 998 3 seal;
+    seal_head = make_segment (codes "HNVSK") 998 3 seal;
     envelope = make_segment (codes "HNVSD") 999 1 ((Bin (segments_text inner) ∷ []) ∷ []);
-    is_key = record { kind = refl; place = refl };
+    is_seal_head = record { kind = refl; place = refl };
     is_envelope = record { kind = refl; place = refl; bytes = segments_text inner; item = refl; holds = text };
     together = refl;
   })

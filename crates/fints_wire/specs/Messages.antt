@@ -1,5 +1,4 @@
 -- The message of a step. Words of private contracts and proofs alone stand last, under a heading.
-use Rattle.fints_wire.specs.declared.building.TheConstants.{MAX_NUMBER}
 use Rattle.std.specs.Prelude.{ℕ, ◌≡◌, ◌+◌, ◌-◌, codes, List, [], ◌∷◌, ◌++◌, length, map, get_or, replicate, slice_get, Bool, true, false, Some, None}
 use Rattle.std.specs.List.{flat_map}
 use Rattle.std.specs.Fmt.{decimal}
@@ -51,11 +50,15 @@ segments_text segments = flat_map written_segment segments
 abbrev pub seal_of : ScriptValue → List (List TemplateItem)
 seal_of script = elim script.seal [ None ↦ [] | Some seal ↦ seal ]
 
--- HNVSK with the seal's elements, and HNVSD with the text of the inner segments
+-- HNVSK with the seal's elements, and HNVSD with these bytes
+abbrev pub envelope_round : List (List OwnedItem) → List ℕ → List OwnedSegment
+envelope_round seal bytes =
+    make_segment (codes "HNVSK") HNVSK_NUMBER HNVSK_VERSION seal
+    ∷ make_segment (codes "HNVSD") HNVSD_NUMBER HNVSD_VERSION ((Bin bytes ∷ []) ∷ []) ∷ []
+
+-- the envelope round the text of the inner segments
 abbrev pub envelope : List (List OwnedItem) → List OwnedSegment → List OwnedSegment
-envelope seal inner =
-    make_segment (codes "HNVSK") HNVSK_NUMBER HNVSK_VERSION seal ∷ make_segment (codes "HNVSD") HNVSD_NUMBER
-    HNVSD_VERSION ((Bin (segments_text inner) ∷ []) ∷ []) ∷ []
+envelope seal inner = envelope_round seal (segments_text inner)
 
 -- between the first segment and the last: the inner segments, or the envelope round them
 abbrev pub middle_segments : Bool → List (List OwnedItem) → List OwnedSegment → List OwnedSegment
@@ -115,9 +118,7 @@ OfStep steps n so = (s : StepValue) → slice_get steps (n - 1) ≡ Some s → s
 
 -- the text of the envelope round inner segments of this text
 abbrev pub envelope_text : List (List OwnedItem) → List ℕ → List ℕ
-envelope_text seal inner =
-    written_segment (make_segment (codes "HNVSK") HNVSK_NUMBER HNVSK_VERSION seal) ++ written_segment
-    (make_segment (codes "HNVSD") HNVSD_NUMBER HNVSD_VERSION ((Bin inner ∷ []) ∷ []))
+envelope_text seal inner = segments_text (envelope_round seal inner)
 
 -- the text of what follows the first segment behind that segment, which has the size of the whole; whatever the size, it has 12 digits
 abbrev pub text_with_first : List OwnedItem → ℕ → List ℕ → List ℕ

@@ -1,34 +1,16 @@
-use Rattle.std.proofs.Common.{◌≡◌, ◌++◌, ◌∷◌, [], length, drop, refl, sym, subst, arith, length-append, true, false}
+use Rattle.std.proofs.Common.{◌≡◌, ◌++◌, ◌∷◌, [], drop, sym, subst, arith, length-append}
 use Rattle.fints_syntax.specs.Owned.{segment_of}
 use Rattle.fints_rules_messages.specs.Front.{IsNextSegment, CanStand}
-use Rattle.fints_rules_messages.proofs.Fronts.{front_opener, front_body, front_ender, front_within, none_stands, after_opener, after_body, after_ender}
+use Rattle.fints_rules_messages.proofs.Fronts.{front_opener, front_body, front_ender, front_within, after_opener, after_body, after_ender}
 use Rattle.fints_rules_messages.proofs.inner.read_inner.Goals as goal
-
-pub returns-then-not-can_stand-clause-stopped : goal.returns-then-not-can_stand-clause-stopped
-returns-then-not-can_stand-clause-stopped c =
-    let next : IsNextSegment (drop c.loop-view.at c.args.bytes.now) c.in-Some.view c.in-Some.len =
-    subst (λ z. IsNextSegment z c.in-Some.view c.in-Some.len) c.split_at.ensures.back
-    c.in-Some.ensures.some in
-    let b : c.len.result ≡ length c.loop-view.body.items = omega (arith, c.len.ensures) in
-    let e : c.len-in-loop-view.result ≡ length c.loop-view.ends.items = omega (arith, c.len-in-loop-view.ensures) in
-    let none : CanStand (segment_of c.in-Some.view) c.loop-view.openers c.len.result c.len-in-loop-view.result
-    → ⊥ =
-    λ h. (let q : false ≡ true = c.if-not-can_stand.ensures.stands.1 h in cc) in
-    none_stands (drop c.loop-view.at c.args.bytes.now) c.in-Some.view c.in-Some.len c.loop-view.openers
-    (length c.loop-view.body.items) (length c.loop-view.ends.items) next
-    (subst
-    (λ n. CanStand (segment_of c.in-Some.view) c.loop-view.openers (length c.loop-view.body.items) n → ⊥)
-    e
-    (subst (λ n. CanStand (segment_of c.in-Some.view) c.loop-view.openers n c.len-in-loop-view.result → ⊥)
-    b none))
 
 pub loop-view-preserved-in-Opener : goal.loop-view-preserved-in-Opener
 loop-view-preserved-in-Opener c =
     let next : IsNextSegment (drop c.loop-view.at c.args.bytes.now) c.in-Some.view c.in-Some.len =
     subst (λ z. IsNextSegment z c.in-Some.view c.in-Some.len) c.split_at.ensures.back
-    c.in-Some.ensures.some in
-    let stand : CanStand (segment_of c.in-Some.view) c.loop-view.openers c.len.result c.len-in-loop-view.result = c.if-not-can_stand.ensures.stands.0 refl in
-    let few = c.if-not-can_stand.ensures.few refl in
+    c.in-Some.ensures.next in
+    let stand : CanStand (segment_of c.in-Some.view) c.loop-view.openers c.len.result c.len-in-loop-view.result = c.in-Some.ensures.stands in
+    let few = c.in-Some.ensures.few in
     let past = after_opener (segment_of c.in-Some.view) c.loop-view.openers c.len.result c.len-in-loop-view.result stand c.in-Opener.ensures in
     let front =
     front_opener c.args.bytes.now c.loop-view.at c.loop-view.openers c.in-Some.len c.loop-view.body.items
@@ -41,9 +23,9 @@ pub loop-view-preserved-in-Continue-1 : goal.loop-view-preserved-in-Continue-1
 loop-view-preserved-in-Continue-1 c =
     let next : IsNextSegment (drop c.loop-view.at c.args.bytes.now) c.in-Some.view c.in-Some.len =
     subst (λ z. IsNextSegment z c.in-Some.view c.in-Some.len) c.split_at.ensures.back
-    c.in-Some.ensures.some in
-    let stand : CanStand (segment_of c.in-Some.view) c.loop-view.openers c.len.result c.len-in-loop-view.result = c.if-not-can_stand.ensures.stands.0 refl in
-    let few = c.if-not-can_stand.ensures.few refl in
+    c.in-Some.ensures.next in
+    let stand : CanStand (segment_of c.in-Some.view) c.loop-view.openers c.len.result c.len-in-loop-view.result = c.in-Some.ensures.stands in
+    let few = c.in-Some.ensures.few in
     let past = after_ender (segment_of c.in-Some.view) c.loop-view.openers c.len.result c.len-in-loop-view.result stand c.in-Ender.ensures in
     let pushed : c.push.new.self.items ≡ c.loop-view.ends.items ++ c.in-Some.view ∷ [] = c.in_ok-push-in-Ender.ensures.items in
     let front =
@@ -60,9 +42,9 @@ pub loop-view-preserved : goal.loop-view-preserved
 loop-view-preserved c =
     let next : IsNextSegment (drop c.loop-view.at c.args.bytes.now) c.in-Some.view c.in-Some.len =
     subst (λ z. IsNextSegment z c.in-Some.view c.in-Some.len) c.split_at.ensures.back
-    c.in-Some.ensures.some in
-    let stand : CanStand (segment_of c.in-Some.view) c.loop-view.openers c.len.result c.len-in-loop-view.result = c.if-not-can_stand.ensures.stands.0 refl in
-    let few = c.if-not-can_stand.ensures.few refl in
+    c.in-Some.ensures.next in
+    let stand : CanStand (segment_of c.in-Some.view) c.loop-view.openers c.len.result c.len-in-loop-view.result = c.in-Some.ensures.stands in
+    let few = c.in-Some.ensures.few in
     let (part, past) =
     after_body (segment_of c.in-Some.view) c.loop-view.openers c.len.result c.len-in-loop-view.result
     c.part_of.result stand c.part_of.ensures c.in_default-part_of.not-Opener

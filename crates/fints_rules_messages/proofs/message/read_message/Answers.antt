@@ -2,6 +2,8 @@ use Rattle.std.proofs.Common.{subst}
 use Rattle.fints_rules_messages.specs.Messages.{IsTail, Stops}
 use Rattle.fints_rules_messages.specs.Front.{BeginsBy, IsWholeBy, IsReadBy, TailIs}
 use Rattle.fints_rules_messages.proofs.Wholes.{refused_first, refused_head, refused_tail, is_message}
+use Rattle.fints_rules_messages.proofs.OneStop.{no_stop}
+use Rattle.fints_syntax.proofs.LawLemmas.{one_segment_text}
 use Rattle.fints_rules_messages.proofs.message.read_message.Goals as goal
 
 pub returns-in_default-clause-refusal : goal.returns-in_default-clause-refusal
@@ -30,3 +32,17 @@ returns-in_ok-with_segments-in-Whole-clause-message c =
     (subst (λ z. IsReadBy (IsTail n) z c.in-Whole.body.items c.in-Whole.ends.items) c.split_at.ensures.back
     (subst (TailIs (IsTail n) c.split_at.result.1.now) c.in-Whole.is c.in_ok-at.ensures.tail)) in
     rw (c.in_ok-with_segments-in-Whole.ensures, c.as_slice.ensures.value, c.as_slice-in-Whole.ensures.value) is
+
+-- a message has no other refusal than want of memory
+
+pub returns-in_default-clause-memory_alone : goal.returns-in_default-clause-memory_alone
+returns-in_default-clause-memory_alone c =
+    λ m is. absurd (no_stop one_segment_text _ _ m (returns-in_default-clause-refusal c) is)
+
+pub returns-in_default-read_first-clause-memory_alone : goal.returns-in_default-read_first-clause-memory_alone
+returns-in_default-read_first-clause-memory_alone c =
+    λ m is. absurd (no_stop one_segment_text _ _ m (returns-in_default-read_first-clause-refusal c) is)
+
+pub returns-in-Stop-clause-memory_alone : goal.returns-in-Stop-clause-memory_alone
+returns-in-Stop-clause-memory_alone c =
+    λ m is. absurd (no_stop one_segment_text _ _ m (returns-in-Stop-clause-refusal c) is)

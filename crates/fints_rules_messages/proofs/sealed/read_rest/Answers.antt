@@ -1,7 +1,7 @@
-use Rattle.std.proofs.Common.{◌≡◌, length, drop, refl, subst, arith, false, true}
+use Rattle.std.proofs.Common.{drop, subst}
 use Rattle.fints_syntax.specs.Owned.{segment_of, segments_of}
-use Rattle.fints_rules_messages.specs.Front.{IsNextSegment, HasNoNext, IsEndOf, IsOpened, EnvelopeIs}
-use Rattle.fints_rules_messages.proofs.Seals.{stop_first, stop_closed, stop_envelope, stop_other, stop_last, whole_rest}
+use Rattle.fints_rules_messages.specs.Front.{IsNextSegment, HasNoNext, IsOpened, EnvelopeIs}
+use Rattle.fints_rules_messages.proofs.Seals.{stop_first, stop_closed, stop_envelope, closed_rest}
 use Rattle.fints_syntax.proofs.LawLemmas.{one_segment_text}
 use Rattle.fints_rules_messages.proofs.sealed.read_rest.Goals as goal
 
@@ -24,40 +24,6 @@ returns-in_default-next_segment-clause-rest c =
     stop_envelope one_segment_text c.args.rest.now c.in-Some.len i.openers c.args.number i.body.items
     i.ends.items c.in-Some.view c.requires c.in-Some.ensures.some o (λ u more is e _. none u more is e)
 
-pub returns-then-not-is_end-clause-rest : goal.returns-then-not-is_end-clause-rest
-returns-then-not-is_end-clause-rest c =
-    let i = c.in-Some-2.inner in
-    let o : IsOpened (segment_of c.in-Some.view) i.openers (segments_of i.body.items)
-    (segments_of i.ends.items) =
-    subst (λ o. EnvelopeIs o (segment_of c.in-Some.view)) c.in-Some-2.is c.in_ok-inner.ensures.envelope in
-    let g : IsNextSegment (drop c.in-Some.len c.args.rest.now) c.in-Some-next_segment.last
-    c.in-Some-next_segment.n =
-    subst (λ z. IsNextSegment z c.in-Some-next_segment.last c.in-Some-next_segment.n)
-    c.split_at.ensures.back c.in-Some-next_segment.ensures.some in
-    let b : c.len.result ≡ length i.body.items = omega (arith, c.len.ensures) in
-    let e : c.len-2.result ≡ length i.ends.items = omega (arith, c.len-2.ensures) in
-    stop_other one_segment_text c.args.rest.now c.in-Some.len c.in-Some-next_segment.n i.openers c.args.number
-    i.body.items i.ends.items c.in-Some.view c.in-Some-next_segment.last c.requires c.in-Some.ensures.some
-    o g
-    (λ end. let q : false ≡ true = c.if-not-is_end.ensures.1 (rw (b, e) end) in cc)
-
-pub returns-then-len-n-clause-rest : goal.returns-then-len-n-clause-rest
-returns-then-len-n-clause-rest c =
-    let i = c.in-Some-2.inner in
-    let o : IsOpened (segment_of c.in-Some.view) i.openers (segments_of i.body.items)
-    (segments_of i.ends.items) =
-    subst (λ o. EnvelopeIs o (segment_of c.in-Some.view)) c.in-Some-2.is c.in_ok-inner.ensures.envelope in
-    let g : IsNextSegment (drop c.in-Some.len c.args.rest.now) c.in-Some-next_segment.last
-    c.in-Some-next_segment.n =
-    subst (λ z. IsNextSegment z c.in-Some-next_segment.last c.in-Some-next_segment.n)
-    c.split_at.ensures.back c.in-Some-next_segment.ensures.some in
-    let b : c.len.result ≡ length i.body.items = omega (arith, c.len.ensures) in
-    let e : c.len-2.result ≡ length i.ends.items = omega (arith, c.len-2.ensures) in
-    let end : IsEndOf c.args.number (segment_of c.in-Some-next_segment.last) i.openers c.len.result c.len-2.result = c.if-not-is_end.ensures.0 refl in
-    stop_last one_segment_text c.args.rest.now c.in-Some.len c.in-Some-next_segment.n i.openers c.args.number
-    i.body.items i.ends.items c.in-Some.view c.in-Some-next_segment.last c.in-Some.ensures.some o g
-    (rw (b, e) at end) c.if-len-n.true
-
 pub returns-clause-rest : goal.returns-clause-rest
 returns-clause-rest c =
     let i = c.in-Some-2.inner in
@@ -68,9 +34,6 @@ returns-clause-rest c =
     c.in-Some-next_segment.n =
     subst (λ z. IsNextSegment z c.in-Some-next_segment.last c.in-Some-next_segment.n)
     c.split_at.ensures.back c.in-Some-next_segment.ensures.some in
-    let b : c.len.result ≡ length i.body.items = omega (arith, c.len.ensures) in
-    let e : c.len-2.result ≡ length i.ends.items = omega (arith, c.len-2.ensures) in
-    let end : IsEndOf c.args.number (segment_of c.in-Some-next_segment.last) i.openers c.len.result c.len-2.result = c.if-not-is_end.ensures.0 refl in
-    whole_rest c.args.rest.now c.in-Some.len c.in-Some-next_segment.n i.openers c.args.number i.body.items
-    i.ends.items c.in-Some.view c.in-Some-next_segment.last c.in-Some.ensures.some o g (rw (b, e) at end)
-    (omega (arith, c.if-len-n.false))
+    closed_rest one_segment_text c.args.rest.now c.in-Some.len c.in-Some-next_segment.n c.args.number i
+    c.in-Some.view c.in-Some-next_segment.last c.close.result c.requires c.in-Some.ensures.some o g
+    c.close.ensures

@@ -10,13 +10,13 @@ use Rattle.fints_params.proofs.gathering.GatheredSegmentTaker.take.Goals as goal
 pub returns-clause-ok : goal.returns-clause-ok
 returns-clause-ok c =
     let s = c.args.segment.now in
-    IfOk-weaker c.take.result (λ _. AddsRows s c.args.self.now c.take.new.rows)
-    (λ _. Continues ParamsSoFar c.args.self.now c.take.new.rows (s ∷ []))
-    (λ _ a. so_far_more s c.args.self.now c.take.new.rows a) c.take.ensures.adds
+    IfOk-weaker c.take_rows.result (λ _. AddsRows s c.args.self.now c.take_rows.new.rows)
+    (λ _. Continues ParamsSoFar c.args.self.now c.take_rows.new.rows (s ∷ []))
+    (λ _ a. so_far_more s c.args.self.now c.take_rows.new.rows a) c.take_rows.ensures.adds
 
 pub returns-clause-stopped : goal.returns-clause-stopped
 returns-clause-stopped c =
     let s = c.args.segment.now in
-    IfErr-weaker c.take.result (λ f. IsTakeFault s c.args.self.now.bank f)
+    IfErr-weaker c.take_rows.result (λ f. IsTakeFault s c.args.self.now.bank f)
     (λ f. IsMemoryOr (StopsIn fault_after ParamsSoFar c.args.self.now (s ∷ [])) f)
-    (λ f h. so_far_stop s c.args.self.now f h) c.take.ensures.fault
+    (λ f h. so_far_stop s c.args.self.now f h) c.take_rows.ensures.fault

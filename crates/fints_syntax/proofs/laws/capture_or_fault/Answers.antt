@@ -1,5 +1,5 @@
 use Rattle.fints_syntax.proofs.OneAnswer.{segment_or_fault, capture_or_fault}
-use Rattle.fints_syntax.proofs.laws.one_answer.Goals as goal
+use Rattle.fints_syntax.proofs.laws.capture_or_fault.Goals as goal
 
 pub returns-clause-segment : goal.returns-clause-segment
 returns-clause-segment c = segment_or_fault

@@ -1,5 +1,5 @@
 use Rattle.fints_params.proofs.OneAnswer.{params_or_fault, codes_or_fault}
-use Rattle.fints_params.proofs.laws.one_answer.Goals as goal
+use Rattle.fints_params.proofs.laws.params_or_fault.Goals as goal
 
 pub returns-clause-rows : goal.returns-clause-rows
 returns-clause-rows c = params_or_fault

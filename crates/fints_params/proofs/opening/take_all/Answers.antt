@@ -2,7 +2,7 @@ use Rattle.std.proofs.lemmas.Result.{err_from_is_err_and}
 use Rattle.fints_syntax.specs.Owned.{segments_of}
 use Rattle.fints_params.proofs.Refusing.{stop_next, continue_next}
 use Rattle.fints_params.proofs.Viewed.{segment_at}
-use Rattle.fints_params.proofs.opening.add_all.Goals as goal
+use Rattle.fints_params.proofs.opening.take_all.Goals as goal
 
 pub returns-in_err-take-clause-stopped : goal.returns-in_err-take-clause-stopped
 returns-in_err-take-clause-stopped g c =
@@ -10,7 +10,7 @@ returns-in_err-take-clause-stopped g c =
     let i = c.loop-view.view-index in
     let at = segment_at c.args.views.now i c.view-item.result s c.loop-view-test.true c.view-item.is c.in_ok-segment.ensures in
     let f =
-    stop_next g.R.SegmentTaker.rule g.R.SegmentTaker.good c.args.reader.now c.loop-view.reader
+    stop_next g.R.SegmentTaker.rule g.R.SegmentTaker.good c.args.taker.now c.loop-view.taker
     (segments_of c.args.views.now) i s c.in_err-take.field-0.0 at.0 at.1 c.loop-view.invariant
     c.in_err-take.ensures.stopped in
     let p = err_from_is_err_and c.from_residual-in_err-take.result c.from_residual-in_err-take.ensures.1 in
@@ -21,5 +21,5 @@ loop-view-preserved g c =
     let s = c.in_ok-segment.segment in
     let i = c.loop-view.view-index in
     let at = segment_at c.args.views.now i c.view-item.result s c.loop-view-test.true c.view-item.is c.in_ok-segment.ensures in
-    continue_next g.R.SegmentTaker.good c.args.reader.now c.loop-view.reader c.take.new.self
+    continue_next g.R.SegmentTaker.good c.args.taker.now c.loop-view.taker c.take.new.self
     (segments_of c.args.views.now) i s at.0 at.1 c.loop-view.invariant c.in_ok-take.ensures.ok

@@ -10,14 +10,14 @@ use Rattle.fints_syntax.specs.declared.capture.Placed.{Placed}
 use Rattle.fints_syntax_segments.specs.declared.item.OwnedSegment.{OwnedSegment}
 use Rattle.fints_params.proofs.Bounds.{placed_fits}
 use Rattle.fints_params.proofs.Refusing.{single_ok, single_stop}
-use Rattle.fints_params.proofs.opening.add_view.Goals as goal
+use Rattle.fints_params.proofs.opening.take_view.Goals as goal
 
 pub returns-then-not-is_sealed-clause-ok : goal.returns-then-not-is_sealed-clause-ok
 returns-then-not-is_sealed-clause-ok g c =
     let s = c.in_ok-segment.segment in
     let e : is_sealed s ≡ false = sym c.is_sealed.ensures ∙ c.if-not-is_sealed.true in
-    subst (ContinuesOver g.R.SegmentTaker.good c.args.reader.now c.take.new.self) c.in_ok-segment.ensures
-    (single_ok g.R.SegmentTaker.good c.args.reader.now c.take.new.self s e c.in_ok-take.ensures.ok)
+    subst (ContinuesOver g.R.SegmentTaker.good c.args.taker.now c.take.new.self) c.in_ok-segment.ensures
+    (single_ok g.R.SegmentTaker.good c.args.taker.now c.take.new.self s e c.in_ok-take.ensures.ok)
 
 pub returns-in_err-take-clause-stopped : goal.returns-in_err-take-clause-stopped
 returns-in_err-take-clause-stopped g c =
@@ -25,36 +25,36 @@ returns-in_err-take-clause-stopped g c =
     let s = c.in_ok-segment.segment in
     let f = c.in_err-take.field-0.0 in
     let e : is_sealed s ≡ false = sym c.is_sealed.ensures ∙ c.if-not-is_sealed.true in
-    let m = single_stop g.R.SegmentTaker.rule g.R.SegmentTaker.good c.args.reader.now s (data_place view) f e c.in_err-take.ensures.stopped in
+    let m = single_stop g.R.SegmentTaker.rule g.R.SegmentTaker.good c.args.taker.now s (data_place view) f e c.in_err-take.ensures.stopped in
     let here =
     subst
     (λ (x : OwnedSegment).
     IsMemoryOr
-    (StopsAt g.R.SegmentTaker.rule g.R.SegmentTaker.good c.args.reader.now x (data_place view))
+    (StopsAt g.R.SegmentTaker.rule g.R.SegmentTaker.good c.args.taker.now x (data_place view))
     f)
     c.in_ok-segment.ensures m in
     let q = err_from_is_err_and c.from_residual-in_err-take.result c.from_residual-in_err-take.ensures.1 in
     rw (q.1, q.2) here
 
-pub invariant_of-add_sealed : goal.invariant_of-add_sealed
-invariant_of-add_sealed g c =
+pub invariant_of-take_sealed : goal.invariant_of-take_sealed
+invariant_of-take_sealed g c =
     let view : Placed = record { start = c.args.start; segment = c.args.view.now } in
-    record { in_range = placed_fits view c.in_ok-segment.segment c.place_of-place.result c.requires c.in_ok-segment.ensures c.place_of-place.ensures.place }
+    record { in_range = placed_fits view c.in_ok-segment.segment c.data_place-place.result c.requires c.in_ok-segment.ensures c.data_place-place.ensures.place }
 
 pub returns-clause-ok : goal.returns-clause-ok
 returns-clause-ok g c =
     let s = c.in_ok-segment.segment in
-    let P : OwnedSegment → Type 0 = ContinuesOver g.R.SegmentTaker.good c.args.reader.now c.add_sealed.new.reader in
-    IfOk-weaker c.add_sealed.result (λ _. P s) (λ _. P (segment_of c.args.view.now)) (λ _ h. subst P c.in_ok-segment.ensures h) c.add_sealed.ensures.ok
+    let P : OwnedSegment → Type 0 = ContinuesOver g.R.SegmentTaker.good c.args.taker.now c.take_sealed.new.taker in
+    IfOk-weaker c.take_sealed.result (λ _. P s) (λ _. P (segment_of c.args.view.now)) (λ _ h. subst P c.in_ok-segment.ensures h) c.take_sealed.ensures.ok
 
 pub returns-clause-stopped : goal.returns-clause-stopped
 returns-clause-stopped g c =
     let view : Placed = record { start = c.args.start; segment = c.args.view.now } in
     let s = c.in_ok-segment.segment in
-    let place = c.place_of-place.result in
-    let P : OwnedSegment → ℕ → ParamFault → Type 0 = λ x n f. IsMemoryOr (StopsAt g.R.SegmentTaker.rule g.R.SegmentTaker.good c.args.reader.now x n) f in
-    IfErr-weaker c.add_sealed.result (P s place) (P (segment_of c.args.view.now) (data_place view))
+    let place = c.data_place-place.result in
+    let P : OwnedSegment → ℕ → ParamFault → Type 0 = λ x n f. IsMemoryOr (StopsAt g.R.SegmentTaker.rule g.R.SegmentTaker.good c.args.taker.now x n) f in
+    IfErr-weaker c.take_sealed.result (P s place) (P (segment_of c.args.view.now) (data_place view))
     (λ f h.
     subst (λ x. P x (data_place view) f) c.in_ok-segment.ensures
-    (subst (λ n. P s n f) c.place_of-place.ensures.place h))
-    c.add_sealed.ensures.stopped
+    (subst (λ n. P s n f) c.data_place-place.ensures.place h))
+    c.take_sealed.ensures.stopped
