@@ -1,2 +1,3 @@
 pub mod CutAnswers
+pub mod Faults
 pub mod Writes

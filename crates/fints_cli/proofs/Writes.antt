@@ -1,5 +1,6 @@
 -- Writes one after another.
-use Rattle.std.proofs.Common.{◌<◌, ◌≤◌, arith, inl, inr, ◌≡◌, ◌∙◌, sym, ap, subst, ℕ, ◌+◌, ◌-◌, List, ◌++◌, length, take, drop, Option, Some, None, append_assoc}
+use Rattle.std.specs.Prelude.{OnOk, OnErr}
+use Rattle.std.proofs.Common.{Result, Ok, Err, ◌<◌, ◌≤◌, arith, inl, inr, ◌≡◌, ◌∙◌, sym, ap, subst, ℕ, ◌+◌, ◌-◌, List, ◌++◌, length, take, drop, Option, Some, None, append_assoc}
 use Rattle.std.proofs.lemmas.Bool.{cases_lt}
 use Rattle.std.proofs.lemmas.List.{take_all, take_rest, take-append-le}
 use Rattle.std.proofs.Math.Seq.{take-add, take-append-add, take-append_seam}
@@ -60,3 +61,20 @@ cut-of-more (Some x) (Some y) a b h = elim (cases_lt h.0 (length a)) [
   | inl short ↦ (h.0, h.1 ∙ ap (λ l. x ++ l) (sym (take-append-le h.0 a b (omega arith))))
   | inr long ↦ (length a, h.1 ∙ ap (λ l. x ++ l) (take_all h.0 a long ∙ sym (take-append_seam a b)))
 ]
+
+-- ---- what is done, and what failed
+
+pub on_ok_both : {T F : Type 0} (r : Result T F) (A B C : Type 0) → (A → B → C) → OnOk r A → OnOk r B → OnOk r C
+on_ok_both (Ok x) A B C h a b = h a b
+on_ok_both (Err e) A B C h a b = tt
+
+pub on_err_both : {T F : Type 0} (r : Result T F) (A B C : Type 0) → (A → B → C) → OnErr r A → OnErr r B → OnErr r C
+on_err_both (Ok x) A B C h a b = tt
+on_err_both (Err e) A B C h a b = h a b
+
+pub none_is_no_some : {X : Type 0} (x : X) → None ≡ Some x → ⊥
+none_is_no_some x e = absurd cc
+
+pub on_err_of : {T F : Type 0} (r : Result T F) (A : Type 0) → A → OnErr r A
+on_err_of (Ok x) A a = tt
+on_err_of (Err e) A a = a

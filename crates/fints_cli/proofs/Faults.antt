@@ -1,0 +1,16 @@
+-- The line of a fault.
+use Rattle.std.proofs.Common.{◌≡◌, ℕ, List, [], Option, refl, inl, inr}
+use Rattle.std.specs.Prelude.{codes, ◌⊎◌}
+use Rattle.fints_cli.specs.Responses.{Tells, TellsFault, memory_line, write_line}
+
+module _ (old new : Option (List ℕ)) (lost lost_after : ℕ) where
+  -- nothing more is said under one premise where nothing is under another that follows from it
+  pub fault_under : (A B : Type 0) → (B → A) → TellsFault A old new lost lost_after
+      → TellsFault B old new lost lost_after
+  fault_under A B h t = record { why = t.why; more = t.more; nothing_more = λ b. t.nothing_more (h b); told = t.told }
+
+  pub memory_fault : (A : Type 0) → Tells old new lost lost_after memory_line → TellsFault A old new lost lost_after
+  memory_fault A told = record { why = codes "memory"; more = []; nothing_more = λ _. refl; told = told }
+
+  pub write_fault : (A : Type 0) → Tells old new lost lost_after write_line → TellsFault A old new lost lost_after
+  write_fault A told = record { why = codes "write"; more = []; nothing_more = λ _. refl; told = told }

@@ -1,0 +1,23 @@
+use Rattle.std.proofs.Common.{◌∷◌, [], ◌++◌}
+use Rattle.std.specs.Prelude.{OnErr}
+use Rattle.fints_cli_files.specs.Streams.{GetsPrefix}
+use Rattle.fints_cli.proofs.Writes.{cut-of-more, gets-more, gets-then-cut, on_err_both, on_err_of}
+use Rattle.fints_cli.proofs.responding.emit_line.Goals as goal
+
+pub returns-in_err-emit-clause-cut : goal.returns-in_err-emit-clause-cut
+returns-in_err-emit-clause-cut g c =
+    on_err_of c.from_residual.result _ (cut-of-more _ _ c.args.front.now (c.args.text.now ++ 10 ∷ []) c.in_err-emit.ensures.cut)
+
+pub returns-in_err-emit-2-clause-cut : goal.returns-in_err-emit-2-clause-cut
+returns-in_err-emit-2-clause-cut g c =
+    on_err_of c.from_residual-in_err-emit-2.result _
+    (gets-then-cut _ _ _ c.args.front.now (c.args.text.now ++ 10 ∷ []) c.in_ok-emit.ensures.written
+    (cut-of-more _ _ c.args.text.now (10 ∷ []) c.in_err-emit-2.ensures.cut))
+
+pub returns-clause-cut : goal.returns-clause-cut
+returns-clause-cut g c =
+    on_err_both c.emit-3.result _ _ _
+    (λ cut _.
+    gets-then-cut _ _ _ c.args.front.now (c.args.text.now ++ 10 ∷ []) c.in_ok-emit.ensures.written
+    (gets-then-cut _ _ _ c.args.text.now (10 ∷ []) c.in_ok-emit-2.ensures.written cut))
+    c.emit-3.ensures.cut c.emit-3.ensures.failed
