@@ -241,9 +241,9 @@ fn unread_slip(alloc: Global, rest: &[u8], walk: &Walk) -> Result<String, Memory
 /// Why no segment of a message stands at the front of bytes behind this walk.
 pub fn slip_at(alloc: Global, rest: &[u8], walk: &Walk, number: u32) -> Result<String, Memory> {
     match parse_segment(rest) {
-        Ok((view, _)) if is_named(&view, b"HNHBS", HNHBS_VERSION) => last_slip(
-            alloc, &view, walk, number,
-        ),
+        Ok((view, _)) if is_named(&view, b"HNHBS", HNHBS_VERSION) => {
+            last_slip(alloc, &view, walk, number)
+        }
         Ok((view, _)) => order_slip(alloc, &view, walk),
         Err(_) => unread_slip(alloc, rest, walk),
     }
