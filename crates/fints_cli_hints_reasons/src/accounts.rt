@@ -146,11 +146,12 @@ pub enum Locked<'a> {
         kind: Kind,
     },
     NoAccounts,
-    /// The account stands in another element.
+    /// The account stands in another element; what is said of element 2.
     Elsewhere {
         account: Account<'a>,
         element: usize,
         kind: Kind,
+        second: &'static str,
     },
     /// Element 2 is the name of a field.
     Field {
@@ -175,6 +176,11 @@ fn other_place<'a>(
     kind: Kind,
     elements: &Elements<'a>,
 ) -> Option<Locked<'a>> {
+    let second = if elements.are_filled() {
+        ", the first entry of elements"
+    } else {
+        ""
+    };
     for element in 3..elements.last().saturating_add(1) {
         let items = elements.items(element);
         let account = account_of(form, &items);
@@ -183,6 +189,7 @@ fn other_place<'a>(
                 account,
                 element,
                 kind,
+                second,
             });
         }
     }
@@ -249,11 +256,12 @@ impl Display for Locked<'_> {
                 account,
                 element,
                 kind,
+                second,
             } => {
                 let kind = KindName(*kind);
                 write!(
                     f,
-                    "{account} stands in element {element} of {kind}, and belongs into element 2: elements begins with element 2"
+                    "{account} stands in element {element} of {kind}, and belongs into element 2{second}"
                 )
             }
             Locked::Field { name, kind } => {

@@ -101,6 +101,11 @@ pub enum Elements<'a> {
 }
 
 impl<'a> Elements<'a> {
+    /// Whether they are those of a script.
+    pub fn are_filled(&self) -> bool {
+        matches!(self, Elements::Filled(_))
+    }
+
     /// The number of the last element.
     pub fn last(&self) -> usize {
         let count = match self {

@@ -121,6 +121,15 @@ pub struct SegmentWhy<'a> {
 }
 
 impl SegmentWhy<'_> {
+    // What more signatures come from.
+    fn signing(&self) -> &'static str {
+        if self.seen.elements.are_filled() {
+            "signers"
+        } else {
+            "signatures"
+        }
+    }
+
     // Whether a parameter segment of the order is skipped, of this version or of any.
     fn is_skipped(&self, version: Option<u16>) -> bool {
         let kind = self.seen.kind;
@@ -185,7 +194,7 @@ impl SegmentWhy<'_> {
     }
 
     fn order_needs<W: Write>(&self, f: &mut Formatter<W>) -> fmt::Result {
-        let params = ParamsOf(self.seen.kind);
+        let (params, signing) = (ParamsOf(self.seen.kind), self.signing());
         let (signatures, version) = (Signatures(self.seen.signatures), self.seen.version);
         let need = match self.bank.permissions.limits(self.seen.kind, version) {
             Some(limits) => limits.signatures,
@@ -193,17 +202,17 @@ impl SegmentWhy<'_> {
         };
         write!(
             f,
-            "the message has {signatures}, and the bank wants {need} ({params} {version}, element 3): add signers"
+            "the message has {signatures}, and the bank wants {need} ({params} {version}, element 3): add {signing}"
         )
     }
 
     fn account_needs<W: Write>(&self, f: &mut Formatter<W>) -> fmt::Result {
         let (kind, signatures) = (KindName(self.seen.kind), Signatures(self.seen.signatures));
         let account = account_named(self.bank, self.seen);
-        let need = least_need(self.bank, self.seen);
+        let (need, signing) = (least_need(self.bank, self.seen), self.signing());
         write!(
             f,
-            "the message has {signatures}, and {account} wants {need} for {kind} (HIUPD): add signers, or name another account"
+            "the message has {signatures}, and {account} wants {need} for {kind} (HIUPD): add {signing}, or name another account"
         )
     }
 
@@ -220,7 +229,12 @@ impl SegmentWhy<'_> {
     fn no_row<W: Write>(&self, f: &mut Formatter<W>) -> fmt::Result {
         let kind = KindName(self.seen.kind);
         let version = self.seen.version;
-        if self.bank.permissions.limits(self.seen.kind, version).is_none() {
+        if self
+            .bank
+            .permissions
+            .limits(self.seen.kind, version)
+            .is_none()
+        {
             return write!(
                 f,
                 "the order table has no row for {kind} {version}, which the bank doesn't take (P5): mend that first"
@@ -244,7 +258,8 @@ impl SegmentWhy<'_> {
         let kind = KindName(self.seen.kind);
         let no_tan = self.seen.no_tan;
         let advice = match no_tan {
-            NoTan::MayBeEmpty(_) => "add an HKTAN, or give the TAN's field a min of 1",
+            NoTan::MayBeEmpty(_) =>
+                "add an HKTAN, or keep the TAN's field from being empty (min = 1)",
             _ => "add one of the two",
         };
         write!(
@@ -257,7 +272,7 @@ impl SegmentWhy<'_> {
         let no_tan = self.seen.no_tan;
         let advice = match no_tan {
             NoTan::NoSigner => "add a signer with a TAN",
-            NoTan::MayBeEmpty(_) => "give the TAN's field a min of 1",
+            NoTan::MayBeEmpty(_) => "keep the TAN's field from being empty (min = 1)",
             NoTan::Without(_) => "write the TAN into the third entry of its end, behind the PIN",
             NoTan::NoneThere => "write it into element 4, item 2",
         };
