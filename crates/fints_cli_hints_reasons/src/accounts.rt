@@ -1,5 +1,8 @@
 //! The account that an order names, among those of a capture.
+ghost use Rattle.std.specs.Prelude.{◌≤◌};
+
 use crate::elements::{Elements, Items};
+use crate::lines::name_of;
 use crate::segment::{Bank, KindName, Seen};
 use crate::step::Called;
 use fints_cli_hints_words::quoting::Sample;
@@ -118,23 +121,27 @@ fn is_without_blanks(written: &[u8], iban: &[u8]) -> bool {
 }
 
 // What to write in place of the first item of element 2, by what can be told of it.
-fn advice(rows: &[AccountRow], form: Option<AccountForm>, first: &[u8]) -> &'static str {
+fn advice(rows: &[AccountRow], form: Option<AccountForm>, first: &[u8]) -> Option<&'static str> {
     let international = is_international(form);
     for row in rows {
         if international
             && row.iban.as_slice() != first
             && is_without_blanks(first, row.iban.as_slice())
         {
-            return "write the IBAN without blanks";
+            return Some("write the IBAN without blanks");
         }
         if international && row.national.number.as_slice() == first && !first.is_empty() {
-            return "it is an account's number, and the order table says that an IBAN stands there (international): write the IBAN, or mend the row of the order table";
+            return Some(
+                "it is an account's number, and the order table says that an IBAN stands there (international): write the IBAN, or mend the row of the order table",
+            );
         }
         if !international && row.iban.as_slice() == first && !first.is_empty() {
-            return "it is an account's IBAN, and the order table says that a number stands there (national): write number, subaccount, country and bank code, or mend the row of the order table";
+            return Some(
+                "it is an account's IBAN, and the order table says that a number stands there (national): write number, subaccount, country and bank code, or mend the row of the order table",
+            );
         }
     }
-    "name one that show lists"
+    None
 }
 
 /// Why no row of an order's account lists it.
@@ -146,8 +153,11 @@ pub enum Locked<'a> {
         kind: Kind,
     },
     NoAccounts,
-    /// The account stands in another element; what is said of element 2.
+    /// An account of the capture stands in another element, and in element 2 none of so many, or nothing;
+    /// what is said of element 2.
     Elsewhere {
+        named: Option<Account<'a>>,
+        count: usize,
         account: Account<'a>,
         element: usize,
         kind: Kind,
@@ -170,49 +180,74 @@ pub enum Locked<'a> {
 }
 
 // The first element behind element 2 in which an account of the capture stands.
-fn other_place<'a>(
+fn other_place(
     rows: &[AccountRow],
     form: Option<AccountForm>,
-    kind: Kind,
-    elements: &Elements<'a>,
-) -> Option<Locked<'a>> {
-    let second = if elements.are_filled() {
-        ", the first entry of elements"
-    } else {
-        ""
-    };
+    elements: &Elements<'_>,
+) -> Option<usize> {
     for element in 3..elements.last().saturating_add(1) {
         let items = elements.items(element);
         let account = account_of(form, &items);
         if !are_empty(&items) && rows.iter().any(|row| is_of(row, &account)) {
-            return Some(Locked::Elsewhere {
-                account,
-                element,
-                kind,
-                second,
-            });
+            return Some(element);
         }
     }
     None
 }
 
+// An account that stands in this element.
+fn elsewhere_in<'a>(
+    rows: &[AccountRow],
+    form: Option<AccountForm>,
+    seen: &Seen<'a>,
+    element: usize,
+) -> Locked<'a>
+    requires { 2 ≤ element }
+{
+    let elements = seen.elements;
+    let items = elements.items(2);
+    let named = if are_empty(&items) {
+        None
+    } else {
+        Some(account_of(form, &items))
+    };
+    let second = if elements.are_filled() {
+        ", the first entry of elements"
+    } else {
+        ""
+    };
+    Locked::Elsewhere {
+        named,
+        count: rows.len(),
+        account: account_of(form, &elements.items(element)),
+        element,
+        kind: seen.kind,
+        second,
+    }
+}
+
 fn unknown<'a>(rows: &[AccountRow], form: Option<AccountForm>, seen: &Seen<'a>) -> Locked<'a> {
     let (kind, elements) = (seen.kind, seen.elements);
     let items = elements.items(2);
-    if let Some(locked) = other_place(rows, form, kind, &elements) {
-        return locked;
-    }
+    let [first, ..] = items;
     if let Some(name) = elements.field_meant() {
         return Locked::Field { name, kind };
     }
+    let advice = match (
+        advice(rows, form, first),
+        other_place(rows, form, &elements),
+    ) {
+        (Some(advice), _) => advice,
+        (None, Some(element)) => return elsewhere_in(rows, form, seen, element.max(3)),
+        (None, None) => "name one that show lists",
+    };
     if are_empty(&items) {
         return Locked::Empty { kind };
     }
-    let [first, ..] = items;
     Locked::Unknown {
         account: account_of(form, &items),
         count: rows.len(),
-        advice: advice(rows, form, first),
+        advice,
     }
 }
 
@@ -239,6 +274,43 @@ fn write_none_of<W: Write>(f: &mut Formatter<W>, count: usize) -> fmt::Result {
     }
 }
 
+// What is said of an account that isn't one of the capture, or stands elsewhere.
+fn write_unknown<W: Write>(f: &mut Formatter<W>, locked: &Locked<'_>) -> fmt::Result {
+    match locked {
+        Locked::Elsewhere {
+            named,
+            count,
+            account,
+            element,
+            kind,
+            second,
+        } => {
+            let kind = KindName(*kind);
+            match named {
+                None => write!(f, "element 2 of {kind} is empty")?,
+                Some(named) => {
+                    write!(f, "{named} ")?;
+                    write_none_of(f, *count)?;
+                }
+            }
+            write!(
+                f,
+                ", and {account} stands in element {element}: the account of {kind} belongs into element 2{second}"
+            )
+        }
+        Locked::Unknown {
+            account,
+            count,
+            advice,
+        } => {
+            write!(f, "{account} ")?;
+            write_none_of(f, *count)?;
+            write!(f, ": {advice}")
+        }
+        _ => Ok(()),
+    }
+}
+
 impl Display for Locked<'_> {
     fn fmt<W: Write>(&self, f: &mut Formatter<W>) -> fmt::Result {
         match self {
@@ -252,21 +324,9 @@ impl Display for Locked<'_> {
             Locked::NoAccounts => f.write_str(
                 "the capture has no account (HIUPD): take that of the answer to the initialisation",
             ),
-            Locked::Elsewhere {
-                account,
-                element,
-                kind,
-                second,
-            } => {
-                let kind = KindName(*kind);
-                write!(
-                    f,
-                    "{account} stands in element {element} of {kind}, and belongs into element 2{second}"
-                )
-            }
             Locked::Field { name, kind } => {
                 let (field, kind) = (Called(name), KindName(*kind));
-                let name = crate::lines::name_of(name);
+                let name = name_of(name);
                 write!(
                     f,
                     "element 2 of {kind} is the text {field}, and so is a field named: write \"${name}\""
@@ -279,15 +339,7 @@ impl Display for Locked<'_> {
                     "element 2 of {kind} is empty, and the account belongs there: name one that show lists"
                 )
             }
-            Locked::Unknown {
-                account,
-                count,
-                advice,
-            } => {
-                write!(f, "{account} ")?;
-                write_none_of(f, *count)?;
-                write!(f, ": {advice}")
-            }
+            _ => write_unknown(f, self),
         }
     }
 }

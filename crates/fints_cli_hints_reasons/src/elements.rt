@@ -89,7 +89,9 @@ fn field_meant<'a>(filled: &Filled<'a>) -> Option<&'a Name> {
         return None;
     };
     let text = item.value();
-    let field = filled.fields.iter().find(|it| it.name.as_bytes() == text)?;
+    // the built-in field stands first
+    let mut fields = filled.fields.iter().skip(1);
+    let field = fields.find(|it| it.name.as_bytes() == text)?;
     Some(&field.name)
 }
 

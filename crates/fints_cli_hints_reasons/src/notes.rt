@@ -1,6 +1,7 @@
 //! What is clean and may still be wrong: notes on a script, which are no findings.
 ghost use Rattle.std.specs.Prelude.{◌≤◌, ◌+◌, length, IfSome};
 
+use crate::lines::name_of;
 use crate::step::{BranchOf, Called, figures_of, is_open};
 use fints_check::Report;
 use fints_cli_hints_words::places::written;
@@ -104,7 +105,7 @@ impl Display for Note {
                 )
             }
             Note::Unused(field) => {
-                let (field, name) = (Called(field), crate::lines::name_of(field));
+                let (field, name) = (Called(field), name_of(field));
                 write!(
                     f,
                     "the field {field} is used nowhere: write \"${name}\" where its value belongs, or remove it"

@@ -61,22 +61,16 @@ fn place_of<'a>(name: &'a str, finding: Finding) -> Where<'a> {
     }
 }
 
-fn add_segment(
-    text: &mut String,
-    alloc: Global,
-    found: &Found<'_>,
-    template: &Template,
-    values: &Values,
-) -> Result<(), Memory> {
+// The segment of a template under the finding's values.
+fn seen_in<'a>(found: &Found<'a>, template: &'a Template, values: &'a Values) -> Seen<'a> {
     let Found {
         bank,
         plan,
         step,
         kinds,
-        finding,
+        ..
     } = *found;
-    let signatures = step.signers().len();
-    let seen = Seen {
+    Seen {
         kind: template.kind,
         version: template.version,
         elements: Elements::Filled(Filled {
@@ -85,27 +79,37 @@ fn add_segment(
             elements: template.elements.as_slice(),
         }),
         count: count_of(kinds, template.kind),
-        signatures,
+        signatures: step.signers().len(),
         demanding: demanding(bank.permissions, kinds),
         no_tan: no_tan(plan.signers(), step),
-    };
+    }
+}
+
+fn add_segment(
+    text: &mut String,
+    alloc: Global,
+    found: &Found<'_>,
+    template: &Template,
+    values: &Values,
+) -> Result<(), Memory> {
+    let seen = seen_in(found, template, values);
     let cause = segment_cause(
-        bank.permissions,
-        finding.rule,
-        template.kind,
-        template.version,
-        signatures,
+        found.bank.permissions,
+        found.finding.rule,
+        seen.kind,
+        seen.version,
+        seen.signatures,
     );
     let Some(cause) = cause else {
         return Ok(());
     };
     let why = SegmentWhy {
-        bank,
+        bank: found.bank,
         seen: &seen,
         cause,
     };
-    let name = step.name();
-    add_why(text, alloc, place_of(name_of(&name), finding), why)
+    let name = found.step.name();
+    add_why(text, alloc, place_of(name_of(&name), found.finding), why)
 }
 
 fn add_whole(

@@ -147,35 +147,41 @@ fn write_entered<W: Write>(f: &mut Formatter<W>, open: &Open) -> fmt::Result {
     }
 }
 
+fn write_figures<W: Write>(f: &mut Formatter<W>, open: &Open) -> fmt::Result {
+    match open {
+        Open::BreaksNumber { step, number } => {
+            let step = Called(step);
+            write!(
+                f,
+                "step {step}: number {number} breaks P2 (1 to {LAST_NUMBER}): {ANEW}"
+            )
+        }
+        Open::Longer {
+            step,
+            number,
+            worst,
+            size,
+        } => {
+            let step = Called(step);
+            write!(
+                f,
+                "step {step}: its longest message of number {number} has {worst} bytes, and its line says {size}: {ANEW}"
+            )
+        }
+        Open::BreaksSize { step, size } => {
+            let step = Called(step);
+            write!(
+                f,
+                "step {step}: a message of {size} bytes breaks P3 (HIBPA, element 8): {ANEW}"
+            )
+        }
+        _ => write_entered(f, open),
+    }
+}
+
 impl Display for Open {
     fn fmt<W: Write>(&self, f: &mut Formatter<W>) -> fmt::Result {
         match self {
-            Open::BreaksNumber { step, number } => {
-                let step = Called(step);
-                write!(
-                    f,
-                    "step {step}: number {number} breaks P2 (1 to {LAST_NUMBER}): {ANEW}"
-                )
-            }
-            Open::Longer {
-                step,
-                number,
-                worst,
-                size,
-            } => {
-                let step = Called(step);
-                write!(
-                    f,
-                    "step {step}: its longest message of number {number} has {worst} bytes, and its line says {size}: {ANEW}"
-                )
-            }
-            Open::BreaksSize { step, size } => {
-                let step = Called(step);
-                write!(
-                    f,
-                    "step {step}: a message of {size} bytes breaks P3 (HIBPA, element 8): {ANEW}"
-                )
-            }
             Open::BreaksRule { step } => {
                 let step = Called(step);
                 write!(
@@ -190,7 +196,7 @@ impl Display for Open {
                     "step {step} is named as reached, and a message behind it leaves its order unreleased (P11): name it as unreached where no run sends it, or mend the branches of the script"
                 )
             }
-            _ => write_entered(f, self),
+            _ => write_figures(f, self),
         }
     }
 }

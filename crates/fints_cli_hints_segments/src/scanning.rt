@@ -109,6 +109,16 @@ fn seen_of(why: Why) -> usize {
     }
 }
 
+// A stop in an item that begins at an offset.
+fn stop_at(element: usize, item: usize, start: usize, why: Why) -> Stop {
+    Stop {
+        element,
+        item,
+        at: start.saturating_add(seen_of(why)),
+        why,
+    }
+}
+
 /// Where the bytes cease to be a segment.
 pub fn stop_of(bytes: &[u8]) -> Stop {
     let mut at: usize = 0;
@@ -117,15 +127,7 @@ pub fn stop_of(bytes: &[u8]) -> Stop {
     for _ in 0..MOST {
         let (len, after) = match scan_item(bytes.get(at..).unwrap_or(&[])) {
             Scanned::Item { len, after } => (len, after),
-            Scanned::No(why) => {
-                let at = at.saturating_add(seen_of(why));
-                return Stop {
-                    element,
-                    item,
-                    at,
-                    why,
-                };
-            }
+            Scanned::No(why) => return stop_at(element, item, at, why),
         };
         at = at.saturating_add(len).saturating_add(1);
         match after {

@@ -69,7 +69,7 @@ fn bad_entry<'a>(element: usize, items: &ElementRef<'a>) -> Option<BadElement<'a
         return None;
     }
     if !is_order_name(kind) {
-        let words = "the identifier of an order, of 5 or 6 characters";
+        let words = "the identifier of an order, of 5 or 6 characters, in an entry";
         return Some(bad_item(element, 1, kind, words));
     }
     if !is_number(signatures) {
@@ -94,7 +94,8 @@ fn add_note(
     Ok(())
 }
 
-// Adds a note for each entry of an account that is skipped; they begin with element 11.
+// Adds a note for each entry of an account that is skipped: they begin with element 11, and behind them an
+// extension may stand.
 fn add_entries(
     text: &mut String,
     alloc: Global,
@@ -103,8 +104,13 @@ fn add_entries(
 ) -> Result<(), Memory> {
     for i in 9..segment.elements.len() {
         let element = i.saturating_add(2);
+        let what = if element > segment.elements.len() {
+            "the last element, an extension or an entry,"
+        } else {
+            "an entry"
+        };
         if let Some(bad) = bad_entry(element, &segment.elements.items(i)) {
-            add_note(text, alloc, place, &bad, "an entry")?;
+            add_note(text, alloc, place, &bad, what)?;
         }
     }
     Ok(())
