@@ -1,21 +1,27 @@
 # Made by tools/manual.py from the helps of the program. To use it: source docs/fints.bash
 _fints() {
-    local word=${COMP_WORDS[COMP_CWORD]} before=${COMP_WORDS[COMP_CWORD - 1]} words
-    case $before in
-    --params | --orders | --script | --case | --cert | --before | --answer | --message)
+    local word=${COMP_WORDS[COMP_CWORD]} before=${COMP_WORDS[COMP_CWORD - 1]} words files= numbers=
+    case ${COMP_WORDS[1]} in
+    show) words="--hints --params --help" files="--params" numbers="" ;;
+    judge) words="--hints --params --orders --before --answer --message --help" files="--params --orders --before --answer --message" numbers="" ;;
+    check) words="--hints --params --orders --script --help" files="--params --orders --script" numbers="" ;;
+    explain) words="--hints --params --orders --script --help" files="--params --orders --script" numbers="" ;;
+    certify) words="--hints --params --orders --script --help" files="--params --orders --script" numbers="" ;;
+    verify) words="--hints --params --orders --script --cert --help" files="--params --orders --script --cert" numbers="" ;;
+    run) words="--hints --orders --script --case --message --help" files="--orders --script --case" numbers="--message" ;;
+    *) words="show judge check explain certify verify run help --hints --help --version" ;;
+    esac
+    case " $files " in
+    *" $before "*)
         mapfile -t COMPREPLY < <(compgen -f -- "$word")
         return
         ;;
     esac
-    case ${COMP_WORDS[1]} in
-    show) words="--hints --params --help" ;;
-    judge) words="--hints --params --orders --before --answer --message --help" ;;
-    check) words="--hints --params --orders --script --help" ;;
-    explain) words="--hints --params --orders --script --help" ;;
-    certify) words="--hints --params --orders --script --help" ;;
-    verify) words="--hints --params --orders --script --cert --help" ;;
-    run) words="--hints --orders --script --case --message --help" ;;
-    *) words="show judge check explain certify verify run help --hints --help --version" ;;
+    case " $numbers " in
+    *" $before "*)
+        COMPREPLY=()
+        return
+        ;;
     esac
     mapfile -t COMPREPLY < <(compgen -W "$words" -- "$word")
 }

@@ -1,7 +1,8 @@
 #!/usr/bin/env bash
 # Runs the built program on the examples of README.md: of each fenced block that begins with
-# '$ fints ..', the further lines are what the command must print (on either stream). Then it looks
-# that each file that docs/library.md shows whole is that file, and each part of one stands in it: of a
+# '$ fints ..', the further lines are what the command must print (on either stream). Of one that begins
+# with '$ (cd crates/fints && rt try ..' they are what must stand on standard output: rt says on standard
+# error what it does. Then it looks that each file that docs/library.md shows whole is that file, and each part of one stands in it: of a
 # line 'PATH, whole:' or 'PATH, of it:' with the path in backquotes, and the fenced block behind it.
 set -uo pipefail
 cd "$(dirname "$0")/.."
@@ -19,7 +20,10 @@ failed=0
 check_block() {
     local line=$1 command=$2 want=$3 got
     blocks=$((blocks + 1))
-    got=$(eval "$command" 2>&1)
+    case $command in
+    '(cd crates/fints && rt try '*) got=$(eval "$command" 2> /dev/null < /dev/null) ;;
+    *) got=$(eval "$command" 2>&1) ;;
+    esac
     if [ "$got" != "$want" ]; then
         failed=$((failed + 1))
         echo "examples: README.md line $line: '$command' prints something else (< shown, > printed):" >&2
@@ -47,7 +51,7 @@ while IFS= read -r line || [ -n "$line" ]; do
         want+=${want:+$'\n'}$line
     elif [ "$fenced" -eq 1 ] && [ "$first" -eq 1 ]; then
         case $line in
-        '$ fints' | '$ fints '*)
+        '$ fints' | '$ fints '* | '$ (cd crates/fints && rt try '*)
             open=$number
             command=${line#'$ '}
             want=
@@ -62,6 +66,16 @@ if [ "$blocks" -eq 0 ]; then
     exit 1
 fi
 
+# Whether the text is the file whole, or, of it, a part that stands in the file.
+is_shown() {
+    local file=$1 how=$2 text=$3
+    [ -n "$text" ] || return
+    case $how in
+    whole) [ "$text" = "$(cat "$file")" ] ;;
+    'of it') [[ $(cat "$file") == *"$text"* ]] ;;
+    esac
+}
+
 # The listings of docs/library.md.
 shown=0
 file=
@@ -71,9 +85,7 @@ while IFS= read -r line || [ -n "$line" ]; do
         if [ "$line" = '```' ]; then
             fenced=0
             shown=$((shown + 1))
-            if [ "$part" -eq 1 ] && [[ $(cat "$file") == *"$text"* ]]; then
-                :
-            elif [ "$text" != "$(cat "$file")" ]; then
+            if ! is_shown "$file" "$how" "$text"; then
                 failed=$((failed + 1))
                 echo "examples: docs/library.md shows $file otherwise than it is" >&2
             fi
@@ -83,7 +95,7 @@ while IFS= read -r line || [ -n "$line" ]; do
         fi
     elif [[ $line =~ ^\`(crates/[^\`]+)\`,\ (whole|of\ it): ]]; then
         file=${BASH_REMATCH[1]}
-        part=$([ "${BASH_REMATCH[2]}" = whole ]; echo $?)
+        how=${BASH_REMATCH[2]}
     elif [ -n "$file" ] && [[ $line == '```'* ]]; then
         fenced=1
         text=

@@ -56,18 +56,25 @@ def completion():
     for name, _, _, options in commands():
         names.append(name)
         words = [re.search(r"--[a-z]+", option)[0] for option, _ in options]
-        cases += f"    {name}) words=\"{' '.join(words)}\" ;;\n"
+        takes = {kind: [re.search(r"--[a-z]+", option)[0] for option, _ in options if option.endswith(f"<{kind}>")] for kind in ("FILE", "N")}
+        cases += f"    {name}) words=\"{' '.join(words)}\" files=\"{' '.join(takes['FILE'])}\" numbers=\"{' '.join(takes['N'])}\" ;;\n"
     return f"""# Made by tools/manual.py from the helps of the program. To use it: source docs/fints.bash
 _fints() {{
-    local word=${{COMP_WORDS[COMP_CWORD]}} before=${{COMP_WORDS[COMP_CWORD - 1]}} words
-    case $before in
-    --params | --orders | --script | --case | --cert | --before | --answer | --message)
+    local word=${{COMP_WORDS[COMP_CWORD]}} before=${{COMP_WORDS[COMP_CWORD - 1]}} words files= numbers=
+    case ${{COMP_WORDS[1]}} in
+{cases}    *) words="{' '.join(names)} help --hints --help --version" ;;
+    esac
+    case " $files " in
+    *" $before "*)
         mapfile -t COMPREPLY < <(compgen -f -- "$word")
         return
         ;;
     esac
-    case ${{COMP_WORDS[1]}} in
-{cases}    *) words="{' '.join(names)} help --hints --help --version" ;;
+    case " $numbers " in
+    *" $before "*)
+        COMPREPLY=()
+        return
+        ;;
     esac
     mapfile -t COMPREPLY < <(compgen -W "$words" -- "$word")
 }}

@@ -21,8 +21,10 @@ def repeated(piece):
 
 def text_of(part):
     """The text that a row's part stands for: of copies of copies, the inner ones are made first."""
-    while "⟨" in part:
-        part = re.sub(r"⟨(?:(\d+)-)?(\d+) ([^⟨⟩]*)⟩", repeated, part)
+    while "⟨" in part or "⟩" in part:
+        part, made = re.subn(r"⟨(?:(\d+)-)?(\d+) ([^⟨⟩]*)⟩", repeated, part)
+        if made == 0:
+            raise ValueError(f"a bracket without its other one: {part[:200]}")
     return part.replace("⏎", "\n")
 
 
@@ -34,7 +36,9 @@ def is_told(wanted, run):
     if wanted.startswith("error: "):
         return (run.returncode, out, err) == (3, "", text_of(wanted) + "\n")
     if wanted.startswith(("why: ", "note: ")):
-        return run.returncode in (0, 1) and bool(out) and err == text_of(wanted) + "\n"
+        text = text_of(wanted) + "\n"
+        status = int(any(line.startswith("why: ") for line in text.splitlines()))
+        return (run.returncode, err) == (status, text) and bool(out)
     text = text_of(wanted.removeprefix(".. ")) + "\n"
     good = out.endswith(f"\n{text}") if wanted.startswith(".. ") else out == text
     status = int(any(line.startswith(("invalid", "findings ", "broken ")) for line in text.splitlines()))

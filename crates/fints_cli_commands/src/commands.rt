@@ -13,7 +13,8 @@ use crate::built_in;
 use crate::failing::{Refusal, refused};
 use crate::loading::{Contents, Loaded, load_all, paths_of};
 use fints_cli_files::Files;
-use fints_cli_hints_reasons::{JudgedBytes, judged_reasons, report_reasons, verified_reason};
+use fints_cli_hints_reasons::{judged_reasons, report_reasons, verified_reason};
+use fints_cli_hints_segments::skipped_notes;
 use fints_cli_reports::{Wanted, run_case, tell_read, tell_script, verify_read};
 use fints_cli_texts::{Fault, Reply, judge_after_read, judge_read, show};
 use fints_cli_words::Request;
@@ -81,45 +82,32 @@ fn answer(
 }
 
 /// The answer of a command, and what stands beside it where hints are asked for: the reasons of what is
-/// broken and the notes on a script, a line each.
+/// broken, the notes on a script, and those on what is skipped of a capture, a line each.
 #[derive(Drop)]
 pub struct Answered {
     pub reply: Reply,
     pub reasons: Option<String>,
 }
 
-// The reasons of what the request finds broken and the notes on its script, where they are asked for;
-// none where there is no memory for them.
+// The reasons of what the request finds broken and the notes on its script or capture, where they are
+// asked for; none where there is no memory for them.
 fn reasons(alloc: Global, request: &Request<'_>, contents: &Contents, hints: bool) -> Option<String>
     ensures { hints ≡ false → result ≡ None }
 {
     if !hints {
         return None;
     }
-    let Contents {
-        capture,
-        orders,
-        script,
-        ..
-    } = contents;
+    let inputs = contents.inputs();
     match request {
+        Request::Show { .. } => skipped_notes(alloc, inputs.params).unwrap_or(None),
         Request::Judge(_) | Request::JudgeAfter { .. } => {
-            let judged = JudgedBytes {
-                params: capture,
-                orders,
-                before: &contents.before,
-                answer: &contents.answer,
-                message: &contents.message,
-            };
-            judged_reasons(alloc, &judged).unwrap_or(None)
+            judged_reasons(alloc, &inputs).unwrap_or(None)
         }
         Request::Check(_) | Request::Explain(_) | Request::Certify(_) => {
-            report_reasons(alloc, capture, orders, script).unwrap_or(None)
+            report_reasons(alloc, &inputs).unwrap_or(None)
         }
-        Request::Verify { .. } => {
-            verified_reason(alloc, capture, orders, script, &contents.certificate).unwrap_or(None)
-        }
-        _ => None,
+        Request::Verify { .. } => verified_reason(alloc, &inputs).unwrap_or(None),
+        Request::BuiltIn | Request::Run { .. } => None,
     }
 }
 

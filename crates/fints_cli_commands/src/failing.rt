@@ -61,18 +61,22 @@ pub fn refused(alloc: Global, fault: Fault, inputs: &Inputs<'_>, hints: bool) ->
     }
 }
 
-/// A path as it is, in one line: a character that controls is shown by its number.
+/// A path as it is, in one line, or that it is standard input: a character that controls or ends a line is
+/// shown by its number.
 #[derive(Clone, Copy)]
 struct Path<'a>(&'a str);
 
 impl Display for Path<'_> {
     fn fmt<W: Write>(&self, f: &mut Formatter<W>) -> fmt::Result {
+        if self.0 == "-" {
+            return f.write_str("standard input");
+        }
         for ch in self.0.chars() {
-            if ch < ' ' || ch == '\u{7f}' {
-                let code = u32::from(ch);
-                write!(f, "\\x{code:02x}")?;
-            } else {
-                f.write_char(ch)?;
+            let code = u32::from(ch);
+            match ch {
+                '\u{0}'..='\u{1f}' | '\u{7f}'..='\u{9f}' => write!(f, "\\x{code:02x}")?,
+                '\u{2028}' | '\u{2029}' => write!(f, "\\u{{{code:x}}}")?,
+                _ => f.write_char(ch)?,
             }
         }
         Ok(())

@@ -12,4 +12,5 @@ mod plans;
 mod runs;
 mod telling;
 
-pub use telling::{Inputs, hint};
+pub use fints_cli_hints_words::inputs::Inputs;
+pub use telling::hint;

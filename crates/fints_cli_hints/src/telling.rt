@@ -7,40 +7,12 @@ use crate::plans::plan_hint;
 use crate::runs::run_hint;
 use fints_cli_hints_scripts::script_hint;
 use fints_cli_hints_segments::{message_hint, params_hint};
+use fints_cli_hints_words::inputs::Inputs;
 use fints_cli_texts::Fault;
 use fints_rules::JudgeFault;
 use fints_script_cases::CaseFault;
 use fints_syntax::Memory;
 use std::alloc::Global;
-
-/// The bytes of the files that a command has read; empty where it has no such file.
-#[derive(Clone, Copy)]
-pub struct Inputs<'a> {
-    pub params: &'a [u8],
-    pub orders: &'a [u8],
-    pub script: &'a [u8],
-    pub case: &'a [u8],
-    pub certificate: &'a [u8],
-    pub before: &'a [u8],
-    pub answer: &'a [u8],
-    pub message: &'a [u8],
-}
-
-impl Inputs<'_> {
-    /// No files.
-    pub fn none<'a>() -> Inputs<'a> {
-        Inputs {
-            params: b"",
-            orders: b"",
-            script: b"",
-            case: b"",
-            certificate: b"",
-            before: b"",
-            answer: b"",
-            message: b"",
-        }
-    }
-}
 
 /// What to look at, for a refusal of these inputs: a line without LF. None where there is no more to
 /// say, as for want of memory.

@@ -1,176 +1,217 @@
 //! Why a message breaks the rules that `judge` names.
-use crate::accounts::Items;
-use crate::lines::add;
-use crate::segment::{Bank, Seen, segment_text};
-use crate::whole::{Whole, whole_text};
+use crate::elements::Elements;
+use crate::kinds::{count_of, demanding, plain_kinds};
+use crate::lines::{Where, add_why};
+use crate::segment::{Bank, Seen, SegmentWhy};
+use crate::step::NoTan;
+use crate::whole::{Before, Whole, WholeWhy, is_of_whole};
+use fints_cli_hints_segments::skipped_segments;
+use fints_cli_hints_words::inputs::Inputs;
 use fints_params::{Params, feedback_codes};
-use fints_rules::kinds::is_plain_order;
 use fints_rules::{
-    Broken, JudgeFault, Message, OrderTable, Permissions, Rule, judge, judge_after, read_message,
+    Broken, JudgeFault, Message, OrderTable, Permissions, judge, judge_after, read_message,
 };
+use fints_rules_causes::segment_cause;
 use fints_syntax::{Kind, Memory, OwnedSegment};
 use std::alloc::Global;
 
-/// The bytes of what `judge` was handed; of `before` and `answer` none where they weren't.
-#[derive(Clone, Copy)]
-pub struct JudgedBytes<'a> {
-    pub params: &'a [u8],
-    pub orders: &'a [u8],
-    pub before: &'a [u8],
-    pub answer: &'a [u8],
-    pub message: &'a [u8],
-}
-
 // The rules that the message breaks.
-fn broken(
+fn broken_by(
     alloc: Global,
     permissions: &Permissions<'_>,
-    judged: &JudgedBytes<'_>,
+    inputs: &Inputs<'_>,
 ) -> Result<Vec<Broken>, JudgeFault> {
-    if judged.before.is_empty() {
-        return judge(alloc, permissions, judged.message);
+    if inputs.before.is_empty() {
+        return judge(alloc, permissions, inputs.message);
     }
-    match feedback_codes(alloc, judged.answer) {
+    match feedback_codes(alloc, inputs.answer) {
         Ok(codes) => judge_after(
             alloc,
             permissions,
-            judged.before,
+            inputs.before,
             codes.as_slice(),
-            judged.message,
+            inputs.message,
         ),
-        Err(_) => judge(alloc, permissions, judged.message),
+        Err(_) => judge(alloc, permissions, inputs.message),
     }
 }
 
-// How many kinds of orders other than HKTAN the body has.
-fn count_kinds(alloc: Global, body: &[OwnedSegment]) -> Result<usize, Memory> {
+fn kinds_in(alloc: Global, body: &[OwnedSegment]) -> Result<Vec<Kind>, Memory> {
     let mut kinds: Vec<Kind> = Vec::new(alloc);
     for segment in body {
-        if is_plain_order(segment.head.id) && !kinds.as_slice().contains(&segment.head.id) {
-            kinds.push(segment.head.id)?;
-        }
+        kinds.push(segment.head.id)?;
     }
-    Ok(kinds.len())
+    Ok(kinds)
 }
 
-fn items_of(segment: &OwnedSegment) -> Items<'_> {
-    Items {
-        first: segment.value(2, 1),
-        second: segment.value(2, 2),
-        third: segment.value(2, 3),
-        fourth: segment.value(2, 4),
-        fifth: segment.value(2, 5),
-        sixth: segment.value(2, 6),
+// A message that is judged, and the kinds of its segments.
+#[derive(Clone, Copy)]
+struct Judged<'a> {
+    bank: &'a Bank<'a>,
+    message: &'a Message,
+    kinds: &'a [Kind],
+}
+
+fn place_of(broken: &Broken) -> Where<'static> {
+    Where {
+        step: "",
+        segment: broken.segment,
     }
 }
 
-fn count_of(body: &[OwnedSegment], kind: Kind) -> usize {
-    body.iter().filter(|it| it.head.id == kind).count()
-}
-
-fn demanding(permissions: &Permissions<'_>, body: &[OwnedSegment]) -> usize {
-    body.iter()
-        .filter(|it| permissions.is_demanding(it.head.id))
-        .count()
-}
-
-fn segment_reason(
+fn add_segment(
+    text: &mut String,
     alloc: Global,
-    bank: &Bank<'_>,
-    message: &Message,
-    rule: Rule,
-    segment: &OwnedSegment,
-) -> Result<Option<String>, Memory> {
-    let body = message.body();
-    let seen = Seen {
-        kind: segment.head.id,
-        version: segment.head.version,
-        items: items_of(segment),
-        count: count_of(body, segment.head.id),
-        signatures: message.ends().len(),
-        demanding: demanding(bank.permissions, body),
-        no_tan: "no HNSHA has a TAN",
-    };
-    segment_text(alloc, bank, rule, &seen)
-}
-
-fn reason(
-    alloc: Global,
-    bank: &Bank<'_>,
-    message: &Message,
+    judged: &Judged<'_>,
     broken: &Broken,
-) -> Result<Option<String>, Memory> {
-    let body = message.body();
-    match body.iter().find(|it| it.head.number == broken.segment) {
-        Some(segment) => segment_reason(alloc, bank, message, broken.rule, segment),
-        None => {
-            let whole = Whole {
-                protocol: message.protocol(),
-                number: message.number(),
-                size: message.size() as u64,
-                kinds: count_kinds(alloc, body)?,
-                before: "the message before submits an order by an HKTAN of process 4, and the answer has 0030",
+    segment: &OwnedSegment,
+) -> Result<(), Memory> {
+    let Judged {
+        bank,
+        message,
+        kinds,
+    } = *judged;
+    let (kind, version) = (segment.head.id, segment.head.version);
+    let signatures = message.ends().len();
+    let seen = Seen {
+        kind,
+        version,
+        elements: Elements::Sent(segment),
+        count: count_of(kinds, kind),
+        signatures,
+        demanding: demanding(bank.permissions, kinds),
+        no_tan: NoTan::NoneThere,
+    };
+    match segment_cause(bank.permissions, broken.rule, kind, version, signatures) {
+        None => Ok(()),
+        Some(cause) => {
+            let why = SegmentWhy {
+                bank,
+                seen: &seen,
+                cause,
             };
-            whole_text(alloc, bank, broken.rule, &whole)
+            add_why(text, alloc, place_of(broken), why)
         }
+    }
+}
+
+fn add_whole(
+    text: &mut String,
+    alloc: Global,
+    judged: &Judged<'_>,
+    broken: &Broken,
+) -> Result<(), Memory> {
+    if !is_of_whole(broken.rule) {
+        return Ok(());
+    }
+    let message = judged.message;
+    let whole = Whole {
+        is_one: true,
+        protocol: message.protocol(),
+        number: message.number(),
+        size: message.size() as u64,
+        kinds: plain_kinds(judged.kinds),
+        before: Before::Message,
+    };
+    let why = WholeWhy {
+        bank: judged.bank.params.bank(),
+        whole: &whole,
+        rule: broken.rule,
+    };
+    add_why(text, alloc, place_of(broken), why)
+}
+
+fn add_broken(
+    text: &mut String,
+    alloc: Global,
+    judged: &Judged<'_>,
+    broken: &Broken,
+) -> Result<(), Memory> {
+    let body = judged.message.body();
+    match body.iter().find(|it| it.head.number == broken.segment) {
+        Some(segment) => add_segment(text, alloc, judged, broken, segment),
+        None => add_whole(text, alloc, judged, broken),
     }
 }
 
 const ANSWER: &str =
-    "segments of the message begin with HI, as those of a bank: this is a bank's answer, and judge takes a message of the client";
+    "each segment begins with HI or DI, so this is a bank's answer: hand it over by --answer, the message that it answers by --before, and the client's next one by --message";
 
-fn is_of_bank(segment: &OwnedSegment) -> bool {
-    segment.head.id.as_bytes().starts_with(b"HI")
+// Whether the kind is one of segments that a bank sends.
+fn is_of_bank(kind: &Kind) -> bool {
+    let name = kind.as_bytes();
+    name.starts_with(b"HI") || name.starts_with(b"DI")
 }
 
-fn reasons(
-    alloc: Global,
-    bank: &Bank<'_>,
-    message: &Message,
-    broken: &[Broken],
-) -> Result<String, Memory> {
+fn lines_of(alloc: Global, judged: &Judged<'_>, broken: &[Broken]) -> Result<String, Memory> {
     let mut text = String::new(alloc);
-    if message.body().iter().any(is_of_bank) {
-        add(&mut text, "", 0, ANSWER)?;
-        return Ok(text);
-    }
     for one in broken {
-        if let Some(reason) = reason(alloc, bank, message, one)? {
-            add(&mut text, "", one.segment, reason.as_str())?;
-        }
+        add_broken(&mut text, alloc, judged, one)?;
     }
     Ok(text)
 }
 
-fn told(
+// The one line of a bank's answer.
+fn answer_line(alloc: Global) -> Result<String, Memory> {
+    let mut text = String::new(alloc);
+    let place = Where {
+        step: "",
+        segment: 0,
+    };
+    add_why(&mut text, alloc, place, ANSWER)?;
+    Ok(text)
+}
+
+fn judged_lines(
+    alloc: Global,
+    bank: &Bank<'_>,
+    inputs: &Inputs<'_>,
+) -> Result<Option<String>, Memory> {
+    let Ok(message) = read_message(alloc, inputs.message) else {
+        return Ok(None);
+    };
+    let Ok(broken) = broken_by(alloc, bank.permissions, inputs) else {
+        return Ok(None);
+    };
+    let kinds = kinds_in(alloc, message.body())?;
+    let kinds = kinds.as_slice();
+    if !broken.is_empty() && !kinds.is_empty() && kinds.iter().all(is_of_bank) {
+        return Ok(Some(answer_line(alloc)?));
+    }
+    let judged = Judged {
+        bank,
+        message: &message,
+        kinds,
+    };
+    Ok(Some(lines_of(alloc, &judged, broken.as_slice())?))
+}
+
+fn lines_by(
     alloc: Global,
     params: &Params,
     orders: &OrderTable,
-    judged: &JudgedBytes<'_>,
+    inputs: &Inputs<'_>,
 ) -> Result<Option<String>, Memory> {
+    let skipped = skipped_segments(alloc, inputs.params)?;
     let permissions = Permissions::build(alloc, params, orders)?;
     let bank = Bank {
         params,
         orders,
+        skipped: skipped.as_slice(),
         permissions: &permissions,
     };
-    let Ok(message) = read_message(alloc, judged.message) else {
-        return Ok(None);
-    };
-    match broken(alloc, &permissions, judged) {
-        Ok(broken) => Ok(Some(reasons(alloc, &bank, &message, broken.as_slice())?)),
-        Err(_) => Ok(None),
-    }
+    judged_lines(alloc, &bank, inputs)
 }
 
 /// A line for each rule that the message breaks, in the order in which `judge` names them: why, and what
-/// to change. None where an input is refused.
-pub fn judged_reasons(alloc: Global, judged: &JudgedBytes<'_>) -> Result<Option<String>, Memory> {
-    let Ok(params) = Params::read(alloc, judged.params) else {
+/// to change; or one line alone, where the message is a bank's answer, with no segment of a client. None
+/// where an input is refused.
+pub fn judged_reasons(alloc: Global, inputs: &Inputs<'_>) -> Result<Option<String>, Memory> {
+    let Ok(params) = Params::read(alloc, inputs.params) else {
         return Ok(None);
     };
-    match OrderTable::read(alloc, judged.orders) {
-        Ok(orders) => told(alloc, &params, &orders, judged),
+    match OrderTable::read(alloc, inputs.orders) {
+        Ok(orders) => lines_by(alloc, &params, &orders, inputs),
         Err(_) => Ok(None),
     }
 }

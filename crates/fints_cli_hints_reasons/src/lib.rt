@@ -4,7 +4,9 @@
 #![tactic(auto)]
 
 mod accounts;
+mod elements;
 mod judged;
+mod kinds;
 mod lines;
 mod notes;
 mod report;
@@ -13,6 +15,6 @@ mod step;
 mod verified;
 mod whole;
 
-pub use judged::{JudgedBytes, judged_reasons};
+pub use judged::judged_reasons;
 pub use report::report_reasons;
 pub use verified::verified_reason;

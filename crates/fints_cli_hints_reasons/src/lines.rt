@@ -1,24 +1,44 @@
 //! The lines of reasons.
+use fints_cli_hints_words::places::written;
+use fints_script::Name;
 use fints_syntax::Memory;
+use std::alloc::Global;
+use std::fmt;
+use std::fmt::{Display, Formatter, Write};
 
-/// Adds the line of a reason, behind where it holds: a step by its name, or nothing for a message alone;
-/// and a segment, or 0 for the whole message.
-pub fn add(text: &mut String, step: &str, segment: u16, reason: &str) -> Result<(), Memory> {
-    text.push_str("why: ")?;
-    text.push_str(step)?;
-    if segment != 0 {
-        text.push_str(if step.is_empty() {
-            "segment "
-        } else {
-            " segment "
-        })?;
-        let mut number = itoa::Buffer::new();
-        text.push_str(number.format(segment))?;
+/// A name as a text.
+pub fn name_of(name: &Name) -> &str {
+    std::str::from_utf8(name.as_bytes()).unwrap_or("")
+}
+
+/// Where a reason holds, as a report says it: a step by its name, or nothing for a message alone; and a
+/// segment by its number, or 0 for the whole message.
+#[derive(Clone, Copy)]
+pub struct Where<'a> {
+    pub step: &'a str,
+    pub segment: u16,
+}
+
+impl Display for Where<'_> {
+    fn fmt<W: Write>(&self, f: &mut Formatter<W>) -> fmt::Result {
+        let Where { step, segment } = *self;
+        match (step.is_empty(), segment) {
+            (true, 0) => Ok(()),
+            (true, _) => write!(f, "segment {segment}: "),
+            (false, 0) => write!(f, "{step}: "),
+            (false, _) => write!(f, "{step} segment {segment}: "),
+        }
     }
-    if segment != 0 || !step.is_empty() {
-        text.push_str(": ")?;
-    }
-    text.push_str(reason)?;
-    text.push_str("\n")?;
+}
+
+/// Adds the line of a reason.
+pub fn add_why<T: Display + Drop>(
+    text: &mut String,
+    alloc: Global,
+    place: Where<'_>,
+    why: T,
+) -> Result<(), Memory> {
+    let line = written(alloc, format_args!("why: {place}{why}\n"))?;
+    text.push_str(line.as_str())?;
     Ok(())
 }

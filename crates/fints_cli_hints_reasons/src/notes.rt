@@ -1,19 +1,123 @@
 //! What is clean and may still be wrong: notes on a script, which are no findings.
 ghost use Rattle.std.specs.Prelude.{◌≤◌, ◌+◌, length, IfSome};
 
-use crate::step::{figures_of, is_open, name_of};
+use crate::lines::name_of;
+use crate::step::{BranchOf, Called, figures_of, is_open};
 use fints_check::Report;
 use fints_cli_hints_words::places::written;
 use fints_script::{
-    NamedField, Plan, Signer, Step, Target, Template, TemplateElements, TemplateItem,
+    Name, NamedField, Plan, Signer, Step, Target, Template, TemplateElements, TemplateItem,
 };
 use fints_syntax::Memory;
 use std::alloc::Global;
+use std::fmt;
+use std::fmt::{Display, Formatter, Write};
 
-fn add(text: &mut String, note: &str) -> Result<(), Memory> {
-    text.push_str("note: ")?;
-    text.push_str(note)?;
-    text.push_str("\n")?;
+// ---- what is said
+
+// Why no run sends a step.
+#[derive(Clone, Copy)]
+enum Unsent {
+    /// The step that leads there is unreached itself.
+    Behind(Name),
+    /// The branch of a step that leads there is never fired.
+    Closed(BranchOf, Name),
+    /// Nothing leads there.
+    Apart,
+}
+
+impl Display for Unsent {
+    fn fmt<W: Write>(&self, f: &mut Formatter<W>) -> fmt::Result {
+        match self {
+            Unsent::Behind(from) => {
+                let from = Called(from);
+                write!(
+                    f,
+                    "step {from}, which leads there, is unreached too: mend that first"
+                )
+            }
+            Unsent::Closed(branch, from) => {
+                let from = Called(from);
+                write!(
+                    f,
+                    "{branch} of step {from} leads there, and no answer fires it: narrow the patterns before it"
+                )
+            }
+            Unsent::Apart => {
+                f.write_str("no branch leads there: write one that does, or remove the step")
+            }
+        }
+    }
+}
+
+// A note on a script.
+#[derive(Clone, Copy)]
+enum Note {
+    /// A step is signed and not sealed; whether the script has a seal.
+    NotSealed(Name, bool),
+    DialogAsText(Name),
+    NeverFired(usize, Name),
+    NotSent(Name, Unsent),
+    NoEnd(Name),
+    Unused(Name),
+}
+
+fn write_not_sealed<W: Write>(f: &mut Formatter<W>, step: &Name, has_seal: bool) -> fmt::Result {
+    let step = Called(step);
+    let seal = if has_seal {
+        ""
+    } else {
+        ", and seal = [..] before all tables"
+    };
+    write!(
+        f,
+        "step {step} is signed and not sealed: write sealed = true in it{seal}, so that a PIN or a TAN doesn't stand in its message as it is"
+    )
+}
+
+impl Display for Note {
+    fn fmt<W: Write>(&self, f: &mut Formatter<W>) -> fmt::Result {
+        match self {
+            Note::NotSealed(step, has_seal) => write_not_sealed(f, step, *has_seal),
+            Note::DialogAsText(step) => {
+                let step = Called(step);
+                write!(
+                    f,
+                    "step {step}: element 2 of HKEND is the text \"dialog\": write \"$dialog\", the id of the dialogue"
+                )
+            }
+            Note::NeverFired(branch, step) => {
+                let step = Called(step);
+                write!(
+                    f,
+                    "branch {branch} of step {step} is never fired, since the patterns before it match each of its codes: remove it, or put it before them"
+                )
+            }
+            Note::NotSent(step, why) => {
+                let step = Called(step);
+                write!(f, "no run sends step {step}: {why}")
+            }
+            Note::NoEnd(step) => {
+                let step = Called(step);
+                write!(
+                    f,
+                    "behind step {step} no message ends the dialogue: lead on to a step with HKEND"
+                )
+            }
+            Note::Unused(field) => {
+                let (field, name) = (Called(field), name_of(field));
+                write!(
+                    f,
+                    "the field {field} is used nowhere: write \"${name}\" where its value belongs, or remove it"
+                )
+            }
+        }
+    }
+}
+
+fn add_note(text: &mut String, alloc: Global, note: Note) -> Result<(), Memory> {
+    let line = written(alloc, format_args!("note: {note}\n"))?;
+    text.push_str(line.as_str())?;
     Ok(())
 }
 
@@ -34,30 +138,13 @@ fn begins_with(template: &Template, text: &[u8]) -> bool {
     }
 }
 
-fn add_sent(text: &mut String, alloc: Global, step: &Step) -> Result<(), Memory> {
-    let name = step.name();
-    let name = name_of(&name);
+fn add_sent(text: &mut String, alloc: Global, step: &Step, has_seal: bool) -> Result<(), Memory> {
     if !step.signers().is_empty() && !step.sealed() {
-        let note = written(
-            alloc,
-            format_args!(
-                "step {name} is signed and not sealed, so PIN and TAN stand in its message as they are: write sealed = true"
-            ),
-        )?;
-        add(text, note.as_str())?;
+        add_note(text, alloc, Note::NotSealed(step.name(), has_seal))?;
     }
-    if step
-        .templates()
-        .iter()
-        .any(|it| is_end(it) && begins_with(it, b"dialog"))
-    {
-        let note = written(
-            alloc,
-            format_args!(
-                "step {name}: the element of HKEND is the text \"dialog\", and the id of the dialogue is \"$dialog\""
-            ),
-        )?;
-        add(text, note.as_str())?;
+    let mut templates = step.templates().iter();
+    if templates.any(|it| is_end(it) && begins_with(it, b"dialog")) {
+        add_note(text, alloc, Note::DialogAsText(step.name()))?;
     }
     Ok(())
 }
@@ -65,17 +152,9 @@ fn add_sent(text: &mut String, alloc: Global, step: &Step) -> Result<(), Memory>
 // ---- where its branches lead
 
 fn add_closed(text: &mut String, alloc: Global, step: &Step) -> Result<(), Memory> {
-    let name = step.name();
-    let name = name_of(&name);
     for branch in 1..step.branches().len() + 1 {
         if !is_open(step, branch) {
-            let note = written(
-                alloc,
-                format_args!(
-                    "branch {branch} of step {name} is never fired: the patterns before it match each of its codes"
-                ),
-            )?;
-            add(text, note.as_str())?;
+            add_note(text, alloc, Note::NeverFired(branch, step.name()))?;
         }
     }
     Ok(())
@@ -96,60 +175,22 @@ fn branch_to(step: &Step, n: usize) -> Option<usize>
 }
 
 // Why no run sends step n.
-fn unreached_text(
-    alloc: Global,
-    report: &Report<'_>,
-    steps: &[Step],
-    n: usize,
-    name: &str,
-) -> Result<String, Memory> {
+fn why_unsent(report: &Report<'_>, steps: &[Step], n: usize) -> Unsent {
     for (i, step) in steps.iter().enumerate() {
         let Some(branch) = branch_to(step, n) else {
             continue;
         };
-        let from = step.name();
-        let from = name_of(&from);
         if figures_of(report, i + 1).is_none() {
-            return written(
-                alloc,
-                format_args!(
-                    "no run sends step {name}: step {from}, which leads there, is unreached too"
-                ),
-            );
+            return Unsent::Behind(step.name());
         }
         if !is_open(step, branch) {
-            return written(
-                alloc,
-                format_args!(
-                    "no run sends step {name}: branch {branch} of step {from} leads there, and no answer fires it"
-                ),
-            );
+            return Unsent::Closed(BranchOf::at(step, branch), step.name());
         }
     }
-    written(
-        alloc,
-        format_args!("no run sends step {name}: no branch leads there"),
-    )
+    Unsent::Apart
 }
 
 // ---- whether the dialogue is ended
-
-// For each step whether it, or some step behind it, ends the dialogue.
-fn endings(alloc: Global, steps: &[Step]) -> Result<Vec<bool>, Memory> {
-    let mut ends: Vec<bool> = Vec::new(alloc);
-    for step in steps {
-        ends.push(step.templates().iter().any(is_end))?;
-    }
-    for i in (0..steps.len()).rev() {
-        let later = leads_to_end(&steps[i], ends.as_slice());
-        if let Some(end) = ends.as_mut_slice().get_mut(i)
-            && later
-        {
-            *end = true;
-        }
-    }
-    Ok(ends)
-}
 
 fn is_ending(ends: &[bool], to: Target) -> bool {
     match to {
@@ -168,29 +209,31 @@ fn leads_to_end(step: &Step, ends: &[bool]) -> bool {
         || is_ending(ends, step.otherwise())
 }
 
-fn add_reached(
-    text: &mut String,
-    alloc: Global,
-    report: &Report<'_>,
-    steps: &[Step],
-    ends: bool,
-    n: usize,
-    step: &Step,
-) -> Result<(), Memory> {
-    let name = step.name();
-    let name = name_of(&name);
-    if figures_of(report, n).is_none() {
-        let note = unreached_text(alloc, report, steps, n, name)?;
-        return add(text, note.as_str());
+// For each step whether it, or some step behind it, ends the dialogue.
+fn endings(alloc: Global, steps: &[Step]) -> Result<Vec<bool>, Memory> {
+    let mut ends: Vec<bool> = Vec::new(alloc);
+    for step in steps {
+        ends.push(step.templates().iter().any(is_end))?;
     }
-    if !ends {
-        let note = written(
-            alloc,
-            format_args!("behind step {name} no message ends the dialogue by HKEND"),
-        )?;
-        add(text, note.as_str())?;
+    for i in (0..steps.len()).rev() {
+        let later = leads_to_end(&steps[i], ends.as_slice());
+        if let Some(end) = ends.as_mut_slice().get_mut(i)
+            && later
+        {
+            *end = true;
+        }
     }
-    Ok(())
+    Ok(ends)
+}
+
+// The place of the first step that some run sends and behind which nothing ends the dialogue.
+fn first_endless(report: &Report<'_>, ends: &[bool]) -> Option<usize> {
+    for (i, end) in ends.iter().enumerate() {
+        if !*end && figures_of(report, i.saturating_add(1)).is_some() {
+            return Some(i);
+        }
+    }
+    None
 }
 
 // ---- fields
@@ -219,14 +262,31 @@ fn add_fields(
     for (place, field) in fields.iter().enumerate() {
         // the built-in field stands first
         if place != 0 && !is_used(plan, steps, place) {
-            let name = name_of(&field.name);
-            let note = written(
-                alloc,
-                format_args!(
-                    "the field {name} is used nowhere: a text that begins with $ stands for a field"
-                ),
-            )?;
-            add(text, note.as_str())?;
+            add_note(text, alloc, Note::Unused(field.name))?;
+        }
+    }
+    Ok(())
+}
+
+// ---- all notes
+
+fn add_steps(
+    text: &mut String,
+    alloc: Global,
+    report: &Report<'_>,
+    steps: &[Step],
+    endless: Option<usize>,
+) -> Result<(), Memory> {
+    let has_seal = report.plan().seal().is_some();
+    for (i, step) in steps.iter().enumerate() {
+        add_sent(text, alloc, step, has_seal)?;
+        add_closed(text, alloc, step)?;
+        if figures_of(report, i + 1).is_none() {
+            let why = why_unsent(report, steps, i + 1);
+            add_note(text, alloc, Note::NotSent(step.name(), why))?;
+        }
+        if endless == Some(i) {
+            add_note(text, alloc, Note::NoEnd(step.name()))?;
         }
     }
     Ok(())
@@ -236,16 +296,12 @@ fn add_fields(
 pub fn add_notes(
     text: &mut String,
     alloc: Global,
-    plan: &Plan<'_>,
-    steps: &[Step],
     report: &Report<'_>,
+    steps: &[Step],
 ) -> Result<(), Memory> {
     let ends = endings(alloc, steps)?;
-    for (i, step) in steps.iter().enumerate() {
-        add_sent(text, alloc, step)?;
-        add_closed(text, alloc, step)?;
-        let ends = ends.as_slice().get(i).copied().unwrap_or(true);
-        add_reached(text, alloc, report, steps, ends, i + 1, step)?;
-    }
+    let endless = first_endless(report, ends.as_slice());
+    add_steps(text, alloc, report, steps, endless)?;
+    let plan = report.plan();
     add_fields(text, alloc, plan, steps, plan.fields())
 }

@@ -1,231 +1,254 @@
 //! Why the runs of a script break the rules that a report names.
 ghost use Rattle.std.specs.Prelude.{◌<◌, length};
 
-use crate::lines::add;
+use crate::elements::{Elements, Filled};
+use crate::kinds::{count_of, demanding, plain_kinds};
+use crate::lines::{Where, add_why, name_of};
 use crate::notes::add_notes;
-use crate::segment::{Bank, Seen, segment_text};
-use crate::step::{demanding, figures_of, items_in, kind_count, kinds_of, name_of, no_tan};
-use crate::whole::{Whole, whole_text};
+use crate::segment::{Bank, Seen, SegmentWhy};
+use crate::step::{BranchOf, figures_of, no_tan};
+use crate::whole::{Before, Whole, WholeWhy, is_of_whole};
 use fints_check::{Finding, Report, check};
-use fints_cli_hints_words::places::written;
+use fints_cli_hints_segments::{Skipped, skipped_segments};
+use fints_cli_hints_words::inputs::Inputs;
 use fints_params::{Code, Params};
-use fints_rules::{OrderTable, Permissions, Rule};
+use fints_rules::{Figures, OrderTable, Permissions, Rule};
+use fints_rules_causes::segment_cause;
 use fints_script::{Answer, Plan, Script, Step, Template, Values};
-use fints_syntax::Memory;
+use fints_syntax::{Kind, Memory};
 use fints_wire::visits;
 use std::alloc::Global;
-use std::fmt;
-use std::fmt::{Display, Formatter, Write};
 
-/// The branch of a step that an answer fires.
-#[derive(Clone, Copy)]
-enum Leading {
-    /// By its number, from 1.
-    Branch(usize),
-    Default,
-}
+// ---- the step before
 
-impl Display for Leading {
-    fn fmt<W: Write>(&self, f: &mut Formatter<W>) -> fmt::Result {
-        match *self {
-            Leading::Branch(number) => write!(f, "branch {number}"),
-            Leading::Default => f.write_str("the default"),
-        }
-    }
-}
-
-fn fired(step: &Step, codes: &[Code]) -> Leading {
-    for (i, branch) in step.branches().iter().enumerate() {
+// The branch of a step that these codes fire.
+fn fired(step: &Step, codes: &[Code]) -> BranchOf {
+    let mut number: usize = 1;
+    for branch in step.branches() {
         if branch.on.matches_any(codes) {
-            return Leading::Branch(i.saturating_add(1));
+            return BranchOf::at(step, number);
         }
+        number = number.saturating_add(1);
     }
-    Leading::Default
+    BranchOf::at(step, number)
 }
 
-// What stands before the last message of a finding's case: the step before, and the branch that 0030
-// fires there.
-fn before_text(alloc: Global, step: &Step, answer: &Answer) -> Result<String, Memory> {
-    let fired = fired(step, answer.codes());
-    let name = step.name();
-    let name = name_of(&name);
-    written(
-        alloc,
-        format_args!(
-            "step {name} submits an order by an HKTAN of process 4, and {fired} of it leads here where the answer has 0030"
-        ),
-    )
-}
-
-fn step_before(
-    alloc: Global,
-    plan: &Plan<'_>,
-    steps: &[Step],
-    answers: &[Answer],
-) -> Result<String, Memory> {
+// The number of the step of the message before the last, where the answers lead.
+fn step_before(alloc: Global, plan: &Plan<'_>, answers: &[Answer]) -> Result<usize, Memory> {
     let visits = visits(alloc, plan, answers)?;
-    let [.., before, _] = visits.as_slice() else {
-        return written(alloc, "an order was submitted");
-    };
-    match (
-        steps.get(usize::from(before.step).saturating_sub(1)),
-        answers,
-    ) {
-        (Some(step), [.., answer]) => before_text(alloc, step, answer),
-        _ => written(alloc, "an order was submitted"),
+    match visits.as_slice() {
+        [.., before, _] => Ok(usize::from(before.step)),
+        _ => Ok(0),
     }
 }
 
-fn whole_reason(
-    alloc: Global,
-    bank: &Bank<'_>,
-    found: &Found<'_>,
-    finding: Finding,
-    before: &str,
-) -> Result<Option<String>, Memory> {
-    let figures = found.figures;
-    let whole = Whole {
-        protocol: Some(300),
-        number: figures.0,
-        size: figures.1,
-        kinds: kinds_of(alloc, found.step.templates())?,
-        before,
-    };
-    whole_text(alloc, bank, finding.rule, &whole)
-}
+// ---- a finding
 
-/// A step of which something is found, with its greatest number and size, and the finding's values.
+// A step of which something is found.
 #[derive(Clone, Copy)]
 struct Found<'a> {
+    bank: &'a Bank<'a>,
     plan: &'a Plan<'a>,
     step: &'a Step,
-    figures: (u64, u64),
-    values: &'a Values,
+    kinds: &'a [Kind],
+    finding: Finding,
 }
 
-fn segment_reason<'a>(
-    alloc: Global,
-    bank: &Bank<'_>,
-    found: &Found<'a>,
-    rule: Rule,
-    template: &'a Template,
-) -> Result<Option<String>, Memory> {
-    let templates = found.step.templates();
-    let no_tan = no_tan(alloc, found.plan, found.step)?;
-    let seen = Seen {
+fn place_of<'a>(name: &'a str, finding: Finding) -> Where<'a> {
+    Where {
+        step: name,
+        segment: finding.segment,
+    }
+}
+
+// The segment of a template under the finding's values.
+fn seen_in<'a>(found: &Found<'a>, template: &'a Template, values: &'a Values) -> Seen<'a> {
+    let Found {
+        bank,
+        plan,
+        step,
+        kinds,
+        ..
+    } = *found;
+    Seen {
         kind: template.kind,
         version: template.version,
-        items: items_in(found.plan.fields(), found.values, template),
-        count: kind_count(templates, template.kind),
-        signatures: found.step.signers().len(),
-        demanding: demanding(bank.permissions, templates),
-        no_tan: no_tan.as_str(),
-    };
-    segment_text(alloc, bank, rule, &seen)
-}
-
-fn reason(
-    alloc: Global,
-    bank: &Bank<'_>,
-    found: &Found<'_>,
-    finding: Finding,
-    before: &str,
-) -> Result<Option<String>, Memory> {
-    let first = found.step.signers().len().saturating_add(2);
-    let place = usize::from(finding.segment).checked_sub(first);
-    match place.and_then(|i| found.step.templates().get(i)) {
-        Some(template) => segment_reason(alloc, bank, found, finding.rule, template),
-        None => whole_reason(alloc, bank, found, finding, before),
+        elements: Elements::Filled(Filled {
+            fields: plan.fields(),
+            values,
+            elements: template.elements.as_slice(),
+        }),
+        count: count_of(kinds, template.kind),
+        signatures: step.signers().len(),
+        demanding: demanding(bank.permissions, kinds),
+        no_tan: no_tan(plan.signers(), step),
     }
 }
 
-// ---- all findings
-
-// The line of a finding.
-fn add_reason(
+fn add_segment(
     text: &mut String,
     alloc: Global,
-    bank: &Bank<'_>,
     found: &Found<'_>,
-    finding: Finding,
-    before: &str,
+    template: &Template,
+    values: &Values,
 ) -> Result<(), Memory> {
+    let seen = seen_in(found, template, values);
+    let cause = segment_cause(
+        found.bank.permissions,
+        found.finding.rule,
+        seen.kind,
+        seen.version,
+        seen.signatures,
+    );
+    let Some(cause) = cause else {
+        return Ok(());
+    };
+    let why = SegmentWhy {
+        bank: found.bank,
+        seen: &seen,
+        cause,
+    };
     let name = found.step.name();
-    let name = name_of(&name);
-    if let Some(reason) = reason(alloc, bank, found, finding, before)? {
-        add(text, name, finding.segment, reason.as_str())?;
-    }
-    Ok(())
+    add_why(text, alloc, place_of(name_of(&name), found.finding), why)
 }
 
-// What the finding comes after, where that is asked.
-fn before_of(
+fn add_whole(
+    text: &mut String,
     alloc: Global,
-    report: &Report<'_>,
-    plan: &Plan<'_>,
-    steps: &[Step],
-    i: usize,
-) -> Result<String, Memory>
+    found: &Found<'_>,
+    figures: Figures,
+    before: Before<'_>,
+) -> Result<(), Memory> {
+    let rule = found.finding.rule;
+    if !is_of_whole(rule) {
+        return Ok(());
+    }
+    let whole = Whole {
+        is_one: false,
+        protocol: Some(300),
+        number: figures.number,
+        size: figures.size,
+        kinds: plain_kinds(found.kinds),
+        before,
+    };
+    let why = WholeWhy {
+        bank: found.bank.params.bank(),
+        whole: &whole,
+        rule,
+    };
+    let name = found.step.name();
+    add_why(text, alloc, place_of(name_of(&name), found.finding), why)
+}
+
+// Adds why an order is left unreleased behind these answers.
+fn add_release(
+    text: &mut String,
+    alloc: Global,
+    found: &Found<'_>,
+    figures: Figures,
+    answers: &[Answer],
+) -> Result<(), Memory> {
+    let n = step_before(alloc, found.plan, answers)?;
+    if n == 0 || n > found.plan.step_count() {
+        return add_whole(text, alloc, found, figures, Before::Unsaid);
+    }
+    let step = found.plan.step(n);
+    let name = step.name();
+    let before = match answers {
+        [.., answer] => Before::Step {
+            name: &name,
+            branch: fired(step, answer.codes()),
+        },
+        [] => Before::Unsaid,
+    };
+    add_whole(text, alloc, found, figures, before)
+}
+
+// The values of a finding's case, where its reason tells one of them: the account that an order names.
+fn values_of(alloc: Global, report: &Report<'_>, i: usize) -> Result<Values, Memory>
     requires { i < length report.now.findings }
 {
     match report.findings()[i].rule {
-        Rule::Release => {
-            let case = report.case(alloc, i)?;
-            step_before(alloc, plan, steps, case.answers.as_slice())
-        }
-        _ => Ok(String::new(alloc)),
+        Rule::Signatures | Rule::Account => report.values(alloc, i),
+        _ => Ok(Values::new(alloc)),
     }
 }
+
+// The segment of a step that a finding is of.
+fn template_of<'a>(step: &'a Step, finding: Finding) -> Option<&'a Template> {
+    let first = step.signers().len().saturating_add(2);
+    let place = usize::from(finding.segment).checked_sub(first)?;
+    step.templates().get(place)
+}
+
+fn kinds_in(alloc: Global, step: &Step) -> Result<Vec<Kind>, Memory> {
+    let mut kinds: Vec<Kind> = Vec::new(alloc);
+    for template in step.templates() {
+        kinds.push(template.kind)?;
+    }
+    Ok(kinds)
+}
+
+// ---- all findings
 
 fn add_finding(
     text: &mut String,
     alloc: Global,
     bank: &Bank<'_>,
     report: &Report<'_>,
-    plan: &Plan<'_>,
-    steps: &[Step],
     i: usize,
 ) -> Result<(), Memory>
     requires { i < length report.now.findings }
 {
     let finding = report.findings()[i];
     let n = usize::from(finding.step);
-    let Some(step) = steps.get(n.saturating_sub(1)) else {
+    let Some(reached) = figures_of(report, n) else {
         return Ok(());
     };
-    let values = report.values(alloc, i)?;
-    let before = before_of(alloc, report, plan, steps, i)?;
-    let figures = match figures_of(report, n) {
-        Some(reached) => (u64::from(reached.number), reached.size),
-        None => (0, 0),
-    };
+    let plan = report.plan();
+    if n == 0 || n > plan.step_count() {
+        return Ok(());
+    }
+    let step = plan.step(n);
+    let kinds = kinds_in(alloc, step)?;
     let found = Found {
+        bank,
         plan,
         step,
-        figures,
-        values: &values,
+        kinds: kinds.as_slice(),
+        finding,
     };
-    add_reason(text, alloc, bank, &found, finding, before.as_str())
+    match (template_of(step, finding), finding.rule) {
+        (Some(template), _) => {
+            let values = values_of(alloc, report, i)?;
+            add_segment(text, alloc, &found, template, &values)
+        }
+        (None, Rule::Release) => {
+            let answers = report.way(alloc, i)?;
+            add_release(text, alloc, &found, reached.figures(), answers.as_slice())
+        }
+        _ => add_whole(text, alloc, &found, reached.figures(), Before::Unsaid),
+    }
 }
 
-fn reasons(
+fn lines_of(
     alloc: Global,
     bank: &Bank<'_>,
-    plan: &Plan<'_>,
-    steps: &[Step],
     report: &Report<'_>,
+    steps: &[Step],
 ) -> Result<String, Memory> {
     let mut text = String::new(alloc);
     for i in 0..report.findings().len() {
-        add_finding(&mut text, alloc, bank, report, plan, steps, i)?;
+        add_finding(&mut text, alloc, bank, report, i)?;
     }
-    add_notes(&mut text, alloc, plan, steps, report)?;
+    add_notes(&mut text, alloc, report, steps)?;
     Ok(text)
 }
 
-fn told(
+fn checked_lines(
     alloc: Global,
     params: &Params,
+    skipped: &[Skipped],
     orders: &OrderTable,
     script: &Script,
 ) -> Result<Option<String>, Memory> {
@@ -236,37 +259,34 @@ fn told(
     let bank = Bank {
         params,
         orders,
+        skipped,
         permissions: &permissions,
     };
     let report = check(alloc, &permissions, &plan)?;
-    Ok(Some(reasons(alloc, &bank, &plan, script.steps(), &report)?))
+    Ok(Some(lines_of(alloc, &bank, &report, script.steps())?))
 }
 
-fn told_by(
+fn scripted_lines(
     alloc: Global,
     params: &Params,
-    orders: &[u8],
-    script: &[u8],
+    orders: &OrderTable,
+    inputs: &Inputs<'_>,
 ) -> Result<Option<String>, Memory> {
-    let Ok(orders) = OrderTable::read(alloc, orders) else {
-        return Ok(None);
-    };
-    match Script::read(alloc, script) {
-        Ok(script) => told(alloc, params, &orders, &script),
+    let skipped = skipped_segments(alloc, inputs.params)?;
+    match Script::read(alloc, inputs.script) {
+        Ok(script) => checked_lines(alloc, params, skipped.as_slice(), orders, &script),
         Err(_) => Ok(None),
     }
 }
 
 /// A line for each finding of the script, in the order of the report: why some run breaks the rule, and
 /// what to change; and then the notes on the script. None where an input is refused.
-pub fn report_reasons(
-    alloc: Global,
-    params: &[u8],
-    orders: &[u8],
-    script: &[u8],
-) -> Result<Option<String>, Memory> {
-    match Params::read(alloc, params) {
-        Ok(params) => told_by(alloc, &params, orders, script),
+pub fn report_reasons(alloc: Global, inputs: &Inputs<'_>) -> Result<Option<String>, Memory> {
+    let Ok(params) = Params::read(alloc, inputs.params) else {
+        return Ok(None);
+    };
+    match OrderTable::read(alloc, inputs.orders) {
+        Ok(orders) => scripted_lines(alloc, &params, &orders, inputs),
         Err(_) => Ok(None),
     }
 }

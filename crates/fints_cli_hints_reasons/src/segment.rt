@@ -1,12 +1,13 @@
 //! Why a segment breaks a rule, in words.
-use crate::accounts::{Items, least_need, locked_text, named};
-use fints_cli_hints_words::places::written;
+use crate::accounts::{account_named, least_need, locked_by};
+use crate::elements::Elements;
+use crate::step::NoTan;
+use fints_cli_hints_segments::Skipped;
 use fints_params::{OrderParam, Params};
 use fints_rules::kinds::own_version;
-use fints_rules::{OrderTable, Permissions, Rule};
-use fints_rules_causes::{Cause, segment_cause};
-use fints_syntax::{Kind, Memory};
-use std::alloc::Global;
+use fints_rules::{OrderTable, Permissions};
+use fints_rules_causes::Cause;
+use fints_syntax::Kind;
 use std::fmt;
 use std::fmt::{Display, Formatter, Write};
 
@@ -15,29 +16,31 @@ use std::fmt::{Display, Formatter, Write};
 pub struct Bank<'a> {
     pub params: &'a Params,
     pub orders: &'a OrderTable,
+    /// The parameter segments of the capture that can't be read.
+    pub skipped: &'a [Skipped],
     pub permissions: &'a Permissions<'a>,
 }
 
 /// A segment as the rules see it, and what can be said of the TANs of its message.
 #[derive(Clone, Copy)]
-pub struct Seen<'a, 't> {
+pub struct Seen<'a> {
     pub kind: Kind,
     pub version: u16,
-    pub items: Items<'a>,
+    pub elements: Elements<'a>,
     /// How many segments of the message have its kind.
     pub count: usize,
     pub signatures: usize,
     /// How many orders of the message are listed with J.
     pub demanding: usize,
     /// Why the message has no TAN.
-    pub no_tan: &'t str,
+    pub no_tan: NoTan<'a>,
 }
 
 /// A kind.
 #[derive(Clone, Copy)]
-pub struct Named(pub Kind);
+pub struct KindName(pub Kind);
 
-impl Display for Named {
+impl Display for KindName {
     fn fmt<W: Write>(&self, f: &mut Formatter<W>) -> fmt::Result {
         f.write_str(std::str::from_utf8(self.0.as_bytes()).unwrap_or(""))
     }
@@ -58,19 +61,35 @@ impl Display for ParamsOf {
     }
 }
 
-// The versions in which a bank takes an order, with a comma between.
+// Whether a segment of this identifier tells the parameters of an order.
+fn tells_of(id: Kind, order: Kind) -> bool {
+    match (id.as_bytes(), order.as_bytes()) {
+        ([first, b'I', x, y, z, b'S'], [letter, b'K', p, q, r]) => {
+            first == letter && x == p && y == q && z == r
+        }
+        _ => false,
+    }
+}
+
+// The versions in which a bank takes an order, each once, with a comma between.
 #[derive(Clone, Copy)]
 struct Versions<'a> {
     rows: &'a [OrderParam],
     kind: Kind,
 }
 
+fn has_version(rows: &[OrderParam], kind: Kind, version: u16) -> bool {
+    rows.iter()
+        .any(|row| row.kind == kind && row.version == version)
+}
+
 impl Display for Versions<'_> {
     fn fmt<W: Write>(&self, f: &mut Formatter<W>) -> fmt::Result {
         let mut comma = "";
-        for row in self.rows {
-            if row.kind == self.kind {
-                let version = row.version;
+        for (i, row) in self.rows.iter().enumerate() {
+            let version = row.version;
+            let earlier = self.rows.get(..i).unwrap_or(&[]);
+            if row.kind == self.kind && !has_version(earlier, self.kind, version) {
                 write!(f, "{comma}{version}")?;
                 comma = ", ";
             }
@@ -79,177 +98,227 @@ impl Display for Versions<'_> {
     }
 }
 
-fn no_parameters(alloc: Global, bank: &Bank<'_>, seen: &Seen<'_, '_>) -> Result<String, Memory> {
-    let (kind, params) = (Named(seen.kind), ParamsOf(seen.kind));
-    let rows = bank.params.orders();
-    let version = seen.version;
-    if !rows.iter().any(|row| row.kind == seen.kind) {
-        return written(
-            alloc,
-            format_args!(
-                "the capture has no {params}: the bank doesn't offer {kind}, or the capture isn't whole"
-            ),
-        );
+// How many signatures a message has.
+#[derive(Clone, Copy)]
+struct Signatures(usize);
+
+impl Display for Signatures {
+    fn fmt<W: Write>(&self, f: &mut Formatter<W>) -> fmt::Result {
+        match self.0 {
+            0 => f.write_str("no signature"),
+            1 => f.write_str("1 signature"),
+            count => write!(f, "{count} signatures"),
+        }
     }
-    let versions = Versions {
-        rows,
-        kind: seen.kind,
-    };
-    written(
-        alloc,
-        format_args!(
+}
+
+/// Why a segment breaks a rule, by this cause.
+#[derive(Clone, Copy)]
+pub struct SegmentWhy<'a> {
+    pub bank: &'a Bank<'a>,
+    pub seen: &'a Seen<'a>,
+    pub cause: Cause,
+}
+
+impl SegmentWhy<'_> {
+    // What more signatures come from.
+    fn signing(&self) -> &'static str {
+        if self.seen.elements.are_filled() {
+            "signers"
+        } else {
+            "signatures"
+        }
+    }
+
+    // Whether a parameter segment of the order is skipped, of this version or of any.
+    fn is_skipped(&self, version: Option<u16>) -> bool {
+        let kind = self.seen.kind;
+        self.bank.skipped.iter().any(|it| {
+            tells_of(it.id, kind) && version.is_none_or(|version| it.version == version)
+        })
+    }
+
+    fn no_parameters<W: Write>(&self, f: &mut Formatter<W>) -> fmt::Result {
+        let (kind, params) = (KindName(self.seen.kind), ParamsOf(self.seen.kind));
+        if self.is_skipped(None) {
+            return write!(
+                f,
+                "{params} of the capture can't be read, as show --hints says: mend it, or remove {kind}"
+            );
+        }
+        write!(
+            f,
+            "the capture has no {params}: remove {kind}, which the bank doesn't offer, or take a whole capture"
+        )
+    }
+
+    fn other_version<W: Write>(&self, f: &mut Formatter<W>) -> fmt::Result {
+        let (kind, params) = (KindName(self.seen.kind), ParamsOf(self.seen.kind));
+        let version = self.seen.version;
+        let versions = Versions {
+            rows: self.bank.params.orders(),
+            kind: self.seen.kind,
+        };
+        if self.is_skipped(Some(version)) {
+            return write!(
+                f,
+                "the bank takes {kind} in version {versions} ({params}), and {params} {version} of the capture can't be read, as show --hints says: mend it, or send one of these versions"
+            );
+        }
+        write!(
+            f,
             "the bank takes {kind} in version {versions} ({params}), and not in {version}: send one of these versions"
-        ),
-    )
-}
+        )
+    }
 
-fn too_many(alloc: Global, bank: &Bank<'_>, seen: &Seen<'_, '_>) -> Result<String, Memory> {
-    let (kind, params) = (Named(seen.kind), ParamsOf(seen.kind));
-    let (count, version) = (seen.count, seen.version);
-    let most = match bank.permissions.limits(seen.kind, version) {
-        Some(limits) => limits.orders,
-        None => 0,
-    };
-    written(
-        alloc,
-        format_args!(
-            "{count} orders {kind} in the message, and the bank takes {most} ({params} {version}, element 2): send the others in messages of their own"
-        ),
-    )
-}
+    fn parameters<W: Write>(&self, f: &mut Formatter<W>) -> fmt::Result {
+        let rows = self.bank.params.orders();
+        if rows.iter().any(|row| row.kind == self.seen.kind) {
+            self.other_version(f)
+        } else {
+            self.no_parameters(f)
+        }
+    }
 
-fn order_needs(alloc: Global, bank: &Bank<'_>, seen: &Seen<'_, '_>) -> Result<String, Memory> {
-    let params = ParamsOf(seen.kind);
-    let (signatures, version) = (seen.signatures, seen.version);
-    let need = match bank.permissions.limits(seen.kind, version) {
-        Some(limits) => limits.signatures,
-        None => 0,
-    };
-    written(
-        alloc,
-        format_args!(
-            "signatures {signatures}, and the bank wants {need} ({params} {version}, element 3): add signers"
-        ),
-    )
-}
+    fn too_many<W: Write>(&self, f: &mut Formatter<W>) -> fmt::Result {
+        let (kind, params) = (KindName(self.seen.kind), ParamsOf(self.seen.kind));
+        let (count, version) = (self.seen.count, self.seen.version);
+        let most = match self.bank.permissions.limits(self.seen.kind, version) {
+            Some(limits) => limits.orders,
+            None => 0,
+        };
+        write!(
+            f,
+            "the message has {count} orders {kind}, and the bank takes {most} ({params} {version}, element 2): send the others in messages of their own"
+        )
+    }
 
-fn account_needs(alloc: Global, bank: &Bank<'_>, seen: &Seen<'_, '_>) -> Result<String, Memory> {
-    let kind = Named(seen.kind);
-    let signatures = seen.signatures;
-    let account = named(bank, seen);
-    let need = least_need(bank, seen);
-    written(
-        alloc,
-        format_args!(
-            "signatures {signatures}, and {account} wants {need} for {kind} (HIUPD): add signers, or name another account"
-        ),
-    )
-}
+    fn order_needs<W: Write>(&self, f: &mut Formatter<W>) -> fmt::Result {
+        let (params, signing) = (ParamsOf(self.seen.kind), self.signing());
+        let (signatures, version) = (Signatures(self.seen.signatures), self.seen.version);
+        let need = match self.bank.permissions.limits(self.seen.kind, version) {
+            Some(limits) => limits.signatures,
+            None => 0,
+        };
+        write!(
+            f,
+            "the message has {signatures}, and the bank wants {need} ({params} {version}, element 3): add {signing}"
+        )
+    }
 
-fn no_row(alloc: Global, seen: &Seen<'_, '_>) -> Result<String, Memory> {
-    let kind = Named(seen.kind);
-    let version = seen.version;
-    written(
-        alloc,
-        format_args!(
+    fn account_needs<W: Write>(&self, f: &mut Formatter<W>) -> fmt::Result {
+        let (kind, signatures) = (KindName(self.seen.kind), Signatures(self.seen.signatures));
+        let account = account_named(self.bank, self.seen);
+        let (need, signing) = (least_need(self.bank, self.seen), self.signing());
+        write!(
+            f,
+            "the message has {signatures}, and {account} wants {need} for {kind} (HIUPD): add {signing}, or name another account"
+        )
+    }
+
+    fn own_version<W: Write>(&self, f: &mut Formatter<W>) -> fmt::Result {
+        let kind = KindName(self.seen.kind);
+        let version = self.seen.version;
+        let own = own_version(self.seen.kind).unwrap_or(0);
+        write!(
+            f,
+            "{kind} has version {own}, and not {version}: write version {own}"
+        )
+    }
+
+    fn no_row<W: Write>(&self, f: &mut Formatter<W>) -> fmt::Result {
+        let kind = KindName(self.seen.kind);
+        let version = self.seen.version;
+        if self
+            .bank
+            .permissions
+            .limits(self.seen.kind, version)
+            .is_none()
+        {
+            return write!(
+                f,
+                "the order table has no row for {kind} {version}, which the bank doesn't take (P5): mend that first"
+            );
+        }
+        write!(
+            f,
             "the order table has no row for {kind} {version}: add {{kind = \"{kind}\", version = {version}, account = ..}}"
-        ),
-    )
-}
-
-fn version_text(alloc: Global, seen: &Seen<'_, '_>) -> Result<String, Memory> {
-    let kind = Named(seen.kind);
-    let version = seen.version;
-    let own = own_version(seen.kind).unwrap_or(0);
-    written(
-        alloc,
-        format_args!("{kind} has version {own}, and not {version}: write version {own}"),
-    )
-}
-
-fn listed_text(alloc: Global, seen: &Seen<'_, '_>) -> Result<String, Memory> {
-    let kind = Named(seen.kind);
-    written(
-        alloc,
-        format_args!(
-            "HIPINS doesn't list {kind}: the bank takes no such order with PIN and TAN, or the capture isn't whole"
-        ),
-    )
-}
-
-fn tan_text(alloc: Global, seen: &Seen<'_, '_>, sent: bool) -> Result<String, Memory> {
-    let kind = Named(seen.kind);
-    let no_tan = seen.no_tan;
-    if sent {
-        return written(
-            alloc,
-            format_args!("the HKTAN has process 2, which sends a TAN, and {no_tan}: send one"),
-        );
+        )
     }
-    written(
-        alloc,
-        format_args!(
-            "HIPINS demands a TAN for {kind} ({kind}:J): no HKTAN of process 4 is there, and {no_tan}: add one of both"
-        ),
-    )
-}
 
-fn procedure_text(alloc: Global, seen: &Seen<'_, '_>, several: bool) -> Result<String, Memory> {
-    let kind = Named(seen.kind);
-    let (version, demanding) = (seen.version, seen.demanding);
-    if several {
-        return written(
-            alloc,
-            format_args!(
-                "the message has {demanding} orders that demand a TAN, and HITANS {version} takes one at a time (element 5, item 2 is N): send each with an HKTAN of its own"
-            ),
-        );
+    fn unlisted<W: Write>(&self, f: &mut Formatter<W>) -> fmt::Result {
+        let kind = KindName(self.seen.kind);
+        write!(
+            f,
+            "HIPINS doesn't list {kind}: remove it, since the bank doesn't take it with PIN and TAN, or take a whole capture"
+        )
     }
-    written(
-        alloc,
-        format_args!(
-            "a TAN goes with {kind} in one step, and no HITANS takes that (element 5, item 1 is N): submit it by an HKTAN of process 4"
-        ),
-    )
-}
 
-fn cause_text(
-    alloc: Global,
-    bank: &Bank<'_>,
-    seen: &Seen<'_, '_>,
-    cause: Cause,
-) -> Result<String, Memory> {
-    match cause {
-        Cause::OtherVersion => version_text(alloc, seen),
-        Cause::NoParameters => no_parameters(alloc, bank, seen),
-        Cause::TooManyOrders => too_many(alloc, bank, seen),
-        Cause::Unlisted => listed_text(alloc, seen),
-        Cause::OrderNeedsMore => order_needs(alloc, bank, seen),
-        Cause::AccountNeedsMore => account_needs(alloc, bank, seen),
-        Cause::NoOrderRow => no_row(alloc, seen),
-        Cause::AccountLocked => locked_text(alloc, bank, seen),
-        Cause::NoTan => tan_text(alloc, seen, false),
-        Cause::NoTanSent => tan_text(alloc, seen, true),
-        Cause::OneOrderAtATime => procedure_text(alloc, seen, true),
-        Cause::NoOneStep => procedure_text(alloc, seen, false),
+    fn no_tan<W: Write>(&self, f: &mut Formatter<W>) -> fmt::Result {
+        let kind = KindName(self.seen.kind);
+        let no_tan = self.seen.no_tan;
+        let advice = match no_tan {
+            NoTan::MayBeEmpty(_) =>
+                "add an HKTAN, or keep the TAN's field from being empty (min = 1)",
+            _ => "add one of the two",
+        };
+        write!(
+            f,
+            "HIPINS demands a TAN for {kind} ({kind}:J), no HKTAN of process 4 is there, and {no_tan}: {advice}"
+        )
+    }
+
+    fn no_tan_sent<W: Write>(&self, f: &mut Formatter<W>) -> fmt::Result {
+        let no_tan = self.seen.no_tan;
+        let advice = match no_tan {
+            NoTan::NoSigner => "add a signer with a TAN",
+            NoTan::MayBeEmpty(_) => "keep the TAN's field from being empty (min = 1)",
+            NoTan::Without(_) => "write the TAN into the third entry of its end, behind the PIN",
+            NoTan::NoneThere => "write it into element 4, item 2",
+        };
+        write!(
+            f,
+            "the HKTAN of process 2 sends a TAN, and {no_tan}: {advice}"
+        )
+    }
+
+    fn several_orders<W: Write>(&self, f: &mut Formatter<W>) -> fmt::Result {
+        let (version, demanding) = (self.seen.version, self.seen.demanding);
+        write!(
+            f,
+            "the message has {demanding} orders that demand a TAN, and HITANS {version} takes one at a time (element 5, item 2 is N): send each in a message of its own, with an HKTAN"
+        )
+    }
+
+    fn one_step<W: Write>(&self, f: &mut Formatter<W>) -> fmt::Result {
+        let kind = KindName(self.seen.kind);
+        let read = if self.bank.skipped.iter().any(|it| it.id.is(b"HITANS")) {
+            " that can be read"
+        } else {
+            ""
+        };
+        write!(
+            f,
+            "a TAN goes with {kind} in one step, and no HITANS{read} takes that (element 5, item 1 is N): submit it by an HKTAN of process 4"
+        )
     }
 }
 
-/// Why the segment breaks the rule; nothing of a rule that no segment breaks.
-pub fn segment_text(
-    alloc: Global,
-    bank: &Bank<'_>,
-    rule: Rule,
-    seen: &Seen<'_, '_>,
-) -> Result<Option<String>, Memory> {
-    match segment_cause(
-        bank.permissions,
-        rule,
-        seen.kind,
-        seen.version,
-        seen.signatures,
-    ) {
-        None => Ok(None),
-        Some(cause) => Ok(Some(cause_text(alloc, bank, seen, cause)?)),
+impl Display for SegmentWhy<'_> {
+    fn fmt<W: Write>(&self, f: &mut Formatter<W>) -> fmt::Result {
+        match self.cause {
+            Cause::OtherVersion => self.own_version(f),
+            Cause::NoParameters => self.parameters(f),
+            Cause::TooManyOrders => self.too_many(f),
+            Cause::Unlisted => self.unlisted(f),
+            Cause::OrderNeedsMore => self.order_needs(f),
+            Cause::AccountNeedsMore => self.account_needs(f),
+            Cause::NoOrderRow => self.no_row(f),
+            Cause::AccountLocked => locked_by(self.bank, self.seen).fmt(f),
+            Cause::NoTan => self.no_tan(f),
+            Cause::NoTanSent => self.no_tan_sent(f),
+            Cause::OneOrderAtATime => self.several_orders(f),
+            Cause::NoOneStep => self.one_step(f),
+        }
     }
 }

@@ -1,163 +1,80 @@
 //! What the rules see in the message of a step.
 ghost use Rattle.std.specs.Prelude.{◌≤◌, ◌+◌, length};
 
-use crate::accounts::Items;
+use crate::lines::name_of;
 use fints_check::{Reached, Report};
-use fints_cli_hints_words::places::written;
-use fints_rules::Permissions;
-use fints_rules::kinds::is_plain_order;
-use fints_script::{
-    AccountValue, Name, NamedField, Plan, Signer, Step, Template, TemplateItem, Values,
-};
-use fints_syntax::{Bytes, Kind, Memory};
-use std::alloc::Global;
+use fints_script::{Name, Plan, Signer, Step, TemplateItem};
+use std::fmt;
+use std::fmt::{Display, Formatter, Write};
 
-/// How many of the segments have the kind.
-pub fn kind_count(templates: &[Template], kind: Kind) -> usize {
-    templates.iter().filter(|it| it.kind == kind).count()
-}
+/// A name in quotes.
+#[derive(Clone, Copy)]
+pub struct Called<'a>(pub &'a Name);
 
-/// How many kinds of orders other than HKTAN the segments have.
-pub fn kinds_of(alloc: Global, templates: &[Template]) -> Result<usize, Memory> {
-    let mut kinds: Vec<Kind> = Vec::new(alloc);
-    for template in templates {
-        if is_plain_order(template.kind) && !kinds.as_slice().contains(&template.kind) {
-            kinds.push(template.kind)?;
-        }
-    }
-    Ok(kinds.len())
-}
-
-/// How many of the segments are orders that are listed with J.
-pub fn demanding(permissions: &Permissions<'_>, templates: &[Template]) -> usize {
-    templates
-        .iter()
-        .filter(|it| permissions.is_demanding(it.kind))
-        .count()
-}
-
-// ---- element 2
-
-fn item_of(items: &[Bytes], i: usize) -> &[u8] {
-    match items.get(i) {
-        Some(item) => item.as_slice(),
-        None => b"",
-    }
-}
-
-fn account_items(account: &AccountValue) -> Items<'_> {
-    let items = account.items();
-    Items {
-        first: item_of(items, 0),
-        second: item_of(items, 1),
-        third: item_of(items, 2),
-        fourth: item_of(items, 3),
-        fifth: item_of(items, 4),
-        sixth: item_of(items, 5),
-    }
-}
-
-fn value_of<'a>(fields: &[NamedField], values: &'a Values, place: usize) -> &'a [u8] {
-    match fields.get(place) {
-        Some(field) => values.get(field.name).unwrap_or(b""),
-        None => b"",
-    }
-}
-
-// The value of item i, from 0.
-fn filled<'a>(
-    fields: &[NamedField],
-    values: &'a Values,
-    items: &'a [TemplateItem],
-    i: usize,
-) -> &'a [u8] {
-    match items.get(i) {
-        Some(TemplateItem::Literal(item)) => item.value(),
-        Some(TemplateItem::Dialog) => value_of(fields, values, 0),
-        Some(TemplateItem::Field(place)) => value_of(fields, values, *place),
-        None => b"",
-    }
-}
-
-fn filled_items<'a>(
-    fields: &[NamedField],
-    values: &'a Values,
-    items: &'a [TemplateItem],
-) -> Items<'a> {
-    Items {
-        first: filled(fields, values, items, 0),
-        second: filled(fields, values, items, 1),
-        third: filled(fields, values, items, 2),
-        fourth: filled(fields, values, items, 3),
-        fifth: filled(fields, values, items, 4),
-        sixth: filled(fields, values, items, 5),
-    }
-}
-
-// The account that is the value of the field, where it is one of accounts.
-fn account_in<'a>(
-    fields: &'a [NamedField],
-    values: &Values,
-    items: &[TemplateItem],
-) -> Option<&'a AccountValue> {
-    let [TemplateItem::Field(place)] = items else {
-        return None;
-    };
-    let value = value_of(fields, values, *place);
-    let accounts = fields.get(*place)?.class.accounts();
-    accounts.iter().find(|it| it.text() == value)
-}
-
-/// The first items of element 2 under these values.
-pub fn items_in<'a>(
-    fields: &'a [NamedField],
-    values: &'a Values,
-    template: &'a Template,
-) -> Items<'a> {
-    let items = match template.elements.as_slice() {
-        [first, ..] => first.as_slice(),
-        [] => &[],
-    };
-    match account_in(fields, values, items) {
-        Some(account) => account_items(account),
-        None => filled_items(fields, values, items),
+impl Display for Called<'_> {
+    fn fmt<W: Write>(&self, f: &mut Formatter<W>) -> fmt::Result {
+        let name = name_of(self.0);
+        write!(f, "\"{name}\"")
     }
 }
 
 // ---- TANs
 
-// The TAN item of a signer, where it has one.
-fn tan_item(signer: &Signer) -> Option<&TemplateItem> {
-    signer.end.as_slice().get(2)?.as_slice().get(1)
+/// Why no HNSHA of a message is sure to have a TAN.
+#[derive(Clone, Copy)]
+pub enum NoTan<'a> {
+    NoSigner,
+    /// The TAN of this signer is a field that may be empty.
+    MayBeEmpty(&'a Name),
+    /// This signer has no TAN, and no other has a field for one.
+    Without(&'a Name),
+    /// No HNSHA of a message that is there has one.
+    NoneThere,
 }
 
-fn signer_text(alloc: Global, signer: &Signer) -> Result<String, Memory> {
-    let name = name_of(&signer.name);
-    match tan_item(signer) {
-        Some(TemplateItem::Field(_)) => {
-            written(alloc, format_args!("the TAN of signer {name} may be empty"))
+impl Display for NoTan<'_> {
+    fn fmt<W: Write>(&self, f: &mut Formatter<W>) -> fmt::Result {
+        match self {
+            NoTan::NoSigner => f.write_str("the step has no signer"),
+            NoTan::MayBeEmpty(name) => {
+                let name = Called(name);
+                write!(f, "the TAN of signer {name} may be empty")
+            }
+            NoTan::Without(name) => {
+                let name = Called(name);
+                write!(f, "signer {name} has no TAN")
+            }
+            NoTan::NoneThere => f.write_str("no HNSHA has a TAN"),
         }
-        _ => written(alloc, format_args!("signer {name} has no TAN")),
     }
 }
 
-/// Why no HNSHA of the step is sure to have a TAN.
-pub fn no_tan(alloc: Global, plan: &Plan<'_>, step: &Step) -> Result<String, Memory> {
-    let [first, ..] = step.signers() else {
-        return written(alloc, "the step has no signer");
-    };
-    match plan.signers().get(*first) {
-        Some(signer) => signer_text(alloc, signer),
-        None => written(alloc, "no signer has one"),
+// Whether the TAN of a signer, item 2 of the third element of its end, is a field.
+fn has_tan_field(signer: &Signer) -> bool {
+    match signer.end.as_slice() {
+        [_, _, third, ..] => matches!(third.as_slice(), [_, TemplateItem::Field(_), ..]),
+        _ => false,
     }
 }
 
-// ---- branches
-
-/// A name as a text.
-pub fn name_of(name: &Name) -> &str {
-    std::str::from_utf8(name.as_bytes()).unwrap_or("")
+/// Why no HNSHA of the step is sure to have a TAN: a signer with a field for it is named before others.
+pub fn no_tan<'a>(signers: &'a [Signer], step: &Step) -> NoTan<'a> {
+    let mut why = NoTan::NoSigner;
+    for place in step.signers() {
+        let Some(signer) = signers.get(*place) else {
+            continue;
+        };
+        if has_tan_field(signer) {
+            return NoTan::MayBeEmpty(&signer.name);
+        }
+        if matches!(why, NoTan::NoSigner) {
+            why = NoTan::Without(&signer.name);
+        }
+    }
+    why
 }
+
+// ---- figures and branches
 
 /// The figures of step n, if it is one and some run sends it.
 pub fn figures_of(report: &Report<'_>, n: usize) -> Option<Reached> {
@@ -173,4 +90,32 @@ pub fn is_open(step: &Step, branch: usize) -> bool
     requires to { branch ≤ length step.now.branches + 1 }
 {
     step.opener(branch).is_some()
+}
+
+/// A branch of a step by its number, from 1, among so many: the default comes last.
+#[derive(Clone, Copy)]
+pub struct BranchOf {
+    pub number: usize,
+    pub count: usize,
+}
+
+impl BranchOf {
+    /// The branch of this number.
+    pub fn at(step: &Step, number: usize) -> BranchOf {
+        BranchOf {
+            number,
+            count: step.branches().len(),
+        }
+    }
+}
+
+impl Display for BranchOf {
+    fn fmt<W: Write>(&self, f: &mut Formatter<W>) -> fmt::Result {
+        let BranchOf { number, count } = *self;
+        if number > count {
+            f.write_str("the default")
+        } else {
+            write!(f, "branch {number}")
+        }
+    }
 }

@@ -1,25 +1,220 @@
 //! Why a certificate isn't closed: the first line, or the first branch, that isn't.
 ghost use Rattle.std.specs.Prelude.{◌≡◌, ◌≤◌, ◌+◌, length};
 
-use crate::step::{is_open, name_of};
+use crate::step::{BranchOf, Called, is_open};
 use fints_check::{AtStep, Certificate, Line, Reached, is_released_step};
+use fints_cli_hints_words::inputs::Inputs;
 use fints_cli_hints_words::places::{Told, told};
 use fints_params::Params;
 use fints_rules::{Figures, LAST_NUMBER, OrderTable, Permissions, Rule, figures_break};
-use fints_script::{Plan, Script, Step, Target};
-use fints_syntax::Memory;
+use fints_script::{Name, Plan, Script, Step, Target};
 use fints_wire::worst_size;
 use std::alloc::Global;
+use std::fmt;
+use std::fmt::{Display, Formatter, Write};
+
+// ---- what is said
+
+// Why a certificate isn't closed.
+#[derive(Clone, Copy)]
+enum Open {
+    /// A line is of another step than the one at its place.
+    OtherStep {
+        line: usize,
+        named: Name,
+        at: usize,
+        step: Name,
+    },
+    NoLine {
+        step: Name,
+    },
+    LineOfNoStep {
+        line: usize,
+        named: Name,
+    },
+    FirstUnreached {
+        step: Name,
+    },
+    FirstNumber {
+        step: Name,
+        most: u32,
+        number: u32,
+    },
+    /// A branch leads to a step that is named as unreached.
+    Unreached {
+        branch: BranchOf,
+        from: Name,
+        step: Name,
+    },
+    /// A branch leads to a step whose line has too small a number.
+    Number {
+        from: Name,
+        behind: u32,
+        step: Name,
+        most: u32,
+        number: u32,
+    },
+    BreaksNumber {
+        step: Name,
+        number: u32,
+    },
+    Longer {
+        step: Name,
+        number: u32,
+        worst: u64,
+        size: u64,
+    },
+    BreaksSize {
+        step: Name,
+        size: u64,
+    },
+    BreaksRule {
+        step: Name,
+    },
+    Unreleased {
+        step: Name,
+    },
+}
+
+const ANEW: &str = "make the certificate anew by certify";
+
+fn write_lines<W: Write>(f: &mut Formatter<W>, open: &Open) -> fmt::Result {
+    match open {
+        Open::OtherStep {
+            line,
+            named,
+            at,
+            step,
+        } => {
+            let (named, step) = (Called(named), Called(step));
+            write!(
+                f,
+                "line {line} is of step {named}, and step {at} of the script is {step}: {ANEW}"
+            )
+        }
+        Open::NoLine { step } => {
+            let step = Called(step);
+            write!(f, "no line is of step {step}: {ANEW}")
+        }
+        Open::LineOfNoStep { line, named } => {
+            let named = Called(named);
+            write!(
+                f,
+                "line {line} is of step {named}, and the script has no further step: {ANEW}"
+            )
+        }
+        _ => Ok(()),
+    }
+}
+
+fn write_entered<W: Write>(f: &mut Formatter<W>, open: &Open) -> fmt::Result {
+    match open {
+        Open::FirstUnreached { step } => {
+            let step = Called(step);
+            write!(
+                f,
+                "each run begins with step {step}, which is named as unreached: {ANEW}"
+            )
+        }
+        Open::FirstNumber { step, most, number } => {
+            let step = Called(step);
+            write!(
+                f,
+                "step {step}, the first, needs number {most}, and its line says {number}: {ANEW}"
+            )
+        }
+        Open::Unreached { branch, from, step } => {
+            let (from, step) = (Called(from), Called(step));
+            write!(
+                f,
+                "{branch} of step {from} leads to step {step}, which is named as unreached: {ANEW}"
+            )
+        }
+        Open::Number {
+            from,
+            behind,
+            step,
+            most,
+            number,
+        } => {
+            let (from, step) = (Called(from), Called(step));
+            write!(
+                f,
+                "behind number {behind} of step {from}, step {step} needs number {most}, and its line says {number}: {ANEW}"
+            )
+        }
+        _ => write_lines(f, open),
+    }
+}
+
+fn write_figures<W: Write>(f: &mut Formatter<W>, open: &Open) -> fmt::Result {
+    match open {
+        Open::BreaksNumber { step, number } => {
+            let step = Called(step);
+            write!(
+                f,
+                "step {step}: number {number} breaks P2 (1 to {LAST_NUMBER}): {ANEW}"
+            )
+        }
+        Open::Longer {
+            step,
+            number,
+            worst,
+            size,
+        } => {
+            let step = Called(step);
+            write!(
+                f,
+                "step {step}: its longest message of number {number} has {worst} bytes, and its line says {size}: {ANEW}"
+            )
+        }
+        Open::BreaksSize { step, size } => {
+            let step = Called(step);
+            write!(
+                f,
+                "step {step}: a message of {size} bytes breaks P3 (HIBPA, element 8): {ANEW}"
+            )
+        }
+        _ => write_entered(f, open),
+    }
+}
+
+impl Display for Open {
+    fn fmt<W: Write>(&self, f: &mut Formatter<W>) -> fmt::Result {
+        match self {
+            Open::BreaksRule { step } => {
+                let step = Called(step);
+                write!(
+                    f,
+                    "step {step} is named as reached, and its messages break a rule: name it as unreached where no run sends it, or mend the script"
+                )
+            }
+            Open::Unreleased { step } => {
+                let step = Called(step);
+                write!(
+                    f,
+                    "step {step} is named as reached, and a message behind it leaves its order unreleased (P11): name it as unreached where no run sends it, or mend the branches of the script"
+                )
+            }
+            _ => write_figures(f, self),
+        }
+    }
+}
+
+fn line_of(alloc: Global, open: Open) -> Told {
+    told(alloc, format_args!("why: {open}\n"))
+}
+
+// ---- what is looked at
 
 // Whether an open branch leads back to the step.
 fn is_repeated(step: &Step) -> bool {
-    let branches = step.branches();
-    for i in 0..branches.len() {
-        if matches!(branches[i].to, Target::Again) && is_open(step, i + 1) {
+    for branch in 1..step.branches().len() + 2 {
+        if step.target(branch) == Target::Again && is_open(step, branch) {
             return true;
         }
     }
-    matches!(step.otherwise(), Target::Again) && is_open(step, branches.len() + 1)
+    false
 }
 
 // The number that the step may come to, where its first message in a row has number `from`.
@@ -36,190 +231,194 @@ fn reached(lines: &[Line], n: usize) -> Option<Reached> {
 }
 
 // Where the names of the lines are not those of the steps.
-fn other_name(alloc: Global, lines: &[Line], steps: &[Step]) -> Told {
+fn other_name(lines: &[Line], steps: &[Step]) -> Option<Open> {
     for (i, (line, step)) in lines.iter().zip(steps).enumerate() {
         if line.name != step.name() {
-            let (number, at) = (i.saturating_add(2), i.saturating_add(1));
-            let (line, step) = (line.name, step.name());
-            let (line, step) = (name_of(&line), name_of(&step));
-            return told(
-                alloc,
-                format_args!(
-                    "line {number} is of step {line}, and step {at} of the script is {step}"
-                ),
-            );
+            return Some(Open::OtherStep {
+                line: i.saturating_add(2),
+                named: line.name,
+                at: i.saturating_add(1),
+                step: step.name(),
+            });
         }
     }
-    if lines.len() == steps.len() {
-        return Ok(None);
+    if let Some(step) = steps.get(lines.len()) {
+        return Some(Open::NoLine { step: step.name() });
     }
-    let (lines, steps) = (lines.len(), steps.len());
-    told(
-        alloc,
-        format_args!(
-            "the certificate has lines of {lines} steps, and the script has {steps}: make it anew"
-        ),
-    )
+    let line = lines.get(steps.len())?;
+    Some(Open::LineOfNoStep {
+        line: steps.len().saturating_add(2),
+        named: line.name,
+    })
 }
 
-// Why a step isn't entered with a number that is enough.
-fn not_entered(alloc: Global, lines: &[Line], steps: &[Step], n: usize, from: u32) -> Told {
-    let Some(step) = steps.get(n.saturating_sub(1)) else {
-        return Ok(None);
-    };
-    let name = step.name();
-    let name = name_of(&name);
-    let most = last_number(step, from);
-    match reached(lines, n) {
-        None => told(
-            alloc,
-            format_args!("some run sends step {name}, which is named as unreached"),
-        ),
-        Some(figures) if figures.number < most => {
-            let number = figures.number;
-            told(
-                alloc,
-                format_args!("step {name} may come to number {most}, and its line says {number}"),
-            )
-        }
-        Some(_) => Ok(None),
+// Why the first step isn't entered.
+fn first_open(lines: &[Line], step: &Step) -> Option<Open> {
+    let most = last_number(step, 1);
+    match reached(lines, 1) {
+        None => Some(Open::FirstUnreached { step: step.name() }),
+        Some(figures) if figures.number < most => Some(Open::FirstNumber {
+            step: step.name(),
+            most,
+            number: figures.number,
+        }),
+        Some(_) => None,
     }
 }
 
-// The branch of a reached step that leads on to a step that isn't entered so.
-fn bad_branch(
-    alloc: Global,
+// Why the step that a branch of a reached step leads on to isn't entered with a number that is enough.
+fn branch_open(
     lines: &[Line],
     steps: &[Step],
-    step: &Step,
+    from: &Step,
     figures: Reached,
-) -> Told {
-    let name = step.name();
-    let name = name_of(&name);
-    let from = figures.number.saturating_add(1);
-    let last = step.branches().len() + 1;
-    for branch in 1..last + 1 {
+    branch: usize,
+) -> Option<Open>
+    requires first { 1 ≤ branch }
+    requires last { branch ≤ length from.now.branches + 1 }
+{
+    let Target::Step(to) = from.target(branch) else {
+        return None;
+    };
+    let n = usize::from(to);
+    let step = steps.get(n.checked_sub(1)?)?;
+    let most = last_number(step, figures.number.saturating_add(1));
+    match reached(lines, n) {
+        None => Some(Open::Unreached {
+            branch: BranchOf::at(from, branch),
+            from: from.name(),
+            step: step.name(),
+        }),
+        Some(figures_to) if figures_to.number < most => Some(Open::Number {
+            from: from.name(),
+            behind: figures.number,
+            step: step.name(),
+            most,
+            number: figures_to.number,
+        }),
+        Some(_) => None,
+    }
+}
+
+// The first branch of a reached step that leads on to a step that isn't entered so.
+fn bad_branch(lines: &[Line], steps: &[Step], step: &Step, figures: Reached) -> Option<Open> {
+    for branch in 1..step.branches().len() + 2 {
         if !is_open(step, branch) {
             continue;
         }
-        let Target::Step(to) = step.target(branch) else {
-            continue;
-        };
-        if let Some(why) = not_entered(alloc, lines, steps, usize::from(to), from)? {
-            if branch == last {
-                return told(alloc, format_args!("the default of step {name}: {why}"));
-            }
-            return told(alloc, format_args!("branch {branch} of step {name}: {why}"));
+        let open = branch_open(lines, steps, step, figures, branch);
+        if open.is_some() {
+            return open;
         }
     }
-    Ok(None)
+    None
 }
 
 // Why the figures of a reached step are none.
 fn bad_figures(
-    alloc: Global,
     permissions: &Permissions<'_>,
     plan: &Plan<'_>,
     n: usize,
-    figures: Reached,
-) -> Told
+    reached: Reached,
+) -> Option<Open>
     requires from { 1 ≤ n }
     requires to { n ≤ length plan.now.script.steps }
 {
-    let (number, size) = (figures.number, figures.size);
+    let (number, size) = (reached.number, reached.size);
     let step = plan.step(n).name();
-    let name = name_of(&step);
     if number == 0 || u64::from(number) > LAST_NUMBER {
-        return told(
-            alloc,
-            format_args!("step {name}: number {number} breaks P2 (1 to {LAST_NUMBER})"),
-        );
+        return Some(Open::BreaksNumber { step, number });
     }
     let worst = worst_size(plan, n, number);
     if size < worst {
-        return told(
-            alloc,
-            format_args!(
-                "step {name}: its longest message of number {number} has {worst} bytes, and its line says {size}"
-            ),
-        );
+        return Some(Open::Longer {
+            step,
+            number,
+            worst,
+            size,
+        });
     }
     let figures = Figures {
         number: u64::from(number),
         size,
     };
     if figures_break(permissions.bank(), figures, Rule::Size) {
-        return told(
-            alloc,
-            format_args!("step {name}: a message of {size} bytes breaks P3 (HIBPA, element 8)"),
-        );
+        return Some(Open::BreaksSize { step, size });
     }
-    Ok(None)
+    None
 }
 
 // Why what a line says of a reached step doesn't hold.
 fn bad_line(
-    alloc: Global,
     permissions: &Permissions<'_>,
     plan: &Plan<'_>,
     n: usize,
-    figures: Reached,
-) -> Told
+    reached: Reached,
+) -> Option<Open>
     requires from { 1 ≤ n }
     requires to { n ≤ length plan.now.script.steps }
     requires orders { permissions.now.orders ≡ plan.now.orders }
 {
-    if let Some(why) = bad_figures(alloc, permissions, plan, n, figures)? {
-        return Ok(Some(why));
+    let open = bad_figures(permissions, plan, n, reached);
+    if open.is_some() {
+        return open;
     }
     let step = plan.step(n).name();
-    let name = name_of(&step);
     if !AtStep::new(permissions, plan, n).is_clean() {
-        return told(
-            alloc,
-            format_args!("step {name}: a message of it breaks a rule, which check --hints names"),
-        );
+        return Some(Open::BreaksRule { step });
     }
     if !is_released_step(plan, n) {
-        return told(
-            alloc,
-            format_args!("step {name}: a message of it leaves an order unreleased (P11)"),
-        );
+        return Some(Open::Unreleased { step });
     }
-    Ok(None)
+    None
 }
 
-fn first_open(
-    alloc: Global,
+// Why what the line of step n says, or where its branches lead, isn't closed.
+fn bad_step(
     permissions: &Permissions<'_>,
     plan: &Plan<'_>,
     steps: &[Step],
     lines: &[Line],
-) -> Told
-    requires { permissions.now.orders ≡ plan.now.orders }
+    n: usize,
+) -> Option<Open>
+    requires from { 1 ≤ n }
+    requires to { n ≤ length plan.now.script.steps }
+    requires orders { permissions.now.orders ≡ plan.now.orders }
 {
-    if let Some(why) = other_name(alloc, lines, steps)? {
-        return Ok(Some(why));
+    let figures = reached(lines, n)?;
+    let open = bad_line(permissions, plan, n, figures);
+    if open.is_some() {
+        return open;
     }
-    if let Some(why) = not_entered(alloc, lines, steps, 1, 1)? {
-        return Ok(Some(why));
-    }
-    for i in 0..plan.step_count() {
-        let n = i + 1;
-        let Some(figures) = reached(lines, n) else {
-            continue;
-        };
-        if let Some(why) = bad_line(alloc, permissions, plan, n, figures)? {
-            return Ok(Some(why));
-        }
-        if let Some(why) = bad_branch(alloc, lines, steps, plan.step(n), figures)? {
-            return Ok(Some(why));
-        }
-    }
-    Ok(None)
+    bad_branch(lines, steps, plan.step(n), figures)
 }
 
-fn told_of(
+fn open_of(
+    permissions: &Permissions<'_>,
+    plan: &Plan<'_>,
+    steps: &[Step],
+    lines: &[Line],
+) -> Option<Open>
+    requires { permissions.now.orders ≡ plan.now.orders }
+{
+    let open = other_name(lines, steps);
+    if open.is_some() {
+        return open;
+    }
+    let open = first_open(lines, steps.first()?);
+    if open.is_some() {
+        return open;
+    }
+    for i in 0..plan.step_count() {
+        let open = bad_step(permissions, plan, steps, lines, i + 1);
+        if open.is_some() {
+            return open;
+        }
+    }
+    None
+}
+
+fn verified_line(
     alloc: Global,
     params: &Params,
     orders: &OrderTable,
@@ -230,48 +429,30 @@ fn told_of(
         return Ok(None);
     };
     let permissions = Permissions::build(alloc, params, orders)?;
-    match first_open(
-        alloc,
-        &permissions,
-        &plan,
-        script.steps(),
-        certificate.lines(),
-    )? {
-        Some(why) => told(alloc, format_args!("why: {why}\n")),
+    match open_of(&permissions, &plan, script.steps(), certificate.lines()) {
+        Some(open) => line_of(alloc, open),
         None => Ok(None),
     }
 }
 
-fn told_by(
-    alloc: Global,
-    params: &Params,
-    orders: &OrderTable,
-    script: &[u8],
-    certificate: &[u8],
-) -> Told {
-    let Ok(script) = Script::read(alloc, script) else {
+fn line_by(alloc: Global, params: &Params, orders: &OrderTable, inputs: &Inputs<'_>) -> Told {
+    let Ok(script) = Script::read(alloc, inputs.script) else {
         return Ok(None);
     };
-    match Certificate::read(alloc, certificate) {
-        Ok(certificate) => told_of(alloc, params, orders, &script, &certificate),
+    match Certificate::read(alloc, inputs.certificate) {
+        Ok(certificate) => verified_line(alloc, params, orders, &script, &certificate),
         Err(_) => Ok(None),
     }
 }
 
 /// A line that says which line or which branch keeps the certificate from being closed, the first in
 /// order. None where an input is refused, or it is closed.
-pub fn verified_reason(
-    alloc: Global,
-    params: &[u8],
-    orders: &[u8],
-    script: &[u8],
-    certificate: &[u8],
-) -> Result<Option<String>, Memory> {
-    let Ok(params) = Params::read(alloc, params) else {
+pub fn verified_reason(alloc: Global, inputs: &Inputs<'_>) -> Told {
+    let Ok(params) = Params::read(alloc, inputs.params) else {
         return Ok(None);
     };
-    match OrderTable::read(alloc, orders) {
-        Ok(orders) => told_by(alloc, &params, &orders, script, certificate),
+    match OrderTable::read(alloc, inputs.orders) {
+        Ok(orders) => line_by(alloc, &params, &orders, inputs),
         Err(_) => Ok(None),
     }
 }

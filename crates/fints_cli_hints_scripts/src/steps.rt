@@ -44,7 +44,7 @@ fn no_seal(alloc: Global, steps: &[Value]) -> Told {
         Some(number) => told(
             alloc,
             format_args!(
-                ": sealed is true, and \"seal\" stands in step {number}, where TOML puts what follows its [[step]]: write it before all tables"
+                ": sealed is true, and \"seal\" stands in step {number}, not in the script itself: write it at the top, before all tables"
             ),
         ),
         None => told(

@@ -1,4 +1,5 @@
 //! Elements of a capture that can't be read.
+use crate::syntax::wrapped;
 use fints_cli_hints_words::quoting::Sample;
 use fints_params::Code;
 use fints_syntax::{
@@ -120,18 +121,22 @@ impl Display for BadElement<'_> {
             value,
             wanted,
         } = *self;
-        let shown = Sample(value);
+        let (shown, wrapped) = (Sample(value), wrapped(value));
         match item {
             Some(item) => write!(
                 f,
-                "element {element}, item {item} is {shown}, and must be {wanted}"
+                "element {element}, item {item} is {shown}, and must be {wanted}{wrapped}"
             ),
-            None => write!(f, "element {element} is {shown}, and must be {wanted}"),
+            None => write!(
+                f,
+                "element {element} is {shown}, and must be {wanted}{wrapped}"
+            ),
         }
     }
 }
 
-fn bad_element<'a>(element: usize, value: &'a [u8], words: &'static str) -> BadElement<'a> {
+/// An element that must be what the words say.
+pub fn bad_element<'a>(element: usize, value: &'a [u8], words: &'static str) -> BadElement<'a> {
     BadElement {
         element,
         item: None,
@@ -140,7 +145,8 @@ fn bad_element<'a>(element: usize, value: &'a [u8], words: &'static str) -> BadE
     }
 }
 
-fn is_number(text: &[u8]) -> bool {
+/// Whether the bytes spell a number.
+pub fn is_number(text: &[u8]) -> bool {
     parse_number(text).is_some()
 }
 
@@ -148,17 +154,28 @@ fn is_number_or_empty(text: &[u8]) -> bool {
     text.is_empty() || is_number(text)
 }
 
+/// An item that must be what the words say.
+pub fn bad_item<'a>(
+    element: usize,
+    item: usize,
+    value: &'a [u8],
+    words: &'static str,
+) -> BadElement<'a> {
+    BadElement {
+        element,
+        item: Some(item),
+        value,
+        wanted: Wanted::Words(words),
+    }
+}
+
 fn bad_protocol<'a>(items: &ElementRef<'a>) -> Option<BadElement<'a>> {
     for i in 0..items.len() {
         let item = i + 1;
         let value = items.value(item);
         if !is_number_or_empty(value) {
-            return Some(BadElement {
-                element: 7,
-                item: Some(item),
-                value,
-                wanted: Wanted::Words("a number of 1 to 9 digits, a protocol version"),
-            });
+            let words = "a number of 1 to 9 digits, a protocol version";
+            return Some(bad_item(7, item, value, words));
         }
     }
     None
@@ -247,12 +264,8 @@ fn bad_feedback(found: &Found) -> Option<BadElement<'_>> {
     for i in 0..segment.elements.len() {
         let value = segment.elements.items(i).value(1);
         if is_no_code(value) {
-            return Some(BadElement {
-                element: i.saturating_add(2),
-                item: Some(1),
-                value,
-                wanted: Wanted::Words("a code of four digits"),
-            });
+            let element = i.saturating_add(2);
+            return Some(bad_item(element, 1, value, "a code of four digits"));
         }
     }
     None

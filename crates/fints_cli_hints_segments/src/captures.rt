@@ -57,9 +57,9 @@ fn syntax_text(alloc: Global, fault: &SyntaxFault, capture: &[u8]) -> Told {
 
 /// A segment of a capture by its number, its identifier and its line.
 #[derive(Clone, Copy)]
-struct InLine {
-    name: Numbered,
-    line: usize,
+pub struct InLine {
+    pub name: Numbered,
+    pub line: usize,
 }
 
 fn in_line(capture: &[u8], found: &Found) -> InLine {

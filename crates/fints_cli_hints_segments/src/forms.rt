@@ -8,7 +8,7 @@ pub fn form_text(bytes: &[u8]) -> Option<&'static str> {
     match bytes {
         [] => Some("the file is empty"),
         [0xef, 0xbb, 0xbf, ..] => Some(
-            "the bytes begin with a byte order mark (ef bb bf), which an editor has put there: take it away, and store the file as ISO 8859-1",
+            "the bytes begin with a byte order mark (ef bb bf), which an editor has put there: remove it, and store the file as ISO 8859-1",
         ),
         [0xff, 0xfe, ..] | [0xfe, 0xff, ..] => {
             Some("the bytes are UTF-16: store the file as ISO 8859-1")

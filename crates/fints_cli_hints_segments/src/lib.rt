@@ -7,7 +7,9 @@ mod forms;
 mod frames;
 mod messages;
 mod scanning;
+mod skipped;
 mod syntax;
 
 pub use captures::params_hint;
 pub use messages::message_hint;
+pub use skipped::{Skipped, skipped_notes, skipped_segments};

@@ -3,7 +3,7 @@ use crate::forms::form_text;
 use crate::frames::{
     Walk, is_named, last_slip, named, order_slip, slip_at, unread_text, walk_from,
 };
-use crate::syntax::{front_of, trouble};
+use crate::syntax::{front_of, is_break, trouble, wrapped};
 use fints_cli_hints_words::places::{Told, told, written};
 use fints_cli_hints_words::quoting::Sample;
 use fints_rules_messages::JudgeFault;
@@ -33,8 +33,14 @@ fn size_of(text: &[u8]) -> Option<u64> {
 
 fn size_text(alloc: Global, size: u64, bytes: &[u8]) -> Result<String, Memory> {
     let len = bytes.len();
-    let last = match bytes.last() {
-        Some(b'\n') => ", of which the last is a line feed",
+    let breaks = bytes.iter().filter(|b| is_break(**b)).count();
+    let ends_line = bytes.last() == Some(&b'\n');
+    let last = match (ends_line, breaks) {
+        (true, 1) => ", of which the last is a line feed",
+        (_, 1..) if size.saturating_add(breaks as u64) == len as u64 => {
+            ", as many more as there are line breaks in them: the log was wrapped; join its lines"
+        }
+        (true, _) => ", of which the last is a line feed",
         _ => "",
     };
     written(
@@ -44,10 +50,10 @@ fn size_text(alloc: Global, size: u64, bytes: &[u8]) -> Result<String, Memory> {
 }
 
 fn value_text(alloc: Global, element: usize, value: &[u8], what: &str) -> Result<String, Memory> {
-    let shown = Sample(value);
+    let (shown, wrapped) = (Sample(value), wrapped(value));
     written(
         alloc,
-        format_args!("element {element} of HNHBK is {shown}, and must be {what}"),
+        format_args!("element {element} of HNHBK is {shown}, and must be {what}{wrapped}"),
     )
 }
 

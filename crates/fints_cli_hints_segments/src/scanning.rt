@@ -21,11 +21,13 @@ pub enum Why {
     Whole,
 }
 
-/// The element and the item, from 1 on, in which bytes cease to be a segment.
+/// The element and the item, from 1 on, in which bytes cease to be a segment, and the offset up to which
+/// they were looked at.
 #[derive(Clone, Copy)]
 pub struct Stop {
     pub element: usize,
     pub item: usize,
+    pub at: usize,
     pub why: Why,
 }
 
@@ -98,6 +100,25 @@ fn scan_item(bytes: &[u8]) -> Scanned {
     }
 }
 
+// How many bytes of an item were looked at: those that a binary item says that it has, and its length, or
+// the first ones behind an @.
+fn seen_of(why: Why) -> usize {
+    match why {
+        Why::NoSeparator { len, .. } => len.saturating_add(12),
+        _ => 12,
+    }
+}
+
+// A stop in an item that begins at an offset.
+fn stop_at(element: usize, item: usize, start: usize, why: Why) -> Stop {
+    Stop {
+        element,
+        item,
+        at: start.saturating_add(seen_of(why)),
+        why,
+    }
+}
+
 /// Where the bytes cease to be a segment.
 pub fn stop_of(bytes: &[u8]) -> Stop {
     let mut at: usize = 0;
@@ -106,7 +127,7 @@ pub fn stop_of(bytes: &[u8]) -> Stop {
     for _ in 0..MOST {
         let (len, after) = match scan_item(bytes.get(at..).unwrap_or(&[])) {
             Scanned::Item { len, after } => (len, after),
-            Scanned::No(why) => return Stop { element, item, why },
+            Scanned::No(why) => return stop_at(element, item, at, why),
         };
         at = at.saturating_add(len).saturating_add(1);
         match after {
@@ -114,6 +135,7 @@ pub fn stop_of(bytes: &[u8]) -> Stop {
                 return Stop {
                     element,
                     item,
+                    at,
                     why: Why::Whole,
                 };
             }
@@ -127,6 +149,7 @@ pub fn stop_of(bytes: &[u8]) -> Stop {
     Stop {
         element,
         item,
+        at,
         why: Why::Many,
     }
 }

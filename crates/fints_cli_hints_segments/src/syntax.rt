@@ -30,12 +30,39 @@ pub fn whole(input: &[u8]) -> Region<'_> {
     }
 }
 
+// What is said of a segment in the midst of which a line ends.
+const WRAPPED: &str =
+    "; a line break stands inside this segment: the log was wrapped; join its lines";
+
+/// Whether a line ends with the byte.
+pub fn is_break(byte: u8) -> bool {
+    byte == b'\r' || byte == b'\n'
+}
+
+/// That a line ends in these bytes of a segment, if one does.
+pub fn wrapped(bytes: &[u8]) -> &'static str {
+    if bytes.iter().any(|b| is_break(*b)) {
+        WRAPPED
+    } else {
+        ""
+    }
+}
+
+// That a line ends in the bytes of a segment with a binary item, if one does: it may belong to the data.
+fn wrapped_data(bytes: &[u8]) -> &'static str {
+    if bytes.iter().any(|b| is_break(*b)) {
+        "; a line break stands inside this segment: where the log was wrapped, join its lines"
+    } else {
+        ""
+    }
+}
+
 /// The remark on segments in the data of an HNVSD.
 pub const IN_DATA: &str = " (in the data of HNVSD)";
 
 // How many line breaks stand at the front.
 fn breaks_len(bytes: &[u8]) -> usize {
-    match bytes.iter().position(|b| *b != b'\r' && *b != b'\n') {
+    match bytes.iter().position(|b| !is_break(*b)) {
         Some(len) => len,
         None => bytes.len(),
     }
@@ -128,7 +155,12 @@ impl Display for Begin<'_> {
 
 // What stands in an item where the bytes end.
 fn cut_text(alloc: Global, stop: &Stop) -> Result<String, Memory> {
-    let Stop { element, item, why } = *stop;
+    let Stop {
+        element,
+        item,
+        why,
+        ..
+    } = *stop;
     match why {
         Why::CutBinary { len, there } => written(
             alloc,
@@ -143,8 +175,14 @@ fn cut_text(alloc: Global, stop: &Stop) -> Result<String, Memory> {
     }
 }
 
-fn binary_text(alloc: Global, stop: &Stop) -> Result<String, Memory> {
-    let Stop { element, item, why } = *stop;
+fn binary_text(alloc: Global, bytes: &[u8], stop: &Stop) -> Result<String, Memory> {
+    let Stop {
+        element,
+        item,
+        at,
+        why,
+    } = *stop;
+    let wrapped = wrapped_data(bytes.get(..at).unwrap_or(bytes));
     match why {
         Why::NoSeparator { len, after } => {
             let after = [after];
@@ -152,14 +190,14 @@ fn binary_text(alloc: Global, stop: &Stop) -> Result<String, Memory> {
             written(
                 alloc,
                 format_args!(
-                    ", element {element}, item {item}: behind the {len} bytes of a binary item stands {after}, and none of + : '; the length is wrong, or the bytes were changed"
+                    ", element {element}, item {item}: behind the {len} bytes of a binary item stands {after}, and none of + : '; the length is wrong, or the bytes were changed{wrapped}"
                 ),
             )
         }
         _ => written(
             alloc,
             format_args!(
-                ", element {element}, item {item}: an @ begins a binary item, written @length@ and so many bytes; a text that begins with @ is written ?@"
+                ", element {element}, item {item}: an @ begins a binary item, written @length@ and so many bytes; a text that begins with @ is written ?@{wrapped}"
             ),
         ),
     }
@@ -217,11 +255,33 @@ fn head_cause(head: &[u8]) -> &'static str {
     parts_cause(id, number, version)
 }
 
+// The bytes of the longest head, and of an apostrophe behind it.
+const LONGEST_HEAD: usize = 18;
+
+// Whether the bytes are a head as soon as the lines that end in them are joined.
+fn is_head_joined(head: &[u8]) -> bool {
+    let mut joined = [b'\''; LONGEST_HEAD];
+    let mut len: usize = 0;
+    for byte in head.iter().filter(|b| !is_break(**b)) {
+        match joined.get_mut(len) {
+            Some(place) => *place = *byte,
+            None => return false,
+        }
+        len = len.saturating_add(1);
+    }
+    let end = len.saturating_add(1);
+    len < head.len() && parse_segment(joined.get(..end).unwrap_or(&[])).is_ok()
+}
+
 fn head_text(alloc: Global, bytes: &[u8]) -> Result<String, Memory> {
     let head = head_bytes(bytes);
     let cause = head_cause(head);
+    let wrapped = if is_head_joined(head) { WRAPPED } else { "" };
     let head = Sample(front_of(head));
-    written(alloc, format_args!(" has the head {head}: {cause}"))
+    written(
+        alloc,
+        format_args!(" has the head {head}: {cause}{wrapped}"),
+    )
 }
 
 /// Why no segment can be read at the front of the bytes, behind what names it.
@@ -231,11 +291,45 @@ pub fn trouble(alloc: Global, bytes: &[u8]) -> Result<String, Memory> {
     match parse_segment(bytes) {
         Ok(_) => Ok(String::new(alloc)),
         Err(fault) => match fault.kind {
-            SyntaxKind::BadBinary => binary_text(alloc, &stop),
+            SyntaxKind::BadBinary => binary_text(alloc, window, &stop),
             SyntaxKind::TooLong => long_text(alloc, &stop),
             SyntaxKind::BadHead => head_text(alloc, window),
             _ => cut_text(alloc, &stop),
         },
+    }
+}
+
+// Whether a line ends inside a segment before a place, up to which all can be read.
+fn is_wrapped_before(bytes: &[u8], place: usize) -> bool {
+    let mut start = skip_breaks(bytes, 0);
+    for _ in 0..bytes.len() {
+        match parse_segment(bytes.get(start..place).unwrap_or(&[])) {
+            Ok((_, len)) => {
+                let end = start.saturating_add(len);
+                if bytes
+                    .get(start..end)
+                    .unwrap_or(&[])
+                    .iter()
+                    .any(|b| is_break(*b))
+                {
+                    return true;
+                }
+                start = skip_breaks(bytes, end);
+            }
+            Err(_) => return false,
+        }
+    }
+    false
+}
+
+// What is said of bytes that begin with no head, where lines that were broken in the data of a segment
+// before have moved its end.
+fn wrapped_before(region: &Region<'_>, start: usize) -> &'static str {
+    match region.bytes.get(start) {
+        Some(first) if is_mark(*first) && is_wrapped_before(region.bytes, start) => {
+            "; a line break stands inside a segment before: where the log was wrapped, join its lines"
+        }
+        _ => "",
     }
 }
 
@@ -246,5 +340,9 @@ pub fn trouble_at(alloc: Global, region: &Region<'_>, start: usize) -> Told {
     let begin = begin_of(rest);
     let within = region.within;
     let text = trouble(alloc, rest)?;
-    told(alloc, format_args!("{begin} in line {line}{within}{text}"))
+    let wrapped = wrapped_before(region, start);
+    told(
+        alloc,
+        format_args!("{begin} in line {line}{within}{text}{wrapped}"),
+    )
 }

@@ -4,6 +4,7 @@
 
 pub mod elements;
 pub mod guessing;
+pub mod inputs;
 pub mod keys;
 pub mod listed;
 pub mod places;

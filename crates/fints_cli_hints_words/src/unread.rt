@@ -72,16 +72,24 @@ impl Display for There<'_> {
     }
 }
 
-// What to write where the line of an offset is the head of a table in one pair of brackets: rows of
-// scripts and order tables have two.
+// What to write where the line of an offset is the head of a row in one pair of brackets: rows of scripts
+// and order tables have two.
 fn advice(text: &str, offset: usize) -> &'static str {
     let start = offset.saturating_sub(before(text, offset).len());
     let line = text.get(start..).unwrap_or("");
-    if line.starts_with('[') && !line.starts_with("[[") {
-        "; the head of a row has two pairs of brackets, as [[step]]"
-    } else {
-        ""
+    if line.starts_with("[step]") {
+        return "; a row has two pairs of brackets: write [[step]]";
     }
+    if line.starts_with("[field]") {
+        return "; a row has two pairs of brackets: write [[field]]";
+    }
+    if line.starts_with("[signer]") {
+        return "; a row has two pairs of brackets: write [[signer]]";
+    }
+    if line.starts_with("[order]") {
+        return "; a row has two pairs of brackets: write [[order]]";
+    }
+    ""
 }
 
 fn refusal(alloc: Global, text: &str, error: &Error) -> Told {

@@ -277,7 +277,7 @@ fn told<'a>(alloc: Global, error: &Error) -> Asked<'a> {
     }
 }
 
-// A usage fault of this text. The command line requires what is missed here, so that clap tells it.
+// A usage fault of this text.
 fn usage<'a>(alloc: Global, text: &str) -> Asked<'a> {
     match String::from_str(alloc, text) {
         Ok(text) => Asked::Usage(text),
@@ -285,9 +285,36 @@ fn usage<'a>(alloc: Global, text: &str) -> Asked<'a> {
     }
 }
 
-// Whether a word names standard input as the file of an option.
-fn is_standard_input(word: &str) -> bool {
-    word == "-" || (word.starts_with("--") && word.ends_with("=-"))
+// How many of the paths name standard input.
+fn count_inputs(paths: &[&str]) -> usize {
+    paths.iter().filter(|path| **path == "-").count()
+}
+
+fn script_inputs(files: &ScriptFiles<'_>) -> usize {
+    count_inputs(&[files.params, files.orders, files.script])
+}
+
+fn judge_inputs(files: &JudgeFiles<'_>) -> usize {
+    count_inputs(&[files.params, files.orders, files.message])
+}
+
+// How many files of a request are standard input.
+fn standard_inputs(request: &Request<'_>) -> usize {
+    match request {
+        Request::BuiltIn => 0,
+        Request::Show { params } => count_inputs(&[*params]),
+        Request::Judge(files) => judge_inputs(files),
+        Request::JudgeAfter { files, earlier } => {
+            judge_inputs(files).saturating_add(count_inputs(&[earlier.before, earlier.answer]))
+        }
+        Request::Check(files) | Request::Explain(files) | Request::Certify(files) => {
+            script_inputs(files)
+        }
+        Request::Verify { files, certificate } => {
+            script_inputs(files).saturating_add(count_inputs(&[*certificate]))
+        }
+        Request::Run { files, .. } => count_inputs(&[files.orders, files.script, files.case]),
+    }
 }
 
 /// What the words after the program's name ask for: with no words, the report of the built-in
@@ -308,24 +335,22 @@ pub fn read_words<'a>(alloc: Global, words: &'a [&'a str]) -> Asked<'a>
         Ok(matches) => matches,
         Err(error) => return told(alloc, &error),
     };
+    // (clap tells both faults itself, since the command line requires a command and its options)
     let Some((name, options)) = matches.subcommand() else {
         return usage(alloc, "error: a command is missing\n");
     };
-    if words.iter().filter(|word| is_standard_input(word)).count() > 1 {
+    let Some(request) = named_request(name, options) else {
+        return usage(alloc, "error: a command lacks an option that it needs\n");
+    };
+    if standard_inputs(&request) > 1 {
         return usage(
             alloc,
             "error: standard input (-) can be the file of one option alone\n",
         );
     }
-    match named_request(name, options) {
-        Some(request) => Asked::Run {
-            request,
-            hints: options.get_flag("hints"),
-        },
-        None => usage(
-            alloc,
-            "error: a command has not the options that it needs\n",
-        ),
+    Asked::Run {
+        request,
+        hints: options.get_flag("hints"),
     }
 }
 

@@ -1,0 +1,30 @@
+//! The inputs of a command, which hints and reasons look at again.
+
+/// The bytes of the files that a command has read; empty where it has no such file.
+#[derive(Clone, Copy)]
+pub struct Inputs<'a> {
+    pub params: &'a [u8],
+    pub orders: &'a [u8],
+    pub script: &'a [u8],
+    pub case: &'a [u8],
+    pub certificate: &'a [u8],
+    pub before: &'a [u8],
+    pub answer: &'a [u8],
+    pub message: &'a [u8],
+}
+
+impl Inputs<'_> {
+    /// No files.
+    pub fn none<'a>() -> Inputs<'a> {
+        Inputs {
+            params: b"",
+            orders: b"",
+            script: b"",
+            case: b"",
+            certificate: b"",
+            before: b"",
+            answer: b"",
+            message: b"",
+        }
+    }
+}
