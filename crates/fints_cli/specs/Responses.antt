@@ -106,15 +106,15 @@ TellsUsage NoMemory old new lost lost_after = Unit {0}
 TellsUsage (Run request hints) old new lost lost_after = Unit {0}
 
 -- a line: its front, a text, and a line feed
-abbrev pub line_of : List ℕ → List ℕ → List ℕ
-line_of front text = front ++ (text ++ 10 ∷ [])
+abbrev pub told_line : List ℕ → List ℕ → List ℕ
+told_line front text = front ++ (text ++ 10 ∷ [])
 
 -- The line of a fault, or a prefix of it and of what more is said, after which a write failed. Nothing more is said under this premise.
 pub record TellsFault (alone : Type 0) (old new : Option (List ℕ)) (lost lost_after : ℕ) : Type 0 where
   pub why : List ℕ
   pub more : List ℕ
   pub nothing_more : alone → more ≡ []
-  pub told : Tells old new lost lost_after (line_of (codes "error: ") why ++ more)
+  pub told : Tells old new lost lost_after (told_line (codes "error: ") why ++ more)
 
 -- What the errors got. Where no hint is asked for that is nothing up to status 1. From 2 on it is the usage of a bad command
 -- line; else the line of a fault, alone where no hint is asked for. Want of memory has a line of its own, and so has an output that failed.

@@ -6,7 +6,7 @@ ghost use Rattle.fints_cli_words.specs.declared.words.Request.TheVariants as req
 ghost use Rattle.fints_cli_words.specs.declared.words.Asked.{Asked};
 ghost use Rattle.fints_cli_words.specs.declared.words.Asked.TheVariants as asked;
 ghost use Rattle.fints_cli_commands.specs.Commands.{failure_status};
-ghost use Rattle.fints_cli.specs.Responses.{IsAnswered, IsCutOff, IsResponse, RanOut, IsUntold, IsUsage, FailsToRead, FailsWith, FilesAreWithin, SaysWhy, Tells, TellsFault, line_of, memory_line, write_line};
+ghost use Rattle.fints_cli.specs.Responses.{IsAnswered, IsCutOff, IsResponse, RanOut, IsUntold, IsUsage, FailsToRead, FailsWith, FilesAreWithin, SaysWhy, Tells, TellsFault, told_line, memory_line, write_line};
 
 use crate::emitting::emit;
 use arrayvec::ArrayString;
@@ -36,9 +36,9 @@ fn tell_memory<E: Out>(err: &mut E) -> u8
 
 // Writes a line: its front, a text, and a line feed.
 fn emit_line<E: Out>(front: &[u8], text: &[u8], err: &mut E) -> Result<(), WriteFault>
-    ensures written { OnOk result (Gets (E.told err.old) (E.told err.new) (line_of front.now text.now)) }
+    ensures written { OnOk result (Gets (E.told err.old) (E.told err.new) (told_line front.now text.now)) }
     ensures fine { OnOk result (E.failed_calls err.new ≡ E.failed_calls err.old) }
-    ensures cut { OnErr result (GetsPrefix (E.told err.old) (E.told err.new) (line_of front.now text.now)) }
+    ensures cut { OnErr result (GetsPrefix (E.told err.old) (E.told err.new) (told_line front.now text.now)) }
     ensures failed { OnErr result (E.failed_calls err.new ≡ one_more (E.failed_calls err.old)) }
 {
     emit(front, err)?;
