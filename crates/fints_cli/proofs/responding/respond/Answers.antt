@@ -1,7 +1,9 @@
-use Rattle.std.proofs.Common.{subst, refl, inr}
+use Rattle.std.proofs.Common.{◌≡◌, ◌≤◌, ℕ, subst, sym, refl, arith, inl, inr, ◌∙◌}
 use Rattle.std.specs.Prelude.{string_bytes}
 use Rattle.fints_cli_files.specs.Streams.{GetsPrefix}
 use Rattle.fints_cli.proofs.CutAnswers.{cut_answer}
+use Rattle.fints_cli.proofs.Faults.{failure_above, fault_under, memory_fault, write_fault}
+use Rattle.fints_cli.specs.Responses.{Tells}
 use Rattle.fints_cli.proofs.responding.respond.Goals as goal
 
 pub returns-in-Help-clause-failed : goal.returns-in-Help-clause-failed
@@ -24,3 +26,62 @@ returns-in-Ok-clause-failed g c five =
           c.in-Ok.ensures.within (c.respond_with.ensures.cut five),
       c.respond_with.ensures.failed five,
     )
+
+pub returns-in-Help-clause-says : goal.returns-in-Help-clause-says
+returns-in-Help-clause-says g c =
+    rw c.in-Help.is
+    (record {
+      quiet = λ few none. elim c.deliver.ensures.statuses [ inl zero ↦ c.deliver.ensures.quiet zero | inr five ↦ absurd (omega (arith, few, five)) ];
+      usage = tt;
+      line = λ two. elim c.deliver.ensures.statuses [
+        | inl zero ↦ absurd (omega (arith, two, zero))
+        | inr five ↦ inr (write_fault _ _ _ _ _ (c.deliver.ensures.line five))
+      ];
+      memory = λ four. elim c.deliver.ensures.statuses [ inl zero ↦ absurd (omega (arith, four, zero)) | inr five ↦ absurd (omega (arith, four, five)) ];
+    })
+
+pub returns-in-Usage-clause-says : goal.returns-in-Usage-clause-says
+returns-in-Usage-clause-says g c =
+    rw c.in-Usage.is
+    (record {
+      quiet = λ few none. absurd (omega (arith, few));
+      usage = subst (Tells _ _ _ _) c.as_bytes-in-Usage.ensures.value c.tell.ensures;
+      line = λ two. inl tt;
+      memory = λ four. absurd (omega (arith, four));
+    })
+
+pub returns-in-NoMemory-clause-says : goal.returns-in-NoMemory-clause-says
+returns-in-NoMemory-clause-says g c =
+    rw c.in-NoMemory.is
+    (record {
+      quiet = λ few none. absurd (omega (arith, few, c.tell_memory.ensures.status));
+      usage = tt;
+      line = λ two. inr (memory_fault _ _ _ _ _ c.tell_memory.ensures.line);
+      memory = λ four. c.tell_memory.ensures.line;
+    })
+
+pub returns-in-Ok-clause-says : goal.returns-in-Ok-clause-says
+returns-in-Ok-clause-says g c =
+    rw c.in-Run.is
+    (record {
+      quiet = λ few none. elim c.respond_with.ensures.statuses [ inl same ↦ c.respond_with.ensures.quiet same (c.in-Ok.ensures.no_reasons none) | inr five ↦ absurd (omega (arith, few, five)) ];
+      usage = tt;
+      line = λ two. elim c.respond_with.ensures.statuses [
+        | inl same ↦ absurd (omega (arith, two, same, c.in-Ok.ensures.status))
+        | inr five ↦ inr (write_fault _ _ _ _ _ (c.respond_with.ensures.line five))
+      ];
+      memory = λ four. elim c.respond_with.ensures.statuses [
+        | inl same ↦ absurd (omega (arith, four, same, c.in-Ok.ensures.status))
+        | inr five ↦ absurd (omega (arith, four, five))
+      ];
+    })
+
+pub returns-in-Err-clause-says : goal.returns-in-Err-clause-says
+returns-in-Err-clause-says g c =
+    rw c.in-Run.is
+    (record {
+      quiet = λ few none. absurd (omega (arith, few, c.tell_refusal.ensures.status, failure_above c.in-Err.refusal.failure));
+      usage = tt;
+      line = λ two. inr (fault_under _ _ _ _ _ _ c.in-Err.ensures.unasked c.tell_refusal.ensures.line);
+      memory = c.tell_refusal.ensures.memory;
+    })
