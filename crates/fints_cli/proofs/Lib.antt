@@ -1,3 +1,2 @@
 pub mod CutAnswers
-pub mod Faults
 pub mod Writes

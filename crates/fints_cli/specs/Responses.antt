@@ -105,21 +105,10 @@ TellsUsage (Usage fault) old new lost lost_after = Tells old new lost lost_after
 TellsUsage NoMemory old new lost lost_after = Unit {0}
 TellsUsage (Run request hints) old new lost lost_after = Unit {0}
 
--- a line: its front, a text, and a line feed
-abbrev pub told_line : List ℕ → List ℕ → List ℕ
-told_line front text = front ++ (text ++ 10 ∷ [])
-
--- The line of a fault, or a prefix of it and of what more is said, after which a write failed. Nothing more is said under this premise.
-pub record TellsFault (alone : Type 0) (old new : Option (List ℕ)) (lost lost_after : ℕ) : Type 0 where
-  pub why : List ℕ
-  pub more : List ℕ
-  pub nothing_more : alone → more ≡ []
-  pub told : Tells old new lost lost_after (told_line (codes "error: ") why ++ more)
-
--- What the errors got. Where no hint is asked for that is nothing up to status 1. From 2 on it is the usage of a bad command
--- line; else the line of a fault, alone where no hint is asked for. Want of memory has a line of its own, and so has an output that failed.
+-- What the errors got. Where no hint is asked for that is nothing up to status 1, and from 2 on a text, which a bad
+-- command line has from the usage, and want of memory as its own line.
 pub record SaysWhy (asked : Asked) (status : ℕ) (old new : Option (List ℕ)) (lost lost_after : ℕ) : Type 0 where
   pub quiet : status ≤ 1 → AsksNoHint asked → IsUntold old new lost lost_after
   pub usage : TellsUsage asked old new lost lost_after
-  pub line : 2 ≤ status → IsUsage asked ⊎ TellsFault (AsksNoHint asked) old new lost lost_after
+  pub line : 2 ≤ status → AsksNoHint asked → (line : List ℕ) × Tells old new lost lost_after line
   pub memory : status ≡ 4 → Tells old new lost lost_after memory_line

@@ -1,23 +1,23 @@
 //! From words to a status: the answer of a command on the output, and what it says on the errors.
-ghost use Rattle.std.specs.Prelude.{◌≡◌, ◌≤◌, ◌+◌, ◌*◌, ◌⊎◌, ℕ, List, [], false, None, OnOk, OnErr};
+ghost use Rattle.std.specs.Prelude.{◌≡◌, ◌≤◌, ◌+◌, ◌*◌, ◌⊎◌, ℕ, List, [], false, None};
 ghost use Rattle.fints_cli_files.specs.Streams.{Gets, GetsNothing, GetsPrefix, one_more};
 ghost use Rattle.fints_cli_files.specs.Loading.{MAX_READS, NoneFailed};
 ghost use Rattle.fints_cli_words.specs.declared.words.Request.TheVariants as request;
 ghost use Rattle.fints_cli_words.specs.declared.words.Asked.{Asked};
 ghost use Rattle.fints_cli_words.specs.declared.words.Asked.TheVariants as asked;
 ghost use Rattle.fints_cli_commands.specs.Commands.{failure_status};
-ghost use Rattle.fints_cli.specs.Responses.{IsAnswered, IsCutOff, IsResponse, RanOut, IsUntold, IsUsage, FailsToRead, FailsWith, FilesAreWithin, SaysWhy, Tells, TellsFault, told_line, memory_line, write_line};
+ghost use Rattle.fints_cli.specs.Responses.{IsAnswered, IsCutOff, IsResponse, RanOut, IsUntold, IsUsage, FailsToRead, FailsWith, FilesAreWithin, SaysWhy, Tells, memory_line, write_line};
 
 use crate::emitting::emit;
 use arrayvec::ArrayString;
-use fints_cli_commands::{Answered, Refusal, perform};
+use fints_cli_commands::{Answered, Failure, Refusal, perform};
 use fints_cli_files::{Files, Out, WriteFault};
 use fints_cli_words::{Asked, read_words};
 use std::alloc::Global;
 use std::fmt::Write;
 
-// The words of each fault have fewer bytes.
-const LONGEST_FAULT: usize = 256;
+// The longest line of a fault has fewer bytes.
+const LONGEST_LINE: usize = 256;
 
 // Writes a text to the errors; a fault there changes nothing.
 fn tell<E: Out>(text: &[u8], err: &mut E)
@@ -34,46 +34,38 @@ fn tell_memory<E: Out>(err: &mut E) -> u8
     4
 }
 
-// Writes a line: its front, a text, and a line feed.
-fn emit_line<E: Out>(front: &[u8], text: &[u8], err: &mut E) -> Result<(), WriteFault>
-    ensures written { OnOk result (Gets (E.told err.old) (E.told err.new) (told_line front.now text.now)) }
-    ensures fine { OnOk result (E.failed_calls err.new ≡ E.failed_calls err.old) }
-    ensures cut { OnErr result (GetsPrefix (E.told err.old) (E.told err.new) (told_line front.now text.now)) }
-    ensures failed { OnErr result (E.failed_calls err.new ≡ one_more (E.failed_calls err.old)) }
+// Says on the errors why there is no answer. The line takes no memory.
+fn tell_failure<E: Out>(failure: &Failure, err: &mut E)
+    ensures { (line : List ℕ) × Tells (E.told err.old) (E.told err.new) (E.failed_calls err.old) (E.failed_calls err.new) line }
 {
-    emit(front, err)?;
-    emit(text, err)?;
+    let mut line = ArrayString::<LONGEST_LINE>::new();
+    let _ = write!(line, "error: {failure}\n");
+    tell(line.as_bytes(), err);
+}
+
+// Writes the line of a hint.
+fn emit_hint<E: Out>(hint: &str, err: &mut E) -> Result<(), WriteFault> {
+    emit(b"hint: ", err)?;
+    emit(hint.as_bytes(), err)?;
     emit(b"\n", err)
 }
 
-// Writes the line of a fault, which takes no memory, and what to look at where there is a hint.
-fn emit_refusal<E: Out>(refusal: &Refusal, err: &mut E) -> Result<(), WriteFault>
-    ensures told { OnOk result (TellsFault (refusal.now.hint ≡ None)
-        (E.told err.old) (E.told err.new) (E.failed_calls err.old) (E.failed_calls err.new)) }
-    ensures cut { OnErr result (TellsFault (refusal.now.hint ≡ None)
-        (E.told err.old) (E.told err.new) (E.failed_calls err.old) (E.failed_calls err.new)) }
-{
-    let mut why = ArrayString::<LONGEST_FAULT>::new();
-    let _ = write!(why, "{}", refusal.failure);
-    emit_line(b"error: ", why.as_bytes(), err)?;
-    match &refusal.hint {
-        Some(hint) => emit_line(b"hint: ", hint.as_bytes(), err),
-        None => Ok(()),
-    }
-}
-
-// Says on the errors why there is no answer; no hint stands behind want of memory.
+// Says on the errors why there is no answer, and what to look at where there is a hint; none stands
+// behind want of memory.
 fn tell_refusal<E: Out>(refusal: &Refusal, err: &mut E) -> u8
     ensures status { result ≡ failure_status refusal.now.failure }
     ensures memory { result ≡ 4 → Tells (E.told err.old) (E.told err.new) (E.failed_calls err.old) (E.failed_calls err.new) memory_line }
-    ensures line { TellsFault (refusal.now.hint ≡ None)
-        (E.told err.old) (E.told err.new) (E.failed_calls err.old) (E.failed_calls err.new) }
+    ensures line { refusal.now.hint ≡ None
+        → (line : List ℕ) × Tells (E.told err.old) (E.told err.new) (E.failed_calls err.old) (E.failed_calls err.new) line }
 {
     let status = refusal.failure.status();
     if status == 4 {
         return tell_memory(err);
     }
-    let _ = emit_refusal(refusal, err);
+    tell_failure(&refusal.failure, err);
+    if let Some(hint) = &refusal.hint {
+        let _ = emit_hint(hint.as_str(), err);
+    }
     status
 }
 
