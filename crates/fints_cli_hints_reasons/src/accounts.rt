@@ -1,13 +1,12 @@
 //! The account that an order names, among those of a capture.
 ghost use Rattle.std.specs.Prelude.{◌≤◌};
 
-use crate::elements::{Elements, Items};
-use crate::lines::name_of;
-use crate::segment::{Bank, KindName, Seen};
-use crate::step::Called;
+use crate::bank::{Accounts, Bank};
+use crate::elements::Items;
+use crate::lines::{Called, name_of};
+use crate::segment::{KindName, Seen};
 use fints_cli_hints_words::quoting::Sample;
-use fints_params::AccountRow;
-use fints_rules::AccountForm;
+use fints_rules::{AccountForm, AccountKey};
 use fints_script::Name;
 use fints_syntax::Kind;
 use std::fmt;
@@ -77,71 +76,65 @@ pub fn account_named<'a>(bank: &Bank<'_>, seen: &Seen<'a>) -> Account<'a> {
     account_of(form_of(bank, seen), &seen.elements.items(2))
 }
 
-fn is_of(row: &AccountRow, account: &Account<'_>) -> bool {
+fn has_account(accounts: &Accounts<'_>, account: &Account<'_>) -> bool {
     if !account.iban.is_empty() {
-        return row.iban.as_slice() == account.iban;
+        return accounts.has_iban(account.iban);
     }
-    row.national.number.as_slice() == account.number
-        && row.national.subaccount.as_slice() == account.subaccount
-        && row.national.country.as_slice() == account.country
-        && row.national.bank.as_slice() == account.bank
+    accounts.has_national((
+        account.number,
+        account.subaccount,
+        account.country,
+        account.bank,
+    ))
 }
 
 /// The least number of signatures that an entry of the order's kind wants, in the rows of its account.
 pub fn least_need(bank: &Bank<'_>, seen: &Seen<'_>) -> u32 {
-    let account = account_named(bank, seen);
-    let mut least = None;
-    for row in bank.params.accounts() {
-        if !is_of(row, &account) {
-            continue;
-        }
-        for entry in row.entries.as_slice() {
-            if entry.kind == seen.kind {
-                least = Some(least.unwrap_or(entry.signatures).min(entry.signatures));
-            }
-        }
-    }
-    least.unwrap_or(0)
+    let Some(form) = form_of(bank, seen) else {
+        return 0;
+    };
+    let account = AccountKey::of(form, &seen.elements.items(2));
+    bank.permissions
+        .least_need(seen.kind, &account)
+        .unwrap_or(0)
 }
 
 // ---- what was meant
 
-fn is_without_blanks(written: &[u8], iban: &[u8]) -> bool {
-    let mut rest = iban;
-    for byte in written {
-        if *byte == b' ' {
-            continue;
+// The most characters of an IBAN.
+const LONGEST_IBAN: usize = 34;
+
+// Whether it is an account's IBAN as soon as the blanks in it are taken away.
+fn is_iban_with_blanks(accounts: &Accounts<'_>, written: &[u8]) -> bool {
+    let mut joined = [0; LONGEST_IBAN];
+    let mut len: usize = 0;
+    for byte in written.iter().filter(|b| **b != b' ') {
+        match joined.get_mut(len) {
+            Some(place) => *place = *byte,
+            None => return false,
         }
-        match rest {
-            [first, more @ ..] if first == byte => rest = more,
-            _ => return false,
-        }
+        len = len.saturating_add(1);
     }
-    rest.is_empty() && !iban.is_empty()
+    len > 0 && len < written.len() && accounts.has_iban(joined.get(..len).unwrap_or(&[]))
 }
 
 // What to write in place of the first item of element 2, by what can be told of it.
-fn advice(rows: &[AccountRow], form: Option<AccountForm>, first: &[u8]) -> Option<&'static str> {
-    let international = is_international(form);
-    for row in rows {
-        if international
-            && row.iban.as_slice() != first
-            && is_without_blanks(first, row.iban.as_slice())
-        {
-            return Some("write the IBAN without blanks");
-        }
-        if international && row.national.number.as_slice() == first && !first.is_empty() {
-            return Some(
-                "it is an account's number, and the order table says that an IBAN stands there (international): write the IBAN, or mend the row of the order table",
-            );
-        }
-        if !international && row.iban.as_slice() == first && !first.is_empty() {
-            return Some(
-                "it is an account's IBAN, and the order table says that a number stands there (national): write number, subaccount, country and bank code, or mend the row of the order table",
-            );
-        }
+fn advice(
+    accounts: &Accounts<'_>,
+    form: Option<AccountForm>,
+    first: &[u8],
+) -> Option<&'static str> {
+    match is_international(form) {
+        _ if first.is_empty() => None,
+        true if is_iban_with_blanks(accounts, first) => Some("write the IBAN without blanks"),
+        true if accounts.has_number(first) => Some(
+            "it is an account's number, and the order table says that an IBAN stands there (international): write the IBAN, or mend the row of the order table",
+        ),
+        false if accounts.has_iban(first) => Some(
+            "it is an account's IBAN, and the order table says that a number stands there (national): write number, subaccount, country and bank code, or mend the row of the order table",
+        ),
+        _ => None,
     }
-    None
 }
 
 /// Why no row of an order's account lists it.
@@ -180,15 +173,11 @@ pub enum Locked<'a> {
 }
 
 // The first element behind element 2 in which an account of the capture stands.
-fn other_place(
-    rows: &[AccountRow],
-    form: Option<AccountForm>,
-    elements: &Elements<'_>,
-) -> Option<usize> {
-    for element in 3..elements.last().saturating_add(1) {
-        let items = elements.items(element);
-        let account = account_of(form, &items);
-        if !are_empty(&items) && rows.iter().any(|row| is_of(row, &account)) {
+fn other_place(bank: &Bank<'_>, seen: &Seen<'_>) -> Option<usize> {
+    let form = form_of(bank, seen);
+    for element in 3..seen.elements.last().saturating_add(1) {
+        let items = seen.elements.items(element);
+        if !are_empty(&items) && has_account(&bank.accounts, &account_of(form, &items)) {
             return Some(element);
         }
     }
@@ -196,20 +185,14 @@ fn other_place(
 }
 
 // An account that stands in this element.
-fn elsewhere_in<'a>(
-    rows: &[AccountRow],
-    form: Option<AccountForm>,
-    seen: &Seen<'a>,
-    element: usize,
-) -> Locked<'a>
+fn elsewhere_in<'a>(bank: &Bank<'_>, seen: &Seen<'a>, element: usize) -> Locked<'a>
     requires { 2 ≤ element }
 {
     let elements = seen.elements;
-    let items = elements.items(2);
-    let named = if are_empty(&items) {
+    let named = if are_empty(&elements.items(2)) {
         None
     } else {
-        Some(account_of(form, &items))
+        Some(account_named(bank, seen))
     };
     let second = if elements.are_filled() {
         ", the first entry of elements"
@@ -218,51 +201,50 @@ fn elsewhere_in<'a>(
     };
     Locked::Elsewhere {
         named,
-        count: rows.len(),
-        account: account_of(form, &elements.items(element)),
+        count: bank.accounts.count(),
+        account: account_of(form_of(bank, seen), &elements.items(element)),
         element,
         kind: seen.kind,
         second,
     }
 }
 
-fn unknown<'a>(rows: &[AccountRow], form: Option<AccountForm>, seen: &Seen<'a>) -> Locked<'a> {
-    let (kind, elements) = (seen.kind, seen.elements);
-    let items = elements.items(2);
-    let [first, ..] = items;
-    if let Some(name) = elements.field_meant() {
+fn unknown<'a>(bank: &Bank<'_>, seen: &Seen<'a>) -> Locked<'a> {
+    let kind = seen.kind;
+    if let Some(name) = seen.elements.field_meant() {
         return Locked::Field { name, kind };
     }
+    let items = seen.elements.items(2);
+    let [first, ..] = items;
     let advice = match (
-        advice(rows, form, first),
-        other_place(rows, form, &elements),
+        advice(&bank.accounts, form_of(bank, seen), first),
+        other_place(bank, seen),
     ) {
         (Some(advice), _) => advice,
-        (None, Some(element)) => return elsewhere_in(rows, form, seen, element.max(3)),
+        (None, Some(element)) => return elsewhere_in(bank, seen, element.max(3)),
         (None, None) => "name one that show lists",
     };
     if are_empty(&items) {
         return Locked::Empty { kind };
     }
     Locked::Unknown {
-        account: account_of(form, &items),
-        count: rows.len(),
+        account: account_named(bank, seen),
+        count: bank.accounts.count(),
         advice,
     }
 }
 
 /// Why no row of the order's account lists it.
 pub fn locked_by<'a>(bank: &Bank<'_>, seen: &Seen<'a>) -> Locked<'a> {
-    let rows = bank.params.accounts();
     let account = account_named(bank, seen);
     let kind = seen.kind;
-    if rows.is_empty() {
+    if bank.accounts.count() == 0 {
         return Locked::NoAccounts;
     }
-    if !are_empty(&seen.elements.items(2)) && rows.iter().any(|row| is_of(row, &account)) {
+    if !are_empty(&seen.elements.items(2)) && has_account(&bank.accounts, &account) {
         return Locked::Unlisted { account, kind };
     }
-    unknown(rows, form_of(bank, seen), seen)
+    unknown(bank, seen)
 }
 
 // That an account is none of so many.

@@ -1,11 +1,11 @@
 //! Why a message breaks the rules that `judge` names.
+use crate::bank::Bank;
 use crate::elements::Elements;
-use crate::kinds::{count_of, demanding, plain_kinds};
+use crate::kinds::Kinds;
 use crate::lines::{Where, add_why};
-use crate::segment::{Bank, Seen, SegmentWhy};
-use crate::step::NoTan;
+use crate::segment::{Seen, SegmentWhy};
+use crate::tans::NoTan;
 use crate::whole::{Before, Whole, WholeWhy, is_of_whole};
-use fints_cli_hints_segments::skipped_segments;
 use fints_cli_hints_words::inputs::Inputs;
 use fints_params::{Params, feedback_codes};
 use fints_rules::{
@@ -36,12 +36,16 @@ fn broken_by(
     }
 }
 
-fn kinds_in(alloc: Global, body: &[OwnedSegment]) -> Result<Vec<Kind>, Memory> {
+fn kinds_in(
+    alloc: Global,
+    permissions: &Permissions<'_>,
+    body: &[OwnedSegment],
+) -> Result<Kinds, Memory> {
     let mut kinds: Vec<Kind> = Vec::new(alloc);
     for segment in body {
         kinds.push(segment.head.id)?;
     }
-    Ok(kinds)
+    Ok(Kinds::of(kinds, permissions))
 }
 
 // A message that is judged, and the kinds of its segments.
@@ -49,7 +53,7 @@ fn kinds_in(alloc: Global, body: &[OwnedSegment]) -> Result<Vec<Kind>, Memory> {
 struct Judged<'a> {
     bank: &'a Bank<'a>,
     message: &'a Message,
-    kinds: &'a [Kind],
+    kinds: &'a Kinds,
 }
 
 fn place_of(broken: &Broken) -> Where<'static> {
@@ -77,9 +81,9 @@ fn add_segment(
         kind,
         version,
         elements: Elements::Sent(segment),
-        count: count_of(kinds, kind),
+        count: kinds.count(kind),
         signatures,
-        demanding: demanding(bank.permissions, kinds),
+        demanding: kinds.demanding(),
         no_tan: NoTan::NoneThere,
     };
     match segment_cause(bank.permissions, broken.rule, kind, version, signatures) {
@@ -110,7 +114,7 @@ fn add_whole(
         protocol: message.protocol(),
         number: message.number(),
         size: message.size() as u64,
-        kinds: plain_kinds(judged.kinds),
+        kinds: judged.kinds.plain(),
         before: Before::Message,
     };
     let why = WholeWhy {
@@ -173,15 +177,14 @@ fn judged_lines(
     let Ok(broken) = broken_by(alloc, bank.permissions, inputs) else {
         return Ok(None);
     };
-    let kinds = kinds_in(alloc, message.body())?;
-    let kinds = kinds.as_slice();
-    if !broken.is_empty() && !kinds.is_empty() && kinds.iter().all(is_of_bank) {
+    let kinds = kinds_in(alloc, bank.permissions, message.body())?;
+    if !broken.is_empty() && kinds.are_all(is_of_bank) {
         return Ok(Some(answer_line(alloc)?));
     }
     let judged = Judged {
         bank,
         message: &message,
-        kinds,
+        kinds: &kinds,
     };
     Ok(Some(lines_of(alloc, &judged, broken.as_slice())?))
 }
@@ -192,14 +195,8 @@ fn lines_by(
     orders: &OrderTable,
     inputs: &Inputs<'_>,
 ) -> Result<Option<String>, Memory> {
-    let skipped = skipped_segments(alloc, inputs.params)?;
     let permissions = Permissions::build(alloc, params, orders)?;
-    let bank = Bank {
-        params,
-        orders,
-        skipped: skipped.as_slice(),
-        permissions: &permissions,
-    };
+    let bank = Bank::of(alloc, inputs.params, params, orders, &permissions)?;
     judged_lines(alloc, &bank, inputs)
 }
 

@@ -1,29 +1,56 @@
 //! The kinds of a message's segments, counted.
 use fints_rules::Permissions;
 use fints_rules::kinds::is_plain_order;
-use fints_syntax::Kind;
+use fints_syntax::{Kind, Memory};
 
-/// How many of them are this kind.
-pub fn count_of(kinds: &[Kind], kind: Kind) -> usize {
-    kinds.iter().filter(|it| **it == kind).count()
+/// The kinds of the segments of a message's body.
+#[derive(Drop)]
+pub struct Kinds {
+    sorted: Vec<Kind>,
+    demanding: usize,
 }
 
-/// How many different kinds of orders other than HKTAN there are.
-pub fn plain_kinds(kinds: &[Kind]) -> usize {
-    let mut count: usize = 0;
-    for (i, kind) in kinds.iter().enumerate() {
-        let earlier = kinds.get(..i).unwrap_or(&[]);
-        if is_plain_order(*kind) && !earlier.contains(kind) {
-            count = count.saturating_add(1);
+impl Kinds {
+    /// Those of this list, under what a bank permits.
+    pub fn of(mut kinds: Vec<Kind>, permissions: &Permissions<'_>) -> Kinds {
+        kinds.sort_unstable();
+        let demanding = kinds
+            .iter()
+            .filter(|it| permissions.is_demanding(**it))
+            .count();
+        Kinds {
+            sorted: kinds,
+            demanding,
         }
     }
-    count
-}
 
-/// How many of them are orders that are listed with J.
-pub fn demanding(permissions: &Permissions<'_>, kinds: &[Kind]) -> usize {
-    kinds
-        .iter()
-        .filter(|it| permissions.is_demanding(**it))
-        .count()
+    /// How many segments have this kind.
+    pub fn count(&self, kind: Kind) -> usize {
+        let from = self.sorted.partition_point(|it| it.cmp(&kind).is_lt());
+        let to = self.sorted.partition_point(|it| it.cmp(&kind).is_le());
+        to.saturating_sub(from)
+    }
+
+    /// How many of them are orders that are listed with J.
+    pub fn demanding(&self) -> usize {
+        self.demanding
+    }
+
+    /// How many different kinds of orders other than HKTAN there are.
+    pub fn plain(&self) -> usize {
+        let mut count: usize = 0;
+        let mut last = None;
+        for kind in self.sorted.as_slice() {
+            if is_plain_order(*kind) && last != Some(*kind) {
+                count = count.saturating_add(1);
+            }
+            last = Some(*kind);
+        }
+        count
+    }
+
+    /// Whether there is one, and each passes the test.
+    pub fn are_all(&self, test: fn(&Kind) -> bool) -> bool {
+        !self.sorted.is_empty() && self.sorted.iter().all(test)
+    }
 }

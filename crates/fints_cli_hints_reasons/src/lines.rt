@@ -1,4 +1,4 @@
-//! The lines of reasons.
+//! The lines of reasons, and names in them.
 use fints_cli_hints_words::places::written;
 use fints_script::Name;
 use fints_syntax::Memory;
@@ -9,6 +9,17 @@ use std::fmt::{Display, Formatter, Write};
 /// A name as a text.
 pub fn name_of(name: &Name) -> &str {
     std::str::from_utf8(name.as_bytes()).unwrap_or("")
+}
+
+/// A name in quotes.
+#[derive(Clone, Copy)]
+pub struct Called<'a>(pub &'a Name);
+
+impl Display for Called<'_> {
+    fn fmt<W: Write>(&self, f: &mut Formatter<W>) -> fmt::Result {
+        let name = name_of(self.0);
+        write!(f, "\"{name}\"")
+    }
 }
 
 /// Where a reason holds, as a report says it: a step by its name, or nothing for a message alone; and a

@@ -1,25 +1,13 @@
 //! Why a segment breaks a rule, in words.
 use crate::accounts::{account_named, least_need, locked_by};
+use crate::bank::Bank;
 use crate::elements::Elements;
-use crate::step::NoTan;
-use fints_cli_hints_segments::Skipped;
-use fints_params::{OrderParam, Params};
+use crate::tans::NoTan;
 use fints_rules::kinds::own_version;
-use fints_rules::{OrderTable, Permissions};
 use fints_rules_causes::Cause;
 use fints_syntax::Kind;
 use std::fmt;
 use std::fmt::{Display, Formatter, Write};
-
-/// What a bank permits, and the rows from which that comes.
-#[derive(Clone, Copy)]
-pub struct Bank<'a> {
-    pub params: &'a Params,
-    pub orders: &'a OrderTable,
-    /// The parameter segments of the capture that can't be read.
-    pub skipped: &'a [Skipped],
-    pub permissions: &'a Permissions<'a>,
-}
 
 /// A segment as the rules see it, and what can be said of the TANs of its message.
 #[derive(Clone, Copy)]
@@ -61,38 +49,30 @@ impl Display for ParamsOf {
     }
 }
 
-// Whether a segment of this identifier tells the parameters of an order.
-fn tells_of(id: Kind, order: Kind) -> bool {
-    match (id.as_bytes(), order.as_bytes()) {
-        ([first, b'I', x, y, z, b'S'], [letter, b'K', p, q, r]) => {
-            first == letter && x == p && y == q && z == r
-        }
-        _ => false,
+// The identifier of the parameter segment of an order.
+fn params_of(order: Kind) -> Option<Kind> {
+    match order.as_bytes() {
+        [first, b'K', x, y, z] => Kind::parse(&[*first, b'I', *x, *y, *z, b'S']),
+        _ => None,
     }
 }
 
-// The versions in which a bank takes an order, each once, with a comma between.
-#[derive(Clone, Copy)]
-struct Versions<'a> {
-    rows: &'a [OrderParam],
-    kind: Kind,
-}
+// The most versions that are listed.
+const MOST_VERSIONS: usize = 20;
 
-fn has_version(rows: &[OrderParam], kind: Kind, version: u16) -> bool {
-    rows.iter()
-        .any(|row| row.kind == kind && row.version == version)
-}
+// Versions of an order, with a comma between.
+#[derive(Clone, Copy)]
+struct Versions<'a>(&'a [(Kind, u16)]);
 
 impl Display for Versions<'_> {
     fn fmt<W: Write>(&self, f: &mut Formatter<W>) -> fmt::Result {
         let mut comma = "";
-        for (i, row) in self.rows.iter().enumerate() {
-            let version = row.version;
-            let earlier = self.rows.get(..i).unwrap_or(&[]);
-            if row.kind == self.kind && !has_version(earlier, self.kind, version) {
-                write!(f, "{comma}{version}")?;
-                comma = ", ";
-            }
+        for (_, version) in self.0.iter().take(MOST_VERSIONS) {
+            write!(f, "{comma}{version}")?;
+            comma = ", ";
+        }
+        if self.0.len() > MOST_VERSIONS {
+            f.write_str(", ..")?;
         }
         Ok(())
     }
@@ -130,17 +110,9 @@ impl SegmentWhy<'_> {
         }
     }
 
-    // Whether a parameter segment of the order is skipped, of this version or of any.
-    fn is_skipped(&self, version: Option<u16>) -> bool {
-        let kind = self.seen.kind;
-        self.bank.skipped.iter().any(|it| {
-            tells_of(it.id, kind) && version.is_none_or(|version| it.version == version)
-        })
-    }
-
     fn no_parameters<W: Write>(&self, f: &mut Formatter<W>) -> fmt::Result {
         let (kind, params) = (KindName(self.seen.kind), ParamsOf(self.seen.kind));
-        if self.is_skipped(None) {
+        if params_of(self.seen.kind).is_some_and(|id| self.bank.skips(id)) {
             return write!(
                 f,
                 "{params} of the capture can't be read, as show --hints says: mend it, or remove {kind}"
@@ -155,11 +127,8 @@ impl SegmentWhy<'_> {
     fn other_version<W: Write>(&self, f: &mut Formatter<W>) -> fmt::Result {
         let (kind, params) = (KindName(self.seen.kind), ParamsOf(self.seen.kind));
         let version = self.seen.version;
-        let versions = Versions {
-            rows: self.bank.params.orders(),
-            kind: self.seen.kind,
-        };
-        if self.is_skipped(Some(version)) {
+        let versions = Versions(self.bank.versions(self.seen.kind));
+        if params_of(self.seen.kind).is_some_and(|id| self.bank.skips_version(id, version)) {
             return write!(
                 f,
                 "the bank takes {kind} in version {versions} ({params}), and {params} {version} of the capture can't be read, as show --hints says: mend it, or send one of these versions"
@@ -172,11 +141,10 @@ impl SegmentWhy<'_> {
     }
 
     fn parameters<W: Write>(&self, f: &mut Formatter<W>) -> fmt::Result {
-        let rows = self.bank.params.orders();
-        if rows.iter().any(|row| row.kind == self.seen.kind) {
-            self.other_version(f)
-        } else {
+        if self.bank.versions(self.seen.kind).is_empty() {
             self.no_parameters(f)
+        } else {
+            self.other_version(f)
         }
     }
 
@@ -292,7 +260,7 @@ impl SegmentWhy<'_> {
 
     fn one_step<W: Write>(&self, f: &mut Formatter<W>) -> fmt::Result {
         let kind = KindName(self.seen.kind);
-        let read = if self.bank.skipped.iter().any(|it| it.id.is(b"HITANS")) {
+        let read = if Kind::parse(b"HITANS").is_some_and(|id| self.bank.skips(id)) {
             " that can be read"
         } else {
             ""

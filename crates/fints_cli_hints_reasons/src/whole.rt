@@ -1,5 +1,6 @@
 //! Why a whole message breaks a rule, in words.
-use crate::step::{BranchOf, Called};
+use crate::branches::BranchOf;
+use crate::lines::Called;
 use fints_params::BankRow;
 use fints_rules::{LAST_NUMBER, Rule};
 use fints_script::Name;

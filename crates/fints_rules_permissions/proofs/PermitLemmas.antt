@@ -3,8 +3,7 @@ use Rattle.std.proofs.Common.{◌≡◌, ℕ, ◌<◌, ◌≤◌, List, Some, No
 use Rattle.fints_params.specs.Parameters.{Rows}
 use Rattle.fints_params.specs.declared.rows.Usage.TheVariants as usage
 use Rattle.fints_rules_permissions.specs.Accounts.{Account}
-use Rattle.fints_rules_permissions.specs.Permits.{AllNeedMore, IsLocked}
-use Rattle.fints_rules_permissions.specs.Needs.{IsLeastNeed}
+use Rattle.fints_rules_permissions.specs.Permits.{AllNeedMore, IsLeastNeed, IsLocked}
 
 pub permits : (rows : Rows) (account : Account) (kind : List ℕ) (k n : ℕ)
     → IsLeastNeed rows account kind (Some n) → n ≤ k

@@ -11,10 +11,10 @@ use Rattle.fints_params.specs.declared.rows.AccountRow.{AccountRow}
 use Rattle.fints_params.specs.declared.rows.Entry.{Entry}
 use Rattle.fints_rules_permissions.specs.Accounts.{Account, nobody, by_items, by_iban}
 use Rattle.fints_rules_permissions.specs.AccountRows.{Matches}
-use Rattle.fints_rules_permissions.specs.Permits.{IsEntryOf}
+use Rattle.fints_rules_permissions.specs.Permits.{IsEntryOf, IsLeastNeed}
 use Rattle.fints_rules_permissions.specs.declared.needs.Naming.{Naming}
 use Rattle.fints_rules_permissions.specs.declared.needs.Naming.TheVariants.{Iban, Items}
-use Rattle.fints_rules_permissions.specs.Needs.{Key, key_of, Seen, account_by, seen_as, seen_key, seen_twice, seen_in_row, seen_in, IsLeastOf, IsLeastNeed}
+use Rattle.fints_rules_permissions.specs.Needs.{Key, key_of, Seen, account_by, seen_as, seen_key, seen_twice, seen_in_row, seen_in, IsLeastOf}
 
 -- ---- what stands in joined lists
 

@@ -5,11 +5,9 @@ use Rattle.std.specs.List.{flat_map}
 use Rattle.std.specs.List.Sorted.{IsPartitionPoint}
 use Rattle.std.specs.declared.cmp.Ordering.{Ordering}
 use Rattle.std.specs.Ordering.{is_lt, nat_cmp, bool_cmp, ordering_then}
-use Rattle.fints_params.specs.Parameters.{Rows}
 use Rattle.fints_params.specs.declared.rows.AccountRow.{AccountRow}
 use Rattle.fints_params.specs.declared.rows.Entry.{Entry}
 use Rattle.fints_rules_permissions.specs.Accounts.{Account, nobody, by_items, by_iban}
-use Rattle.fints_rules_permissions.specs.Permits.{IsEntryOf}
 use Rattle.fints_rules_permissions.specs.declared.needs.Naming.{Naming}
 use Rattle.fints_rules_permissions.specs.declared.needs.Naming.TheVariants.{Iban, Items}
 use Rattle.fints_rules_permissions.specs.declared.needs.Place.{Place}
@@ -130,10 +128,3 @@ IsLeastOf key needs None = (s : Seen) → Contains needs s → seen_key s ≡ ke
 IsLeastOf key needs (Some n) =
     ((s : Seen) × Contains needs s × (seen_key s ≡ key) × (s.signatures ≡ n))
     × ((s : Seen) → Contains needs s → seen_key s ≡ key → n ≤ s.signatures)
-
--- no entry of the kind is there for the account, or n is the least number of signatures that one needs
-abbrev pub IsLeastNeed : Rows → Account → List ℕ → Option ℕ → Type 0
-IsLeastNeed rows account kind None = (e : Entry) → IsEntryOf rows account kind e → ⊥
-IsLeastNeed rows account kind (Some n) =
-    ((e : Entry) × IsEntryOf rows account kind e × (e.signatures ≡ n))
-    × ((e : Entry) → IsEntryOf rows account kind e → n ≤ e.signatures)

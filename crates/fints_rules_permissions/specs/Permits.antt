@@ -83,6 +83,13 @@ pub record IsEntryOf (rows : Rows) (account : Account) (kind : List ℕ) (entry 
   pub within : Contains row.entries entry
   pub kind_is : entry.kind ≡ kind
 
+-- no entry of the kind is there for the account, or n is the least number of signatures that one needs
+abbrev pub IsLeastNeed : Rows → Account → List ℕ → Option ℕ → Type 0
+IsLeastNeed rows account kind None = (e : Entry) → IsEntryOf rows account kind e → ⊥
+IsLeastNeed rows account kind (Some n) =
+    ((e : Entry) × IsEntryOf rows account kind e × (e.signatures ≡ n))
+    × ((e : Entry) → IsEntryOf rows account kind e → n ≤ e.signatures)
+
 -- some entry of the kind is there, and every such entry needs more signatures
 pub record AllNeedMore (rows : Rows) (account : Account) (kind : List ℕ) (signatures : ℕ) : Type 0 where
   pub entry : Entry

@@ -1,8 +1,7 @@
 //! What a bank permits, as look-ups in the rows of a capture and an order table.
 ghost use Rattle.std.specs.Prelude.{◌≡◌, ◌<◌, ◌↔◌, Any, IfOk, IsTrue};
 ghost use Rattle.fints_rules_permissions.specs.Orders.{form_of};
-ghost use Rattle.fints_rules_permissions.specs.Needs.{IsLeastNeed};
-ghost use Rattle.fints_rules_permissions.specs.Permits.{LimitsAre, params_of, DemandIs, PermitIs, is_demanding, is_listed_with_tan};
+ghost use Rattle.fints_rules_permissions.specs.Permits.{LimitsAre, params_of, DemandIs, IsLeastNeed, PermitIs, is_demanding, is_listed_with_tan};
 
 use crate::account::AccountKey;
 use crate::kinds::is_plain_order;
@@ -143,8 +142,8 @@ impl<'a> Permissions<'a> {
         is_plain_order(kind) && self.is_listed_with_tan(kind)
     }
 
-    // The least number of signatures that an entry of the kind needs in the rows of an account.
-    fn least_need(&self, kind: Kind, account: &AccountKey<'_>) -> Option<u32>
+    /// The least number of signatures that an entry of the kind needs in the rows of an account.
+    pub fn least_need(&self, kind: Kind, account: &AccountKey<'_>) -> Option<u32>
         ensures { IsLeastNeed self.now.rows account.now kind result }
     {
         match account.need_key(&kind) {

@@ -144,12 +144,33 @@ fn are_permits(permissions: &Permissions<'_>) -> Result<bool, Fail> {
     Ok(true)
 }
 
+// An order, the account that it names, and the least number of signatures that this wants.
+type Need<'a> = (&'a [u8], AccountForm, &'a [&'a [u8]], Option<u32>);
+
+const NEEDS: [Need<'static>; 3] = [
+    (b"HKSAL", AccountForm::National, FIRST, Some(1)),
+    (b"HKSAL", AccountForm::National, OTHER, None),
+    (b"HKCCS", AccountForm::International, &[b"DE222"], Some(2)),
+];
+
+fn are_needs(permissions: &Permissions<'_>) -> Result<bool, Fail> {
+    for (kind, form, items, need) in NEEDS {
+        let kind = Kind::parse(kind).ok_or("a kind")?;
+        let account = AccountKey::of(form, items);
+        if permissions.least_need(kind, &account) != need {
+            return Ok(false);
+        }
+    }
+    Ok(true)
+}
+
 fn are_granted(permissions: &Permissions<'_>) -> Result<bool, Fail> {
     Ok(
         is_bank(permissions)
             && are_demands(permissions)?
             && are_limits(permissions)?
-            && are_permits(permissions)?,
+            && are_permits(permissions)?
+            && are_needs(permissions)?,
     )
 }
 

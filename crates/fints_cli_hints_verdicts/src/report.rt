@@ -1,15 +1,17 @@
 //! Why the runs of a script break the rules that a report names.
 ghost use Rattle.std.specs.Prelude.{◌<◌, length};
 
-use crate::elements::{Elements, Filled};
-use crate::kinds::{count_of, demanding, plain_kinds};
-use crate::lines::{Where, add_why, name_of};
 use crate::notes::add_notes;
-use crate::segment::{Bank, Seen, SegmentWhy};
-use crate::step::{BranchOf, figures_of, no_tan};
-use crate::whole::{Before, Whole, WholeWhy, is_of_whole};
+use crate::steps::figures_of;
 use fints_check::{Finding, Report, check};
-use fints_cli_hints_segments::{Skipped, skipped_segments};
+use fints_cli_hints_reasons::bank::Bank;
+use fints_cli_hints_reasons::branches::BranchOf;
+use fints_cli_hints_reasons::elements::{Elements, Filled};
+use fints_cli_hints_reasons::kinds::Kinds;
+use fints_cli_hints_reasons::lines::{Where, add_why, name_of};
+use fints_cli_hints_reasons::segment::{Seen, SegmentWhy};
+use fints_cli_hints_reasons::tans::no_tan;
+use fints_cli_hints_reasons::whole::{Before, Whole, WholeWhy, is_of_whole};
 use fints_cli_hints_words::inputs::Inputs;
 use fints_params::{Code, Params};
 use fints_rules::{Figures, OrderTable, Permissions, Rule};
@@ -50,7 +52,7 @@ struct Found<'a> {
     bank: &'a Bank<'a>,
     plan: &'a Plan<'a>,
     step: &'a Step,
-    kinds: &'a [Kind],
+    kinds: &'a Kinds,
     finding: Finding,
 }
 
@@ -64,7 +66,6 @@ fn place_of<'a>(name: &'a str, finding: Finding) -> Where<'a> {
 // The segment of a template under the finding's values.
 fn seen_in<'a>(found: &Found<'a>, template: &'a Template, values: &'a Values) -> Seen<'a> {
     let Found {
-        bank,
         plan,
         step,
         kinds,
@@ -78,9 +79,9 @@ fn seen_in<'a>(found: &Found<'a>, template: &'a Template, values: &'a Values) ->
             values,
             elements: template.elements.as_slice(),
         }),
-        count: count_of(kinds, template.kind),
+        count: kinds.count(template.kind),
         signatures: step.signers().len(),
-        demanding: demanding(bank.permissions, kinds),
+        demanding: kinds.demanding(),
         no_tan: no_tan(plan.signers(), step),
     }
 }
@@ -128,7 +129,7 @@ fn add_whole(
         protocol: Some(300),
         number: figures.number,
         size: figures.size,
-        kinds: plain_kinds(found.kinds),
+        kinds: found.kinds.plain(),
         before,
     };
     let why = WholeWhy {
@@ -181,12 +182,21 @@ fn template_of<'a>(step: &'a Step, finding: Finding) -> Option<&'a Template> {
     step.templates().get(place)
 }
 
-fn kinds_in(alloc: Global, step: &Step) -> Result<Vec<Kind>, Memory> {
+// The kinds of the segments of step n, if it is one.
+fn kinds_at(
+    alloc: Global,
+    permissions: &Permissions<'_>,
+    plan: &Plan<'_>,
+    n: usize,
+) -> Result<Kinds, Memory> {
     let mut kinds: Vec<Kind> = Vec::new(alloc);
-    for template in step.templates() {
+    if n == 0 || n > plan.step_count() {
+        return Ok(Kinds::of(kinds, permissions));
+    }
+    for template in plan.step(n).templates() {
         kinds.push(template.kind)?;
     }
-    Ok(kinds)
+    Ok(Kinds::of(kinds, permissions))
 }
 
 // ---- all findings
@@ -196,6 +206,7 @@ fn add_finding(
     alloc: Global,
     bank: &Bank<'_>,
     report: &Report<'_>,
+    kinds: &Kinds,
     i: usize,
 ) -> Result<(), Memory>
     requires { i < length report.now.findings }
@@ -210,12 +221,11 @@ fn add_finding(
         return Ok(());
     }
     let step = plan.step(n);
-    let kinds = kinds_in(alloc, step)?;
     let found = Found {
         bank,
         plan,
         step,
-        kinds: kinds.as_slice(),
+        kinds,
         finding,
     };
     match (template_of(step, finding), finding.rule) {
@@ -238,8 +248,16 @@ fn lines_of(
     steps: &[Step],
 ) -> Result<String, Memory> {
     let mut text = String::new(alloc);
+    let (plan, permissions) = (report.plan(), bank.permissions);
+    let mut at: usize = 0;
+    let mut kinds = kinds_at(alloc, permissions, plan, at)?;
     for i in 0..report.findings().len() {
-        add_finding(&mut text, alloc, bank, report, i)?;
+        let n = usize::from(report.findings()[i].step);
+        if n != at {
+            kinds = kinds_at(alloc, permissions, plan, n)?;
+            at = n;
+        }
+        add_finding(&mut text, alloc, bank, report, &kinds, i)?;
     }
     add_notes(&mut text, alloc, report, steps)?;
     Ok(text)
@@ -248,20 +266,15 @@ fn lines_of(
 fn checked_lines(
     alloc: Global,
     params: &Params,
-    skipped: &[Skipped],
     orders: &OrderTable,
     script: &Script,
+    inputs: &Inputs<'_>,
 ) -> Result<Option<String>, Memory> {
     let Ok(plan) = script.plan(orders) else {
         return Ok(None);
     };
     let permissions = Permissions::build(alloc, params, orders)?;
-    let bank = Bank {
-        params,
-        orders,
-        skipped,
-        permissions: &permissions,
-    };
+    let bank = Bank::of(alloc, inputs.params, params, orders, &permissions)?;
     let report = check(alloc, &permissions, &plan)?;
     Ok(Some(lines_of(alloc, &bank, &report, script.steps())?))
 }
@@ -272,9 +285,8 @@ fn scripted_lines(
     orders: &OrderTable,
     inputs: &Inputs<'_>,
 ) -> Result<Option<String>, Memory> {
-    let skipped = skipped_segments(alloc, inputs.params)?;
     match Script::read(alloc, inputs.script) {
-        Ok(script) => checked_lines(alloc, params, skipped.as_slice(), orders, &script),
+        Ok(script) => checked_lines(alloc, params, orders, &script, inputs),
         Err(_) => Ok(None),
     }
 }

@@ -1,9 +1,10 @@
 //! What is clean and may still be wrong: notes on a script, which are no findings.
 ghost use Rattle.std.specs.Prelude.{◌≤◌, ◌+◌, length, IfSome};
 
-use crate::lines::name_of;
-use crate::step::{BranchOf, Called, figures_of, is_open};
+use crate::steps::{figures_of, is_open};
 use fints_check::Report;
+use fints_cli_hints_reasons::branches::BranchOf;
+use fints_cli_hints_reasons::lines::{Called, name_of};
 use fints_cli_hints_words::places::written;
 use fints_script::{
     Name, NamedField, Plan, Signer, Step, Target, Template, TemplateElements, TemplateItem,

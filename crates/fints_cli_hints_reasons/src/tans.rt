@@ -1,24 +1,8 @@
-//! What the rules see in the message of a step.
-ghost use Rattle.std.specs.Prelude.{◌≤◌, ◌+◌, length};
-
-use crate::lines::name_of;
-use fints_check::{Reached, Report};
-use fints_script::{Name, Plan, Signer, Step, TemplateItem};
+//! Why a message has no TAN.
+use crate::lines::Called;
+use fints_script::{Name, Signer, Step, TemplateItem};
 use std::fmt;
 use std::fmt::{Display, Formatter, Write};
-
-/// A name in quotes.
-#[derive(Clone, Copy)]
-pub struct Called<'a>(pub &'a Name);
-
-impl Display for Called<'_> {
-    fn fmt<W: Write>(&self, f: &mut Formatter<W>) -> fmt::Result {
-        let name = name_of(self.0);
-        write!(f, "\"{name}\"")
-    }
-}
-
-// ---- TANs
 
 /// Why no HNSHA of a message is sure to have a TAN.
 #[derive(Clone, Copy)]
@@ -72,50 +56,4 @@ pub fn no_tan<'a>(signers: &'a [Signer], step: &Step) -> NoTan<'a> {
         }
     }
     why
-}
-
-// ---- figures and branches
-
-/// The figures of step n, if it is one and some run sends it.
-pub fn figures_of(report: &Report<'_>, n: usize) -> Option<Reached> {
-    if n == 0 || n > report.plan().step_count() {
-        return None;
-    }
-    report.reached(n)
-}
-
-/// Whether some answer fires the branch; branches count from 1, and the default comes last.
-pub fn is_open(step: &Step, branch: usize) -> bool
-    requires from { 1 ≤ branch }
-    requires to { branch ≤ length step.now.branches + 1 }
-{
-    step.opener(branch).is_some()
-}
-
-/// A branch of a step by its number, from 1, among so many: the default comes last.
-#[derive(Clone, Copy)]
-pub struct BranchOf {
-    pub number: usize,
-    pub count: usize,
-}
-
-impl BranchOf {
-    /// The branch of this number.
-    pub fn at(step: &Step, number: usize) -> BranchOf {
-        BranchOf {
-            number,
-            count: step.branches().len(),
-        }
-    }
-}
-
-impl Display for BranchOf {
-    fn fmt<W: Write>(&self, f: &mut Formatter<W>) -> fmt::Result {
-        let BranchOf { number, count } = *self;
-        if number > count {
-            f.write_str("the default")
-        } else {
-            write!(f, "branch {number}")
-        }
-    }
 }

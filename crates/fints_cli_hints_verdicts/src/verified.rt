@@ -1,8 +1,10 @@
 //! Why a certificate isn't closed: the first line, or the first branch, that isn't.
 ghost use Rattle.std.specs.Prelude.{◌≡◌, ◌≤◌, ◌+◌, length};
 
-use crate::step::{BranchOf, Called, is_open};
+use crate::steps::is_open;
 use fints_check::{AtStep, Certificate, Line, Reached, is_released_step};
+use fints_cli_hints_reasons::branches::BranchOf;
+use fints_cli_hints_reasons::lines::Called;
 use fints_cli_hints_words::inputs::Inputs;
 use fints_cli_hints_words::places::{Told, told};
 use fints_params::Params;

@@ -1,0 +1,12 @@
+//! Reasons of verdicts on scripts: why some run breaks a rule, why a certificate isn't closed, and notes on
+//! a script. They look at the inputs again, and a contract here says no more than that each call returns
+//! safely.
+#![tactic(auto)]
+
+mod notes;
+mod report;
+mod steps;
+mod verified;
+
+pub use report::report_reasons;
+pub use verified::verified_reason;
