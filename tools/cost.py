@@ -167,6 +167,18 @@ hostile = branching(LATE, ENDS)
 unreleased = branching([f"{j:02}**" for j in range(1, 21)], 'segments = [{kind = "HKTAN", version = 6, elements = ["4"]}]')
 
 
+def naming(count):
+    """Orders that name an account which no bank has, in steps of 100."""
+    orders = ",".join(['{kind="HKSAL",version=5,elements=["9999999"]}'] * 100)
+    return "".join(f'[[step]]\nname = "s{i}"\nsegments = [{orders}]\n' for i in range(count // 100))
+
+
+def versions(size):
+    """Parameter segments of one order in all versions, over and over."""
+    row = "HISALS:9:%03d+1+1'\n"
+    return HEAD + "".join(row % (i % 999 + 1) for i in range((size - len(HEAD)) // len(row % 0)))
+
+
 def heavy(count):
     """Steps whose messages have 980 kB, each sent 99 times in a row."""
     pads = ", ".join(['"$pad"'] * 98)
@@ -248,9 +260,14 @@ def measured(room):
     show = lambda make: lambda n: ["show", "--params", room.file(make(n))]
     judge = lambda make, file, of=ORDERS: lambda n: ["judge", "--params", room.file(make(n)), "--orders", of, "--message", file]
     run = lambda script, case: ["run", "--orders", ORDERS, "--script", script, "--case", case]
+    hinted = lambda make: lambda n: [*make(n), "--hints"]
     case, end = f"{INPUTS}/no-answer.case", f"{INPUTS}/end.toml"
     on = lambda command, make: lambda n: [command, "--params", C1, "--orders", ORDERS, "--script", room.file(make(n))]
     half = MOST_CAPTURE // 2
+    their_accounts = room.file(accounts(half))
+    of_accounts = lambda make: lambda n: ["check", "--params", their_accounts, "--orders", ORDERS, "--script", room.file(make(n))]
+    elsewhere = room.file(message([("HKSAL", "5" + "+9999999" * 500)] * 900))
+    untaken = room.file(message([("HKSAL", "10")] * 996))
 
     def verify(n):
         words = on("certify", hostile)(n)
@@ -271,6 +288,9 @@ def measured(room):
         ("judge, rows of HIUPD, 1 order", "bytes", half, judge(accounts, small)),
         ("judge, rows of HIUPD, 996 orders", "bytes", half, judge(accounts, many)),
         ("judge, rows of HIUPD, 996 orders of 996 kinds", "bytes", half, judge(accounts, unlike, their_table)),
+        ("judge --hints, rows of HIUPD, 996 orders of 996 kinds", "bytes", half, hinted(judge(accounts, unlike, their_table))),
+        ("judge --hints, rows of HIUPD, 900 orders of 500 elements", "bytes", half, hinted(judge(accounts, elsewhere))),
+        ("judge --hints, all versions over and over, 996 orders", "bytes", half, hinted(judge(versions, untaken))),
         ("judge, a message of orders", "orders", 498, lambda n: judge(lambda _: HEAD, room.file(orders(n)))(0)),
         ("run, a oneof of many values", "values", 80 * k, lambda n: run(room.file(listed("oneof", '"%s"')(n)), case)),
         ("run, an account of many values", "values", 62_500, lambda n: run(room.file(listed("account", '["%s"]')(n)), case)),
@@ -279,6 +299,8 @@ def measured(room):
         ("explain, steps with 20 hostile branches each", "steps", 500, on("explain", hostile)),
         ("check, steps that submit orders, 20 branches each", "steps", 500, on("check", unreleased)),
         ("explain, steps that submit orders, 20 branches each", "steps", 500, on("explain", unreleased)),
+        ("check --hints, steps that submit orders, 20 branches each", "steps", 500, hinted(on("check", unreleased))),
+        ("check --hints, orders of none of 42,000 accounts", "orders", 10 * k, hinted(of_accounts(naming))),
         ("certify, steps with 20 hostile branches each", "steps", 500, on("certify", hostile)),
         ("verify, steps with 20 hostile branches each", "steps", 500, verify),
         ("run, messages of 980 kB", "messages", 198, lambda n: run(room.file(heavy(n // 99)), room.file(heavy_case(n // 99)))),

@@ -7,7 +7,7 @@ use fints_cli_hints_words::places::{Told, row_at, row_named, text_in, told, told
 use fints_cli_hints_words::quoting::Quoted;
 use fints_cli_hints_words::tables::rows_of;
 use fints_cli_hints_words::unread::why_no_toml;
-use fints_rules::kinds::is_plain_order;
+use fints_rules::kinds::{is_plain_order, is_table_kind};
 use fints_rules::{MAX_ROWS, TableFault};
 use fints_syntax::Kind;
 use fints_syntax_toml::document;
@@ -18,31 +18,17 @@ use toml::{Table, Value};
 
 const WORDS: [&str; 3] = ["none", "national", "international"];
 
-// Whether it is the kind of an administrative segment, or HKTAN.
-fn is_reserved(text: &str) -> bool {
-    match Kind::parse(text.as_bytes()) {
-        Some(kind) => !is_plain_order(kind),
-        None => false,
-    }
-}
-
-fn is_order_kind(text: &str) -> bool {
-    text.len() == 5
-        && (text.starts_with("HK") || text.starts_with("DK"))
-        && Kind::parse(text.as_bytes()).is_some()
-}
-
 // Why an order can't have the kind.
 fn bad_kind(text: &str) -> Option<&'static str> {
-    if is_reserved(text) {
-        return Some("names no account, and may not stand in an order table");
-    }
-    if !is_order_kind(text) {
-        return Some(
+    match Kind::parse(text.as_bytes()) {
+        Some(kind) if is_table_kind(kind) => None,
+        Some(kind) if !is_plain_order(kind) => {
+            Some("names no account, and may not stand in an order table")
+        }
+        _ => Some(
             "is none of an order; one has five characters A to Z and 0 to 9, of which HK or DK are the first",
-        );
+        ),
     }
-    None
 }
 
 fn form_slip(alloc: Global, text: &str) -> Told {

@@ -1,8 +1,6 @@
 //! Where bytes cease to be a segment, and why.
 use fints_syntax::parse_number;
-
-/// The most items of a segment.
-const MOST: usize = 20_000;
+use fints_syntax_segments::MAX_ITEMS;
 
 /// Why bytes cease to be a segment.
 #[derive(Clone, Copy)]
@@ -124,7 +122,7 @@ pub fn stop_of(bytes: &[u8]) -> Stop {
     let mut at: usize = 0;
     let mut element: usize = 1;
     let mut item: usize = 1;
-    for _ in 0..MOST {
+    for _ in 0..MAX_ITEMS {
         let (len, after) = match scan_item(bytes.get(at..).unwrap_or(&[])) {
             Scanned::Item { len, after } => (len, after),
             Scanned::No(why) => return stop_at(element, item, at, why),

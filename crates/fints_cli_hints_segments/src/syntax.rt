@@ -3,12 +3,10 @@ use crate::scanning::{Stop, Why, stop_of};
 use fints_cli_hints_words::places::{Told, line_at, told, written};
 use fints_cli_hints_words::quoting::Sample;
 use fints_syntax::{Kind, Memory, SyntaxKind, parse_number, parse_segment};
+use fints_syntax_segments::MAX_BYTES;
 use std::alloc::Global;
 use std::fmt;
 use std::fmt::{Display, Formatter, Write};
-
-/// The most bytes of a segment.
-const MOST: usize = 1_048_576;
 
 /// Bytes of an input: where they begin in it, and in what they stand.
 #[derive(Clone, Copy)]
@@ -206,7 +204,7 @@ fn binary_text(alloc: Global, bytes: &[u8], stop: &Stop) -> Result<String, Memor
 fn long_text(alloc: Global, stop: &Stop) -> Result<String, Memory> {
     match stop.why {
         Why::Many => written(alloc, " has 20000 items or more"),
-        _ => written(alloc, format_args!(" has no end within {MOST} bytes")),
+        _ => written(alloc, format_args!(" has no end within {MAX_BYTES} bytes")),
     }
 }
 
@@ -286,7 +284,7 @@ fn head_text(alloc: Global, bytes: &[u8]) -> Result<String, Memory> {
 
 /// Why no segment can be read at the front of the bytes, behind what names it.
 pub fn trouble(alloc: Global, bytes: &[u8]) -> Result<String, Memory> {
-    let window = bytes.get(..MOST).unwrap_or(bytes);
+    let window = bytes.get(..MAX_BYTES).unwrap_or(bytes);
     let stop = stop_of(window);
     match parse_segment(bytes) {
         Ok(_) => Ok(String::new(alloc)),

@@ -1,5 +1,5 @@
 -- What a kind is: an administrative segment, an order, an HKTAN.
-use Rattle.std.specs.Prelude.{codes, ℕ, Bool, not, ◌&&◌, if◌then◌else◌, List, Option, Some, None, is_some}
+use Rattle.std.specs.Prelude.{codes, ℕ, ◌==◌, Bool, not, ◌&&◌, ◌||◌, if◌then◌else◌, length, take, List, Option, Some, None, is_some}
 use Rattle.std.specs.Str.{bytes_eq}
 
 -- the version that an administrative segment has; every other segment is an order
@@ -20,3 +20,9 @@ is_tan_order kind = bytes_eq kind (codes "HKTAN")
 -- an order other than HKTAN
 abbrev pub is_plain_order : List ℕ → Bool
 is_plain_order kind = is_order kind && not (is_tan_order kind)
+
+-- an order of which an order table may have a row: five characters, the first two HK or DK
+abbrev pub is_table_kind : List ℕ → Bool
+is_table_kind text =
+    ((length text == 5) && (bytes_eq (take 2 text) (codes "HK") || bytes_eq (take 2 text) (codes "DK")))
+    && is_plain_order text

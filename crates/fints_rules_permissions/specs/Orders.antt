@@ -1,6 +1,6 @@
 -- The order table: which orders name an account, and how.
 use Rattle.fints_rules_permissions.specs.declared.orders.TheConstants.{MAX_ROWS}
-use Rattle.std.specs.Prelude.{◌≡◌, codes, ℕ, ◌+◌, ◌<◌, ◌≤◌, ◌⊎◌, take, Bool, true, false, ◌&&◌, ◌||◌, ◌==◌, if◌then◌else◌, List, [], ◌∷◌, ◌++◌, length, map, find, Option, Some, None, option_map, option_and_then, Any, AllPairs}
+use Rattle.std.specs.Prelude.{◌≡◌, codes, ℕ, ◌+◌, ◌<◌, ◌≤◌, ◌⊎◌, Bool, true, false, ◌&&◌, ◌==◌, if◌then◌else◌, List, [], ◌∷◌, ◌++◌, length, map, find, Option, Some, None, option_map, option_and_then, Any, AllPairs}
 use Rattle.std.specs.Str.{bytes_eq}
 use Rattle.toml.specs.Data.{Data, string, array, table, Members, get_member}
 use Rattle.fints_syntax.specs.Kind.{kind_from}
@@ -9,7 +9,7 @@ use Rattle.fints_rules_permissions.specs.declared.orders.AccountForm.TheVariants
 use Rattle.fints_rules_permissions.specs.declared.orders.OrderRow.{OrderRow}
 use Rattle.fints_rules_permissions.specs.declared.orders.TableFault.{TableFault}
 use Rattle.fints_rules_permissions.specs.declared.orders.TableFault.TheVariants as faults
-use Rattle.fints_rules_permissions.specs.Kinds.{is_plain_order}
+use Rattle.fints_rules_permissions.specs.Kinds.{is_table_kind}
 use Rattle.fints_syntax_toml.specs.Document.{document, item_list, only_keys, number_between}
 
 infixl 10 ◌>>=◌
@@ -18,14 +18,8 @@ o >>= f = option_and_then f o
 
 -- ---- a row
 
--- five characters, the first two HK or DK; the administrative segments and HKTAN are no orders of the table
-abbrev pub is_order_kind : List ℕ → Bool
-is_order_kind text =
-    ((length text == 5) && (bytes_eq (take 2 text) (codes "HK") || bytes_eq (take 2 text) (codes "DK")))
-    && is_plain_order text
-
 unfoldable pub row_kind : Data → Option (List ℕ)
-row_kind (string text) = if is_order_kind text then kind_from text else None
+row_kind (string text) = if is_table_kind text then kind_from text else None
 row_kind _ = None
 
 unfoldable pub account_form : Data → Option AccountForm

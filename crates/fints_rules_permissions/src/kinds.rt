@@ -1,6 +1,6 @@
 //! Administrative segments, orders, and HKTAN.
 ghost use Rattle.std.specs.Prelude.{◌≡◌};
-ghost use Rattle.fints_rules_permissions.specs.Kinds.{own_version, is_order, is_tan_order, is_plain_order};
+ghost use Rattle.fints_rules_permissions.specs.Kinds.{own_version, is_order, is_tan_order, is_plain_order, is_table_kind};
 
 use fints_syntax::Kind;
 
@@ -40,4 +40,12 @@ pub fn is_plain_order(kind: Kind) -> bool
     ensures { result ≡ is_plain_order kind }
 {
     is_order(kind) && !is_tan_order(kind)
+}
+
+/// Whether an order table may have a row of this kind.
+pub fn is_table_kind(kind: Kind) -> bool
+    ensures { result ≡ is_table_kind kind }
+{
+    let text = kind.as_bytes();
+    text.len() == 5 && (text.starts_with(b"HK") || text.starts_with(b"DK")) && is_plain_order(kind)
 }

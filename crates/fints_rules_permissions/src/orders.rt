@@ -5,11 +5,11 @@ ghost use Rattle.std.specs.Str.{bytes_eq};
 ghost use Rattle.toml.specs.Data.{array};
 ghost use Rattle.toml.specs.View.{view, table_view, items_view};
 ghost use Rattle.fints_rules_permissions.specs.declared.orders.TableFault.TheVariants.{Memory};
-ghost use Rattle.fints_rules_permissions.specs.Orders.{row_of, row_kind, is_order_kind, account_form, AreRows, IsTableAt, DenotesTable, IsTableFault, form_of};
+ghost use Rattle.fints_rules_permissions.specs.Orders.{row_of, row_kind, account_form, AreRows, IsTableAt, DenotesTable, IsTableFault, form_of};
 ghost use Rattle.fints_rules_permissions.specs.LimitMaps.{order_key};
 ghost use Rattle.fints_rules_permissions.specs.OrderFaults.{IsEntryFault, IsFaultAt, IsTableIn, IsFaultIn};
 
-use crate::kinds::is_plain_order;
+use crate::kinds::is_table_kind;
 use crate::limits::OrderKey;
 use fints_syntax::{Kind, Memory};
 use fints_syntax_toml::document;
@@ -231,18 +231,11 @@ fn row_kind(value: &Value) -> Option<Kind>
 {
     let text = value.as_str()?;
     let kind = Kind::parse(text.as_bytes())?;
-    if is_order_kind(kind) {
+    if is_table_kind(kind) {
         Some(kind)
     } else {
         None
     }
-}
-
-fn is_order_kind(kind: Kind) -> bool
-    ensures { result ≡ is_order_kind kind }
-{
-    let text = kind.as_bytes();
-    text.len() == 5 && (text.starts_with(b"HK") || text.starts_with(b"DK")) && is_plain_order(kind)
 }
 
 #[tactic(auto, unfolding(crate::specs::Orders::account_form))]
