@@ -1,13 +1,15 @@
--- A message in which nothing is found is permitted.
-use Rattle.std.proofs.Common.{◌≡◌, ◌==◌, ◌<◌, ℕ, List, [], ◌∷◌, ◌++◌, length, take, get_or, Some, true, refl, ap, ◌∙◌, sym, subst, arith, inl, inr, length-append}
+-- A message is permitted where nothing is found in it, and there alone.
+use Rattle.std.proofs.Common.{◌≡◌, ◌==◌, ◌<◌, ℕ, List, [], ◌∷◌, ◌++◌, length, take, get_or, Option, Some, None, true, refl, ap, absurd, ◌∙◌, sym, subst, arith, inl, inr, length-append}
 use Rattle.std.proofs.lemmas.Bool.{cases_lt}
 use Rattle.std.proofs.lemmas.Bool.Decides.{nat_tests}
 use Rattle.std.proofs.lemmas.List.{get_or_append_left, take-append-le}
 use Rattle.std.proofs.lemmas.Option.{slice_get_within, slice_get-get_or, get_or_from_slice_get}
 use Rattle.std.proofs.Math.Seq.{get_or-append_seam, take-append_seam}
 use Rattle.std.specs.Prelude.{Contains, slice_get}
-use Rattle.fints_example_outbox.specs.Outboxes.{EachWasPermitted, IsPermittedNext, SentValue}
-use Rattle.fints_rules.specs.Breaks.{IsJudged, IsJudgedAfter, Permitted, PermittedAfter}
+use Rattle.fints_example_outbox.specs.Outboxes.{EachWasPermitted, IsPermittedAfter, IsPermittedNext, SentValue}
+use Rattle.fints_rules.specs.Breaks.{Breaks, IsJudged, IsJudgedAfter, Permitted, PermittedAfter}
+use Rattle.fints_rules_messages.proofs.LawLemmas.{one_message}
+use Rattle.fints_rules_messages.specs.Messages.{IsMessage, MessageView}
 use Rattle.fints_rules.specs.declared.rule.Broken.{Broken}
 use Rattle.fints_rules.specs.Permits.{Granted}
 use Rattle.fints_rules.specs.declared.rule.Rule.TheVariants.{Release}
@@ -41,6 +43,38 @@ permitted_after granted before codes bytes broken h none =
       };
       released = λ b. nothing_in broken (record { rule = Release; segment = 0 }) none ((h.exactly Release 0).1 (inr (refl, refl, b)));
     }
+
+empty : (broken : List Broken) → ((b : Broken) → Contains broken b → ⊥) → broken ≡ []
+empty [] h = refl
+empty (b ∷ bs) h = absurd (h b (0, omega arith, refl))
+
+pub nothing_broken : (granted : Granted) (bytes : List ℕ) (broken : List Broken) → IsJudged granted bytes broken
+    → Permitted granted bytes → broken ≡ []
+nothing_broken granted bytes broken h p =
+    empty broken
+    (λ b c.
+    p.none b.rule b.segment
+    (subst (λ (m : MessageView). Breaks granted m b.rule b.segment) (one_message bytes h.message p.message h.is p.is)
+    ((h.exactly b.rule b.segment).0 c)))
+
+pub nothing_broken_after : (granted : Granted) (before codes bytes : List ℕ) (broken : List Broken)
+    → IsJudgedAfter granted before codes bytes broken → PermittedAfter granted before codes bytes → broken ≡ []
+nothing_broken_after granted before codes bytes broken h p =
+    empty broken
+    (λ b c.
+    elim ((h.exactly b.rule b.segment).0 c) [
+      | inl x ↦
+          p.alone.none b.rule b.segment
+          (subst (λ (m : MessageView). Breaks granted m b.rule b.segment)
+          (one_message bytes x.message p.alone.message x.is p.alone.is) x.breaks)
+      | inr x ↦ p.released x.2
+    ])
+
+-- what is permitted is a message
+pub is_message : (granted : Granted) (before : Option SentValue) (codes bytes : List ℕ)
+    → IsPermittedAfter granted before codes bytes → (m : MessageView) × IsMessage bytes m
+is_message granted None codes bytes p = (p.message, p.is)
+is_message granted (Some before) codes bytes p = (p.alone.message, p.alone.is)
 
 pub nothing : {A : Type 0} (xs : List A) → (length xs == 0) ≡ true → xs ≡ []
 nothing [] e = refl

@@ -1,7 +1,9 @@
 //! A client's outbox: what it hands on, the bank's parameters permit.
 ghost use Rattle.std.specs.Prelude.{◌≡◌, [], OnOk, OnErr, IfOk, IfErr};
 ghost use Rattle.fints_rules.specs.Permits.{Granted};
+ghost use Rattle.fints_rules_messages.specs.declared.message.JudgeFault.TheVariants as faults;
 ghost use Rattle.fints_example_outbox.specs.Outboxes.{nothing_sent, with_sent, after_sending, EachWasPermitted, IsNextIn};
+ghost use Rattle.fints_example_outbox.specs.declared.outbox.Held.TheVariants as held;
 
 use fints_params::Code;
 use fints_rules::{Broken, JudgeFault, Memory, Permissions, judge, judge_after};
@@ -105,7 +107,9 @@ impl<'a> Outbox<'a> {
 
     // The rules that the message breaks behind the last one and the bank's answer.
     fn broken(&self, message: &[u8]) -> Result<Vec<Broken>, JudgeFault>
-        ensures { IfOk result (λ broken. broken.items ≡ [] → IsNextIn self.now message.now) }
+        ensures permitted { IfOk result (λ broken. broken.items ≡ [] → IsNextIn self.now message.now) }
+        ensures broken { IfOk result (λ broken. IsNextIn self.now message.now → broken.items ≡ []) }
+        ensures memory_alone { IsNextIn self.now message.now → IfErr result (λ f. f ≡ faults.Memory) }
     {
         match self.sent.last() {
             Some(before) => judge_after(
@@ -119,11 +123,14 @@ impl<'a> Outbox<'a> {
         }
     }
 
-    /// Hands a message on, if the bank permits it behind the one before and the bank's answer to that.
+    /// Hands a message on, if the bank permits it behind the one before and the bank's answer to that. One
+    /// that it permits is held back for want of memory alone.
     pub fn send(&mut self, message: &[u8]) -> Result<(), Held>
         ensures permitted { OnOk result (IsNextIn self.old message.now) }
         ensures sent { OnOk result (self.new ≡ after_sending self.old message.now) }
         ensures held { IfErr result (λ why. self.new ≡ self.old) }
+        ensures memory_alone { IsNextIn self.old message.now
+            → IfErr result (λ why. why ≡ held.Unjudged faults.Memory) }
     {
         let broken = self.broken(message)?;
         if !broken.as_slice().is_empty() {
