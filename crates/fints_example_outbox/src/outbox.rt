@@ -73,12 +73,16 @@ pub enum Held {
 }
 
 impl From<JudgeFault> for Held {
+    ghost from_gives = { λ fault why. why ≡ held.Unjudged fault };
+
     fn from(fault: JudgeFault) -> Held {
         Held::Unjudged(fault)
     }
 }
 
 impl From<Memory> for Held {
+    ghost from_gives = { λ _ why. why ≡ held.Unjudged faults.Memory };
+
     fn from(_: Memory) -> Held {
         Held::Unjudged(JudgeFault::Memory)
     }

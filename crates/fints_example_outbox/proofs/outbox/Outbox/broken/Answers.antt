@@ -1,13 +1,17 @@
-use Rattle.std.proofs.Common.{◌≡◌, ◌∙◌, ◌-◌, ℕ, List, [], Option, Some, None, IfOk, slice_get, length, ap, sym, subst}
+use Rattle.std.proofs.Common.{◌≡◌, ◌∙◌, ◌-◌, ℕ, List, [], Option, Some, None, IfErr, IfOk, slice_get, take, length, ap, sym, subst}
 use Rattle.std.proofs.lemmas.Result.{IfOk-weaker}
 use Rattle.fints_rules.specs.Breaks.{IsJudged, IsJudgedAfter, PermittedAfter}
+use Rattle.fints_rules_messages.specs.Messages.{IsMessage}
+use Rattle.fints_rules_messages.specs.declared.message.JudgeFault.TheVariants.{Memory}
 use Rattle.fints_example_outbox.specs.Inside.{outbox_of}
 use Rattle.fints_example_outbox.specs.Outboxes.{IsNextIn, IsPermittedAfter, OutboxValue, SentValue}
-use Rattle.fints_example_outbox.proofs.Judging.{permitted, permitted_after}
+use Rattle.fints_example_outbox.proofs.Judging.{is_message, nothing_broken, nothing_broken_after, permitted, permitted_after}
 use Rattle.fints_example_outbox.proofs.outbox.Outbox.broken.Goals as goal
 
-pub returns-in-Some : goal.returns-in-Some
-returns-in-Some c =
+-- ---- behind the last message that was sent
+
+pub returns-in-Some-clause-permitted : goal.returns-in-Some-clause-permitted
+returns-in-Some-clause-permitted c =
     let s = outbox_of c.self.inside in
     let message = c.args.message.now in
     let before = c.in-Some.before.now in
@@ -25,8 +29,55 @@ returns-in-Some c =
     subst (λ (o : Option SentValue). IsPermittedAfter s.granted o s.codes message) (sym last) three)
     c.judge_after.ensures.judged)
 
-pub returns-in-None : goal.returns-in-None
-returns-in-None c =
+pub returns-in-Some-clause-broken : goal.returns-in-Some-clause-broken
+returns-in-Some-clause-broken c =
+    let s = outbox_of c.self.inside in
+    let message = c.args.message.now in
+    let before = c.in-Some.before.now in
+    let last : slice_get s.sent (length s.sent - 1) ≡ Some before =
+    ap (λ (xs : List SentValue). slice_get xs (length xs - 1)) (sym c.deref.ensures.value)
+    ∙ sym c.in-Some.ensures.value in
+    let back : IsNextIn s message → PermittedAfter s.granted c.message.result.now c.as_slice.result.now message =
+    λ next.
+    let one = subst (λ (o : Option SentValue). IsPermittedAfter s.granted o s.codes message) last next in
+    let two = subst (λ (codes : List ℕ). PermittedAfter s.granted before.message codes message) (sym c.as_slice.ensures.value) one in
+    subst (λ (b : List ℕ). PermittedAfter s.granted b c.as_slice.result.now message) (sym c.message.ensures) two in
+    subst (λ (v : OutboxValue). IfOk c.judge_after.result (λ broken. IsNextIn v message → broken.items ≡ [])) c.self.view_is
+    (IfOk-weaker c.judge_after.result
+    (λ broken. IsJudgedAfter s.granted c.message.result.now c.as_slice.result.now message broken.items)
+    (λ broken. IsNextIn s message → broken.items ≡ [])
+    (λ broken h next.
+    nothing_broken_after s.granted c.message.result.now c.as_slice.result.now message broken.items h (back next))
+    c.judge_after.ensures.judged)
+
+-- the message before was permitted, and so is a message
+pub returns-in-Some-clause-memory_alone : goal.returns-in-Some-clause-memory_alone
+returns-in-Some-clause-memory_alone c =
+    let s = outbox_of c.self.inside in
+    let message = c.args.message.now in
+    let before = c.in-Some.before.now in
+    let last : slice_get s.sent (length s.sent - 1) ≡ Some before =
+    ap (λ (xs : List SentValue). slice_get xs (length xs - 1)) (sym c.deref.ensures.value)
+    ∙ sym c.in-Some.ensures.value in
+    let back : IsNextIn s message → PermittedAfter s.granted c.message.result.now c.as_slice.result.now message =
+    λ next.
+    let one = subst (λ (o : Option SentValue). IsPermittedAfter s.granted o s.codes message) last next in
+    let two = subst (λ (codes : List ℕ). PermittedAfter s.granted before.message codes message) (sym c.as_slice.ensures.value) one in
+    subst (λ (b : List ℕ). PermittedAfter s.granted b c.as_slice.result.now message) (sym c.message.ensures) two in
+    let front = take (length s.sent - 1) s.sent in
+    let was =
+    is_message s.granted (slice_get front (length front - 1)) before.heard before.message
+    (c.self.invariant (length s.sent - 1) before last) in
+    let earlier = subst (λ (b : List ℕ). IsMessage b was.0) (sym c.message.ensures) was.1 in
+    subst (λ (v : OutboxValue). IsNextIn v message → IfErr c.judge_after.result (λ f. f ≡ Memory)) c.self.view_is
+    (λ next.
+    let p = back next in
+    c.judge_after.ensures.memory_alone was.0 p.alone.message earlier p.alone.is)
+
+-- ---- the first message
+
+pub returns-in-None-clause-permitted : goal.returns-in-None-clause-permitted
+returns-in-None-clause-permitted c =
     let s = outbox_of c.self.inside in
     let message = c.args.message.now in
     let last : slice_get s.sent (length s.sent - 1) ≡ None =
@@ -38,3 +89,29 @@ returns-in-None c =
     subst (λ (o : Option SentValue). IsPermittedAfter s.granted o s.codes message) (sym last)
     (permitted s.granted message broken.items h none))
     c.judge.ensures.judged)
+
+pub returns-in-None-clause-broken : goal.returns-in-None-clause-broken
+returns-in-None-clause-broken c =
+    let s = outbox_of c.self.inside in
+    let message = c.args.message.now in
+    let last : slice_get s.sent (length s.sent - 1) ≡ None =
+    ap (λ (xs : List SentValue). slice_get xs (length xs - 1)) (sym c.deref.ensures.value)
+    ∙ sym c.in-None.ensures.value in
+    subst (λ (v : OutboxValue). IfOk c.judge.result (λ broken. IsNextIn v message → broken.items ≡ [])) c.self.view_is
+    (IfOk-weaker c.judge.result (λ broken. IsJudged s.granted message broken.items) (λ broken. IsNextIn s message → broken.items ≡ [])
+    (λ broken h next.
+    nothing_broken s.granted message broken.items h
+    (subst (λ (o : Option SentValue). IsPermittedAfter s.granted o s.codes message) last next))
+    c.judge.ensures.judged)
+
+pub returns-in-None-clause-memory_alone : goal.returns-in-None-clause-memory_alone
+returns-in-None-clause-memory_alone c =
+    let s = outbox_of c.self.inside in
+    let message = c.args.message.now in
+    let last : slice_get s.sent (length s.sent - 1) ≡ None =
+    ap (λ (xs : List SentValue). slice_get xs (length xs - 1)) (sym c.deref.ensures.value)
+    ∙ sym c.in-None.ensures.value in
+    subst (λ (v : OutboxValue). IsNextIn v message → IfErr c.judge.result (λ f. f ≡ Memory)) c.self.view_is
+    (λ next.
+    let p = subst (λ (o : Option SentValue). IsPermittedAfter s.granted o s.codes message) last next in
+    c.judge.ensures.memory_alone p.message p.is)

@@ -10,7 +10,7 @@ invariant_of-self-2 c =
     let message = c.args.message.now in
     let one : SentValue = record { message = message; heard = o.codes } in
     let none = sym c.as_slice.ensures.value ∙ nothing c.as_slice.result.now (sym c.is_empty.ensures ∙ c.if-not-is_empty.false) in
-    let next = subst (λ (v : OutboxValue). IsNextIn v message) (sym c.self.view_is) (c.in_ok-broken.ensures none) in
+    let next = subst (λ (v : OutboxValue). IsNextIn v message) (sym c.self.view_is) (c.in_ok-broken.ensures.permitted none) in
     let each = each_more o.granted o.sent one c.self.invariant next in
     let kept = subst (λ (heard : List ℕ). EachWasPermitted o.granted (with_sent o.sent message heard)) (sym c.as_slice-2.ensures.value) each in
     subst (EachWasPermitted o.granted) (sym c.in_ok-keep.ensures.kept) kept
