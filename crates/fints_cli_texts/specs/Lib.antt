@@ -1,4 +1,6 @@
 pub mod Fault
 pub mod Judge
 pub mod JudgeAfter
+pub mod Masked
 pub mod Show
+pub mod ShowMessage
