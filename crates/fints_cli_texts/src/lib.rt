@@ -4,6 +4,7 @@
 mod fault;
 mod judging;
 mod judging_after;
+pub mod laws;
 mod masking;
 mod reply;
 mod showing;

@@ -14,8 +14,10 @@ use std::alloc::{AllocError, Global};
 fn mask(alloc: Global, value: &[u8]) -> Result<OwnedItem, AllocError>
     ensures { IfOk result (λ item. item ≡ mask value.now) }
 {
-    let shown = if value.is_empty() { b"".as_slice() } else { b"***" };
-    Ok(OwnedItem::Text(Bytes::copied(alloc, shown)?))
+    match value {
+        [] => Ok(OwnedItem::Text(Bytes::new(Vec::new(alloc)))),
+        [_, ..] => Ok(OwnedItem::Text(Bytes::copied(alloc, b"***")?)),
+    }
 }
 
 // The items of an element, each masked.
