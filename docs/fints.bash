@@ -2,7 +2,7 @@
 _fints() {
     local word=${COMP_WORDS[COMP_CWORD]} before=${COMP_WORDS[COMP_CWORD - 1]} words files= numbers=
     case ${COMP_WORDS[1]} in
-    show) words="--hints --params --help" files="--params" numbers="" ;;
+    show) words="--hints --params --message --help" files="--params --message" numbers="" ;;
     judge) words="--hints --params --orders --before --answer --message --help" files="--params --orders --before --answer --message" numbers="" ;;
     check) words="--hints --params --orders --script --help" files="--params --orders --script" numbers="" ;;
     explain) words="--hints --params --orders --script --help" files="--params --orders --script" numbers="" ;;

@@ -6,7 +6,7 @@ use Rattle.fints_cli_commands.specs.declared.failing.Failure.{Failure}
 use Rattle.fints_cli_commands.specs.declared.failing.Failure.TheVariants.{Input, Unread}
 use Rattle.fints_cli_commands.specs.declared.failing.Refusal.{Refusal}
 use Rattle.fints_cli_words.specs.declared.words.Request.{Request}
-use Rattle.fints_cli_words.specs.declared.words.Request.TheVariants.{BuiltIn, Show, Judge, JudgeAfter, Check, Explain, Certify, Verify}
+use Rattle.fints_cli_words.specs.declared.words.Request.TheVariants.{BuiltIn, Show, ShowMessage, Judge, JudgeAfter, Check, Explain, Certify, Verify}
 use Rattle.fints_cli_words.specs.declared.words.Request.TheVariants as requests
 use Rattle.fints_cli_words.specs.declared.words.JudgeFiles.{JudgeFiles}
 use Rattle.fints_cli_words.specs.declared.words.RunFiles.{RunFiles}
@@ -14,7 +14,8 @@ use Rattle.fints_cli_words.specs.declared.words.ScriptFiles.{ScriptFiles}
 use Rattle.fints_cli_commands.specs.BuiltIn as built_in
 use Rattle.fints_cli_commands.specs.Loading.{Held}
 use Rattle.fints_cli_texts.specs.Show.{IsShowOf, IsMemoryOrShowFault}
-use Rattle.fints_cli_texts.specs.Judge.{IsVerdictOf, IsJudgeRefusal}
+use Rattle.fints_cli_texts.specs.ShowMessage.{IsShownMessage}
+use Rattle.fints_cli_texts.specs.Judge.{IsVerdictOf, IsMessageRefusal, IsJudgeRefusal}
 use Rattle.fints_cli_texts.specs.JudgeAfter.{IsJudgeAfterRefusal, IsVerdictAfter}
 use Rattle.fints_cli_reports.specs.Told.{IsRefused, IsToldOf}
 use Rattle.fints_cli_reports.specs.declared.telling.Wanted.TheVariants.{Report, Cases, Certificate}
@@ -55,6 +56,8 @@ AnswersTo BuiltIn holds status text =
     IsToldOf Report built_in.capture built_in.orders built_in.script status text
 AnswersTo (Show params) holds status text =
     (status ≡ 0) × IfSome (holds params.now) (λ capture. IsShowOf capture text)
+AnswersTo (ShowMessage message) holds status text =
+    (status ≡ 0) × IfSome (holds message.now) (λ bytes. IsShownMessage bytes text)
 AnswersTo (Judge files) holds status text =
     OfMessage holds files (λ capture table message. IsVerdictOf capture table message status text)
 AnswersTo (JudgeAfter files earlier) holds status text =
@@ -77,6 +80,7 @@ AnswersTo (requests.Run files only) holds status text =
 abbrev pub Refuses : Request → Held → Fault → Type 0
 Refuses BuiltIn holds fault = IsRefused built_in.capture built_in.orders built_in.script fault
 Refuses (Show params) holds fault = IfSome (holds params.now) (λ capture. IsMemoryOrShowFault capture fault)
+Refuses (ShowMessage message) holds fault = IfSome (holds message.now) (λ bytes. IsMessageRefusal bytes fault)
 Refuses (Judge files) holds fault =
     OfMessage holds files (λ capture table message. IsJudgeRefusal capture table message fault)
 Refuses (JudgeAfter files earlier) holds fault =

@@ -7,7 +7,7 @@ use Rattle.fints_cli_commands.specs.declared.loading.Paths.{Paths}
 use Rattle.fints_cli_files.specs.Streams.{ReadCounts}
 use Rattle.fints_cli_files.specs.Loading.{HasFailed, NoneFailed, IsLonger, AreUsedUp}
 use Rattle.fints_cli_words.specs.declared.words.Request.{Request}
-use Rattle.fints_cli_words.specs.declared.words.Request.TheVariants.{BuiltIn, Show, Judge, JudgeAfter, Check, Explain, Certify, Verify}
+use Rattle.fints_cli_words.specs.declared.words.Request.TheVariants.{BuiltIn, Show, ShowMessage, Judge, JudgeAfter, Check, Explain, Certify, Verify}
 use Rattle.fints_cli_words.specs.declared.words.Request.TheVariants as requests
 use Rattle.fints_cli_words.specs.declared.words.JudgeFiles.{JudgeFiles}
 use Rattle.fints_cli_words.specs.declared.words.ScriptFiles.{ScriptFiles}
@@ -43,6 +43,7 @@ judge_paths files =
 abbrev pub paths_of : Request → Paths
 paths_of BuiltIn = no_paths
 paths_of (Show params) = record no_paths { shown = Some params }
+paths_of (ShowMessage message) = record no_paths { message = Some message }
 paths_of (Judge files) = judge_paths files
 paths_of (JudgeAfter files earlier) =
     record (judge_paths files) { before = Some earlier.before; answer = Some earlier.answer }

@@ -17,7 +17,7 @@ use fints_cli_hints_reasons::judged_reasons;
 use fints_cli_hints_segments::skipped_notes;
 use fints_cli_hints_verdicts::{report_reasons, verified_reason};
 use fints_cli_reports::{Wanted, run_case, tell_read, tell_script, verify_read};
-use fints_cli_texts::{Fault, Reply, judge_after_read, judge_read, show};
+use fints_cli_texts::{Fault, Reply, judge_after_read, judge_read, show, show_message};
 use fints_cli_words::Request;
 use fints_params::{ParamFault, Params};
 use std::alloc::Global;
@@ -58,6 +58,10 @@ fn answer(
         Request::BuiltIn => tell_built_in(alloc),
         Request::Show { .. } => {
             let text = show(alloc, &contents.shown)?;
+            Ok(Reply { status: 0, text })
+        }
+        Request::ShowMessage { .. } => {
+            let text = show_message(alloc, &contents.message)?;
             Ok(Reply { status: 0, text })
         }
         Request::Judge(_) => judge_read(alloc, params, orders, &contents.message),
@@ -108,7 +112,7 @@ fn reasons(alloc: Global, request: &Request<'_>, contents: &Contents, hints: boo
             report_reasons(alloc, &inputs).unwrap_or(None)
         }
         Request::Verify { .. } => verified_reason(alloc, &inputs).unwrap_or(None),
-        Request::BuiltIn | Request::Run { .. } => None,
+        Request::BuiltIn | Request::ShowMessage { .. } | Request::Run { .. } => None,
     }
 }
 

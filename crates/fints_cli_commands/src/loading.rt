@@ -74,6 +74,10 @@ pub fn paths_of<'a>(request: &Request<'a>) -> Paths<'a>
             shown: Some(params),
             ..NONE
         },
+        Request::ShowMessage { message } => Paths {
+            message: Some(message),
+            ..NONE
+        },
         Request::Judge(files) => judge_paths(files),
         Request::JudgeAfter { files, earlier } => Paths {
             before: Some(earlier.before),

@@ -1,5 +1,5 @@
 //! The calls behind the commands.
-use fints_cli::{Fault, built_in, judge_message, run_case, show};
+use fints_cli::{Fault, built_in, judge_message, run_case, show, show_message};
 use std::alloc::Global;
 use std::test::Fail;
 
@@ -17,6 +17,25 @@ fn shown(rt: HostRuntime) -> Result<(), Fail> {
         text.as_slice()
             == b"bank 280 10020030 kinds 1 kilobytes 0 protocols 300\npin HKSAL N\npin HKKAZ N\npin HKCCS J\nusage 0\nskipped 0\n".as_slice()
     );
+    Ok(())
+}
+
+// With a PIN and a TAN, sealed, and a byte that would break a line.
+const SEALED: &[u8] = b"HNHBK:1:3+000000000122+300+0+1'HNVSK:998:3+\n'HNVSD:999:1+@48@HNSHK:2:4'HKEND:3:1+0'HNSHA:4:2+1++12345:123456''HNHBS:5:1+1'";
+
+const SHOWN: &[u8] = b"HNHBK:1:3+000000000122+300+0+1'
+HNVSK:998:3+?<0a>'
+HNVSD:999:1+'
+  HNSHK:2:4'
+  HKEND:3:1+0'
+  HNSHA:4:2+1++***:***'
+HNHBS:5:1+1'
+";
+
+#[test]
+fn masked(rt: HostRuntime) -> Result<(), Fail> {
+    let text = show_message(rt.alloc(), SEALED)?;
+    assert!(rt; text.as_slice() == SHOWN);
     Ok(())
 }
 

@@ -1,2 +1,4 @@
 pub mod JudgeLemmas
+pub mod LawLemmas
 pub mod ShowLemmas
+pub mod ShowMessageLemmas

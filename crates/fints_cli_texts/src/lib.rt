@@ -4,11 +4,15 @@
 mod fault;
 mod judging;
 mod judging_after;
+pub mod laws;
+mod masking;
 mod reply;
 mod showing;
+mod showing_message;
 
 pub use fault::Fault;
 pub use judging::{judge_message, judge_read};
 pub use judging_after::judge_after_read;
 pub use reply::Reply;
 pub use showing::show;
+pub use showing_message::show_message;

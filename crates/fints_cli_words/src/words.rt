@@ -4,7 +4,7 @@ ghost use Rattle.fints_cli_words.specs.declared.words.Asked.TheVariants as asked
 ghost use Rattle.fints_cli_words.specs.declared.words.Request.TheVariants as request;
 
 use clap::error::ErrorKind;
-use clap::{Arg, ArgAction, ArgMatches, Command, Error, value_parser};
+use clap::{Arg, ArgAction, ArgGroup, ArgMatches, Command, Error, value_parser};
 use std::alloc::{AllocError, Global};
 
 // What stands after the options of `fints --help`.
@@ -71,6 +71,10 @@ pub enum Request<'a> {
     Show {
         params: &'a str,
     },
+    /// The segments of a message, without its secrets.
+    ShowMessage {
+        message: &'a str,
+    },
     /// The rules that a message breaks, by a capture and an order table.
     Judge(JudgeFiles<'a>),
     /// Those that it breaks behind the message before it and the bank's answer to that.
@@ -114,6 +118,8 @@ pub enum Asked<'a> {
 enum Choice {
     // A file: the name of the option, and what the command's help says of it.
     File(&'static str, &'static str),
+    // A file: of those of a command that are said so, exactly one is given.
+    Either(&'static str, &'static str),
     // A file that goes with that of another option, so that both are given or neither.
     Beside(&'static str, &'static str, &'static str),
     // The number of a message.
@@ -140,6 +146,10 @@ const ANSWER: Choice = Choice::Beside(
 
 const MESSAGE: Choice = Choice::File("message", "The message");
 
+const SHOWN_CAPTURE: Choice = Choice::Either("params", "The capture");
+
+const SHOWN_MESSAGE: Choice = Choice::Either("message", "The message");
+
 // A command: its name, what its help says of it, and its options.
 struct Described {
     name: &'static str,
@@ -150,8 +160,8 @@ struct Described {
 const COMMANDS: [Described; 7] = [
     Described {
         name: "show",
-        about: "Shows what a capture says of the bank and the user",
-        options: &[PARAMS],
+        about: "Shows what a capture says of the bank and the user, or a message without PIN and TAN",
+        options: &[SHOWN_CAPTURE, SHOWN_MESSAGE],
     },
     Described {
         name: "judge",
@@ -190,7 +200,6 @@ fn file_option<'a>(alloc: Global, name: &'a str, help: &'a str) -> Arg<'a> {
         .long(name)
         .value_name("FILE")
         .help(help)
-        .required(true)
         .action(ArgAction::Set)
 }
 
@@ -200,12 +209,7 @@ fn beside_option<'a>(
     help: &'a str,
     other: &'a str,
 ) -> Result<Arg<'a>, AllocError> {
-    Arg::new(alloc, name)
-        .long(name)
-        .value_name("FILE")
-        .help(help)
-        .action(ArgAction::Set)
-        .requires_arg(other)
+    file_option(alloc, name, help).requires_arg(other)
 }
 
 fn number_option<'a>(alloc: Global) -> Arg<'a> {
@@ -219,10 +223,22 @@ fn number_option<'a>(alloc: Global) -> Arg<'a> {
 
 fn option<'a>(alloc: Global, choice: &Choice) -> Result<Arg<'a>, AllocError> {
     match choice {
-        Choice::File(name, help) => Ok(file_option(alloc, name, help)),
+        Choice::File(name, help) => Ok(file_option(alloc, name, help).required(true)),
+        Choice::Either(name, help) => Ok(file_option(alloc, name, help)),
         Choice::Beside(name, help, other) => beside_option(alloc, name, help, other),
         Choice::Number => Ok(number_option(alloc)),
     }
+}
+
+// The options of which exactly one is given.
+fn either_group<'a>(alloc: Global, options: &[Choice]) -> Result<ArgGroup<'a>, AllocError> {
+    let mut group = ArgGroup::new(alloc, "either").required(true);
+    for choice in options {
+        if let Choice::Either(name, _) = choice {
+            group = group.arg(name)?;
+        }
+    }
+    Ok(group)
 }
 
 // A command with its options.
@@ -233,7 +249,11 @@ fn command<'a>(alloc: Global, described: &Described) -> Result<Command<'a>, Allo
     for choice in described.options {
         command = command.arg(option(alloc, choice)?)?;
     }
-    Ok(command)
+    let either = either_group(alloc, described.options)?;
+    if either.get_args().is_empty() {
+        return Ok(command);
+    }
+    command.group(either)
 }
 
 // The option that each command has.
@@ -303,6 +323,7 @@ fn standard_inputs(request: &Request<'_>) -> usize {
     match request {
         Request::BuiltIn => 0,
         Request::Show { params } => count_inputs(&[*params]),
+        Request::ShowMessage { message } => count_inputs(&[*message]),
         Request::Judge(files) => judge_inputs(files),
         Request::JudgeAfter { files, earlier } => {
             judge_inputs(files).saturating_add(count_inputs(&[earlier.before, earlier.answer]))
@@ -371,6 +392,9 @@ fn run_files<'a>(options: &ArgMatches<'a>) -> Option<RunFiles<'a>> {
 }
 
 fn show_request<'a>(options: &ArgMatches<'a>) -> Option<Request<'a>> {
+    if let Some(message) = options.get_str("message") {
+        return Some(Request::ShowMessage { message });
+    }
     let params = options.get_str("params")?;
     Some(Request::Show { params })
 }

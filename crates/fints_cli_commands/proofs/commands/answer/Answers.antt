@@ -1,4 +1,5 @@
 use Rattle.std.proofs.lemmas.Result.{IfErr-weaker}
+use Rattle.fints_cli_texts.specs.Judge.{IsMessageRefusal}
 use Rattle.fints_cli_texts.specs.Show.{IsMemoryOrShowFault}
 use Rattle.fints_cli_commands.proofs.Answering.{judge_refused, judge_after_refused, run_refused}
 use Rattle.fints_cli_commands.proofs.Reading.{of_exit, of_file}
@@ -10,6 +11,15 @@ returns-in_err-text-in-Show-clause-refused c =
     let refused = rw c.deref.ensures.value at c.in_err-text-in-Show.ensures.refused in
     rw c.in-Show.is (of_exit c.from_residual.result fault _ c.from_residual.ensures.1 (λ holds loaded.
     of_file (λ capture. IsMemoryOrShowFault capture fault) (holds c.in-Show.params.now) _ loaded.shown refused))
+
+pub returns-in_err-text-in-ShowMessage-clause-refused : goal.returns-in_err-text-in-ShowMessage-clause-refused
+returns-in_err-text-in-ShowMessage-clause-refused c =
+    let fault = c.in_err-text-in-ShowMessage.field-0.0 in
+    let message = c.deref-in-ShowMessage.ensures.value in
+    let refused = rw message at c.in_err-text-in-ShowMessage.ensures.refused in
+    let exit = c.from_residual-in_err-text-in-ShowMessage.ensures.1 in
+    rw c.in-ShowMessage.is (of_exit c.from_residual-in_err-text-in-ShowMessage.result fault _ exit (λ holds loaded.
+    of_file (λ bytes. IsMessageRefusal bytes fault) (holds c.in-ShowMessage.message.now) _ loaded.message refused))
 
 pub returns-in_err-text-in-Run-clause-refused : goal.returns-in_err-text-in-Run-clause-refused
 returns-in_err-text-in-Run-clause-refused c =

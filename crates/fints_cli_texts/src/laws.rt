@@ -1,0 +1,12 @@
+//! Laws of messages that are shown: each function's contract is one.
+ghost use Rattle.fints_cli_texts.specs.Laws.{OneShownMessage, SecretsAreUnshown};
+
+/// A message is shown in one way.
+pub fn one_shown_message()
+    ensures { OneShownMessage }
+{}
+
+/// A segment with another PIN, TAN or new PIN has the same line, where the same of them are empty.
+pub fn secrets_are_unshown()
+    ensures { SecretsAreUnshown }
+{}

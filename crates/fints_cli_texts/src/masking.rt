@@ -1,0 +1,120 @@
+//! Segments without their secrets (FinTS 3.0, Security, PIN/TAN: HNSHA, the user defined signature; HKPAE).
+ghost use Rattle.std.specs.Prelude.{◌≡◌, ◌-◌, ◌<◌, ◌≤◌, ◌++◌, ◌∷◌, [], length, map, drop, OnOk, IfOk};
+ghost use Rattle.std.specs.List.{AllByRecursion};
+ghost use Rattle.fints_syntax_segments.specs.Lent.{item_of_ref};
+ghost use Rattle.fints_syntax_segments.specs.Segment.{item_value};
+ghost use Rattle.fints_syntax_segments.specs.declared.item.OwnedItem.TheVariants.{Text};
+ghost use Rattle.fints_cli_texts.specs.Masked.{emptied_at, mask, masked_at, with_items};
+ghost use Rattle.fints_cli_texts.specs.ShowMessage.{HasItems};
+
+use fints_syntax::{Bytes, ElementRef, Elements, ItemRef, Memory, OwnedItem, OwnedSegment};
+use std::alloc::{AllocError, Global};
+
+// A secret, masked.
+fn mask(alloc: Global, value: &[u8]) -> Result<OwnedItem, AllocError>
+    ensures { IfOk result (λ item. item ≡ mask value.now) }
+{
+    match value {
+        [] => Ok(OwnedItem::Text(Bytes::new(Vec::new(alloc)))),
+        [_, ..] => Ok(OwnedItem::Text(Bytes::copied(alloc, b"***")?)),
+    }
+}
+
+// The items of an element, each masked.
+fn masked_items(alloc: Global, items: &ElementRef<'_>) -> Result<Vec<OwnedItem>, AllocError>
+    ensures { IfOk result (λ masked. masked.items ≡ map mask (map item_value items.now)) }
+{
+    let mut masked = Vec::new(alloc);
+    for i in 0..items.len() {
+        masked.push(mask(alloc, items.value(i + 1))?)?;
+    }
+    Ok(masked)
+}
+
+fn copied(alloc: Global, item: &ItemRef<'_>) -> Result<OwnedItem, AllocError>
+    ensures { IfOk result (λ copy. copy ≡ item_of_ref item.now) }
+{
+    match item {
+        ItemRef::Text(value) => Ok(OwnedItem::Text(Bytes::copied(alloc, value)?)),
+        ItemRef::Bin(value) => Ok(OwnedItem::Bin(Bytes::copied(alloc, value)?)),
+    }
+}
+
+// Adds copies of the items of an element, but for so many at its front.
+fn copy_items(
+    alloc: Global,
+    out: &mut Vec<OwnedItem>,
+    items: &ElementRef<'_>,
+    skipped: usize,
+) -> Result<(), AllocError>
+    ensures { OnOk result (out.new.items ≡ out.old.items ++ drop skipped items.now) }
+{
+    for i in skipped..items.len() {
+        let Some(item) = items.get(i + 1) else {
+            unreachable!()
+        };
+        out.push(copied(alloc, &item)?)?;
+    }
+    Ok(())
+}
+
+// Adds a copy of an element.
+fn copy_element(
+    alloc: Global,
+    elements: &mut Elements,
+    items: &ElementRef<'_>,
+) -> Result<(), Memory>
+    requires { 0 < length items.now }
+    ensures { OnOk result (elements.new ≡ elements.old ++ items.now ∷ []) }
+{
+    let mut copies = Vec::new(alloc);
+    copy_items(alloc, &mut copies, items, 0)?;
+    elements.push(copies.as_slice())
+}
+
+// A copy of the segment, with these items in an element.
+fn with_items(
+    alloc: Global,
+    segment: &OwnedSegment,
+    element: usize,
+    items: &[OwnedItem],
+) -> Result<OwnedSegment, Memory>
+    requires after_head { 2 ≤ element }
+    requires some { HasItems (with_items segment.now element items.now) }
+    ensures { IfOk result (λ copy. copy ≡ with_items segment.now element items.now) }
+{
+    let mut elements = Elements::new(alloc);
+    for i in 0..segment.elements.len() {
+        if i == element - 2 {
+            elements.push(items)?;
+        } else {
+            copy_element(alloc, &mut elements, &segment.elements.items(i))?;
+        }
+    }
+    Ok(OwnedSegment {
+        head: segment.head,
+        elements,
+    })
+}
+
+/// A copy of the segment, with each item of an element masked.
+pub fn masked_at(alloc: Global, segment: &OwnedSegment, element: usize) -> Result<OwnedSegment, Memory>
+    requires after_head { 2 ≤ element }
+    requires items { HasItems segment.now }
+    ensures { IfOk result (λ copy. copy ≡ masked_at segment.now element) }
+{
+    let items = masked_items(alloc, &segment.items(element))?;
+    with_items(alloc, segment, element, items.as_slice())
+}
+
+/// A copy of the segment, with item 1 of an element empty.
+pub fn emptied_at(alloc: Global, segment: &OwnedSegment, element: usize) -> Result<OwnedSegment, Memory>
+    requires after_head { 2 ≤ element }
+    requires items { HasItems segment.now }
+    ensures { IfOk result (λ copy. copy ≡ emptied_at segment.now element) }
+{
+    let mut items = Vec::new(alloc);
+    items.push(OwnedItem::Text(Bytes::new(Vec::new(alloc))))?;
+    copy_items(alloc, &mut items, &segment.items(element), 1)?;
+    with_items(alloc, segment, element, items.as_slice())
+}
