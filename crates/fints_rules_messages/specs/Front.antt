@@ -65,6 +65,13 @@ NoneStands bytes openers body ends =
     (t : List (List Spelled)) (more : List ℕ) → IsSegment t → bytes ≡ segment_bytes t ++ more
     → CanStand (segment_of t) openers body ends → ⊥
 
+-- the same behind these inner segments
+abbrev pub CanStandBehind : Inner → OwnedSegment → Type 0
+CanStandBehind inner s = CanStand s inner.openers (length inner.body.items) (length inner.ends.items)
+
+abbrev pub NoneStandsBehind : Inner → List ℕ → Type 0
+NoneStandsBehind inner bytes = NoneStands bytes inner.openers (length inner.body.items) (length inner.ends.items)
+
 -- a form: which segments are one, with this body and these HNSHA
 abbrev pub Form : Type 1
 Form = List OwnedSegment → List OwnedSegment → List OwnedSegment → Type 0

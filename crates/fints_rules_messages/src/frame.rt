@@ -1,5 +1,5 @@
 //! Single segments of the frame.
-ghost use Rattle.std.specs.Prelude.{◌↔◌, ◌+◌, ◌^◌, ◌<◌, ◌≤◌, IsTrue, length};
+ghost use Rattle.std.specs.Prelude.{◌↔◌, ◌+◌, ◌<◌, ◌≤◌, IsTrue, length};
 ghost use Rattle.fints_syntax.specs.Owned.{segment_of};
 ghost use Rattle.fints_rules_messages.specs.Messages.{IsLast, IsSealHead};
 ghost use Rattle.fints_rules_messages.specs.Front.{IsEndBehind, ClosesAs};
@@ -33,7 +33,6 @@ pub fn is_seal_head(view: &SegmentView<'_>) -> bool
 
 // Whether it is HNHBS behind the inner segments.
 fn is_end(view: &SegmentView<'_>, number: u64, inner: &Inner<'_>) -> bool
-    requires { inner.now.openers + (length inner.now.body.items + length inner.now.ends.items) < 2 ^ 16 }
     ensures { IsTrue result ↔ IsEndBehind number (segment_of view.now) inner.now }
 {
     if !is_last(view, number) {
@@ -55,8 +54,7 @@ pub fn close<'a>(
     number: u64,
     inner: Inner<'a>,
 ) -> Tail<'a>
-    requires within { at + len ≤ length bytes.now }
-    requires few { inner.openers + (length inner.body.items + length inner.ends.items) < 2 ^ 16 }
+    requires { at + len ≤ length bytes.now }
     ensures { ClosesAs number (segment_of last.now) inner.entry at len (length bytes.now) result }
 {
     if !is_end(last, number, &inner) {

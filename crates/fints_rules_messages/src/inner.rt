@@ -1,7 +1,7 @@
 //! The segments between the first and the last of a message.
-ghost use Rattle.std.specs.Prelude.{◌↔◌, ◌+◌, ◌^◌, ◌<◌, ◌≤◌, IsTrue, IfOk, IfSome, IfNone, length, drop};
+ghost use Rattle.std.specs.Prelude.{◌↔◌, ◌^◌, ◌<◌, ◌≤◌, IsTrue, IfOk, IfSome, IfNone, length, drop};
 ghost use Rattle.fints_syntax.specs.Owned.{segment_of};
-ghost use Rattle.fints_rules_messages.specs.Front.{IsNextSegment, HasNoNext, CanStand, IsFront, NoneStands};
+ghost use Rattle.fints_rules_messages.specs.Front.{IsNextSegment, HasNoNext, IsFront, CanStandBehind, NoneStandsBehind};
 
 use crate::front::Inner;
 use crate::part::{Part, part_of};
@@ -19,12 +19,12 @@ pub fn next_segment(bytes: &[u8]) -> Option<(SegmentView<'_>, usize)>
     }
 }
 
-/// Whether a segment can stand behind so many HNSHK, segments of the body and HNSHA.
-pub fn can_stand(view: &SegmentView<'_>, openers: usize, body: usize, ends: usize) -> bool
-    requires { openers + (body + ends) < 2 ^ 16 }
-    ensures few { IsTrue result → 2 + (openers + (body + ends)) < 2 ^ 16 }
-    ensures stands { IsTrue result ↔ CanStand (segment_of view.now) openers body ends }
+/// Whether a segment can stand behind the inner segments.
+pub fn can_stand(view: &SegmentView<'_>, inner: &Inner<'_>) -> bool
+    ensures few { IsTrue result → (segment_of view.now).head.number < 2 ^ 16 }
+    ensures stands { IsTrue result ↔ CanStandBehind inner.now (segment_of view.now) }
 {
+    let (openers, body, ends) = (inner.openers, inner.body.len(), inner.ends.len());
     if usize::from(view.number()) != 2 + (openers + (body + ends)) {
         return false;
     }
@@ -36,21 +36,15 @@ pub fn can_stand(view: &SegmentView<'_>, openers: usize, body: usize, ends: usiz
     }
 }
 
-// The segment at the front, where it can stand behind so many, and its length.
-fn next_inner(
-    bytes: &[u8],
-    openers: usize,
-    body: usize,
-    ends: usize,
-) -> Option<(SegmentView<'_>, usize)>
-    requires { openers + (body + ends) < 2 ^ 16 }
+// The segment at the front, where it can stand behind the inner segments, and its length.
+fn next_inner<'b>(bytes: &'b [u8], inner: &Inner<'_>) -> Option<(SegmentView<'b>, usize)>
     ensures next { IfSome result (λ r. IsNextSegment bytes.now r.0 r.1) }
-    ensures stands { IfSome result (λ r. CanStand (segment_of r.0) openers body ends) }
-    ensures few { IfSome result (λ _. 2 + (openers + (body + ends)) < 2 ^ 16) }
-    ensures none { IfNone result (NoneStands bytes.now openers body ends) }
+    ensures stands { IfSome result (λ r. CanStandBehind inner.now (segment_of r.0)) }
+    ensures few { IfSome result (λ r. (segment_of r.0).head.number < 2 ^ 16) }
+    ensures none { IfNone result (NoneStandsBehind inner.now bytes.now) }
 {
     match next_segment(bytes) {
-        Some((view, len)) if can_stand(&view, openers, body, ends) => Some((view, len)),
+        Some((view, len)) if can_stand(&view, inner) => Some((view, len)),
         _ => None,
     }
 }
@@ -58,30 +52,25 @@ fn next_inner(
 /// Reads segments as long as they can stand between the first and the last of a message.
 pub fn read_inner<'a>(alloc: Global, bytes: &'a [u8]) -> Result<Inner<'a>, AllocError>
     ensures front { IfOk result (λ r. IsFront bytes.now r.at r.openers r.body.items r.ends.items) }
-    ensures few { IfOk result (λ r. r.openers + (length r.body.items + length r.ends.items) < 2 ^ 16) }
     ensures within { IfOk result (λ r. r.at ≤ length bytes.now) }
-    ensures stopped { IfOk result (λ r.
-        NoneStands (drop r.at bytes.now) r.openers (length r.body.items) (length r.ends.items)) }
+    ensures stopped { IfOk result (λ r. NoneStandsBehind r (drop r.at bytes.now)) }
 {
-    let mut at = 0;
-    let mut openers = 0;
-    let mut body = Vec::new(alloc);
-    let mut ends = Vec::new(alloc);
+    let mut inner = Inner {
+        at: 0,
+        openers: 0,
+        body: Vec::new(alloc),
+        ends: Vec::new(alloc),
+    };
     loop {
-        let (_, rest) = bytes.split_at(at);
-        let Some((view, len)) = next_inner(rest, openers, body.len(), ends.len()) else {
-            return Ok(Inner {
-                at,
-                openers,
-                body,
-                ends,
-            });
+        let (_, rest) = bytes.split_at(inner.at);
+        let Some((view, len)) = next_inner(rest, &inner) else {
+            return Ok(inner);
         };
-        at += len;
+        inner.at += len;
         match part_of(&view) {
-            Part::Opener => openers += 1,
-            Part::Ender => ends.push(view)?,
-            _ => body.push(view)?,
+            Part::Opener => inner.openers += 1,
+            Part::Ender => inner.ends.push(view)?,
+            _ => inner.body.push(view)?,
         }
     }
 }

@@ -1,5 +1,5 @@
 //! The sealed form of a message.
-ghost use Rattle.std.specs.Prelude.{◌+◌, ◌^◌, ◌<◌, IfOk, IfSome, length};
+ghost use Rattle.std.specs.Prelude.{◌+◌, ◌<◌, IfOk, length};
 ghost use Rattle.fints_syntax.specs.Owned.{segment_of};
 ghost use Rattle.fints_rules_messages.specs.Messages.{IsTail};
 ghost use Rattle.fints_rules_messages.specs.Front.{IsNumber, TailIs, StopsWithin, IsSealedRest, HasSealHead, EnvelopeIs};
@@ -16,9 +16,7 @@ use std::alloc::{AllocError, Global};
 
 /// The inner segments that an envelope holds, if it is one.
 fn open_envelope<'a>(alloc: Global, view: &SegmentView<'a>) -> Result<Option<Inner<'a>>, AllocError>
-    ensures envelope { IfOk result (λ o. EnvelopeIs o (segment_of view.now)) }
-    ensures few { IfOk result (λ o.
-        IfSome o (λ i. i.openers + (length i.body.items + length i.ends.items) < 2 ^ 16)) }
+    ensures { IfOk result (λ o. EnvelopeIs o (segment_of view.now)) }
 {
     if !is_named(view, b"HNVSD", HNVSD_VERSION) {
         return Ok(None);

@@ -3,8 +3,8 @@ use Rattle.fints_rules_messages.proofs.Seals.{data_inner, envelope_text, opened,
 use Rattle.fints_syntax.proofs.LawLemmas.{one_segment_text}
 use Rattle.fints_rules_messages.proofs.sealed.open_envelope.Goals as goal
 
-pub returns-then-inner-data-clause-envelope : goal.returns-then-inner-data-clause-envelope
-returns-then-inner-data-clause-envelope c = λ inner b e is g n.
+pub returns-then-inner-data : goal.returns-then-inner-data
+returns-then-inner-data c = λ inner b e is g n.
     let i = c.in_ok-inner.inner in
     let all =
     data_inner one_segment_text c.in-Some.data.now i.at i.openers i.body.items i.ends.items inner b e
@@ -12,8 +12,8 @@ returns-then-inner-data-clause-envelope c = λ inner b e is g n.
     (envelope_text inner _ c.in-Some.data.now c.in-Some.ensures.some is) g n in
     omega (arith, all.all, c.if-inner-data.true)
 
-pub returns-then-len-inner-clause-envelope : goal.returns-then-len-inner-clause-envelope
-returns-then-len-inner-clause-envelope c = λ inner b e is g n.
+pub returns-then-len-inner : goal.returns-then-len-inner
+returns-then-len-inner c = λ inner b e is g n.
     let i = c.in_ok-inner.inner in
     let all =
     data_inner one_segment_text c.in-Some.data.now i.at i.openers i.body.items i.ends.items inner b e
@@ -21,8 +21,8 @@ returns-then-len-inner-clause-envelope c = λ inner b e is g n.
     (envelope_text inner _ c.in-Some.data.now c.in-Some.ensures.some is) g n in
     omega (arith, all.as_many, c.if-len-inner.true, c.len.ensures)
 
-pub returns-clause-envelope : goal.returns-clause-envelope
-returns-clause-envelope c =
+pub returns : goal.returns
+returns c =
     let i = c.in_ok-inner.inner in
     opened _ c.in-Some.data.now i.at i.openers i.body.items i.ends.items (sym c.if-not-is_named.ensures)
     (head_number _ 999 (c.number.ensures ∙ ap Some c.if-number-ne-HNVSD_NUMBER.false))

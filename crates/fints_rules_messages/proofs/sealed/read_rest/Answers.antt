@@ -12,14 +12,14 @@ pub returns-in_default-2-clause-rest : goal.returns-in_default-2-clause-rest
 returns-in_default-2-clause-rest c =
     stop_closed c.args.rest.now c.in-Some.len c.args.number c.in-Some.view c.requires c.in-Some.ensures.some
     (subst (λ o. EnvelopeIs o (segment_of c.in-Some.view)) c.in_default-2.is
-    c.in_ok-inner.ensures.envelope)
+    c.in_ok-inner.ensures)
 
 pub returns-in_default-next_segment-clause-rest : goal.returns-in_default-next_segment-clause-rest
 returns-in_default-next_segment-clause-rest c =
     let i = c.in-Some-2.inner in
     let o : IsOpened (segment_of c.in-Some.view) i.openers (segments_of i.body.items)
     (segments_of i.ends.items) =
-    subst (λ o. EnvelopeIs o (segment_of c.in-Some.view)) c.in-Some-2.is c.in_ok-inner.ensures.envelope in
+    subst (λ o. EnvelopeIs o (segment_of c.in-Some.view)) c.in-Some-2.is c.in_ok-inner.ensures in
     let none : HasNoNext (drop c.in-Some.len c.args.rest.now) = subst HasNoNext c.split_at.ensures.back c.in_default-next_segment.ensures.none in
     stop_envelope one_segment_text c.args.rest.now c.in-Some.len i.openers c.args.number i.body.items
     i.ends.items c.in-Some.view c.requires c.in-Some.ensures.some o (λ u more is e _. none u more is e)
@@ -29,7 +29,7 @@ returns-clause-rest c =
     let i = c.in-Some-2.inner in
     let o : IsOpened (segment_of c.in-Some.view) i.openers (segments_of i.body.items)
     (segments_of i.ends.items) =
-    subst (λ o. EnvelopeIs o (segment_of c.in-Some.view)) c.in-Some-2.is c.in_ok-inner.ensures.envelope in
+    subst (λ o. EnvelopeIs o (segment_of c.in-Some.view)) c.in-Some-2.is c.in_ok-inner.ensures in
     let g : IsNextSegment (drop c.in-Some.len c.args.rest.now) c.in-Some-next_segment.last
     c.in-Some-next_segment.n =
     subst (λ z. IsNextSegment z c.in-Some-next_segment.last c.in-Some-next_segment.n)
