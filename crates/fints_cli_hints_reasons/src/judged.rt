@@ -178,7 +178,8 @@ fn judged_lines(
         return Ok(None);
     };
     let kinds = kinds_in(alloc, bank.permissions, message.body())?;
-    if !broken.is_empty() && kinds.are_all(is_of_bank) {
+    let sent = kinds.as_slice();
+    if !broken.is_empty() && !sent.is_empty() && sent.iter().all(is_of_bank) {
         return Ok(Some(answer_line(alloc)?));
     }
     let judged = Judged {

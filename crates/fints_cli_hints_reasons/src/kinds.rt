@@ -49,8 +49,8 @@ impl Kinds {
         count
     }
 
-    /// Whether there is one, and each passes the test.
-    pub fn are_all(&self, test: fn(&Kind) -> bool) -> bool {
-        !self.sorted.is_empty() && self.sorted.iter().all(test)
+    /// The kinds of the segments, in order.
+    pub fn as_slice(&self) -> &[Kind] {
+        self.sorted.as_slice()
     }
 }

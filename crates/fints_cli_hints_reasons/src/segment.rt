@@ -66,10 +66,10 @@ struct Versions<'a>(&'a [(Kind, u16)]);
 
 impl Display for Versions<'_> {
     fn fmt<W: Write>(&self, f: &mut Formatter<W>) -> fmt::Result {
-        let mut comma = "";
-        for (_, version) in self.0.iter().take(MOST_VERSIONS) {
+        let listed = self.0.get(..MOST_VERSIONS).unwrap_or(self.0);
+        for (i, (_, version)) in listed.iter().enumerate() {
+            let comma = if i == 0 { "" } else { ", " };
             write!(f, "{comma}{version}")?;
-            comma = ", ";
         }
         if self.0.len() > MOST_VERSIONS {
             f.write_str(", ..")?;
