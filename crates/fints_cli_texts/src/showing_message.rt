@@ -109,7 +109,8 @@ fn segments_in(alloc: Global, bytes: &[u8]) -> Result<Vec<OwnedSegment>, Memory>
             unreachable!()
         };
         segments.push(view.to_owned(alloc)?)?;
-        rest = &rest[len..];
+        let (_, more) = rest.split_at(len);
+        rest = more;
     }
     Ok(segments)
 }
