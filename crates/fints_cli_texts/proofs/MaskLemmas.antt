@@ -1,5 +1,5 @@
 -- Elements and items, as they are copied.
-use Rattle.std.proofs.Common.{◌≡◌, ℕ, suc, ◌+◌, ◌<◌, List, [], ◌∷◌, ◌++◌, length, get_or, set, take, drop, ap, ◌∙◌, sym, arith, append_assoc, drop-cons, Some}
+use Rattle.std.proofs.Common.{◌≡◌, ℕ, suc, ◌+◌, ◌-◌, ◌<◌, List, [], ◌∷◌, ◌++◌, length, get_or, set, take, drop, ap, ◌∙◌, sym, arith, append_assoc, drop-cons, Some}
 use Rattle.std.specs.Prelude.{slice_get}
 use Rattle.std.specs.List.{AllByRecursion}
 use Rattle.std.proofs.lemmas.List.{length-set, take_more}
@@ -8,16 +8,21 @@ use Rattle.fints_syntax_segments.specs.declared.item.OwnedItem.{OwnedItem}
 use Rattle.fints_cli_texts.proofs.ShowMessageLemmas.{all_at}
 
 -- one more item is copied
-pub item_copied : (items out new target : List OwnedItem) (i : ℕ) (x : OwnedItem) → i < length items
-    → slice_get items i ≡ Some x → new ≡ out ++ x ∷ [] → out ++ drop i items ≡ target
-    → new ++ drop (i + 1) items ≡ target
-item_copied items out new target i x lt at more so_far =
-    let is : get_or items i x ≡ x = get_or_from_slice_get items i x x at in
+rest_at : (items : List OwnedItem) (i : ℕ) (x : OwnedItem) → i < length items → slice_get items i ≡ Some x
+    → drop i items ≡ x ∷ drop (i + 1) items
+rest_at items i x lt at =
     let next : suc i ≡ i + 1 = omega arith in
-    let rest : drop i items ≡ x ∷ drop (i + 1) items =
-    drop-cons items i x lt ∙ ap (λ y. y ∷ drop (suc i) items) is ∙ ap (λ (n : ℕ). x ∷ drop n items) next in
-    ap (λ xs. xs ++ drop (i + 1) items) more ∙ append_assoc out (x ∷ []) (drop (i + 1) items)
-    ∙ ap (λ xs. out ++ xs) (sym rest) ∙ so_far
+    drop-cons items i x lt ∙ ap (λ y. y ∷ drop (suc i) items) (get_or_from_slice_get items i x x at)
+    ∙ ap (λ (n : ℕ). x ∷ drop n items) next
+
+pub item_copied : (items out new target : List OwnedItem) (i : ℕ) (x copy : OwnedItem) → i < length items
+    → Some x ≡ slice_get items (i + 1 - 1) → copy ≡ x → new ≡ out ++ copy ∷ [] → out ++ drop i items ≡ target
+    → new ++ drop (i + 1) items ≡ target
+item_copied items out new target i x copy lt at same more so_far =
+    let place : i + 1 - 1 ≡ i = omega arith in
+    let rest = rest_at items i x lt (sym (ap (slice_get items) place) ∙ sym at) in
+    ap (λ xs. xs ++ drop (i + 1) items) more ∙ append_assoc out (copy ∷ []) (drop (i + 1) items)
+    ∙ ap (λ y. out ++ y ∷ drop (i + 1) items) same ∙ ap (λ xs. out ++ xs) (sym rest) ∙ so_far
 
 -- one more element is copied
 pub element_copied : (xs old new : List (List OwnedItem)) (i : ℕ) (x : List OwnedItem) → i < length xs

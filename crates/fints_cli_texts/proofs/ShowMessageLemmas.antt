@@ -1,5 +1,5 @@
 -- The segments of a message, and their lines.
-use Rattle.std.proofs.Common.{codes, ◌≡◌, ℕ, zero, suc, ◌<◌, ◌≤◌, Bool, true, false, List, [], ◌∷◌, ◌++◌, length, get_or, map, drop, take, refl, ap, ◌∙◌, sym, subst, arith, inl, inr, append_assoc, None, ◌&&◌, Result, Ok, Err, IfErr}
+use Rattle.std.proofs.Common.{codes, ◌≡◌, ℕ, zero, suc, ◌<◌, ◌≤◌, Bool, true, false, List, [], ◌∷◌, ◌++◌, length, get_or, drop, take, refl, ap, ◌∙◌, sym, subst, arith, inl, inr, append_assoc, None, ◌&&◌, Result, Ok, Err, IfErr}
 use Rattle.std.specs.Prelude.{IsTrue, ◌==◌, ◌⊎◌}
 use Rattle.std.specs.Result.{IsErrAnd}
 use Rattle.std.specs.List.{flat_map, AllByRecursion}
@@ -8,7 +8,7 @@ use Rattle.std.proofs.lemmas.Bool.{and_parts}
 use Rattle.std.proofs.lemmas.List.{append-nil, length-drop, length-take-le, map-append, take-append-drop}
 use Rattle.std.proofs.lemmas.List.Concat.{flat_map-append}
 use Rattle.std.proofs.lemmas.Slice.Eq.{bytes_eq-Decides}
-use Rattle.fints_syntax_segments.specs.Spelling.{Spelled, item_of}
+use Rattle.fints_syntax_segments.specs.Spelling.{Spelled}
 use Rattle.fints_syntax_segments.specs.Segment.{segment_bytes, values_of, IsSegment}
 use Rattle.fints_syntax_segments.specs.Values.{is_named}
 use Rattle.fints_syntax_segments.specs.declared.item.OwnedItem.{OwnedItem}
@@ -18,7 +18,7 @@ use Rattle.fints_syntax.specs.Faults.{BeginsWithSegment, window_of}
 use Rattle.fints_syntax.proofs.LawLemmas.{one_segment_text, segment_is_read}
 use Rattle.fints_params.specs.Sealed.{is_sealed}
 use Rattle.fints_rules_messages.specs.Segments.{texts_of, IsText}
-use Rattle.fints_rules_messages.specs.Messages.{MessageView, IsForm, IsTail, IsInner, IsFirst, IsLast, IsSealHead, IsEnvelope, Seals, IsMessage}
+use Rattle.fints_rules_messages.specs.Messages.{MessageView, IsForm, IsInner, IsFirst, IsLast, IsSealHead, IsEnvelope, Seals, IsMessage}
 use Rattle.fints_rules_messages.specs.Parts.{part_of}
 use Rattle.fints_rules_messages.specs.declared.part.Part.{Part}
 use Rattle.fints_rules_messages.specs.declared.part.Part.TheVariants.{Opener, Body, Ender, Other}
@@ -194,10 +194,11 @@ none_read bytes h = record {
   found_are = refl;
 }
 
-pub one_more_read : (bytes rest : List ℕ) (found : List OwnedSegment) (t : List (List Spelled)) (len : ℕ)
-    → IsReadSoFar bytes rest found → IsSegment t → take len rest ≡ segment_bytes t
-    → IsReadSoFar bytes (drop len rest) (found ++ segment_of t ∷ [])
-one_more_read bytes rest found t len h is text =
+pub one_more_read : (bytes rest : List ℕ) (found new : List OwnedSegment) (t : List (List Spelled))
+    (s : OwnedSegment) (len : ℕ)
+    → IsReadSoFar bytes rest found → IsSegment t → take len rest ≡ segment_bytes t → s ≡ segment_of t
+    → new ≡ found ++ s ∷ [] → IsReadSoFar bytes (drop len rest) new
+one_more_read bytes rest found new t s len h is text same more =
     let rest_is : rest ≡ segment_bytes t ++ drop len rest = sym (take-append-drop len rest) ∙ ap (λ xs. xs ++ drop len rest) text in
     let one : texts_of (t ∷ []) ++ drop len rest ≡ texts_of h.left =
     ap (λ xs. xs ++ drop len rest) (append-nil (segment_bytes t)) ∙ sym rest_is ∙ h.rest_is in
@@ -212,7 +213,9 @@ one_more_read bytes rest found t len h is text =
           ∙ sym (append_assoc (texts_of h.done) (segment_bytes t) (drop len rest))
           ∙ ap (λ xs. xs ++ drop len rest) (sym (text-snoc h.done t));
       rest_is = r.text;
-      found_are = segments-snoc h.done t ∙ ap (λ xs. xs ++ segment_of t ∷ []) h.found_are;
+      found_are =
+          segments-snoc h.done t ∙ ap (λ xs. xs ++ segment_of t ∷ []) h.found_are
+          ∙ ap (λ x. found ++ x ∷ []) (sym same) ∙ sym more;
     }
 
 -- fewer bytes are left behind it

@@ -13,9 +13,7 @@ ghost use Rattle.fints_cli_texts.specs.ShowMessage.{is_control, shown_byte, segm
 use crate::fault::Fault;
 use crate::masking::{emptied_at, masked_at};
 use fints_rules::read_message;
-use fints_syntax::{
-    HNVSD_VERSION, ItemRef, Memory, OwnedSegment, parse_segment, write_segment,
-};
+use fints_syntax::{HNVSD_VERSION, ItemRef, Memory, OwnedSegment, parse_segment, write_segment};
 use std::alloc::{AllocError, Global};
 
 fn is_control(b: u8) -> bool

@@ -1,4 +1,4 @@
-use Rattle.std.proofs.Common.{◌≡◌, ◌-◌, ◌<◌, [], length, set, sym, subst, arith, ◌∙◌}
+use Rattle.std.proofs.Common.{◌-◌, ◌<◌, [], length, set, sym, subst, arith, ◌∙◌}
 use Rattle.std.proofs.lemmas.Grind.{get_or-set_at}
 use Rattle.std.proofs.lemmas.List.{get_or-set_other, length-set}
 use Rattle.fints_cli_texts.proofs.MaskLemmas.{element_copied, items_at}

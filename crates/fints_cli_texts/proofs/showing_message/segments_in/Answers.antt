@@ -1,8 +1,6 @@
-use Rattle.std.proofs.Common.{◌≡◌, ◌<◌, ◌++◌, ◌∷◌, [], ap, ◌∙◌, length, arith, subst, sym}
-use Rattle.std.specs.Prelude.{nat_eq}
+use Rattle.std.proofs.Common.{◌<◌, length, arith, subst, sym}
 use Rattle.std.proofs.lemmas.Bool.Decides.{nat_tests}
-use Rattle.fints_syntax.specs.Owned.{segment_of}
-use Rattle.fints_cli_texts.proofs.ShowMessageLemmas.{IsReadSoFar, all_read, fewer_left, none_read, one_is_left, one_more_read}
+use Rattle.fints_cli_texts.proofs.ShowMessageLemmas.{IsReadSoFar, fewer_left, none_read, one_is_left, one_more_read}
 use Rattle.fints_cli_texts.proofs.showing_message.segments_in.Goals as goal
 
 pub loop-rest-init : goal.loop-rest-init
@@ -26,10 +24,7 @@ loop-rest-smaller c =
 pub loop-rest-preserved : goal.loop-rest-preserved
 loop-rest-preserved c =
     let found = c.in-Ok.ensures.found in
-    let rest = c.loop-rest.rest.now in
-    let segments = c.loop-rest.segments.items in
-    let pushed : c.push.new.self.items ≡ segments ++ segment_of c.in-Ok.view ∷ [] =
-    c.in_ok-push.ensures.items ∙ ap (λ s. segments ++ s ∷ []) c.in_ok-to_owned.ensures in
     subst (λ xs. IsReadSoFar c.args.bytes.now xs c.push.new.self.items) (sym c.split_at.ensures.back)
-    (rw pushed (one_more_read c.args.bytes.now rest segments c.in-Ok.view c.in-Ok.len c.loop-rest.invariant found.0 found.1))
-
+    (one_more_read c.args.bytes.now c.loop-rest.rest.now c.loop-rest.segments.items c.push.new.self.items c.in-Ok.view
+    c.in_ok-to_owned.field-0 c.in-Ok.len c.loop-rest.invariant found.0 found.1 c.in_ok-to_owned.ensures
+    c.in_ok-push.ensures.items)
