@@ -187,6 +187,7 @@ def in_all_commands(lab):
         ],
         "second-account": [
             row("show/two-accounts"),
+            row("show/message-sealed"),
             *(row(f"{it}/second-account") for it in "judge run check explain certify verify".split()),
         ],
         "fork": [

@@ -1,23 +1,21 @@
 -- The laws, each with its proof, for the proofs of the crates above.
-use Rattle.std.proofs.Common.{◌≡◌, ℕ, ◌-◌, ◌<◌, Bool, true, false, List, [], ◌∷◌, ◌++◌, length, map, set, get_or, refl, ap, ◌∙◌, sym, subst, inl, inr, codes}
-use Rattle.std.specs.Prelude.{IsTrue}
+use Rattle.std.proofs.Common.{◌≡◌, ℕ, ◌-◌, Bool, true, false, List, [], ◌∷◌, ◌++◌, length, map, set, get_or, refl, ap, ◌∙◌, sym, subst, inl, inr, codes}
+use Rattle.std.specs.Prelude.{IsTrue, if◌then◌else◌}
 use Rattle.std.specs.List.{AllByRecursion, flat_map}
 use Rattle.std.specs.Str.{bytes_eq}
 use Rattle.std.proofs.lemmas.Bool.{cases_lt}
 use Rattle.std.proofs.lemmas.Slice.Eq.{bytes_eq-Decides}
 use Rattle.std.proofs.lemmas.List.{get_or-set_same, set-set, set_past}
 use Rattle.fints_syntax_segments.specs.Segment.{item_value}
-use Rattle.fints_syntax_segments.specs.Values.{items_in, values_at}
+use Rattle.fints_syntax_segments.specs.Values.{values_at}
 use Rattle.fints_syntax_segments.specs.Written.{written_segment}
 use Rattle.fints_syntax_segments.specs.declared.item.OwnedItem.{OwnedItem}
 use Rattle.fints_syntax_segments.specs.declared.item.OwnedItem.TheVariants.{Text}
 use Rattle.fints_syntax_segments.specs.declared.item.OwnedSegment.{OwnedSegment}
 use Rattle.fints_syntax.proofs.LawLemmas.{one_segment_text}
-use Rattle.fints_rules_messages.specs.Messages.{IsEnvelope, IsMessage}
 use Rattle.fints_rules_messages.proofs.Seals.{envelope_text, text_one}
-use Rattle.fints_params.specs.Sealed.{is_sealed}
 use Rattle.fints_cli_texts.specs.Masked.{emptied_at, mask, masked, masked_at, with_items}
-use Rattle.fints_cli_texts.specs.ShowMessage.{Opened, IsOpened, opened_lines, segment_line, shown_byte, IsShownMessage}
+use Rattle.fints_cli_texts.specs.ShowMessage.{Opened, IsOpened, opened_lines, shown_byte}
 use Rattle.fints_cli_texts.specs.Laws.{OneShownMessage, HasSecretsIn, is_absent, SecretsAreUnshown}
 
 -- ---- a segment with other secrets
@@ -82,6 +80,16 @@ same_inside s xs ys (inl h) (inr g) = let no : false ≡ true = sym h.0 ∙ g.ki
 same_inside s xs ys (inr h) (inl g) = let no : false ≡ true = sym g.0 ∙ h.kind in absurd (cc)
 same_inside s xs ys (inr h) (inr g) = text_one one_segment_text g.bytes xs ys (envelope_text xs s g.bytes g.item h) g.holds
 
+abbrev opened : OwnedSegment → List OwnedSegment → Opened
+opened s inside = record { segment = s; inside = inside }
+
+same_cons : (x y : Opened) (xs ys : List Opened) → x ≡ y → xs ≡ ys → x ∷ xs ≡ y ∷ ys
+same_cons x y xs ys e f = rw (e, f) refl
+
+both_same : (s t : OwnedSegment) (xs ys : List OwnedSegment) → s ≡ t → xs ≡ ys
+    → opened s xs ≡ opened t ys
+both_same s t xs ys e f = rw (e, f) refl
+
 same_opened : (xs ys : List Opened) → map (λ o. o.segment) xs ≡ map (λ o. o.segment) ys
     → AllByRecursion IsOpened xs → AllByRecursion IsOpened ys → xs ≡ ys
 same_opened [] [] e h g = refl
@@ -93,10 +101,7 @@ same_opened (x ∷ xs) (y ∷ ys) e h g =
     let inside : x.inside ≡ y.inside =
     same_inside y.segment x.inside y.inside
     (subst (λ s. IsOpened (record { segment = s; inside = x.inside })) head h.0) g.0 in
-    let same : x ≡ y =
-    ap (λ (s : OwnedSegment). record { segment = s; inside = x.inside }) head
-    ∙ ap (λ (ss : List OwnedSegment). record { segment = y.segment; inside = ss }) inside in
-    ap (λ o. o ∷ xs) same ∙ ap (λ os. y ∷ os) (same_opened xs ys tail h.1 g.1)
+    same_cons x y xs ys (both_same x.segment y.segment x.inside y.inside head inside) (same_opened xs ys tail h.1 g.1)
 
 pub one_shown_message : OneShownMessage
 one_shown_message message text told a b =

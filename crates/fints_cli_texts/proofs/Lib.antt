@@ -1,4 +1,5 @@
 pub mod JudgeLemmas
 pub mod LawLemmas
+pub mod MaskLemmas
 pub mod ShowLemmas
 pub mod ShowMessageLemmas

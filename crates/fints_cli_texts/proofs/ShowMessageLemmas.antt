@@ -1,13 +1,14 @@
 -- The segments of a message, and their lines.
-use Rattle.std.proofs.Common.{codes, ◌≡◌, ℕ, zero, suc, ◌<◌, Bool, true, false, List, [], ◌∷◌, ◌++◌, length, get_or, map, drop, take, refl, ap, ◌∙◌, sym, subst, arith, inl, inr, append_assoc, None, ◌&&◌}
-use Rattle.std.specs.Prelude.{IsTrue, ◌==◌}
+use Rattle.std.proofs.Common.{codes, ◌≡◌, ℕ, zero, suc, ◌<◌, ◌≤◌, Bool, true, false, List, [], ◌∷◌, ◌++◌, length, get_or, drop, take, refl, ap, ◌∙◌, sym, subst, arith, inl, inr, append_assoc, None, ◌&&◌, Result, Ok, Err, IfErr}
+use Rattle.std.specs.Prelude.{IsTrue, ◌==◌, ◌⊎◌}
+use Rattle.std.specs.Result.{IsErrAnd}
 use Rattle.std.specs.List.{flat_map, AllByRecursion}
 use Rattle.std.specs.Str.{bytes_eq}
 use Rattle.std.proofs.lemmas.Bool.{and_parts}
-use Rattle.std.proofs.lemmas.List.{append-nil, map-append, take-append-drop}
+use Rattle.std.proofs.lemmas.List.{append-nil, length-drop, length-take-le, map-append, take-append-drop}
 use Rattle.std.proofs.lemmas.List.Concat.{flat_map-append}
 use Rattle.std.proofs.lemmas.Slice.Eq.{bytes_eq-Decides}
-use Rattle.fints_syntax_segments.specs.Spelling.{Spelled, item_of}
+use Rattle.fints_syntax_segments.specs.Spelling.{Spelled}
 use Rattle.fints_syntax_segments.specs.Segment.{segment_bytes, values_of, IsSegment}
 use Rattle.fints_syntax_segments.specs.Values.{is_named}
 use Rattle.fints_syntax_segments.specs.declared.item.OwnedItem.{OwnedItem}
@@ -17,12 +18,17 @@ use Rattle.fints_syntax.specs.Faults.{BeginsWithSegment, window_of}
 use Rattle.fints_syntax.proofs.LawLemmas.{one_segment_text, segment_is_read}
 use Rattle.fints_params.specs.Sealed.{is_sealed}
 use Rattle.fints_rules_messages.specs.Segments.{texts_of, IsText}
-use Rattle.fints_rules_messages.specs.Messages.{MessageView, IsForm, IsTail, IsInner, IsFirst, IsLast, IsSealHead, IsEnvelope, Seals, IsMessage}
+use Rattle.fints_rules_messages.specs.Messages.{MessageView, IsForm, IsInner, IsFirst, IsLast, IsSealHead, IsEnvelope, Seals, IsMessage}
 use Rattle.fints_rules_messages.specs.Parts.{part_of}
 use Rattle.fints_rules_messages.specs.declared.part.Part.{Part}
 use Rattle.fints_rules_messages.specs.declared.part.Part.TheVariants.{Opener, Body, Ender, Other}
-use Rattle.fints_rules_messages.proofs.Texts.{all_append, no_segment, rest_of, segments-snoc, text-snoc}
+use Rattle.fints_rules_messages.proofs.Texts.{all_append, no_segment, rest_of, segment_positive, segments-snoc, text-snoc}
 use Rattle.fints_rules_messages.proofs.Seals.{text_one}
+use Rattle.fints_rules_messages.specs.declared.message.JudgeFault.{JudgeFault}
+use Rattle.fints_rules_messages.specs.declared.message.JudgeFault.TheVariants as refusals
+use Rattle.fints_cli_texts.specs.declared.fault.Fault.{Fault}
+use Rattle.fints_cli_texts.specs.declared.fault.Fault.TheVariants.{Memory}
+use Rattle.fints_cli_texts.specs.Fault.{message_fault_of}
 use Rattle.fints_cli_texts.specs.ShowMessage.{Opened, IsOpened, opened_lines, HasItems, HasSegments, IsShowable, IsShownIn, AreShownIn, IsShownMessage}
 
 -- ---- each element has an item
@@ -148,6 +154,12 @@ one_more_shown ss s before middle after h g =
           ∙ sym (flat_map-append opened_lines h.opened (o ∷ [])));
     }
 
+-- what refuses a message for want of memory is that
+pub memory_told : {T : Type 0} (r : Result T Fault) (e : JudgeFault) → IsErrAnd r (λ f. f ≡ message_fault_of e)
+    → e ≡ refusals.Memory → IfErr r (λ f. f ≡ Memory)
+memory_told (Ok v) e is memory = tt
+memory_told (Err f) e is memory = is ∙ ap message_fault_of memory
+
 pub shown_message : (bytes text : List ℕ) (m : MessageView) (ss : List OwnedSegment) → IsMessage bytes m
     → IsText bytes ss → AreShownIn ss [] text → IsShownMessage bytes text
 shown_message bytes text m ss is read h = record {
@@ -182,10 +194,11 @@ none_read bytes h = record {
   found_are = refl;
 }
 
-pub one_more_read : (bytes rest : List ℕ) (found : List OwnedSegment) (t : List (List Spelled)) (len : ℕ)
-    → IsReadSoFar bytes rest found → IsSegment t → take len rest ≡ segment_bytes t
-    → IsReadSoFar bytes (drop len rest) (found ++ segment_of t ∷ [])
-one_more_read bytes rest found t len h is text =
+pub one_more_read : (bytes rest : List ℕ) (found new : List OwnedSegment) (t : List (List Spelled))
+    (s : OwnedSegment) (len : ℕ)
+    → IsReadSoFar bytes rest found → IsSegment t → take len rest ≡ segment_bytes t → s ≡ segment_of t
+    → new ≡ found ++ s ∷ [] → IsReadSoFar bytes (drop len rest) new
+one_more_read bytes rest found new t s len h is text same more =
     let rest_is : rest ≡ segment_bytes t ++ drop len rest = sym (take-append-drop len rest) ∙ ap (λ xs. xs ++ drop len rest) text in
     let one : texts_of (t ∷ []) ++ drop len rest ≡ texts_of h.left =
     ap (λ xs. xs ++ drop len rest) (append-nil (segment_bytes t)) ∙ sym rest_is ∙ h.rest_is in
@@ -200,8 +213,16 @@ one_more_read bytes rest found t len h is text =
           ∙ sym (append_assoc (texts_of h.done) (segment_bytes t) (drop len rest))
           ∙ ap (λ xs. xs ++ drop len rest) (sym (text-snoc h.done t));
       rest_is = r.text;
-      found_are = segments-snoc h.done t ∙ ap (λ xs. xs ++ segment_of t ∷ []) h.found_are;
+      found_are =
+          segments-snoc h.done t ∙ ap (λ xs. xs ++ segment_of t ∷ []) h.found_are
+          ∙ ap (λ x. found ++ x ∷ []) (sym same) ∙ sym more;
     }
+
+-- fewer bytes are left behind it
+pub fewer_left : (rest : List ℕ) (t : List (List Spelled)) (len : ℕ) → IsSegment t
+    → take len rest ≡ segment_bytes t → len ≤ length rest → length (drop len rest) < length rest
+fewer_left rest t len is text within =
+    omega (arith, segment_positive t is, ap length text, length-take-le len rest within, length-drop len rest)
 
 -- a segment stands where bytes are left
 pub one_is_left : (bytes rest : List ℕ) (found : List OwnedSegment) → IsReadSoFar bytes rest found

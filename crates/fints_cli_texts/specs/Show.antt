@@ -1,10 +1,9 @@
 -- The text of `show`: what a capture says of the bank and the user, in lines with LF at their ends.
-use Rattle.std.specs.Prelude.{◌≡◌, ◌⊎◌, ℕ, Bool, true, false, List, [], ◌∷◌, ◌++◌, length, drop, codes}
+use Rattle.std.specs.Prelude.{◌≡◌, ℕ, Bool, true, false, List, [], ◌∷◌, ◌++◌, length, drop, codes}
 use Rattle.std.specs.List.{flat_map}
 use Rattle.std.specs.Fmt.{decimal}
 use Rattle.fints_syntax_segments.specs.declared.item.OwnedItem.TheVariants.{Text}
 use Rattle.fints_syntax_segments.specs.Spelling.{written}
-use Rattle.fints_params.specs.declared.fault.ParamFault.{ParamFault}
 use Rattle.fints_params.specs.declared.rows.BankRow.{BankRow}
 use Rattle.fints_params.specs.declared.rows.OrderParam.{OrderParam}
 use Rattle.fints_params.specs.declared.rows.PinRow.{PinRow}

@@ -98,7 +98,11 @@ fn with_items(
 }
 
 /// A copy of the segment, with each item of an element masked.
-pub fn masked_at(alloc: Global, segment: &OwnedSegment, element: usize) -> Result<OwnedSegment, Memory>
+pub fn masked_at(
+    alloc: Global,
+    segment: &OwnedSegment,
+    element: usize,
+) -> Result<OwnedSegment, Memory>
     requires after_head { 2 ≤ element }
     requires items { HasItems segment.now }
     ensures { IfOk result (λ copy. copy ≡ masked_at segment.now element) }
@@ -108,7 +112,11 @@ pub fn masked_at(alloc: Global, segment: &OwnedSegment, element: usize) -> Resul
 }
 
 /// A copy of the segment, with item 1 of an element empty.
-pub fn emptied_at(alloc: Global, segment: &OwnedSegment, element: usize) -> Result<OwnedSegment, Memory>
+pub fn emptied_at(
+    alloc: Global,
+    segment: &OwnedSegment,
+    element: usize,
+) -> Result<OwnedSegment, Memory>
     requires after_head { 2 ≤ element }
     requires items { HasItems segment.now }
     ensures { IfOk result (λ copy. copy ≡ emptied_at segment.now element) }

@@ -13,9 +13,7 @@ ghost use Rattle.fints_cli_texts.specs.ShowMessage.{is_control, shown_byte, segm
 use crate::fault::Fault;
 use crate::masking::{emptied_at, masked_at};
 use fints_rules::read_message;
-use fints_syntax::{
-    HNVSD_VERSION, ItemRef, Memory, OwnedSegment, parse_segment, write_segment,
-};
+use fints_syntax::{HNVSD_VERSION, ItemRef, Memory, OwnedSegment, parse_segment, write_segment};
 use std::alloc::{AllocError, Global};
 
 fn is_control(b: u8) -> bool
@@ -109,7 +107,8 @@ fn segments_in(alloc: Global, bytes: &[u8]) -> Result<Vec<OwnedSegment>, Memory>
             unreachable!()
         };
         segments.push(view.to_owned(alloc)?)?;
-        rest = &rest[len..];
+        let (_, more) = rest.split_at(len);
+        rest = more;
     }
     Ok(segments)
 }
