@@ -1,9 +1,10 @@
 -- The lines of a certificate: what they tell, and what may come next.
-use Rattle.std.proofs.Common.{ℕ, suc, ◌+◌, ◌≤◌, ◌≡◌, ◌≢◌, ◌⊎◌, Option, List, [], ◌∷◌, ◌++◌, map, codes, length, get_or, refl, ap, sym, subst, ◌∙◌, arith, inl, inr}
+use Rattle.std.proofs.Common.{ℕ, suc, ◌+◌, ◌≤◌, ◌≡◌, ◌≢◌, Option, List, [], ◌∷◌, ◌++◌, map, codes, length, get_or, refl, ap, sym, subst, ◌∙◌, arith}
 use Rattle.std.specs.List.{All, AllPairs}
 use Rattle.std.proofs.lemmas.List.{append_cancel_left, append_assoc, length-append, get_or_append_left, get_or_at, nil_from_length}
-use Rattle.std.proofs.lemmas.List.Elements.{All-cons, All-head, All-tail, All-append, All-map, All-weaker}
-use Rattle.fints_script_fields.specs.Names.{IsName, IsNameByte}
+use Rattle.std.proofs.lemmas.List.Elements.{All-cons, All-head, All-tail, All-append, All-map}
+use Rattle.fints_script_fields.specs.Names.{IsName}
+use Rattle.fints_script_fields.proofs.NameLemmas.{name_without}
 use Rattle.fints_syntax_lines.specs.Lines.{text_of_lines, NoFeed, IsSplit, IsNextLine, HasNoNextLine, BeginsText}
 use Rattle.fints_syntax_lines.specs.LineLaws.{split_same, split_none, plain, not_empty, text_short}
 use Rattle.fints_check_findings.specs.declared.finding.Reached.{Reached}
@@ -13,28 +14,13 @@ use Rattle.fints_check.specs.declared.certificate.Line.{Line}
 use Rattle.fints_syntax_lines.specs.declared.lines.TheConstants.{MAX_TEXT}
 use Rattle.fints_check.proofs.FigureTexts.{figures_without, figures_once}
 
--- ---- names
-
-name_byte : (byte b : ℕ) → (byte ≡ 32) ⊎ (byte ≡ 10) → IsNameByte b → b ≢ byte
-name_byte byte b (inl p) (inl h) e = omega (arith, h.0, h.1)
-name_byte byte b (inl p) (inr (inl h)) e = omega (arith, h.0, h.1)
-name_byte byte b (inl p) (inr (inr (inl h))) e = omega arith
-name_byte byte b (inl p) (inr (inr (inr h))) e = omega arith
-name_byte byte b (inr p) (inl h) e = omega (arith, h.0, h.1)
-name_byte byte b (inr p) (inr (inl h)) e = omega (arith, h.0, h.1)
-name_byte byte b (inr p) (inr (inr (inl h))) e = omega arith
-name_byte byte b (inr p) (inr (inr (inr h))) e = omega arith
-
-name_without : (byte : ℕ) (name : List ℕ) → (byte ≡ 32) ⊎ (byte ≡ 10) → IsName name → All (λ x. x ≢ byte) name
-name_without byte name which is = All-weaker IsNameByte (λ x. x ≢ byte) (λ b h. name_byte byte b which h) name is.2
-
 -- ---- one line
 
 pub line_without : (line : Line) → IsStepLine line → NoFeed (step_text line)
 line_without line h =
     All-append (λ x. x ≢ 10) (codes "step ") (line.name ++ 32 ∷ figures_text line.reached) (plain (codes "step ") refl)
     (All-append (λ x. x ≢ 10) line.name (32 ∷ figures_text line.reached)
-    (name_without 10 line.name (inr refl) h.0)
+    (name_without 10 line.name refl h.0)
     (All-cons (λ x. x ≢ 10) 32 (figures_text line.reached) (λ e. omega (arith, e))
     (figures_without line.reached h.1)))
 
@@ -43,7 +29,7 @@ line_once a b ha hb e =
     let tail : a.name ++ 32 ∷ figures_text a.reached ≡ b.name ++ 32 ∷ figures_text b.reached = append_cancel_left (codes "step ") _ _ e in
     let parts =
     split_same 32 a.name (figures_text a.reached) b.name (figures_text b.reached)
-    (name_without 32 a.name (inl refl) ha.0) (name_without 32 b.name (inl refl) hb.0) tail in
+    (name_without 32 a.name refl ha.0) (name_without 32 b.name refl hb.0) tail in
     let reached = figures_once a.reached b.reached ha.1 hb.1 parts.1 in
     let make : List ℕ → Option Reached → Line = λ n r. record { name = n; reached = r } in
     ap (λ (n : List ℕ). make n a.reached) parts.0 ∙ ap (λ (r : Option Reached). make b.name r) reached
@@ -53,7 +39,7 @@ parts_of : (text rest name figures : List ℕ) → text ≡ codes "step " ++ res
     → (x : Line) → IsStepLine x → text ≡ step_text x → (name ≡ x.name) × (figures ≡ figures_text x.reached)
 parts_of text rest name figures is split x h e =
     let tail : rest ≡ x.name ++ 32 ∷ figures_text x.reached = append_cancel_left (codes "step ") rest _ (sym is ∙ e) in
-    split_same 32 name figures x.name (figures_text x.reached) split.1 (name_without 32 x.name (inl refl) h.0) (sym split.0 ∙ tail)
+    split_same 32 name figures x.name (figures_text x.reached) split.1 (name_without 32 x.name refl h.0) (sym split.0 ∙ tail)
 
 pub no_second_part : (text rest : List ℕ) → text ≡ codes "step " ++ rest → All (λ b. b ≢ 32) rest → (x : Line)
     → IsStepLine x → text ≢ step_text x

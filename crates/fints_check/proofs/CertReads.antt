@@ -1,10 +1,8 @@
 -- A text is a certificate, or it has a first bad line.
-use Rattle.std.proofs.Common.{ℕ, ◌+◌, ◌-◌, ◌<◌, ◌≤◌, ◌≡◌, ◌≢◌, None, List, [], ◌∷◌, ◌++◌, map, codes, length, refl, ap, sym, subst, ◌∙◌, arith, inl}
-use Rattle.std.specs.List.{All}
+use Rattle.std.proofs.Common.{ℕ, ◌+◌, ◌-◌, ◌<◌, ◌≤◌, ◌≡◌, ◌≢◌, None, List, [], ◌∷◌, ◌++◌, map, codes, length, refl, ap, sym, subst, ◌∙◌, arith}
 use Rattle.std.proofs.lemmas.List.{append-nil, length-append, map-append}
 use Rattle.std.proofs.lemmas.List.Elements.{All-cons, All-nil, All-push}
 use Rattle.std.proofs.lemmas.List.Quantifiers.{all_pairs_push}
-use Rattle.fints_script_fields.specs.Names.{IsNameByte}
 use Rattle.fints_syntax_lines.specs.Lines.{text_of_lines, BeginsText}
 use Rattle.fints_syntax_lines.specs.LineLaws.{text_taken, length_taken, lines_long, same_lines, refused_at, text_or_bad_line}
 use Rattle.fints_check.specs.CertTexts.{step_text, cert_lines, cert_text, IsStepLine, IsCertificate, IsCertificateOf, OneCertificate, CertificateOrBadLine, AreCertLines, IsFirstBadLine}
@@ -83,11 +81,10 @@ least : IsCertificate (least_line ∷ [])
 unfolding least_line
 least =
     let size : length (cert_text (least_line ∷ [])) ≡ 22 = refl in
-    let name : All IsNameByte (codes "a") = All-cons IsNameByte 97 [] (inl (omega arith, omega arith)) (All-nil IsNameByte) in
     record {
       some = omega arith;
       apart = λ i j d below within. absurd (omega arith);
-      each = All-cons IsStepLine least_line [] ((omega arith, omega arith, name), tt) (All-nil IsStepLine);
+      each = All-cons IsStepLine least_line [] (refl, tt) (All-nil IsStepLine);
       short = omega arith;
     }
 

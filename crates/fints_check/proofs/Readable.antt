@@ -7,6 +7,7 @@ use Rattle.std.proofs.lemmas.List.{length-append, length-map}
 use Rattle.std.proofs.lemmas.Option.{get_or_from_slice_get, slice_get-get_or, slice_get-map}
 use Rattle.fints_script_cases.specs.declared.values.NamedValue.{NamedValue}
 use Rattle.fints_script_fields.specs.Names.{IsName}
+use Rattle.fints_script_fields.proofs.NameLemmas.{name_is_short}
 use Rattle.fints_syntax_lines.specs.Lines.{text_of_lines}
 use Rattle.fints_script.specs.Plans.{Admits}
 use Rattle.fints_script.specs.Scripts.{ScriptValue}
@@ -64,7 +65,7 @@ figures_length (Some f) h =
 line_length : (line : Line) → IsStepLine line → length (step_text line) ≤ 65
 line_length line h =
     let figures = figures_length line.reached h.1 in
-    let name = h.0.1 in
+    let name = name_is_short line.name h.0 in
     let both = length-append line.name (32 ∷ figures_text line.reached) in
     let whole = length-append (codes "step ") (line.name ++ 32 ∷ figures_text line.reached) in
     omega (arith, figures, name, both, whole)

@@ -1,6 +1,5 @@
 pub mod ReadParts
 pub mod RowLemmas
-pub mod StepTables
 pub mod TopErrors
 pub mod TopLemmas
 pub mod TableLemmas

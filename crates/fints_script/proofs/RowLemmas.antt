@@ -61,11 +61,3 @@ module _ {X Y : Type 0} (see : X → Y) (place : ℕ → Place) (part : ℕ → 
   pub read_stop : (f : ScriptFault) → placed (place (i + 1)) r ≡ Err f
       → (f ≡ no_memory) ⊎ (rows_from place part 0 (map view vs) ≡ Err f)
   read_stop f e = told f (subst (λ q. Finds see q (part_at (place (i + 1)) (part i (view v)))) e (placed_finds see (place (i + 1)) r (part i (view v)) gives))
-
-itself : {X : Type 0} (part : Part X) → Gives (λ x. x) part part
-itself (Ok x) = refl
-itself (Err k) = inr refl
-
--- a call that gives the part itself
-pub exact_gives : {X : Type 0} (r part : Part X) → r ≡ part → Gives (λ x. x) r part
-exact_gives r part e = subst (Gives (λ x. x) r) e (itself r)

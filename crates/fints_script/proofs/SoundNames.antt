@@ -9,11 +9,11 @@ use Rattle.std.proofs.lemmas.Slice.Eq.{bytes_eq-Decides}
 use Rattle.toml.specs.Data.{Data, string, table, get_member, as_str}
 use Rattle.fints_syntax_toml.specs.Entries.{holds_text, is_named, name_in}
 use Rattle.fints_script_rows.specs.FieldParts.{is_field}
-use Rattle.fints_script_rows.specs.Fields.{class_value, field_in, field_value}
+use Rattle.fints_script_rows.specs.Fields.{ClassValue, class_value, field_in, field_value}
 use Rattle.fints_script_rows.specs.declared.fault.Place.TheVariants as places
 use Rattle.fints_script_rows.specs.declared.fields.NamedField.{NamedField}
-use Rattle.fints_script.specs.Scripts.{fields_from, steps_from}
-use Rattle.fints_script.specs.Sound.{FieldsAreApart, IsDialogField, StepsAreApart}
+use Rattle.fints_script.specs.Scripts.{dialog_value, fields_from, steps_from}
+use Rattle.fints_script.specs.Sound.{FieldsAreApart, StepsAreApart}
 use Rattle.fints_script.specs.Steps.{StepValue, Surroundings, step_in}
 use Rattle.fints_script.proofs.ReadParts.{row_of}
 use Rattle.fints_script.proofs.SoundSteps.{step_named}
@@ -64,10 +64,10 @@ module _ (rows : List Data) (others : List NamedField) (each : fields_from rows 
       let is = is_field (take k rows) row.0 f.name (class_value f.class) row.2 in
       ((row.0, row.1, is.named, is.new), is.no_dialog)
 
-  pub fields_apart : (dialog : NamedField) → IsDialogField dialog → FieldsAreApart (dialog ∷ others)
+  pub fields_apart : (dialog : NamedField) → field_value dialog ≡ dialog_value → FieldsAreApart (dialog ∷ others)
   fields_apart dialog built_in =
       AllPairs-cons (λ (f g : NamedField). f.name ≢ g.name) dialog others
-      (λ k d within e. (field_named k (get_or others k d) (slice_get-get_or others k d within)).1 (sym e ∙ built_in.0))
+      (λ k d within e. (field_named k (get_or others k d) (slice_get-get_or others k d within)).1 (sym e ∙ ap (λ (v : List ℕ × ClassValue). v.0) built_in))
       (apart (λ (f : NamedField). f.name) rows others (λ k f e. (field_named k f e).0))
 
 -- ---- steps

@@ -1,35 +1,32 @@
 -- What signers and the seal of a read script keep.
 use Rattle.std.proofs.Common.{◌≡◌, ℕ, ◌+◌, ◌<◌, ◌≤◌, false, codes, List, [], ◌∷◌, length, get_or, map, nat_lt, All, Option, Some, None, Ok, refl, ap, subst, ◌∙◌, sym, arith}
 use Rattle.std.specs.Prelude.{slice_get, IfSome}
-use Rattle.std.specs.List.{list_any}
 use Rattle.std.proofs.lemmas.Bool.{false≢true}
 use Rattle.std.proofs.lemmas.List.{get_or-map}
 use Rattle.std.proofs.lemmas.List.Elements.{All-head, All-tail}
 use Rattle.std.proofs.lemmas.Option.{slice_get-get_or}
 use Rattle.toml.specs.Data.{Data, table, Members}
 use Rattle.fints_syntax_toml.specs.Document.{only_keys}
-use Rattle.fints_syntax_toml.specs.Entries.{is_named}
 use Rattle.fints_script_fields.specs.Fields.{field_most_items}
 use Rattle.fints_script_fields.specs.declared.field.Field.{Field}
 use Rattle.fints_script_fields.specs.declared.field.Field.TheVariants as classes
 use Rattle.fints_script_rows.specs.NamedFields.{is_account, is_account_at}
-use Rattle.fints_script_rows.specs.PartLaws.{bind_ok, both_ok}
-use Rattle.fints_script_rows.specs.Parts.{both, required, seen}
-use Rattle.fints_script_rows.specs.RowNames.{row_name}
+use Rattle.fints_script_rows.specs.PartLaws.{bind_ok, next_ok}
+use Rattle.fints_script_rows.specs.Parts.{must, required}
 use Rattle.fints_script_rows.specs.Rows.{part_at}
 use Rattle.fints_script_rows.specs.declared.fault.FaultKind.TheVariants as kinds
 use Rattle.fints_script_rows.specs.declared.fault.Place.TheVariants as places
 use Rattle.fints_script_rows.specs.declared.fields.NamedField.{NamedField}
 use Rattle.fints_script_templates.specs.Elements.{elements_in}
 use Rattle.fints_script_templates.specs.Figures.{figures_of}
-use Rattle.fints_script_templates.specs.Signers.{few_items, frame_at, frame_in, frames_in, signer_in, signer_keys, signer_of, table_signer}
+use Rattle.fints_script_templates.specs.Signers.{few_items, frame_in, signer_in, signer_keys, signer_value, table_signer}
 use Rattle.fints_script_templates.specs.Weights.{total, item_count, element_count, items_in, no_figures}
 use Rattle.fints_script_templates.specs.declared.template.Signer.{Signer}
 use Rattle.fints_script_templates.specs.declared.template.TemplateItem.{TemplateItem}
 use Rattle.fints_script_templates.specs.declared.template.TemplateItem.TheVariants as items
 use Rattle.fints_script.specs.Scripts.{seal_from}
 use Rattle.fints_script.specs.Sound.{IsInRange, IsSingle, IsFrameElement, IsSoundFrame, IsSoundSigner}
-use Rattle.fints_script.proofs.ReadParts.{failed, not_past, passed, placed_ok, same_ok, seen_ok}
+use Rattle.fints_script.proofs.ReadParts.{failed, not_past, passed, placed_ok, same_ok}
 use Rattle.fints_script_rows.specs.declared.limits.TheConstants.{MAX_TEMPLATE_ITEMS}
 use Rattle.fints_script.proofs.SoundElements.{IsBehindFirst, frame_elements}
 
@@ -91,22 +88,23 @@ module _ (fields : List NamedField) (behind : IsBehindFirst fields) where
       })
 
   frame_at_key : (key : List ℕ) (ms : Members) (elements : List (List TemplateItem))
-      → frame_at key fields ms ≡ Ok elements → IsSoundFrame fields elements
+      → must ms key (frame_in fields) ≡ Ok elements → IsSoundFrame fields elements
   frame_at_key key ms elements e = let value = bind_ok (required key ms) (frame_in fields) elements e in sound_frame value.0 elements value.2
 
   sound_table : (earlier : List Data) (ms : Members) (signer : Signer)
       → table_signer fields earlier ms ≡ Ok signer → IsSoundSigner fields signer
   unfolding table_signer
   sound_table earlier ms signer e =
-      let parts = both (row_name (λ name. list_any (is_named name) earlier) ms) (frames_in fields ms) in
-      let table = passed (only_keys signer_keys ms) (seen signer_of parts) kinds.UnknownKey signer e in
-      let read = seen_ok signer_of parts signer table.1 in
-      let named = both_ok (row_name (λ name. list_any (is_named name) earlier) ms) (frames_in fields ms) read.0 read.1 in
-      let ends = both_ok (frame_at (codes "head") fields ms) (frame_at (codes "end") fields ms) read.0.1 named.1 in
-      subst (IsSoundSigner fields) read.2
+      let table = passed (only_keys signer_keys ms) _ kinds.UnknownKey signer e in
+      let end = next_ok _ _ signer table.1 in
+      let head = next_ok _ _ end.0 end.2 in
+      let name = next_ok _ _ head.0 head.2 in
+      let first = same_ok signer_value name.0 name.2 in
+      let is : signer_value name.1 head.1 end.1 ≡ signer = cc in
+      subst (IsSoundSigner fields) is
       (record {
-        head = frame_at_key (codes "head") ms read.0.1.0 ends.0;
-        end = frame_at_key (codes "end") ms read.0.1.1 ends.1;
+        head = frame_at_key (codes "head") ms head.1 head.3;
+        end = frame_at_key (codes "end") ms end.1 end.3;
       })
 
   pub sound_signer : (earlier : List Data) (row : Data) (signer : Signer)

@@ -17,25 +17,23 @@ use Rattle.fints_syntax_toml.specs.Entries.{is_named, name_in}
 use Rattle.fints_script_cases.specs.declared.answers.Branch.{Branch}
 use Rattle.fints_script_cases.specs.declared.answers.Target.TheVariants as targets
 use Rattle.fints_script_rows.specs.FieldParts.{row_named}
-use Rattle.fints_script_rows.specs.PartLaws.{bind_ok, both_ok, each_all, each_length, or_ok}
-use Rattle.fints_script_rows.specs.Parts.{◌>>=◌, at_most, both, each, entries_of, flag_in, integer_in, not_empty, required, seen}
+use Rattle.fints_script_rows.specs.PartLaws.{bind_ok, each_all, each_length, next_ok, or_ok}
+use Rattle.fints_script_rows.specs.Parts.{◌>>=◌, at_most, each, entries_of, flag_in, integer_in, may, must, not_empty, required}
 use Rattle.fints_script_rows.specs.RowNames.{row_name}
 use Rattle.fints_script_rows.specs.declared.fault.FaultKind.TheVariants as kinds
 use Rattle.fints_script_rows.specs.declared.fields.NamedField.{NamedField}
 use Rattle.fints_script_templates.specs.Elements.{elements_in}
 use Rattle.fints_script_templates.specs.Figures.{figures_of}
-use Rattle.fints_script_templates.specs.Segments.{body_in, body_kind, kind_at, kind_in, segment_in, segment_keys, table_segment, template_of, version_at}
+use Rattle.fints_script_templates.specs.Segments.{body_kind, kind_in, segment_in, segment_keys, table_segment, template_value}
 use Rattle.fints_script_templates.specs.Weights.{items_in}
 use Rattle.fints_script_templates.specs.declared.template.Signer.{Signer}
 use Rattle.fints_script_templates.specs.declared.template.Template.{Template}
 use Rattle.fints_script.specs.Scripts.{ScriptValue, surroundings}
 use Rattle.fints_script.specs.Sound.{IsBodyElement, IsOnward, IsSoundStep, IsSoundTemplate, LeadsOnward}
-use Rattle.fints_script.specs.StepParts.{Course, Sent, branches_at, course_in, default_at, parts_in, repeat_at, sealed_at, segments_at, sent_in, signatures_at, step_of, table_in_parts}
-use Rattle.fints_script.specs.Steps.{StepValue, Surroundings, branch_in, branches_in, has_large_segment, is_taken_step, is_too_large, is_word, place_of_signer, sealed_in, segments_in, signature_in, signatures_in, sized_step, step_in, step_keys, step_weight, table_step, target_in, with_seal}
-use Rattle.fints_script.proofs.ReadParts.{at_most_ok, failed, integer_ok, list_ok, not_empty_ok, not_past, optional_ok, passed, same_ok, seen_ok}
+use Rattle.fints_script.specs.Steps.{StepValue, Surroundings, branch_in, branches_in, has_large_segment, is_taken_step, is_too_large, is_word, place_of_signer, sealed_in, segments_in, signature_in, signatures_in, sized_step, step_in, step_keys, step_value, step_weight, table_step, target_in, with_seal}
+use Rattle.fints_script.proofs.ReadParts.{at_most_ok, failed, integer_ok, list_ok, not_empty_ok, not_past, optional_ok, passed, same_ok}
 use Rattle.fints_script.proofs.SoundElements.{IsBehindFirst, body_elements, place_within}
-use Rattle.fints_script_rows.specs.declared.limits.TheConstants.{MAX_TEMPLATE_ITEMS, MAX_WEIGHT}
-use Rattle.fints_script.proofs.StepTables.{step_tables}
+use Rattle.fints_script_rows.specs.declared.limits.TheConstants.{MAX_REPEAT, MAX_TEMPLATE_ITEMS, MAX_WEIGHT}
 use Rattle.fints_script.proofs.SoundTargets.{branch_onward, target_onward}
 
 -- ---- kinds
@@ -103,17 +101,17 @@ module _ (fields : List NamedField) (behind : IsBehindFirst fields) where
       → IsSoundTemplate fields t
   unfolding table_segment
   sound_members ms t e =
-      let head = both (kind_at ms) (version_at ms) in
-      let parts = both head (body_in fields ms) in
-      let whole = passed (only_keys segment_keys ms) (seen template_of parts) kinds.UnknownKey t e in
-      let read = seen_ok template_of parts t whole.1 in
-      let body = both_ok head (body_in fields ms) read.0 read.1 in
-      let order = both_ok (kind_at ms) (version_at ms) read.0.0 body.0 in
-      let kind_value = bind_ok (required (codes "kind") ms) kind_in read.0.0.0 order.0 in
-      let version_value = bind_ok (required (codes "version") ms) (integer_in 1 999) read.0.0.1 order.1 in
-      let kind = kind_ok kind_value.0 read.0.0.0 kind_value.2 in
-      let version = integer_ok 1 999 version_value.0 read.0.0.1 version_value.2 in
-      subst (λ (s : Template). IsFew s → IsSoundTemplate fields s) read.2 (λ few. record {
+      let whole = passed (only_keys segment_keys ms) _ kinds.UnknownKey t e in
+      let elements = next_ok _ _ t whole.1 in
+      let head = next_ok _ _ elements.0 elements.2 in
+      let first = next_ok _ _ head.0 head.2 in
+      let of = same_ok template_value first.0 first.2 in
+      let is : template_value first.1 head.1 elements.1 ≡ t = cc in
+      let kind_value = bind_ok (required (codes "kind") ms) kind_in first.1 first.3 in
+      let version_value = bind_ok (required (codes "version") ms) (integer_in 1 999) head.1 head.3 in
+      let kind = kind_ok kind_value.0 first.1 kind_value.2 in
+      let version = integer_ok 1 999 version_value.0 head.1 version_value.2 in
+      subst (λ (s : Template). IsFew s → IsSoundTemplate fields s) is (λ few. record {
         kind = kind.text;
         no_frame = kind.no_frame;
         least = version.0;
@@ -121,7 +119,7 @@ module _ (fields : List NamedField) (behind : IsBehindFirst fields) where
         each =
             optional_ok [] (elements_in fields true) (All (IsBodyElement fields))
             (All-nil (IsBodyElement fields)) (body_elements fields behind)
-            (get_member (codes "elements") ms) read.0.1 body.1;
+            (get_member (codes "elements") ms) elements.1 elements.3;
         few = few;
       })
 
@@ -171,54 +169,49 @@ sealed_kept there d sealed e =
 -- what the table of a step has, part by part
 record IsStep (around : Surroundings) (i : ℕ) (ms : Members) (step : StepValue) : Type 0 where
   pub name : row_name (is_taken_step around.rows i) ms ≡ Ok step.name
-  pub templates : segments_at around.fields ms ≡ Ok step.templates
-  pub sealed : sealed_at (is_some around.seal) ms ≡ Ok step.sealed
-  pub signers : signatures_at around.signers ms ≡ Ok step.signers
-  pub repeat : repeat_at ms ≡ Ok step.repeat
-  pub branches : branches_at around.rows i ms ≡ Ok step.branches
-  pub otherwise : default_at around.rows i ms ≡ Ok step.otherwise
+  pub templates : must ms (codes "segments") (segments_in around.fields) ≡ Ok step.templates
+  pub sealed : may ms (codes "sealed") false (sealed_in (is_some around.seal)) ≡ Ok step.sealed
+  pub signers : may ms (codes "signers") [] (signatures_in around.signers) ≡ Ok step.signers
+  pub repeat : may ms (codes "repeat") 1 (integer_in 1 MAX_REPEAT) ≡ Ok step.repeat
+  pub branches : may ms (codes "branches") [] (branches_in around.rows i) ≡ Ok step.branches
+  pub otherwise : may ms (codes "default") targets.Stop (target_in around.rows i) ≡ Ok step.otherwise
   pub size : is_too_large around step ≡ false
 
 module _ (around : Surroundings) (i : ℕ) (ms : Members) where
-  of_parts : (name : List ℕ) (sent : Sent) (course : Course)
-      → row_name (is_taken_step around.rows i) ms ≡ Ok name → sent_in around ms ≡ Ok sent
-      → course_in around.rows i ms ≡ Ok course
-      → is_too_large around (step_of (name, (sent, course))) ≡ false
-      → IsStep around i ms (step_of (name, (sent, course)))
-  of_parts name sent course is_name is_sent is_course size =
-      let sends = both_ok (segments_at around.fields ms) (both (sealed_at (is_some around.seal) ms) (signatures_at around.signers ms)) sent is_sent in
-      let signed = both_ok (sealed_at (is_some around.seal) ms) (signatures_at around.signers ms) sent.1 sends.1 in
-      let runs = both_ok (repeat_at ms) (both (branches_at around.rows i ms) (default_at around.rows i ms)) course is_course in
-      let leads = both_ok (branches_at around.rows i ms) (default_at around.rows i ms) course.1 runs.1 in
-      record {
-        name = is_name;
-        templates = sends.0;
-        sealed = signed.0;
-        signers = signed.1;
-        repeat = runs.0;
-        branches = leads.0;
-        otherwise = leads.1;
-        size = size;
-      }
-
-  step_is : (step : StepValue) → table_step around i ms ≡ Ok step → IsStep around i ms step
-  unfolding table_in_parts
-  step_is step is =
-      let e = step_tables around i ms ∙ is in
-      let parts = both (row_name (is_taken_step around.rows i) ms) (parts_in around i ms) in
-      let whole = passed (only_keys step_keys ms) (seen step_of parts >>= sized_step around) kinds.UnknownKey step e in
-      let read = bind_ok (seen step_of parts) (sized_step around) step whole.1 in
-      let size = failed (is_too_large around read.0) (Ok read.0) kinds.Limit step read.2 in
-      let all = seen_ok step_of parts read.0 read.1 in
-      let named = both_ok (row_name (is_taken_step around.rows i) ms) (parts_in around i ms) all.0 all.1 in
-      let rest = both_ok (sent_in around ms) (course_in around.rows i ms) all.0.1 named.1 in
-      subst (IsStep around i ms) (all.2 ∙ same_ok read.0 step size.1)
-      (of_parts all.0.0 all.0.1.0 all.0.1.1 named.0 rest.0 rest.1 (subst (λ s. is_too_large around s ≡ false) (sym all.2) size.0))
+  step_is : (step : StepValue) → table_step around i ms ≡ Ok step → is_too_large around step ≡ false
+      → IsStep around i ms step
+  unfolding table_step
+  step_is step e size =
+      let whole = passed (only_keys step_keys ms) _ kinds.UnknownKey step e in
+      let seven = next_ok _ _ step whole.1 in
+      let six = next_ok _ _ seven.0 seven.2 in
+      let five = next_ok _ _ six.0 six.2 in
+      let four = next_ok _ _ five.0 five.2 in
+      let three = next_ok _ _ four.0 four.2 in
+      let two = next_ok _ _ three.0 three.2 in
+      let one = next_ok _ _ two.0 two.2 in
+      let first = same_ok step_value one.0 one.2 in
+      let is : step_value one.1 two.1 three.1 four.1 five.1 six.1 seven.1 ≡ step = cc in
+      subst (λ (s : StepValue). is_too_large around s ≡ false → IsStep around i ms s) is
+      (λ small. record {
+        name = one.3;
+        templates = two.3;
+        sealed = three.3;
+        signers = four.3;
+        repeat = five.3;
+        branches = six.3;
+        otherwise = seven.3;
+        size = small;
+      })
+      size
 
 -- the row of a step is a table that has its parts
 step_row : (around : Surroundings) (i : ℕ) (row : Data) (step : StepValue) → step_in around i row ≡ Ok step
     → (ms : Members) × (row ≡ table ms) × IsStep around i ms step
-step_row around i (table ms) step e = (ms, refl, step_is around i ms step e)
+step_row around i (table ms) step e =
+    let read = bind_ok (table_step around i ms) (sized_step around) step e in
+    let size = failed (is_too_large around read.0) (Ok read.0) kinds.Limit step read.2 in
+    subst (λ s. (m : Members) × (table ms ≡ table m) × IsStep around i m s) (same_ok read.0 step size.1) (ms, refl, step_is around i ms read.0 read.1 size.0)
 step_row around i _ step e = absurd cc
 
 -- the row of a step tells its name, which no earlier row has
@@ -233,7 +226,7 @@ step_named around i row step e =
 -- ---- what its parts keep
 
 branches_kept : (rows : List Data) (i : ℕ) (ms : Members) (branches : List Branch)
-    → branches_at rows i ms ≡ Ok branches
+    → may ms (codes "branches") [] (branches_in rows i) ≡ Ok branches
     → All (λ (branch : Branch). IsOnward (length rows) (i + 1) branch.to) branches × (length branches ≤ 20)
 branches_kept rows i ms branches e =
     let onward : Branch → Type 0 = λ branch. IsOnward (length rows) (i + 1) branch.to in
@@ -242,7 +235,7 @@ branches_kept rows i ms branches e =
     branches e
 
 signatures_kept : (signers : List Signer) (ms : Members) (places : List ℕ)
-    → signatures_at signers ms ≡ Ok places
+    → may ms (codes "signers") [] (signatures_in signers) ≡ Ok places
     → All (λ place. place < length signers) places × (length places ≤ 9)
 signatures_kept signers ms places e =
     let within : ℕ → Type 0 = λ place. place < length signers in
@@ -250,10 +243,10 @@ signatures_kept signers ms places e =
     (All-nil within, omega arith) (list_ok 9 (signature_in signers) within (signature_within signers))
     (get_member (codes "signers") ms) places e
 
-repeat_kept : (ms : Members) (n : ℕ) → repeat_at ms ≡ Ok n → (1 ≤ n) × (n ≤ 99)
+repeat_kept : (ms : Members) (n : ℕ) → may ms (codes "repeat") 1 (integer_in 1 99) ≡ Ok n → (1 ≤ n) × (n ≤ 99)
 repeat_kept ms n e = optional_ok 1 (integer_in 1 99) (λ m. (1 ≤ m) × (m ≤ 99)) (omega arith, omega arith) (integer_ok 1 99) (get_member (codes "repeat") ms) n e
 
-seal_kept : (there : Bool) (ms : Members) (sealed : Bool) → sealed_at there ms ≡ Ok sealed → sealed ≡ true
+seal_kept : (there : Bool) (ms : Members) (sealed : Bool) → may ms (codes "sealed") false (sealed_in there) ≡ Ok sealed → sealed ≡ true
     → there ≡ true
 seal_kept there ms sealed e =
     optional_ok false (sealed_in there) (λ b. b ≡ true → there ≡ true) (λ set. absurd (false≢true set))

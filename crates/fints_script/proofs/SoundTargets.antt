@@ -1,5 +1,5 @@
 -- Where the targets of a read script lead.
-use Rattle.std.proofs.Common.{◌∙◌, ◌≡◌, ℕ, ◌+◌, ◌<◌, false, codes, List, length, Option, Some, None, Ok, refl, subst, inl, inr, arith}
+use Rattle.std.proofs.Common.{◌≡◌, ℕ, ◌+◌, ◌<◌, false, codes, List, length, Option, Some, None, Ok, refl, subst, inl, inr, arith}
 use Rattle.std.specs.Prelude.{nat_le, position}
 use Rattle.std.specs.Str.{bytes_eq}
 use Rattle.std.proofs.lemmas.Bool.Decides.{nat_tests}
@@ -9,14 +9,12 @@ use Rattle.fints_script_cases.specs.declared.answers.Target.{Target}
 use Rattle.fints_script_cases.specs.declared.answers.Target.TheVariants as targets
 use Rattle.fints_syntax_toml.specs.Document.{only_keys}
 use Rattle.fints_syntax_toml.specs.Entries.{is_named}
-use Rattle.fints_script_rows.specs.PartLaws.{bind_ok, both_ok, choice_ok}
-use Rattle.fints_script_rows.specs.Parts.{both, required, seen}
+use Rattle.fints_script_rows.specs.PartLaws.{bind_ok, choice_ok, next_ok}
+use Rattle.fints_script_rows.specs.Parts.{required}
 use Rattle.fints_script_rows.specs.declared.fault.FaultKind.TheVariants as kinds
-use Rattle.fints_script.specs.StepParts.{branch_in_parts, branch_of, on_at, target_at}
-use Rattle.fints_script.specs.Steps.{branch_in, branch_keys, later_step, table_branch, target_in, target_named}
+use Rattle.fints_script.specs.Steps.{branch_in, branch_keys, branch_value, later_step, table_branch, target_in, target_named}
 use Rattle.fints_script.specs.Sound.{IsOnward}
-use Rattle.fints_script.proofs.StepTables.{branch_tables}
-use Rattle.fints_script.proofs.ReadParts.{failed, passed, same_ok, seen_ok}
+use Rattle.fints_script.proofs.ReadParts.{failed, passed, same_ok}
 use Rattle.fints_script.proofs.SoundElements.{place_within}
 
 -- the step in row i
@@ -47,15 +45,15 @@ module _ (rows : List Data) (i : ℕ) where
 
   members_onward : (ms : Members) (branch : Branch) → table_branch rows i ms ≡ Ok branch
       → IsOnward (length rows) (i + 1) branch.to
-  unfolding branch_in_parts
-  members_onward ms branch is =
-      let e = branch_tables rows i ms ∙ is in
-      let parts = both (on_at ms) (target_at rows i ms) in
-      let table = passed (only_keys branch_keys ms) (seen branch_of parts) kinds.UnknownKey branch e in
-      let read = seen_ok branch_of parts branch table.1 in
-      let keys = both_ok (on_at ms) (target_at rows i ms) read.0 read.1 in
-      let to = bind_ok (required (codes "to") ms) (target_in rows i) read.0.1 keys.1 in
-      subst (λ (b : Branch). IsOnward (length rows) (i + 1) b.to) read.2 (target_onward to.0 read.0.1 to.2)
+  unfolding table_branch
+  members_onward ms branch e =
+      let table = passed (only_keys branch_keys ms) _ kinds.UnknownKey branch e in
+      let to = next_ok _ _ branch table.1 in
+      let on = next_ok _ _ to.0 to.2 in
+      let first = same_ok branch_value on.0 on.2 in
+      let is : branch_value on.1 to.1 ≡ branch = cc in
+      let target = bind_ok (required (codes "to") ms) (target_in rows i) to.1 to.3 in
+      subst (λ (b : Branch). IsOnward (length rows) (i + 1) b.to) is (target_onward target.0 to.1 target.2)
 
   pub branch_onward : (d : Data) (branch : Branch) → branch_in rows i d ≡ Ok branch
       → IsOnward (length rows) (i + 1) branch.to

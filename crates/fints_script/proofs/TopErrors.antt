@@ -1,32 +1,25 @@
 -- A top with a fault.
-use Rattle.std.proofs.Common.{◌≡◌, ◌∙◌, List, codes, cond, true, Err, Result, ap, sym}
+use Rattle.std.proofs.Common.{◌≡◌, ◌∙◌, List, [], codes, true, Err, Result, ap}
 use Rattle.toml.specs.Data.{Data, Members, get_member}
 use Rattle.fints_syntax_toml.specs.Document.{only_keys}
-use Rattle.fints_script_rows.specs.PartLaws.{seen_both}
-use Rattle.fints_script_rows.specs.Parts.{both, seen}
+use Rattle.fints_script_rows.specs.PartLaws.{seen_both, three_keys}
+use Rattle.fints_script_rows.specs.Parts.{both, may, must, seen}
 use Rattle.fints_script_rows.specs.declared.fault.FaultKind.{FaultKind}
-use Rattle.fints_script_rows.specs.declared.fault.FaultKind.TheVariants as kinds
 use Rattle.fints_script_rows.specs.declared.limits.TheConstants.{MAX_FIELDS, MAX_SIGNERS}
-use Rattle.fints_script.specs.Scripts.{rows_at, step_rows, top_in, top_keys, top_of}
+use Rattle.fints_script.specs.Scripts.{rows_in, step_rows, top_in, top_keys, top_value}
 
 pub no_top : {V : Type 0} (see : V → List Data) (a b d : Result V FaultKind) (ms : Members) (kind : FaultKind)
     → only_keys top_keys ms ≡ true
-    → seen see a ≡ rows_at (codes "field") MAX_FIELDS ms
-    → seen see b ≡ rows_at (codes "signer") MAX_SIGNERS ms → seen see d ≡ step_rows ms
-    → both (both a b) d ≡ Err kind → top_in ms ≡ Err kind
+    → seen see a ≡ may ms (codes "field") [] (rows_in MAX_FIELDS)
+    → seen see b ≡ may ms (codes "signer") [] (rows_in MAX_SIGNERS)
+    → seen see d ≡ must ms (codes "step") step_rows → both (both a b) d ≡ Err kind → top_in ms ≡ Err kind
 unfolding top_in
-no_top see a b d ms kind keys e f g h =
-    let rows = both (rows_at (codes "field") MAX_FIELDS ms) (rows_at (codes "signer") MAX_SIGNERS ms) in
-    let front : rows ≡ seen (λ z. (see z.0, see z.1)) (both a b) =
-    ap (λ p. both p (rows_at (codes "signer") MAX_SIGNERS ms)) (sym e) ∙ ap (both (seen see a)) (sym f)
-    ∙ seen_both see see a b in
-    let whole : both rows (step_rows ms) ≡ Err kind =
-    ap (λ p. both p (step_rows ms)) front ∙ ap (both (seen (λ z. (see z.0, see z.1)) (both a b))) (sym g)
-    ∙ seen_both (λ z. (see z.0, see z.1)) see (both a b) d
-    ∙ ap (seen (λ z. ((see z.0.0, see z.0.1), see z.1))) h in
-    ap
-    (λ c.
-    cond c (seen (top_of (get_member (codes "seal") ms)) (both rows (step_rows ms)))
-    (Err kinds.UnknownKey))
-    keys
-    ∙ ap (seen (top_of (get_member (codes "seal") ms))) whole
+no_top {V = V} see a b d ms kind keys e f g h =
+    let of = top_value (get_member (codes "seal") ms) in
+    let all =
+    ap (λ p. both p (seen see d)) (seen_both see see a b)
+    ∙ seen_both (λ (z : V × V). (see z.0, see z.1)) see (both a b) d
+    ∙ ap (seen (λ (z : (V × V) × V). ((see z.0.0, see z.0.1), see z.1))) h in
+    rw (keys, ← e, ← f, ← g)
+    (three_keys of (seen see a) (seen see b) (seen see d)
+    ∙ ap (seen (λ (v : (List Data × List Data) × List Data). of v.0.0 v.0.1 v.1)) all)

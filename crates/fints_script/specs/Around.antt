@@ -6,8 +6,7 @@ use Rattle.toml.specs.View.{view}
 use Rattle.fints_script_cases.specs.declared.answers.Branch.{Branch}
 use Rattle.fints_script_cases.specs.declared.answers.Target.{Target}
 use Rattle.fints_script.specs.Scripts.{ScriptValue, Top as TopValue}
-use Rattle.fints_script.specs.StepParts.{Course, Sent}
-use Rattle.fints_script.specs.Steps.{Surroundings}
+use Rattle.fints_script.specs.Steps.{StepValue, Surroundings, step_value}
 use Rattle.fints_script.specs.declared.script.Body.{Body}
 use Rattle.fints_script.specs.declared.top.Top.{Top}
 use Rattle.fints_script_rows.specs.declared.fields.NamedField.{NamedField}
@@ -24,15 +23,11 @@ surroundings_of a =
       rows = map view a.rows.now;
     }
 
--- what is seen of what a step sends, and of its course
-abbrev pub seen_sent : Vec Template Global × (Bool × Vec ℕ Global) → Sent
-seen_sent sent = (sent.0.items, (sent.1.0, sent.1.1.items))
-
-abbrev pub seen_course : ℕ × (Vec Branch Global × Target) → Course
-seen_course course = (course.0, (course.1.0.items, course.1.1))
-
-abbrev pub seen_parts : (Vec Template Global × (Bool × Vec ℕ Global)) × (ℕ × (Vec Branch Global × Target)) → Sent × Course
-seen_parts parts = (seen_sent parts.0, seen_course parts.1)
+-- the step of these parts
+abbrev pub seen_parts :
+    (((((List ℕ × Vec Template Global) × Bool) × Vec ℕ Global) × ℕ) × Vec Branch Global) × Target → StepValue
+seen_parts ((((((name, templates), sealed), signers), repeat), branches), otherwise) =
+    step_value name templates.items sealed signers.items repeat branches.items otherwise
 
 abbrev pub seen_top : Top → TopValue
 seen_top top =

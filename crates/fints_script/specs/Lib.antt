@@ -1,5 +1,4 @@
 pub mod Steps
-pub mod StepParts
 pub mod Scripts
 pub mod Around
 pub mod Plans

@@ -1,15 +1,13 @@
 -- What holds of every script that was read, as a law says. Laws, private contracts and models alone cite these words.
-use Rattle.std.specs.Prelude.{◌≡◌, ◌≢◌, codes, ℕ, ◌+◌, ◌<◌, ◌≤◌, ◌⊎◌, false, IsTrue, List, length, map, slice_get, Some, All, AllPairs, [], IfSome, IsSome}
+use Rattle.std.specs.Prelude.{◌≡◌, ◌≢◌, ℕ, ◌+◌, ◌<◌, ◌≤◌, ◌⊎◌, false, IsTrue, List, length, map, slice_get, Some, All, AllPairs, [], IfSome, IsSome}
 use Rattle.fints_syntax.specs.Kind.{IsKindText, frame_kinds}
 use Rattle.fints_script_templates.specs.Figures.{figures_of}
-use Rattle.fints_script_fields.specs.declared.alphabet.Alphabet.TheVariants.{Latin}
-use Rattle.fints_script_fields.specs.declared.field.Field.{Field as Class}
-use Rattle.fints_script_fields.specs.declared.field.Field.TheVariants as classes
+use Rattle.fints_script_rows.specs.Fields.{field_value}
 use Rattle.fints_script_rows.specs.NamedFields.{is_account_at}
 use Rattle.fints_script.specs.Numbered.{numbered}
 use Rattle.fints_script.specs.Plans.{is_account_field}
-use Rattle.fints_script.specs.Scripts.{ScriptValue}
-use Rattle.fints_script.specs.Steps.{StepValue, Surroundings, step_weight}
+use Rattle.fints_script.specs.Scripts.{ScriptValue, dialog_value, surroundings}
+use Rattle.fints_script.specs.Steps.{StepValue, step_weight}
 use Rattle.fints_script_templates.specs.Weights.{items_in}
 use Rattle.fints_script_cases.specs.declared.answers.Branch.{Branch}
 use Rattle.fints_script_cases.specs.declared.answers.Target.{Target}
@@ -66,10 +64,6 @@ pub record IsSoundTemplate (fields : List NamedField) (t : Template) : Type 0 wh
   pub each : All (IsBodyElement fields) t.elements
   pub few : HasFewItems fields t.elements
 
--- what a step of the script rests on; its weight hangs on no other row
-abbrev pub surroundings_in : ScriptValue → Surroundings
-surroundings_in s = record { fields = s.fields; figures = map figures_of s.fields; signers = s.signers; seal = s.seal; rows = [] }
-
 -- a target from step n of a script of `count` steps: a later step that exists, the same step, or the end
 abbrev pub IsOnward : ℕ → ℕ → Target → Type 0
 IsOnward count n (targets.Step to) = (n < to) × (to ≤ count)
@@ -81,6 +75,7 @@ pub record LeadsOnward (count n : ℕ) (step : StepValue) : Type 0 where
   pub branches : All (λ (branch : Branch). IsOnward count n branch.to) step.branches
   pub otherwise : IsOnward count n step.otherwise
 
+-- a step of the script, whose weight hangs on no other row
 pub record IsSoundStep (s : ScriptValue) (step : StepValue) : Type 0 where
   pub signers : All (λ (place : ℕ). place < length s.signers) step.signers
   pub few_signers : length step.signers ≤ MAX_SIGNATURES
@@ -91,19 +86,11 @@ pub record IsSoundStep (s : ScriptValue) (step : StepValue) : Type 0 where
   pub often : step.repeat ≤ MAX_REPEAT
   pub templates : All (IsSoundTemplate s.fields) step.templates
   pub seal : IsTrue step.sealed → IsSome s.seal
-  pub light : step_weight (surroundings_in s) step ≤ MAX_WEIGHT
+  pub light : step_weight (surroundings [] s.fields s.signers s.seal) step ≤ MAX_WEIGHT
 
--- the class of the dialogue id: a text of 1 to 30 bytes
-abbrev pub IsDialogClass : Class → Type 0
-IsDialogClass (classes.Text c) = (c.alphabet ≡ Latin) × (c.min ≡ 1) × (c.max ≡ 30)
-IsDialogClass _ = ⊥
-
-abbrev pub IsDialogField : NamedField → Type 0
-IsDialogField field = (field.name ≡ codes "dialog") × IsDialogClass field.class
-
--- the first field is `dialog`, a text of 1 to 30 bytes
+-- the first field is the built-in one
 abbrev pub HasDialog : List NamedField → Type 0
-HasDialog fields = IfSome (slice_get fields 0) IsDialogField
+HasDialog fields = IfSome (slice_get fields 0) (λ field. field_value field ≡ dialog_value)
 
 -- no two fields, and no two steps, have the same name
 abbrev pub FieldsAreApart : List NamedField → Type 0

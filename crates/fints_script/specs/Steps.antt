@@ -166,10 +166,9 @@ table_step around i ms =
     <*> may ms (codes "repeat") 1 (integer_in 1 MAX_REPEAT)
     <*> may ms (codes "branches") [] (branches_in around.rows i)
     <*> may ms (codes "default") targets.Stop (target_in around.rows i)
-    >>= sized_step around
     else Err kinds.UnknownKey
 
--- the step in row i
+-- the step in row i, of a size that it may have
 abbrev pub step_in : Surroundings → ℕ → Data → Part StepValue
-step_in around i (table ms) = table_step around i ms
+step_in around i (table ms) = table_step around i ms >>= sized_step around
 step_in around i _ = Err kinds.WrongKind

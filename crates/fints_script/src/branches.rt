@@ -1,9 +1,8 @@
 //! Branches of steps, and where they lead.
-ghost use Rattle.std.specs.Prelude.{◌≡◌, ◌<◌, length, map};
+ghost use Rattle.std.specs.Prelude.{◌≡◌, ◌<◌, codes, length, map};
 ghost use Rattle.toml.specs.View.{view, table_view};
-ghost use Rattle.fints_script_rows.specs.Parts.{Gives, each};
-ghost use Rattle.fints_script.specs.StepParts.{branch_in_parts, on_at, target_at};
-ghost use Rattle.fints_script.specs.Steps.{branch_in, branches_in, is_word, on_in, target_in, target_named};
+ghost use Rattle.fints_script_rows.specs.Parts.{Gives, each, must};
+ghost use Rattle.fints_script.specs.Steps.{branch_in, branches_in, is_word, on_in, table_branch, target_in, target_named};
 
 use fints_script_cases::{Branch, Pattern, Target};
 use fints_script_rows::keys::BRANCH_KEYS;
@@ -57,22 +56,22 @@ fn on_in(value: &Value) -> Result<Pattern, FaultKind>
 }
 
 fn on_at(table: &Table) -> Result<Pattern, FaultKind>
-    ensures { result ≡ on_at (table_view table.now) }
+    ensures { result ≡ must (table_view table.now) (codes "on") on_in }
 {
     on_in(required(table, "on")?)
 }
 
 fn target_at(rows: &NamedRows<'_>, row: usize, table: &Table) -> Result<Target, FaultKind>
     requires { length rows.now < 65535 }
-    ensures { result ≡ target_at (map view rows.now) row (table_view table.now) }
+    ensures { result ≡ must (table_view table.now) (codes "to") (target_in (map view rows.now) row) }
 {
     target_in(rows, row, required(table, "to")?)
 }
 
-#[tactic(auto, unfolding(crate::specs::StepParts::branch_in_parts))]
+#[tactic(auto, unfolding(crate::specs::Steps::table_branch))]
 fn table_branch(rows: &NamedRows<'_>, row: usize, table: &Table) -> Result<Branch, FaultKind>
     requires { length rows.now < 65535 }
-    ensures { result ≡ branch_in_parts (map view rows.now) row (table_view table.now) }
+    ensures { result ≡ table_branch (map view rows.now) row (table_view table.now) }
 {
     if !document::only_keys(table, &BRANCH_KEYS) {
         return Err(FaultKind::UnknownKey);

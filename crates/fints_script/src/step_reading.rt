@@ -1,18 +1,18 @@
 //! Steps, read from the rows of `step`.
-ghost use Rattle.std.specs.Prelude.{◌≡◌, ◌<◌, length, map};
+ghost use Rattle.std.specs.Prelude.{◌≡◌, ◌<◌, false, [], codes, length, map};
 ghost use Rattle.std.specs.Str.{bytes_eq};
 ghost use Rattle.toml.specs.View.{view, table_view};
 ghost use Rattle.fints_syntax_toml.specs.Document.{only_keys};
-ghost use Rattle.fints_script_rows.specs.Parts.{Gives, each};
+ghost use Rattle.fints_script_rows.specs.Parts.{Gives, each, integer_in, may, must};
 ghost use Rattle.fints_script_rows.specs.RowNames.{row_name};
 ghost use Rattle.fints_script_templates.specs.Segments.{segment_in};
-ghost use Rattle.fints_script.specs.StepParts.{branches_at, course_in, default_at, parts_in, repeat_at, sealed_at, segments_at, sent_in, signatures_at, table_in_parts};
-ghost use Rattle.fints_script.specs.Steps.{is_taken_step, place_of_signer, sealed_in, segments_in, signature_in, signatures_in, step_in, step_keys, with_seal};
-ghost use Rattle.fints_script.specs.Around.{seen_course, seen_parts, seen_sent, surroundings_of};
+ghost use Rattle.fints_script.specs.Steps.{branches_in, is_taken_step, place_of_signer, sealed_in, segments_in, signature_in, signatures_in, step_in, step_keys, table_step, target_in, with_seal};
+ghost use Rattle.fints_script_cases.specs.declared.answers.Target.TheVariants as targets;
+ghost use Rattle.fints_script.specs.Around.{seen_parts, surroundings_of};
 
 use crate::around::Around;
 use crate::branches::{branches_in, is_word, target_in};
-use crate::steps::{Course, Sent, Step, sized_step, whole_step};
+use crate::steps::{Parts, Step, sized_step, whole_step};
 use fints_script_cases::{Branch, Target};
 use fints_script_fields::Name;
 use fints_script_rows::keys::STEP_KEYS;
@@ -48,7 +48,8 @@ fn segments_in(alloc: Global, fields: &Fields, value: &Value) -> Result<Vec<Temp
 }
 
 fn segments_at(alloc: Global, fields: &Fields, table: &Table) -> Result<Vec<Template>, FaultKind>
-    ensures { Gives (λ v. v.items) result (segments_at fields.now (table_view table.now)) }
+    ensures { Gives (λ v. v.items) result
+        (must (table_view table.now) (codes "segments") (segments_in fields.now)) }
 {
     segments_in(alloc, fields, required(table, "segments")?)
 }
@@ -69,7 +70,7 @@ fn sealed_in(has_seal: bool, value: &Value) -> Result<bool, FaultKind>
 }
 
 fn sealed_at(has_seal: bool, table: &Table) -> Result<bool, FaultKind>
-    ensures { result ≡ sealed_at has_seal (table_view table.now) }
+    ensures { result ≡ may (table_view table.now) (codes "sealed") false (sealed_in has_seal) }
 {
     match member(table, "sealed") {
         None => Ok(false),
@@ -125,7 +126,8 @@ fn signatures_in(alloc: Global, signers: &[Signer], value: &Value) -> Result<Vec
 }
 
 fn signatures_at(alloc: Global, signers: &[Signer], table: &Table) -> Result<Vec<usize>, FaultKind>
-    ensures { Gives (λ v. v.items) result (signatures_at signers.now (table_view table.now)) }
+    ensures { Gives (λ v. v.items) result
+        (may (table_view table.now) (codes "signers") [] (signatures_in signers.now)) }
 {
     match member(table, "signers") {
         None => Ok(Vec::new(alloc)),
@@ -133,19 +135,10 @@ fn signatures_at(alloc: Global, signers: &[Signer], table: &Table) -> Result<Vec
     }
 }
 
-fn sent_in(alloc: Global, around: &Around<'_, '_>, table: &Table) -> Result<Sent, FaultKind>
-    ensures { Gives seen_sent result (sent_in (surroundings_of around.now) (table_view table.now)) }
-{
-    let segments = segments_at(alloc, around.fields, table);
-    let sealed = sealed_at(around.seal.is_some(), table);
-    let signers = signatures_at(alloc, around.signers, table);
-    both(segments, both(sealed, signers))
-}
-
 // ---- how often it is sent, and where its answers lead
 
 fn repeat_at(table: &Table) -> Result<u16, FaultKind>
-    ensures { result ≡ repeat_at (table_view table.now) }
+    ensures { result ≡ may (table_view table.now) (codes "repeat") 1 (integer_in 1 MAX_REPEAT) }
 {
     match member(table, "repeat") {
         None => Ok(1),
@@ -160,7 +153,8 @@ fn branches_at(
     table: &Table,
 ) -> Result<Vec<Branch>, FaultKind>
     requires { length rows.now < 65535 }
-    ensures { Gives (λ v. v.items) result (branches_at (map view rows.now) row (table_view table.now)) }
+    ensures { Gives (λ v. v.items) result
+        (may (table_view table.now) (codes "branches") [] (branches_in (map view rows.now) row)) }
 {
     match member(table, "branches") {
         None => Ok(Vec::new(alloc)),
@@ -170,28 +164,13 @@ fn branches_at(
 
 fn default_at(rows: &NamedRows<'_>, row: usize, table: &Table) -> Result<Target, FaultKind>
     requires { length rows.now < 65535 }
-    ensures { result ≡ default_at (map view rows.now) row (table_view table.now) }
+    ensures { result ≡
+        may (table_view table.now) (codes "default") targets.Stop (target_in (map view rows.now) row) }
 {
     match member(table, "default") {
         None => Ok(Target::Stop),
         Some(value) => target_in(rows, row, value),
     }
-}
-
-fn course_in(
-    alloc: Global,
-    rows: &NamedRows<'_>,
-    row: usize,
-    table: &Table,
-) -> Result<Course, FaultKind>
-    requires { length rows.now < 65535 }
-    ensures { Gives seen_course result (course_in (map view rows.now) row (table_view table.now)) }
-{
-    let branches = branches_at(alloc, rows, row, table);
-    both(
-        repeat_at(table),
-        both(branches, default_at(rows, row, table)),
-    )
 }
 
 // ---- the whole step
@@ -209,37 +188,27 @@ fn only_step_keys(table: &Table) -> bool
     only_keys(table, &STEP_KEYS)
 }
 
+#[tactic(auto, unfolding(crate::specs::Steps::table_step))]
 fn parts_in(
     alloc: Global,
     around: &Around<'_, '_>,
     row: usize,
     table: &Table,
-) -> Result<(Sent, Course), FaultKind>
+) -> Result<Parts, FaultKind>
     requires { length around.now.rows.now < 65535 }
-    ensures { Gives seen_parts result (parts_in (surroundings_of around.now) row (table_view table.now)) }
-{
-    both(
-        sent_in(alloc, around, table),
-        course_in(alloc, around.rows, row, table),
-    )
-}
-
-#[tactic(auto, unfolding(crate::specs::StepParts::table_in_parts))]
-fn table_step(
-    alloc: Global,
-    around: &Around<'_, '_>,
-    row: usize,
-    table: &Table,
-) -> Result<Step, FaultKind>
-    requires { length around.now.rows.now < 65535 }
-    ensures { Gives (λ s. s) result (table_in_parts (surroundings_of around.now) row (table_view table.now)) }
+    ensures { Gives seen_parts result (table_step (surroundings_of around.now) row (table_view table.now)) }
 {
     if !only_step_keys(table) {
         return Err(FaultKind::UnknownKey);
     }
     let name = step_name(around.rows, row, table);
-    let (name, parts) = both(name, parts_in(alloc, around, row, table))?;
-    sized_step(around, whole_step(name, parts))
+    let segments = segments_at(alloc, around.fields, table);
+    let sealed = sealed_at(around.seal.is_some(), table);
+    let signers = signatures_at(alloc, around.signers, table);
+    let sent = both(both(both(name, segments), sealed), signers);
+    let branches = branches_at(alloc, around.rows, row, table);
+    let otherwise = default_at(around.rows, row, table);
+    both(both(both(sent, repeat_at(table)), branches), otherwise)
 }
 
 /// The step in this row, counted from 0, or its first fault in the order of the kinds.
@@ -253,7 +222,10 @@ pub fn step_in(
     ensures { Gives (λ s. s) result (step_in (surroundings_of around.now) row (view entry.now)) }
 {
     match entry {
-        Value::Table(table) => table_step(alloc, around, row, table),
+        Value::Table(table) => {
+            let parts = parts_in(alloc, around, row, table)?;
+            sized_step(around, whole_step(parts))
+        }
         _ => Err(FaultKind::WrongKind),
     }
 }

@@ -3,7 +3,6 @@ ghost use Rattle.std.specs.Prelude.{◌≡◌, ◌≤◌, ◌+◌, ◌↔◌, le
 ghost use Rattle.fints_script_cases.specs.Answers.{leads, target_of, IsOpen, IsLeastOpener};
 ghost use Rattle.fints_script_cases.specs.Carrying.{Carries, IsCarrying};
 ghost use Rattle.fints_script_templates.specs.Weights.{Spends, total, segment_weight};
-ghost use Rattle.fints_script.specs.StepParts.{step_of};
 ghost use Rattle.fints_script.specs.Steps.{seal_weight, signature_weight, sized_step, step_weight, has_large_segment, is_too_large};
 ghost use Rattle.fints_script.specs.Around.{seen_parts, surroundings_of};
 
@@ -21,11 +20,13 @@ use fints_syntax::Memory;
 use std::alloc::Global;
 use std::marker::Model;
 
-/// What a step sends: its segments, and whether it is sealed and by whom it is signed.
-pub type Sent = (Vec<Template>, (bool, Vec<usize>));
+/// What a step sends, in the order of its keys: its name, its segments, whether it is sealed, and its
+/// signers.
+pub type Sent = (((Name, Vec<Template>), bool), Vec<usize>);
 
-/// How often a step is sent in a row at most, and where its answers lead.
-pub type Course = (u16, (Vec<Branch>, Target));
+/// The parts of a step: behind what it sends, how often it is sent in a row at most, its branches, and
+/// its default.
+pub type Parts = (((Sent, u16), Vec<Branch>), Target);
 
 /// A step of a script: its segments, who signs them, and where answers lead; a contract sees its
 /// parts.
@@ -234,11 +235,12 @@ fn is_too_large(around: &Around<'_, '_>, step: &Step) -> bool
         || spend_step(MAX_WEIGHT, around, step).is_none()
 }
 
-/// The step of this name and these parts.
-pub fn whole_step(name: Name, parts: (Sent, Course)) -> Step
-    ensures { result ≡ step_of (name, seen_parts parts) }
+/// The step of these parts.
+pub fn whole_step(parts: Parts) -> Step
+    ensures { result ≡ seen_parts parts }
 {
-    let ((templates, (sealed, signers)), (repeat, (branches, otherwise))) = parts;
+    let (((sent, repeat), branches), otherwise) = parts;
+    let (((name, templates), sealed), signers) = sent;
     Step {
         name,
         templates,

@@ -1,9 +1,9 @@
 //! The top of a script's table: its rows, and its seal's value.
-ghost use Rattle.std.specs.Prelude.{◌≡◌, map};
+ghost use Rattle.std.specs.Prelude.{◌≡◌, [], codes, map};
 ghost use Rattle.toml.specs.View.{view, table_view};
-ghost use Rattle.fints_script_rows.specs.Parts.{at_most, seen};
+ghost use Rattle.fints_script_rows.specs.Parts.{at_most, may, must, seen};
 ghost use Rattle.fints_script.specs.Around.{seen_top};
-ghost use Rattle.fints_script.specs.Scripts.{rows_at, step_rows, top_in};
+ghost use Rattle.fints_script.specs.Scripts.{rows_in, step_rows, top_in};
 
 use fints_script_rows::FaultKind;
 use fints_script_rows::keys::SCRIPT_KEYS;
@@ -31,17 +31,16 @@ fn few_rows(most: usize, rows: &[Value]) -> Result<&[Value], FaultKind>
 }
 
 fn rows_at<'a>(key: &str, most: usize, table: &'a Table) -> Result<&'a [Value], FaultKind>
-    ensures { seen (λ v. map view v.now) result ≡ rows_at key.now most (table_view table.now) }
+    ensures { seen (λ v. map view v.now) result ≡ may (table_view table.now) key.now [] (rows_in most) }
 {
-    let rows: &'a [Value] = match member(table, key) {
-        None => &[],
-        Some(value) => entries_of(value)?,
-    };
-    few_rows(most, rows)
+    match member(table, key) {
+        None => Ok(&[]),
+        Some(value) => few_rows(most, entries_of(value)?),
+    }
 }
 
 fn step_rows(table: &Table) -> Result<&[Value], FaultKind>
-    ensures { seen (λ v. map view v.now) result ≡ step_rows (table_view table.now) }
+    ensures { seen (λ v. map view v.now) result ≡ must (table_view table.now) (codes "step") step_rows }
 {
     few_rows(MAX_STEPS, not_empty(entries_of(required(table, "step")?)?)?)
 }

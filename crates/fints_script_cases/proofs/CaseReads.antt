@@ -1,14 +1,11 @@
 -- A text of lines is a case, or it has a first bad line.
-use Rattle.std.proofs.Common.{true, ◌&&◌, nat_le, ℕ, ◌+◌, ◌-◌, ◌<◌, ◌≤◌, ◌≡◌, ◌≢◌, List, [], ◌∷◌, ◌++◌, map, codes, length, slice_get, refl, ap, sym, subst, ◌∙◌, arith, inl}
-use Rattle.std.specs.List.{All, AllPairs, list_all}
-use Rattle.std.proofs.lemmas.List.Sums.{AllPass-from_list_all}
-use Rattle.std.proofs.lemmas.Bool.Decides.{nat_tests}
+use Rattle.std.proofs.Common.{ℕ, ◌+◌, ◌-◌, ◌<◌, ◌≤◌, ◌≡◌, ◌≢◌, List, [], ◌∷◌, ◌++◌, map, codes, length, slice_get, refl, ap, sym, subst, ◌∙◌, arith}
+use Rattle.std.specs.List.{All, AllPairs}
 use Rattle.std.proofs.lemmas.Option.{same_Some}
 use Rattle.std.specs.Option.{ForSome}
 use Rattle.std.proofs.lemmas.List.{append_assoc, append-nil, length-append, map-append}
-use Rattle.std.proofs.lemmas.List.Elements.{All-cons, All-nil, All-head, All-tail, All-push, All-weaker}
+use Rattle.std.proofs.lemmas.List.Elements.{All-cons, All-nil, All-head, All-tail, All-push}
 use Rattle.std.proofs.lemmas.List.Quantifiers.{all_pairs_push}
-use Rattle.fints_script_fields.specs.Names.{IsNameByte}
 use Rattle.fints_syntax_lines.specs.Lines.{text_of_lines, BeginsText}
 use Rattle.fints_syntax_lines.specs.LineLaws.{text_taken, length_taken, lines_long, same_lines, refused_at, text_or_bad_line}
 use Rattle.fints_script_cases.specs.Answers.{IsAnswer}
@@ -131,15 +128,6 @@ read_all text rest v a n read none some = (is_case v a read.begun some, read.tex
 
 -- ---- a bad line
 
-small_letter : (b : ℕ) → (nat_le 97 b && nat_le b 122) ≡ true → (97 ≤ b) × (b ≤ 122)
-small_letter b h = grind (arith, nat_tests)
-
-small_letters : (text : List ℕ) → list_all (λ b. nat_le 97 b && nat_le b 122) text ≡ true
-    → All IsNameByte text
-small_letters text h =
-    All-weaker (λ b. (nat_le 97 b && nat_le b 122) ≡ true) IsNameByte (λ b is. inl (small_letter b is)) text
-    (AllPass-from_list_all (λ b. nat_le 97 b && nat_le b 122) text h)
-
 -- the shortest case
 dialog : NamedValue
 dialog = record { name = codes "dialog"; value = [] }
@@ -152,7 +140,7 @@ least_case =
       fields = record { first = refl; apart = λ i j d below within. absurd (omega arith) };
       values_are =
           All-cons IsNamedValue dialog []
-          ((omega arith, omega arith, small_letters (codes "dialog") refl), All-nil (λ b. b < 256))
+          (refl, All-nil (λ b. b < 256))
           (All-nil IsNamedValue);
       answers_are = All-nil IsAnswer;
       short = omega arith;

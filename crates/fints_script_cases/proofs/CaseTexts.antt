@@ -1,5 +1,5 @@
 -- The texts of cases: what each line spells, and that a text spells one case at most.
-use Rattle.std.proofs.Common.{take, drop, ℕ, ◌+◌, ◌-◌, ◌*◌, ◌/◌, ◌%◌, ◌<◌, ◌≤◌, ◌≡◌, ◌≢◌, ◌⊎◌, Bool, true, false, ◌&&◌, Some, Ok, Err, List, [], ◌∷◌, ◌++◌, codes, length, get_or, refl, ap, sym, subst, ◌∙◌, arith, inl, inr}
+use Rattle.std.proofs.Common.{take, drop, ℕ, ◌+◌, ◌-◌, ◌*◌, ◌/◌, ◌%◌, ◌<◌, ◌≤◌, ◌≡◌, ◌≢◌, Bool, true, false, ◌&&◌, Some, Ok, Err, List, [], ◌∷◌, ◌++◌, codes, length, get_or, refl, ap, sym, subst, ◌∙◌, arith, inl, inr}
 use Rattle.std.proofs.lemmas.Bool.{cases_lt}
 use Rattle.std.proofs.lemmas.List.{append_cancel_left, get_or_past, get_or_default, take_all}
 use Rattle.std.proofs.lemmas.List.Elements.{All-cons, All-nil, All-head, All-tail, All-append, All-weaker}
@@ -11,7 +11,8 @@ use Rattle.hex.specs.Hex.{encode_lower, decode_of, lower_digits, IsBytes, is_hex
 use Rattle.hex.specs.declared.error.FromHexError.{FromHexError}
 use Rattle.hex.proofs.HexLemmas.{decode_of-encode_lower, decode_of-ok, length-encode_with}
 use Rattle.fints_params.specs.Feedback.{code_in}
-use Rattle.fints_script_fields.specs.Names.{IsName, IsNameByte}
+use Rattle.fints_script_fields.specs.Names.{IsName}
+use Rattle.fints_script_fields.proofs.NameLemmas.{name_without}
 use Rattle.fints_syntax_lines.specs.Lines.{IsSplit}
 use Rattle.fints_syntax_lines.specs.LineLaws.{split_same, split_none, plain}
 use Rattle.fints_script_cases.specs.Patterns.{code_text}
@@ -19,22 +20,6 @@ use Rattle.fints_script_cases.specs.Answers.{IsAnswer}
 use Rattle.fints_script_cases.specs.Cases.{value_text, field_text, codes_text, answer_text, IsNamedValue}
 use Rattle.fints_script_cases.specs.CaseReading.{IsValue}
 use Rattle.fints_script_cases.specs.declared.values.NamedValue.{NamedValue}
-
--- ---- names
-
-name_byte : (byte b : ℕ) → (byte ≡ 32) ⊎ (byte ≡ 10) → IsNameByte b → b ≢ byte
-name_byte byte b (inl p) (inl h) e = omega (arith, h.0, h.1)
-name_byte byte b (inl p) (inr (inl h)) e = omega (arith, h.0, h.1)
-name_byte byte b (inl p) (inr (inr (inl h))) e = omega arith
-name_byte byte b (inl p) (inr (inr (inr h))) e = omega arith
-name_byte byte b (inr p) (inl h) e = omega (arith, h.0, h.1)
-name_byte byte b (inr p) (inr (inl h)) e = omega (arith, h.0, h.1)
-name_byte byte b (inr p) (inr (inr (inl h))) e = omega arith
-name_byte byte b (inr p) (inr (inr (inr h))) e = omega arith
-
-pub name_without : (byte : ℕ) (name : List ℕ) → (byte ≡ 32) ⊎ (byte ≡ 10) → IsName name
-    → All (λ x. x ≢ byte) name
-name_without byte name which is = All-weaker IsNameByte (λ x. x ≢ byte) (λ b h. name_byte byte b which h) name is.2
 
 -- ---- values
 
@@ -106,7 +91,7 @@ field_once p q hp hq e =
     let tail : p.name ++ 32 ∷ value_text p.value ≡ q.name ++ 32 ∷ value_text q.value = append_cancel_left (codes "field ") _ _ e in
     let parts =
     split_same 32 p.name (value_text p.value) q.name (value_text q.value)
-    (name_without 32 p.name (inl refl) hp.0) (name_without 32 q.name (inl refl) hq.0) tail in
+    (name_without 32 p.name refl hp.0) (name_without 32 q.name refl hq.0) tail in
     let value = value_once p.value q.value hp.1 hq.1 parts.1 in
     let make : List ℕ → List ℕ → NamedValue = λ n v. record { name = n; value = v } in
     ap (λ (n : List ℕ). make n p.value) parts.0 ∙ ap (λ (v : List ℕ). make q.name v) value
@@ -115,7 +100,7 @@ pub field_without : (p : NamedValue) → IsNamedValue p → All (λ x. x ≢ 10)
 field_without p h =
     let front = plain (codes "field ") refl in
     All-append (λ x. x ≢ 10) (codes "field ") (p.name ++ 32 ∷ value_text p.value) front
-    (All-append (λ x. x ≢ 10) p.name (32 ∷ value_text p.value) (name_without 10 p.name (inr refl) h.0)
+    (All-append (λ x. x ≢ 10) p.name (32 ∷ value_text p.value) (name_without 10 p.name refl h.0)
     (All-cons (λ x. x ≢ 10) 32 (value_text p.value) (λ e. omega arith) (value_without p.value h.1)))
 
 -- ---- codes and lines of answers
@@ -251,7 +236,7 @@ parts_of : (text rest name value : List ℕ) → text ≡ codes "field " ++ rest
     → (x : NamedValue) → IsNamedValue x → text ≡ field_text x → (name ≡ x.name) × (value ≡ value_text x.value)
 parts_of text rest name value is split x h e =
     let tail : rest ≡ x.name ++ 32 ∷ value_text x.value = append_cancel_left (codes "field ") rest _ (sym is ∙ e) in
-    split_same 32 name value x.name (value_text x.value) split.1 (name_without 32 x.name (inl refl) h.0) (sym split.0 ∙ tail)
+    split_same 32 name value x.name (value_text x.value) split.1 (name_without 32 x.name refl h.0) (sym split.0 ∙ tail)
 
 pub no_name : (text rest name value : List ℕ) → text ≡ codes "field " ++ rest → IsSplit 32 rest name value
     → (IsName name → ⊥) → (x : NamedValue) → IsNamedValue x → text ≡ field_text x → ⊥

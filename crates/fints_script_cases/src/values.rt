@@ -75,11 +75,7 @@ impl Values {
     pub fn get(&self, name: Name) -> Option<&[u8]>
         ensures { option_copied result ≡ option_map (λ pair. pair.value) (find (λ pair. bytes_eq pair.name name) self.now) }
     {
-        for pair in self.pairs.iter() {
-            if pair.name == name {
-                return Some(pair.value.as_slice());
-            }
-        }
-        None
+        let pair = self.pairs.iter().find(|pair| pair.name == name)?;
+        Some(pair.value.as_slice())
     }
 }

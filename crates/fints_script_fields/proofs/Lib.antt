@@ -1,3 +1,4 @@
+pub mod NameLemmas
 pub mod Paddings
 pub mod Picks
 pub mod ListedSteps

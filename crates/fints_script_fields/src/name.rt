@@ -6,7 +6,8 @@ ghost use Rattle.std.specs.Cmp.Rules.{comparing, hashing};
 ghost use Rattle.std.specs.Ordering.{nat_cmp};
 ghost use Rattle.std.specs.Hash as fed;
 ghost use Rattle.std.specs.Str.{bytes_eq};
-ghost use Rattle.fints_script_fields.specs.Names.{IsName, IsNameByte};
+ghost use Rattle.std.specs.List.{list_all};
+ghost use Rattle.fints_script_fields.specs.Names.{IsName, is_name, is_name_byte};
 
 use std::cmp::Ordering;
 use std::fmt;
@@ -88,15 +89,21 @@ impl Hash for Name {
 }
 
 fn is_name_byte(b: u8) -> bool
-    ensures { IsTrue result ↔ IsNameByte b }
+    ensures { result ≡ is_name_byte b }
 {
     b.is_ascii_lowercase() || b.is_ascii_digit() || b == b'_' || b == b'-'
 }
 
-fn is_name(text: &[u8]) -> bool
-    ensures { IsTrue result ↔ IsName text.now }
+fn are_name_bytes(text: &[u8]) -> bool
+    ensures { result ≡ list_all is_name_byte text.now }
 {
-    !text.is_empty() && text.len() <= MAX_NAME && text.iter().all(|b| is_name_byte(*b))
+    text.iter().all(|b| is_name_byte(*b))
+}
+
+fn is_name(text: &[u8]) -> bool
+    ensures { result ≡ is_name text.now }
+{
+    !text.is_empty() && text.len() <= MAX_NAME && are_name_bytes(text)
 }
 
 impl fmt::Display for Name {

@@ -8,10 +8,11 @@ use Rattle.std.proofs.lemmas.Slice.Eq.{bytes_eq-Decides}
 use Rattle.toml.specs.Data.{Data, string, integer, float, boolean, datetime, array, table, Members, as_str, get_member}
 use Rattle.fints_syntax_toml.specs.Document.{only_keys}
 use Rattle.fints_syntax_toml.specs.Entries.{is_named, name_in}
+use Rattle.fints_script_fields.specs.Names.{is_name}
 use Rattle.fints_script_rows.specs.Fields.{ClassValue, class_in, class_of, field_in, field_keys, is_taken_field, table_field}
 use Rattle.fints_script_rows.specs.PartLaws.{bind_ok, both_ok, choice_ok, or_ok}
 use Rattle.fints_script_rows.specs.Parts.{both, required}
-use Rattle.fints_script_rows.specs.RowNames.{is_name, name_text, new_name, row_name, text_of_name}
+use Rattle.fints_script_rows.specs.RowNames.{name_text, new_name, row_name, text_of_name}
 use Rattle.fints_script_rows.specs.declared.fault.FaultKind.TheVariants as kinds
 
 -- ---- names of rows

@@ -9,7 +9,7 @@ use Rattle.toml.specs.declared.value.Value.{Value}
 use Rattle.toml.specs.Data.{Data}
 use Rattle.toml.specs.View.{view}
 use Rattle.fints_script_rows.specs.FaultOrder.{first_of, rank}
-use Rattle.fints_script_rows.specs.Parts.{Gives, Part, ◌>>=◌, both, each, more, seen}
+use Rattle.fints_script_rows.specs.Parts.{Gives, Part, ◌>>=◌, ◌<*>◌, both, each, more, seen}
 use Rattle.fints_script_rows.specs.Rows.{Finds, fault_at, part_at, placed, rows_from}
 use Rattle.fints_script_rows.specs.declared.fault.FaultKind.{FaultKind}
 use Rattle.fints_script_rows.specs.declared.fault.FaultKind.TheVariants as kinds
@@ -27,6 +27,14 @@ both_ok (Ok x) (Ok y) z e = (cc, cc)
 both_ok (Ok x) (Err k) z e = absurd cc
 both_ok (Err j) (Ok y) z e = absurd cc
 both_ok (Err j) (Err k) z e = absurd cc
+
+-- the keys of a table so far and the next one, where all have values
+pub next_ok : {X Y : Type 0} (p : Part (X → Y)) (q : Part X) (y : Y) → (p <*> q) ≡ Ok y
+    → (f : X → Y) × (x : X) × (p ≡ Ok f) × (q ≡ Ok x) × (f x ≡ y)
+next_ok (Ok f) (Ok x) y e = (f, x, refl, refl, cc)
+next_ok (Ok f) (Err k) y e = absurd cc
+next_ok (Err j) (Ok x) y e = absurd cc
+next_ok (Err j) (Err k) y e = absurd cc
 
 -- a choice that has a value
 pub choice_ok : {X F : Type 0} (b : Bool) (p q : Result X F) (x : X) → cond b p q ≡ Ok x → (b ≡ true) × (p ≡ Ok x) ⊎ (b ≡ false) × (q ≡ Ok x)
@@ -111,6 +119,22 @@ pub seen_same : {X : Type 0} → (r : Part X) → seen (λ x. x) r ≡ r
 seen_same (Ok x) = refl
 seen_same (Err k) = refl
 
+itself : {X : Type 0} → (part : Part X) → Gives (λ x. x) part part
+itself (Ok x) = refl
+itself (Err k) = inr refl
+
+-- a call that gives the part itself
+pub exact_gives : {X : Type 0} → (r part : Part X) → r ≡ part → Gives (λ x. x) r part
+exact_gives r part e = subst (Gives (λ x. x) r) e (itself r)
+
+-- a fault, handed on
+pub fault_gives : {X Y Z : Type 0} → (see : X → Y) (look : Z → Y) (r : Result X FaultKind) (kind : FaultKind) (part : Part Y)
+    → Gives see r part → r ≡ Err kind → Gives look (Err kind) part
+fault_gives see look (Ok x) kind part h e = absurd cc
+fault_gives {Y = Y} {Z = Z} see look (Err k) kind part h e =
+    let same : k ≡ kind = cc in
+    subst (λ j. Gives {X = Z} look (Err j) part) same h
+
 -- what a call gives is given by what is seen of its value
 pub gives_seen : {X Y : Type 0} → (see : X → Y) (r : Result X FaultKind) (part : Part Y) → Gives see r part → Gives (λ y. y) (seen see r) part
 gives_seen see (Ok x) part h = h
@@ -139,6 +163,42 @@ pub both_gives : {X Y U V : Type 0}
 both_gives see look a b p q h i =
     near_gives (λ z. (see z.0, look z.1)) (both a b) (both p q)
     (subst (λ r. Near r (both p q)) (seen_both see look a b) (both_near (seen see a) p (seen look b) q (near see a p h) (near look b q i)))
+
+-- a table of three keys, by the first two together
+pub three_keys : {X Y Z V : Type 0} → (of : X → Y → Z → V) (p : Part X) (q : Part Y) (r : Part Z)
+    → (Ok of <*> p <*> q <*> r) ≡ seen (λ (v : (X × Y) × Z). of v.0.0 v.0.1 v.1) (both (both p q) r)
+three_keys of (Ok x) (Ok y) (Ok z) = refl
+three_keys of (Ok x) (Ok y) (Err l) = refl
+three_keys of (Ok x) (Err k) (Ok z) = refl
+three_keys of (Ok x) (Err k) (Err l) = refl
+three_keys of (Err j) (Ok y) (Ok z) = refl
+three_keys of (Err j) (Ok y) (Err l) = refl
+three_keys of (Err j) (Err k) (Ok z) = refl
+three_keys of (Err j) (Err k) (Err l) = refl
+
+-- what a call gives, as the value of the first key of a table
+pub first_gives : {X V W : Type 0}
+    → (of : V → W) (see : X → V) (r : Result X FaultKind) (part : Part V) → Gives see r part
+    → Gives (λ x. of (see x)) r (Ok of <*> part)
+first_gives {V = V} of see (Ok x) part e = ap (λ (p : Part V). Ok of <*> p) e
+first_gives of see (Err k) part (inl m) = inl m
+first_gives {V = V} of see (Err k) part (inr e) = inr (ap (λ (p : Part V). Ok of <*> p) e)
+
+applied_gives : {Z V W : Type 0}
+    → (see : Z → (V → W) × V) (r : Result Z FaultKind) (part : Part ((V → W) × V)) → Gives see r part
+    → Gives (λ z. (see z).0 (see z).1) r (part >>= λ v. Ok (v.0 v.1))
+applied_gives {V = V} {W = W} see (Ok z) part e = ap (λ (p : Part ((V → W) × V)). p >>= λ v. Ok (v.0 v.1)) e
+applied_gives see (Err k) part (inl m) = inl m
+applied_gives {V = V} {W = W} see (Err k) part (inr e) = inr (ap (λ (p : Part ((V → W) × V)). p >>= λ v. Ok (v.0 v.1)) e)
+
+-- what the calls for the keys so far give, and the one for the next key, together
+pub next_gives : {X Y V W : Type 0}
+    → (see : X → V → W) (look : Y → V) (a : Result X FaultKind) (b : Result Y FaultKind)
+    (r : Result (X × Y) FaultKind) (p : Part (V → W)) (q : Part V)
+    → Gives see a p → Gives look b q → r ≡ both a b → Gives (λ (z : X × Y). see z.0 (look z.1)) r (p <*> q)
+next_gives {X = X} {Y = Y} see look a b r p q h i is =
+    subst (λ (s : Result (X × Y) FaultKind). Gives (λ (z : X × Y). see z.0 (look z.1)) s (p <*> q)) (sym is)
+    (applied_gives (λ (z : X × Y). (see z.0, look z.1)) (both a b) (both p q) (both_gives see look a b p q h i))
 
 -- what a call gives at a place
 pub placed_finds : {X Y : Type 0} → (see : X → Y) (place : Place) (r : Result X FaultKind) (part : Part Y)

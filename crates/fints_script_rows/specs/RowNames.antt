@@ -1,17 +1,9 @@
 -- Names in the rows of a script.
-use Rattle.std.specs.Prelude.{codes, ℕ, nat_le, nat_lt, Bool, ◌&&◌, ◌||◌, ◌==◌, if◌then◌else◌, List, length, Option, Some, None, Ok, Err}
-use Rattle.std.specs.List.{list_all}
+use Rattle.std.specs.Prelude.{codes, ℕ, Bool, if◌then◌else◌, List, Option, Some, None, Ok, Err}
 use Rattle.toml.specs.Data.{Data, string, Members}
+use Rattle.fints_script_fields.specs.Names.{is_name}
 use Rattle.fints_script_rows.specs.Parts.{Part, ◌>>=◌, required}
 use Rattle.fints_script_rows.specs.declared.fault.FaultKind.TheVariants as kinds
-
--- a small letter, a digit, `_` (95) or `-` (45)
-abbrev pub is_name_byte : ℕ → Bool
-is_name_byte b = ((nat_le 97 b && nat_le b 122) || (nat_le 48 b && nat_le b 57)) || (b == 95 || b == 45)
-
--- 1 to 40 such characters: the test of `IsName`
-abbrev pub is_name : List ℕ → Bool
-is_name text = (nat_lt 0 (length text) && nat_le (length text) 40) && list_all is_name_byte text
 
 -- the name that a text is, if it is one
 abbrev pub parsed : List ℕ → Option (List ℕ)

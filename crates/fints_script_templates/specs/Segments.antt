@@ -1,9 +1,9 @@
 -- What a segment's table is: a template, or the first kind of fault in it.
-use Rattle.std.specs.Prelude.{codes, ℕ, true, if◌then◌else◌, List, [], ◌∷◌, Err, ok_or}
-use Rattle.toml.specs.Data.{Data, string, table, Members, get_member}
+use Rattle.std.specs.Prelude.{codes, ℕ, true, if◌then◌else◌, List, [], ◌∷◌, Ok, Err, ok_or}
+use Rattle.toml.specs.Data.{Data, string, table, Members}
 use Rattle.fints_syntax_kinds.specs.Kind.{kind_from, is_frame_kind}
 use Rattle.fints_syntax_toml.specs.Document.{only_keys}
-use Rattle.fints_script_rows.specs.Parts.{Part, ◌>>=◌, both, integer_in, optional, required, seen}
+use Rattle.fints_script_rows.specs.Parts.{Part, ◌<*>◌, integer_in, may, must}
 use Rattle.fints_script_rows.specs.declared.fault.FaultKind.TheVariants as kinds
 use Rattle.fints_script_rows.specs.declared.fields.NamedField.{NamedField}
 use Rattle.fints_script_templates.specs.Elements.{elements_in}
@@ -21,23 +21,18 @@ kind_in _ = Err kinds.WrongKind
 abbrev pub segment_keys : List (List ℕ)
 segment_keys = codes "kind" ∷ codes "version" ∷ codes "elements" ∷ []
 
-abbrev pub kind_at : Members → Part (List ℕ)
-kind_at ms = required (codes "kind") ms >>= kind_in
+abbrev pub template_value : List ℕ → ℕ → List (List TemplateItem) → Template
+template_value kind version elements = record { kind = kind; version = version; elements = elements }
 
-abbrev pub version_at : Members → Part ℕ
-version_at ms = required (codes "version") ms >>= integer_in 1 999
-
--- account fields may stand in a segment; without the key it has no elements
-abbrev pub body_in : List NamedField → Members → Part (List (List TemplateItem))
-body_in fields ms = optional [] (elements_in fields true) (get_member (codes "elements") ms)
-
-abbrev pub template_of : (List ℕ × ℕ) × List (List TemplateItem) → Template
-template_of ((kind, version), elements) = record { kind = kind; version = version; elements = elements }
-
+-- the template that a table gives, key by key, or its first kind of fault; account fields may stand in it
 unfoldable pub table_segment : List NamedField → Members → Part Template
 table_segment fields ms =
-    if only_keys segment_keys ms then seen template_of
-    (both (both (kind_at ms) (version_at ms)) (body_in fields ms)) else Err kinds.UnknownKey
+    if only_keys segment_keys ms then
+    Ok template_value
+    <*> must ms (codes "kind") kind_in
+    <*> must ms (codes "version") (integer_in 1 999)
+    <*> may ms (codes "elements") [] (elements_in fields true)
+    else Err kinds.UnknownKey
 
 abbrev pub segment_in : List NamedField → Data → Part Template
 segment_in fields (table ms) = table_segment fields ms

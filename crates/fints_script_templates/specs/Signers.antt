@@ -4,7 +4,7 @@ use Rattle.std.specs.List.{list_any}
 use Rattle.toml.specs.Data.{Data, table, Members}
 use Rattle.fints_syntax_toml.specs.Document.{only_keys}
 use Rattle.fints_syntax_toml.specs.Entries.{is_named}
-use Rattle.fints_script_rows.specs.Parts.{Part, ◌>>=◌, both, required, seen}
+use Rattle.fints_script_rows.specs.Parts.{Part, ◌>>=◌, ◌<*>◌, must}
 use Rattle.fints_script_rows.specs.RowNames.{row_name}
 use Rattle.fints_script_templates.specs.Elements.{elements_in}
 use Rattle.fints_script_templates.specs.Weights.{total}
@@ -22,22 +22,20 @@ few_items elements = if nat_lt MAX_TEMPLATE_ITEMS (total length elements) then E
 abbrev pub frame_in : List NamedField → Data → Part (List (List TemplateItem))
 frame_in fields d = elements_in fields false d >>= few_items
 
-abbrev pub frame_at : List ℕ → List NamedField → Members → Part (List (List TemplateItem))
-frame_at key fields ms = required key ms >>= frame_in fields
-
--- its head and its end
-abbrev pub frames_in : List NamedField → Members → Part (List (List TemplateItem) × List (List TemplateItem))
-frames_in fields ms = both (frame_at (codes "head") fields ms) (frame_at (codes "end") fields ms)
-
 abbrev pub signer_keys : List (List ℕ)
 signer_keys = codes "name" ∷ codes "head" ∷ codes "end" ∷ []
 
-abbrev pub signer_of : List ℕ × (List (List TemplateItem) × List (List TemplateItem)) → Signer
-signer_of (name, (head, end)) = record { name = name; head = head; end = end }
+abbrev pub signer_value : List ℕ → List (List TemplateItem) → List (List TemplateItem) → Signer
+signer_value name head end = record { name = name; head = head; end = end }
 
+-- the signer that a table gives, key by key, or its first kind of fault
 unfoldable pub table_signer : List NamedField → List Data → Members → Part Signer
 table_signer fields earlier ms =
-    if only_keys signer_keys ms then seen signer_of (both (row_name (λ name. list_any (is_named name) earlier) ms) (frames_in fields ms))
+    if only_keys signer_keys ms then
+    Ok signer_value
+    <*> row_name (λ name. list_any (is_named name) earlier) ms
+    <*> must ms (codes "head") (frame_in fields)
+    <*> must ms (codes "end") (frame_in fields)
     else Err kinds.UnknownKey
 
 -- a row of `signer` behind earlier ones

@@ -1,8 +1,9 @@
 //! Segments of steps.
-ghost use Rattle.std.specs.Prelude.{◌≡◌};
+ghost use Rattle.std.specs.Prelude.{◌≡◌, true, [], codes};
 ghost use Rattle.toml.specs.View.{view, table_view};
-ghost use Rattle.fints_script_rows.specs.Parts.{Gives};
-ghost use Rattle.fints_script_templates.specs.Segments.{body_in, body_kind, kind_at, kind_in, segment_in, table_segment, version_at};
+ghost use Rattle.fints_script_rows.specs.Parts.{Gives, integer_in, may, must};
+ghost use Rattle.fints_script_templates.specs.Elements.{elements_in};
+ghost use Rattle.fints_script_templates.specs.Segments.{body_kind, kind_in, segment_in, table_segment};
 
 use crate::elements::elements_in;
 use crate::template::{Template, TemplateElements};
@@ -33,19 +34,19 @@ fn kind_in(value: &Value) -> Result<Kind, FaultKind>
 }
 
 fn kind_at(table: &Table) -> Result<Kind, FaultKind>
-    ensures { result ≡ kind_at (table_view table.now) }
+    ensures { result ≡ must (table_view table.now) (codes "kind") kind_in }
 {
     kind_in(required(table, "kind")?)
 }
 
 fn version_at(table: &Table) -> Result<u16, FaultKind>
-    ensures { result ≡ version_at (table_view table.now) }
+    ensures { result ≡ must (table_view table.now) (codes "version") (integer_in 1 999) }
 {
     integer_in(1, 999, required(table, "version")?)
 }
 
-fn body_in(alloc: Global, fields: &Fields, table: &Table) -> Result<TemplateElements, FaultKind>
-    ensures { Gives (λ e. e) result (body_in fields.now (table_view table.now)) }
+fn elements_at(alloc: Global, fields: &Fields, table: &Table) -> Result<TemplateElements, FaultKind>
+    ensures { Gives (λ e. e) result (may (table_view table.now) (codes "elements") [] (elements_in fields.now true)) }
 {
     match document::member(table, "elements") {
         None => Ok(TemplateElements::new(alloc)),
@@ -53,7 +54,7 @@ fn body_in(alloc: Global, fields: &Fields, table: &Table) -> Result<TemplateElem
     }
 }
 
-#[tactic(auto, unfolding(crate::specs::Segments::table_segment))]
+#[tactic(auto, using(fints_script_rows::specs::PartLaws::three_keys), unfolding(crate::specs::Segments::table_segment))]
 fn table_segment(alloc: Global, fields: &Fields, table: &Table) -> Result<Template, FaultKind>
     ensures { Gives (λ t. t) result (table_segment fields.now (table_view table.now)) }
 {
@@ -61,7 +62,7 @@ fn table_segment(alloc: Global, fields: &Fields, table: &Table) -> Result<Templa
         return Err(FaultKind::UnknownKey);
     }
     let head = both(kind_at(table), version_at(table));
-    let ((kind, version), elements) = both(head, body_in(alloc, fields, table))?;
+    let ((kind, version), elements) = both(head, elements_at(alloc, fields, table))?;
     Ok(Template {
         kind,
         version,

@@ -3,9 +3,9 @@ ghost use Rattle.std.specs.Prelude.{◌≡◌, map};
 ghost use Rattle.std.specs.List.{list_any};
 ghost use Rattle.toml.specs.View.{view, table_view};
 ghost use Rattle.fints_syntax_toml.specs.Entries.{is_named};
-ghost use Rattle.fints_script_rows.specs.Parts.{Gives};
+ghost use Rattle.fints_script_rows.specs.Parts.{Gives, must};
 ghost use Rattle.fints_script_rows.specs.RowNames.{row_name};
-ghost use Rattle.fints_script_templates.specs.Signers.{few_items, frame_at, frame_in, frames_in, signer_in, table_signer};
+ghost use Rattle.fints_script_templates.specs.Signers.{few_items, frame_in, signer_in, table_signer};
 
 use crate::elements::elements_in;
 use crate::template::{Signer, TemplateElements};
@@ -47,22 +47,9 @@ fn frame_at(
     fields: &Fields,
     table: &Table,
 ) -> Result<TemplateElements, FaultKind>
-    ensures { Gives (λ e. e) result (frame_at key.now fields.now (table_view table.now)) }
+    ensures { Gives (λ e. e) result (must (table_view table.now) key.now (frame_in fields.now)) }
 {
     frame_in(alloc, fields, required(table, key)?)
-}
-
-fn frames_in(
-    alloc: Global,
-    fields: &Fields,
-    table: &Table,
-) -> Result<(TemplateElements, TemplateElements), FaultKind>
-    ensures { Gives (λ p. p) result (frames_in fields.now (table_view table.now)) }
-{
-    both(
-        frame_at(alloc, "head", fields, table),
-        frame_at(alloc, "end", fields, table),
-    )
 }
 
 fn signer_name(earlier: &[Value], table: &Table) -> Result<Name, FaultKind>
@@ -84,8 +71,9 @@ fn table_signer(
     if !document::only_keys(table, &SIGNER_KEYS) {
         return Err(FaultKind::UnknownKey);
     }
-    let frames = frames_in(alloc, fields, table);
-    let (name, (head, end)) = both(signer_name(earlier, table), frames)?;
+    let head = frame_at(alloc, "head", fields, table);
+    let end = frame_at(alloc, "end", fields, table);
+    let ((name, head), end) = both(both(signer_name(earlier, table), head), end)?;
     Ok(Signer { name, head, end })
 }
 

@@ -19,8 +19,9 @@ use Rattle.fints_script_rows.specs.NamedFields.{is_account}
 use Rattle.fints_script_rows.specs.declared.fields.NamedField.{NamedField}
 use Rattle.fints_script_cases.specs.declared.values.NamedValue.{NamedValue}
 use Rattle.fints_script.specs.Plans.{Admits, IsChosen, is_literal}
-use Rattle.fints_script.specs.Scripts.{ScriptValue}
-use Rattle.fints_script.specs.Sound.{HasDialog, IsDialogClass, IsSound}
+use Rattle.fints_script_rows.specs.Fields.{ClassValue, class_value}
+use Rattle.fints_script.specs.Scripts.{ScriptValue, dialog_value}
+use Rattle.fints_script.specs.Sound.{HasDialog, IsSound}
 use Rattle.fints_script_templates.specs.declared.template.Template.{Template}
 use Rattle.fints_script_templates.specs.declared.template.TemplateItem.{TemplateItem}
 use Rattle.fints_script_templates.specs.declared.template.TemplateItem.TheVariants.{Literal, Dialog, Field}
@@ -132,17 +133,17 @@ account_stands listed fields values number n e f t field admits alone at is =
 
 -- ---- the dialogue id
 
-dialog_class : (class : Class) (v : List ℕ) → IsDialogClass class → field_domain class v
+dialog_class : (class : Class) (v : List ℕ) → class_value class ≡ dialog_value.1 → field_domain class v
     → (field_items class v ≡ TextItem v ∷ []) × (v ≢ [])
-dialog_class (classes.Text c) v is h = (refl, λ e. let n : length v ≡ 0 = ap length e in let least = h.least in let one = is.1 in omega arith)
-dialog_class (classes.Bin c) v is h = absurd is
-dialog_class (classes.OneOf c) v is h = absurd is
-dialog_class (classes.Account c) v is h = absurd is
+dialog_class (classes.Text c) v is h = (refl, λ e. let n : length v ≡ 0 = ap length e in let least = h.least in let one : c.min ≡ 1 = cc in omega arith)
+dialog_class (classes.Bin c) v is h = absurd cc
+dialog_class (classes.OneOf c) v is h = absurd cc
+dialog_class (classes.Account c) v is h = absurd cc
 
 dialog_field : (fields : List NamedField) → 1 ≤ length fields → HasDialog fields
-    → (field : NamedField) × (slice_get fields 0 ≡ Some field) × IsDialogClass field.class
+    → (field : NamedField) × (slice_get fields 0 ≡ Some field) × (class_value field.class ≡ dialog_value.1)
 dialog_field [] some h = absurd (omega (arith, some))
-dialog_field (x ∷ xs) some h = (x, refl, h.1)
+dialog_field (x ∷ xs) some h = (x, refl, ap (λ (v : List ℕ × ClassValue). v.1) h)
 
 abbrev IsOneText : List OwnedItem → Type 0
 IsOneText items = (item : OwnedItem) × (items ≡ item ∷ []) × (item_value item ≢ [])

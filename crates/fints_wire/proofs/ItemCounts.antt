@@ -1,5 +1,5 @@
 -- A choice puts no more items into a template than its fields have at most.
-use Rattle.std.proofs.Common.{◌≡◌, ℕ, zero, suc, ◌+◌, ◌≤◌, eqb, List, [], ◌∷◌, ◌++◌, length, map, get_or, Option, Some, None, refl, ◌∙◌, arith, inl, inr}
+use Rattle.std.proofs.Common.{◌≡◌, ℕ, zero, suc, ◌+◌, ◌≤◌, eqb, List, [], ◌∷◌, ◌++◌, length, map, get_or, Option, Some, None, refl, ap, ◌∙◌, arith, inl, inr}
 use Rattle.std.specs.List.{All, zip}
 use Rattle.std.specs.Option.{IfSome}
 use Rattle.std.proofs.lemmas.Bool.{cases_Bool}
@@ -14,8 +14,9 @@ use Rattle.fints_script_fields.specs.FieldLaws.{has_few_items}
 use Rattle.fints_script_fields.specs.Fields.{field_most_items}
 use Rattle.fints_script_templates.specs.Figures.{figures_of}
 use Rattle.fints_script.specs.Plans.{Admits, IsChosen}
-use Rattle.fints_script.specs.Scripts.{ScriptValue}
-use Rattle.fints_script.specs.Sound.{HasDialog, IsDialogClass, IsSound, IsSoundFrame, IsSoundStep}
+use Rattle.fints_script_rows.specs.Fields.{ClassValue, class_value}
+use Rattle.fints_script.specs.Scripts.{ScriptValue, dialog_value}
+use Rattle.fints_script.specs.Sound.{HasDialog, IsSound, IsSoundFrame, IsSoundStep}
 use Rattle.fints_script.specs.Steps.{StepValue}
 use Rattle.fints_script_templates.specs.Weights.{element_count, item_count, items_in, no_figures, total}
 use Rattle.fints_script_fields.specs.declared.field.Field.{Field}
@@ -93,16 +94,16 @@ field_few (f ∷ fs) [] i h = let n = h.0 in absurd (omega arith)
 field_few (f ∷ fs) (v ∷ vs) zero h = let one : IsPair (f, v) = All-head IsPair (f, v) (zip fs vs) h.1 in has_few_items f.class v.value one.1
 field_few (f ∷ fs) (v ∷ vs) (suc i) h = let n = h.0 in field_few fs vs i (omega arith, All-tail IsPair (f, v) (zip fs vs) h.1)
 
-dialog_class : (c : Field) → IsDialogClass c → field_most_items c ≡ 1
+dialog_class : (c : Field) → class_value c ≡ dialog_value.1 → field_most_items c ≡ 1
 dialog_class (classes.Text c) h = refl
-dialog_class (classes.Bin c) h = absurd h
-dialog_class (classes.OneOf c) h = absurd h
-dialog_class (classes.Account c) h = absurd h
+dialog_class (classes.Bin c) h = refl
+dialog_class (classes.OneOf c) h = refl
+dialog_class (classes.Account c) h = absurd cc
 
 dialog_one : (fields : List NamedField) → 1 ≤ length fields → HasDialog fields
     → (get_or (map figures_of fields) 0 no_figures).items ≡ 1
 dialog_one [] some h = absurd (omega arith)
-dialog_one (f ∷ fs) some h = dialog_class f.class h.1
+dialog_one (f ∷ fs) some h = dialog_class f.class (ap (λ (v : List ℕ × ClassValue). v.1) h)
 
 module _ (script : ScriptValue) (values : List NamedValue) (number : ℕ) (sound : IsSound script) (admits : Admits script.fields values) where
   abbrev filling : FillingValue

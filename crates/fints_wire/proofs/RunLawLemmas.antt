@@ -4,7 +4,7 @@ use Rattle.std.proofs.Common.{refl}
 use Rattle.fints_script.specs.Scripts.{ScriptValue}
 use Rattle.fints_script.specs.Sound.{IsSound}
 use Rattle.fints_script.specs.Steps.{StepValue}
-use Rattle.fints_wire.specs.Laws.{AnswerIsNotBoth, AnswerSendsOrEnds, AnswersLeadOnward, EachAnswerLeads, EachIsLast, EachIsLastAfter, FirstIsOfStepOne, LastMessagesAreOfVisits, LastTwoAreOfVisits, NextFollows, OneListOfVisits, OneRun, RoutesGrow, RoutesSend, RoutesSendBehind, SentAreRead, TimesAreCounted}
+use Rattle.fints_wire.specs.Laws.{AnswerIsNotBoth, AnswerSendsOrEnds, AnswersLeadOnward, EachAnswerLeads, EachIsLast, EachIsLastAfter, FirstIsOfStepOne, LastMessagesAreOfVisits, LastTwoAreOfVisits, OneListOfVisits, OneRun, RoutesGrow, RoutesSend, RoutesSendBehind, SentAreRead, TimesAreCounted}
 use Rattle.fints_wire.specs.Runs.{start, Arrives, Reach, RouteTo, IsRepeated, IsWithin}
 use Rattle.fints_wire.specs.declared.dialogue.Visit.{Visit}
 use Rattle.fints_wire.proofs.Running.{after_once}

@@ -12,14 +12,16 @@ use Rattle.fints_syntax_segments.specs.Spelling.{written}
 use Rattle.fints_syntax_segments.specs.declared.item.OwnedItem.{OwnedItem}
 use Rattle.fints_script_fields.specs.ClassLaws.{text_len_marks}
 use Rattle.fints_script_fields.specs.Classes.{longest_character}
+use Rattle.fints_script_fields.specs.declared.alphabet.Alphabet.TheVariants.{Latin}
 use Rattle.fints_script_fields.specs.Fields.{field_items, field_longest, field_written}
 use Rattle.fints_script_fields.specs.FieldLaws.{has_some_item, is_written_as_items, none_is_longer}
 use Rattle.fints_script_templates.specs.Figures.{figures_of}
 use Rattle.fints_script_fields.specs.Joined.{joined}
 use Rattle.fints_script_fields.specs.Lengths.{text_len}
 use Rattle.fints_script.specs.Plans.{Admits, IsChosen}
-use Rattle.fints_script.specs.Scripts.{ScriptValue}
-use Rattle.fints_script.specs.Sound.{HasDialog, IsDialogClass, IsSound, IsSoundStep}
+use Rattle.fints_script_rows.specs.Fields.{ClassValue, class_value}
+use Rattle.fints_script.specs.Scripts.{ScriptValue, dialog_value}
+use Rattle.fints_script.specs.Sound.{HasDialog, IsSound, IsSoundStep}
 use Rattle.fints_script.specs.Steps.{StepValue, seal_weight, signature_weight}
 use Rattle.fints_script_templates.specs.Weights.{element_weight, item_weight, no_figures, segment_weight, signer_weight, total}
 use Rattle.fints_script_fields.specs.declared.alphabet.Alphabet.{Alphabet}
@@ -287,20 +289,22 @@ field_light (f ∷ fs) (v ∷ vs) zero h =
     omega arith
 field_light (f ∷ fs) (v ∷ vs) (suc i) h = let n = h.0 in field_light fs vs i (omega arith, All-tail IsPair (f, v) (zip fs vs) h.1)
 
-pub dialog_written : (c : Field) → IsDialogClass c → field_written c (field_longest c) ≡ 60
+pub dialog_written : (c : Field) → class_value c ≡ dialog_value.1 → field_written c (field_longest c) ≡ 60
 dialog_written (classes.Text c) h =
     let marks = text_len_marks c.max in
+    let alphabet : c.alphabet ≡ Latin = cc in
+    let most : c.max ≡ 30 = cc in
     let latin : text_len (replicate c.max (longest_character c.alphabet)) ≡ text_len (replicate c.max 63) =
-    ap (λ (a : Alphabet). text_len (replicate c.max (longest_character a))) h.0 in
-    omega (arith, h.2)
-dialog_written (classes.Bin c) h = absurd h
-dialog_written (classes.OneOf c) h = absurd h
-dialog_written (classes.Account c) h = absurd h
+    ap (λ (a : Alphabet). text_len (replicate c.max (longest_character a))) alphabet in
+    omega (arith, most)
+dialog_written (classes.Bin c) h = absurd cc
+dialog_written (classes.OneOf c) h = absurd cc
+dialog_written (classes.Account c) h = absurd cc
 
 dialog_figures : (fields : List NamedField) → 1 ≤ length fields → HasDialog fields
     → (get_or (map figures_of fields) 0 no_figures).written ≡ 60
 dialog_figures [] some h = absurd (omega arith)
-dialog_figures (f ∷ fs) some h = dialog_written f.class h.1
+dialog_figures (f ∷ fs) some h = dialog_written f.class (ap (λ (v : List ℕ × ClassValue). v.1) h)
 
 get_or-first : (fields : List (List OwnedItem))
     → items_size (get_or fields 0 []) ≡ get_or (map items_size fields) 0 0

@@ -12,6 +12,7 @@ use Rattle.fints_syntax_segments.specs.declared.item.OwnedItem.{OwnedItem}
 use Rattle.fints_script_fields.specs.Fields.{field_items, field_longest}
 use Rattle.fints_script_fields.specs.FieldLaws.{has_some_item, is_written_as_items, longest_is_admitted, none_is_longer}
 use Rattle.fints_script.specs.Plans.{Admits, IsChosen}
+use Rattle.fints_script_rows.specs.Fields.{ClassValue}
 use Rattle.fints_script.specs.Scripts.{ScriptValue}
 use Rattle.fints_script.specs.Sound.{HasDialog, IsSound, IsSoundStep}
 use Rattle.fints_script.specs.Steps.{StepValue}
@@ -158,7 +159,7 @@ attained_sizes fields number =
 two_at_least : (fields : List NamedField) → 1 ≤ length fields → HasDialog fields
     → 2 ≤ get_or (map longest_size fields) 0 0
 two_at_least [] some h = absurd (omega arith)
-two_at_least (f ∷ fs) some h = let sixty = dialog_written f.class h.1 in omega arith
+two_at_least (f ∷ fs) some h = let sixty = dialog_written f.class (ap (λ (v : List ℕ × ClassValue). v.1) h) in omega arith
 
 -- ---- messages
 

@@ -1,8 +1,7 @@
 use Rattle.std.proofs.Common.{map}
 use Rattle.toml.specs.View.{view}
-use Rattle.fints_script_rows.specs.PartLaws.{each_step}
+use Rattle.fints_script_rows.specs.PartLaws.{each_step, exact_gives}
 use Rattle.fints_script.specs.Steps.{branch_in}
-use Rattle.fints_script.proofs.RowLemmas.{exact_gives}
 use Rattle.fints_script.proofs.branches.each_branch.Goals as goal
 
 pub loop-branch-preserved : goal.loop-branch-preserved

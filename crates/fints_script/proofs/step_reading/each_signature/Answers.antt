@@ -1,7 +1,6 @@
 use Rattle.toml.specs.View.{view}
-use Rattle.fints_script_rows.specs.PartLaws.{each_step}
+use Rattle.fints_script_rows.specs.PartLaws.{each_step, exact_gives}
 use Rattle.fints_script.specs.Steps.{signature_in}
-use Rattle.fints_script.proofs.RowLemmas.{exact_gives}
 use Rattle.fints_script.proofs.step_reading.each_signature.Goals as goal
 
 pub loop-entry-preserved : goal.loop-entry-preserved

@@ -1,4 +1,4 @@
-use Rattle.std.proofs.Common.{◌∙◌, arith, sym}
+use Rattle.std.proofs.Common.{◌∙◌, sym}
 use Rattle.std.proofs.lemmas.Bool.{false≢true}
 use Rattle.fints_script_cases.proofs.LawLemmas.{carried_where}
 use Rattle.fints_script_cases.proofs.carried.carries.Goals as goal

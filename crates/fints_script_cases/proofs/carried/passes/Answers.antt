@@ -1,4 +1,3 @@
-use Rattle.std.proofs.Common.{arith}
 use Rattle.fints_script_cases.proofs.LawLemmas.{carried_where}
 use Rattle.fints_script_cases.proofs.carried.passes.Goals as goal
 

@@ -1,7 +1,5 @@
-use Rattle.std.proofs.Common.{◌≡◌, ◌-◌, ◌<◌, List, ℕ, length, Some, ap, subst, sym, ◌∙◌, arith}
-use Rattle.std.specs.List.{slice_get}
+use Rattle.std.proofs.Common.{◌≡◌, ◌-◌, ◌<◌, List, ℕ, length, ap, subst, sym, ◌∙◌, arith}
 use Rattle.fints_rules_messages.specs.Messages.{IsMessage}
-use Rattle.fints_script.specs.Scripts.{ScriptValue}
 use Rattle.fints_script.specs.Numbered.{numbered_of}
 use Rattle.fints_script.specs.Steps.{StepValue}
 use Rattle.fints_wire.specs.Filling.{AreFilled, FillingValue, TemplatesAreFilled}

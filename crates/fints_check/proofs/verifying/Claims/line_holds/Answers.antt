@@ -8,7 +8,6 @@ use Rattle.fints_rules.specs.declared.rule.Rule.{Rule}
 use Rattle.fints_check_findings.proofs.AtSteps.{from_same}
 use Rattle.fints_check_findings.specs.Breakable.{IsCleanStep}
 use Rattle.fints_script.specs.Numbered.{numbered}
-use Rattle.fints_script.specs.Steps.{StepValue}
 use Rattle.fints_check.specs.Certificates.{BranchGoesOn}
 use Rattle.fints_check.specs.Verifying.{ClaimsValue, TellsFigures}
 use Rattle.fints_check.proofs.Promising.{numbers_asked}

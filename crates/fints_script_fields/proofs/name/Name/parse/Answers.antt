@@ -1,4 +1,4 @@
-use Rattle.std.proofs.Common.{subst, sym, ◌++◌, drop, replicate, length, ℕ, List}
+use Rattle.std.proofs.Common.{subst, sym, ◌∙◌, ◌++◌, drop, replicate, length, ℕ, List}
 use Rattle.fints_script_fields.specs.NameFields.{IsPadded}
 use Rattle.fints_script_fields.proofs.Paddings.{padded}
 use Rattle.fints_script_fields.proofs.name.Name.parse.Goals as goal
@@ -13,4 +13,4 @@ invariant_of-result c =
       len = length c.args.text.now;
     }))
     (sym c.copy_from_slice.ensures.after)
-    (padded c.args.text.now (c.is_name.ensures.0 c.if-not-is_name.false))
+    (padded c.args.text.now (sym c.is_name.ensures ∙ c.if-not-is_name.false))
