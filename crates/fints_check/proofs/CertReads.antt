@@ -5,7 +5,7 @@ use Rattle.std.proofs.lemmas.List.Elements.{All-cons, All-nil, All-push}
 use Rattle.std.proofs.lemmas.List.Quantifiers.{all_pairs_push}
 use Rattle.fints_syntax_lines.specs.Lines.{text_of_lines, BeginsText}
 use Rattle.fints_syntax_lines.specs.LineLaws.{text_taken, length_taken, lines_long, same_lines, refused_at, text_or_bad_line}
-use Rattle.fints_check.specs.CertTexts.{step_text, cert_lines, cert_text, IsStepLine, IsCertificate, IsCertificateOf, OneCertificate, CertificateOrBadLine, AreCertLines, IsFirstBadLine}
+use Rattle.fints_check.specs.CertTexts.{step_text, cert_lines, cert_text, IsStepLine, IsCertificate, IsCertificateOf, OneCertificate, CertificateOrBadLine, AreCertLines, IsFirstBadCertLine}
 use Rattle.fints_check.specs.CertReading.{IsNew, IsBegun, IsLineTaken, HasNoLine}
 use Rattle.fints_check.specs.declared.certificate.Line.{Line}
 use Rattle.fints_syntax_lines.specs.declared.lines.TheConstants.{MAX_TEXT}
@@ -110,7 +110,7 @@ none_is_none [] none c = no_lines c.lines c.is.some (let same = c.same in cc)
 none_is_none (x ∷ v) none c = omega arith
 
 pub refused : (text rest : List ℕ) (v : List Line) (n : ℕ) → Read text rest v n
-    → HasNoLine (length text) rest v → (length rest ≡ 0 → length v ≡ 0) → IsFirstBadLine text n
+    → HasNoLine (length text) rest v → (length rest ≡ 0 → length v ≡ 0) → IsFirstBadCertLine text n
 refused text rest v n read none ends =
     refused_at AreCertLines cert_without text rest (cert_lines v) n (begins v read.begun) read.text_is
     read.number (λ done good. none_is_none v (ends done) good) bad
@@ -128,7 +128,7 @@ refused text rest v n read none ends =
         })
 
 pub no_header : (text : List ℕ) → ((rest : List ℕ) → text ≢ codes "fints-cert 2\n" ++ rest)
-    → IsFirstBadLine text 1
+    → IsFirstBadCertLine text 1
 no_header text none =
     refused_at AreCertLines cert_without text text [] 1
     (record {

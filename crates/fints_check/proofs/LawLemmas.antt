@@ -1,6 +1,6 @@
 -- The laws, each with its proof, for the proofs of the crates above.
 use Rattle.std.specs.Prelude.{◌≡◌, ℕ, List}
-use Rattle.fints_check.specs.CertTexts.{CertificateOrBadLine, OneCertificate, IsFirstBadLine, AreCertLines}
+use Rattle.fints_check.specs.CertTexts.{CertificateOrBadLine, OneCertificate, IsFirstBadCertLine, AreCertLines}
 use Rattle.fints_check.specs.Laws.{ClosedIsPermitted, ClosedKeepsPromise, GreatestIsClosed, GreatestIsReadable}
 use Rattle.fints_syntax_lines.specs.LineLaws as texts
 use Rattle.fints_check.proofs.CertLines.{cert_without}
@@ -9,7 +9,7 @@ use Rattle.fints_check.proofs.Closing.{closes}
 use Rattle.fints_check.proofs.Readable.{greatest_readable}
 use Rattle.fints_check.proofs.CertReads as reads
 
-pub one_bad_line : (text : List ℕ) (n m : ℕ) → IsFirstBadLine text n → IsFirstBadLine text m → n ≡ m
+pub one_bad_line : (text : List ℕ) (n m : ℕ) → IsFirstBadCertLine text n → IsFirstBadCertLine text m → n ≡ m
 one_bad_line = texts.one_bad_line AreCertLines cert_without
 
 pub closed_promises_promise : ClosedKeepsPromise

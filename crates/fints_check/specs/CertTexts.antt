@@ -65,14 +65,14 @@ pub record AreCertLines (all : List (List ℕ)) : Type 0 where
   pub same : all ≡ cert_lines lines
 
 -- the text is no certificate, and its n-th line is the first that is none of one
-abbrev pub IsFirstBadLine : List ℕ → ℕ → Type 0
-IsFirstBadLine text n = IsFirstBadLineOf AreCertLines text n
+abbrev pub IsFirstBadCertLine : List ℕ → ℕ → Type 0
+IsFirstBadCertLine text n = IsFirstBadLineOf AreCertLines text n
 
 -- a text is a certificate, or some line of it is the first bad one: it can't be that it is neither
 abbrev pub CertificateOrBadLine : List ℕ → Type 0
 CertificateOrBadLine text =
-    ((lines : List Line) → IsCertificateOf text lines → ⊥) → ((n : ℕ) → IsFirstBadLine text n → ⊥) → ⊥
+    ((lines : List Line) → IsCertificateOf text lines → ⊥) → ((n : ℕ) → IsFirstBadCertLine text n → ⊥) → ⊥
 
 abbrev pub IsCertFault : List ℕ → CertFault → Type 0
-IsCertFault text (Bad line) = IsFirstBadLine text line
+IsCertFault text (Bad line) = IsFirstBadCertLine text line
 IsCertFault text Memory = Unit {0}

@@ -18,7 +18,7 @@ use Rattle.fints_rules.specs.Rules.{SegmentBreaks}
 use Rattle.fints_rules.specs.declared.facts.MessageFacts.{MessageFacts}
 use Rattle.fints_rules_permissions.specs.declared.orders.OrderRow.{OrderRow}
 use Rattle.fints_rules.specs.declared.rule.Rule.{Rule}
-use Rattle.fints_script_rows.specs.NamedFields.{is_account, is_account_at}
+use Rattle.fints_script_rows.specs.NamedFields.{has_accounts, is_account_at}
 use Rattle.fints_script_rows.specs.declared.fields.NamedField.{NamedField}
 use Rattle.fints_script_cases.specs.declared.values.NamedValue.{NamedValue}
 use Rattle.fints_script.specs.Plans.{Admits, IsClosedTemplate, element_two, is_account_field, is_literal, names_account}
@@ -50,10 +50,10 @@ pub record AccountAt (fields : List NamedField) (items : List TemplateItem) : Ty
   pub field : NamedField
   pub items_are : items ≡ Field place ∷ []
   pub there : slice_get fields place ≡ Some field
-  pub account : is_account field.class ≡ true
+  pub account : has_accounts field.class ≡ true
 
 account_there : (o : Option NamedField) → is_account_at o ≡ true
-    → (field : NamedField) × (o ≡ Some field) × (is_account field.class ≡ true)
+    → (field : NamedField) × (o ≡ Some field) × (has_accounts field.class ≡ true)
 account_there None h = absurd cc
 account_there (Some field) h = (field, refl, h)
 
@@ -71,7 +71,7 @@ listed_are : (fields : List NamedField) (items : List TemplateItem) (a : Account
     → listed_in fields items ≡ field_accounts a.field.class
 listed_are fields items a = ap (listed_in fields) a.items_are ∙ ap accounts_at a.there
 
-class_listed : (class : Class) → 0 < length (field_accounts class) → is_account class ≡ true
+class_listed : (class : Class) → 0 < length (field_accounts class) → has_accounts class ≡ true
 class_listed (classes.Account c) h = refl
 class_listed (classes.Text c) h = absurd (omega (arith, h))
 class_listed (classes.Bin c) h = absurd (omega (arith, h))
@@ -117,14 +117,14 @@ asked fields r t some =
 abbrev pub IsShortest : List NamedField → List NamedValue → Type 0
 IsShortest fields values =
     (f : ℕ) (field : NamedField) (value : NamedValue) → slice_get fields f ≡ Some field
-    → is_account field.class ≡ false → slice_get values f ≡ Some value
+    → has_accounts field.class ≡ false → slice_get values f ≡ Some value
     → value.value ≡ field_shortest field.class
 
 -- each has its longest one
 abbrev pub IsLongest : List NamedField → List NamedValue → Type 0
 IsLongest fields values =
     (f : ℕ) (field : NamedField) (value : NamedValue) → slice_get fields f ≡ Some field
-    → is_account field.class ≡ false → slice_get values f ≡ Some value
+    → has_accounts field.class ≡ false → slice_get values f ≡ Some value
     → value.value ≡ field_longest field.class
 
 abbrev pub IsExtreme : Bool → List NamedField → List NamedValue → Type 0
@@ -155,12 +155,12 @@ extreme_admitted true fields = extremes_are_admitted_longest fields
 extreme_admitted false fields = extremes_are_admitted_shortest fields
 
 with_account_is : (fields : List NamedField) (place : ℕ) (field : NamedField) (text : List ℕ)
-    → slice_get fields place ≡ Some field → is_account field.class ≡ true
+    → slice_get fields place ≡ Some field → has_accounts field.class ≡ true
     → IsShortest fields (with_value (shortest_choice fields) place field text)
 with_account_is fields place field text at account f other value there single chosen =
     let apart : f ≢ place = λ e.
     let same : other ≡ field = same_Some other field (sym there ∙ (ap (λ (k : ℕ). slice_get fields k) e ∙ at)) in
-    let no_match : true ≡ false = sym account ∙ (ap (λ (x : NamedField). is_account x.class) (sym same) ∙ single) in
+    let no_match : true ≡ false = sym account ∙ (ap (λ (x : NamedField). has_accounts x.class) (sym same) ∙ single) in
     cc
     in
     shortest_is fields f other value there single (sym (set_elsewhere (shortest_choice fields) place f (value_of field text) apart) ∙ chosen)

@@ -14,7 +14,7 @@ use Rattle.fints_syntax_segments.specs.Values.{value_at}
 use Rattle.fints_script_fields.specs.Fields.{field_accounts, field_domain}
 use Rattle.fints_script_fields.specs.declared.field.Field.{Field as Class}
 use Rattle.fints_script_fields.specs.declared.field.Field.TheVariants as classes
-use Rattle.fints_script_rows.specs.NamedFields.{is_account, is_account_at}
+use Rattle.fints_script_rows.specs.NamedFields.{has_accounts, is_account_at}
 use Rattle.fints_script_rows.specs.declared.fields.NamedField.{NamedField}
 use Rattle.fints_script_cases.specs.declared.values.NamedValue.{NamedValue}
 use Rattle.fints_rules.specs.Facts.{has_tan}
@@ -33,7 +33,7 @@ use Rattle.fints_check_findings.proofs.Lists.{slice_there}
 use Rattle.fints_script_fields.proofs.ClassLawLemmas.{empty_is_shortest, longest_is_empty_alone_alone, longest_is_empty_alone_empty, others_are_one_item}
 use Rattle.fints_wire.proofs.LawLemmas.{dialog_is_one_item, elements_are_filled_values, fields_are_put_in}
 
-single_class : (class : Class) → is_account class ≡ false → field_accounts class ≡ []
+single_class : (class : Class) → has_accounts class ≡ false → field_accounts class ≡ []
 single_class (classes.Account c) h = absurd cc
 single_class (classes.Text c) h = refl
 single_class (classes.Bin c) h = refl
@@ -81,7 +81,7 @@ module _ (script : ScriptValue) (values : List NamedValue) (number : ℕ) (sound
       record { item = item; items_are = items_are; may = λ e. some e; is = λ shortest never. absurd never; filled = λ h. tt; has = λ longest h. some }
   stands (Field f) within single =
       let (field, at) = slice_there script.fields f within.1 in
-      let plain : is_account field.class ≡ false = subst (λ (o : Option NamedField). is_account_at o ≡ false) at single in
+      let plain : has_accounts field.class ≡ false = subst (λ (o : Option NamedField). is_account_at o ≡ false) at single in
       let v = fields_are_put_in script.fields values f field admits at in
       let (item, items_are, value_is) = others_are_one_item field.class v.value.value (single_class field.class plain) in
       record {

@@ -13,7 +13,7 @@ use Rattle.fints_cli_words.specs.declared.words.EarlierFiles.{EarlierFiles}
 use Rattle.fints_cli_words.specs.declared.words.JudgeFiles.{JudgeFiles}
 use Rattle.fints_cli_words.specs.declared.words.RunFiles.{RunFiles}
 use Rattle.fints_cli_commands.specs.declared.loading.Contents.{Contents}
-use Rattle.fints_cli_commands.specs.Commands.{IfTold, Refuses}
+use Rattle.fints_cli_commands.specs.Commands.{IfTold, RefusesRequest}
 use Rattle.fints_cli_commands.specs.Loading.{Held, paths_of}
 use Rattle.fints_cli_commands.specs.Loaded.{IsLoaded}
 use Rattle.fints_cli_files.specs.Streams.{IsFile}
@@ -30,7 +30,7 @@ module _ (holds : Held) (params : Result Rows ParamFault) (contents : Contents) 
       → ((capture : List ℕ) → IsReadOf capture params
       → IsJudgeRefusal capture contents.orders.items contents.message.items fault)
       → IsLoaded (paths_of (Judge files)) holds params contents
-      → Refuses (Judge files) holds fault
+      → RefusesRequest (Judge files) holds fault
   judge_refused files refused loaded =
       let capture = loaded.params in
       of_files (λ q r s. IsJudgeRefusal q r s fault)
@@ -42,7 +42,7 @@ module _ (holds : Held) (params : Result Rows ParamFault) (contents : Contents) 
       → ((capture : List ℕ) → IsReadOf capture params → IsJudgeAfterRefusal
       capture contents.orders.items contents.before.items contents.answer.items contents.message.items fault)
       → IsLoaded (paths_of (JudgeAfter files earlier)) holds params contents
-      → Refuses (JudgeAfter files earlier) holds fault
+      → RefusesRequest (JudgeAfter files earlier) holds fault
   judge_after_refused files earlier refused loaded =
       let capture = loaded.params in
       let orders = contents.orders.items in
@@ -60,7 +60,7 @@ module _ (holds : Held) (params : Result Rows ParamFault) (contents : Contents) 
   pub run_refused : (files : RunFiles) (only : Option ℕ)
       → IsRunRefusal contents.orders.items contents.script.items contents.case.items only fault
       → IsLoaded (paths_of (requests.Run files only)) holds params contents
-      → Refuses (requests.Run files only) holds fault
+      → RefusesRequest (requests.Run files only) holds fault
   run_refused files only refused loaded =
       of_files (λ q r s. IsRunRefusal q r s only fault)
       (holds files.orders.now) (holds files.script.now) (holds files.case.now)

@@ -77,26 +77,26 @@ AnswersTo (requests.Run files only) holds status text =
     (status ≡ 0) × OfCase holds files (λ table script case. IsRunOf table script case only text)
 
 -- the fault refuses the request, where the bytes of its files are told
-abbrev pub Refuses : Request → Held → Fault → Type 0
-Refuses BuiltIn holds fault = IsRefused built_in.capture built_in.orders built_in.script fault
-Refuses (Show params) holds fault = IfSome (holds params.now) (λ capture. IsMemoryOrShowFault capture fault)
-Refuses (ShowMessage message) holds fault = IfSome (holds message.now) (λ bytes. IsMessageRefusal bytes fault)
-Refuses (Judge files) holds fault =
+abbrev pub RefusesRequest : Request → Held → Fault → Type 0
+RefusesRequest BuiltIn holds fault = IsRefused built_in.capture built_in.orders built_in.script fault
+RefusesRequest (Show params) holds fault = IfSome (holds params.now) (λ capture. IsMemoryOrShowFault capture fault)
+RefusesRequest (ShowMessage message) holds fault = IfSome (holds message.now) (λ bytes. IsMessageRefusal bytes fault)
+RefusesRequest (Judge files) holds fault =
     OfMessage holds files (λ capture table message. IsJudgeRefusal capture table message fault)
-Refuses (JudgeAfter files earlier) holds fault =
+RefusesRequest (JudgeAfter files earlier) holds fault =
     OfMessage holds files (λ capture table message.
     IfSome (holds earlier.before.now) (λ before. IfSome (holds earlier.answer.now) (λ answer.
     IsJudgeAfterRefusal capture table before answer message fault)))
-Refuses (Check files) holds fault =
+RefusesRequest (Check files) holds fault =
     OfScript holds files (λ capture table script. IsRefused capture table script fault)
-Refuses (Explain files) holds fault =
+RefusesRequest (Explain files) holds fault =
     OfScript holds files (λ capture table script. IsRefused capture table script fault)
-Refuses (Certify files) holds fault =
+RefusesRequest (Certify files) holds fault =
     OfScript holds files (λ capture table script. IsRefused capture table script fault)
-Refuses (Verify files certificate) holds fault =
+RefusesRequest (Verify files certificate) holds fault =
     OfScript holds files (λ capture table script. IfSome (holds certificate.now) (λ lines.
     IsUnverified capture table script lines fault))
-Refuses (requests.Run files only) holds fault =
+RefusesRequest (requests.Run files only) holds fault =
     OfCase holds files (λ table script case. IsRunRefusal table script case only fault)
 
 -- a request that has files may have one that couldn't be read
@@ -106,5 +106,5 @@ HasFiles _ = Unit {0}
 
 -- why the request has no answer; which files may be answered as unread stands in `Loading`
 abbrev pub FailsFor : Request → Held → Failure → Type 0
-FailsFor request holds (Input fault) = Refuses request holds fault
+FailsFor request holds (Input fault) = RefusesRequest request holds fault
 FailsFor request holds (Unread option) = HasFiles request

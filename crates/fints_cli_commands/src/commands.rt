@@ -7,7 +7,7 @@ ghost use Rattle.fints_cli_commands.specs.Loading.{files_of, paths_of as paths_n
 ghost use Rattle.fints_cli_commands.specs.Loading.{AreWithin, FollowsReading, Held};
 ghost use Rattle.fints_cli_commands.specs.Loaded.{IsLoaded};
 ghost use Rattle.fints_cli_files.specs.Loading.{MAX_READS, NoneFailed};
-ghost use Rattle.fints_cli_commands.specs.Commands.{failure_status, AnswersTo, FailsFor, HintsIfAsked, Refuses};
+ghost use Rattle.fints_cli_commands.specs.Commands.{failure_status, AnswersTo, FailsFor, HintsIfAsked, RefusesRequest};
 
 use crate::built_in;
 use crate::failing::{Refusal, refused};
@@ -51,7 +51,7 @@ fn answer(
         → AnswersTo request.now holds reply.status reply.text.items) }
     ensures refused { IfErr result (λ fault.
         (holds : Held) → IsLoaded (paths_named request.now) holds params contents.now
-        → Refuses request.now holds fault) }
+        → RefusesRequest request.now holds fault) }
 {
     let Contents { orders, script, .. } = contents;
     match request {

@@ -7,7 +7,7 @@ use Rattle.std.proofs.Math.Nat.{mod-lt}
 use Rattle.fints_script.specs.Steps.{StepValue}
 use Rattle.fints_check_findings.specs.declared.finding.Finding.{Finding}
 use Rattle.fints_check_findings.specs.declared.finding.Reached.{Reached}
-use Rattle.fints_cli_reports.specs.ReportText.{EndsClean, finding_line, last_line, report_text, step_lines}
+use Rattle.fints_cli_reports.specs.ReportText.{EndsClean, finding_line, outcome_line, report_text, step_lines}
 
 -- ---- the last byte of a list behind another byte, and the one before it behind two
 
@@ -63,8 +63,8 @@ clean_no_digit before lines ds e =
     ∙ before_one 115 32 10 ds))
 
 ends_clean : (findings : List Finding) (before lines : List ℕ)
-    → before ++ codes "clean\n" ≡ lines ++ last_line findings → findings ≡ []
-unfolding last_line
+    → before ++ codes "clean\n" ≡ lines ++ outcome_line findings → findings ≡ []
+unfolding outcome_line
 ends_clean [] before lines e = refl
 ends_clean (f ∷ fs) before lines e =
     let n = length (f ∷ fs) in

@@ -15,13 +15,13 @@ use Rattle.fints_cli_reports.specs.StepNames.{step_name}
 -- ---- the text
 
 -- the greatest number and size of a step's messages, or that no run sends it
-unfoldable pub figures_text : Option Reached → List ℕ
-figures_text None = codes " unreached"
-figures_text (Some reached) = codes " number " ++ decimal reached.number ++ codes " size " ++ decimal reached.size
+unfoldable pub reached_text : Option Reached → List ℕ
+reached_text None = codes " unreached"
+reached_text (Some reached) = codes " number " ++ decimal reached.number ++ codes " size " ++ decimal reached.size
 
 -- the line of a step of this name
 unfoldable pub step_line : List ℕ → Option Reached → List ℕ
-step_line name reached = codes "step " ++ name ++ figures_text reached ++ codes "\n"
+step_line name reached = codes "step " ++ name ++ reached_text reached ++ codes "\n"
 
 -- the lines of the steps, each with the figures at its place
 abbrev pub step_lines : List StepValue → List (Option Reached) → List ℕ
@@ -33,18 +33,18 @@ unfoldable pub finding_text : List ℕ → Finding → List ℕ
 finding_text name f = name ++ codes " " ++ rule_name f.rule ++ codes " segment " ++ decimal f.segment ++ codes "\n"
 
 -- the line of what was found of a step of this name
-unfoldable pub broken_line : List ℕ → Finding → List ℕ
-broken_line name f = codes "broken " ++ finding_text name f
+unfoldable pub found_line : List ℕ → Finding → List ℕ
+found_line name f = codes "broken " ++ finding_text name f
 
 abbrev pub finding_line : List StepValue → Finding → List ℕ
-finding_line steps f = broken_line (step_name steps f.step) f
+finding_line steps f = found_line (step_name steps f.step) f
 
-unfoldable pub last_line : List Finding → List ℕ
-last_line [] = codes "clean\n"
-last_line (f ∷ fs) = codes "findings " ++ decimal (length (f ∷ fs)) ++ codes "\n"
+unfoldable pub outcome_line : List Finding → List ℕ
+outcome_line [] = codes "clean\n"
+outcome_line (f ∷ fs) = codes "findings " ++ decimal (length (f ∷ fs)) ++ codes "\n"
 
 abbrev pub report_text : List StepValue → List (Option Reached) → List Finding → List ℕ
-report_text steps figures findings = step_lines steps figures ++ flat_map (finding_line steps) findings ++ last_line findings
+report_text steps figures findings = step_lines steps figures ++ flat_map (finding_line steps) findings ++ outcome_line findings
 
 -- 0 for a clean report, else 1
 abbrev pub report_status : List Finding → ℕ

@@ -3,7 +3,7 @@
 use Rattle.std.specs.Prelude.{◌≡◌, ℕ, List, ◌++◌, length, codes, Contains, Option, None, Some}
 use Rattle.std.specs.List.{flat_map, All}
 use Rattle.std.specs.Fmt.{decimal}
-use Rattle.fints_script_cases.specs.Cases.{IsCaseOf, IsFirstBadLine}
+use Rattle.fints_script_cases.specs.Cases.{IsCaseOf, IsFirstBadCaseLine}
 use Rattle.fints_script.specs.Plans.{Admits}
 use Rattle.fints_script.specs.Scripts.{ScriptValue}
 use Rattle.fints_script.specs.Steps.{StepValue}
@@ -75,7 +75,7 @@ pub record IsNotAdmitted (script : ScriptValue) (case : List ℕ) : Type 0 where
 
 -- the fault is the first line that is no line of a case
 abbrev pub IsBadCase : List ℕ → CaseFault → Type 0
-IsBadCase case (cases.Bad line) = IsFirstBadLine case line
+IsBadCase case (cases.Bad line) = IsFirstBadCaseLine case line
 IsBadCase case cases.Memory = ⊥
 
 -- none of the messages has this number

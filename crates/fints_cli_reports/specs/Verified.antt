@@ -2,7 +2,7 @@
 use Rattle.std.specs.Prelude.{◌≡◌, ◌↔◌, ℕ, Bool, true, false, IsTrue, List, codes}
 use Rattle.fints_check.specs.Certificates.{IsClosedCertificate, KeepsPromise}
 use Rattle.fints_check_findings.specs.Findings.{EachIsPermitted}
-use Rattle.fints_check.specs.CertTexts.{IsCertificateOf, IsFirstBadLine}
+use Rattle.fints_check.specs.CertTexts.{IsCertificateOf, IsFirstBadCertLine}
 use Rattle.fints_check.specs.declared.certificate.Line.{Line}
 use Rattle.fints_params.specs.Captures.{IsParamsOf}
 use Rattle.fints_params.specs.Parameters.{Rows}
@@ -47,7 +47,7 @@ pub record IsVerifiedOf (params orders script certificate : List ℕ) (status : 
 
 -- want of memory, or the first refusal: of the order table, of the script, of what it leaves open, or else of the certificate
 abbrev pub IsVerifyRefusal : List ℕ → List ℕ → List ℕ → Fault → Type 0
-IsVerifyRefusal orders script certificate (Certificate line) = ((value : ScriptValue) × ArePlan orders script value) × IsFirstBadLine certificate line
+IsVerifyRefusal orders script certificate (Certificate line) = ((value : ScriptValue) × ArePlan orders script value) × IsFirstBadCertLine certificate line
 IsVerifyRefusal orders script certificate f = IsPlanRefusal orders script f
 
 -- want of memory, or the first refusal: of the capture, or else of the others
@@ -61,5 +61,5 @@ IsUnverified params orders script certificate f = IsRefused params orders script
 -- want of memory, or the first line that is no line of a certificate there
 abbrev pub IsCertificateRefusal : List ℕ → Fault → Type 0
 IsCertificateRefusal certificate Memory = Unit {0}
-IsCertificateRefusal certificate (Certificate line) = IsFirstBadLine certificate line
+IsCertificateRefusal certificate (Certificate line) = IsFirstBadCertLine certificate line
 IsCertificateRefusal certificate _ = ⊥

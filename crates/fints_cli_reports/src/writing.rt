@@ -2,7 +2,7 @@
 ghost use Rattle.std.specs.Prelude.{◌≡◌, ◌++◌, IfOk, OnOk};
 ghost use Rattle.std.specs.List.{All, flat_map};
 ghost use Rattle.fints_cli_reports.specs.StepNames.{IsFindingOf};
-ghost use Rattle.fints_cli_reports.specs.ReportText.{broken_line, figures_text, finding_line, finding_text, last_line, report_status, report_text, step_line, step_lines, IsReportBy};
+ghost use Rattle.fints_cli_reports.specs.ReportText.{found_line, reached_text, finding_line, finding_text, outcome_line, report_status, report_text, step_line, step_lines, IsReportBy};
 
 use fints_check::{Finding, Reached, Report};
 use fints_cli_texts::Reply;
@@ -11,9 +11,9 @@ use fints_syntax::Memory;
 use itoa::Buffer;
 use std::alloc::Global;
 
-#[tactic(auto, unfolding(crate::specs::ReportText::figures_text))]
+#[tactic(auto, unfolding(crate::specs::ReportText::reached_text))]
 fn write_reached(text: &mut Vec<u8>, reached: Option<Reached>) -> Result<(), Memory>
-    ensures { OnOk result (text.new.items ≡ text.old.items ++ figures_text reached) }
+    ensures { OnOk result (text.new.items ≡ text.old.items ++ reached_text reached) }
 {
     let Some(reached) = reached else {
         text.extend_from_slice(b" unreached")?;
@@ -67,9 +67,9 @@ pub fn write_finding_text(text: &mut Vec<u8>, name: Name, finding: &Finding) -> 
 }
 
 // Writes what was found of a step of this name.
-#[tactic(auto, unfolding(crate::specs::ReportText::broken_line))]
+#[tactic(auto, unfolding(crate::specs::ReportText::found_line))]
 fn write_broken(text: &mut Vec<u8>, name: Name, finding: &Finding) -> Result<(), Memory>
-    ensures { OnOk result (text.new.items ≡ text.old.items ++ broken_line name finding.now) }
+    ensures { OnOk result (text.new.items ≡ text.old.items ++ found_line name finding.now) }
 {
     text.extend_from_slice(b"broken ")?;
     write_finding_text(text, name, finding)
@@ -96,9 +96,9 @@ fn write_findings(text: &mut Vec<u8>, plan: &Plan<'_>, findings: &[Finding]) -> 
     Ok(())
 }
 
-#[tactic(auto, unfolding(crate::specs::ReportText::last_line))]
+#[tactic(auto, unfolding(crate::specs::ReportText::outcome_line))]
 fn write_last(text: &mut Vec<u8>, findings: &[Finding]) -> Result<(), Memory>
-    ensures { OnOk result (text.new.items ≡ text.old.items ++ last_line findings.now) }
+    ensures { OnOk result (text.new.items ≡ text.old.items ++ outcome_line findings.now) }
 {
     if findings.is_empty() {
         text.extend_from_slice(b"clean\n")?;

@@ -7,7 +7,7 @@ use Rattle.std.proofs.lemmas.List.Kept.{AllPairs-cons}
 use Rattle.std.proofs.lemmas.Option.{same_Some, slice_get-get_or, slice_get-map}
 use Rattle.std.proofs.lemmas.Slice.Eq.{bytes_eq-Decides}
 use Rattle.toml.specs.Data.{Data, string, table, get_member, as_str}
-use Rattle.fints_syntax_toml.specs.Entries.{holds_text, is_named, name_in}
+use Rattle.fints_syntax_toml.specs.Entries.{holds_text, is_called, name_in}
 use Rattle.fints_script_rows.specs.FieldParts.{is_field}
 use Rattle.fints_script_rows.specs.Fields.{ClassValue, class_value, field_in, field_value}
 use Rattle.fints_script_rows.specs.declared.fault.Place.TheVariants as places
@@ -24,7 +24,7 @@ own_text : (o : Option Data) (q : List ℕ) → option_and_then as_str o ≡ Som
 own_text (Some (string text)) q h = (bytes_eq-Decides q text).1 (sym (same_Some text q h))
 own_text _ q h = cc
 
-own_name : (row : Data) (q : List ℕ) → name_in row ≡ Some q → is_named q row ≡ true
+own_name : (row : Data) (q : List ℕ) → name_in row ≡ Some q → is_called q row ≡ true
 own_name (table ms) q h = own_text (get_member (codes "name") ms) q h
 own_name _ q h = cc
 
@@ -38,7 +38,7 @@ not_any p (y ∷ ys) (suc i) (suc j) x lt e h = not_any p ys i j x (omega (arith
 
 -- the row at k tells the name, and no earlier row has it
 abbrev IsNamedRow : List Data → ℕ → List ℕ → Type 0
-IsNamedRow rows k name = (row : Data) × (slice_get rows k ≡ Some row) × (name_in row ≡ Some name) × (list_any (is_named name) (take k rows) ≡ false)
+IsNamedRow rows k name = (row : Data) × (slice_get rows k ≡ Some row) × (name_in row ≡ Some name) × (list_any (is_called name) (take k rows) ≡ false)
 
 -- what rows name is pairwise different, where no earlier row has a row's name
 apart : {X : Type 0} (name : X → List ℕ) (rows : List Data) (xs : List X)
@@ -47,7 +47,7 @@ apart : {X : Type 0} (name : X → List ℕ) (rows : List Data) (xs : List X)
 apart name rows xs each i j d lt within e =
     let first = each i (get_or xs i d) (slice_get-get_or xs i d (omega (arith, lt, within))) in
     let second = each j (get_or xs j d) (slice_get-get_or xs j d within) in
-    let free = not_any (is_named (name (get_or xs j d))) rows i j first.0 lt first.1 second.3 in
+    let free = not_any (is_called (name (get_or xs j d))) rows i j first.0 lt first.1 second.3 in
     let own = own_name first.0 (name (get_or xs j d)) (first.2 ∙ ap Some e) in
     false≢true (sym free ∙ own)
 

@@ -10,7 +10,7 @@ use Rattle.fints_syntax_toml.specs.Document.{only_keys}
 use Rattle.fints_script_fields.specs.Fields.{field_most_items}
 use Rattle.fints_script_fields.specs.declared.field.Field.{Field}
 use Rattle.fints_script_fields.specs.declared.field.Field.TheVariants as classes
-use Rattle.fints_script_rows.specs.NamedFields.{is_account, is_account_at}
+use Rattle.fints_script_rows.specs.NamedFields.{has_accounts, is_account_at}
 use Rattle.fints_script_rows.specs.PartLaws.{bind_ok, next_ok}
 use Rattle.fints_script_rows.specs.Parts.{must, required}
 use Rattle.fints_script_rows.specs.Rows.{part_at}
@@ -20,7 +20,7 @@ use Rattle.fints_script_rows.specs.declared.fields.NamedField.{NamedField}
 use Rattle.fints_script_templates.specs.Elements.{elements_in}
 use Rattle.fints_script_templates.specs.Figures.{figures_of}
 use Rattle.fints_script_templates.specs.Signers.{few_items, frame_in, signer_in, signer_keys, signer_value, table_signer}
-use Rattle.fints_script_templates.specs.Weights.{total, item_count, element_count, items_in, no_figures}
+use Rattle.fints_script_templates.specs.Weights.{total, item_count, element_count, most_items, no_figures}
 use Rattle.fints_script_templates.specs.declared.template.Signer.{Signer}
 use Rattle.fints_script_templates.specs.declared.template.TemplateItem.{TemplateItem}
 use Rattle.fints_script_templates.specs.declared.template.TemplateItem.TheVariants as items
@@ -32,14 +32,14 @@ use Rattle.fints_script.proofs.SoundElements.{IsBehindFirst, frame_elements}
 
 -- ---- items of lists without account fields
 
-one_item : (class : Field) → is_account class ≡ false → field_most_items class ≡ 1
+one_item : (class : Field) → has_accounts class ≡ false → field_most_items class ≡ 1
 one_item (classes.Text c) h = refl
 one_item (classes.Bin c) h = refl
 one_item (classes.OneOf c) h = refl
 one_item (classes.Account c) h = absurd (false≢true (sym h))
 
 no_account : (fields : List NamedField) (f : ℕ) (d : NamedField) → f < length fields
-    → is_account_at (slice_get fields f) ≡ false → is_account (get_or fields f d).class ≡ false
+    → is_account_at (slice_get fields f) ≡ false → has_accounts (get_or fields f d).class ≡ false
 no_account fields f d h no' = ap is_account_at (sym (slice_get-get_or fields f d h)) ∙ no'
 
 first_of : (fields : List NamedField) (f : ℕ) → f < length fields → NamedField
@@ -63,11 +63,11 @@ element_counts fields (x ∷ xs) within single =
     omega (arith, here, rest)
 
 list_counts : (fields : List NamedField) (es : List (List TemplateItem)) → All (IsFrameElement fields) es
-    → items_in (map figures_of fields) es ≡ total length es
+    → most_items (map figures_of fields) es ≡ total length es
 list_counts fields [] each = refl
 list_counts fields (e ∷ es) each =
     let here = All-head (IsFrameElement fields) e es each in
-    ap (λ n. n + items_in (map figures_of fields) es) (element_counts fields e here.within here.single)
+    ap (λ n. n + most_items (map figures_of fields) es) (element_counts fields e here.within here.single)
     ∙ ap (λ n. length e + n) (list_counts fields es (All-tail (IsFrameElement fields) e es each))
 
 -- ---- frames, signers and the seal

@@ -13,7 +13,7 @@ use Rattle.std.proofs.lemmas.List.Sums.{AllPass-from_list_all}
 use Rattle.toml.specs.Data.{Data, string, table, Members, get_member}
 use Rattle.fints_syntax.specs.Kind.{IsKindText, IsKindByte, kind_from, frame_kinds, is_frame_kind}
 use Rattle.fints_syntax_toml.specs.Document.{only_keys}
-use Rattle.fints_syntax_toml.specs.Entries.{is_named, name_in}
+use Rattle.fints_syntax_toml.specs.Entries.{is_called, name_in}
 use Rattle.fints_script_cases.specs.declared.answers.Branch.{Branch}
 use Rattle.fints_script_cases.specs.declared.answers.Target.TheVariants as targets
 use Rattle.fints_script_rows.specs.FieldParts.{row_named}
@@ -25,7 +25,7 @@ use Rattle.fints_script_rows.specs.declared.fields.NamedField.{NamedField}
 use Rattle.fints_script_templates.specs.Elements.{elements_in}
 use Rattle.fints_script_templates.specs.Figures.{figures_of}
 use Rattle.fints_script_templates.specs.Segments.{body_kind, kind_in, segment_in, segment_keys, table_segment, template_value}
-use Rattle.fints_script_templates.specs.Weights.{items_in}
+use Rattle.fints_script_templates.specs.Weights.{most_items}
 use Rattle.fints_script_templates.specs.declared.template.Signer.{Signer}
 use Rattle.fints_script_templates.specs.declared.template.Template.{Template}
 use Rattle.fints_script.specs.Scripts.{ScriptValue, surroundings}
@@ -95,7 +95,7 @@ none_past most count (x ∷ xs) h =
 
 module _ (fields : List NamedField) (behind : IsBehindFirst fields) where
   abbrev IsFew : Template → Type 0
-  IsFew t = items_in (map figures_of fields) t.elements ≤ MAX_TEMPLATE_ITEMS
+  IsFew t = most_items (map figures_of fields) t.elements ≤ MAX_TEMPLATE_ITEMS
 
   sound_members : (ms : Members) (t : Template) → table_segment fields ms ≡ Ok t → IsFew t
       → IsSoundTemplate fields t
@@ -140,7 +140,7 @@ module _ (fields : List NamedField) (behind : IsBehindFirst fields) where
       let count : length read.0 ≡ length ts = sym (each_length (segment_in fields) read.0 outer.0 read.2) ∙ ap length few.0 in
       let each_is = each_all (segment_in fields) (λ (t : Template). IsFew t → IsSoundTemplate fields t) sound_template read.0 outer.0 read.2 in
       let one = some.1 in
-      let each_small = none_past MAX_TEMPLATE_ITEMS (λ (t : Template). items_in (map figures_of fields) t.elements) ts small in
+      let each_small = none_past MAX_TEMPLATE_ITEMS (λ (t : Template). most_items (map figures_of fields) t.elements) ts small in
       (omega (arith, one, count), few.1, λ k d lt. subst (All (λ (t : Template). IsFew t → IsSoundTemplate fields t)) few.0 each_is k d lt (each_small k d lt))
 
 -- ---- signatures and the seal
@@ -217,11 +217,11 @@ step_row around i _ step e = absurd cc
 -- the row of a step tells its name, which no earlier row has
 pub step_named : (around : Surroundings) (i : ℕ) (row : Data) (step : StepValue)
     → step_in around i row ≡ Ok step
-    → (name_in row ≡ Some step.name) × (list_any (is_named step.name) (take i around.rows) ≡ false)
+    → (name_in row ≡ Some step.name) × (list_any (is_called step.name) (take i around.rows) ≡ false)
 step_named around i row step e =
     let read = step_row around i row step e in
     let named = row_named (is_taken_step around.rows i) read.0 step.name read.2.name in
-    (ap name_in read.1 ∙ named.0, (or_parts (is_word step.name) (list_any (is_named step.name) (take i around.rows)) named.1).1)
+    (ap name_in read.1 ∙ named.0, (or_parts (is_word step.name) (list_any (is_called step.name) (take i around.rows)) named.1).1)
 
 -- ---- what its parts keep
 

@@ -8,7 +8,7 @@ use Rattle.fints_script_cases.specs.declared.answers.Branch.{Branch}
 use Rattle.fints_script_cases.specs.declared.answers.Target.{Target}
 use Rattle.fints_script_cases.specs.declared.answers.Target.TheVariants as targets
 use Rattle.fints_syntax_toml.specs.Document.{only_keys}
-use Rattle.fints_syntax_toml.specs.Entries.{is_named}
+use Rattle.fints_syntax_toml.specs.Entries.{is_called}
 use Rattle.fints_script_rows.specs.PartLaws.{bind_ok, choice_ok, next_ok}
 use Rattle.fints_script_rows.specs.Parts.{required}
 use Rattle.fints_script_rows.specs.declared.fault.FaultKind.TheVariants as kinds
@@ -32,9 +32,9 @@ module _ (rows : List Data) (i : ℕ) where
       → IsOnward (length rows) (i + 1) target
   text_onward text target e = elim (choice_ok (bytes_eq text (codes "again")) (Ok targets.Again) _ target e) [
     | inl again ↦ subst (IsOnward (length rows) (i + 1)) (same_ok targets.Again target again.1) tt
-    | inr other ↦ elim (choice_ok (bytes_eq text (codes "stop")) (Ok targets.Stop) (later_step i (position (is_named text) rows)) target other.1) [
+    | inr other ↦ elim (choice_ok (bytes_eq text (codes "stop")) (Ok targets.Stop) (later_step i (position (is_called text) rows)) target other.1) [
       | inl stop ↦ subst (IsOnward (length rows) (i + 1)) (same_ok targets.Stop target stop.1) tt
-      | inr name ↦ later_onward (position (is_named text) rows) target (place_within (is_named text) rows) name.1
+      | inr name ↦ later_onward (position (is_called text) rows) target (place_within (is_called text) rows) name.1
     ]
   ]
 

@@ -8,7 +8,7 @@ use Rattle.fints_script.specs.Numbered.{numbered}
 use Rattle.fints_script.specs.Plans.{is_account_field}
 use Rattle.fints_script.specs.Scripts.{ScriptValue, dialog_value, surroundings}
 use Rattle.fints_script.specs.Steps.{StepValue, step_weight}
-use Rattle.fints_script_templates.specs.Weights.{items_in}
+use Rattle.fints_script_templates.specs.Weights.{most_items}
 use Rattle.fints_script_cases.specs.declared.answers.Branch.{Branch}
 use Rattle.fints_script_cases.specs.declared.answers.Target.{Target}
 use Rattle.fints_script_cases.specs.declared.answers.Target.TheVariants as targets
@@ -44,7 +44,7 @@ pub record IsBodyElement (fields : List NamedField) (items : List TemplateItem) 
   pub alone : IsTrue (is_account_field fields items) ⊎ All (IsSingle fields) items
 
 abbrev pub HasFewItems : List NamedField → List (List TemplateItem) → Type 0
-HasFewItems fields elements = items_in (map figures_of fields) elements ≤ MAX_TEMPLATE_ITEMS
+HasFewItems fields elements = most_items (map figures_of fields) elements ≤ MAX_TEMPLATE_ITEMS
 
 -- the elements of a signer's segment, or of the seal
 pub record IsSoundFrame (fields : List NamedField) (elements : List (List TemplateItem)) : Type 0 where

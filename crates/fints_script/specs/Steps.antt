@@ -6,12 +6,12 @@ use Rattle.std.specs.Option.{option_map_or}
 use Rattle.std.specs.Str.{bytes_eq}
 use Rattle.toml.specs.Data.{Data, string, table, Members}
 use Rattle.fints_syntax_toml.specs.Document.{only_keys}
-use Rattle.fints_syntax_toml.specs.Entries.{is_named}
+use Rattle.fints_syntax_toml.specs.Entries.{is_called}
 use Rattle.fints_script_cases.specs.Patterns.{pattern_in}
 use Rattle.fints_script_rows.specs.Parts.{Part, ◌>>=◌, ◌<*>◌, at_most, each, entries_of, flag_in, integer_in, may, must, not_empty}
 use Rattle.fints_script_rows.specs.RowNames.{row_name}
 use Rattle.fints_script_templates.specs.Segments.{segment_in}
-use Rattle.fints_script_templates.specs.Weights.{total, segment_weight, signer_weight, items_in}
+use Rattle.fints_script_templates.specs.Weights.{total, segment_weight, signer_weight, most_items}
 use Rattle.fints_script_rows.specs.declared.fault.FaultKind.TheVariants as kinds
 use Rattle.fints_script_rows.specs.declared.fields.NamedField.{NamedField}
 use Rattle.fints_script_cases.specs.declared.answers.Branch.{Branch}
@@ -55,7 +55,7 @@ abbrev pub target_named : List Data → ℕ → List ℕ → Part Target
 target_named rows i text =
     if bytes_eq text (codes "again") then Ok targets.Again
     else if bytes_eq text (codes "stop") then Ok targets.Stop
-    else later_step i (position (is_named text) rows)
+    else later_step i (position (is_called text) rows)
 
 abbrev pub target_in : List Data → ℕ → Data → Part Target
 target_in rows i (string text) = target_named rows i text
@@ -130,7 +130,7 @@ step_weight around step =
 
 -- some segment has more items than it may
 abbrev pub has_large_segment : List Figures → List Template → Bool
-has_large_segment figures templates = list_any (λ (t : Template). nat_lt MAX_TEMPLATE_ITEMS (items_in figures t.elements)) templates
+has_large_segment figures templates = list_any (λ (t : Template). nat_lt MAX_TEMPLATE_ITEMS (most_items figures t.elements)) templates
 
 -- a segment has too many items, or the step is too heavy
 abbrev pub is_too_large : Surroundings → StepValue → Bool
@@ -143,7 +143,7 @@ step_keys = codes "name" ∷ codes "segments" ∷ codes "sealed" ∷ codes "sign
 
 -- a word, or the name of an earlier row
 abbrev pub is_taken_step : List Data → ℕ → List ℕ → Bool
-is_taken_step rows i name = is_word name || list_any (is_named name) (take i rows)
+is_taken_step rows i name = is_word name || list_any (is_called name) (take i rows)
 
 abbrev pub step_value : List ℕ → List Template → Bool → List ℕ → ℕ → List Branch → Target → StepValue
 step_value name templates sealed signers repeat branches otherwise =

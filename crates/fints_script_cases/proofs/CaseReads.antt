@@ -9,7 +9,7 @@ use Rattle.std.proofs.lemmas.List.Quantifiers.{all_pairs_push}
 use Rattle.fints_syntax_lines.specs.Lines.{text_of_lines, BeginsText}
 use Rattle.fints_syntax_lines.specs.LineLaws.{text_taken, length_taken, lines_long, same_lines, refused_at, text_or_bad_line}
 use Rattle.fints_script_cases.specs.Answers.{IsAnswer}
-use Rattle.fints_script_cases.specs.Cases.{field_text, answer_text, case_lines, case_text, AreFields, IsNamedValue, IsCase, IsCaseOf, OneCase, CaseOrBadLine, AreCaseLines, IsFirstBadLine}
+use Rattle.fints_script_cases.specs.Cases.{field_text, answer_text, case_lines, case_text, AreFields, IsNamedValue, IsCase, IsCaseOf, OneCase, CaseOrBadLine, AreCaseLines, IsFirstBadCaseLine}
 use Rattle.fints_script_cases.specs.CaseReading.{IsCaseLine, line_text, IsNext, values_with, answers_with, IsBegun, HasNoLine, IsLineTaken}
 use Rattle.fints_script_cases.specs.declared.values.NamedValue.{NamedValue}
 use Rattle.fints_script_cases.specs.declared.case_reading.CaseLine.{CaseLine}
@@ -178,7 +178,7 @@ no_value_no_case [] (y ∷ a) hv ha c = absurd (omega arith)
 no_value_no_case (x ∷ v) a hv ha c = absurd (omega arith)
 
 pub refused : (text rest : List ℕ) (v : List NamedValue) (a : List (List ℕ)) (n : ℕ) → Read text rest v a n
-    → HasNoLine (length text) rest v a → (length rest ≡ 0 → length v ≡ 0) → IsFirstBadLine text n
+    → HasNoLine (length text) rest v a → (length rest ≡ 0 → length v ≡ 0) → IsFirstBadCaseLine text n
 refused text rest v a n read none ends =
     refused_at AreCaseLines case_without text rest (case_lines v a) n (begins v a read.begun) read.text_is
     read.number (λ done good. no_value_no_case v a (ends done) (read.begun.order (ends done)) good) bad
@@ -196,7 +196,7 @@ refused text rest v a n read none ends =
         })
 
 pub no_header : (text : List ℕ) → ((rest : List ℕ) → text ≢ codes "fints-case 1\n" ++ rest)
-    → IsFirstBadLine text 1
+    → IsFirstBadCaseLine text 1
 no_header text none =
     refused_at AreCaseLines case_without text text [] 1 begins_first refl refl (λ done good. let all = good.lines_are in absurd cc) (λ line more is b.
     let all = b.good.lines_are in

@@ -73,15 +73,15 @@ pub record AreCaseLines (lines : List (List ℕ)) : Type 0 where
   pub lines_are : lines ≡ case_lines values answers
 
 -- the text is no case, and its n-th line is the first that is none of a case
-abbrev pub IsFirstBadLine : List ℕ → ℕ → Type 0
-IsFirstBadLine text n = IsFirstBadLineOf AreCaseLines text n
+abbrev pub IsFirstBadCaseLine : List ℕ → ℕ → Type 0
+IsFirstBadCaseLine text n = IsFirstBadLineOf AreCaseLines text n
 
 -- a text is a case, or some line of it is the first bad one: it can't be that it is neither
 abbrev pub CaseOrBadLine : List ℕ → Type 0
 CaseOrBadLine text =
     ((values : List NamedValue) (answers : List (List ℕ)) → IsCaseOf text values answers → ⊥)
-    → ((n : ℕ) → IsFirstBadLine text n → ⊥) → ⊥
+    → ((n : ℕ) → IsFirstBadCaseLine text n → ⊥) → ⊥
 
 abbrev pub IsCaseFault : List ℕ → CaseFault → Type 0
-IsCaseFault text (Bad line) = IsFirstBadLine text line
+IsCaseFault text (Bad line) = IsFirstBadCaseLine text line
 IsCaseFault text Memory = Unit {0}

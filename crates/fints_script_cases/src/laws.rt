@@ -2,7 +2,7 @@
 ghost use Rattle.std.specs.Prelude.{◌≡◌, ◌↔◌, ◌<◌, ℕ, List};
 ghost use Rattle.fints_script_cases.specs.Answers.{OneCodeFires, OneBranchFires, OpenersLead, CanLead, IsOpenTo};
 ghost use Rattle.fints_script_cases.specs.Carrying.{CarriesWhere, CarryingLeads};
-ghost use Rattle.fints_script_cases.specs.Cases.{CaseOrBadLine, OneCase, IsFirstBadLine};
+ghost use Rattle.fints_script_cases.specs.Cases.{CaseOrBadLine, OneCase, IsFirstBadCaseLine};
 ghost use Rattle.fints_script_cases.specs.declared.answers.Branch.{Branch};
 ghost use Rattle.fints_script_cases.specs.declared.answers.Target.{Target};
 
@@ -33,7 +33,7 @@ pub fn one_case()
 
 /// A text has one first bad line at most.
 pub fn one_bad_line()
-    ensures { (text : List ℕ) (n m : ℕ) → IsFirstBadLine text n → IsFirstBadLine text m → n ≡ m }
+    ensures { (text : List ℕ) (n m : ℕ) → IsFirstBadCaseLine text n → IsFirstBadCaseLine text m → n ≡ m }
 {}
 
 /// A text is a case, or has a first bad line.

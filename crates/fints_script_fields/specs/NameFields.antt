@@ -5,8 +5,8 @@ use Rattle.std.proofs.lemmas.List.{length-take-le, take-append-drop}
 use Rattle.fints_script_fields.specs.Names.{IsName}
 use Rattle.fints_script_fields.specs.declared.name.Name.TheInside.{Inside}
 
-abbrev pub text_of : Inside → List ℕ
-text_of k = take k.len k.bytes
+abbrev pub name_bytes : Inside → List ℕ
+name_bytes k = take k.len k.bytes
 
 pub record IsPadded (k : Inside) : Type 0 where
   pub short : k.len ≤ 40
@@ -17,8 +17,8 @@ pub record IsPadded (k : Inside) : Type 0 where
 abbrev pub fields_of : List ℕ → Inside
 fields_of text = record { bytes = text ++ replicate (40 - length text) 0; len = length text }
 
-pub fields_of-text_of : (k : Inside) → IsPadded k → fields_of (text_of k) ≡ k
-fields_of-text_of k h =
+pub fields_of-name_bytes : (k : Inside) → IsPadded k → fields_of (name_bytes k) ≡ k
+fields_of-name_bytes k h =
     let len : length (take k.len k.bytes) ≡ k.len = length-take-le k.len k.bytes (omega arith) in
     let back : take k.len k.bytes ++ replicate (40 - length (take k.len k.bytes)) 0 ≡ k.bytes = rw (len, ← h.padded) (take-append-drop k.len k.bytes) in
     let make : List ℕ → ℕ → Inside = λ bs n. record { bytes = bs; len = n } in

@@ -148,9 +148,9 @@ impl Model for AccountValue {
 
     ghost Value = { List (List ℕ) };
 
-    ghost use Rattle.fints_script_fields.specs.AccountFields.{items_of, IsAccountValue};
+    ghost use Rattle.fints_script_fields.specs.AccountFields.{kept_items, IsAccountValue};
 
-    ghost view = { items_of };
+    ghost view = { kept_items };
 
     ghost invariant = { IsAccountValue };
 }

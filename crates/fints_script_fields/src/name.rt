@@ -29,15 +29,15 @@ impl Model for Name {
 
     ghost Value = { List ℕ };
 
-    ghost use Rattle.fints_script_fields.specs.NameFields.{text_of, IsPadded, fields_of, fields_of-text_of};
+    ghost use Rattle.fints_script_fields.specs.NameFields.{name_bytes, IsPadded, fields_of, fields_of-name_bytes};
 
-    ghost view = { text_of };
+    ghost view = { name_bytes };
 
     ghost invariant = { IsPadded };
 
     ghost inverse = { fields_of };
 
-    ghost inverse_ok = { fields_of-text_of };
+    ghost inverse_ok = { fields_of-name_bytes };
 }
 
 impl PartialEq for Name {

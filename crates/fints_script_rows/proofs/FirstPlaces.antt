@@ -16,7 +16,7 @@ use Rattle.toml.specs.View.{view}
 use Rattle.fints_script_fields.specs.Names.{IsName}
 use Rattle.fints_script_rows.specs.declared.fields.NamedField.{NamedField}
 use Rattle.fints_script_rows.specs.NamedFields.{AreNamed, is_field_named, place_of_field}
-use Rattle.fints_syntax_toml.specs.Entries.{holds_text, is_named, name_in}
+use Rattle.fints_syntax_toml.specs.Entries.{holds_text, is_called, name_in}
 use Rattle.fints_script_rows.specs.Places.{first_place}
 
 module _ {X : Type 0} (p : X → Bool) where
@@ -169,7 +169,7 @@ no_text q (Some (datetime i)) h = refl
 no_text q (Some (array i)) h = refl
 no_text q (Some (table i)) h = refl
 
-pub named_as : (q n : List ℕ) (row : Data) → Some n ≡ name_in row → is_named q row ≡ bytes_eq q n
+pub named_as : (q n : List ℕ) (row : Data) → Some n ≡ name_in row → is_called q row ≡ bytes_eq q n
 named_as q n (table ms) h = text_of q n (get_member (codes "name") ms) h
 named_as q n (string t) h = cc
 named_as q n (integer i) h = cc
@@ -178,7 +178,7 @@ named_as q n (boolean i) h = cc
 named_as q n (datetime i) h = cc
 named_as q n (array i) h = cc
 
-pub not_named : (q : List ℕ) (row : Data) → None ≡ name_in row → is_named q row ≡ false
+pub not_named : (q : List ℕ) (row : Data) → None ≡ name_in row → is_called q row ≡ false
 not_named q (table ms) h = no_text q (get_member (codes "name") ms) h
 not_named q (string t) h = refl
 not_named q (integer i) h = refl
@@ -189,12 +189,12 @@ not_named q (array i) h = refl
 
 -- the first row of a name, with the row at i
 pub row_more : (rows : List Value) (i : ℕ) (d : Value) (q : List ℕ) (o : Option ℕ) (has : Bool)
-    → i < length rows → is_named q (view (get_or rows i d)) ≡ has
-    → o ≡ position (is_named q) (take i (map view rows))
-    → first_place o has i ≡ position (is_named q) (take (i + 1) (map view rows))
+    → i < length rows → is_called q (view (get_or rows i d)) ≡ has
+    → o ≡ position (is_called q) (take i (map view rows))
+    → first_place o has i ≡ position (is_called q) (take (i + 1) (map view rows))
 row_more rows i d q o has here named so_far =
-    ap (λ t. first_place o t i) (sym named ∙ ap (is_named q) (sym (get_or-map view rows i d (view d) here)))
-    ∙ place_more (is_named q) (map view rows) i (view d) o (subst (λ n. i < n) (sym (length-map rows view)) here) so_far
+    ap (λ t. first_place o t i) (sym named ∙ ap (is_called q) (sym (get_or-map view rows i d (view d) here)))
+    ∙ place_more (is_called q) (map view rows) i (view d) o (subst (λ n. i < n) (sym (length-map rows view)) here) so_far
 
 -- ---- names of fields
 

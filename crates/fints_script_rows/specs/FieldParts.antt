@@ -7,7 +7,7 @@ use Rattle.std.proofs.lemmas.Bool.{false≢true, or_parts}
 use Rattle.std.proofs.lemmas.Slice.Eq.{bytes_eq-Decides}
 use Rattle.toml.specs.Data.{Data, string, integer, float, boolean, datetime, array, table, Members, as_str, get_member}
 use Rattle.fints_syntax_toml.specs.Document.{only_keys}
-use Rattle.fints_syntax_toml.specs.Entries.{is_named, name_in}
+use Rattle.fints_syntax_toml.specs.Entries.{is_called, name_in}
 use Rattle.fints_script_fields.specs.Names.{is_name}
 use Rattle.fints_script_rows.specs.Fields.{ClassValue, class_in, class_of, field_in, field_keys, is_taken_field, table_field}
 use Rattle.fints_script_rows.specs.PartLaws.{bind_ok, both_ok, choice_ok, or_ok}
@@ -52,7 +52,7 @@ pub record IsField (earlier : List Data) (entry : Data) (name : List ℕ) (class
   pub is : entry ≡ table members
   pub named : name_in entry ≡ Some name
   pub no_dialog : name ≢ codes "dialog"
-  pub new : list_any (is_named name) earlier ≡ false
+  pub new : list_any (is_called name) earlier ≡ false
   pub class_is : class_in members ≡ Ok class
 
 pub is_field : (earlier : List Data) (entry : Data) (name : List ℕ) (class : ClassValue)
@@ -66,7 +66,7 @@ is_field earlier (table ms) name class e =
       | inl t ↦
           let parts = both_ok (row_name (is_taken_field earlier) ms) (class_in ms) (name, class) t.1 in
           let named = row_named (is_taken_field earlier) ms name parts.0 in
-          let new = or_parts (bytes_eq name (codes "dialog")) (list_any (is_named name) earlier) named.1 in
+          let new = or_parts (bytes_eq name (codes "dialog")) (list_any (is_called name) earlier) named.1 in
           record {
             members = ms;
             is = refl;

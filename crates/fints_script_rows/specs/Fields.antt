@@ -7,7 +7,7 @@ use Rattle.std.specs.List.{list_all, list_any}
 use Rattle.std.specs.Str.{bytes_eq}
 use Rattle.toml.specs.Data.{Data, string, table, Members}
 use Rattle.fints_syntax_toml.specs.Document.{only_keys}
-use Rattle.fints_syntax_toml.specs.Entries.{is_named}
+use Rattle.fints_syntax_toml.specs.Entries.{is_called}
 use Rattle.fints_script_rows.specs.Parts.{Part, ◌>>=◌, both, each, entries_of, integer_in, required}
 use Rattle.fints_script_rows.specs.RowNames.{row_name}
 use Rattle.fints_script_rows.specs.Texts.{is_latin1, latin1}
@@ -141,7 +141,7 @@ field_keys (Ok class) =
 
 -- the name of the built-in field, or that of an earlier row
 abbrev pub is_taken_field : List Data → List ℕ → Bool
-is_taken_field earlier name = bytes_eq name (codes "dialog") || list_any (is_named name) earlier
+is_taken_field earlier name = bytes_eq name (codes "dialog") || list_any (is_called name) earlier
 
 unfoldable pub table_field : List Data → Members → Part (List ℕ × ClassValue)
 table_field earlier ms = if only_keys (field_keys (class_of ms)) ms then both (row_name (is_taken_field earlier) ms) (class_in ms) else Err kinds.UnknownKey

@@ -19,12 +19,12 @@ AreNamed fields = All (λ (field : NamedField). IsName field.name) fields
 abbrev pub place_of_field : List NamedField → List ℕ → Option ℕ
 place_of_field fields name = position (is_field_named name) fields
 
-abbrev pub is_account : Field → Bool
-is_account (Account c) = true
-is_account _ = false
+abbrev pub has_accounts : Field → Bool
+has_accounts (Account c) = true
+has_accounts _ = false
 
 abbrev pub is_account_at : Option NamedField → Bool
-is_account_at field = option_map_or (λ field. is_account field.class) field false
+is_account_at field = option_map_or (λ field. has_accounts field.class) field false
 
 -- the first field of the name is one of listed accounts
 abbrev pub is_account_named : List NamedField → List ℕ → Bool

@@ -2,7 +2,7 @@
 ghost use Rattle.std.specs.Prelude.{◌≡◌, ℕ, List, IfOk, OnOk};
 ghost use Rattle.indexmap.specs.IndexMap.{get};
 ghost use Rattle.std.specs.Str.{bytes_eq};
-ghost use Rattle.fints_script_rows.specs.NamedFields.{place_of_field, is_field_named, is_account_named, is_account, AreNamed};
+ghost use Rattle.fints_script_rows.specs.NamedFields.{place_of_field, is_field_named, is_account_named, has_accounts, AreNamed};
 ghost use Rattle.fints_script_rows.specs.Places.{first_place, HoldsPlaces};
 
 use fints_script_fields::{Field, Name};
@@ -20,7 +20,7 @@ pub struct NamedField {
 
 /// Whether the field is one of listed accounts.
 pub fn is_account(class: &Field) -> bool
-    ensures { result ≡ is_account class.now }
+    ensures { result ≡ has_accounts class.now }
 {
     matches!(class, Field::Account(_))
 }

@@ -3,7 +3,7 @@ ghost use Rattle.std.specs.Prelude.{◌≡◌, ℕ, List, length, map, option_ma
 ghost use Rattle.std.specs.List.{list_any};
 ghost use Rattle.std.specs.Str.{bytes_eq};
 ghost use Rattle.toml.specs.View.{view};
-ghost use Rattle.fints_syntax_toml.specs.Entries.{is_named, name_in};
+ghost use Rattle.fints_syntax_toml.specs.Entries.{is_called, name_in};
 ghost use Rattle.fints_script_rows.specs.Places.{first_place, HoldsPlaces, place_in};
 
 use fints_syntax_segments::Memory;
@@ -25,7 +25,7 @@ impl<'a> Model for NamedRows<'a> {
     ghost use Rattle.std.specs.Prelude.{List, map};
     ghost use Rattle.toml.specs.declared.value.Value.{Value as Row};
     ghost use Rattle.toml.specs.View.{view as data_of};
-    ghost use Rattle.fints_syntax_toml.specs.Entries.{is_named};
+    ghost use Rattle.fints_syntax_toml.specs.Entries.{is_called};
     ghost use Rattle.fints_script_rows.specs.Places.{HoldsPlaces, place_in};
     ghost use Rattle.std.specs.Coded.{codes};
     ghost use Rattle.toml.specs.contracts.value.Value as value;
@@ -36,7 +36,7 @@ impl<'a> Model for NamedRows<'a> {
 
     ghost view = { λ r. r.rows.now };
 
-    ghost invariant = { λ r. HoldsPlaces is_named (map data_of r.rows.now) (place_in r.places) };
+    ghost invariant = { λ r. HoldsPlaces is_called (map data_of r.rows.now) (place_in r.places) };
 }
 
 fn name_in<'a>(row: &'a Value) -> Option<&'a str>
@@ -63,7 +63,7 @@ fn note<'a>(
 }
 
 fn places_of<'a>(alloc: Global, rows: &'a [Value]) -> Result<IndexMap<&'a str, usize>, Memory>
-    ensures { IfOk result (λ m. HoldsPlaces is_named (map view rows.now) (place_in m)) }
+    ensures { IfOk result (λ m. HoldsPlaces is_called (map view rows.now) (place_in m)) }
 {
     let mut places = IndexMap::new(alloc);
     for i in 0..rows.len() {
@@ -92,21 +92,21 @@ impl<'a> NamedRows<'a> {
 
     /// The place of the first row of this name, counted from 0.
     pub fn place_of(&self, name: &str) -> Option<usize>
-        ensures { result ≡ position (is_named name.now) (map view self.now) }
+        ensures { result ≡ position (is_called name.now) (map view self.now) }
     {
         self.places.get(name).copied()
     }
 
     /// Whether some row has this name.
     pub fn has(&self, name: &str) -> bool
-        ensures { result ≡ list_any (is_named name.now) (map view self.now) }
+        ensures { result ≡ list_any (is_called name.now) (map view self.now) }
     {
         self.place_of(name).is_some()
     }
 
     /// Whether one of the first `end` rows has this name.
     pub fn has_before(&self, name: &str, end: usize) -> bool
-        ensures { result ≡ list_any (is_named name.now) (take end (map view self.now)) }
+        ensures { result ≡ list_any (is_called name.now) (take end (map view self.now)) }
     {
         match self.place_of(name) {
             Some(place) => place < end,

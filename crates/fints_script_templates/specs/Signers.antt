@@ -3,7 +3,7 @@ use Rattle.std.specs.Prelude.{codes, ℕ, nat_lt, false, if◌then◌else◌, Li
 use Rattle.std.specs.List.{list_any}
 use Rattle.toml.specs.Data.{Data, table, Members}
 use Rattle.fints_syntax_toml.specs.Document.{only_keys}
-use Rattle.fints_syntax_toml.specs.Entries.{is_named}
+use Rattle.fints_syntax_toml.specs.Entries.{is_called}
 use Rattle.fints_script_rows.specs.Parts.{Part, ◌>>=◌, ◌<*>◌, must}
 use Rattle.fints_script_rows.specs.RowNames.{row_name}
 use Rattle.fints_script_templates.specs.Elements.{elements_in}
@@ -33,7 +33,7 @@ unfoldable pub table_signer : List NamedField → List Data → Members → Part
 table_signer fields earlier ms =
     if only_keys signer_keys ms then
     Ok signer_value
-    <*> row_name (λ name. list_any (is_named name) earlier) ms
+    <*> row_name (λ name. list_any (is_called name) earlier) ms
     <*> must ms (codes "head") (frame_in fields)
     <*> must ms (codes "end") (frame_in fields)
     else Err kinds.UnknownKey

@@ -40,8 +40,8 @@ item_count figures (Field f) = (get_or figures f no_figures).items
 abbrev pub element_count : List Figures → List TemplateItem → ℕ
 element_count figures items = total (item_count figures) items
 
-abbrev pub items_in : List Figures → List (List TemplateItem) → ℕ
-items_in figures elements = total (element_count figures) elements
+abbrev pub most_items : List Figures → List (List TemplateItem) → ℕ
+most_items figures elements = total (element_count figures) elements
 
 -- what is left of an allowance after a cost; none where it doesn't cover it
 abbrev pub Spends : ℕ → ℕ → Option ℕ → Type 0

@@ -2,7 +2,7 @@
 ghost use Rattle.std.specs.Prelude.{◌≡◌, map};
 ghost use Rattle.std.specs.List.{list_any};
 ghost use Rattle.toml.specs.View.{view, table_view};
-ghost use Rattle.fints_syntax_toml.specs.Entries.{is_named};
+ghost use Rattle.fints_syntax_toml.specs.Entries.{is_called};
 ghost use Rattle.fints_script_rows.specs.Parts.{Gives, must};
 ghost use Rattle.fints_script_rows.specs.RowNames.{row_name};
 ghost use Rattle.fints_script_templates.specs.Signers.{few_items, frame_in, signer_in, table_signer};
@@ -53,7 +53,7 @@ fn frame_at(
 }
 
 fn signer_name(earlier: &[Value], table: &Table) -> Result<Name, FaultKind>
-    ensures { result ≡ row_name (λ name. list_any (is_named name) (map view earlier.now)) (table_view table.now) }
+    ensures { result ≡ row_name (λ name. list_any (is_called name) (map view earlier.now)) (table_view table.now) }
 {
     let text = name_text(table)?;
     new_name(text, some_is_named(text, earlier))

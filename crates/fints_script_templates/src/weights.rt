@@ -1,7 +1,7 @@
 //! How much templates weigh, and how many items they have.
 ghost use Rattle.std.specs.Prelude.{◌≡◌, ◌↔◌, ◌+◌, ◌<◌, ◌≤◌, IsTrue, IfOk, length, map, get_or};
 ghost use Rattle.std.specs.Fmt.{decimal};
-ghost use Rattle.fints_script_templates.specs.Weights.{Spends, total, item_weight, element_weight, segment_weight, signer_weight, item_count, element_count, items_in, no_figures};
+ghost use Rattle.fints_script_templates.specs.Weights.{Spends, total, item_weight, element_weight, segment_weight, signer_weight, item_count, element_count, most_items, no_figures};
 ghost use Rattle.fints_script_templates.specs.Figures.{figures_of};
 
 use crate::template::{Signer, TemplateElements, TemplateItem};
@@ -128,7 +128,7 @@ fn spend_items(allowance: u64, figures: &[Figures], items: &[TemplateItem]) -> O
 }
 
 fn spend_elements(allowance: u64, figures: &[Figures], elements: &TemplateElements) -> Option<u64>
-    ensures { Spends allowance (items_in figures.now elements.now) result }
+    ensures { Spends allowance (most_items figures.now elements.now) result }
 {
     let mut left = allowance;
     for items in elements.as_slice() {
@@ -140,7 +140,7 @@ fn spend_elements(allowance: u64, figures: &[Figures], elements: &TemplateElemen
 /// Whether the elements have more items than a list may, a field counting as its value with the
 /// most items.
 pub fn has_too_many_items(figures: &[Figures], elements: &TemplateElements) -> bool
-    ensures { IsTrue result ↔ (MAX_TEMPLATE_ITEMS < items_in figures.now elements.now) }
+    ensures { IsTrue result ↔ (MAX_TEMPLATE_ITEMS < most_items figures.now elements.now) }
 {
     spend_elements(MAX_TEMPLATE_ITEMS, figures, elements).is_none()
 }

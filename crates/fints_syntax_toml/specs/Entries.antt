@@ -13,9 +13,9 @@ holds_text text (Some (string other)) = bytes_eq text other
 holds_text text _ = false
 
 -- the entry is a table with this name
-abbrev pub is_named : List ℕ → Data → Bool
-is_named name (table ms) = holds_text name (get_member (codes "name") ms)
-is_named name _ = false
+abbrev pub is_called : List ℕ → Data → Bool
+is_called name (table ms) = holds_text name (get_member (codes "name") ms)
+is_called name _ = false
 
 -- ---- of private contracts and proofs alone
 

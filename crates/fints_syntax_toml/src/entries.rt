@@ -2,7 +2,7 @@
 ghost use Rattle.std.specs.Prelude.{◌≡◌, map, option_map};
 ghost use Rattle.std.specs.List.{list_any};
 ghost use Rattle.toml.specs.View.{table_view, view};
-ghost use Rattle.fints_syntax_toml.specs.Entries.{is_named, text_at};
+ghost use Rattle.fints_syntax_toml.specs.Entries.{is_called, text_at};
 
 use crate::document;
 use toml::{Table, Value};
@@ -16,7 +16,7 @@ pub fn text_at<'a>(table: &'a Table, key: &str) -> Option<&'a str>
 
 /// Whether the entry is a table with this name.
 pub fn is_named(name: &str, entry: &Value) -> bool
-    ensures { result ≡ is_named name.now (view entry.now) }
+    ensures { result ≡ is_called name.now (view entry.now) }
 {
     match entry {
         Value::Table(table) => match document::member(table, "name") {
@@ -29,7 +29,7 @@ pub fn is_named(name: &str, entry: &Value) -> bool
 
 /// Whether some entry is a table with this name.
 pub fn some_is_named(name: &str, entries: &[Value]) -> bool
-    ensures { result ≡ list_any (is_named name.now) (map view entries.now) }
+    ensures { result ≡ list_any (is_called name.now) (map view entries.now) }
 {
     for entry in entries {
         if is_named(&*name, entry) {

@@ -15,7 +15,7 @@ use Rattle.fints_script_fields.specs.Listed.{account_items}
 use Rattle.fints_script_fields.specs.declared.field.Field.{Field as Class}
 use Rattle.fints_script_fields.specs.declared.field.Field.TheVariants as classes
 use Rattle.fints_script_fields.specs.declared.listing.Account.{Account as AccountClass}
-use Rattle.fints_script_rows.specs.NamedFields.{is_account}
+use Rattle.fints_script_rows.specs.NamedFields.{has_accounts}
 use Rattle.fints_script_rows.specs.declared.fields.NamedField.{NamedField}
 use Rattle.fints_script_cases.specs.declared.values.NamedValue.{NamedValue}
 use Rattle.fints_script.specs.Plans.{Admits, IsChosen, is_literal}
@@ -93,7 +93,7 @@ set_items (x ∷ xs) (v ∷ vs) (suc f) field value at = ap (λ (is : List (List
 
 -- ---- accounts
 
-account_class : (class : Class) → is_account class ≡ true → (c : AccountClass) × (class ≡ classes.Account c)
+account_class : (class : Class) → has_accounts class ≡ true → (c : AccountClass) × (class ≡ classes.Account c)
 account_class (classes.Account c) h = (c, refl)
 account_class (classes.Text c) h = absurd (false≢true h)
 account_class (classes.Bin c) h = absurd (false≢true h)
@@ -112,7 +112,7 @@ pub account_stands : AccountsAreListed
     → (fields : List NamedField) (values : List NamedValue) (number n e f : ℕ) (t : Template)
     (field : NamedField)
     → Admits fields values → element_at t e ≡ Field f ∷ [] → slice_get fields f ≡ Some field
-    → is_account field.class ≡ true
+    → has_accounts field.class ≡ true
     → (value : NamedValue) × (slice_get values f ≡ Some value) × (place : ℕ) × (account : List (List ℕ))
     × IsListedAt field.class value.value place account
     × (values_at (filled_segment (filling_of fields values number) n t) e ≡ account)

@@ -18,7 +18,7 @@ use Rattle.fints_script_rows.specs.Fields.{ClassValue, class_value}
 use Rattle.fints_script.specs.Scripts.{ScriptValue, dialog_value}
 use Rattle.fints_script.specs.Sound.{HasDialog, IsSound, IsSoundFrame, IsSoundStep}
 use Rattle.fints_script.specs.Steps.{StepValue}
-use Rattle.fints_script_templates.specs.Weights.{element_count, item_count, items_in, no_figures, total}
+use Rattle.fints_script_templates.specs.Weights.{element_count, item_count, most_items, no_figures, total}
 use Rattle.fints_script_fields.specs.declared.field.Field.{Field}
 use Rattle.fints_script_fields.specs.declared.field.Field.TheVariants as classes
 use Rattle.fints_script_rows.specs.declared.fields.NamedField.{NamedField}
@@ -76,7 +76,7 @@ element_few filling figures (t ∷ ts) h =
     omega (arith, length-append (filled_item filling t) (filled_element filling ts))
 
 elements_few : (filling : FillingValue) (figures : List Figures) (es : List (List TemplateItem))
-    → IsFew filling figures → total length (filled_elements filling es) ≤ items_in figures es
+    → IsFew filling figures → total length (filled_elements filling es) ≤ most_items figures es
 elements_few filling figures [] h = omega arith
 elements_few filling figures (e ∷ es) h =
     let one = element_few filling figures e h in

@@ -2,7 +2,7 @@ use Rattle.std.proofs.Common.{codes, map, sym, ◌∙◌}
 use Rattle.std.specs.List.{list_any}
 use Rattle.std.proofs.lemmas.Result.{err_from_is_err_and}
 use Rattle.toml.specs.View.{table_view, view}
-use Rattle.fints_syntax_toml.specs.Entries.{is_named}
+use Rattle.fints_syntax_toml.specs.Entries.{is_called}
 use Rattle.fints_script_rows.specs.PartLaws.{exact_gives, fault_gives, first_gives, next_gives}
 use Rattle.fints_script_rows.specs.Parts.{must}
 use Rattle.fints_script_rows.specs.RowNames.{row_name}
@@ -13,7 +13,7 @@ pub returns-in_err-name : goal.returns-in_err-name
 unfolding table_signer
 returns-in_err-name c =
     let ms = table_view c.args.table.now in
-    let name = row_name (λ name. list_any (is_named name) (map view c.args.earlier.now)) ms in
+    let name = row_name (λ name. list_any (is_called name) (map view c.args.earlier.now)) ms in
     let head = must ms (codes "head") (frame_in c.args.fields.now) in
     let end = must ms (codes "end") (frame_in c.args.fields.now) in
     let one = first_gives signer_value (λ n. n) _ name (exact_gives _ name c.signer_name.ensures) in
