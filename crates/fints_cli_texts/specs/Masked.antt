@@ -6,7 +6,7 @@ use Rattle.fints_syntax_segments.specs.declared.item.OwnedItem.TheVariants.{Text
 use Rattle.fints_syntax_segments.specs.declared.item.OwnedSegment.{OwnedSegment}
 use Rattle.fints_syntax_segments.specs.Values.{items_in, values_at}
 
--- in place of a secret it stands alone whether there is one
+-- of a secret nothing is told but whether there is one
 abbrev pub mask : List ℕ → OwnedItem
 mask [] = Text []
 mask (b ∷ bs) = Text (codes "***")
