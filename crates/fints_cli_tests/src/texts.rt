@@ -21,7 +21,8 @@ fn shown(rt: HostRuntime) -> Result<(), Fail> {
 }
 
 // With a PIN and a TAN, sealed, and a byte that would break a line.
-const SEALED: &[u8] = b"HNHBK:1:3+000000000122+300+0+1'HNVSK:998:3+\n'HNVSD:999:1+@48@HNSHK:2:4'HKEND:3:1+0'HNSHA:4:2+1++12345:123456''HNHBS:5:1+1'";
+const SEALED: &[u8] =
+    b"HNHBK:1:3+000000000122+300+0+1'HNVSK:998:3+\n'HNVSD:999:1+@48@HNSHK:2:4'HKEND:3:1+0'HNSHA:4:2+1++12345:123456''HNHBS:5:1+1'";
 
 const SHOWN: &[u8] = b"HNHBK:1:3+000000000122+300+0+1'
 HNVSK:998:3+?<0a>'
