@@ -110,7 +110,8 @@ impl Elements {
 
     /// The items of an element, from 0 on; none where it is absent.
     pub fn items(&self, element: usize) -> ElementRef<'_>
-        ensures { result ≡ get_or self.now element [] }
+        ensures items { result ≡ get_or self.now element [] }
+        ensures some { element < length self.now → 0 < length result }
     {
         self.filling.items(element)
     }
@@ -170,6 +171,7 @@ impl OwnedSegment {
         requires { 2 ≤ element }
         ensures items { result ≡ items_in self.now element }
         ensures values { map item_value result ≡ values_at self.now element }
+        ensures some { element - 2 < length self.now.elements → 0 < length result }
     {
         self.elements.items(element - 2)
     }

@@ -16,7 +16,7 @@ loop-i-preserved c =
       | else-len-i-gt1 w ↦ rw w.end-is (elements_text-end es i [] (omega arith) (omega arith))
     ] in
     let new : c.append_element.new.out.items ≡ c.loop-i.out.items ++ element_text end (get_or es i []) =
-    c.in_ok-append_element.ensures.written ∙ ap (λ s. c.loop-i.out.items ++ element_text end s) c.items.ensures in
+    c.in_ok-append_element.ensures.written ∙ ap (λ s. c.loop-i.out.items ++ element_text end s) c.items.ensures.items in
     let text =
     moves c.loop-i.out.items c.append_element.new.out.items (elements_text (drop i es))
     (element_text end (get_or es i [])) (elements_text (drop (i + 1) es))
