@@ -3,11 +3,10 @@ use Rattle.std.proofs.Common.{◌≡◌, ◌≢◌, ℕ, ◌<◌, false, eqb, Li
 use Rattle.std.specs.List.{AllByRecursion}
 use Rattle.std.proofs.lemmas.List.{append-nil}
 use Rattle.fints_syntax_segments.specs.Spelling.{Spelled, item_of, IsSpelled}
-use Rattle.fints_syntax_segments.specs.Segment.{Token, element_tokens, segment_tokens, values_of}
-use Rattle.fints_syntax.specs.Reader.{read_segment, read_elements}
+use Rattle.fints_syntax_segments.specs.Segment.{Token, element_tokens, segment_tokens, values_of, IsFramed}
+use Rattle.fints_syntax.specs.Reader.{read_elements}
 use Rattle.fints_syntax.specs.Owned.{owned_item_of}
-use Rattle.fints_syntax.specs.Window.{IsFrameText}
-use Rattle.fints_syntax.specs.Cursor.{IsTaken, after_element}
+use Rattle.fints_syntax.specs.Cursor.{IsTaken, AreElements, after_element}
 use Rattle.fints_syntax.specs.declared.cursor.Found.{Found}
 use Rattle.fints_syntax_segments.specs.declared.item.OwnedItem.{OwnedItem}
 use Rattle.fints_syntax.proofs.Tokens.{IsClosed, closed-segment, elements_in-tokens}
@@ -40,7 +39,7 @@ closed_rest : (es : List (List Spelled)) → AllByRecursion (λ e. 0 < length e)
 closed_rest [] h s = inr (refl, refl)
 closed_rest (e ∷ es) h s = inl (closed-segment (e ∷ es) (omega arith) h s)
 
-all_rest : {A : Type 0} (P : A → Type 0) (xs : List A) → AllByRecursion P xs → AllByRecursion P (drop 1 xs)
+pub all_rest : {A : Type 0} (P : A → Type 0) (xs : List A) → AllByRecursion P xs → AllByRecursion P (drop 1 xs)
 all_rest P [] h = tt
 all_rest P (x ∷ xs) h = h.1
 
@@ -48,19 +47,29 @@ values_rest : (es : List (List Spelled)) → values_of (drop 1 es) ≡ drop 1 (v
 values_rest [] = refl
 values_rest (e ∷ es) = refl
 
-pub filled_start : (source : List ℕ) (tokens : List Token) → IsFrameText source
-    → tokens ≡ after_element (segment_tokens (read_segment source))
-    → Filled (drop 1 (values_of (read_segment source))) tokens [] []
-filled_start source tokens f is =
-    let es = drop 1 (read_segment source) in
-    let nonempty = all_rest (λ (e : List Spelled). 0 < length e) (read_segment source) f.framed.nonempty in
-    let e : segment_tokens es ≡ tokens = sym (is ∙ after_first (read_segment source) f.framed.nonempty) in
-    subst (λ ts. Filled (drop 1 (values_of (read_segment source))) ts [] []) e (record {
-      closed = closed_rest es nonempty (all_rest (λ (x : List Spelled). AllByRecursion IsSpelled x) (read_segment source) f.framed.spelled);
-      values =
-          none_read (values_of (read_elements (segment_tokens es)))
-          ∙ ap (λ (x : List (List Spelled)). values_of x) (elements_in-tokens es nonempty)
-          ∙ values_rest (read_segment source);
+-- what is behind the head
+pub elements_rest : (es : List (List Spelled)) (tokens : List Token) → IsFramed es
+    → tokens ≡ after_element (segment_tokens es) → AreElements tokens
+elements_rest es tokens f is =
+    record {
+      elements = drop 1 es;
+      nonempty = all_rest (λ (e : List Spelled). 0 < length e) es f.nonempty;
+      spelled = all_rest (λ (x : List Spelled). AllByRecursion IsSpelled x) es f.spelled;
+      tokens_are = is ∙ after_first es f.nonempty;
+    }
+
+pub values_behind : (es : List (List Spelled)) (tokens : List Token) → IsFramed es
+    → tokens ≡ after_element (segment_tokens es) → values_of (read_elements tokens) ≡ drop 1 (values_of es)
+values_behind es tokens f is =
+    ap (λ x. values_of (read_elements x)) (is ∙ after_first es f.nonempty)
+    ∙ ap (λ x. values_of x) (elements_in-tokens (drop 1 es) (all_rest (λ (e : List Spelled). 0 < length e) es f.nonempty))
+    ∙ values_rest es
+
+pub filled_start : (tokens : List Token) → AreElements tokens → Filled (values_of (read_elements tokens)) tokens [] []
+filled_start tokens a =
+    subst (λ ts. Filled (values_of (read_elements ts)) ts [] []) (sym a.tokens_are) (record {
+      closed = closed_rest a.elements a.nonempty a.spelled;
+      values = none_read (values_of (read_elements (segment_tokens a.elements)));
     })
 
 pub filled_colon : (all : List (List OwnedItem)) (old new : List Token) (elements : List (List OwnedItem))

@@ -9,23 +9,15 @@ use Rattle.fints_syntax_segments.specs.Segment.{Token, element_tokens, segment_t
 use Rattle.fints_syntax.specs.Reader.{read_segment}
 use Rattle.fints_syntax.specs.Window.{IsFrameText}
 use Rattle.fints_syntax.specs.ItemIs.{value_of_item}
-use Rattle.fints_syntax.specs.Cursor.{IsTaken}
+use Rattle.fints_syntax.specs.Cursor.{IsTaken, after_element, front, front_values}
 use Rattle.fints_syntax.specs.declared.cursor.Found.{Found}
 use Rattle.fints_syntax.proofs.HeadItems.{same_value}
-
--- the items of the element at the front
-abbrev pub front : List Token → List Spelled
-front [] = []
-front (t ∷ ts) = t.item ∷ cond (eqb t.after 58) (front ts) []
 
 front_one : (end : ℕ) (e : List Spelled) (ts : List Token) → 0 < length e → eqb end 58 ≡ false
     → front (element_tokens end e ++ ts) ≡ e
 front_one end [] ts some h = absurd (omega arith)
 front_one end (s ∷ []) ts some h = rw h refl
 front_one end (s ∷ t ∷ ss) ts some h = ap (λ (x : List Spelled). s ∷ x) (front_one end (t ∷ ss) ts (omega arith) h)
-
-abbrev pub front_values : List Token → List (List ℕ)
-front_values ts = map item_value (map item_of (front ts))
 
 pub head_front : (es : List (List Spelled)) → AllByRecursion (λ e. 0 < length e) es
     → head_of (values_of es) ≡ head_from (front_values (segment_tokens es))
@@ -65,3 +57,15 @@ pub values_more : (old new : List Token) (f : Found) → IsTaken old f new
 values_more old new f t =
     let v = same_value f.item t.token.item t.item in
     (map item_value (map item_of (cond (eqb t.token.after 58) (front new) [])), ap front_values t.split ∙ rw v refl)
+
+-- past the head
+pub past_colon : (old new : List Token) (f : Found) → IsTaken old f new → f.after ≡ 58
+    → after_element old ≡ after_element new
+past_colon old new f t q =
+    let b : eqb t.token.after 58 ≡ true = eq-eqb t.token.after 58 (sym t.after ∙ q) in
+    ap after_element t.split ∙ rw b refl
+
+pub past_other : (old new : List Token) (f : Found) → IsTaken old f new → f.after ≢ 58 → after_element old ≡ new
+past_other old new f t q =
+    let b : eqb t.token.after 58 ≡ false = ne_eqb t.token.after 58 (λ e. q (t.after ∙ e)) in
+    ap after_element t.split ∙ rw b refl

@@ -1,5 +1,5 @@
 -- Each list of bytes is a capture, or has a fault.
-use Rattle.std.proofs.Common.{◌≡◌, ◌≢◌, ◌⊎◌, ℕ, zero, suc, ◌+◌, ◌<◌, ◌≤◌, Bool, true, false, cond, List, [], ◌∷◌, ◌++◌, length, map, take, drop, get_or, refl, ap, ◌∙◌, sym, subst, arith, inl, inr, Option, Some, None, eqb}
+use Rattle.std.proofs.Common.{◌≡◌, ◌≢◌, ℕ, zero, suc, ◌+◌, ◌<◌, ◌≤◌, Bool, true, false, List, [], ◌∷◌, ◌++◌, length, map, take, drop, get_or, refl, ap, ◌∙◌, sym, subst, arith, inl, inr, Option, Some, None, eqb}
 use Rattle.std.specs.List.{AllByRecursion}
 use Rattle.std.proofs.lemmas.Bool.{cases_Bool, cases_lt, eqb-true}
 use Rattle.std.proofs.lemmas.List.{length-append, length-take, length-drop, take-append-drop}
@@ -25,7 +25,7 @@ use Rattle.fints_syntax.proofs.Captures.{Run, run_start, run_more, run_end, run_
 use Rattle.fints_syntax.proofs.Parsed.{frame_text, frame_len, frame_segment, frame_begins, no_head, take_window, segment_read}
 use Rattle.fints_syntax.proofs.Steps.{text_size}
 use Rattle.fints_syntax.proofs.Texts.{whole_text, cut_text}
-use Rattle.fints_syntax.proofs.Windows.{so_far_start, so_far_more, framed, too_many, bad_at, unfinished, plus, colon}
+use Rattle.fints_syntax.proofs.Windows.{so_far_start, so_far_more, framed, too_many, bad_at, unfinished}
 
 -- ---- the item at the front
 
@@ -93,37 +93,28 @@ look (b ∷ bs) =
 -- ---- the end of a segment
 
 data Find (w : List ℕ) : Type 0 where
-  has_frame : (len count : ℕ) → IsFrameOf w len count → Find w
+  has_frame : (len : ℕ) → IsFrameOf w len → Find w
   has_many : HasTooManyItems w → Find w
   has_none : IsUnfinished w → Find w
   has_bad : (at : ℕ) → IsBadAt w at → Find w
 
-opened : (after : ℕ) → is_separator after ≡ true → after ≢ 39 → (after ≡ 43) ⊎ (after ≡ 58)
-opened after s q =
-    elim (cases_Bool (eqb after 43)) [
-      | inl e ↦ plus after s q (eqb-true after 43 e)
-      | inr e ↦ colon after s q (other after 43 refl e)
-    ]
-
-find_from : (fuel items at elements : ℕ) (w : List ℕ) → length w ≤ MAX_BYTES → items + fuel ≡ MAX_ITEMS
-    → SoFar w items at elements → Find w
-find_from zero items at elements w short e s = has_many (too_many w at elements (subst (λ (n : ℕ). SoFar w n at elements) (omega (arith, e)) s))
-find_from (suc fuel) items at elements w short e s =
+find_from : (fuel items at : ℕ) (w : List ℕ) → length w ≤ MAX_BYTES → items + fuel ≡ MAX_ITEMS
+    → SoFar w items at → Find w
+find_from zero items at w short e s = has_many (too_many w at (subst (λ (n : ℕ). SoFar w n at) (omega (arith, e)) s))
+find_from (suc fuel) items at w short e s =
     elim (look (drop at w)) [
       | is_whole len after h ↦ elim (cases_Bool (eqb after 39)) [
-        | inl q ↦ has_frame (at + (len + 1)) elements (framed w items at elements len after s (omega (arith, e)) short h (eqb-true after 39 q))
+        | inl q ↦ has_frame (at + (len + 1)) (framed w items at len after s (omega (arith, e)) short h (eqb-true after 39 q))
         | inr q ↦
-            find_from fuel (items + 1) (at + (len + 1)) (elements + cond (eqb after 43) 1 0) w short
-            (omega (arith, e))
-            (so_far_more w items at elements len after s h
-            (opened after h.separator (other after 39 refl q)))
+            find_from fuel (items + 1) (at + (len + 1)) w short (omega (arith, e))
+            (so_far_more w items at len after s h (other after 39 refl q))
       ]
-      | is_cut h ↦ has_none (unfinished w items at elements s (omega (arith, e)) h)
-      | is_bad h ↦ has_bad at (bad_at w items at elements s (omega (arith, e)) h)
+      | is_cut h ↦ has_none (unfinished w items at s (omega (arith, e)) h)
+      | is_bad h ↦ has_bad at (bad_at w items at s (omega (arith, e)) h)
     ]
 
 find_end : (w : List ℕ) → length w ≤ MAX_BYTES → Find w
-find_end w short = find_from MAX_ITEMS 0 0 1 w short (omega arith) (so_far_start w)
+find_end w short = find_from MAX_ITEMS 0 0 w short (omega arith) (so_far_start w)
 
 -- ---- a segment, or the fault of what begins with none
 
@@ -132,20 +123,21 @@ data Front (input : List ℕ) : Type 0 where
       → len ≤ length input → Front input
   is_fault : (kind : SyntaxKind) (o : ℕ) → kind ≢ Memory → KindAt kind o input → Front input
 
-with_head : (input : List ℕ) (len count : ℕ) (o : Option Head) → IsFrameOf (window_of input) len count
+with_head : (input : List ℕ) (len : ℕ) (o : Option Head) → IsFrameOf (window_of input) len
     → head_of (values_of (read_segment (take len (window_of input)))) ≡ o → Front input
-with_head input len count None f e = is_fault BadHead 0 (λ q. cc) (refl, frame_begins (window_of input) len count f, no_head (window_of input) len count f e)
-with_head input len count (Some h) f e =
-    let le = frame_len (window_of input) len count f in
+with_head input len None f e =
+    is_fault BadHead 0 (λ q. cc) (refl, frame_begins (window_of input) len f, no_head (window_of input) len f e)
+with_head input len (Some h) f e =
+    let le = frame_len (window_of input) len f in
     is_segment (read_segment (take len (window_of input))) len
-    (frame_segment (window_of input) len count h f e)
-    (take_window input len le ∙ (frame_text (window_of input) len count f).text)
+    (frame_segment (window_of input) len h f e)
+    (take_window input len le ∙ (frame_text (window_of input) len f).text)
     (omega (arith, le, length-take MAX_BYTES input))
 
 front : (input : List ℕ) → Front input
 front input =
     elim (find_end (window_of input) (omega (arith, length-take MAX_BYTES input))) [
-      | has_frame len count f ↦ with_head input len count (head_of (values_of (read_segment (take len (window_of input))))) f refl
+      | has_frame len f ↦ with_head input len (head_of (values_of (read_segment (take len (window_of input))))) f refl
       | has_many h ↦ is_fault TooLong 0 (λ q. cc) (refl, inl h)
       | has_none h ↦ elim (cases_lt (length input) MAX_BYTES) [
         | inl lt ↦ is_fault Incomplete 0 (λ q. cc) (refl, h, lt)

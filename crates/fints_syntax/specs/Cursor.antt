@@ -1,7 +1,8 @@
 -- What a cursor over a segment's text has left: items, each with the byte after it. Private contracts alone cite these words.
-use Rattle.std.specs.Prelude.{◌≡◌, ◌==◌, if◌then◌else◌, List, [], ◌∷◌, length}
-use Rattle.fints_syntax_segments.specs.Spelling.{IsSpelled}
-use Rattle.fints_syntax_segments.specs.Segment.{Token, tokens_bytes}
+use Rattle.std.specs.Prelude.{◌≡◌, ◌==◌, if◌then◌else◌, ℕ, ◌+◌, ◌<◌, List, [], ◌∷◌, length, map, Option, Some, None}
+use Rattle.std.specs.List.{AllByRecursion}
+use Rattle.fints_syntax_segments.specs.Spelling.{Spelled, IsSpelled, item_of}
+use Rattle.fints_syntax_segments.specs.Segment.{Token, item_value, tokens_bytes, segment_tokens}
 use Rattle.fints_syntax.specs.Reader.{tokens_in}
 use Rattle.fints_syntax.specs.Faults.{IsContinued}
 use Rattle.fints_syntax.specs.ItemIs.{IsItem}
@@ -32,3 +33,28 @@ pub record IsTaken (old : List Token) (f : Found) (new : List Token) : Type 0 wh
 abbrev pub after_element : List Token → List Token
 after_element [] = []
 after_element (t ∷ ts) = if t.after == 58 then after_element ts else ts
+
+-- the items of the element at the front, and their values
+abbrev pub front : List Token → List Spelled
+front [] = []
+front (t ∷ ts) = t.item ∷ (if t.after == 58 then front ts else [])
+
+abbrev pub front_values : List Token → List (List ℕ)
+front_values ts = map item_value (map item_of (front ts))
+
+-- the items are those of some elements, each of which has one
+pub record AreElements (tokens : List Token) : Type 0 where
+  pub elements : List (List Spelled)
+  pub nonempty : AllByRecursion (λ e. 0 < length e) elements
+  pub spelled : AllByRecursion (λ e. AllByRecursion IsSpelled e) elements
+  pub tokens_are : tokens ≡ segment_tokens elements
+
+-- how many of the items end an element
+abbrev pub ends_left : List Token → ℕ
+ends_left [] = 0
+ends_left (t ∷ ts) = (if t.after == 58 then 0 else 1) + ends_left ts
+
+-- the item at the front
+abbrev pub first_of : List Token → Option Spelled
+first_of [] = None
+first_of (t ∷ ts) = Some t.item

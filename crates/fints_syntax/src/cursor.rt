@@ -45,6 +45,14 @@ pub fn cursor_over(source: &[u8]) -> Cursor<'_>
 }
 
 impl<'a> Cursor<'a> {
+    /// A cursor at the same place.
+    #[inline(always)]
+    pub fn again(&self) -> Cursor<'a>
+        ensures { result ≡ self.now }
+    {
+        Cursor { rest: self.rest }
+    }
+
     /// The next item.
     #[inline(always)]
     pub fn step(&mut self) -> Option<Found<'a>>

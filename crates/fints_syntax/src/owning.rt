@@ -1,31 +1,17 @@
 //! Items and elements by their values, read in one pass.
-ghost use Rattle.std.specs.Prelude.{◌≡◌, ◌++◌, [], OnOk, OnErr, drop};
-ghost use Rattle.std.specs.Bool.{OnFalse};
+ghost use Rattle.std.specs.Prelude.{◌≡◌, ◌≤◌, ◌++◌, [], OnOk, OnErr, length};
 ghost use Rattle.fints_syntax_segments.specs.Segment.{values_of};
 ghost use Rattle.fints_syntax_segments.specs.Spelling.{text_value};
 ghost use Rattle.fints_syntax_segments.specs.Written.{KeepsFront};
 ghost use Rattle.fints_syntax.specs.Owned.{owned_item_of};
-ghost use Rattle.fints_syntax.specs.Items.{HasNoEscape};
-ghost use Rattle.fints_syntax.specs.Reader.{read_segment};
-ghost use Rattle.fints_syntax.specs.Window.{IsFrameText};
-ghost use Rattle.fints_syntax.specs.Cursor.{after_element};
+ghost use Rattle.fints_syntax.specs.Reader.{read_elements};
+ghost use Rattle.fints_syntax.specs.Cursor.{after_element, ends_left, first_of, AreElements};
+ghost use Rattle.fints_syntax.specs.ItemIs.{ItemIs};
 
-use crate::cursor::{Cursor, cursor_over};
-use crate::text::{Item, RawText};
-use fints_syntax_segments::{Filling, Memory, Valued};
+use crate::cursor::Cursor;
+use crate::text::{Item, RawText, has_escape};
+use fints_syntax_segments::{Filling, MAX_ITEMS, Memory, Valued};
 use std::alloc::AllocError;
-
-#[inline(always)]
-pub fn has_escape(bytes: &[u8]) -> bool
-    ensures { OnFalse result (HasNoEscape bytes.now) }
-{
-    for b in bytes {
-        if *b == b'?' {
-            return true;
-        }
-    }
-    false
-}
 
 fn append_raw(out: &mut Vec<u8>, raw: &RawText<'_>) -> Result<(), AllocError>
     ensures added { OnOk result (out.new.items ≡ out.old.items ++ text_value raw.now) }
@@ -66,15 +52,43 @@ fn skip_element(cursor: &mut Cursor<'_>)
     }
 }
 
-/// The values of the elements after the head, in one pass, in place of what was held.
-pub fn fill(filling: &mut Filling, source: &[u8]) -> Result<(), Memory>
-    requires { IsFrameText source.now }
+/// The first item of the element at the front, and past its items.
+pub fn first_item<'a>(cursor: &mut Cursor<'a>) -> Option<Item<'a>>
+    ensures item { ItemIs result (first_of cursor.old) }
+    ensures rest { cursor.new ≡ after_element cursor.old }
+{
+    let Some(found) = cursor.step() else {
+        return None;
+    };
+    if found.after == b':' {
+        skip_element(cursor);
+    }
+    Some(found.item)
+}
+
+/// How many elements the items are of.
+pub fn count_elements(items: &Cursor<'_>) -> usize
+    requires { length items.now ≤ MAX_ITEMS }
+    ensures { result ≡ ends_left items.now }
+{
+    let mut cursor = items.again();
+    let mut count = 0;
+    while let Some(found) = cursor.step() {
+        if found.after != b':' {
+            count += 1;
+        }
+    }
+    count
+}
+
+/// The values of these elements, in one pass, in place of what was held.
+pub fn fill(filling: &mut Filling, items: &Cursor<'_>) -> Result<(), Memory>
+    requires { AreElements items.now }
     ensures { OnOk result (filling.new
-        ≡ record { elements = drop 1 (values_of (read_segment source.now)); items = [] }) }
+        ≡ record { elements = values_of (read_elements items.now); items = [] }) }
 {
     filling.clear();
-    let mut cursor = cursor_over(source);
-    skip_element(&mut cursor);
+    let mut cursor = items.again();
     while let Some(found) = cursor.step() {
         filling.add(&found.item)?;
         if found.after != b':' {

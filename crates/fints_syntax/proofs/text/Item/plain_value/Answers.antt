@@ -1,7 +1,7 @@
 use Rattle.std.proofs.Common.{◌∙◌, subst, arith}
 use Rattle.fints_syntax.specs.Items.{HasNoEscape}
 use Rattle.fints_syntax.proofs.Values.{no_escape_value}
-use Rattle.fints_syntax.proofs.head.plain_value.Goals as goal
+use Rattle.fints_syntax.proofs.text.Item.plain_value.Goals as goal
 
 pub returns-else-has_escape : goal.returns-else-has_escape
 returns-else-has_escape c =
