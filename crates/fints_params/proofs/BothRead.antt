@@ -1,5 +1,5 @@
 -- Rows and codes of the same segments.
-use Rattle.std.proofs.Common.{◌≡◌, ◌≢◌, ℕ, List, [], ◌∷◌, ◌++◌, ap, ◌∙◌, sym, subst, inl, inr, refl, Option, Some, None, Result, Ok, Err, IfOk, true, false}
+use Rattle.std.proofs.Common.{◌≡◌, ◌≢◌, ℕ, List, [], ◌∷◌, ◌++◌, ap, ◌∙◌, sym, subst, inl, inr, refl, Option, Some, None, Result, Ok, Err, IfOk, Bool, true, false}
 use Rattle.std.specs.Option.{is_some}
 use Rattle.fints_syntax.specs.Owned.{segments_of}
 use Rattle.fints_syntax_segments.specs.declared.item.OwnedSegment.{OwnedSegment}
@@ -8,13 +8,16 @@ use Rattle.fints_params.specs.declared.fault.ParamFault.TheVariants.{Memory}
 use Rattle.fints_params.specs.declared.gathered.Gathered.{Gathered}
 use Rattle.fints_params.specs.Captures.{IsParamsOf, IsParamFault, IsCodesOf, IsCodeFault}
 use Rattle.fints_params.specs.Faults.{IsMemoryOr}
-use Rattle.fints_params.specs.Feedback.{feedback_fault}
+use Rattle.fints_params.specs.Feedback.{is_feedback, feedback_fault}
+use Rattle.fints_params.specs.Glancing.{IsGlanced}
+use Rattle.fints_params.specs.declared.both.Both.{Both}
 use Rattle.fints_params.specs.Opened.{OpenTo, AreSegmentsOf}
 use Rattle.fints_params.specs.Parameters.{Rows, IsRowsOf, end_fault}
 use Rattle.fints_params.specs.Refused.{IsFirstRefused, values_in}
 use Rattle.fints_params.specs.Steps.{Continues, StopsIn}
 use Rattle.fints_params.specs.Taken.{IsGathered, ParamsSoFar, CodesSoFar, CodesRead}
 use Rattle.fints_params.proofs.Fine.{each_bad_element, each_bad_code, some_pins}
+use Rattle.fints_params.proofs.FoundCodes.{codes_unread}
 use Rattle.fints_params.proofs.Refusing.{refused_later}
 use Rattle.fints_params.proofs.Viewed.{refused_among}
 
@@ -35,6 +38,23 @@ pub codes_refused : (refused : Option ParamFault) (old new : List ℕ) (s : Owne
 codes_refused (Some g) old new s f e n m = absurd cc
 codes_refused None old new s f e n (inl m) = absurd (n m)
 codes_refused None old new s f e n (inr k) = λ seen h. refused_later feedback_fault [] seen (s ∷ []) [] f (k seen h)
+
+-- both, at a glance
+abbrev pub IsBothSoFar : List OwnedSegment → Both → Type 0
+IsBothSoFar seen both = ParamsSoFar seen both.rows × CodesRead seen both.refused both.found.codes.items
+
+codes_past : (refused : Option ParamFault) (numbers : List ℕ) (s : OwnedSegment) → is_feedback s ≡ false
+    → (seen : List OwnedSegment) → CodesRead seen refused numbers → CodesRead (seen ++ s ∷ []) refused numbers
+codes_past None numbers s other = codes_unread s numbers other
+codes_past (Some f) numbers s other = codes_kept (Some f) numbers s refl
+
+pub both_glanced : (s : OwnedSegment) (old : Both) (rows : Gathered) (taken : Bool) → is_feedback s ≡ false
+    → IsGlanced ParamsSoFar old.rows rows s taken → IsGlanced IsBothSoFar old (record old { rows = rows }) s taken
+both_glanced s old rows true other h =
+    (h.0, λ seen g. (h.1 seen g.0, codes_past old.refused old.found.codes.items s other seen g.1))
+both_glanced s old rows false other h =
+    let with_rows : Gathered → Both = λ r. record old { rows = r } in
+    ap with_rows h
 
 -- ---- at the end
 

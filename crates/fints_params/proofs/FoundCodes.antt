@@ -11,6 +11,9 @@ use Rattle.fints_syntax_segments.specs.declared.item.OwnedSegment.{OwnedSegment}
 use Rattle.fints_params.specs.declared.fault.ParamFault.{ParamFault}
 use Rattle.fints_params.specs.declared.fault.ParamFault.TheVariants.{Memory, Syntax, BadElement, TwoBankParameters, NoBankParameters, NoPinParameters}
 use Rattle.fints_params.specs.Feedback.{code_in, is_bad_code, is_feedback, codes_of, codes_in, bad_code, feedback_fault}
+use Rattle.fints_params.specs.declared.feedback.Found.{Found}
+use Rattle.fints_params.specs.Glancing.{IsGlanced}
+use Rattle.fints_params.specs.Sealed.{is_sealed}
 use Rattle.fints_params.specs.Faults.{IsBad, IsMemoryOr}
 use Rattle.fints_params.specs.Steps.{Continues, StopsIn}
 use Rattle.fints_params.specs.Taken.{CodesSoFar}
@@ -112,6 +115,17 @@ codes_more s old new fine e = λ seen h.
           ∙ sym (ap (λ xs. flat_map codes_of xs) (filter-append is_feedback seen (s ∷ []))
           ∙ flat_map-append codes_of (filter is_feedback seen) (filter is_feedback (s ∷ [])));
     }
+
+-- a segment that is no feedback has no codes
+pub codes_unread : (s : OwnedSegment) (old : List ℕ) → is_feedback s ≡ false → Continues CodesSoFar old old (s ∷ [])
+codes_unread s old e =
+    let none : codes_in (s ∷ []) ≡ [] = rw e refl in
+    codes_more s old old (rw e refl) (sym (append-nil old) ∙ ap (λ xs. old ++ xs) (sym none))
+
+pub found_glanced : (s : OwnedSegment) (old : Found) (closed : Bool) → closed ≡ is_sealed s → is_feedback s ≡ false
+    → IsGlanced {S = Found} (λ seen found. CodesSoFar seen found.codes.items) old old s (not closed)
+found_glanced s old true e other = refl
+found_glanced s old false e other = (sym e, codes_unread s old.codes.items other)
 
 pub codes_stop : (s : OwnedSegment) (old : List ℕ) (f : ParamFault) → IsBad s (bad_code s) f
     → IsMemoryOr (StopsIn feedback_fault CodesSoFar old (s ∷ [])) f

@@ -14,3 +14,4 @@ pub mod Receiving
 pub mod OneMeaning
 pub mod BothRead
 pub mod OneAnswer
+pub mod Glances

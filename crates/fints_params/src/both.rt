@@ -6,13 +6,13 @@ ghost use Rattle.fints_params.specs.Faults.{IsMemoryOr};
 use crate::capture::read_capture;
 use crate::code::Code;
 use crate::fault::{ParamFault, is_memory};
-use crate::feedback::{Found, none_found};
+use crate::feedback::{Found, is_feedback_view, none_found};
 use crate::gathered::Gathered;
 use crate::gathering::no_rows;
 use crate::opening::SegmentTaker;
 use crate::params::{Params, params_of};
-use fints_syntax::OwnedSegment;
-use std::alloc::Global;
+use fints_syntax::{OwnedSegment, SegmentView};
+use std::alloc::{AllocError, Global};
 
 /// What a capture tells.
 #[derive(Drop)]
@@ -36,6 +36,13 @@ impl SegmentTaker for Both {
     ghost rule = { fault_after };
 
     ghost good = { λ seen both. ParamsSoFar seen both.rows × CodesRead seen both.refused both.found.codes.items };
+
+    fn glance(&mut self, segment: &SegmentView<'_>) -> Result<bool, AllocError> {
+        if is_feedback_view(segment) {
+            return Ok(false);
+        }
+        self.rows.glance(segment)
+    }
 
     fn take(&mut self, alloc: Global, segment: &OwnedSegment) -> Result<(), ParamFault> {
         self.rows.take(alloc, segment)?;

@@ -1,5 +1,6 @@
 //! The codes of a message's feedback: HIRMG and HIRMS version 2.
 ghost use Rattle.std.specs.Prelude.{◌≡◌, ◌++◌, [], ◌∷◌, None, IfOk, IfErr};
+ghost use Rattle.fints_syntax.specs.Owned.{segment_of};
 ghost use Rattle.fints_params.specs.Faults.{IsBad, IsMemoryOr};
 ghost use Rattle.fints_params.specs.Feedback.{is_feedback, first_value, codes_of, codes_in, codes_fault, bad_code, feedback_fault};
 ghost use Rattle.fints_params.specs.Captures.{IsCodesOf, IsCodeFault};
@@ -8,9 +9,9 @@ ghost use Rattle.fints_params.specs.Taken.{CodesSoFar};
 use crate::capture::read_capture;
 use crate::code::Code;
 use crate::fault::{ParamFault, bad_element};
-use crate::opening::SegmentTaker;
-use fints_syntax::OwnedSegment;
-use std::alloc::Global;
+use crate::opening::{SegmentTaker, is_sealed_view};
+use fints_syntax::{OwnedSegment, SegmentView};
+use std::alloc::{AllocError, Global};
 
 /// The codes so far.
 #[derive(Drop)]
@@ -29,6 +30,13 @@ pub fn none_found(alloc: Global) -> Found
 
 fn is_feedback(segment: &OwnedSegment) -> bool
     ensures { result ≡ is_feedback segment.now }
+{
+    segment.is_named(b"HIRMG", 2) || segment.is_named(b"HIRMS", 2)
+}
+
+/// The same of a segment as it stands in its source.
+pub fn is_feedback_view(segment: &SegmentView<'_>) -> bool
+    ensures { result ≡ is_feedback (segment_of segment.now) }
 {
     segment.is_named(b"HIRMG", 2) || segment.is_named(b"HIRMS", 2)
 }
@@ -67,6 +75,10 @@ impl SegmentTaker for Found {
     ghost rule = { feedback_fault };
 
     ghost good = { λ seen found. CodesSoFar seen found.codes.items };
+
+    fn glance(&mut self, segment: &SegmentView<'_>) -> Result<bool, AllocError> {
+        Ok(!is_feedback_view(segment) && !is_sealed_view(segment))
+    }
 
     fn take(&mut self, _alloc: Global, segment: &OwnedSegment) -> Result<(), ParamFault> {
         take_codes(segment, &mut self.codes)

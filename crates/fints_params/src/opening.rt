@@ -3,7 +3,8 @@ ghost use Rattle.std.specs.Prelude.{◌≡◌, true, [], ◌∷◌, List, option
 ghost use Rattle.fints_syntax_segments.specs.declared.item.OwnedSegment.{OwnedSegment};
 ghost use Rattle.fints_params.specs.Sealed.{is_sealed, data_of};
 ghost use Rattle.fints_params.specs.Faults.{IsMemoryOr};
-ghost use Rattle.fints_syntax.specs.Owned.{segments_of};
+ghost use Rattle.fints_syntax.specs.Owned.{segment_of, segments_of};
+ghost use Rattle.fints_params.specs.Glancing.{IsGlanced};
 ghost use Rattle.fints_params.specs.Refused.{Rule, NoneRefused, StaysClosed};
 ghost use Rattle.fints_params.specs.Opened.{HasInside};
 ghost use Rattle.fints_params.specs.Steps.{Continues, StopsIn, ContinuesOver, StopsAt, EndsWithin, ReadsNext, StopsNext};
@@ -14,7 +15,7 @@ use fints_syntax::{
     Elements, ItemRef, OwnedSegment, SegmentView, SyntaxFault, data_place, parse_all,
 };
 use fints_syntax_segments::HNVSD_VERSION;
-use std::alloc::Global;
+use std::alloc::{AllocError, Global};
 
 /// What reads segments one after the other, until one is refused.
 pub trait SegmentTaker {
@@ -24,6 +25,11 @@ pub trait SegmentTaker {
     /// The state is right for these segments, none of which is refused.
     ghost good: { List OwnedSegment → Self → Type 0 };
 
+    /// Takes a segment as it stands in its source, where a glance at it is enough; else nothing changes.
+    /// After an error the state isn't to be used again.
+    fn glance(&mut self, segment: &SegmentView<'_>) -> Result<bool, AllocError>
+        ensures { IfOk result (λ taken. IsGlanced good self.old self.new (segment_of segment.now) taken) };
+
     /// Takes one segment behind those before it. After an error the state isn't to be used again.
     fn take(&mut self, alloc: Global, segment: &OwnedSegment) -> Result<(), ParamFault>
         ensures ok { IfOk result (λ _. Continues good self.old self.new (segment.now ∷ [])) }
@@ -32,14 +38,23 @@ pub trait SegmentTaker {
     ghost none_refused: { (seen : List OwnedSegment) (reader : Self) → good seen reader → NoneRefused rule seen };
 }
 
-fn is_sealed(segment: &OwnedSegment) -> bool
+/// Whether the segment holds sealed data: HNVSD version 1.
+pub fn is_sealed(segment: &OwnedSegment) -> bool
     ensures { result ≡ is_sealed segment.now }
 {
     segment.is_named(b"HNVSD", HNVSD_VERSION)
 }
 
-// The data of an HNVSD, where item 1 of its element 2 is binary.
-fn data(segment: &OwnedSegment) -> Option<&[u8]>
+/// The same of a segment as it stands in its source.
+pub fn is_sealed_view(segment: &SegmentView<'_>) -> bool
+    ensures { result ≡ is_sealed (segment_of segment.now) }
+{
+    segment.is_named(b"HNVSD", HNVSD_VERSION)
+}
+
+/// The data of an HNVSD: item 1 of its element 2, where it is binary (FinTS 3.0, Security, HBCI, the
+/// segment for encrypted data).
+pub fn sealed_data(segment: &OwnedSegment) -> Option<&[u8]>
     ensures { option_copied result ≡ data_of segment.now }
 {
     match segment.items(2).get(1) {
@@ -53,7 +68,7 @@ fn open<'a>(alloc: Global, placed: &'a PlacedSegment) -> Result<Vec<SegmentView<
     ensures ok { IfOk result (λ v. HasInside placed.now.segment (segments_of v.items)) }
     ensures closed { IfErr result (λ f. IsMemoryOr (StaysClosed placed.now.segment placed.now.place) f) }
 {
-    let Some(bytes) = data(&placed.segment) else {
+    let Some(bytes) = sealed_data(&placed.segment) else {
         return Err(bad_element(&placed.segment, 2));
     };
     match parse_all(alloc, bytes) {
@@ -65,7 +80,7 @@ fn open<'a>(alloc: Global, placed: &'a PlacedSegment) -> Result<Vec<SegmentView<
     }
 }
 
-// All segments, each read into the memory of the one before.
+// All segments; those at which a glance isn't enough are read each into the memory of the one before.
 fn take_all<R: SegmentTaker>(
     alloc: Global,
     views: &[SegmentView<'_>],
@@ -77,6 +92,9 @@ fn take_all<R: SegmentTaker>(
 {
     let mut elements = Elements::new(alloc);
     for view in views {
+        if taker.glance(view)? {
+            continue;
+        }
         let segment = view.to_owned_in(elements)?;
         taker.take(alloc, &segment)?;
         elements = segment.into_elements();

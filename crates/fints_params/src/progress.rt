@@ -13,8 +13,8 @@ use fints_syntax::{
 use std::alloc::Global;
 use std::mem::replace;
 
-/// A reader, and the first refusal among the segments that came, after which it is left alone. Each
-/// segment is read into the memory of the one before.
+/// A reader, and the first refusal among the segments that came, after which it is left alone. A
+/// segment at which a glance isn't enough is read into the memory of the one before.
 #[derive(Drop)]
 pub struct Reading<R> {
     pub reader: R,
@@ -46,6 +46,9 @@ impl<R: SegmentTaker + Drop> Reading<R> {
         ensures stopped { IfErr result (λ f. IsMemoryOr
             (StopsNext R.rule R.good self.old.reader (record { start = start; segment = segment.now })) f) }
     {
+        if self.reader.glance(segment)? {
+            return Ok(());
+        }
         let elements = replace(&mut self.elements, Elements::new(self.alloc));
         self.elements = take_view(self.alloc, start, segment, elements, &mut self.reader)?;
         Ok(())

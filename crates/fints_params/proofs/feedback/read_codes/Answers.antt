@@ -14,7 +14,7 @@ returns-in-None-clause-fault c =
     let i = c.loop-i.i in
     let v = c.value-text.result.now in
     let lt : i < length vs = omega (arith, length-map es first_value, c.loop-i-test.true) in
-    let e : get_or vs i [] ≡ v = sym (c.value-text.ensures ∙ ap first_value c.items.ensures ∙ sym (get_or-map first_value es i [] [] (omega arith))) in
+    let e : get_or vs i [] ≡ v = sym (c.value-text.ensures ∙ ap first_value c.items.ensures.items ∙ sym (get_or-map first_value es i [] [] (omega arith))) in
     let z : 0 < length v = grind arith in
     let p : position is_bad_code vs ≡ Some i = left_bad vs i c.loop-i.codes.items c.args.codes.now.items v c.loop-i.invariant lt e z (sym c.in-None.ensures) in
     let f : codes_fault c.args.segment.now ≡ Some (i + 2) = ap (λ o. option_map (λ n. n + 2) o) p in
@@ -27,7 +27,7 @@ loop-i-preserved c =
     let i = c.loop-i.i in
     let v = c.value-text.result.now in
     let lt : i < length vs = omega (arith, length-map es first_value, c.loop-i-test.true) in
-    let e : get_or vs i [] ≡ v = sym (c.value-text.ensures ∙ ap first_value c.items.ensures ∙ sym (get_or-map first_value es i [] [] (omega arith))) in
+    let e : get_or vs i [] ≡ v = sym (c.value-text.ensures ∙ ap first_value c.items.ensures.items ∙ sym (get_or-map first_value es i [] [] (omega arith))) in
     elim c.if-not-is_empty.branch [
       | then-not-is_empty+in-Some+in_ok-push-in-Some w ↦
           let z : 0 < length v = grind arith in

@@ -1,0 +1,78 @@
+//! What a glance at a segment tells, as it stands in its source.
+ghost use Rattle.std.specs.Prelude.{◌≡◌, ℕ, List, IfSome, Some};
+ghost use Rattle.fints_syntax_segments.specs.Spelling.{Spelled};
+ghost use Rattle.fints_syntax.specs.ItemIs.{ItemIs};
+ghost use Rattle.fints_syntax.specs.Places.{place_of};
+ghost use Rattle.fints_syntax.specs.Owned.{segment_of};
+ghost use Rattle.fints_params.specs.Glancing.{is_read_whole, SpellsNumber, IsGlance};
+ghost use Rattle.fints_params.specs.Orders.{kind_of_orders, order_in};
+
+use crate::opening::is_sealed_view;
+use crate::orders::kind_of;
+use crate::rows::OrderParam;
+use fints_syntax::{Item, Kind, SegmentView, parse_number};
+
+/// What a segment tells.
+pub enum Tells {
+    Nothing,
+    /// The row of a parameter segment.
+    Order(OrderParam),
+    /// It has to be read whole.
+    More,
+}
+
+// Whether rows come of more items of the segment than a parameter segment's two numbers.
+fn is_read_whole(segment: &SegmentView<'_>) -> bool
+    ensures { result ≡ is_read_whole (segment_of segment.now) }
+{
+    segment.is_named(b"HIBPA", 3)
+        || segment.is_named(b"HIPINS", 1)
+        || segment.is_named(b"HIUPA", 4)
+        || segment.is_named(b"HIUPD", 6)
+        || is_sealed_view(segment)
+}
+
+// The number that an item spells, where it is a text without escapes.
+fn number_in(item: &Option<Item<'_>>) -> Option<u32>
+    ensures { IfSome result (λ n. (es : List (List Spelled)) (element : ℕ)
+        → ItemIs item.now (place_of es element 1) → SpellsNumber es element n) }
+{
+    parse_number(item.as_ref()?.plain_value()?)
+}
+
+// The row of a parameter segment, where its numbers are texts without escapes.
+fn order_row(segment: &SegmentView<'_>, kind: Kind) -> Option<OrderParam>
+    requires { kind_of_orders (segment_of segment.now).head.id ≡ Some kind }
+    ensures { IfSome result (λ row. order_in (segment_of segment.now) ≡ Some row) }
+{
+    let (second, third) = segment.first_items();
+    let orders = number_in(&second)?;
+    let signatures = number_in(&third)?;
+    Some(OrderParam {
+        kind,
+        version: segment.version(),
+        orders,
+        signatures,
+    })
+}
+
+/// What the segment tells, if its kind says it, or two numbers without escapes do.
+pub fn glance(segment: &SegmentView<'_>) -> Tells
+    ensures { IsGlance result (segment_of segment.now) }
+{
+    let id = segment.id();
+    let Some(kind) = kind_of(id) else {
+        return if is_read_whole(segment) {
+            Tells::More
+        } else {
+            Tells::Nothing
+        };
+    };
+    if id.is(b"HITANS") {
+        return Tells::More;
+    }
+    match order_row(segment, kind) {
+        Some(row) => Tells::Order(row),
+        None => Tells::More,
+    }
+}
