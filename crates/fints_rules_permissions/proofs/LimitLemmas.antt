@@ -15,7 +15,7 @@ use Rattle.fints_params.specs.declared.rows.PinRow.{PinRow}
 use Rattle.fints_rules_permissions.specs.declared.limits.OrderKey.{OrderKey}
 use Rattle.fints_rules_permissions.specs.declared.limits.Limits.{Limits}
 use Rattle.fints_rules_permissions.specs.Permits.{is_param_of, params_of, IsLeastLimit, IsGreatestNeed, IsLimits, LimitsAre, IsListedKind, IsListedWithTan}
-use Rattle.fints_rules_permissions.specs.LimitMaps.{key_eq, lower, with_limits, with_pin, PinIs}
+use Rattle.fints_rules_permissions.specs.LimitMaps.{key_eq, lower, param_key, with_limits, with_pin, PinIs}
 
 pub key_decides : (a b : OrderKey) → Decides (key_eq a b) (a ≡ b)
 key_decides a b =
@@ -119,7 +119,9 @@ one_limits row = record {
 
 limits_with : (rs : List OrderParam) (row : OrderParam) (found : Option Limits) → LimitsAre rs found
     → IsLimits (rs ++ row ∷ []) (with_limits found row)
-limits_with rs row None h = rw h (one_limits row)
+limits_with rs row None h =
+    let s : row.signatures ≡ max 0 row.signatures = omega arith in
+    rw h (subst (λ n. IsLimits (row ∷ []) (record { orders = row.orders; signatures = n })) s (one_limits row))
 limits_with rs row (Some l) h = record { orders = least_with rs row l.orders row.orders refl h.orders; signatures = need_with rs row l.signatures h.signatures }
 
 -- ---- the rows of a kind and version, one more
@@ -132,21 +134,20 @@ params_more q rows i d lt =
     ∙ filter-append (is_param_of q.kind q.version) (take i rows) (get_or rows i d ∷ [])
 
 limits_chosen : (b : Bool) (rs : List OrderParam) (row : OrderParam) (found old now : Option Limits)
-    (v : Limits)
-    → (b ≡ true → LimitsAre rs found) → LimitsAre rs old → v ≡ with_limits found row
-    → now ≡ cond b (Some v) old → LimitsAre (rs ++ cond b (row ∷ []) []) now
-limits_chosen true rs row found old now v f o is n = rw (n, is) (limits_with rs row found (f refl))
-limits_chosen false rs row found old now v f o is n = rw (n, append-nil rs) o
+    → (b ≡ true → LimitsAre rs found) → LimitsAre rs old → now ≡ cond b (Some (with_limits found row)) old
+    → LimitsAre (rs ++ cond b (row ∷ []) []) now
+limits_chosen true rs row found old now f o n = rw n (limits_with rs row found (f refl))
+limits_chosen false rs row found old now f o n = rw (n, append-nil rs) o
 
 pub limits_step : (q : OrderKey) (rows : List OrderParam) (i : ℕ) (row : OrderParam)
-    (found old now : Option Limits) (v : Limits)
+    (found old now : Option Limits)
     → i < length rows → row ≡ get_or rows i row
     → LimitsAre (params_of row.kind row.version (take i rows)) found
-    → LimitsAre (params_of q.kind q.version (take i rows)) old → v ≡ with_limits found row
-    → now ≡ cond (is_param_of q.kind q.version row) (Some v) old
+    → LimitsAre (params_of q.kind q.version (take i rows)) old
+    → now ≡ cond (is_param_of q.kind q.version row) (Some (with_limits found row)) old
     → LimitsAre (params_of q.kind q.version (take (i + 1) rows)) now
-limits_step q rows i row found old now v lt at f o is n =
-    let key : OrderKey = record { kind = row.kind; version = row.version } in
+limits_step q rows i row found old now lt at f o n =
+    let key = param_key row in
     let more : params_of q.kind q.version (take (i + 1) rows) ≡ params_of q.kind q.version
     (take i rows) ++ cond (is_param_of q.kind q.version row) (row ∷ []) [] =
     params_more q rows i row lt
@@ -158,7 +159,7 @@ limits_step q rows i row found old now v lt at f o is n =
     let e : key ≡ q = (key_decides key q).0 h in subst (λ (k : OrderKey). LimitsAre (params_of k.kind k.version (take i rows)) found) e f in
     subst (λ rs. LimitsAre rs now) (sym more)
     (limits_chosen (is_param_of q.kind q.version row) (params_of q.kind q.version (take i rows)) row found
-    old now v same o is n)
+    old now same o n)
 
 -- ---- demands
 
@@ -204,20 +205,19 @@ pin_other rs row kind (Some true) ne h = any_more (IsOfTan kind) rs row h
 pin_other rs row kind (Some false) ne h = (any_more (IsOf kind) rs row h.0, λ any. h.1 (other_tan rs row kind ne any))
 
 pins_chosen : (b : Bool) (rs : List PinRow) (row : PinRow) (kind : List ℕ) (found old now : Option Bool)
-    (v : Bool)
-    → Decides b (row.kind ≡ kind) → PinIs rs row.kind found → PinIs rs kind old → v ≡ with_pin found row
-    → now ≡ cond b (Some v) old → PinIs (rs ++ row ∷ []) kind now
-pins_chosen true rs row kind found old now v same f o is n =
-    rw n (subst (λ k. PinIs (rs ++ row ∷ []) k (Some v)) (same.0 refl) (pin_with rs row found v (sym is) f))
-pins_chosen false rs row kind found old now v same f o is n = rw n (pin_other rs row kind old (λ e. let no_match : false ≡ true = same.1 e in cc) o)
+    → Decides b (row.kind ≡ kind) → PinIs rs row.kind found → PinIs rs kind old
+    → now ≡ cond b (Some (with_pin found row)) old → PinIs (rs ++ row ∷ []) kind now
+pins_chosen true rs row kind found old now same f o n =
+    let v = with_pin found row in
+    rw n (subst (λ k. PinIs (rs ++ row ∷ []) k (Some v)) (same.0 refl) (pin_with rs row found v refl f))
+pins_chosen false rs row kind found old now same f o n =
+    rw n (pin_other rs row kind old (λ e. let no_match : false ≡ true = same.1 e in cc) o)
 
 pub pins_step : (kind : List ℕ) (rows : List PinRow) (i : ℕ) (row : PinRow) (found old now : Option Bool)
-    (v : Bool)
     → i < length rows → row ≡ get_or rows i row → PinIs (take i rows) row.kind found
-    → PinIs (take i rows) kind old → v ≡ with_pin found row → now ≡ cond (bytes_eq row.kind kind) (Some v) old
+    → PinIs (take i rows) kind old → now ≡ cond (bytes_eq row.kind kind) (Some (with_pin found row)) old
     → PinIs (take (i + 1) rows) kind now
-pins_step kind rows i row found old now v lt at f o is n =
+pins_step kind rows i row found old now lt at f o n =
     let more : take (i + 1) rows ≡ take i rows ++ row ∷ [] = take_more rows i row lt ∙ ap (λ (r : PinRow). take i rows ++ r ∷ []) (sym at) in
     subst (λ rs. PinIs rs kind now) (sym more)
-    (pins_chosen (bytes_eq row.kind kind) (take i rows) row kind found old now v
-    (bytes_eq-Decides row.kind kind) f o is n)
+    (pins_chosen (bytes_eq row.kind kind) (take i rows) row kind found old now (bytes_eq-Decides row.kind kind) f o n)

@@ -1,5 +1,5 @@
 -- The maps of limits, demands and forms, row by row. Words of private contracts and proofs alone stand last, under a heading.
-use Rattle.std.specs.Prelude.{◌≡◌, ℕ, Bool, true, false, ◌&&◌, ◌||◌, ◌==◌, if◌then◌else◌, List, max, nat_lt, Option, Some, None}
+use Rattle.std.specs.Prelude.{◌≡◌, ℕ, Bool, true, false, ◌&&◌, ◌||◌, ◌==◌, if◌then◌else◌, List, max, nat_lt, unwrap_or, Option, Some, None}
 use Rattle.std.specs.Str.{bytes_eq}
 use Rattle.fints_params.specs.declared.rows.OrderParam.{OrderParam}
 use Rattle.fints_params.specs.declared.rows.PinRow.{PinRow}
@@ -41,13 +41,19 @@ HoldsPins pins found = (kind : List ℕ) → PinIs pins kind (found kind)
 abbrev pub lower : ℕ → ℕ → ℕ
 lower m n = if m == 0 then n else if n == 0 then m else if nat_lt n m then n else m
 
+abbrev pub param_key : OrderParam → OrderKey
+param_key row = record { kind = row.kind; version = row.version }
+
+-- the limits of no row
+abbrev pub no_limits : Limits
+no_limits = record { orders = 0; signatures = 0 }
+
 -- the limits after one more row
 abbrev pub with_limits : Option Limits → OrderParam → Limits
-with_limits None row = record { orders = row.orders; signatures = row.signatures }
-with_limits (Some l) row =
+with_limits found row =
+    let l = unwrap_or found no_limits in
     record { orders = lower l.orders row.orders; signatures = max l.signatures row.signatures }
 
 -- whether a TAN is demanded after one more pair
 abbrev pub with_pin : Option Bool → PinRow → Bool
-with_pin None row = row.tan
-with_pin (Some tan) row = tan || row.tan
+with_pin found row = unwrap_or found false || row.tan

@@ -1,10 +1,10 @@
 //! The limits of each kind and version of orders, and whether a kind demands a TAN.
-ghost use Rattle.std.specs.Prelude.{◌≡◌, IfOk, Some, max};
+ghost use Rattle.std.specs.Prelude.{◌≡◌, if◌then◌else◌, ℕ, List, IfOk, OnOk, Some};
 ghost use Rattle.std.specs.Str.{bytes_eq};
 ghost use Rattle.indexmap.specs.IndexMap.{get};
 ghost use Rattle.fints_rules_permissions.specs.declared.limits.OrderKey.{OrderKey};
 ghost use Rattle.fints_rules_permissions.specs.Permits.{LimitsAre, params_of};
-ghost use Rattle.fints_rules_permissions.specs.LimitMaps.{key_eq, lower, with_limits, with_pin, HoldsLimits, HoldsPins};
+ghost use Rattle.fints_rules_permissions.specs.LimitMaps.{key_eq, lower, param_key, with_limits, with_pin, HoldsLimits, HoldsPins};
 
 use crate::hashing::{order_hasher, pin_hasher};
 use fints_params::{OrderParam, PinRow};
@@ -60,20 +60,23 @@ fn lower(m: u32, n: u32) -> u32
     }
 }
 
-// The limits after one more row.
-fn with_limits(found: Option<Limits>, row: &OrderParam) -> Limits
-    ensures { result ≡ with_limits found row.now }
+// Adds a row to the limits of its kind and version.
+fn add_limits(map: &mut LimitMap, row: &OrderParam) -> Result<(), Memory>
+    ensures { OnOk result ((q : OrderKey) → get key_eq map.new q
+        ≡ if key_eq (param_key row.now) q then Some (with_limits (get key_eq map.old (param_key row.now)) row.now)
+        else get key_eq map.old q) }
 {
-    match found {
-        None => Limits {
-            orders: row.orders,
-            signatures: row.signatures,
-        },
-        Some(limits) => Limits {
-            orders: lower(limits.orders, row.orders),
-            signatures: limits.signatures.max(row.signatures),
-        },
-    }
+    let key = OrderKey {
+        kind: row.kind,
+        version: row.version,
+    };
+    let limits = map.entry(key)?.or_insert(Limits {
+        orders: 0,
+        signatures: 0,
+    });
+    limits.orders = lower(limits.orders, row.orders);
+    limits.signatures = limits.signatures.max(row.signatures);
+    Ok(())
 }
 
 /// The limits of each kind and version of the rows, under a hasher whose keys are a digest of them.
@@ -82,24 +85,20 @@ pub fn limit_map(alloc: Global, rows: &[OrderParam]) -> Result<LimitMap, Memory>
 {
     let mut map = IndexMap::with_hasher(alloc, order_hasher(rows)?);
     for row in rows {
-        let key = OrderKey {
-            kind: row.kind,
-            version: row.version,
-        };
-        let found = map.get(&key).copied();
-        map.insert(key, with_limits(found, row))?;
+        add_limits(&mut map, row)?;
     }
     Ok(map)
 }
 
-// Whether a TAN is demanded after one more pair.
-fn with_pin(found: Option<bool>, row: &PinRow) -> bool
-    ensures { result ≡ with_pin found row.now }
+// Adds a pair to the demands of its kind.
+fn add_pin(map: &mut PinMap, row: &PinRow) -> Result<(), Memory>
+    ensures { OnOk result ((kind : List ℕ) → get bytes_eq map.new kind
+        ≡ if bytes_eq row.now.kind kind then Some (with_pin (get bytes_eq map.old row.now.kind) row.now)
+        else get bytes_eq map.old kind) }
 {
-    match found {
-        None => row.tan,
-        Some(tan) => tan || row.tan,
-    }
+    let tan = map.entry(row.kind)?.or_insert(false);
+    *tan = *tan || row.tan;
+    Ok(())
 }
 
 /// Whether each kind of the pairs demands a TAN, under a hasher whose keys are a digest of them.
@@ -108,8 +107,7 @@ pub fn pin_map(alloc: Global, rows: &[PinRow]) -> Result<PinMap, Memory>
 {
     let mut map = IndexMap::with_hasher(alloc, pin_hasher(rows)?);
     for row in rows {
-        let found = map.get(&row.kind).copied();
-        map.insert(row.kind, with_pin(found, row))?;
+        add_pin(&mut map, row)?;
     }
     Ok(map)
 }
