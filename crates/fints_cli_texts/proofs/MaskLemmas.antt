@@ -1,11 +1,9 @@
 -- Elements and items, as they are copied.
 use Rattle.std.proofs.Common.{◌≡◌, ℕ, suc, ◌+◌, ◌-◌, ◌<◌, List, [], ◌∷◌, ◌++◌, length, get_or, set, take, drop, ap, ◌∙◌, sym, arith, append_assoc, drop-cons, Some}
 use Rattle.std.specs.Prelude.{slice_get}
-use Rattle.std.specs.List.{AllByRecursion}
-use Rattle.std.proofs.lemmas.List.{length-set, take_more}
+use Rattle.std.proofs.lemmas.List.{take_more}
 use Rattle.std.proofs.lemmas.Option.{get_or_from_slice_get}
 use Rattle.fints_syntax_segments.specs.declared.item.OwnedItem.{OwnedItem}
-use Rattle.fints_cli_texts.proofs.ShowMessageLemmas.{all_at}
 
 -- one more item is copied
 rest_at : (items : List OwnedItem) (i : ℕ) (x : OwnedItem) → i < length items → slice_get items i ≡ Some x
@@ -29,10 +27,3 @@ pub element_copied : (xs old new : List (List OwnedItem)) (i : ℕ) (x : List Ow
     → get_or xs i [] ≡ x → old ≡ take i xs → new ≡ old ++ x ∷ [] → new ≡ take (i + 1) xs
 element_copied xs old new i x lt at so_far more =
     more ∙ ap (λ ys. ys ++ x ∷ []) so_far ∙ ap (λ y. take i xs ++ y ∷ []) (sym at) ∙ sym (take_more xs i [] lt)
-
--- each element has an item, whichever is replaced
-pub items_at : (es : List (List OwnedItem)) (k i : ℕ) (items : List OwnedItem)
-    → AllByRecursion (λ e. 0 < length e) (set es k items) → i < length es
-    → 0 < length (get_or (set es k items) i [])
-items_at es k i items h lt =
-    all_at (λ e. 0 < length e) (set es k items) i [] h (omega (arith, length-set es k items))

@@ -29,31 +29,7 @@ use Rattle.fints_rules_messages.specs.declared.message.JudgeFault.TheVariants as
 use Rattle.fints_cli_texts.specs.declared.fault.Fault.{Fault}
 use Rattle.fints_cli_texts.specs.declared.fault.Fault.TheVariants.{Memory}
 use Rattle.fints_cli_texts.specs.Fault.{message_fault_of}
-use Rattle.fints_cli_texts.specs.ShowMessage.{Opened, IsOpened, opened_lines, HasItems, HasSegments, IsShowable, IsShownIn, AreShownIn, IsShownMessage}
-
--- ---- each element has an item
-
-items_of : (es : List (List Spelled)) → AllByRecursion (λ e. 0 < length e) es
-    → AllByRecursion (λ e. 0 < length e) (values_of es)
-items_of [] h = tt
-items_of ((s ∷ e) ∷ es) h = (omega arith, items_of es h.1)
-items_of ([] ∷ es) h = absurd (omega (arith, h.0))
-
-behind : (es : List (List OwnedItem)) → AllByRecursion (λ e. 0 < length e) es
-    → AllByRecursion (λ e. 0 < length e) (drop 1 es)
-behind [] h = tt
-behind (e ∷ es) h = h.1
-
-pub tree_items : (t : List (List Spelled)) → IsSegment t → HasItems (segment_of t)
-tree_items t h = behind (values_of t) (items_of t h.framed.nonempty)
-
-trees_items : (ts : List (List (List Spelled))) → AllByRecursion IsSegment ts
-    → AllByRecursion HasItems (segments_of ts)
-trees_items [] h = tt
-trees_items (t ∷ ts) h = (tree_items t h.0, trees_items ts h.1)
-
-pub text_items : (bytes : List ℕ) (ss : List OwnedSegment) → IsText bytes ss → AllByRecursion HasItems ss
-text_items bytes ss h = subst (AllByRecursion HasItems) h.values (trees_items h.trees h.each)
+use Rattle.fints_cli_texts.specs.ShowMessage.{Opened, IsOpened, opened_lines, HasSegments, IsShowable, IsShownIn, AreShownIn, IsShownMessage}
 
 pub all_at : {X : Type 0} (P : X → Type 0) (xs : List X) (i : ℕ) (d : X) → AllByRecursion P xs → i < length xs
     → P (get_or xs i d)
@@ -62,9 +38,6 @@ all_at P (x ∷ xs) zero d h lt = h.0
 all_at P (x ∷ xs) (suc i) d h lt = all_at P xs i d h.1 (omega arith)
 
 -- ---- which segments of a message are HNVSD
-
-abbrev Opens : OwnedSegment → Type 0
-Opens s = (is_sealed s ≡ false) ⊎ ((inside : List OwnedSegment) × IsEnvelope inside s)
 
 abbrev sealed_by : List ℕ → ℕ → Bool
 sealed_by id version = bytes_eq id (codes "HNVSD") && version == 1
@@ -95,43 +68,37 @@ no_other s p other h = elim (is_sealed s) as (λ b. is_sealed s ≡ b → b ≡ 
 ] refl
 
 inner_opens : (p : Part) → (p ≡ Other → ⊥) → (ss : List OwnedSegment) → AllByRecursion (λ s. part_of s ≡ p) ss
-    → AllByRecursion Opens ss
+    → AllByRecursion IsShowable ss
 inner_opens p other [] h = tt
 inner_opens p other (s ∷ ss) h = (inl (no_other s p other h.0), inner_opens p other ss h.1)
 
-plain_opens : (ss body ends : List OwnedSegment) → IsInner ss body ends → AllByRecursion Opens ss
+plain_opens : (ss body ends : List OwnedSegment) → IsInner ss body ends → AllByRecursion IsShowable ss
 plain_opens ss body ends h =
-    subst (AllByRecursion Opens) (sym h.together)
-    (all_append Opens h.openers (body ++ ends) (inner_opens Opener (λ e. cc) h.openers h.openers_are)
-    (all_append Opens body ends (inner_opens Body (λ e. cc) body h.body_is) (inner_opens Ender (λ e. cc) ends h.ends_are)))
+    subst (AllByRecursion IsShowable) (sym h.together)
+    (all_append IsShowable h.openers (body ++ ends) (inner_opens Opener (λ e. cc) h.openers h.openers_are)
+    (all_append IsShowable body ends (inner_opens Body (λ e. cc) body h.body_is) (inner_opens Ender (λ e. cc) ends h.ends_are)))
 
 outer_opens : (inner outer body ends : List OwnedSegment) → IsInner inner body ends
-    → (outer ≡ inner) ⊎ Seals inner outer → AllByRecursion Opens outer
-outer_opens inner outer body ends h (inl same) = subst (AllByRecursion Opens) (sym same) (plain_opens inner body ends h)
+    → (outer ≡ inner) ⊎ Seals inner outer → AllByRecursion IsShowable outer
+outer_opens inner outer body ends h (inl same) = subst (AllByRecursion IsShowable) (sym same) (plain_opens inner body ends h)
 outer_opens inner outer body ends h (inr q) =
-    subst (AllByRecursion Opens) (sym q.together)
+    subst (AllByRecursion IsShowable) (sym q.together)
     (inl (seal_head_opens q.seal_head q.is_seal_head), (inr (inner, q.is_envelope), tt))
 
-form_opens : (ss : List OwnedSegment) (m : MessageView) → IsForm ss m → AllByRecursion Opens ss
+form_opens : (ss : List OwnedSegment) (m : MessageView) → IsForm ss m → AllByRecursion IsShowable ss
 form_opens ss m h =
     let t = h.is_tail in
-    let tail : AllByRecursion Opens h.tail =
-    subst (AllByRecursion Opens) (sym t.together)
-    (all_append Opens t.outer (t.last ∷ []) (outer_opens t.inner t.outer m.body m.ends t.is_inner t.stands)
+    let tail : AllByRecursion IsShowable h.tail =
+    subst (AllByRecursion IsShowable) (sym t.together)
+    (all_append IsShowable t.outer (t.last ∷ []) (outer_opens t.inner t.outer m.body m.ends t.is_inner t.stands)
     (inl (last_opens m.number t.last t.is_last), tt)) in
-    subst (AllByRecursion Opens) (sym h.together) (inl (first_opens m.size m.number h.first h.is_first), tail)
-
-showable : (ss : List OwnedSegment) → AllByRecursion HasItems ss → AllByRecursion Opens ss
-    → AllByRecursion IsShowable ss
-showable [] h g = tt
-showable (s ∷ ss) h g = (record { items = h.0; opens = g.0 }, showable ss h.1 g.1)
+    subst (AllByRecursion IsShowable) (sym h.together) (inl (first_opens m.size m.number h.first h.is_first), tail)
 
 -- the segments that the bytes of a message are read as can be shown
 pub message_showable : (bytes : List ℕ) (m : MessageView) (ss : List OwnedSegment) → IsMessage bytes m
     → IsText bytes ss → AllByRecursion IsShowable ss
 message_showable bytes m ss is text =
-    showable ss (text_items bytes ss text)
-    (subst (AllByRecursion Opens) (text_one one_segment_text bytes is.segments ss is.text text) (form_opens is.segments m is.form))
+    subst (AllByRecursion IsShowable) (text_one one_segment_text bytes is.segments ss is.text text) (form_opens is.segments m is.form)
 
 -- ---- lines
 

@@ -23,12 +23,12 @@ unfoldable pub shown : List ℕ → List ℕ
 shown [] = codes "-"
 shown (b ∷ bs) = b ∷ bs
 
-unfoldable pub after_space : ℕ → List ℕ
-after_space n = codes " " ++ decimal n
-
--- a number with its name before it
+-- a number, with these words before it
 unfoldable pub figure : List ℕ → ℕ → List ℕ
-figure name n = name ++ after_space n
+figure words n = words ++ decimal n
+
+unfoldable pub after_space : ℕ → List ℕ
+after_space n = figure (codes " ") n
 
 unfoldable pub bank_text : BankRow → List ℕ
 bank_text bank = codes "bank " ++ shown bank.country ++ codes " " ++ shown bank.code
@@ -38,17 +38,17 @@ protocols_text protocols = codes " protocols" ++ flat_map after_space protocols
 
 unfoldable pub bank_line : BankRow → List ℕ
 bank_line bank =
-    bank_text bank ++ figure (codes " kinds") bank.kinds ++ figure (codes " kilobytes") bank.kilobytes
+    bank_text bank ++ figure (codes " kinds ") bank.kinds ++ figure (codes " kilobytes ") bank.kilobytes
     ++ protocols_text bank.protocols ++ codes "\n"
 
 -- a kind of orders, with a word before it
 unfoldable pub kind_text : List ℕ → List ℕ → List ℕ
-kind_text word kind = word ++ codes " " ++ kind
+kind_text word kind = word ++ kind
 
 unfoldable pub order_line : OrderParam → List ℕ
 order_line row =
-    kind_text (codes "order") row.kind ++ after_space row.version
-    ++ figure (codes " orders") row.orders ++ figure (codes " signatures") row.signatures ++ codes "\n"
+    kind_text (codes "order ") row.kind ++ after_space row.version
+    ++ figure (codes " orders ") row.orders ++ figure (codes " signatures ") row.signatures ++ codes "\n"
 
 -- whether something holds: ja or nein
 unfoldable pub flag_text : Bool → List ℕ
@@ -56,10 +56,10 @@ flag_text true = codes " J"
 flag_text false = codes " N"
 
 unfoldable pub pin_line : PinRow → List ℕ
-pin_line row = kind_text (codes "pin") row.kind ++ flag_text row.tan ++ codes "\n"
+pin_line row = kind_text (codes "pin ") row.kind ++ flag_text row.tan ++ codes "\n"
 
 unfoldable pub tan_line : TanRow → List ℕ
-tan_line row = figure (codes "tan") row.version ++ flag_text row.one_step ++ flag_text row.several ++ codes "\n"
+tan_line row = figure (codes "tan ") row.version ++ flag_text row.one_step ++ flag_text row.several ++ codes "\n"
 
 -- as HIUPA tells it
 unfoldable pub usage_line : Usage → List ℕ
@@ -80,13 +80,13 @@ unfoldable pub account_line : AccountRow → List ℕ
 account_line account = codes "account " ++ national_text account.national ++ codes " iban " ++ shown account.iban ++ codes "\n"
 
 unfoldable pub entry_line : Entry → List ℕ
-entry_line entry = kind_text (codes "entry") entry.kind ++ after_space entry.signatures ++ codes "\n"
+entry_line entry = kind_text (codes "entry ") entry.kind ++ after_space entry.signatures ++ codes "\n"
 
 unfoldable pub account_lines : AccountRow → List ℕ
 account_lines account = account_line account ++ flat_map entry_line account.entries
 
 unfoldable pub skipped_line : ℕ → List ℕ
-skipped_line n = figure (codes "skipped") n ++ codes "\n"
+skipped_line n = figure (codes "skipped ") n ++ codes "\n"
 
 -- a code has four digits
 unfoldable pub code_line : ℕ → List ℕ

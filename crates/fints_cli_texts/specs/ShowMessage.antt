@@ -50,14 +50,9 @@ pub record IsShownMessage (message text : List ℕ) : Type 0 where
 abbrev pub HasSegments : List ℕ → Type 0
 HasSegments bytes = (segments : List OwnedSegment) × IsText bytes segments
 
--- each element has an item
-abbrev pub HasItems : OwnedSegment → Type 0
-HasItems s = AllByRecursion (λ e. 0 < length e) s.elements
-
--- what is known of a segment of a message
-pub record IsShowable (s : OwnedSegment) : Type 0 where
-  pub items : HasItems s
-  pub opens : (is_sealed s ≡ false) ⊎ ((inside : List OwnedSegment) × IsEnvelope inside s)
+-- no HNVSD, or one with segments in its data
+abbrev pub IsShowable : OwnedSegment → Type 0
+IsShowable s = (is_sealed s ≡ false) ⊎ ((inside : List OwnedSegment) × IsEnvelope inside s)
 
 -- the lines of a segment were added to a text
 pub record IsShownIn (s : OwnedSegment) (before after : List ℕ) : Type 0 where

@@ -5,7 +5,6 @@ ghost use Rattle.fints_syntax_segments.specs.Lent.{item_of_ref};
 ghost use Rattle.fints_syntax_segments.specs.Segment.{item_value};
 ghost use Rattle.fints_syntax_segments.specs.declared.item.OwnedItem.TheVariants.{Text};
 ghost use Rattle.fints_cli_texts.specs.Masked.{emptied_at, mask, masked_at, with_items};
-ghost use Rattle.fints_cli_texts.specs.ShowMessage.{HasItems};
 
 use fints_syntax::{Bytes, ElementRef, Elements, ItemRef, Memory, OwnedItem, OwnedSegment};
 use std::alloc::{AllocError, Global};
@@ -80,7 +79,7 @@ fn with_items(
     items: &[OwnedItem],
 ) -> Result<OwnedSegment, Memory>
     requires after_head { 2 ≤ element }
-    requires some { HasItems (with_items segment.now element items.now) }
+    requires some { element - 2 < length segment.now.elements → 0 < length items.now }
     ensures { IfOk result (λ copy. copy ≡ with_items segment.now element items.now) }
 {
     let mut elements = Elements::new(alloc);
@@ -103,8 +102,7 @@ pub fn masked_at(
     segment: &OwnedSegment,
     element: usize,
 ) -> Result<OwnedSegment, Memory>
-    requires after_head { 2 ≤ element }
-    requires items { HasItems segment.now }
+    requires { 2 ≤ element }
     ensures { IfOk result (λ copy. copy ≡ masked_at segment.now element) }
 {
     let items = masked_items(alloc, &segment.items(element))?;
@@ -117,8 +115,7 @@ pub fn emptied_at(
     segment: &OwnedSegment,
     element: usize,
 ) -> Result<OwnedSegment, Memory>
-    requires after_head { 2 ≤ element }
-    requires items { HasItems segment.now }
+    requires { 2 ≤ element }
     ensures { IfOk result (λ copy. copy ≡ emptied_at segment.now element) }
 {
     let mut items = Vec::new(alloc);

@@ -52,23 +52,22 @@ fn write_shown(text: &mut Vec<u8>, value: &[u8]) -> Result<(), Memory>
     Ok(())
 }
 
-// Writes the number, with a space before it.
-#[tactic(auto, unfolding(crate::specs::Show::after_space))]
-fn write_number(text: &mut Vec<u8>, number: u32) -> Result<(), Memory>
-    ensures { OnOk result (text.new.items ≡ text.old.items ++ after_space number) }
+// Writes the number, with these words before it.
+#[tactic(auto, unfolding(crate::specs::Show::figure))]
+fn write_figure(text: &mut Vec<u8>, words: &[u8], number: u32) -> Result<(), Memory>
+    ensures { OnOk result (text.new.items ≡ text.old.items ++ figure words.now number) }
 {
     let mut buffer = Buffer::new();
-    text.push(b' ')?;
+    text.extend_from_slice(words)?;
     text.extend_from_slice(buffer.format(number).as_bytes())?;
     Ok(())
 }
 
-#[tactic(auto, unfolding(crate::specs::Show::figure))]
-fn write_figure(text: &mut Vec<u8>, name: &[u8], number: u32) -> Result<(), Memory>
-    ensures { OnOk result (text.new.items ≡ text.old.items ++ figure name.now number) }
+#[tactic(auto, unfolding(crate::specs::Show::after_space))]
+fn write_number(text: &mut Vec<u8>, number: u32) -> Result<(), Memory>
+    ensures { OnOk result (text.new.items ≡ text.old.items ++ after_space number) }
 {
-    text.extend_from_slice(name)?;
-    write_number(text, number)
+    write_figure(text, b" ", number)
 }
 
 fn write_numbers(text: &mut Vec<u8>, numbers: &[u32]) -> Result<(), Memory>
@@ -103,8 +102,8 @@ fn write_bank(text: &mut Vec<u8>, bank: &BankRow) -> Result<(), Memory>
     ensures { OnOk result (text.new.items ≡ text.old.items ++ bank_line bank.now) }
 {
     write_bank_text(text, bank)?;
-    write_figure(text, b" kinds", bank.kinds)?;
-    write_figure(text, b" kilobytes", bank.kilobytes)?;
+    write_figure(text, b" kinds ", bank.kinds)?;
+    write_figure(text, b" kilobytes ", bank.kilobytes)?;
     write_protocols(text, bank.protocols.as_slice())?;
     text.push(b'\n')?;
     Ok(())
@@ -116,7 +115,6 @@ fn write_kind(text: &mut Vec<u8>, word: &[u8], kind: &Kind) -> Result<(), Memory
     ensures { OnOk result (text.new.items ≡ text.old.items ++ kind_text word.now kind.now) }
 {
     text.extend_from_slice(word)?;
-    text.push(b' ')?;
     text.extend_from_slice(kind.as_bytes())?;
     Ok(())
 }
@@ -125,10 +123,10 @@ fn write_kind(text: &mut Vec<u8>, word: &[u8], kind: &Kind) -> Result<(), Memory
 fn write_order(text: &mut Vec<u8>, row: &OrderParam) -> Result<(), Memory>
     ensures { OnOk result (text.new.items ≡ text.old.items ++ order_line row.now) }
 {
-    write_kind(text, b"order", &row.kind)?;
+    write_kind(text, b"order ", &row.kind)?;
     write_number(text, u32::from(row.version))?;
-    write_figure(text, b" orders", row.orders)?;
-    write_figure(text, b" signatures", row.signatures)?;
+    write_figure(text, b" orders ", row.orders)?;
+    write_figure(text, b" signatures ", row.signatures)?;
     text.push(b'\n')?;
     Ok(())
 }
@@ -159,7 +157,7 @@ fn write_flag(text: &mut Vec<u8>, flag: bool) -> Result<(), Memory>
 fn write_pin(text: &mut Vec<u8>, row: &PinRow) -> Result<(), Memory>
     ensures { OnOk result (text.new.items ≡ text.old.items ++ pin_line row.now) }
 {
-    write_kind(text, b"pin", &row.kind)?;
+    write_kind(text, b"pin ", &row.kind)?;
     write_flag(text, row.tan)?;
     text.push(b'\n')?;
     Ok(())
@@ -178,7 +176,7 @@ fn write_pins(text: &mut Vec<u8>, rows: &[PinRow]) -> Result<(), Memory>
 fn write_tan(text: &mut Vec<u8>, row: &TanRow) -> Result<(), Memory>
     ensures { OnOk result (text.new.items ≡ text.old.items ++ tan_line row.now) }
 {
-    write_figure(text, b"tan", u32::from(row.version))?;
+    write_figure(text, b"tan ", u32::from(row.version))?;
     write_flag(text, row.one_step)?;
     write_flag(text, row.several)?;
     text.push(b'\n')?;
@@ -241,7 +239,7 @@ fn write_account_line(alloc: Global, text: &mut Vec<u8>, account: &AccountRow) -
 fn write_entry(text: &mut Vec<u8>, entry: &Entry) -> Result<(), Memory>
     ensures { OnOk result (text.new.items ≡ text.old.items ++ entry_line entry.now) }
 {
-    write_kind(text, b"entry", &entry.kind)?;
+    write_kind(text, b"entry ", &entry.kind)?;
     write_number(text, entry.signatures)?;
     text.push(b'\n')?;
     Ok(())
@@ -277,7 +275,7 @@ fn write_accounts(alloc: Global, text: &mut Vec<u8>, accounts: &[AccountRow]) ->
 fn write_skipped(text: &mut Vec<u8>, skipped: u32) -> Result<(), Memory>
     ensures { OnOk result (text.new.items ≡ text.old.items ++ skipped_line skipped) }
 {
-    write_figure(text, b"skipped", skipped)?;
+    write_figure(text, b"skipped ", skipped)?;
     text.push(b'\n')?;
     Ok(())
 }

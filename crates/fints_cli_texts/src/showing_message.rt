@@ -1,19 +1,19 @@
 //! The text of `show --message`: a message without its secrets.
-ghost use Rattle.std.specs.Prelude.{◌≡◌, ◌<◌, ◌++◌, length, drop, OnOk, IfOk, IfErr, option_copied};
+ghost use Rattle.std.specs.Prelude.{◌≡◌, ◌<◌, ◌++◌, length, drop, OnOk, IfOk, IfErr};
 ghost use Rattle.std.specs.List.{flat_map, AllByRecursion};
 ghost use Rattle.fints_syntax_segments.specs.Written.{written_segment};
-ghost use Rattle.fints_params.specs.Sealed.{data_of, is_sealed};
 ghost use Rattle.fints_rules_messages.specs.Segments.{IsText};
 ghost use Rattle.fints_rules_messages.specs.Messages.{MessageView, IsMessage};
 ghost use Rattle.fints_cli_texts.specs.declared.fault.Fault.TheVariants as fault;
 ghost use Rattle.fints_cli_texts.specs.Judge.{IsMessageRefusal};
 ghost use Rattle.fints_cli_texts.specs.Masked.{masked};
-ghost use Rattle.fints_cli_texts.specs.ShowMessage.{is_control, shown_byte, segment_line, IsOpened, IsShownMessage, HasItems, HasSegments, IsShowable, IsShownIn, AreShownIn};
+ghost use Rattle.fints_cli_texts.specs.ShowMessage.{is_control, shown_byte, segment_line, IsOpened, IsShownMessage, HasSegments, IsShowable, IsShownIn, AreShownIn};
 
 use crate::fault::Fault;
 use crate::masking::{emptied_at, masked_at};
+use fints_params::{is_sealed, sealed_data};
 use fints_rules::read_message;
-use fints_syntax::{HNVSD_VERSION, ItemRef, Memory, OwnedSegment, parse_segment, write_segment};
+use fints_syntax::{Memory, OwnedSegment, parse_segment, write_segment};
 use std::alloc::{AllocError, Global};
 
 fn is_control(b: u8) -> bool
@@ -47,7 +47,6 @@ fn write_bytes(alloc: Global, text: &mut Vec<u8>, bytes: &[u8]) -> Result<(), Al
 
 // Writes the segment without its secrets.
 fn write_masked(alloc: Global, out: &mut Vec<u8>, segment: &OwnedSegment) -> Result<(), Memory>
-    requires { HasItems segment.now }
     ensures { OnOk result (out.new.items ≡ out.old.items ++ written_segment (masked segment.now)) }
 {
     let kind = segment.head.id;
@@ -68,7 +67,6 @@ fn write_line(
     blanks: &[u8],
     segment: &OwnedSegment,
 ) -> Result<(), Memory>
-    requires { HasItems segment.now }
     ensures { OnOk result (text.new.items ≡ text.old.items ++ segment_line blanks.now segment.now) }
 {
     let mut written = Vec::new(alloc);
@@ -85,7 +83,6 @@ fn write_lines(
     blanks: &[u8],
     segments: &[OwnedSegment],
 ) -> Result<(), Memory>
-    requires { AllByRecursion HasItems segments.now }
     ensures { OnOk result (text.new.items
         ≡ text.old.items ++ flat_map (segment_line blanks.now) segments.now) }
 {
@@ -113,32 +110,15 @@ fn segments_in(alloc: Global, bytes: &[u8]) -> Result<Vec<OwnedSegment>, Memory>
     Ok(segments)
 }
 
-fn is_sealed(segment: &OwnedSegment) -> bool
-    ensures { result ≡ is_sealed segment.now }
-{
-    segment.is_named(b"HNVSD", HNVSD_VERSION)
-}
-
-// The data of an HNVSD, where item 1 of its element 2 is binary.
-fn data(segment: &OwnedSegment) -> Option<&[u8]>
-    ensures { option_copied result ≡ data_of segment.now }
-{
-    match segment.items(2).get(1) {
-        Some(ItemRef::Bin(bytes)) => Some(bytes),
-        _ => None,
-    }
-}
-
 // The segments in the data of an HNVSD; none of any other segment.
 fn inside(alloc: Global, segment: &OwnedSegment) -> Result<Vec<OwnedSegment>, Memory>
     requires { IsShowable segment.now }
-    ensures opened { IfOk result (λ inside. IsOpened (record { segment = segment.now; inside = inside.items })) }
-    ensures items { IfOk result (λ inside. AllByRecursion HasItems inside.items) }
+    ensures { IfOk result (λ inside. IsOpened (record { segment = segment.now; inside = inside.items })) }
 {
     if !is_sealed(segment) {
         return Ok(Vec::new(alloc));
     }
-    let Some(bytes) = data(segment) else {
+    let Some(bytes) = sealed_data(segment) else {
         unreachable!()
     };
     segments_in(alloc, bytes)
@@ -170,7 +150,7 @@ pub fn show_message(alloc: Global, message: &[u8]) -> Result<Vec<u8>, Fault>
     ensures refused { IfErr result (λ f. IsMessageRefusal message.now f) }
     ensures memory_alone { (m : MessageView) → IsMessage message.now m → IfErr result (λ f. f ≡ fault.Memory) }
 {
-    let _message = read_message(alloc, message)?;
+    read_message(alloc, message)?;
     let segments = segments_in(alloc, message)?;
     let mut text = Vec::new(alloc);
     write_all(alloc, &mut text, segments.as_slice())?;

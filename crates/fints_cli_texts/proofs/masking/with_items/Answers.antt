@@ -1,27 +1,15 @@
-use Rattle.std.proofs.Common.{◌-◌, ◌<◌, [], length, set, sym, subst, arith, ◌∙◌}
+use Rattle.std.proofs.Common.{◌-◌, ◌<◌, [], length, set, sym, arith, ◌∙◌}
 use Rattle.std.proofs.lemmas.Grind.{get_or-set_at}
 use Rattle.std.proofs.lemmas.List.{get_or-set_other, length-set}
-use Rattle.fints_cli_texts.proofs.MaskLemmas.{element_copied, items_at}
+use Rattle.fints_cli_texts.proofs.MaskLemmas.{element_copied}
 use Rattle.fints_cli_texts.proofs.masking.with_items.Goals as goal
 use Rattle.fints_cli_texts.proofs.masking.with_items.Goals.{then-i-element+in_ok-push, else-i-element+in_ok-copy_element}
 
 pub push-requires : goal.push-requires
-push-requires c =
-    let es = c.args.segment.now.elements in
-    let k = c.args.element - 2 in
-    let items = c.args.items.now in
-    let lt : c.loop-i.i < length es = omega (arith, c.loop-i-test.true, c.len-i-end.ensures.count) in
-    let here = get_or-set_at es k c.loop-i.i items [] c.if-i-element.true (omega (arith, c.if-i-element.true)) in
-    subst (λ e. 0 < length e) here (items_at es k c.loop-i.i items c.requires.some lt)
+push-requires c = c.requires.some (omega (arith, c.loop-i-test.true, c.len-i-end.ensures.count, c.if-i-element.true))
 
 pub copy_element-requires : goal.copy_element-requires
-copy_element-requires c =
-    let es = c.args.segment.now.elements in
-    let k = c.args.element - 2 in
-    let items = c.args.items.now in
-    let lt : c.loop-i.i < length es = omega (arith, c.loop-i-test.true, c.len-i-end.ensures.count) in
-    let here = get_or-set_other es k c.loop-i.i items [] c.if-i-element.false in
-    subst (λ e. 0 < length e) (here ∙ sym c.items.ensures) (items_at es k c.loop-i.i items c.requires.some lt)
+copy_element-requires c = c.items.ensures.some (omega (arith, c.loop-i-test.true, c.len-i-end.ensures.count))
 
 pub loop-i-preserved : goal.loop-i-preserved
 loop-i-preserved c =
@@ -37,6 +25,6 @@ loop-i-preserved c =
           c.loop-i.invariant (w.elements-is ∙ w.in_ok-push.ensures.added)
       | else-i-element+in_ok-copy_element w ↦
           element_copied (set es k items) c.loop-i.elements c.if-i-element.elements i w.items.result lt
-          (get_or-set_other es k i items [] w.if-i-element.false ∙ sym w.items.ensures)
+          (get_or-set_other es k i items [] w.if-i-element.false ∙ sym w.items.ensures.items)
           c.loop-i.invariant (w.elements-is ∙ w.in_ok-copy_element.ensures)
     ]

@@ -4,22 +4,22 @@ use Rattle.fints_cli_texts.specs.ShowMessage.{AreShownIn, IsShowable}
 use Rattle.fints_cli_texts.proofs.ShowMessageLemmas.{memory_told, message_showable, shown_message}
 use Rattle.fints_cli_texts.proofs.showing_message.show_message.Goals as goal
 
-pub returns-in_err-_message-clause-memory_alone : goal.returns-in_err-_message-clause-memory_alone
-returns-in_err-_message-clause-memory_alone c =
-    λ m is. memory_told c.from_residual.result c.in_err-_message.field-0.0 c.from_residual.ensures.1
-    (c.in_err-_message.ensures.memory_alone m is)
+pub returns-in_err-read_message-clause-memory_alone : goal.returns-in_err-read_message-clause-memory_alone
+returns-in_err-read_message-clause-memory_alone c =
+    λ m is. memory_told c.from_residual.result c.in_err-read_message.field-0.0 c.from_residual.ensures.1
+    (c.in_err-read_message.ensures.memory_alone m is)
 
 pub write_all-requires : goal.write_all-requires
 write_all-requires c =
     subst (AllByRecursion IsShowable) (sym c.as_slice.ensures.value)
-    (message_showable c.args.message.now c.in_ok-_message._message c.in_ok-segments.segments.items
-    c.in_ok-_message.ensures.message c.in_ok-segments.ensures)
+    (message_showable c.args.message.now c.in_ok-read_message.field-0 c.in_ok-segments.segments.items
+    c.in_ok-read_message.ensures.message c.in_ok-segments.ensures)
 
 pub returns-clause-shown : goal.returns-clause-shown
 returns-clause-shown c =
     let segments = c.in_ok-segments.segments.items in
     let text = c.write_all.new.text.items in
-    shown_message c.args.message.now text c.in_ok-_message._message segments
-    c.in_ok-_message.ensures.message c.in_ok-segments.ensures
+    shown_message c.args.message.now text c.in_ok-read_message.field-0 segments
+    c.in_ok-read_message.ensures.message c.in_ok-segments.ensures
     (subst (λ before. AreShownIn segments before text) c.new-text.ensures.items
     (subst (λ ss. AreShownIn ss c.new-text.result.items text) c.as_slice.ensures.value c.in_ok-write_all.ensures))
