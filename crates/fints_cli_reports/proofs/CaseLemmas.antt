@@ -1,5 +1,5 @@
 -- One case more.
-use Rattle.std.proofs.Common.{◌≡◌, ◌∙◌, ℕ, zero, suc, ◌+◌, ◌-◌, ◌<◌, ◌≤◌, List, [], ◌∷◌, ◌++◌, length, take, get_or, Option, Some, None, Result, Ok, Err, OnOk, ap, sym, subst, append_assoc, arith}
+use Rattle.std.proofs.Common.{◌≡◌, ◌∙◌, ℕ, ◌+◌, ◌<◌, List, [], ◌∷◌, ◌++◌, length, take, get_or, Option, Some, None, Result, Ok, Err, OnOk, ap, sym, subst, append_assoc, arith}
 use Rattle.std.specs.List.{slice_get}
 use Rattle.std.proofs.lemmas.List.{append-nil, length-take-le, take_more}
 use Rattle.std.proofs.lemmas.Option.{same_Some, slice_get-get_or, slice_get_within}
@@ -12,7 +12,6 @@ use Rattle.fints_check_findings.specs.declared.finding.Reached.{Reached}
 use Rattle.fints_check_findings.specs.Cases.{AreChosenFor}
 use Rattle.fints_rules_permissions.specs.Permits.{Granted}
 use Rattle.fints_rules.specs.declared.rule.Rule.TheVariants.{Release}
-use Rattle.fints_script.specs.Numbered.{numbered}
 use Rattle.fints_script.specs.Scripts.{ScriptValue}
 use Rattle.fints_script.specs.Steps.{StepValue}
 use Rattle.std.specs.Prelude.{IfSome}
@@ -121,13 +120,3 @@ way_of report f answers at same other way =
           λ _. subst (λ (a : Option ℕ). IsWayTo report.plan.script.steps report.figures a answers) same way;
       unreleased = λ is. absurd (other is);
     }
-
--- ---- one finding
-
-pub numbered_is : (findings : List Finding) (n : ℕ) → 1 ≤ n
-    → numbered findings n ≡ slice_get findings (n - 1)
-numbered_is findings zero one = absurd (omega (arith, one))
-numbered_is findings (suc i) one = let back : i ≡ suc i - 1 = omega arith in ap (slice_get findings) back
-
-pub numbered_zero : (findings : List Finding) (n : ℕ) → n ≡ 0 → numbered findings n ≡ None
-numbered_zero findings n is = ap (numbered findings) is

@@ -24,12 +24,8 @@ use Rattle.fints_cli_texts.specs.declared.fault.Fault.{Fault}
 use Rattle.fints_cli_texts.specs.declared.fault.Fault.TheVariants.{Memory, Params, Case, Certificate, NotAdmitted, NoFinding, NoMessage}
 use Rattle.fints_cli_texts.specs.Fault.{fault_of, order_fault_of, kind_fault_of, script_fault_of, case_fault_of}
 use Rattle.fints_cli_reports.specs.Plans.{ArePlan, IsPlanRefusal}
-use Rattle.fints_cli_reports.specs.ExplainText.{HasNoFinding}
-use Rattle.fints_cli_reports.specs.Explaining.{IsUnfound}
-use Rattle.fints_cli_reports.specs.Told.{IsRefused, IsUntold, IsUntoldBy, IsUntoldOn}
+use Rattle.fints_cli_reports.specs.Told.{IsRefused, IsTellRefusal, IsTellRefusalOn}
 use Rattle.fints_cli_reports.specs.declared.telling.Wanted.{Wanted}
-use Rattle.fints_cli_reports.specs.declared.telling.Wanted.TheVariants.{OneCase}
-use Rattle.fints_rules_permissions.specs.Permits.{Granted}
 use Rattle.fints_cli_reports.specs.RunText.{IsAdmittedRefusal, IsCaseRefusal, IsRunRefusal, IsUnsent, IsUnsentRefusal}
 use Rattle.fints_cli_reports.specs.Verified.{IsCertificateRefusal, IsUnverified, IsVerifyRefusal}
 
@@ -110,32 +106,16 @@ params_refused capture table script params.NoPinParameters (inl e) = absurd (cc)
 params_refused capture table script params.NoPinParameters (inr p) = p
 
 -- no rows, nothing told
-pub params_untold : (wanted : Wanted) (capture table script : List ℕ) (f : ParamFault)
-    → IsMemoryOr (IsParamFault capture) f → IsUntold wanted capture table script (fault_of f)
-params_untold wanted capture table script params.Memory h = tt
-params_untold wanted capture table script f h = params_refused capture table script f h
+pub params_told : (wanted : Wanted) (capture table script : List ℕ) (f : ParamFault)
+    → IsMemoryOr (IsParamFault capture) f → IsTellRefusal wanted capture table script (fault_of f)
+params_told wanted capture table script params.Memory h = tt
+params_told wanted capture table script f h = params_refused capture table script f h
 
 -- no plan, nothing told
-pub unplanned_untold : (wanted : Wanted) (rows : Rows) (table script : List ℕ) (f : Fault)
-    → IsPlanRefusal table script f → IsUntoldOn wanted rows table script f
-unplanned_untold wanted rows table script (NoFinding number) p = absurd p
-unplanned_untold wanted rows table script _ p = p
-
--- what isn't told by the rows of a capture
-pub untold_of : (wanted : Wanted) (capture table script : List ℕ) (rows : Rows) (f : Fault)
-    → IsParamsOf capture rows → IsUntoldOn wanted rows table script f → IsUntold wanted capture table script f
-untold_of wanted capture table script rows Memory h p = tt
-untold_of wanted capture table script rows (Params f) h p = absurd p
-untold_of wanted capture table script rows (NoFinding number) h p = (rows, h, p)
-untold_of wanted capture table script rows _ h p = ((rows, h), p)
-
--- no finding of the number, nothing told by a plan
-pub unfound_untold : (granted : Granted) (script : ScriptValue) (number : ℕ) (f : Fault)
-    → IsUnfound granted script number f → IsUntoldBy (OneCase number) granted script f
-unfound_untold granted script number Memory h = tt
-unfound_untold granted script number (NoFinding n) h =
-    (ap OneCase (sym h.0), subst (HasNoFinding granted script) (sym h.0) h.1)
-unfound_untold granted script number _ h = absurd h
+pub unplanned_told : (wanted : Wanted) (rows : Rows) (table script : List ℕ) (f : Fault)
+    → IsPlanRefusal table script f → IsTellRefusalOn wanted rows table script f
+unplanned_told wanted rows table script (NoFinding number) p = absurd p
+unplanned_told wanted rows table script _ p = p
 
 -- ---- certificates
 

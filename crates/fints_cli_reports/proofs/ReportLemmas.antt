@@ -16,7 +16,7 @@ use Rattle.fints_cli_texts.specs.declared.fault.Fault.TheVariants.{Memory, NoFin
 use Rattle.fints_cli_reports.specs.ExplainText.{HasNoFinding}
 use Rattle.fints_cli_reports.specs.Plans.{ArePlan}
 use Rattle.fints_cli_reports.specs.ReportText.{step_line, step_lines}
-use Rattle.fints_cli_reports.specs.Told.{IsToldBy, IsToldOn, IsUntoldBy, IsUntoldOn}
+use Rattle.fints_cli_reports.specs.Told.{IsToldBy, IsToldOn, IsTellRefusalBy, IsTellRefusalOn}
 use Rattle.fints_cli_reports.specs.Verified.{IsVerifiedBy, IsVerifiedOn}
 use Rattle.fints_cli_reports.specs.declared.telling.Wanted.{Wanted}
 
@@ -55,16 +55,16 @@ told_on wanted rows table text orders value plan status told t s closed same mad
     let on = on_plan (λ g v. IsToldBy wanted g v status told) rows table text orders value plan t s closed same made p in
     record { value = value; plan = on.0; told = on.1 }
 
-pub untold_on : (wanted : Wanted) (rows : Rows) (table text : List ℕ) (orders : List OrderRow)
+pub refused_on : (wanted : Wanted) (rows : Rows) (table text : List ℕ) (orders : List OrderRow)
     (value : ScriptValue) (plan : PlanValue) (f : Fault) → DenotesTable table orders → Denotes text value
     → IsClosed value orders → plan.script ≡ value → plan.orders ≡ orders
-    → IsUntoldBy wanted (record { rows = rows; orders = plan.orders }) plan.script f
-    → IsUntoldOn wanted rows table text f
-untold_on wanted rows table text orders value plan Memory t s closed same made p = tt
-untold_on wanted rows table text orders value plan (NoFinding number) t s closed same made p =
+    → IsTellRefusalBy wanted (record { rows = rows; orders = plan.orders }) plan.script f
+    → IsTellRefusalOn wanted rows table text f
+refused_on wanted rows table text orders value plan Memory t s closed same made p = tt
+refused_on wanted rows table text orders value plan (NoFinding number) t s closed same made p =
     let on = on_plan (λ g v. HasNoFinding g v number) rows table text orders value plan t s closed same made p.1 in
     (p.0, record { value = value; plan = on.0; none = on.1 })
-untold_on wanted rows table text orders value plan _ t s closed same made p = absurd p
+refused_on wanted rows table text orders value plan _ t s closed same made p = absurd p
 
 pub verified_on : (rows : Rows) (table text cert : List ℕ) (orders : List OrderRow) (value : ScriptValue)
     (plan : PlanValue) (status : ℕ) (told : List ℕ) → DenotesTable table orders → Denotes text value

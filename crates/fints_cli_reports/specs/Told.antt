@@ -47,22 +47,22 @@ pub record LacksFinding (rows : Rows) (orders script : List ℕ) (number : ℕ) 
 
 -- want of memory, or the first refusal: of the order table, of the script, of what it leaves open, or else of the
 -- number of the finding whose case is wanted
-abbrev pub IsUntoldOn : Wanted → Rows → List ℕ → List ℕ → Fault → Type 0
-IsUntoldOn wanted rows orders script (NoFinding number) =
+abbrev pub IsTellRefusalOn : Wanted → Rows → List ℕ → List ℕ → Fault → Type 0
+IsTellRefusalOn wanted rows orders script (NoFinding number) =
     (wanted ≡ OneCase number) × LacksFinding rows orders script number
-IsUntoldOn wanted rows orders script f = IsPlanRefusal orders script f
+IsTellRefusalOn wanted rows orders script f = IsPlanRefusal orders script f
 
 -- want of memory, or the first refusal: of the capture, or else of these
-abbrev pub IsUntold : Wanted → List ℕ → List ℕ → List ℕ → Fault → Type 0
-IsUntold wanted params orders script (NoFinding number) =
-    (rows : Rows) × IsParamsOf params rows × IsUntoldOn wanted rows orders script (NoFinding number)
-IsUntold wanted params orders script f = IsRefused params orders script f
+abbrev pub IsTellRefusal : Wanted → List ℕ → List ℕ → List ℕ → Fault → Type 0
+IsTellRefusal wanted params orders script (NoFinding number) =
+    (rows : Rows) × IsParamsOf params rows × IsTellRefusalOn wanted rows orders script (NoFinding number)
+IsTellRefusal wanted params orders script f = IsRefused params orders script f
 
 -- ---- of private contracts and proofs alone
 
 -- want of memory, or that by what is granted there is no finding of the number whose case is wanted
-abbrev pub IsUntoldBy : Wanted → Granted → ScriptValue → Fault → Type 0
-IsUntoldBy wanted granted script Memory = Unit {0}
-IsUntoldBy wanted granted script (NoFinding number) =
+abbrev pub IsTellRefusalBy : Wanted → Granted → ScriptValue → Fault → Type 0
+IsTellRefusalBy wanted granted script Memory = Unit {0}
+IsTellRefusalBy wanted granted script (NoFinding number) =
     (wanted ≡ OneCase number) × HasNoFinding granted script number
-IsUntoldBy wanted granted script _ = ⊥
+IsTellRefusalBy wanted granted script _ = ⊥

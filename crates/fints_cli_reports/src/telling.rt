@@ -3,7 +3,7 @@ ghost use Rattle.std.specs.Prelude.{◌≤◌, ℕ, List, IfOk, IfErr, ◌≡◌
 ghost use Rattle.fints_params.specs.declared.fault.ParamFault.{ParamFault as ParamFaultValue};
 ghost use Rattle.fints_cli_texts.specs.Fault.{fault_of};
 ghost use Rattle.fints_params.specs.Captures.{IsReadOf};
-ghost use Rattle.fints_cli_reports.specs.Told.{IsToldBy, IsToldOf, IsToldOn, IsUntold, IsUntoldBy, IsUntoldOn};
+ghost use Rattle.fints_cli_reports.specs.Told.{IsToldBy, IsToldOf, IsToldOn, IsTellRefusal, IsTellRefusalBy, IsTellRefusalOn};
 
 use crate::certifying::certify;
 use crate::explaining::{explain, explain_one};
@@ -40,7 +40,7 @@ fn tell_plan(
         IsToldBy wanted (record { rows = params.now; orders = plan.now.orders }) plan.now.script
         reply.status reply.text.items) }
     ensures refused { IfErr result (λ f.
-        IsUntoldBy wanted (record { rows = params.now; orders = plan.now.orders }) plan.now.script f) }
+        IsTellRefusalBy wanted (record { rows = params.now; orders = plan.now.orders }) plan.now.script f) }
 {
     let permissions = Permissions::build(alloc, params, plan.orders())?;
     let report = check(alloc, &permissions, plan)?;
@@ -64,7 +64,7 @@ pub fn tell(
 ) -> Result<Reply, Fault>
     ensures told { IfOk result (λ reply.
         IsToldOn wanted params.now orders.now script.now reply.status reply.text.items) }
-    ensures refused { IfErr result (λ f. IsUntoldOn wanted params.now orders.now script.now f) }
+    ensures refused { IfErr result (λ f. IsTellRefusalOn wanted params.now orders.now script.now f) }
 {
     let inputs = read_inputs(alloc, orders, script)?;
     let plan = inputs.script.plan(&inputs.orders)?;
@@ -86,7 +86,7 @@ pub fn tell_read(
         → IsToldOf wanted capture orders.now script.now reply.status reply.text.items) }
     ensures refused { IfErr result (λ f.
         (capture : List ℕ) → IsReadOf capture params
-        → IsUntold wanted capture orders.now script.now f) }
+        → IsTellRefusal wanted capture orders.now script.now f) }
     ensures params_first { (f : ParamFaultValue) → params ≡ Err f → result ≡ Err (fault_of f) }
 {
     let params = match params {
@@ -107,7 +107,7 @@ pub fn tell_script(
 ) -> Result<Reply, Fault>
     ensures told { IfOk result (λ reply.
         IsToldOf wanted params.now orders.now script.now reply.status reply.text.items) }
-    ensures refused { IfErr result (λ f. IsUntold wanted params.now orders.now script.now f) }
+    ensures refused { IfErr result (λ f. IsTellRefusal wanted params.now orders.now script.now f) }
 {
     tell_read(alloc, Params::read(alloc, params), orders, script, wanted)
 }

@@ -1,20 +1,20 @@
 use Rattle.std.proofs.Common.{rules}
 use Rattle.std.proofs.lemmas.Result.{err_from_is_err_and}
-use Rattle.fints_cli_reports.proofs.Refusals.{unplanned_untold}
-use Rattle.fints_cli_reports.proofs.ReportLemmas.{told_on, untold_on}
+use Rattle.fints_cli_reports.proofs.Refusals.{unplanned_told}
+use Rattle.fints_cli_reports.proofs.ReportLemmas.{told_on, refused_on}
 use Rattle.fints_cli_reports.proofs.telling.tell.Goals as goal
 
 pub returns-in_err-inputs-clause-refused : goal.returns-in_err-inputs-clause-refused
 returns-in_err-inputs-clause-refused c =
     let refused =
-    unplanned_untold c.args.wanted c.args.params.now c.args.orders.now c.args.script.now
+    unplanned_told c.args.wanted c.args.params.now c.args.orders.now c.args.script.now
     c.in_err-inputs.field-0.0 c.in_err-inputs.ensures.refused in
     search rules
 
 pub returns-in_err-reply-clause-refused : goal.returns-in_err-reply-clause-refused
 returns-in_err-reply-clause-refused c =
     let refused =
-    untold_on c.args.wanted c.args.params.now c.args.orders.now c.args.script.now
+    refused_on c.args.wanted c.args.params.now c.args.orders.now c.args.script.now
     c.in_ok-inputs.inputs.orders c.in_ok-inputs.inputs.script c.in_ok-plan.plan
     c.in_err-reply.field-0.0
     c.in_ok-inputs.ensures.table c.in_ok-inputs.ensures.script c.in_ok-plan.ensures.closed
