@@ -32,6 +32,7 @@ impl Failure {
         match self {
             Failure::Input(Fault::Memory) => 4,
             Failure::Input(Fault::NoMessage { .. }) => 2,
+            Failure::Input(Fault::NoFinding { .. }) => 2,
             Failure::Input(_) => 3,
             Failure::Unread(_) => 5,
         }
