@@ -24,8 +24,9 @@ pub enum Failure {
 }
 
 impl Failure {
-    /// The status of a command that ends so: 2 for a message that a run doesn't reach, 3 for a
-    /// refused input, 4 for want of memory, and 5 for a file that couldn't be read.
+    /// The status of a command that ends so: 2 for a message that a run doesn't reach or a finding
+    /// that isn't there, 3 for a refused input, 4 for want of memory, and 5 for a file that couldn't
+    /// be read.
     pub fn status(&self) -> u8
         ensures { result ≡ failure_status self.now }
     {
