@@ -1,4 +1,4 @@
-use Rattle.std.proofs.Common.{ℕ, ◌≡◌, Option, Some, None, List, subst, inl, inr}
+use Rattle.std.proofs.Common.{ℕ, List, subst}
 use Rattle.fints_script_cases.specs.declared.values.NamedValue.{NamedValue}
 use Rattle.fints_script_rows.specs.declared.fields.NamedField.{NamedField}
 use Rattle.fints_rules.specs.Breaks.{BreaksByContent}
