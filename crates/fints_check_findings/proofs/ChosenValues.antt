@@ -1,5 +1,5 @@
 -- Which values the case of a finding has, by its rule.
-use Rattle.std.proofs.Common.{ℕ, ◌≡◌, ◌⊎◌, ◌∙◌, Bool, true, false, List, Option, Some, refl, ap, sym, subst, inl, inr}
+use Rattle.std.proofs.Common.{ℕ, ◌≡◌, ◌⊎◌, ◌∙◌, Bool, false, List, Option, Some, refl, ap, sym, subst, inl, inr}
 use Rattle.std.proofs.lemmas.Option.{same_Some}
 use Rattle.fints_rules.specs.Breaks.{BreaksByContent}
 use Rattle.fints_rules.specs.declared.rule.Rule.{Rule}
@@ -13,7 +13,7 @@ use Rattle.fints_script_cases.specs.declared.values.NamedValue.{NamedValue}
 use Rattle.fints_wire.specs.Choices.{longest_choice, shortest_choice}
 use Rattle.fints_wire.specs.Views.{message_view}
 use Rattle.fints_check_findings.specs.AtStep.{AreChosenAt, AtStepValue}
-use Rattle.fints_check_findings.specs.Cases.{AreChosenFor, AreShortestFor, AsksNoField, HaveFirstAccount}
+use Rattle.fints_check_findings.specs.Cases.{AreChosenFor, AsksNoField, HaveFirstAccount}
 use Rattle.fints_check_findings.specs.Choosing.{IsChoice, extreme_choice}
 use Rattle.fints_check_findings.specs.Elements.{wants_tan}
 use Rattle.fints_check_findings.specs.declared.choosing.SetAccount.{SetAccount}
