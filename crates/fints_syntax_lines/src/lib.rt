@@ -5,5 +5,5 @@
 mod lines;
 mod reading;
 
-pub use lines::{MAX_TEXT, after, next_line, split_once};
+pub use lines::{MAX_TEXT, after, split_once};
 pub use reading::{LineTaker, read_lines};
