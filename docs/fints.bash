@@ -5,7 +5,7 @@ _fints() {
     show) words="--hints --params --message --help" files="--params --message" numbers="" ;;
     judge) words="--hints --params --orders --before --answer --message --help" files="--params --orders --before --answer --message" numbers="" ;;
     check) words="--hints --params --orders --script --help" files="--params --orders --script" numbers="" ;;
-    explain) words="--hints --params --orders --script --help" files="--params --orders --script" numbers="" ;;
+    explain) words="--hints --params --orders --script --finding --help" files="--params --orders --script" numbers="--finding" ;;
     certify) words="--hints --params --orders --script --help" files="--params --orders --script" numbers="" ;;
     verify) words="--hints --params --orders --script --cert --help" files="--params --orders --script --cert" numbers="" ;;
     run) words="--hints --orders --script --case --message --help" files="--orders --script --case" numbers="--message" ;;

@@ -1,75 +1,44 @@
 -- A text is a certificate, or it has a first bad line.
-use Rattle.std.proofs.Common.{ℕ, ◌+◌, ◌-◌, ◌<◌, ◌≤◌, ◌≡◌, ◌≢◌, None, List, [], ◌∷◌, ◌++◌, map, codes, length, refl, ap, sym, subst, ◌∙◌, arith}
-use Rattle.std.proofs.lemmas.List.{append-nil, length-append, map-append}
+use Rattle.std.proofs.Common.{ℕ, ◌<◌, ◌≤◌, ◌≡◌, ◌≢◌, None, List, [], ◌∷◌, ◌++◌, map, codes, length, refl, ap, sym, subst, ◌∙◌, arith}
+use Rattle.std.proofs.lemmas.List.{append-nil, map-append}
 use Rattle.std.proofs.lemmas.List.Elements.{All-cons, All-nil, All-push}
 use Rattle.std.proofs.lemmas.List.Quantifiers.{all_pairs_push}
-use Rattle.fints_syntax_lines.specs.Lines.{text_of_lines, BeginsText}
-use Rattle.fints_syntax_lines.specs.LineLaws.{text_taken, length_taken, lines_long, same_lines, refused_at, text_or_bad_line}
-use Rattle.fints_check.specs.CertTexts.{step_text, cert_lines, cert_text, IsStepLine, IsCertificate, IsCertificateOf, OneCertificate, CertificateOrBadLine, AreCertLines, IsFirstBadCertLine}
-use Rattle.fints_check.specs.CertReading.{IsNew, IsBegun, IsLineTaken, HasNoLine}
+use Rattle.fints_syntax_lines.specs.Lines.{text_of_lines, AreTexts, BeginsText, IsHeaded}
+use Rattle.fints_syntax_lines.specs.LineLaws.{same_lines, text_or_bad_line}
+use Rattle.fints_check.specs.CertTexts.{step_text, cert_lines, cert_text, IsStepLine, IsCertificate, OneCertificate, CertificateOrBadLine, AreCertLines}
+use Rattle.fints_check.specs.CertReading.{IsNew, IsBegun}
 use Rattle.fints_check.specs.declared.certificate.Line.{Line}
 use Rattle.fints_syntax_lines.specs.declared.lines.TheConstants.{MAX_TEXT}
-use Rattle.fints_check.proofs.CertLines.{onward, line_without, cert_without, lines_once}
+use Rattle.fints_check.proofs.CertLines.{onward, line_once, cert_without, lines_once}
 
 -- ---- a line more
 
 lines_with : (v : List Line) (line : Line) → cert_lines (v ++ line ∷ []) ≡ cert_lines v ++ step_text line ∷ []
 lines_with v line = ap (λ (ls : List (List ℕ)). codes "fints-cert 2" ∷ ls) (map-append step_text v (line ∷ []))
 
--- what the reader knows before the next line
-pub record Read (text rest : List ℕ) (v : List Line) (n : ℕ) : Type 0 where
-  pub begun : IsBegun v
-  pub text_is : text ≡ cert_text v ++ rest
-  pub number : n ≡ length (cert_lines v) + 1
+-- a line is taken
+pub grown_by : (v : List Line) (line : Line) (text : List ℕ) (w : List Line) → IsBegun v → IsStepLine line
+    → IsNew v line
+    → text ≡ step_text line → length (text_of_lines (cert_lines v ++ text ∷ [])) ≤ MAX_TEXT → w ≡ v ++ line ∷ []
+    → IsBegun w
+grown_by v line text w begun good next is short lines =
+    let whole = lines_with v line ∙ ap (λ (t : List ℕ). cert_lines v ++ t ∷ []) (sym is) in
+    subst IsBegun (sym lines)
+    (record {
+      apart = all_pairs_push (λ (p q : Line). p.name ≢ q.name) v line begun.apart next;
+      each = All-push IsStepLine v line begun.each good;
+      short = subst (λ (ls : List (List ℕ)). length (text_of_lines ls) ≤ MAX_TEXT) (sym whole) short;
+    })
 
-read_line : (text rest more : List ℕ) (v : List Line) (line : Line) (n : ℕ) → Read text rest v n
-    → IsStepLine line → IsNew v line → rest ≡ step_text line ++ 10 ∷ more
-    → length text - length more ≤ MAX_TEXT → Read text more (v ++ line ∷ []) (n + 1)
-read_line text rest more v line n read good next is within =
-    let front : cert_lines v ++ step_text line ∷ [] ≡ cert_lines (v ++ line ∷ []) = sym (lines_with v line) in
-    let whole : text ≡ cert_text (v ++ line ∷ []) ++ more =
-    text_taken text rest (step_text line) more (cert_lines v) read.text_is is
-    ∙ ap (λ (ls : List (List ℕ)). text_of_lines ls ++ more) front in
-    let size = length_taken text more (cert_lines (v ++ line ∷ [])) whole in
-    let count : length (cert_lines (v ++ line ∷ [])) ≡ length (cert_lines v ++ step_text line ∷ []) = ap length (lines_with v line) in
-    let one : length (cert_lines v ++ step_text line ∷ []) ≡ length (cert_lines v) + 1 = length-append (cert_lines v) (step_text line ∷ []) in
-    let number = read.number in
-    record {
-      begun = record {
-        apart = all_pairs_push (λ (p q : Line). p.name ≢ q.name) v line read.begun.apart next;
-        each = All-push IsStepLine v line read.begun.each good;
-        short = omega arith;
-      };
-      text_is = whole;
-      number = omega arith;
-    }
-
-pub read_more : (text rest more : List ℕ) (v w : List Line) (n : ℕ) → Read text rest v n
-    → IsLineTaken (length text) rest more v w → Read text more w (n + 1)
-read_more text rest more v w n read taken =
-    subst (λ (x : List Line). Read text more x (n + 1)) (sym taken.lines_are)
-    (read_line text rest more v taken.line n read taken.is taken.next taken.stands.split.0
-    taken.stands.within)
-
-pub few_lines : (text rest : List ℕ) (v : List Line) (n : ℕ) → Read text rest v n → n ≤ MAX_TEXT + 1
-few_lines text rest v n read =
-    let long = lines_long (cert_lines v) in
-    let short = read.begun.short in
-    let number = read.number in
-    omega arith
+pub lines_more : (v : List Line) (line : Line) (text : List ℕ) (w : List Line) → text ≡ step_text line
+    → w ≡ v ++ line ∷ [] → cert_lines w ≡ cert_lines v ++ text ∷ []
+lines_more v line text w is lines =
+    ap cert_lines lines ∙ (lines_with v line ∙ ap (λ (t : List ℕ). cert_lines v ++ t ∷ []) (sym is))
 
 -- ---- the end
 
-is_certificate : (v : List Line) → IsBegun v → 0 < length v → IsCertificate v
+pub is_certificate : (v : List Line) → IsBegun v → 0 < length v → IsCertificate v
 is_certificate v begun some = record { some = some; apart = begun.apart; each = begun.each; short = begun.short }
-
-no_rest : (front rest : List ℕ) → length rest ≡ 0 → front ++ rest ≡ front
-no_rest front [] none = append-nil front
-no_rest front (x ∷ rest) none = absurd (omega arith)
-
-pub read_all : (text rest : List ℕ) (v : List Line) (n : ℕ) → Read text rest v n → length rest ≡ 0
-    → 0 < length v → IsCertificateOf text v
-read_all text rest v n read none some = (is_certificate v read.begun some, read.text_is ∙ no_rest (cert_text v) rest none)
 
 -- ---- a bad line
 
@@ -88,7 +57,7 @@ least =
       short = omega arith;
     }
 
-begins : (v : List Line) → IsBegun v → BeginsText AreCertLines (cert_lines v)
+pub begins : (v : List Line) → IsBegun v → BeginsText AreCertLines (cert_lines v)
 begins [] begun = record { later = step_text least_line ∷ []; good = record { lines = least_line ∷ []; is = least; same = refl } }
 begins (x ∷ v) begun =
     record {
@@ -109,38 +78,46 @@ none_is_none [] none c = no_lines c.lines c.is.some (let same = c.same in cc)
     no_lines (x ∷ w) some e = cc
 none_is_none (x ∷ v) none c = omega arith
 
-pub refused : (text rest : List ℕ) (v : List Line) (n : ℕ) → Read text rest v n
-    → HasNoLine (length text) rest v → (length rest ≡ 0 → length v ≡ 0) → IsFirstBadCertLine text n
-refused text rest v n read none ends =
-    refused_at AreCertLines cert_without text rest (cert_lines v) n (begins v read.begun) read.text_is
-    read.number (λ done good. none_is_none v (ends done) good) bad
-  where
-    bad : (line more : List ℕ) → rest ≡ line ++ 10 ∷ more
-        → BeginsText AreCertLines (cert_lines v ++ line ∷ []) → ⊥
-    bad line more is b =
-        let on = onward v line read.begun b in
-        let size = length_taken text more (cert_lines v ++ line ∷ []) (text_taken text rest line more (cert_lines v) read.text_is is) in
-        let short = on.short in
-        none on.line more on.good on.next
-        (record {
-          split = (is ∙ ap (λ (t : List ℕ). t ++ 10 ∷ more) on.is, line_without on.line on.good);
-          within = omega arith;
-        })
+pub some_lines : (v : List Line) → AreCertLines (cert_lines v) → 0 < length v
+some_lines [] c = absurd (none_is_none [] refl c)
+some_lines (x ∷ v) c = omega arith
 
-pub no_header : (text : List ℕ) → ((rest : List ℕ) → text ≢ codes "fints-cert 2\n" ++ rest)
-    → IsFirstBadCertLine text 1
-no_header text none =
-    refused_at AreCertLines cert_without text text [] 1
-    (record {
-      later = cert_lines (least_line ∷ []);
-      good = record { lines = least_line ∷ []; is = least; same = refl };
-    })
-    refl refl
-    (λ done good. let same = good.same in absurd cc)
-    (λ line more is b.
-    let same = b.good.same in
-    let first : codes "fints-cert 2" ≡ line = cc in
-    none more (is ∙ ap (λ (t : List ℕ). t ++ 10 ∷ more) (sym first)))
+pub lines_of : (v : List Line) → IsCertificate v → AreCertLines (cert_lines v)
+lines_of v is = record { lines = v; is = is; same = refl }
+
+-- a line that is none of a certificate goes on with none
+pub no_line : (v : List Line) (text : List ℕ) → IsBegun v
+    → ((line : Line) → IsStepLine line → text ≢ step_text line)
+    → BeginsText AreCertLines (cert_lines v ++ text ∷ []) → ⊥
+no_line v text begun none b = let on = onward v text begun b in none on.line on.good on.is
+
+pub not_new : (v : List Line) (text : List ℕ) (line : Line) → IsBegun v → IsStepLine line → text ≡ step_text line
+    → (IsNew v line → ⊥) → BeginsText AreCertLines (cert_lines v ++ text ∷ []) → ⊥
+not_new v text line begun good is not b =
+    let on = onward v text begun b in
+    not (subst (IsNew v) (line_once on.line line on.good good (sym on.is ∙ is)) on.next)
+
+-- ---- the texts of certificates
+
+pub are_texts : AreTexts AreCertLines
+are_texts all c = (
+  cert_without all c,
+  subst (λ (ls : List (List ℕ)). length (text_of_lines ls) ≤ MAX_TEXT) (sym c.same)
+      c.is.short,
+)
+
+pub headed : IsHeaded AreCertLines (codes "fints-cert 2\n") (cert_lines [])
+headed = record {
+  line = codes "fints-cert 2";
+  front_is = refl;
+  lines_are = refl;
+  first = λ all c. (map step_text c.lines, c.same);
+}
+
+pub none_begun : IsBegun []
+none_begun =
+    let size : length (cert_text []) ≡ 13 = refl in
+    record { apart = λ i j d below within. absurd (omega arith); each = All-nil IsStepLine; short = omega arith }
 
 pub certificate_or_bad_line : (text : List ℕ) → CertificateOrBadLine text
 certificate_or_bad_line text none never =

@@ -5,11 +5,11 @@ use Rattle.fints_script_cases.specs.Answers.{IsOpenTo, target_of}
 use Rattle.fints_script_cases.specs.declared.answers.Target.{Target}
 use Rattle.fints_script_cases.specs.declared.answers.Target.TheVariants.{Step, Again, Stop}
 use Rattle.fints_check_findings.specs.Figures.{AreFigures, AreGreatestFigures, FiguresAre, IsSentOf, reached_figures}
-use Rattle.fints_check_findings.specs.Findings.{AreFindings, BreaksBehind, IsReal, SentStepsAreClean, SentStepsAreReleased}
+use Rattle.fints_check_findings.specs.Findings.{AreFindings, IsReal, SentStepsAreClean, SentStepsAreReleased}
 use Rattle.fints_check_findings.specs.declared.finding.Finding.{Finding}
 use Rattle.fints_check_findings.specs.declared.finding.Reached.{Reached}
 use Rattle.fints_rules_messages.specs.Messages.{IsMessage}
-use Rattle.fints_rules.specs.Breaks.{Breaks, BreaksByFigures, BytesBreak}
+use Rattle.fints_rules.specs.Breaks.{Breaks, BreaksByFigures}
 use Rattle.fints_rules.specs.Rules.{FiguresBreak}
 use Rattle.fints_rules_permissions.specs.Permits.{Granted}
 use Rattle.fints_rules.specs.declared.rule.Rule.{Rule}
@@ -20,7 +20,7 @@ use Rattle.fints_script.specs.Sound.{IsSound, IsSoundStep}
 use Rattle.fints_script.specs.Steps.{StepValue}
 use Rattle.fints_wire.specs.Choices.{longest_choice}
 use Rattle.fints_wire.specs.Messages.{message_bytes}
-use Rattle.fints_wire.specs.Runs.{Arrives, Before, Reach, at_first, behind, came_after}
+use Rattle.fints_wire.specs.Runs.{Arrives, Reach, at_first, came_after}
 use Rattle.fints_wire.specs.Runs.Reach.{first}
 use Rattle.fints_wire.specs.Views.{message_view}
 use Rattle.fints_wire.specs.declared.dialogue.Sent.{Sent}
@@ -28,7 +28,10 @@ use Rattle.fints_wire.specs.declared.dialogue.Visit.{Visit}
 use Rattle.fints_check.specs.Certificates.{IsEntered, GoesOn, LineHolds, IsClosedCertificate, Names, line_figures, line_names, step_names, worst_len}
 use Rattle.fints_check.specs.declared.certificate.Line.{Line}
 use Rattle.fints_wire.specs.declared.building.TheConstants.{MAX_NUMBER}
-use Rattle.fints_check.proofs.Reaching.{reach_step, reach_repeated}
+use Rattle.fints_check_reach.proofs.PassLemmas.{reach_step, reach_repeated}
+use Rattle.fints_script_cases.proofs.LawLemmas.{open_branches_lead}
+use Rattle.fints_check_findings.proofs.Cleans.{nothing_real}
+use Rattle.fints_check_findings.proofs.Reals.{itself}
 use Rattle.fints_wire.proofs.RunLawLemmas.{last_messages, runs_by_steps, visits_are_within}
 use Rattle.fints_wire.proofs.LawLemmas.{extremes_are_admitted_longest, messages_are_read}
 
@@ -49,16 +52,6 @@ figures_named lines zero figures h = absurd cc
 figures_named [] (suc n) figures h = absurd cc
 figures_named (l ∷ lines) (suc zero) figures h = same_Some l.reached (Some figures) h
 figures_named (l ∷ lines) (suc (suc n)) figures h = figures_named lines (suc n) figures h
-
-nothing_real : (granted : Granted) (script : ScriptValue) → AreFindings granted script [] → (f : Finding)
-    → IsReal granted script f → ⊥
-nothing_real granted script none f real = let has = (none.exactly f).1 real in let lt = has.1 in omega arith
-
--- what is broken by itself is broken behind anything
-itself : (granted : Granted) (before : Before) (m : Sent) (r : Rule) (place : ℕ)
-    → BytesBreak granted m.bytes r place → BreaksBehind granted before m r place
-itself granted at_first m r place b = b
-itself granted (behind x codes) m r place b = inl b
 
 -- the step of a visit has figures, and the visit's number is within them
 record Kept (script : ScriptValue) (lines : List Line) (v : Visit) : Type 0 where
@@ -231,7 +224,9 @@ module _ (granted : Granted) (script : ScriptValue) (lines : List Line) (sound :
     goes_on : (to : Target) → IsOpenTo step.branches step.otherwise to → GoesOn script.steps lines f.number to
     goes_on (Step to) can =
         let there : numbered script.steps p.visit.step ≡ Some step = ap (numbered script.steps) p.here ∙ at in
-        let next = reach_step script.steps p.visit step to there can ((runs_by_steps script.steps p.visit).0 p.arrives) in
+        let leads = (open_branches_lead step.branches step.otherwise (Step to)).1 can in
+        let next = reach_step script.steps p.visit step to there leads
+        ((runs_by_steps script.steps p.visit).0 p.arrives) in
         subst (λ (k : ℕ). IsEntered script.steps lines to (k + 1)) p.number (entered to (p.visit.number + 1) next)
     goes_on Again can = tt
     goes_on Stop can = tt
@@ -271,7 +266,9 @@ module _ (granted : Granted) (script : ScriptValue) (lines : List Line) (sound :
   closes names none clean released = record {
     names = names;
     first = entered 1 1 first;
-    each = λ n step f at named. holds (nothing_real granted script none) clean n step f at (peak n step f at named);
+    each =
+        λ n step f at named. holds (nothing_real granted script [] none refl) clean n step f at
+        (peak n step f at named);
     released = λ t s f named u.
         let g : AreGreatestFigures script t f = figures.each t (Some f) (named_figures lines t f named) in
         released t s g.message g.sent u;

@@ -1,9 +1,7 @@
 -- Lists that count from 1, and lists of names.
-use Rattle.std.proofs.Common.{ℕ, suc, zero, ◌+◌, ◌-◌, ◌<◌, ◌≤◌, ◌≡◌, ◌≢◌, inl, inr, Some, List, [], ◌∷◌, ◌++◌, length, map, take, get_or, slice_get, ap, sym, subst, ◌∙◌, arith}
-use Rattle.std.proofs.lemmas.List.{take_more, map-append, length-set, get_or-set_same, get_or-set_other}
-use Rattle.std.proofs.lemmas.Bool.{cases_lt}
-use Rattle.std.proofs.Math.ListN.{set}
-use Rattle.std.proofs.lemmas.Option.{slice_get-get_or, slice_get-map, slice_get_past, same_Some}
+use Rattle.std.proofs.Common.{ℕ, suc, zero, ◌+◌, ◌-◌, ◌<◌, ◌≤◌, ◌≡◌, Some, List, [], ◌∷◌, ◌++◌, length, map, take, get_or, slice_get, ap, sym, ◌∙◌, arith}
+use Rattle.std.proofs.lemmas.List.{take_more, map-append}
+use Rattle.std.proofs.lemmas.Option.{slice_get-map, same_Some}
 use Rattle.std.specs.Option.{option_map}
 use Rattle.fints_script.specs.Numbered.{numbered}
 
@@ -48,21 +46,3 @@ same_at f g xs ys i x y hx hy e =
     let a : slice_get (map f xs) i ≡ Some (f x) = slice_get-map f xs i ∙ ap (option_map f) hx in
     let b : slice_get (map g ys) i ≡ Some (g y) = slice_get-map g ys i ∙ ap (option_map g) hy in
     same_Some (f x) (g y) (sym a ∙ (ap (λ (zs : List (List ℕ)). slice_get zs i) e ∙ b))
-
--- a flag that is set
-pub set_here : {X : Type 0} (xs : List X) (i k : ℕ) (x : X) → k ≡ i → i < length xs
-    → slice_get (set xs i x) k ≡ Some x
-set_here xs i k x e low =
-    let within : i < length (set xs i x) = subst (λ (n : ℕ). i < n) (sym (length-set xs i x)) low in
-    subst (λ (j : ℕ). slice_get (set xs i x) j ≡ Some x) (sym e) (slice_get-get_or (set xs i x) i x within ∙ ap (λ y. Some y) (get_or-set_same xs i x x low))
-
--- the other flags stay
-pub set_other : {X : Type 0} (xs : List X) (i k : ℕ) (x : X) → k ≢ i
-    → slice_get (set xs i x) k ≡ slice_get xs k
-set_other xs i k x other =
-    elim (cases_lt k (length xs)) [
-      | inl within ↦
-          let inside : k < length (set xs i x) = subst (λ (n : ℕ). k < n) (sym (length-set xs i x)) within in
-          slice_get-get_or (set xs i x) k x inside ∙ (ap (λ y. Some y) (get_or-set_other xs i k x x other) ∙ sym (slice_get-get_or xs k x within))
-      | inr past ↦ slice_get_past (set xs i x) k (subst (λ (n : ℕ). n ≤ k) (sym (length-set xs i x)) past) ∙ sym (slice_get_past xs k past)
-    ]

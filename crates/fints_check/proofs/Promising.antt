@@ -2,7 +2,7 @@
 use Rattle.std.proofs.Common.{ℕ, ◌-◌, ◌≤◌, List, [], ◌∷◌, length, refl, sym, subst, arith, inl, inr}
 use Rattle.std.specs.List.{AllByRecursion}
 use Rattle.fints_script_cases.specs.declared.values.NamedValue.{NamedValue}
-use Rattle.fints_check_findings.specs.Findings.{BreaksBehind, EachIsPermitted, IsPermittedBehind, IsReal}
+use Rattle.fints_check_findings.specs.Findings.{EachIsPermitted, IsPermittedBehind}
 use Rattle.fints_check_findings.specs.declared.finding.Finding.{Finding}
 use Rattle.fints_check_findings.specs.declared.finding.Reached.{Reached}
 use Rattle.fints_rules.specs.Breaks.{Breaks, BreaksByFigures, BytesBreakRelease, Permitted}
@@ -28,6 +28,7 @@ use Rattle.fints_check.specs.declared.certificate.Line.{Line}
 use Rattle.fints_check.proofs.Bounds.{reach_bounded}
 use Rattle.fints_wire.proofs.RunLawLemmas.{each_is_last, each_is_last_after, last_messages, runs_by_steps, visits_are_within}
 use Rattle.fints_wire.proofs.LawLemmas.{messages_are_read, none_is_longer_most}
+use Rattle.fints_check_findings.proofs.Checking.{real_of}
 use Rattle.fints_check_findings.proofs.LawLemmas.{release_is_left}
 
 -- figures that break neither P2 nor P3 have a number that can be asked for
@@ -62,13 +63,10 @@ module _ (granted : Granted) (script : ScriptValue) (lines : List Line) (sound :
       let way = (last_messages script values m sound).0 sends in
       let v = way.0 in
       let is = way.2 in
-      let b =
-      reach_bounded script.steps lines v closed.first
-      (λ n step figures at named. (closed.each n step figures at named).onward)
-      ((runs_by_steps script.steps v).0 way.1) in
+      let b = reach_bounded granted script lines closed v sound ((runs_by_steps script.steps v).0 way.1) in
       let holds = closed.each v.step is.at b.figures is.of b.named in
       let low = (visits_are_within script v sound way.1).first in
-      let high = b.stays.now in
+      let high = b.number in
       let most = (numbers_asked granted (reached_figures b.figures) holds.permitted).1 in
       let worst =
       none_is_longer_most script is.at values v.number b.figures.number sound
@@ -104,26 +102,9 @@ module _ (granted : Granted) (script : ScriptValue) (lines : List Line) (sound :
       → SendsAfter script values (behind b codes) m → BytesBreakRelease b.bytes codes m.bytes → ⊥
   none_left values b codes m admits s breaks =
       let f : Finding = record { step = m.step; rule = Release; segment = 0 } in
-      let real : IsReal granted script f = record {
-        values = values;
-        answers = s.0;
-        shown =
-            record {
-              admitted =
-                  admits;
-              message = m;
-              ends = s.1.ends;
-              of = refl;
-              breaks =
-                  subst (λ (x : Before). BreaksBehind granted x m Release 0) (sym s.1.after)
-                  (inr (refl, refl, breaks));
-            };
-      } in
+      let real = real_of granted script values (behind b codes) m Release 0 admits s (inr (refl, refl, breaks)) in
       let l = (release_is_left granted script f sound refl real).1 in
-      let stays =
-      reach_bounded script.steps lines l.0 closed.first
-      (λ n step figures at named. (closed.each n step figures at named).onward)
-      ((runs_by_steps script.steps l.0).0 l.1) in
+      let stays = reach_bounded granted script lines closed l.0 sound ((runs_by_steps script.steps l.0).0 l.1) in
       closed.released l.0.step m.step stays.figures stays.named l.2
 
   kept_behind : (values : List NamedValue) (before : Before) (m : Sent) → Admits script.fields values

@@ -1,8 +1,8 @@
 -- What a certificate names, when it is closed, and what it promises. Steps and lines count from 1; branches too, and the default counts as the last.
-use Rattle.std.specs.Prelude.{ℕ, ◌≡◌, ◌≤◌, ◌+◌, ◌-◌, Option, Some, List, length, map}
+use Rattle.std.specs.Prelude.{ℕ, ◌≡◌, ◌≤◌, ◌+◌, Option, Some, List, length, map}
 use Rattle.std.specs.List.{AllByRecursion}
 use Rattle.std.specs.Option.{option_and_then}
-use Rattle.fints_script_cases.specs.Answers.{IsAnswer, IsOpen, IsOpenTo, target_of}
+use Rattle.fints_script_cases.specs.Answers.{IsAnswer, IsOpen, target_of}
 use Rattle.fints_script_cases.specs.declared.answers.Target.{Target}
 use Rattle.fints_script_cases.specs.declared.answers.Target.TheVariants as targets
 use Rattle.fints_script_cases.specs.declared.values.NamedValue.{NamedValue}
@@ -15,6 +15,7 @@ use Rattle.fints_wire.specs.Choices.{longest_choice}
 use Rattle.fints_wire.specs.Messages.{message_bytes}
 use Rattle.fints_wire.specs.Runs.{Run}
 use Rattle.fints_wire.specs.declared.dialogue.Sent.{Sent}
+use Rattle.fints_check_reach.specs.Closed.{IsEnough}
 use Rattle.fints_check_findings.specs.Breakable.{IsCleanStep}
 use Rattle.fints_check_findings.specs.Releases.{IsUnreleased}
 use Rattle.fints_check_findings.specs.declared.finding.Reached.{Reached}
@@ -45,18 +46,13 @@ Names lines n figures = figures_at lines n ≡ Some figures
 
 -- ---- when it is closed
 
--- a number that is enough for a step whose first message in a row has at most number `from`: where an open branch leads back to the step, all its repeats count
-pub record Covers (step : StepValue) (from number : ℕ) : Type 0 where
-  pub once : from ≤ number
-  pub often : IsOpenTo step.branches step.otherwise targets.Again → from + (step.repeat - 1) ≤ number
-
 -- step n is named as reached, and its number is enough where its first message in a row has at most number `from`
 pub record IsEntered (steps : List StepValue) (lines : List Line) (n from : ℕ) : Type 0 where
   pub step : StepValue
   pub at : numbered steps n ≡ Some step
   pub figures : Reached
   pub named : Names lines n figures
-  pub covers : Covers step from figures.number
+  pub covers : IsEnough step from figures.number
 
 -- behind messages of at most this number the target is a step that is named as reached, with a number that is enough, the same step or the end
 abbrev pub GoesOn : List StepValue → List Line → ℕ → Target → Type 0

@@ -6,9 +6,10 @@ use Rattle.fints_rules_permissions.specs.Permits.{Granted}
 use Rattle.fints_script.specs.Numbered.{numbered}
 use Rattle.fints_script.specs.Scripts.{ScriptValue}
 use Rattle.fints_script.specs.Steps.{StepValue}
+use Rattle.fints_check_reach.specs.Closed.{IsEnough}
 use Rattle.fints_check_findings.specs.declared.finding.Reached.{Reached}
 use Rattle.fints_check_findings.specs.Releases.{IsUnreleased}
-use Rattle.fints_check.specs.Certificates.{BranchGoesOn, Covers, LineHolds, Names}
+use Rattle.fints_check.specs.Certificates.{BranchGoesOn, LineHolds, Names}
 use Rattle.fints_check.specs.declared.certificate.Line.{Line}
 
 -- the flag of a step tells whether an open branch leads back to it
@@ -24,7 +25,8 @@ pub record ClaimsValue : Type 0 where
 
 -- it tells whether the number is enough for step n where its first message in a row has at most number `from`
 abbrev pub TellsEnough : ClaimsValue → ℕ → ℕ → ℕ → Bool → Type 0
-TellsEnough c n from number told = (step : StepValue) → numbered c.script.steps n ≡ Some step → (IsTrue told ↔ Covers step from number)
+TellsEnough c n from number told =
+    (step : StepValue) → numbered c.script.steps n ≡ Some step → (IsTrue told ↔ IsEnough step from number)
 
 -- it tells whether each open branch of step n goes on behind messages of at most this number
 abbrev pub TellsOnward : ClaimsValue → ℕ → ℕ → Bool → Type 0

@@ -6,14 +6,14 @@ ghost use Rattle.fints_script_fields.specs.NameSets.{HoldsNames};
 ghost use Rattle.fints_syntax_lines.specs.Lines.{IsReadAs};
 ghost use Rattle.fints_check.specs.Certificates.{line_names};
 ghost use Rattle.fints_check.specs.CertTexts.{figures_text, step_text, IsFigure, AreShown, IsStepLine, IsCertificateOf, IsCertFault};
-ghost use Rattle.fints_check.specs.CertReading.{IsNew, IsLineTaken, HasNoLine};
+ghost use Rattle.fints_check.specs.CertReading.{IsNew};
 
 use crate::cert_fault::CertFault;
 use crate::certificate::{Certificate, Line};
 use fints_check_findings::Reached;
 use fints_script_fields::Name;
 use fints_syntax::Memory;
-use fints_syntax_lines::{after, next_line, split_once};
+use fints_syntax_lines::{LineTaker, after, read_lines, split_once};
 use std::alloc::Global;
 use std::collections::BTreeSet;
 
@@ -125,32 +125,26 @@ fn add(taken: &mut Taken, line: Line) -> Result<bool, Memory>
     Ok(true)
 }
 
-// Adds the line that the rest begins with, and gives what stands after it; none where that is no good
-// line of a text of `whole` bytes.
-fn take_line<'a>(
-    taken: &mut Taken,
-    whole: usize,
-    rest: &'a [u8],
-) -> Result<Option<&'a [u8]>, Memory>
-    requires rest { length rest.now ≤ whole }
-    requires names { HoldsNames (line_names taken.old.lines.items) taken.old.names }
-    ensures line { IfOk result (λ found. MatchOption found
-        (HasNoLine whole rest.now taken.old.lines.items)
-        (λ more. IsLineTaken whole rest.now more.now taken.old.lines.items taken.new.lines.items)) }
-    ensures names { IfOk result (λ found.
-        IfSome found (λ _. HoldsNames (line_names taken.new.lines.items) taken.new.names)) }
-{
-    let Some((text, more)) = next_line(whole, rest) else {
-        return Ok(None);
-    };
-    let Some(line) = parse_line(text) else {
-        return Ok(None);
-    };
-    let added = add(taken, line)?;
-    if !added {
-        return Ok(None);
+impl LineTaker for Taken {
+    ghost use Rattle.fints_check.specs.CertTexts.{cert_lines, AreCertLines};
+    ghost use Rattle.fints_check.specs.CertReading.{IsReady};
+
+    ghost kind = { AreCertLines };
+
+    ghost lines = { λ t. cert_lines t.lines.items };
+
+    ghost ready = { IsReady };
+
+    fn take(&mut self, text: &[u8]) -> Result<bool, Memory> {
+        match parse_line(text) {
+            Some(line) => add(self, line),
+            None => Ok(false),
+        }
     }
-    Ok(Some(more))
+
+    fn is_whole(&self) -> bool {
+        !self.lines.is_empty()
+    }
 }
 
 impl Certificate {
@@ -159,24 +153,13 @@ impl Certificate {
         ensures certificate { IfOk result (λ certificate. IsCertificateOf text.now certificate) }
         ensures refusal { IfErr result (IsCertFault text.now) }
     {
-        let Some(mut rest) = after(text, b"fints-cert 2\n") else {
-            return Err(CertFault::Bad { line: 1 });
-        };
         let mut taken = Taken {
             lines: Vec::new(alloc),
             names: BTreeSet::new(alloc),
         };
-        let mut line = 2;
-        while !rest.is_empty() {
-            match take_line(&mut taken, text.len(), rest)? {
-                Some(more) => rest = more,
-                None => return Err(CertFault::Bad { line }),
-            }
-            line += 1;
+        match read_lines(text, b"fints-cert 2\n", &mut taken)? {
+            Some(line) => Err(CertFault::Bad { line }),
+            None => Ok(Certificate::new(taken.lines)),
         }
-        if taken.lines.is_empty() {
-            return Err(CertFault::Bad { line });
-        }
-        Ok(Certificate::new(taken.lines))
     }
 }

@@ -1,17 +1,21 @@
 -- What the facts of a step decide, by what holds of it.
 use Rattle.std.proofs.Common.{ℕ, ◌≡◌, List, Option, Some, None, sym, subst, inl, inr}
 use Rattle.fints_rules_permissions.specs.Permits.{Granted}
+use Rattle.fints_rules_permissions.specs.declared.orders.OrderRow.{OrderRow}
 use Rattle.fints_rules.specs.declared.facts.MessageFacts.{MessageFacts}
 use Rattle.fints_rules.specs.declared.rule.Rule.{Rule}
 use Rattle.fints_script_cases.specs.declared.values.NamedValue.{NamedValue}
-use Rattle.fints_script.specs.Scripts.{ScriptValue}
+use Rattle.fints_script.specs.Numbered.{numbered}
+use Rattle.fints_script.specs.Plans.{IsClosed, IsClosedTemplate}
+use Rattle.fints_script.specs.Scripts.{ScriptValue, IsRead}
 use Rattle.fints_script.specs.Steps.{StepValue}
 use Rattle.fints_check_findings.specs.AtStep.{AreChosenAt, AtStepValue, IsAtStep}
 use Rattle.fints_check_findings.specs.Choosing.{BreaksWith, IsChoice}
 use Rattle.fints_check_findings.specs.declared.choosing.SetAccount.{SetAccount}
 use Rattle.fints_check_findings.specs.Elements.{wants_tan}
-use Rattle.fints_check_findings.specs.StepFacts.{Decides, message_for}
+use Rattle.fints_check_findings.specs.StepFacts.{AreMessageFacts, Decides, message_for}
 use Rattle.fints_check_findings.specs.declared.step_facts.StepFacts.{StepFacts}
+use Rattle.fints_script.proofs.LawLemmas.{closed_segments, sound_of, sound_step_of}
 use Rattle.fints_check_findings.proofs.Deciding.{message_is}
 use Rattle.fints_check_findings.proofs.LawLemmas.{templates_decide}
 
@@ -21,6 +25,18 @@ pub decided : (granted : Granted) (script : ScriptValue) (n : ℕ) (step : StepV
 decided granted script n step facts is r =
     templates_decide script granted step r (message_for facts (wants_tan r)) is.sound is.sound_step is.closed
     (message_is granted script step facts is.facts_are (wants_tan r))
+
+-- the same of the facts of a message, by the number of its step
+pub facts_decide : (script : ScriptValue) (granted : Granted) (table : List OrderRow) (n : ℕ) (step : StepValue)
+    → IsRead script → numbered script.steps n ≡ Some step → IsClosed script table → table ≡ granted.orders
+    → (r : Rule) (f : MessageFacts) → AreMessageFacts granted script step (wants_tan r) f
+    → Decides granted script step r f
+facts_decide script granted table n step read at closed same r f are =
+    templates_decide script granted step r f (sound_of read) (sound_step_of n step read at)
+    (λ i t there.
+    subst (λ (rows : List OrderRow). IsClosedTemplate script.fields rows t) same
+    (closed_segments script table closed n i step t at there))
+    are
 
 -- what is known of the values of a choice
 pub chosen_at : (s : AtStepValue) (r : Rule) (f : MessageFacts) → Decides s.granted s.script s.step r f

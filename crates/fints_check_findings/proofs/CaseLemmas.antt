@@ -1,7 +1,6 @@
 -- What the values and the answers of a case show.
 use Rattle.std.proofs.Common.{Bool, true, false, None, ℕ, ◌≡◌, ◌≤◌, ◌<◌, List, get_or, length, Option, Some, Result, Ok, Err, IfOk, refl, ap, sym, subst, ◌∙◌, arith, inl, inr}
-use Rattle.std.specs.List.{slice_get}
-use Rattle.std.proofs.lemmas.Option.{same_Some, slice_get-get_or}
+use Rattle.std.proofs.lemmas.Option.{slice_get-get_or}
 use Rattle.fints_rules.specs.Breaks.{Breaks}
 use Rattle.fints_rules_permissions.specs.Permits.{Granted}
 use Rattle.fints_rules.specs.declared.rule.Rule.{Rule}
@@ -27,7 +26,7 @@ use Rattle.fints_check_findings.specs.Figures.{AreFigures, AreGreatestFigures, F
 use Rattle.fints_check_findings.specs.Findings.{AreFindings, IsReal, Shows}
 use Rattle.fints_check_findings.specs.Laws.{release_of}
 use Rattle.fints_check_findings.specs.Reports.{LeadsFor, LeadsToGreatest, ReportValue}
-use Rattle.fints_check_findings.specs.Searching.{AreCaseValues, AreFiguresAt, BreaksAtGreatest, IsGreatestAt}
+use Rattle.fints_check_findings.specs.Searching.{AreCaseValues, AreFiguresAt, BreaksAtGreatest, IsFindingOf, IsGreatestAt}
 use Rattle.fints_check_findings.specs.declared.finding.Finding.{Finding}
 use Rattle.fints_check_findings.specs.declared.finding.Reached.{Reached}
 use Rattle.fints_check_findings.proofs.Checking.{greatest_at, real_within}
@@ -88,14 +87,18 @@ module _ (script : ScriptValue) (granted : Granted) (f : Finding) (sound : IsSou
 
 -- ---- findings by their place
 
-pub real_at : (granted : Granted) (script : ScriptValue) (findings : List Finding) (i : ℕ) (f : Finding)
-    → AreFindings granted script findings → i < length findings → f ≡ get_or findings i f
-    → IsReal granted script f
-real_at granted script findings i f are within is = (are.exactly f).0 (i, within, sym is)
-
-pub same_at : (findings : List Finding) (i : ℕ) (f g : Finding) → i < length findings
-    → f ≡ get_or findings i f → slice_get findings i ≡ Some g → f ≡ g
-same_at findings i f g within is at = is ∙ same_Some (get_or findings i f) g (sym (slice_get-get_or findings i f within) ∙ at)
+pub finding_of : (report : ReportValue) (i : ℕ) (f : Finding) → IsSound report.plan.script
+    → AreFindings report.granted report.plan.script report.findings → i < length report.findings
+    → f ≡ get_or report.findings i f → IsFindingOf report i f
+finding_of report i f sound are within is =
+    let real = (are.exactly f).0 (i, within, sym is) in
+    let inside = real_within report.granted report.plan.script sound f real in
+    record {
+      at = slice_get-get_or report.findings i f within ∙ ap (λ (x : Finding). Some x) (sym is);
+      real = real;
+      from = inside.0;
+      to = inside.1;
+    }
 
 -- ---- ways
 

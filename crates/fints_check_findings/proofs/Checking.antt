@@ -1,5 +1,5 @@
 -- What a check needs of the greatest numbers, and what a report without findings says.
-use Rattle.std.proofs.Common.{ℕ, zero, suc, ◌+◌, ◌-◌, ◌<◌, ◌≤◌, ◌≡◌, ◌⊎◌, List, [], ◌∷◌, ◌++◌, length, get_or, map, take, Bool, Option, Some, None, refl, ap, sym, subst, ◌∙◌, arith, inl, inr}
+use Rattle.std.proofs.Common.{ℕ, zero, suc, ◌+◌, ◌-◌, ◌<◌, ◌≤◌, ◌≡◌, List, [], ◌∷◌, ◌++◌, length, get_or, map, take, Bool, Option, Some, None, refl, ap, sym, subst, ◌∙◌, arith, inl, inr}
 use Rattle.std.specs.Prelude.{◌↔◌, Contains, is_some}
 use Rattle.std.specs.List.{AllByRecursion, slice_get}
 use Rattle.std.proofs.lemmas.List.{length-append, map-append, take_all, take_more}
@@ -10,6 +10,7 @@ use Rattle.fints_rules.specs.declared.rule.Rule.TheVariants.{Release}
 use Rattle.fints_rules_permissions.specs.Permits.{Granted}
 use Rattle.fints_script_cases.specs.declared.values.NamedValue.{NamedValue}
 use Rattle.fints_check_reach.specs.Numbers.{AreGreatest, Has, looked_at}
+use Rattle.fints_check_reach.proofs.Lookups.{slice_get_push_cases}
 use Rattle.fints_script.specs.Numbered.{numbered, numbered_of}
 use Rattle.fints_script.specs.Plans.{Admits}
 use Rattle.fints_script.specs.Scripts.{ScriptValue}
@@ -88,13 +89,6 @@ figures_none script figures e = subst (AreFiguresTo script 0) (sym e) (record { 
     none_there zero cell h = cc
     none_there (suc k) cell h = cc
 
-push_cases : {X : Type 0} (xs : List X) (y : X) (k : ℕ) (x : X) → slice_get (xs ++ y ∷ []) k ≡ Some x
-    → (slice_get xs k ≡ Some x) ⊎ ((k ≡ length xs) × (y ≡ x))
-push_cases [] y zero x h = inr (refl, same_Some y x h)
-push_cases [] y (suc k) x h = absurd cc
-push_cases (z ∷ xs) y zero x h = inl h
-push_cases (z ∷ xs) y (suc k) x h = elim (push_cases xs y k x h) [ inl old ↦ inl old | inr new ↦ inr (ap suc new.0, new.1) ]
-
 pub figures_more : (script : ScriptValue) (n : ℕ) (figures new : List (Option Reached))
     (cell : Option Reached) → new ≡ figures ++ cell ∷ [] → FiguresAre script (n + 1) cell
     → AreFiguresTo script n figures → AreFiguresTo script (n + 1) new
@@ -103,7 +97,7 @@ figures_more script n figures new cell e is a =
   where
     each : (k : ℕ) (c : Option Reached) → numbered (figures ++ cell ∷ []) k ≡ Some c → FiguresAre script k c
     each zero c h = absurd cc
-    each (suc k) c h = elim (push_cases figures cell k c h) [
+    each (suc k) c h = elim (slice_get_push_cases figures cell k c h) [
       | inl old ↦ a.each (suc k) c old
       | inr here ↦
           let same : n + 1 ≡ suc k = omega (arith, here.0, a.long) in
@@ -141,7 +135,7 @@ visits_told steps figures numbers i visits last same told =
 
 module _ (granted : Granted) (script : ScriptValue) where
   -- what a message breaks is real
-  real_of : (values : List NamedValue) (before : Before) (m : Sent) (r : Rule) (place : ℕ)
+  pub real_of : (values : List NamedValue) (before : Before) (m : Sent) (r : Rule) (place : ℕ)
       → Admits script.fields values → SendsAfter script values before m
       → BreaksBehind granted before m r place
       → IsReal granted script (record { step = m.step; rule = r; segment = place })

@@ -1,22 +1,17 @@
 -- Which values the case of a finding has, by its rule.
-use Rattle.std.proofs.Common.{ℕ, ◌≡◌, ◌⊎◌, ◌∙◌, Bool, true, false, List, Option, Some, refl, ap, sym, subst, inl, inr}
+use Rattle.std.proofs.Common.{◌≡◌, ◌⊎◌, ◌∙◌, Bool, false, List, Some, refl, ap, sym, subst, inl, inr}
 use Rattle.std.proofs.lemmas.Option.{same_Some}
-use Rattle.fints_rules.specs.Breaks.{BreaksByContent}
 use Rattle.fints_rules.specs.declared.rule.Rule.{Rule}
 use Rattle.fints_rules.specs.declared.rule.Rule.TheVariants.{Account, Procedure, Signatures, Size}
 use Rattle.fints_rules_permissions.specs.Permits.{Granted}
 use Rattle.fints_script.specs.Numbered.{numbered}
-use Rattle.fints_script.specs.Plans.{Admits}
 use Rattle.fints_script.specs.Scripts.{ScriptValue}
 use Rattle.fints_script.specs.Steps.{StepValue}
 use Rattle.fints_script_cases.specs.declared.values.NamedValue.{NamedValue}
 use Rattle.fints_wire.specs.Choices.{longest_choice, shortest_choice}
-use Rattle.fints_wire.specs.Views.{message_view}
-use Rattle.fints_check_findings.specs.AtStep.{AreChosenAt, AtStepValue}
-use Rattle.fints_check_findings.specs.Cases.{AreChosenFor, AreShortestFor, AsksNoField, HaveFirstAccount}
-use Rattle.fints_check_findings.specs.Choosing.{IsChoice, extreme_choice}
+use Rattle.fints_check_findings.specs.Cases.{AreChosenFor, AsksNoField, HaveFirstAccount}
+use Rattle.fints_check_findings.specs.Choosing.{extreme_choice}
 use Rattle.fints_check_findings.specs.Elements.{wants_tan}
-use Rattle.fints_check_findings.specs.declared.choosing.SetAccount.{SetAccount}
 use Rattle.fints_check_findings.specs.declared.finding.Finding.{Finding}
 
 not_asked : (r : Rule) → r ≡ Procedure → (r ≡ Signatures) ⊎ (r ≡ Account) → ⊥
@@ -26,18 +21,6 @@ not_asked r is (inr e) = let clash : Procedure ≡ Account = sym is ∙ e in cc
 wants_none : (r : Rule) → (r ≡ Procedure → ⊥) → wants_tan r ≡ false
 wants_none Procedure h = absurd (h refl)
 wants_none _ h = refl
-
--- of the number of a step nothing is said
-pub at_step_number : (s : AtStepValue) (n : ℕ) (r : Rule) (place : ℕ) (choice : Option SetAccount)
-    → ((other values : List NamedValue) (lower : ℕ) → Admits s.script.fields other
-    → BreaksByContent s.granted (message_view s.script s.step lower other) r place
-    → IsChoice (wants_tan r) s.script.fields choice values → AreChosenAt s r place values)
-    → (other values : List NamedValue) (lower : ℕ) → Admits s.script.fields other
-    → BreaksByContent s.granted (message_view s.script s.step lower other) r place
-    → IsChoice (wants_tan r) s.script.fields choice values
-    → AreChosenAt (record { granted = s.granted; script = s.script; n = n; step = s.step }) r place values
-at_step_number s n r place choice h other values lower admits breaks is =
-    let x = h other values lower admits breaks is in record { admitted = x.admitted; breaks = x.breaks; chosen = x.chosen }
 
 module _ (granted : Granted) (script : ScriptValue) (f : Finding) (values : List NamedValue) where
   pub size_chosen : f.rule ≡ Size → values ≡ longest_choice script.fields

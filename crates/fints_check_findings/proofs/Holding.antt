@@ -1,10 +1,10 @@
 -- The pass that notes beside each step a step of which it leaves an order unreleased.
-use Rattle.std.proofs.Common.{ℕ, zero, suc, ◌+◌, ◌-◌, ◌<◌, ◌≤◌, ◌≡◌, ◌⊎◌, Bool, true, false, Option, Some, None, List, [], ◌∷◌, ◌++◌, cond, length, get_or, refl, ap, sym, subst, ◌∙◌, arith, inl, inr}
+use Rattle.std.proofs.Common.{ℕ, zero, suc, ◌+◌, ◌-◌, ◌≤◌, ◌≡◌, Bool, true, false, Option, Some, None, List, [], ◌∷◌, ◌++◌, cond, length, refl, ap, sym, subst, ◌∙◌, arith, inl, inr}
 use Rattle.std.specs.Prelude.{◌↔◌, IsTrue, is_some}
 use Rattle.std.proofs.lemmas.Bool.{cases_lt}
 use Rattle.std.proofs.lemmas.List.{length_push}
 use Rattle.std.proofs.lemmas.List.Elements.{All-head, All-tail}
-use Rattle.std.proofs.lemmas.Option.{same_Some, slice_get-get_or}
+use Rattle.std.proofs.lemmas.Option.{same_Some}
 use Rattle.std.specs.List.{All, slice_get}
 use Rattle.std.specs.Option.{option_map_or}
 use Rattle.fints_script_cases.specs.Answers.{target_of}
@@ -13,6 +13,7 @@ use Rattle.fints_script_cases.specs.declared.answers.Target.{Target}
 use Rattle.fints_script_cases.specs.declared.answers.Target.TheVariants as targets
 use Rattle.fints_check_reach.specs.Following.{AreBehind, GoesTo}
 use Rattle.fints_check_reach.specs.Numbers.{AreGreatest, Has}
+use Rattle.fints_check_reach.proofs.Lookups.{numbered_push_cases, numbered_push_here, numbered_push_old}
 use Rattle.fints_rules_permissions.specs.Permits.{Granted}
 use Rattle.fints_script.specs.Numbered.{numbered, numbered_within}
 use Rattle.fints_script.specs.Scripts.{ScriptValue}
@@ -25,54 +26,9 @@ use Rattle.fints_check_findings.specs.Laws.{release_of}
 use Rattle.fints_rules.specs.declared.release.TheConstants.{RELEASE}
 use Rattle.fints_check_findings.specs.Releases.{AreHolders, AreSubmittingTo, IsHeld, IsUnreleased, IsUnreleasedAt, releases, submits}
 
--- ---- lists that grow
-
-push_here : {X : Type 0} (xs : List X) (y : X) (k : ℕ) → k ≡ length xs → slice_get (xs ++ y ∷ []) k ≡ Some y
-push_here [] y zero h = refl
-push_here [] y (suc k) h = absurd (omega (arith, h))
-push_here (x ∷ xs) y zero h = absurd (omega (arith, h))
-push_here (x ∷ xs) y (suc k) h = push_here xs y k (omega (arith, h))
-
-push_old : {X : Type 0} (xs : List X) (y : X) (k : ℕ) (x : X) → slice_get xs k ≡ Some x
-    → slice_get (xs ++ y ∷ []) k ≡ Some x
-push_old [] y k x h = absurd cc
-push_old (z ∷ xs) y zero x h = h
-push_old (z ∷ xs) y (suc k) x h = push_old xs y k x h
-
-push_cases : {X : Type 0} (xs : List X) (y : X) (k : ℕ) (x : X) → slice_get (xs ++ y ∷ []) k ≡ Some x
-    → (slice_get xs k ≡ Some x) ⊎ ((k ≡ length xs) × (y ≡ x))
-push_cases [] y zero x h = inr (refl, same_Some y x h)
-push_cases [] y (suc k) x h = absurd cc
-push_cases (z ∷ xs) y zero x h = inl h
-push_cases (z ∷ xs) y (suc k) x h = elim (push_cases xs y k x h) [ inl old ↦ inl old | inr new ↦ inr (ap suc new.0, new.1) ]
-
-numbered_here : {X : Type 0} (xs : List X) (y : X) (n : ℕ) → n ≡ length xs + 1
-    → numbered (xs ++ y ∷ []) n ≡ Some y
-numbered_here xs y zero h = absurd (omega (arith, h))
-numbered_here xs y (suc k) h = push_here xs y k (omega (arith, h))
-
-numbered_old : {X : Type 0} (xs : List X) (y : X) (n : ℕ) (x : X) → numbered xs n ≡ Some x
-    → numbered (xs ++ y ∷ []) n ≡ Some x
-numbered_old xs y zero x h = h
-numbered_old xs y (suc k) x h = push_old xs y k x h
-
-numbered_cases : {X : Type 0} (xs : List X) (y : X) (n : ℕ) (x : X) → numbered (xs ++ y ∷ []) n ≡ Some x
-    → (numbered xs n ≡ Some x) ⊎ ((n ≡ length xs + 1) × (y ≡ x))
-numbered_cases xs y zero x h = absurd cc
-numbered_cases xs y (suc k) x h = elim (push_cases xs y k x h) [ inl old ↦ inl old | inr new ↦ inr (omega (arith, new.0), new.1) ]
-
 none_in_nil : (n e : ℕ) → Has [] n e → ⊥
 none_in_nil zero e h = cc
 none_in_nil (suc k) e h = cc
-
--- what an index reads
-pub read_at : (xs : List (Option ℕ)) (n : ℕ) (x : Option ℕ) → 1 ≤ n → n ≤ length xs → x ≡ get_or xs (n - 1) x
-    → numbered xs n ≡ Some x
-read_at xs zero x low high h = absurd (omega arith)
-read_at xs (suc k) x low high h =
-    let same : suc k - 1 ≡ k = omega arith in
-    let less : k < length xs = omega arith in
-    slice_get-get_or xs k x less ∙ ap (λ (y : Option ℕ). Some y) (sym (subst (λ (j : ℕ). x ≡ get_or xs j x) same h))
 
 -- ---- marks
 
@@ -85,11 +41,12 @@ pub marks_more : (steps : List StepValue) (i : ℕ) (marks : List Bool) (step : 
 marks_more steps i marks step mark at is m = record {
   long = length_push marks mark ∙ ap (λ (n : ℕ). n + 1) m.long;
   each = λ t other low there. elim (cases_lt i t) [
-    | inr old ↦ numbered_old marks mark t (submits other) (m.each t other old there)
+    | inr old ↦ numbered_push_old marks mark t (submits other) (m.each t other old there)
     | inl last ↦
         let same : t ≡ i + 1 = omega (arith, last, low) in
         let is_step : step ≡ other = same_Some step other (sym at ∙ subst (λ (n : ℕ). numbered steps n ≡ Some other) same there) in
-        numbered_here marks mark t (omega (arith, same, m.long)) ∙ ap (λ (b : Bool). Some b) (is ∙ ap submits is_step)
+        numbered_push_here marks mark t (omega (arith, same, m.long)) ∙ ap (λ (b : Bool). Some b)
+        (is ∙ ap submits is_step)
   ];
 }
 
@@ -126,7 +83,7 @@ pub from_more : (steps : List StepValue) (behind : List (Option ℕ)) (i : ℕ) 
     → HoldersFrom steps behind i holders → HoldersFrom steps behind (i + 1) (holders ++ cell ∷ [])
 from_more steps behind i kept cell to holders at here is h = record {
   long = length_push holders cell ∙ ap (λ (n : ℕ). n + 1) h.long;
-  each = λ s t has. elim (numbered_cases holders cell s (Some t) has) [
+  each = λ s t has. elim (numbered_push_cases holders cell s (Some t) has) [
     | inl old ↦ h.each s t old
     | inr new ↦
         let same : i + 1 ≡ s = omega (arith, new.0, h.long) in
@@ -134,12 +91,12 @@ from_more steps behind i kept cell to holders at here is h = record {
         (subst (λ (n : ℕ). Has behind n t) same (here ∙ ap (λ (x : Option ℕ). Some x) c.1), (to, subst (λ (n : ℕ). numbered steps n ≡ Some to) same at, c.0))
   ];
   all = λ s u x low has there free. elim (cases_lt i s) [
-    | inr old ↦ numbered_old holders cell s (Some u) (h.all s u x old has there free)
+    | inr old ↦ numbered_push_old holders cell s (Some u) (h.all s u x old has there free)
     | inl last ↦
         let same : s ≡ i + 1 = omega (arith, last, low) in
         let is_to : x ≡ to = same_Some x to (sym (subst (λ (n : ℕ). numbered steps n ≡ Some x) same there) ∙ at) in
         let some : kept ≡ Some u = same_Some kept (Some u) (sym here ∙ subst (λ (n : ℕ). Has behind n u) same has) in
-        numbered_here holders cell s (omega (arith, same, h.long))
+        numbered_push_here holders cell s (omega (arith, same, h.long))
         ∙ ap (λ (y : Option ℕ). Some y)
         (taken (releases to) kept cell u is (subst (λ (y : StepValue). releases y ≡ false) is_to free)
         some)

@@ -1,5 +1,5 @@
 -- What a search for findings tells on its way, and how far it has come. Private contracts alone cite these words.
-use Rattle.std.specs.Prelude.{ℕ, ◌≡◌, ◌≤◌, ◌<◌, ◌⊎◌, ◌↔◌, List, length, AllPairs, Contains, Some}
+use Rattle.std.specs.Prelude.{ℕ, ◌≡◌, ◌≤◌, ◌<◌, ◌⊎◌, ◌↔◌, List, length, AllPairs, Contains, Some, slice_get}
 use Rattle.fints_script_cases.specs.declared.values.NamedValue.{NamedValue}
 use Rattle.fints_rules.specs.Breaks.{Breaks}
 use Rattle.fints_rules.specs.Rules.{rule_number}
@@ -17,6 +17,7 @@ use Rattle.fints_wire.specs.declared.dialogue.Visit.{Visit}
 use Rattle.fints_wire.specs.Views.{message_view}
 use Rattle.fints_check_findings.specs.Cases.{AreChosenFor}
 use Rattle.fints_check_findings.specs.Findings.{IsBefore, IsReal}
+use Rattle.fints_check_findings.specs.Reports.{ReportValue}
 use Rattle.fints_check_findings.specs.declared.finding.Finding.{Finding}
 use Rattle.fints_wire.specs.declared.building.TheConstants.{MAX_NUMBER}
 use Rattle.fints_check_findings.specs.declared.finding.Reached.{Reached}
@@ -64,3 +65,10 @@ pub record AreCaseValues (granted : Granted) (script : ScriptValue) (f : Finding
   pub admitted : f.rule ≡ Release → Admits script.fields values
   pub greatest : (f.rule ≡ Release → ⊥) → BreaksAtGreatest granted script f values
   pub chosen : AreChosenAtGreatest granted script f values
+
+-- the finding stands at this place of a report, counted from 0; it is real, and its step is one of the plan's
+pub record IsFindingOf (report : ReportValue) (i : ℕ) (f : Finding) : Type 0 where
+  pub at : slice_get report.findings i ≡ Some f
+  pub real : IsReal report.granted report.plan.script f
+  pub from : 1 ≤ f.step
+  pub to : f.step ≤ length report.plan.script.steps

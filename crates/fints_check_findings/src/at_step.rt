@@ -7,12 +7,8 @@ ghost use Rattle.fints_script.specs.Numbered.{numbered};
 ghost use Rattle.fints_script.specs.Plans.{Admits};
 ghost use Rattle.fints_script.specs.Sound.{IsSound, IsSoundStep};
 ghost use Rattle.fints_wire.specs.Views.{message_view};
-ghost use Rattle.fints_check_findings.specs.AtStep.{AreChosenAt};
 ghost use Rattle.fints_check_findings.specs.Breakable.{CanBreak, IsCleanStep, NeverBreaks};
-ghost use Rattle.fints_check_findings.specs.Choosing.{IsChoice};
-ghost use Rattle.fints_check_findings.specs.Elements.{wants_tan};
 
-use crate::choosing::{SetAccount, step_choice};
 use crate::step_facts::{StepFacts, step_facts};
 use crate::templates::step_breaks;
 use fints_rules::{Permissions, Rule};
@@ -142,23 +138,5 @@ impl<'a> AtStep<'a> {
             }
         }
         true
-    }
-
-    /// With which account set, if with any, the least values (for P12 the worst) break the rule at the
-    /// place, where some values do: the first that does.
-    pub(crate) fn choice(&self, rule: Rule, place: usize) -> Option<SetAccount>
-        ensures { (other values : List NamedValue) (lower : ℕ) → Admits self.now.script.fields other
-            → BreaksByContent self.now.granted (message_view self.now.script self.now.step lower other) rule place
-            → IsChoice (wants_tan rule) self.now.script.fields result values
-            → AreChosenAt self.now rule place values }
-    {
-        step_choice(
-            self.permissions,
-            self.plan.fields(),
-            self.step,
-            &self.facts,
-            rule,
-            place,
-        )
     }
 }

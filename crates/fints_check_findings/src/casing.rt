@@ -3,10 +3,9 @@
 ghost use Rattle.std.specs.Prelude.{◌≡◌, ◌≤◌, IfOk, length};
 ghost use Rattle.fints_check_findings.specs.Searching.{AreCaseValues};
 
-use crate::at_step::AtStep;
-use crate::choosing::{CaseValues, chosen_sort, values_of};
+use crate::choosing::{CaseValues, chosen_sort, step_choice, values_of};
 use crate::finding::Finding;
-use crate::step_facts::wants_tan;
+use crate::step_facts::{facts_asked, wants_tan};
 use fints_rules::{Permissions, Rule};
 use fints_script::{Plan, Values};
 use fints_syntax::Memory;
@@ -31,8 +30,16 @@ pub fn case_values(
         Rule::Number => values_of(alloc, plan, CaseValues::Least),
         Rule::Release => values_of(alloc, plan, CaseValues::Least),
         _ => {
-            let step = AtStep::new(permissions, plan, finding.step as usize);
-            let choice = step.choice(finding.rule, finding.segment as usize);
+            let step = plan.step(finding.step as usize);
+            let facts = facts_asked(permissions, plan, step, finding.rule);
+            let choice = step_choice(
+                permissions,
+                plan.fields(),
+                step,
+                &facts,
+                finding.rule,
+                finding.segment as usize,
+            );
             values_of(alloc, plan, chosen_sort(wants_tan(finding.rule), choice))
         }
     }

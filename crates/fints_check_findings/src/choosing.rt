@@ -5,12 +5,10 @@ ghost use Rattle.std.specs.List.{slice_get};
 ghost use Rattle.fints_script_templates.specs.declared.template.TemplateItem.TheVariants as template_item;
 ghost use Rattle.fints_wire.specs.Choices.{value_of};
 ghost use Rattle.fints_check_findings.specs.Choosing.{AreOfSort, IsBreakingPlace, IsChoiceWith, chosen_sort, value_with};
-ghost use Rattle.fints_check_findings.specs.Elements.{wants_tan};
-ghost use Rattle.fints_check_findings.specs.Kinds.{AreCounts};
-ghost use Rattle.fints_check_findings.specs.StepFacts.{IsStepChoice, IsTemplateChoice, message_for};
+ghost use Rattle.fints_check_findings.specs.StepFacts.{IsStepChoice, IsTemplateChoice};
 
 use crate::elements::element_two;
-use crate::step_facts::StepFacts;
+use crate::kinds::count_kind;
 use crate::templates::{account_breaks, accounts_asked, template_at};
 use fints_rules::{MessageFacts, Permissions, Rule};
 use fints_script::{AccountValue, NamedField, Plan, Step, Template, TemplateItem, Values};
@@ -105,35 +103,28 @@ fn template_choice(
     }
 }
 
-/// With which account set, if with any, the step's facts break the rule at the place, where they
-/// break it at all: the first that is listed.
+/// With which account set, if with any, the facts of the step's message break the rule at the place,
+/// where they break it at all: the first that is listed. Of the segments it looks at the one there.
 pub fn step_choice(
     permissions: &Permissions<'_>,
     fields: &[NamedField],
     step: &Step,
-    facts: &StepFacts,
+    facts: &MessageFacts,
     rule: Rule,
     place: usize,
 ) -> Option<SetAccount>
-    requires { AreCounts step.now.templates facts.now.counts }
-    ensures { IsStepChoice permissions.now fields.now step.now (message_for facts.now (wants_tan rule)) rule
-        place result }
+    ensures { IsStepChoice permissions.now fields.now step.now facts.now rule place result }
 {
     let first = 2 + step.signers().len();
     if place < first {
         return None;
     }
-    let i = place - first;
-    match template_at(step, i) {
+    match template_at(step, place - first) {
         None => None,
-        Some(template) => template_choice(
-            permissions,
-            fields,
-            facts.message(rule),
-            rule,
-            template,
-            facts.count(i),
-        ),
+        Some(template) => {
+            let count = count_kind(step.templates(), template.kind);
+            template_choice(permissions, fields, facts, rule, template, count)
+        }
     }
 }
 

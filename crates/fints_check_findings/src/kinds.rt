@@ -43,7 +43,8 @@ pub fn count_kinds(templates: &[Template]) -> usize
     kinds
 }
 
-fn count_kind(templates: &[Template], kind: Kind) -> usize
+/// How many have the kind.
+pub fn count_kind(templates: &[Template], kind: Kind) -> usize
     ensures { result ≡ template_count kind templates.now }
 {
     let mut count = 0;

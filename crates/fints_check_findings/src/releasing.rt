@@ -1,6 +1,6 @@
 //! The release rule: which steps leave an order unreleased, and of which step.
 ghost use Rattle.std.specs.Prelude.{◌≡◌, ◌↔◌, ◌<◌, ◌≤◌, ◌+◌, ℕ, length, Some, None, cond, IfOk, IsTrue, MatchOption};
-ghost use Rattle.fints_check_reach.specs.Following.{AreBehind, GoesTo};
+ghost use Rattle.fints_check_reach.specs.Following.{AreBehind};
 ghost use Rattle.fints_check_reach.specs.Numbers.{Has};
 ghost use Rattle.fints_script.specs.Numbered.{numbered};
 ghost use Rattle.fints_rules.specs.declared.release.TheConstants.{RELEASE};
@@ -8,10 +8,10 @@ ghost use Rattle.fints_check_findings.specs.Releases.{AreHolders, AreSubmittingT
 
 use crate::kinds::some_ends;
 use crate::tans::some_has_process;
-use fints_check_reach::Numbers;
+use fints_check_reach::{Numbers, next_step};
 use fints_params::Code;
 use fints_rules::RELEASE;
-use fints_script::{Plan, Step, Target};
+use fints_script::{Plan, Step};
 use fints_syntax::Memory;
 use std::alloc::Global;
 
@@ -34,17 +34,6 @@ fn releases(step: &Step) -> bool
     ensures { result ≡ releases step.now }
 {
     some_has_process(step.templates(), b"2") || some_ends(step.templates())
-}
-
-// The step whose message a target of step t has sent next.
-fn next_step(step: &Step, t: usize, target: Target) -> Option<usize>
-    ensures { MatchOption result ((s : ℕ) → GoesTo step.now t target s → ⊥) (GoesTo step.now t target) }
-{
-    match target {
-        Target::Step(to) => Some(to as usize),
-        Target::Again => { if step.repeat() >= 2 { Some(t) } else { None } }
-        Target::Stop => None,
-    }
 }
 
 // The step that a branch of step t leads to behind 0030, where it releases nothing. What costs most

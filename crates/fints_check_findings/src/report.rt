@@ -7,7 +7,7 @@ ghost use Rattle.fints_check_findings.specs.Figures.{AreFigures, FiguresAre};
 ghost use Rattle.fints_check_findings.specs.Findings.{AreFindings, EachIsPermitted, IsBefore, IsReal, SentStepsAreClean, SentStepsAreReleased};
 ghost use Rattle.fints_check_findings.specs.Releases.{LeadsUnreleased};
 ghost use Rattle.fints_check_findings.specs.Reports.{AreChosenOf, AreValuesOf, IsWayOf, ShowsFindingAt};
-ghost use Rattle.fints_check_findings.specs.Searching.{AreFiguresAt, IsGreatestAt};
+ghost use Rattle.fints_check_findings.specs.Searching.{AreFiguresAt, IsFindingOf, IsGreatestAt};
 ghost use Rattle.fints_check_findings.specs.declared.finding.Finding.{Finding as FindingValue};
 ghost use Rattle.fints_wire.specs.declared.building.TheConstants.{MAX_NUMBER};
 ghost use Rattle.fints_rules.specs.declared.rule.Rule.TheVariants.{Release};
@@ -125,6 +125,15 @@ impl<'a> Report<'a> {
         self.numbers.visits
     }
 
+    // A finding, counted from 0.
+    fn finding(&self, i: usize) -> Finding
+        requires { i < length self.now.findings }
+        ensures { IsFindingOf self.now i result }
+    {
+        self.plan.keeps();
+        self.findings[i]
+    }
+
     // Answers after which a run ends with a message of the finding's step that leaves an order
     // unreleased.
     fn unreleased_way(&self, alloc: Global, finding: Finding) -> Result<Vec<Answer>, Memory>
@@ -146,7 +155,7 @@ impl<'a> Report<'a> {
         ensures { IfOk result (λ answers. IsWayOf self.now i answers.items) }
     {
         self.plan.keeps();
-        let finding = self.findings[i];
+        let finding = self.finding(i);
         match finding.rule {
             Rule::Release => self.unreleased_way(alloc, finding),
             _ => longest_way(alloc, self.plan, &self.numbers, finding.step as usize),
@@ -162,7 +171,7 @@ impl<'a> Report<'a> {
         ensures chosen { IfOk result (λ values. AreChosenOf self.now i values) }
     {
         self.plan.keeps();
-        let finding = self.findings[i];
+        let finding = self.finding(i);
         case_values(alloc, self.permissions, self.plan, finding)
     }
 

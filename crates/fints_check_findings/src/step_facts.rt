@@ -81,7 +81,24 @@ fn with_most_tans(
     most
 }
 
-/// The facts of a step. It takes no memory.
+/// The facts of a step's message of which the rule is asked. It takes no memory.
+pub fn facts_asked(
+    permissions: &Permissions<'_>,
+    plan: &Plan<'_>,
+    step: &Step,
+    rule: Rule,
+) -> MessageFacts
+    ensures { AreMessageFacts permissions.now plan.now.script step.now (wants_tan rule) result }
+{
+    let least = message_facts(permissions, plan, step);
+    if wants_tan(rule) {
+        with_most_tans(permissions, plan, step, least)
+    } else {
+        least
+    }
+}
+
+/// The facts of a step, also those of each of its segments. It takes no memory.
 pub fn step_facts(permissions: &Permissions<'_>, plan: &Plan<'_>, step: &Step) -> StepFacts
     requires few { length step.now.templates ≤ MAX_SEGMENTS }
     ensures { AreStepFacts permissions.now plan.now.script step.now result }

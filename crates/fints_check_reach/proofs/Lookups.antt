@@ -17,7 +17,7 @@ slice_get_push_old [] y k x h = absurd cc
 slice_get_push_old (z ∷ xs) y zero x h = h
 slice_get_push_old (z ∷ xs) y (suc k) x h = slice_get_push_old xs y k x h
 
-slice_get_push_cases : {X : Type 0} (xs : List X) (y : X) (k : ℕ) (x : X)
+pub slice_get_push_cases : {X : Type 0} (xs : List X) (y : X) (k : ℕ) (x : X)
     → slice_get (xs ++ y ∷ []) k ≡ Some x → (slice_get xs k ≡ Some x) ⊎ ((k ≡ length xs) × (y ≡ x))
 slice_get_push_cases [] y zero x h = inr (refl, same_Some y x h)
 slice_get_push_cases [] y (suc k) x h = absurd cc

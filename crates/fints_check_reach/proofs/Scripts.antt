@@ -1,9 +1,6 @@
 -- What the pass needs of a script, and where answers lead in one.
-use Rattle.std.proofs.Common.{ℕ, ◌+◌, ◌-◌, ◌<◌, ◌≤◌, ◌≡◌, Bool, true, false, cond, Option, Some, List, [], ◌∷◌, length, ap, sym, subst, ◌∙◌, arith}
+use Rattle.std.proofs.Common.{ℕ, ◌+◌, ◌-◌, ◌<◌, ◌≤◌, ◌≡◌, Some, List, length, ap, sym, subst, ◌∙◌, arith}
 use Rattle.std.specs.Prelude.{◌↔◌}
-use Rattle.std.specs.List.{All, find}
-use Rattle.std.specs.Option.{option_map_or}
-use Rattle.std.proofs.lemmas.List.Elements.{All-head, All-tail}
 use Rattle.fints_script_cases.specs.Answers.{CanLead, IsOpen, IsOpenTo, matches_some, target_of}
 use Rattle.fints_script.specs.Scripts.{ScriptValue}
 use Rattle.fints_script.specs.Numbered.{numbered, numbered_holds}
@@ -11,6 +8,7 @@ use Rattle.fints_script.specs.Sound.{IsOnward, IsSound, IsSoundStep, LeadsOnward
 use Rattle.fints_script.specs.Steps.{StepValue}
 use Rattle.fints_script_cases.specs.declared.answers.Branch.{Branch}
 use Rattle.fints_script_cases.specs.declared.answers.Target.{Target}
+use Rattle.fints_wire.proofs.Onward.{found_target}
 use Rattle.fints_check_reach.specs.Leading.{Leads}
 use Rattle.fints_script_rows.specs.declared.limits.TheConstants.{MAX_STEPS}
 use Rattle.fints_check_reach.specs.Passes.{IsOpenAt, target_at}
@@ -33,21 +31,6 @@ script_of script sound = record {
       let s = numbered_holds (IsSoundStep script) script.steps n step sound.steps at in
       record { onward = sound.onward n step at; once = omega (arith, s.once); often = omega (arith, s.often) };
 }
-
-one_target : (P : Target → Type 0) (b : Bool) (x : Branch) (found : Option Branch) (otherwise : Target)
-    → P x.to → P (option_map_or (λ (branch : Branch). branch.to) found otherwise)
-    → P (option_map_or (λ (branch : Branch). branch.to) (cond b (Some x) found) otherwise)
-one_target P true x found otherwise here later = here
-one_target P false x found otherwise here later = later
-
--- where the found branch leads, or the default
-found_target : (P : Target → Type 0) (p : Branch → Bool) (branches : List Branch) (otherwise : Target)
-    → All (λ (branch : Branch). P branch.to) branches → P otherwise
-    → P (option_map_or (λ (branch : Branch). branch.to) (find p branches) otherwise)
-found_target P p [] otherwise each o = o
-found_target P p (x ∷ xs) otherwise each o =
-    one_target P (p x) x (find p xs) otherwise (All-head (λ (branch : Branch). P branch.to) x xs each)
-    (found_target P p xs otherwise (All-tail (λ (branch : Branch). P branch.to) x xs each) o)
 
 pub lead_forward : (steps : List StepValue) (n : ℕ) (step : StepValue) (t : Target) → IsScript steps
     → numbered steps n ≡ Some step → Leads step t → IsOnward (length steps) n t

@@ -16,33 +16,20 @@ use fints_script::{Answer, Plan, Step, Target};
 use fints_syntax::Memory;
 use std::alloc::Global;
 
-// Whether a target has step s sent next behind a message of step t.
-fn goes_to(step: &Step, t: usize, target: Target, s: usize) -> bool
-    ensures { IsTrue result ↔ GoesTo step.now t target s }
+/// The step that a target has sent next behind a message of step t.
+pub fn next_step(step: &Step, t: usize, target: Target) -> Option<usize>
+    ensures { (s : ℕ) → GoesTo step.now t target s ↔ (result ≡ Some s) }
 {
     match target {
-        Target::Step(to) => to as usize == s,
-        Target::Again => s == t && step.repeat() >= 2,
-        Target::Stop => false,
-    }
-}
-
-// The step that a target has sent next behind a message of step n.
-fn next_of(step: &Step, n: u16, target: Target) -> Option<u16>
-    ensures { MatchOption result
-        ((s : ℕ) → GoesTo step.now n target s → ⊥)
-        (λ s. GoesTo step.now n target s) }
-{
-    match target {
-        Target::Step(to) => Some(to),
-        Target::Again => { if step.repeat() >= 2 { Some(n) } else { None } }
+        Target::Step(to) => Some(to as usize),
+        Target::Again => { if step.repeat() >= 2 { Some(t) } else { None } }
         Target::Stop => None,
     }
 }
 
 /// The step that a branch of step n goes to, if the branch, which some answer fires, carries the code.
 /// Branches count from 1.
-pub fn carried_step(step: &Step, n: u16, branch: usize, code: Code) -> Option<u16>
+pub fn carried_step(step: &Step, n: usize, branch: usize, code: Code) -> Option<usize>
     requires from { 1 ≤ branch }
     requires to { branch ≤ length step.now.branches + 1 }
     requires fired { IsOpen step.now.branches branch }
@@ -50,7 +37,7 @@ pub fn carried_step(step: &Step, n: u16, branch: usize, code: Code) -> Option<u1
         ((s : ℕ) → IsCarriedTo step.now n branch code s → ⊥)
         (λ s. IsCarriedTo step.now n branch code s) }
 {
-    match next_of(step, n, step.target(branch)) {
+    match next_step(step, n, step.target(branch)) {
         Some(s) => {
             if step.passes(branch, code) {
                 Some(s)
@@ -71,7 +58,7 @@ fn branch_to(step: &Step, t: usize, code: Code, s: usize) -> Option<usize>
         (λ branch. IsCarriedTo step.now t branch code s) }
 {
     for branch in 1..step.branches().len() + 2 {
-        if goes_to(step, t, step.target(branch), s) && step.carries(branch, code) {
+        if next_step(step, t, step.target(branch)) == Some(s) && step.carries(branch, code) {
             return Some(branch);
         }
     }

@@ -153,9 +153,9 @@ fn look_at_branch(
         return false;
     }
     if asked.has(n as usize) {
-        match carried_step(step, n, branch, asked.code) {
+        match carried_step(step, n as usize, branch, asked.code) {
             None => {}
-            Some(s) => keep(behind, s as usize, n),
+            Some(s) => keep(behind, s, n),
         }
     }
     true

@@ -1,7 +1,7 @@
 -- The line of a fault.
 use Rattle.std.proofs.Common.{◌≤◌, arith, ◌≡◌, ℕ, List, [], Option, refl, inl, inr}
 use Rattle.std.specs.Prelude.{codes, ◌⊎◌}
-use Rattle.fints_cli_texts.specs.declared.fault.Fault.TheVariants.{Memory, NoMessage}
+use Rattle.fints_cli_texts.specs.declared.fault.Fault.TheVariants.{Memory, NoFinding, NoMessage}
 use Rattle.fints_cli_commands.specs.Commands.{failure_status}
 use Rattle.fints_cli_commands.specs.declared.failing.Failure.{Failure}
 use Rattle.fints_cli_commands.specs.declared.failing.Failure.TheVariants.{Input, Unread}
@@ -23,5 +23,6 @@ module _ (old new : Option (List ℕ)) (lost lost_after : ℕ) where
 pub failure_above : (f : Failure) → 2 ≤ failure_status f
 failure_above (Input Memory) = omega arith
 failure_above (Input (NoMessage number)) = omega arith
+failure_above (Input (NoFinding number)) = omega arith
 failure_above (Input _) = omega arith
 failure_above (Unread option) = omega arith

@@ -1,3 +1,4 @@
 pub mod CutAnswers
 pub mod Faults
 pub mod Writes
+pub mod Refusals

@@ -1,7 +1,7 @@
 -- What the commands answer, and why they have no answer.
-use Rattle.std.specs.Prelude.{◌≡◌, ℕ, Bool, false, List, Option, None, IfSome}
+use Rattle.std.specs.Prelude.{◌≡◌, ℕ, Bool, false, List, Option, None, Some, IfSome}
 use Rattle.fints_cli_texts.specs.declared.fault.Fault.{Fault}
-use Rattle.fints_cli_texts.specs.declared.fault.Fault.TheVariants.{Memory, NoMessage}
+use Rattle.fints_cli_texts.specs.declared.fault.Fault.TheVariants.{Memory, NoFinding, NoMessage}
 use Rattle.fints_cli_commands.specs.declared.failing.Failure.{Failure}
 use Rattle.fints_cli_commands.specs.declared.failing.Failure.TheVariants.{Input, Unread}
 use Rattle.fints_cli_commands.specs.declared.failing.Refusal.{Refusal}
@@ -17,16 +17,18 @@ use Rattle.fints_cli_texts.specs.Show.{IsShowOf, IsMemoryOrShowFault}
 use Rattle.fints_cli_texts.specs.ShowMessage.{IsShownMessage}
 use Rattle.fints_cli_texts.specs.Judge.{IsVerdictOf, IsMessageRefusal, IsJudgeRefusal}
 use Rattle.fints_cli_texts.specs.JudgeAfter.{IsJudgeAfterRefusal, IsVerdictAfter}
-use Rattle.fints_cli_reports.specs.Told.{IsRefused, IsToldOf}
-use Rattle.fints_cli_reports.specs.declared.telling.Wanted.TheVariants.{Report, Cases, Certificate}
+use Rattle.fints_cli_reports.specs.Told.{IsToldOf, IsTellRefusal}
+use Rattle.fints_cli_reports.specs.declared.telling.Wanted.{Wanted}
+use Rattle.fints_cli_reports.specs.declared.telling.Wanted.TheVariants.{Report, Cases, OneCase, Certificate}
 use Rattle.fints_cli_reports.specs.RunText.{IsRunOf, IsRunRefusal}
 use Rattle.fints_cli_reports.specs.Verified.{IsUnverified, IsVerifiedOf}
 
--- 2 for a message that a run doesn't reach, 3 for a refused input,
+-- 2 for a message that a run doesn't reach or a finding that isn't there, 3 for a refused input,
 -- 4 for want of memory, 5 for a file that couldn't be read
 abbrev pub failure_status : Failure → ℕ
 failure_status (Input Memory) = 4
 failure_status (Input (NoMessage number)) = 2
+failure_status (Input (NoFinding number)) = 2
 failure_status (Input _) = 3
 failure_status (Unread option) = 5
 
@@ -50,6 +52,11 @@ OfMessage holds files P = IfTold (holds files.params.now) (holds files.orders.no
 abbrev pub OfCase : Held → RunFiles → (List ℕ → List ℕ → List ℕ → Type 0) → Type 0
 OfCase holds files P = IfTold (holds files.orders.now) (holds files.script.now) (holds files.case.now) P
 
+-- what `explain` tells: the cases of all findings, or that of the one of a number
+abbrev pub cases_wanted : Option ℕ → Wanted
+cases_wanted None = Cases
+cases_wanted (Some number) = OneCase number
+
 -- the status and the text are the request's answer, where the bytes of its files are told
 abbrev pub AnswersTo : Request → Held → ℕ → List ℕ → Type 0
 AnswersTo BuiltIn holds status text =
@@ -66,8 +73,9 @@ AnswersTo (JudgeAfter files earlier) holds status text =
     IsVerdictAfter capture table before answer message status text)))
 AnswersTo (Check files) holds status text =
     OfScript holds files (λ capture table script. IsToldOf Report capture table script status text)
-AnswersTo (Explain files) holds status text =
-    OfScript holds files (λ capture table script. IsToldOf Cases capture table script status text)
+AnswersTo (Explain files finding) holds status text =
+    OfScript holds files (λ capture table script.
+    IsToldOf (cases_wanted finding) capture table script status text)
 AnswersTo (Certify files) holds status text =
     OfScript holds files (λ capture table script. IsToldOf Certificate capture table script status text)
 AnswersTo (Verify files certificate) holds status text =
@@ -78,7 +86,8 @@ AnswersTo (requests.Run files only) holds status text =
 
 -- the fault refuses the request, where the bytes of its files are told
 abbrev pub RefusesRequest : Request → Held → Fault → Type 0
-RefusesRequest BuiltIn holds fault = IsRefused built_in.capture built_in.orders built_in.script fault
+RefusesRequest BuiltIn holds fault =
+    IsTellRefusal Report built_in.capture built_in.orders built_in.script fault
 RefusesRequest (Show params) holds fault = IfSome (holds params.now) (λ capture. IsMemoryOrShowFault capture fault)
 RefusesRequest (ShowMessage message) holds fault = IfSome (holds message.now) (λ bytes. IsMessageRefusal bytes fault)
 RefusesRequest (Judge files) holds fault =
@@ -88,11 +97,12 @@ RefusesRequest (JudgeAfter files earlier) holds fault =
     IfSome (holds earlier.before.now) (λ before. IfSome (holds earlier.answer.now) (λ answer.
     IsJudgeAfterRefusal capture table before answer message fault)))
 RefusesRequest (Check files) holds fault =
-    OfScript holds files (λ capture table script. IsRefused capture table script fault)
-RefusesRequest (Explain files) holds fault =
-    OfScript holds files (λ capture table script. IsRefused capture table script fault)
+    OfScript holds files (λ capture table script. IsTellRefusal Report capture table script fault)
+RefusesRequest (Explain files finding) holds fault =
+    OfScript holds files (λ capture table script.
+    IsTellRefusal (cases_wanted finding) capture table script fault)
 RefusesRequest (Certify files) holds fault =
-    OfScript holds files (λ capture table script. IsRefused capture table script fault)
+    OfScript holds files (λ capture table script. IsTellRefusal Certificate capture table script fault)
 RefusesRequest (Verify files certificate) holds fault =
     OfScript holds files (λ capture table script. IfSome (holds certificate.now) (λ lines.
     IsUnverified capture table script lines fault))

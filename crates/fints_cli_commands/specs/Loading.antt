@@ -48,7 +48,7 @@ paths_of (Judge files) = judge_paths files
 paths_of (JudgeAfter files earlier) =
     record (judge_paths files) { before = Some earlier.before; answer = Some earlier.answer }
 paths_of (Check files) = script_paths files
-paths_of (Explain files) = script_paths files
+paths_of (Explain files finding) = script_paths files
 paths_of (Certify files) = script_paths files
 paths_of (Verify files certificate) = record (script_paths files) { certificate = Some certificate }
 paths_of (requests.Run files only) =

@@ -1,13 +1,13 @@
 //! The commands: what each answers, of the files that it names.
 ghost use Rattle.std.specs.Prelude.{◌≡◌, ◌≤◌, ◌+◌, ◌*◌, false, None, IfOk, IfErr};
 ghost use Rattle.fints_cli_commands.specs.BuiltIn as texts;
-ghost use Rattle.fints_cli_reports.specs.Told.{IsRefused, IsToldOf};
+ghost use Rattle.fints_cli_reports.specs.Told.{IsToldOf, IsTellRefusal};
 ghost use Rattle.fints_cli_reports.specs.declared.telling.Wanted.TheVariants as wants;
 ghost use Rattle.fints_cli_commands.specs.Loading.{files_of, paths_of as paths_named};
 ghost use Rattle.fints_cli_commands.specs.Loading.{AreWithin, FollowsReading, Held};
 ghost use Rattle.fints_cli_commands.specs.Loaded.{IsLoaded};
 ghost use Rattle.fints_cli_files.specs.Loading.{MAX_READS, NoneFailed};
-ghost use Rattle.fints_cli_commands.specs.Commands.{failure_status, AnswersTo, FailsFor, HintsIfAsked, RefusesRequest};
+ghost use Rattle.fints_cli_commands.specs.Commands.{cases_wanted, failure_status, AnswersTo, FailsFor, HintsIfAsked, RefusesRequest};
 
 use crate::built_in;
 use crate::failing::{Refusal, refused};
@@ -27,7 +27,8 @@ fn tell_built_in(alloc: Global) -> Result<Reply, Fault>
     ensures status { IfOk result (λ reply. reply.status ≤ 1) }
     ensures told { IfOk result (λ reply.
         IsToldOf wants.Report texts.capture texts.orders texts.script reply.status reply.text.items) }
-    ensures refused { IfErr result (λ fault. IsRefused texts.capture texts.orders texts.script fault) }
+    ensures refused { IfErr result (λ fault.
+        IsTellRefusal wants.Report texts.capture texts.orders texts.script fault) }
 {
     tell_script(
         alloc,
@@ -36,6 +37,16 @@ fn tell_built_in(alloc: Global) -> Result<Reply, Fault>
         built_in::SCRIPT,
         Wanted::Report,
     )
+}
+
+// What `explain` tells: the cases of all findings, or that of the one of a number.
+fn cases_wanted(finding: Option<u32>) -> Wanted
+    ensures { result ≡ cases_wanted finding }
+{
+    match finding {
+        None => Wanted::Cases,
+        Some(number) => Wanted::OneCase(number),
+    }
 }
 
 // Answers a request, of what was loaded of its files.
@@ -74,7 +85,9 @@ fn answer(
             &contents.message,
         ),
         Request::Check(_) => tell_read(alloc, params, orders, script, Wanted::Report),
-        Request::Explain(_) => tell_read(alloc, params, orders, script, Wanted::Cases),
+        Request::Explain { finding, .. } => {
+            tell_read(alloc, params, orders, script, cases_wanted(*finding))
+        }
         Request::Certify(_) => tell_read(alloc, params, orders, script, Wanted::Certificate),
         Request::Verify { .. } => {
             verify_read(alloc, params, orders, script, &contents.certificate)
@@ -108,7 +121,7 @@ fn reasons(alloc: Global, request: &Request<'_>, contents: &Contents, hints: boo
         Request::Judge(_) | Request::JudgeAfter { .. } => {
             judged_reasons(alloc, &inputs).unwrap_or(None)
         }
-        Request::Check(_) | Request::Explain(_) | Request::Certify(_) => {
+        Request::Check(_) | Request::Explain { .. } | Request::Certify(_) => {
             report_reasons(alloc, &inputs).unwrap_or(None)
         }
         Request::Verify { .. } => verified_reason(alloc, &inputs).unwrap_or(None),

@@ -24,14 +24,16 @@ pub enum Failure {
 }
 
 impl Failure {
-    /// The status of a command that ends so: 2 for a message that a run doesn't reach, 3 for a
-    /// refused input, 4 for want of memory, and 5 for a file that couldn't be read.
+    /// The status of a command that ends so: 2 for a message that a run doesn't reach or a finding
+    /// that isn't there, 3 for a refused input, 4 for want of memory, and 5 for a file that couldn't
+    /// be read.
     pub fn status(&self) -> u8
         ensures { result ≡ failure_status self.now }
     {
         match self {
             Failure::Input(Fault::Memory) => 4,
             Failure::Input(Fault::NoMessage { .. }) => 2,
+            Failure::Input(Fault::NoFinding { .. }) => 2,
             Failure::Input(_) => 3,
             Failure::Unread(_) => 5,
         }

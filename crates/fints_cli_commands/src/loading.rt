@@ -84,7 +84,7 @@ pub fn paths_of<'a>(request: &Request<'a>) -> Paths<'a>
             answer: Some(earlier.answer),
             ..judge_paths(files)
         },
-        Request::Check(files) | Request::Explain(files) | Request::Certify(files) => {
+        Request::Check(files) | Request::Explain { files, .. } | Request::Certify(files) => {
             script_paths(files)
         }
         Request::Verify { files, certificate } => Paths {

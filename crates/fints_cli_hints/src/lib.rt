@@ -5,6 +5,7 @@
 mod admitted;
 mod cases;
 mod certs;
+mod findings;
 mod labels;
 mod lines;
 mod orders;

@@ -2,6 +2,7 @@
 use crate::admitted::admitted_hint;
 use crate::cases::case_hint;
 use crate::certs::cert_hint;
+use crate::findings::finding_hint;
 use crate::orders::orders_hint;
 use crate::plans::plan_hint;
 use crate::runs::run_hint;
@@ -27,6 +28,7 @@ pub fn hint(alloc: Global, fault: &Fault, inputs: &Inputs<'_>) -> Result<Option<
         Fault::Case(CaseFault::Memory) => Ok(None),
         Fault::NotAdmitted => admitted_hint(alloc, inputs.script, inputs.case),
         Fault::NoMessage { number } => run_hint(alloc, *number, inputs.script, inputs.case),
+        Fault::NoFinding { number } => finding_hint(alloc, *number),
         Fault::Certificate { line } => cert_hint(alloc, *line, inputs.certificate),
         Fault::Before { offset } => {
             let fault = JudgeFault::NotAMessage { offset: *offset };

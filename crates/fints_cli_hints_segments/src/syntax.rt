@@ -1,5 +1,5 @@
 //! Segments that can't be read.
-use crate::scanning::{Stop, Why, stop_of};
+use crate::scanning::{Stop, binary_of, stop_of};
 use fints_cli_hints_words::places::{Told, line_at, told, written};
 use fints_cli_hints_words::quoting::Sample;
 use fints_syntax::{Kind, Memory, SyntaxKind, parse_number, parse_segment};
@@ -152,39 +152,43 @@ impl Display for Begin<'_> {
 }
 
 // What stands in an item where the bytes end.
-fn cut_text(alloc: Global, stop: &Stop) -> Result<String, Memory> {
-    let Stop {
-        element,
-        item,
-        why,
-        ..
-    } = *stop;
-    match why {
-        Why::CutBinary { len, there } => written(
-            alloc,
-            format_args!(
-                " has no end: the bytes stop in element {element}, item {item}, a binary item of {len} bytes of which {there} are there"
-            ),
-        ),
-        _ => written(
+fn cut_text(alloc: Global, stop: &Stop<'_>) -> Result<String, Memory> {
+    let (element, item) = (stop.element, stop.item);
+    match binary_of(stop.rest) {
+        Some((len, data)) => {
+            let there = data.len();
+            written(
+                alloc,
+                format_args!(
+                    " has no end: the bytes stop in element {element}, item {item}, a binary item of {len} bytes of which {there} are there"
+                ),
+            )
+        }
+        None => written(
             alloc,
             format_args!(" has no end: the bytes stop in element {element}, item {item}"),
         ),
     }
 }
 
-fn binary_text(alloc: Global, bytes: &[u8], stop: &Stop) -> Result<String, Memory> {
-    let Stop {
-        element,
-        item,
-        at,
-        why,
-    } = *stop;
-    let wrapped = wrapped_data(bytes.get(..at).unwrap_or(bytes));
-    match why {
-        Why::NoSeparator { len, after } => {
-            let after = [after];
-            let after = Sample(&after);
+// A line break up to where an item was looked at: the bytes that a binary item says that it has, and its
+// length, or the first ones behind an @.
+fn wrapped_before_stop(bytes: &[u8], stop: &Stop<'_>) -> &'static str {
+    let len = binary_of(stop.rest).map_or(0, |(len, _)| len);
+    let seen = stop.at.saturating_add(len).saturating_add(12);
+    wrapped_data(bytes.get(..seen).unwrap_or(bytes))
+}
+
+fn binary_text(alloc: Global, bytes: &[u8], stop: &Stop<'_>) -> Result<String, Memory> {
+    let (element, item) = (stop.element, stop.item);
+    let wrapped = wrapped_before_stop(bytes, stop);
+    match binary_of(stop.rest) {
+        Some((len, data)) => {
+            let after = Sample(
+                data.get(len..)
+                    .and_then(|rest| rest.get(..1))
+                    .unwrap_or(&[]),
+            );
             written(
                 alloc,
                 format_args!(
@@ -192,7 +196,7 @@ fn binary_text(alloc: Global, bytes: &[u8], stop: &Stop) -> Result<String, Memor
                 ),
             )
         }
-        _ => written(
+        None => written(
             alloc,
             format_args!(
                 ", element {element}, item {item}: an @ begins a binary item, written @length@ and so many bytes; a text that begins with @ is written ?@{wrapped}"
@@ -201,10 +205,11 @@ fn binary_text(alloc: Global, bytes: &[u8], stop: &Stop) -> Result<String, Memor
     }
 }
 
-fn long_text(alloc: Global, stop: &Stop) -> Result<String, Memory> {
-    match stop.why {
-        Why::Many => written(alloc, " has 20000 items or more"),
-        _ => written(alloc, format_args!(" has no end within {MAX_BYTES} bytes")),
+fn long_text(alloc: Global, stop: &Stop<'_>) -> Result<String, Memory> {
+    if stop.is_full {
+        written(alloc, " has 20000 items or more")
+    } else {
+        written(alloc, format_args!(" has no end within {MAX_BYTES} bytes"))
     }
 }
 

@@ -350,31 +350,6 @@ fn bad_figures(
     None
 }
 
-// Why what a line says of a reached step doesn't hold.
-fn bad_line(
-    permissions: &Permissions<'_>,
-    plan: &Plan<'_>,
-    n: usize,
-    reached: Reached,
-) -> Option<Open>
-    requires from { 1 ≤ n }
-    requires to { n ≤ length plan.now.script.steps }
-    requires orders { permissions.now.orders ≡ plan.now.orders }
-{
-    let open = bad_figures(permissions, plan, n, reached);
-    if open.is_some() {
-        return open;
-    }
-    let step = plan.step(n).name();
-    if !AtStep::new(permissions, plan, n).is_clean() {
-        return Some(Open::BreaksRule { step });
-    }
-    if !is_released_step(plan, n) {
-        return Some(Open::Unreleased { step });
-    }
-    None
-}
-
 // Why what the line of step n says, or where its branches lead, isn't closed.
 fn bad_step(
     permissions: &Permissions<'_>,
@@ -388,11 +363,19 @@ fn bad_step(
     requires orders { permissions.now.orders ≡ plan.now.orders }
 {
     let figures = reached(lines, n)?;
-    let open = bad_line(permissions, plan, n, figures);
+    let open = bad_figures(permissions, plan, n, figures);
     if open.is_some() {
         return open;
     }
-    bad_branch(lines, steps, plan.step(n), figures)
+    let step = plan.step(n);
+    let name = step.name();
+    if !AtStep::new(permissions, plan, n).is_clean() {
+        return Some(Open::BreaksRule { step: name });
+    }
+    if !is_released_step(plan, n) {
+        return Some(Open::Unreleased { step: name });
+    }
+    bad_branch(lines, steps, step, figures)
 }
 
 fn open_of(

@@ -21,10 +21,11 @@ use Rattle.fints_script.specs.Scripts.{ScriptValue, Refuses, IsFirstOf}
 use Rattle.fints_wire.specs.Runs.{Run}
 use Rattle.fints_wire.specs.declared.dialogue.Sent.{Sent}
 use Rattle.fints_cli_texts.specs.declared.fault.Fault.{Fault}
-use Rattle.fints_cli_texts.specs.declared.fault.Fault.TheVariants.{Memory, Params, Case, Certificate, NotAdmitted, NoMessage}
+use Rattle.fints_cli_texts.specs.declared.fault.Fault.TheVariants.{Memory, Params, Case, Certificate, NotAdmitted, NoFinding, NoMessage}
 use Rattle.fints_cli_texts.specs.Fault.{fault_of, order_fault_of, kind_fault_of, script_fault_of, case_fault_of}
 use Rattle.fints_cli_reports.specs.Plans.{ArePlan, IsPlanRefusal}
-use Rattle.fints_cli_reports.specs.Told.{IsRefused}
+use Rattle.fints_cli_reports.specs.Told.{IsRefused, IsTellRefusal, IsTellRefusalOn}
+use Rattle.fints_cli_reports.specs.declared.telling.Wanted.{Wanted}
 use Rattle.fints_cli_reports.specs.RunText.{IsAdmittedRefusal, IsCaseRefusal, IsRunRefusal, IsUnsent, IsUnsentRefusal}
 use Rattle.fints_cli_reports.specs.Verified.{IsCertificateRefusal, IsUnverified, IsVerifyRefusal}
 
@@ -104,12 +105,17 @@ params_refused capture table script params.NoBankParameters (inr p) = p
 params_refused capture table script params.NoPinParameters (inl e) = absurd (cc)
 params_refused capture table script params.NoPinParameters (inr p) = p
 
--- no plan, no report
-pub unplanned_report : (capture table script : List ℕ) (rows : Rows) (f : Fault) → IsParamsOf capture rows
-    → IsPlanRefusal table script f → IsRefused capture table script f
-unplanned_report capture table script rows Memory h p = tt
-unplanned_report capture table script rows (Params f) h p = absurd p
-unplanned_report capture table script rows _ h p = ((rows, h), p)
+-- no rows, nothing told
+pub params_told : (wanted : Wanted) (capture table script : List ℕ) (f : ParamFault)
+    → IsMemoryOr (IsParamFault capture) f → IsTellRefusal wanted capture table script (fault_of f)
+params_told wanted capture table script params.Memory h = tt
+params_told wanted capture table script f h = params_refused capture table script f h
+
+-- no plan, nothing told
+pub unplanned_told : (wanted : Wanted) (rows : Rows) (table script : List ℕ) (f : Fault)
+    → IsPlanRefusal table script f → IsTellRefusalOn wanted rows table script f
+unplanned_told wanted rows table script (NoFinding number) p = absurd p
+unplanned_told wanted rows table script _ p = p
 
 -- ---- certificates
 

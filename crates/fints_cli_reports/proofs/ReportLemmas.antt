@@ -11,9 +11,12 @@ use Rattle.fints_script.specs.Plans.{IsClosed, PlanValue}
 use Rattle.fints_script.specs.Scripts.{Denotes, ScriptValue}
 use Rattle.fints_script.specs.Steps.{StepValue}
 use Rattle.fints_check_findings.specs.declared.finding.Reached.{Reached}
+use Rattle.fints_cli_texts.specs.declared.fault.Fault.{Fault}
+use Rattle.fints_cli_texts.specs.declared.fault.Fault.TheVariants.{Memory, NoFinding}
+use Rattle.fints_cli_reports.specs.ExplainText.{HasNoFinding}
 use Rattle.fints_cli_reports.specs.Plans.{ArePlan}
 use Rattle.fints_cli_reports.specs.ReportText.{step_line, step_lines}
-use Rattle.fints_cli_reports.specs.Told.{IsToldBy, IsToldOn}
+use Rattle.fints_cli_reports.specs.Told.{IsToldBy, IsToldOn, IsTellRefusalBy, IsTellRefusalOn}
 use Rattle.fints_cli_reports.specs.Verified.{IsVerifiedBy, IsVerifiedOn}
 use Rattle.fints_cli_reports.specs.declared.telling.Wanted.{Wanted}
 
@@ -51,6 +54,17 @@ pub told_on : (wanted : Wanted) (rows : Rows) (table text : List ℕ) (orders : 
 told_on wanted rows table text orders value plan status told t s closed same made p =
     let on = on_plan (λ g v. IsToldBy wanted g v status told) rows table text orders value plan t s closed same made p in
     record { value = value; plan = on.0; told = on.1 }
+
+pub refused_on : (wanted : Wanted) (rows : Rows) (table text : List ℕ) (orders : List OrderRow)
+    (value : ScriptValue) (plan : PlanValue) (f : Fault) → DenotesTable table orders → Denotes text value
+    → IsClosed value orders → plan.script ≡ value → plan.orders ≡ orders
+    → IsTellRefusalBy wanted (record { rows = rows; orders = plan.orders }) plan.script f
+    → IsTellRefusalOn wanted rows table text f
+refused_on wanted rows table text orders value plan Memory t s closed same made p = tt
+refused_on wanted rows table text orders value plan (NoFinding number) t s closed same made p =
+    let on = on_plan (λ g v. HasNoFinding g v number) rows table text orders value plan t s closed same made p.1 in
+    (p.0, record { value = value; plan = on.0; none = on.1 })
+refused_on wanted rows table text orders value plan _ t s closed same made p = absurd p
 
 pub verified_on : (rows : Rows) (table text cert : List ℕ) (orders : List OrderRow) (value : ScriptValue)
     (plan : PlanValue) (status : ℕ) (told : List ℕ) → DenotesTable table orders → Denotes text value

@@ -1,14 +1,17 @@
--- The text of `explain`: the report, and then for each finding a line that counts it from 1, and the text of its case.
-use Rattle.std.specs.Prelude.{◌≡◌, ℕ, ◌+◌, List, [], ◌∷◌, ◌++◌, codes, Option}
+-- The text of `explain`: the report, and then for each finding, or for one alone, a line that counts it from 1,
+-- and the text of its case.
+use Rattle.std.specs.Prelude.{◌≡◌, ℕ, ◌+◌, List, [], ◌∷◌, ◌++◌, codes, Option, None, Some}
 use Rattle.std.specs.List.{AllZip}
 use Rattle.std.specs.Fmt.{decimal}
 use Rattle.fints_script_cases.specs.Cases.{case_text}
 use Rattle.fints_check_findings.specs.Cases.{AreChosenFor}
 use Rattle.fints_check_findings.specs.Reports.{LeadsFor}
 use Rattle.fints_check_findings.specs.Figures.{AreFigures}
+use Rattle.fints_check_findings.specs.Findings.{AreFindings, Shows}
 use Rattle.fints_check_findings.specs.declared.finding.Finding.{Finding}
 use Rattle.fints_check_findings.specs.declared.finding.Reached.{Reached}
 use Rattle.fints_rules_permissions.specs.Permits.{Granted}
+use Rattle.fints_script.specs.Numbered.{numbered}
 use Rattle.fints_script.specs.Scripts.{ScriptValue}
 use Rattle.fints_script.specs.Steps.{StepValue}
 use Rattle.fints_cli_reports.specs.Headline.{CaseValue, Headline}
@@ -47,3 +50,26 @@ pub record IsExplainedBy (granted : Granted) (script : ScriptValue) (status : �
   pub chosen : AreCasesChosen granted script figures findings cases
   pub text_is : text ≡ report_text script.steps figures findings ++ cases_text script.steps 1 findings cases
   pub status_is : status ≡ report_status findings
+
+-- they tell the greatest figures of the steps, what the runs break, and a case of the finding of this number
+-- alone, counted from 1
+pub record IsExplainedAt (granted : Granted) (script : ScriptValue) (number status : ℕ) (text : List ℕ)
+    : Type 0 where
+  pub figures : List (Option Reached)
+  pub findings : List Finding
+  pub finding : Finding
+  pub case : CaseValue
+  pub figures_are : AreFigures script figures
+  pub findings_are : AreFindings granted script findings
+  pub number_is : numbered findings number ≡ Some finding
+  pub shows : Shows granted script finding case.values case.answers
+  pub chosen : IsChosenCase granted script figures finding case
+  pub text_is : text
+      ≡ report_text script.steps figures findings ++ shown_case script.steps number finding case
+  pub status_is : status ≡ report_status findings
+
+-- what the runs break has no finding of this number
+pub record HasNoFinding (granted : Granted) (script : ScriptValue) (number : ℕ) : Type 0 where
+  pub findings : List Finding
+  pub findings_are : AreFindings granted script findings
+  pub none : numbered findings number ≡ None

@@ -1,13 +1,15 @@
--- How far cases are written. Private contracts alone cite these words.
+-- How far cases are written, and when none is. Private contracts alone cite these words.
 use Rattle.std.specs.Prelude.{◌≡◌, ℕ, List, ◌++◌, Option, Some, None}
 use Rattle.fints_check_findings.specs.Findings.{Shows}
 use Rattle.fints_check_findings.specs.declared.finding.Finding.{Finding}
 use Rattle.fints_check_findings.specs.Reports.{LeadsToGreatest}
 use Rattle.fints_check_findings.specs.declared.finding.Reached.{Reached}
+use Rattle.fints_cli_texts.specs.declared.fault.Fault.{Fault}
+use Rattle.fints_cli_texts.specs.declared.fault.Fault.TheVariants.{Memory, NoFinding}
 use Rattle.fints_rules_permissions.specs.Permits.{Granted}
 use Rattle.fints_script.specs.Scripts.{ScriptValue}
 use Rattle.fints_script.specs.Steps.{StepValue}
-use Rattle.fints_cli_reports.specs.ExplainText.{AreCasesChosen, IsChosenCase, cases_text, shown_case}
+use Rattle.fints_cli_reports.specs.ExplainText.{AreCasesChosen, HasNoFinding, IsChosenCase, cases_text, shown_case}
 use Rattle.fints_cli_reports.specs.Headline.{AreCases, CaseValue}
 
 -- the answers lead to the step's greatest number, if one is named
@@ -30,3 +32,9 @@ pub record AreCasesWritten (granted : Granted) (script : ScriptValue) (figures :
   pub are : AreCases granted script findings cases
   pub chosen : AreCasesChosen granted script figures findings cases
   pub text_is : new ≡ old ++ cases_text script.steps 1 findings cases
+
+-- want of memory, or that there is no finding of the number
+abbrev pub IsUnfound : Granted → ScriptValue → ℕ → Fault → Type 0
+IsUnfound granted script number Memory = Unit {0}
+IsUnfound granted script number (NoFinding n) = (n ≡ number) × HasNoFinding granted script number
+IsUnfound granted script number _ = ⊥

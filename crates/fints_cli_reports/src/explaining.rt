@@ -1,15 +1,16 @@
 //! The cases of a report's findings.
-ghost use Rattle.std.specs.Prelude.{◌≡◌, ◌<◌, ◌≤◌, ◌-◌, ◌++◌, [], length, slice_get, Some, IfOk, IfSome, IsTrue, OnOk};
+ghost use Rattle.std.specs.Prelude.{◌≡◌, ◌<◌, ◌≤◌, ◌-◌, ◌++◌, [], length, slice_get, Some, IfOk, IfErr, IfSome, IsTrue, OnOk};
 ghost use Rattle.fints_script_cases.specs.Cases.{case_text};
 ghost use Rattle.fints_check_findings.specs.Reports.{LeadsFor};
 ghost use Rattle.fints_rules.specs.declared.rule.Rule.TheVariants.{Release};
-ghost use Rattle.fints_cli_reports.specs.ExplainText.{case_line, IsExplainedBy};
-ghost use Rattle.fints_cli_reports.specs.Explaining.{AreCasesWritten, IsCaseWritten, IsWayTo};
+ghost use Rattle.fints_script.specs.Numbered.{numbered};
+ghost use Rattle.fints_cli_reports.specs.ExplainText.{case_line, IsExplainedAt, IsExplainedBy};
+ghost use Rattle.fints_cli_reports.specs.Explaining.{AreCasesWritten, IsCaseWritten, IsUnfound, IsWayTo};
 ghost use Rattle.fints_cli_reports.specs.StepNames.{IsFindingOf};
 
 use crate::writing::{report_status, write_finding_text, write_report};
 use fints_check::{Finding, Report};
-use fints_cli_texts::Reply;
+use fints_cli_texts::{Fault, Reply};
 use fints_rules::Rule;
 use fints_script::{Answer, Case, Name, Plan, Values};
 use fints_syntax::Memory;
@@ -148,6 +149,44 @@ pub fn explain(alloc: Global, plan: &Plan<'_>, report: &Report<'_>) -> Result<Re
     let mut text = Vec::new(alloc);
     write_report(&mut text, plan, report)?;
     write_cases(alloc, &mut text, plan, report)?;
+    Ok(Reply {
+        status: report_status(report.findings()),
+        text,
+    })
+}
+
+// The finding of this number, counted from 1.
+fn finding_of(findings: &[Finding], number: u32) -> Option<Finding>
+    ensures { result ≡ numbered findings.now number }
+{
+    if number == 0 {
+        return None;
+    }
+    findings.get(number as usize - 1).copied()
+}
+
+/// The report on a plan and the case of the finding of this number alone, with its status; findings
+/// count from 1.
+pub fn explain_one(
+    alloc: Global,
+    plan: &Plan<'_>,
+    report: &Report<'_>,
+    number: u32,
+) -> Result<Reply, Fault>
+    requires { report.now.plan ≡ plan.now }
+    ensures told { IfOk result (λ reply.
+        IsExplainedAt report.now.granted plan.now.script number reply.status reply.text.items) }
+    ensures refused { IfErr result (λ f. IsUnfound report.now.granted plan.now.script number f) }
+{
+    report.keeps();
+    let Some(finding) = finding_of(report.findings(), number) else {
+        return Err(Fault::NoFinding { number });
+    };
+    let mut text = Vec::new(alloc);
+    write_report(&mut text, plan, report)?;
+    let number = number as usize;
+    let way = report.way(alloc, number - 1)?;
+    write_case(alloc, &mut text, plan, report, number, finding, way)?;
     Ok(Reply {
         status: report_status(report.findings()),
         text,

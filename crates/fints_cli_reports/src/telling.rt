@@ -3,11 +3,10 @@ ghost use Rattle.std.specs.Prelude.{◌≤◌, ℕ, List, IfOk, IfErr, ◌≡◌
 ghost use Rattle.fints_params.specs.declared.fault.ParamFault.{ParamFault as ParamFaultValue};
 ghost use Rattle.fints_cli_texts.specs.Fault.{fault_of};
 ghost use Rattle.fints_params.specs.Captures.{IsReadOf};
-ghost use Rattle.fints_cli_reports.specs.Plans.{IsPlanRefusal};
-ghost use Rattle.fints_cli_reports.specs.Told.{IsRefused, IsToldBy, IsToldOf, IsToldOn};
+ghost use Rattle.fints_cli_reports.specs.Told.{IsToldBy, IsToldOf, IsToldOn, IsTellRefusal, IsTellRefusalBy, IsTellRefusalOn};
 
 use crate::certifying::certify;
-use crate::explaining::explain;
+use crate::explaining::{explain, explain_one};
 use crate::inputs::read_inputs;
 use crate::writing::reply;
 use fints_check::check;
@@ -15,7 +14,6 @@ use fints_cli_texts::{Fault, Reply};
 use fints_params::{ParamFault, Params};
 use fints_rules::Permissions;
 use fints_script::Plan;
-use fints_syntax::Memory;
 use std::alloc::Global;
 
 /// What is to be told of a script.
@@ -25,6 +23,8 @@ pub enum Wanted {
     Report,
     /// The report, and then a case of each finding.
     Cases,
+    /// The report, and then the case of the finding of this number alone; numbers count from 1.
+    OneCase(u32),
     /// The certificate where nothing is found, else the report.
     Certificate,
 }
@@ -35,23 +35,26 @@ fn tell_plan(
     params: &Params,
     plan: &Plan<'_>,
     wanted: Wanted,
-) -> Result<Reply, Memory>
-    ensures { IfOk result (λ reply.
+) -> Result<Reply, Fault>
+    ensures told { IfOk result (λ reply.
         IsToldBy wanted (record { rows = params.now; orders = plan.now.orders }) plan.now.script
         reply.status reply.text.items) }
+    ensures refused { IfErr result (λ f.
+        IsTellRefusalBy wanted (record { rows = params.now; orders = plan.now.orders }) plan.now.script f) }
 {
     let permissions = Permissions::build(alloc, params, plan.orders())?;
     let report = check(alloc, &permissions, plan)?;
     match wanted {
-        Wanted::Report => reply(alloc, plan, &report),
-        Wanted::Cases => explain(alloc, plan, &report),
-        Wanted::Certificate => certify(alloc, plan, &report),
+        Wanted::Report => Ok(reply(alloc, plan, &report)?),
+        Wanted::Cases => Ok(explain(alloc, plan, &report)?),
+        Wanted::OneCase(number) => explain_one(alloc, plan, &report, number),
+        Wanted::Certificate => Ok(certify(alloc, plan, &report)?),
     }
 }
 
 /// What is told of a script by good parameters. The status is 0 where nothing is found, else 1. Of
-/// the refusals that of the order table comes first, then that of the script, and then what the
-/// script leaves open with the order table.
+/// the refusals that of the order table comes first, then that of the script, then what the script
+/// leaves open with the order table, and then that of the number of a finding that isn't there.
 pub fn tell(
     alloc: Global,
     params: &Params,
@@ -61,7 +64,7 @@ pub fn tell(
 ) -> Result<Reply, Fault>
     ensures told { IfOk result (λ reply.
         IsToldOn wanted params.now orders.now script.now reply.status reply.text.items) }
-    ensures refused { IfErr result (λ f. IsPlanRefusal orders.now script.now f) }
+    ensures refused { IfErr result (λ f. IsTellRefusalOn wanted params.now orders.now script.now f) }
 {
     let inputs = read_inputs(alloc, orders, script)?;
     let plan = inputs.script.plan(&inputs.orders)?;
@@ -82,7 +85,8 @@ pub fn tell_read(
     ensures told { IfOk result (λ reply. (capture : List ℕ) → IsReadOf capture params
         → IsToldOf wanted capture orders.now script.now reply.status reply.text.items) }
     ensures refused { IfErr result (λ f.
-        (capture : List ℕ) → IsReadOf capture params → IsRefused capture orders.now script.now f) }
+        (capture : List ℕ) → IsReadOf capture params
+        → IsTellRefusal wanted capture orders.now script.now f) }
     ensures params_first { (f : ParamFaultValue) → params ≡ Err f → result ≡ Err (fault_of f) }
 {
     let params = match params {
@@ -103,7 +107,7 @@ pub fn tell_script(
 ) -> Result<Reply, Fault>
     ensures told { IfOk result (λ reply.
         IsToldOf wanted params.now orders.now script.now reply.status reply.text.items) }
-    ensures refused { IfErr result (λ f. IsRefused params.now orders.now script.now f) }
+    ensures refused { IfErr result (λ f. IsTellRefusal wanted params.now orders.now script.now f) }
 {
     tell_read(alloc, Params::read(alloc, params), orders, script, wanted)
 }

@@ -37,6 +37,9 @@ pub enum Fault {
     /// The run of the case has no message of this number; numbers count from 1.
     #[error("run NoMessage {number}")]
     NoMessage { number: u32 },
+    /// The report has no finding of this number; numbers count from 1.
+    #[error("explain NoFinding {number}")]
+    NoFinding { number: u32 },
     /// The first line that is no line of a certificate there; lines count from 1.
     #[error("cert line {line}")]
     Certificate { line: u32 },

@@ -84,8 +84,11 @@ pub enum Request<'a> {
     },
     /// What the runs of a script break, by a capture and an order table.
     Check(ScriptFiles<'a>),
-    /// What the runs of a script break, and a case of each finding.
-    Explain(ScriptFiles<'a>),
+    /// What the runs of a script break, and a case of each finding, or of that of one number alone.
+    Explain {
+        files: ScriptFiles<'a>,
+        finding: Option<u32>,
+    },
     /// The certificate of a script whose runs break nothing, or else what they break.
     Certify(ScriptFiles<'a>),
     /// Whether a certificate of a script is closed.
@@ -122,8 +125,8 @@ enum Choice {
     Either(&'static str, &'static str),
     // A file that goes with that of another option, so that both are given or neither.
     Beside(&'static str, &'static str, &'static str),
-    // The number of a message.
-    Number,
+    // A number.
+    Number(&'static str, &'static str),
 }
 
 const PARAMS: Choice = Choice::File("params", "The capture");
@@ -145,6 +148,13 @@ const ANSWER: Choice = Choice::Beside(
 );
 
 const MESSAGE: Choice = Choice::File("message", "The message");
+
+const SENT: Choice = Choice::Number("message", "Only the bytes of message N");
+
+const FINDING: Choice = Choice::Number(
+    "finding",
+    "Only the case of finding N: those of all may be hundreds of megabytes",
+);
 
 const SHOWN_CAPTURE: Choice = Choice::Either("params", "The capture");
 
@@ -176,7 +186,7 @@ const COMMANDS: [Described; 7] = [
     Described {
         name: "explain",
         about: "Names the rules that some run of a script breaks, each with a case",
-        options: &[PARAMS, ORDERS, SCRIPT],
+        options: &[PARAMS, ORDERS, SCRIPT, FINDING],
     },
     Described {
         name: "certify",
@@ -191,7 +201,7 @@ const COMMANDS: [Described; 7] = [
     Described {
         name: "run",
         about: "Prints the messages that a client sends under a case",
-        options: &[ORDERS, SCRIPT, CASE, Choice::Number],
+        options: &[ORDERS, SCRIPT, CASE, SENT],
     },
 ];
 
@@ -212,11 +222,11 @@ fn beside_option<'a>(
     file_option(alloc, name, help).requires_arg(other)
 }
 
-fn number_option<'a>(alloc: Global) -> Arg<'a> {
-    Arg::new(alloc, "message")
-        .long("message")
+fn number_option<'a>(alloc: Global, name: &'a str, help: &'a str) -> Arg<'a> {
+    Arg::new(alloc, name)
+        .long(name)
         .value_name("N")
-        .help("Only the bytes of message N")
+        .help(help)
         .value_parser(value_parser!(u32))
         .action(ArgAction::Set)
 }
@@ -226,7 +236,7 @@ fn option<'a>(alloc: Global, choice: &Choice) -> Result<Arg<'a>, AllocError> {
         Choice::File(name, help) => Ok(file_option(alloc, name, help).required(true)),
         Choice::Either(name, help) => Ok(file_option(alloc, name, help)),
         Choice::Beside(name, help, other) => beside_option(alloc, name, help, other),
-        Choice::Number => Ok(number_option(alloc)),
+        Choice::Number(name, help) => Ok(number_option(alloc, name, help)),
     }
 }
 
@@ -328,7 +338,7 @@ fn standard_inputs(request: &Request<'_>) -> usize {
         Request::JudgeAfter { files, earlier } => {
             judge_inputs(files).saturating_add(count_inputs(&[earlier.before, earlier.answer]))
         }
-        Request::Check(files) | Request::Explain(files) | Request::Certify(files) => {
+        Request::Check(files) | Request::Explain { files, .. } | Request::Certify(files) => {
             script_inputs(files)
         }
         Request::Verify { files, certificate } => {
@@ -429,6 +439,13 @@ fn verify_request<'a>(options: &ArgMatches<'a>) -> Option<Request<'a>> {
     })
 }
 
+fn explain_request<'a>(options: &ArgMatches<'a>) -> Option<Request<'a>> {
+    Some(Request::Explain {
+        files: script_files(options)?,
+        finding: options.get_one::<u32>("finding"),
+    })
+}
+
 fn run_request<'a>(options: &ArgMatches<'a>) -> Option<Request<'a>> {
     Some(Request::Run {
         files: run_files(options)?,
@@ -442,7 +459,7 @@ fn named_request<'a>(name: &str, options: &ArgMatches<'a>) -> Option<Request<'a>
         "show" => show_request(options),
         "judge" => judge_request(options),
         "check" => Some(Request::Check(script_files(options)?)),
-        "explain" => Some(Request::Explain(script_files(options)?)),
+        "explain" => explain_request(options),
         "certify" => Some(Request::Certify(script_files(options)?)),
         "verify" => verify_request(options),
         "run" => run_request(options),

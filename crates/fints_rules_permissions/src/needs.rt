@@ -39,16 +39,31 @@ pub struct NeedKey<'a> {
     pub kind: &'a [u8],
 }
 
-// Field by field.
+// Field by field; behind the first in which they differ no other is looked at.
 fn compare_keys(a: &NeedKey<'_>, b: &NeedKey<'_>) -> Ordering
     ensures { result ≡ key_cmp (key_in a.now) (key_in b.now) }
 {
-    let items = (a.subaccount.cmp(b.subaccount)).then(
-        a.country
-            .cmp(b.country)
-            .then(a.bank.cmp(b.bank).then(a.kind.cmp(b.kind))),
-    );
-    (a.by_iban.cmp(&b.by_iban)).then(a.account.cmp(b.account).then(items))
+    let naming = a.by_iban.cmp(&b.by_iban);
+    if naming.is_ne() {
+        return naming;
+    }
+    let account = a.account.cmp(b.account);
+    if account.is_ne() {
+        return account;
+    }
+    let subaccount = a.subaccount.cmp(b.subaccount);
+    if subaccount.is_ne() {
+        return subaccount;
+    }
+    let country = a.country.cmp(b.country);
+    if country.is_ne() {
+        return country;
+    }
+    let bank = a.bank.cmp(b.bank);
+    if bank.is_ne() {
+        return bank;
+    }
+    a.kind.cmp(b.kind)
 }
 
 fn key_of<'a>(naming: Naming, row: &'a AccountRow, entry: &'a Entry) -> NeedKey<'a>
@@ -110,8 +125,11 @@ fn signatures_at(rows: &[AccountRow], place: &Place) -> u32
 fn compare(rows: &[AccountRow], a: &Place, b: &Place) -> Ordering
     ensures { result ≡ seen_cmp (seen_at rows.now a.now) (seen_at rows.now b.now) }
 {
-    let signatures = signatures_at(rows, a).cmp(&signatures_at(rows, b));
-    compare_keys(&key_at(rows, a), &key_at(rows, b)).then(signatures)
+    let keys = compare_keys(&key_at(rows, a), &key_at(rows, b));
+    if keys.is_ne() {
+        return keys;
+    }
+    signatures_at(rows, a).cmp(&signatures_at(rows, b))
 }
 
 // How an entry stands to a key.

@@ -1,17 +1,16 @@
 -- The lines of a case: what they tell, what may come next, and that they tell one case at most.
-use Rattle.std.proofs.Common.{ℕ, suc, ◌+◌, ◌<◌, ◌≤◌, ◌≡◌, ◌≢◌, ◌⊎◌, List, [], ◌∷◌, ◌++◌, map, codes, length, get_or, slice_get, refl, ap, sym, subst, ◌∙◌, arith, inl, inr, IsSomeAnd}
+use Rattle.std.proofs.Common.{ℕ, suc, ◌+◌, ◌<◌, ◌≡◌, ◌≢◌, ◌⊎◌, List, [], ◌∷◌, ◌++◌, map, codes, length, get_or, slice_get, refl, ap, sym, subst, ◌∙◌, arith, inl, inr, IsSomeAnd}
 use Rattle.std.specs.List.{All, AllPairs}
-use Rattle.std.proofs.lemmas.List.{nil_from_length, append_assoc, length-append, get_or_append_left, get_or_at}
+use Rattle.std.proofs.lemmas.List.{append_assoc, length-append, get_or_append_left, get_or_at}
 use Rattle.std.proofs.lemmas.List.Elements.{All-cons, All-head, All-tail, All-append, All-map}
-use Rattle.fints_syntax_lines.specs.Lines.{text_of_lines, NoFeed, IsNextLine, HasNoNextLine, BeginsText}
-use Rattle.fints_syntax_lines.specs.LineLaws.{split_same, plain, not_empty, text_short}
+use Rattle.fints_syntax_lines.specs.Lines.{NoFeed, BeginsText}
+use Rattle.fints_syntax_lines.specs.LineLaws.{plain}
 use Rattle.fints_script_cases.specs.Answers.{IsAnswer}
 use Rattle.fints_script_cases.specs.Cases.{field_text, answer_text, case_lines, AreFields, IsNamedValue, AreCaseLines}
-use Rattle.fints_script_cases.specs.CaseReading.{IsCaseLine, line_text, IsNext, IsBegun, HasNoLine}
+use Rattle.fints_script_cases.specs.CaseReading.{IsCaseLine, line_text, IsNext, IsBegun}
 use Rattle.fints_script_cases.specs.declared.values.NamedValue.{NamedValue}
 use Rattle.fints_script_cases.specs.declared.case_reading.CaseLine.{CaseLine}
 use Rattle.fints_script_cases.specs.declared.case_reading.CaseLine.TheVariants.{Field, Reply}
-use Rattle.fints_syntax_lines.specs.declared.lines.TheConstants.{MAX_TEXT}
 use Rattle.fints_script_cases.proofs.CaseTexts.{field_once, field_without, answer_once, answer_without, field_no_answer}
 
 -- ---- one line
@@ -20,39 +19,11 @@ pub line_without : (line : CaseLine) → IsCaseLine line → NoFeed (line_text l
 line_without (Field pair) h = field_without pair h
 line_without (Reply answer) h = answer_without answer
 
-line_once : (a b : CaseLine) → IsCaseLine a → IsCaseLine b → line_text a ≡ line_text b → a ≡ b
+pub line_once : (a b : CaseLine) → IsCaseLine a → IsCaseLine b → line_text a ≡ line_text b → a ≡ b
 line_once (Field p) (Field q) ha hb e = ap (λ (x : NamedValue). Field x) (field_once p q ha hb e)
 line_once (Field p) (Reply b) ha hb e = absurd (field_no_answer p b e)
 line_once (Reply a) (Field q) ha hb e = absurd (field_no_answer q a (sym e))
 line_once (Reply a) (Reply b) ha hb e = ap (λ (x : List ℕ). Reply x) (answer_once a b ha hb e)
-
-pub no_next_no_line : (whole : ℕ) (rest : List ℕ) (values : List NamedValue) (answers : List (List ℕ))
-    → HasNoNextLine whole rest → HasNoLine whole rest values answers
-no_next_no_line whole rest values answers none line more is next stands = none (line_text line) more stands
-
--- nothing is left
-pub nothing_no_line : (whole : ℕ) (rest : List ℕ) (values : List NamedValue) (answers : List (List ℕ))
-    → length rest ≡ 0 → HasNoLine whole rest values answers
-nothing_no_line whole rest values answers none line more is next stands = not_empty (line_text line) more (sym stands.split.0 ∙ nil_from_length rest none)
-
--- the line that stands there is the only one
-line_there : (whole : ℕ) (rest text after line more : List ℕ) → IsNextLine whole rest text after
-    → IsNextLine whole rest line more → text ≡ line
-line_there whole rest text after line more stands other =
-    (split_same 10 text after line more stands.split.1 other.split.1 (sym stands.split.0 ∙ other.split.0)).0
-
-pub bad_no_line : (whole : ℕ) (rest text after : List ℕ) (values : List NamedValue) (answers : List (List ℕ))
-    → IsNextLine whole rest text after → ((line : CaseLine) → IsCaseLine line → text ≢ line_text line)
-    → HasNoLine whole rest values answers
-bad_no_line whole rest text after values answers stands bad line more is next other =
-    bad line is (line_there whole rest text after (line_text line) more stands other)
-
-pub other_no_line : (whole : ℕ) (rest text after : List ℕ) (values : List NamedValue)
-    (answers : List (List ℕ)) (read : CaseLine) → IsNextLine whole rest text after → IsCaseLine read
-    → text ≡ line_text read → (IsNext values answers read → ⊥) → HasNoLine whole rest values answers
-other_no_line whole rest text after values answers read stands good is_read not line more is next other =
-    let same = line_there whole rest text after (line_text line) more stands other in
-    not (subst (IsNext values answers) (line_once line read is good (sym same ∙ is_read)) next)
 
 -- ---- the lines of a case
 
@@ -155,7 +126,6 @@ pub record IsOnward (v : List NamedValue) (a : List (List ℕ)) (text : List ℕ
   pub good : IsCaseLine line
   pub is : text ≡ line_text line
   pub next : IsNext v a line
-  pub short : length (text_of_lines (case_lines v a ++ text ∷ [])) ≤ MAX_TEXT
 
 pub onward : (v : List NamedValue) (a : List (List ℕ)) (text : List ℕ) → IsBegun v a
     → BeginsText AreCaseLines (case_lines v a ++ text ∷ []) → IsOnward v a text
@@ -169,10 +139,6 @@ onward v a text begun b =
     ≡ (map field_text v ++ map answer_text a) ++ text ∷ b.later
     =
     append_assoc (map field_text v ++ map answer_text a) (text ∷ []) b.later in
-    let short =
-    text_short (case_lines v a ++ text ∷ []) b.later MAX_TEXT
-    (subst (λ (ls : List (List ℕ)). length (text_of_lines ls) ≤ MAX_TEXT) (sym case.lines_are)
-    case.is.short) in
     elim (lines_next v case.values a case.answers text b.later begun.values_are case.is.values_are case.is.answers_are (sym tail ∙ joined)) [
       | inl f ↦
           let fields : AreFields (v ++ f.pair ∷ f.more) = subst AreFields f.values case.is.fields in
@@ -181,7 +147,6 @@ onward v a text begun b =
             good = pair_good v f.more f.pair (subst (All IsNamedValue) f.values case.is.values_are);
             is = f.is;
             next = (ap length f.no_answer, names_before v f.more f.pair fields.apart, λ none. first_name v f.more f.pair none fields.first);
-            short = short;
           }
       | inr r ↦
           record {
@@ -189,7 +154,6 @@ onward v a text begun b =
             good = r.good;
             is = r.is;
             next = some_fields v (subst AreFields r.values case.is.fields);
-            short = short;
           }
     ]
   where

@@ -1,20 +1,20 @@
 -- A text of lines is a case, or it has a first bad line.
-use Rattle.std.proofs.Common.{ℕ, ◌+◌, ◌-◌, ◌<◌, ◌≤◌, ◌≡◌, ◌≢◌, List, [], ◌∷◌, ◌++◌, map, codes, length, slice_get, refl, ap, sym, subst, ◌∙◌, arith}
+use Rattle.std.proofs.Common.{ℕ, ◌<◌, ◌≤◌, ◌≡◌, ◌≢◌, List, [], ◌∷◌, ◌++◌, map, codes, length, slice_get, refl, ap, sym, subst, ◌∙◌, arith}
 use Rattle.std.specs.List.{All, AllPairs}
 use Rattle.std.proofs.lemmas.Option.{same_Some}
 use Rattle.std.specs.Option.{ForSome}
-use Rattle.std.proofs.lemmas.List.{append_assoc, append-nil, length-append, map-append}
+use Rattle.std.proofs.lemmas.List.{append_assoc, append-nil, map-append}
 use Rattle.std.proofs.lemmas.List.Elements.{All-cons, All-nil, All-head, All-tail, All-push}
 use Rattle.std.proofs.lemmas.List.Quantifiers.{all_pairs_push}
-use Rattle.fints_syntax_lines.specs.Lines.{text_of_lines, BeginsText}
-use Rattle.fints_syntax_lines.specs.LineLaws.{text_taken, length_taken, lines_long, same_lines, refused_at, text_or_bad_line}
+use Rattle.fints_syntax_lines.specs.Lines.{text_of_lines, AreTexts, BeginsText, IsHeaded}
+use Rattle.fints_syntax_lines.specs.LineLaws.{same_lines, text_or_bad_line}
 use Rattle.fints_script_cases.specs.Answers.{IsAnswer}
-use Rattle.fints_script_cases.specs.Cases.{field_text, answer_text, case_lines, case_text, AreFields, IsNamedValue, IsCase, IsCaseOf, OneCase, CaseOrBadLine, AreCaseLines, IsFirstBadCaseLine}
-use Rattle.fints_script_cases.specs.CaseReading.{IsCaseLine, line_text, IsNext, values_with, answers_with, IsBegun, HasNoLine, IsLineTaken}
+use Rattle.fints_script_cases.specs.Cases.{field_text, answer_text, case_lines, case_text, AreFields, IsNamedValue, IsCase, IsCaseOf, OneCase, CaseOrBadLine, AreCaseLines}
+use Rattle.fints_script_cases.specs.CaseReading.{IsCaseLine, line_text, IsNext, values_with, answers_with, IsBegun}
 use Rattle.fints_script_cases.specs.declared.values.NamedValue.{NamedValue}
 use Rattle.fints_script_cases.specs.declared.case_reading.CaseLine.{CaseLine}
 use Rattle.fints_script_cases.specs.declared.case_reading.CaseLine.TheVariants.{Field, Reply}
-use Rattle.fints_script_cases.proofs.CaseLines.{onward, line_without, lines_without, case_without, no_fields}
+use Rattle.fints_script_cases.proofs.CaseLines.{onward, line_once, lines_without, case_without, no_fields}
 use Rattle.fints_syntax_lines.specs.declared.lines.TheConstants.{MAX_TEXT}
 use Rattle.fints_script_cases.proofs.CaseTexts.{field_once, answer_once, field_no_answer}
 
@@ -63,44 +63,18 @@ grown v a (Reply answer) begun good next short = record {
   short = short;
 }
 
--- what the reader knows before the next line
-pub record Read (text rest : List ℕ) (v : List NamedValue) (a : List (List ℕ)) (n : ℕ) : Type 0 where
-  pub begun : IsBegun v a
-  pub text_is : text ≡ case_text v a ++ rest
-  pub number : n ≡ length (case_lines v a) + 1
-
-read_line : (text rest more : List ℕ) (v : List NamedValue) (a : List (List ℕ)) (n : ℕ) (line : CaseLine)
-    → Read text rest v a n → IsCaseLine line → IsNext v a line → rest ≡ line_text line ++ 10 ∷ more
-    → length text - length more ≤ MAX_TEXT → Read text more (values_with v line) (answers_with a line) (n + 1)
-read_line text rest more v a n line read good next is within =
-    let front : case_lines v a ++ line_text line ∷ [] ≡ case_lines (values_with v line) (answers_with a line) = sym (lines_with v a line next) in
-    let whole : text ≡ case_text (values_with v line) (answers_with a line) ++ more =
-    text_taken text rest (line_text line) more (case_lines v a) read.text_is is
-    ∙ ap (λ (ls : List (List ℕ)). text_of_lines ls ++ more) front in
-    let size = length_taken text more (case_lines (values_with v line) (answers_with a line)) whole in
-    let count : length (case_lines (values_with v line) (answers_with a line)) ≡ length
-    (case_lines v a ++ line_text line ∷ []) =
-    ap length (lines_with v a line next) in
-    let one : length (case_lines v a ++ line_text line ∷ []) ≡ length (case_lines v a) + 1 = length-append (case_lines v a) (line_text line ∷ []) in
-    let number = read.number in
-    record { begun = grown v a line read.begun good next (omega arith); text_is = whole; number = omega arith }
-
-pub read_more : (text rest more : List ℕ) (v : List NamedValue) (a : List (List ℕ)) (w : List NamedValue)
-    (b : List (List ℕ)) (n : ℕ) → Read text rest v a n → IsLineTaken (length text) rest more v a w b
-    → Read text more w b (n + 1)
-read_more text rest more v a w b n read taken =
-    let next = read_line text rest more v a n taken.line read taken.is taken.next taken.stands.split.0 taken.stands.within in
-    subst (λ (x : List (List ℕ)). Read text more w x (n + 1)) (sym taken.answers_are)
-    (subst (λ (x : List NamedValue). Read text more x (answers_with a taken.line) (n + 1))
-    (sym taken.values_are) next)
-
-pub few_lines : (text rest : List ℕ) (v : List NamedValue) (a : List (List ℕ)) (n : ℕ) → Read text rest v a n
-    → n ≤ MAX_TEXT + 1
-few_lines text rest v a n read =
-    let long = lines_long (case_lines v a) in
-    let short = read.begun.short in
-    let number = read.number in
-    omega arith
+-- a line is taken
+pub grown_by : (v : List NamedValue) (a : List (List ℕ)) (line : CaseLine) (text : List ℕ) (w : List NamedValue)
+    (b : List (List ℕ)) → IsBegun v a → IsCaseLine line → IsNext v a line → text ≡ line_text line
+    → length (text_of_lines (case_lines v a ++ text ∷ [])) ≤ MAX_TEXT → w ≡ values_with v line
+    → b ≡ answers_with a line → IsBegun w b
+grown_by v a line text w b begun good next is short values answers =
+    let lines = lines_with v a line next ∙ ap (λ (t : List ℕ). case_lines v a ++ t ∷ []) (sym is) in
+    let then =
+    grown v a line begun good next
+    (subst (λ (ls : List (List ℕ)). length (text_of_lines ls) ≤ MAX_TEXT) (sym lines) short) in
+    subst (λ (x : List NamedValue). IsBegun x b) (sym values)
+    (subst (λ (x : List (List ℕ)). IsBegun (values_with v line) x) (sym answers) then)
 
 -- ---- the end
 
@@ -110,21 +84,13 @@ are_fields : (v : List NamedValue) → 0 < length v
 are_fields [] some first apart = absurd (omega arith)
 are_fields (x ∷ v) some first apart = record { first = first x refl; apart = apart }
 
-is_case : (v : List NamedValue) (a : List (List ℕ)) → IsBegun v a → 0 < length v → IsCase v a
+pub is_case : (v : List NamedValue) (a : List (List ℕ)) → IsBegun v a → 0 < length v → IsCase v a
 is_case v a begun some = record {
   fields = are_fields v some begun.first begun.apart;
   values_are = begun.values_are;
   answers_are = begun.answers_are;
   short = begun.short;
 }
-
-no_rest : (front rest : List ℕ) → length rest ≡ 0 → front ++ rest ≡ front
-no_rest front [] none = append-nil front
-no_rest front (x ∷ rest) none = absurd (omega arith)
-
-pub read_all : (text rest : List ℕ) (v : List NamedValue) (a : List (List ℕ)) (n : ℕ) → Read text rest v a n
-    → length rest ≡ 0 → 0 < length v → IsCaseOf text v a
-read_all text rest v a n read none some = (is_case v a read.begun some, read.text_is ∙ no_rest (case_text v a) rest none)
 
 -- ---- a bad line
 
@@ -149,7 +115,7 @@ least_case =
 begins_first : BeginsText AreCaseLines []
 begins_first = record { later = case_lines (dialog ∷ []) []; good = record { values = dialog ∷ []; answers = []; is = least_case; lines_are = refl } }
 
-begins : (v : List NamedValue) (a : List (List ℕ)) → IsBegun v a → BeginsText AreCaseLines (case_lines v a)
+pub begins : (v : List NamedValue) (a : List (List ℕ)) → IsBegun v a → BeginsText AreCaseLines (case_lines v a)
 begins [] [] begun = record { later = field_text dialog ∷ []; good = record { values = dialog ∷ []; answers = []; is = least_case; lines_are = refl } }
 begins [] (x ∷ a) begun = let none : length (x ∷ a) ≡ 0 = begun.order refl in absurd (omega arith)
 begins (x ∷ v) a begun =
@@ -177,31 +143,55 @@ no_value_no_case [] [] hv ha c = no_fields c.values (no_lines c.values c.answers
 no_value_no_case [] (y ∷ a) hv ha c = absurd (omega arith)
 no_value_no_case (x ∷ v) a hv ha c = absurd (omega arith)
 
-pub refused : (text rest : List ℕ) (v : List NamedValue) (a : List (List ℕ)) (n : ℕ) → Read text rest v a n
-    → HasNoLine (length text) rest v a → (length rest ≡ 0 → length v ≡ 0) → IsFirstBadCaseLine text n
-refused text rest v a n read none ends =
-    refused_at AreCaseLines case_without text rest (case_lines v a) n (begins v a read.begun) read.text_is
-    read.number (λ done good. no_value_no_case v a (ends done) (read.begun.order (ends done)) good) bad
-  where
-    bad : (line more : List ℕ) → rest ≡ line ++ 10 ∷ more
-        → BeginsText AreCaseLines (case_lines v a ++ line ∷ []) → ⊥
-    bad line more is b =
-        let on = onward v a line read.begun b in
-        let size = length_taken text more (case_lines v a ++ line ∷ []) (text_taken text rest line more (case_lines v a) read.text_is is) in
-        let short = on.short in
-        none on.line more on.good on.next
-        (record {
-          split = (is ∙ ap (λ (t : List ℕ). t ++ 10 ∷ more) on.is, line_without on.line on.good);
-          within = omega arith;
-        })
+pub some_fields : (v : List NamedValue) (a : List (List ℕ)) → IsBegun v a → AreCaseLines (case_lines v a)
+    → 0 < length v
+some_fields [] a begun c = absurd (no_value_no_case [] a refl (begun.order refl) c)
+some_fields (x ∷ v) a begun c = omega arith
 
-pub no_header : (text : List ℕ) → ((rest : List ℕ) → text ≢ codes "fints-case 1\n" ++ rest)
-    → IsFirstBadCaseLine text 1
-no_header text none =
-    refused_at AreCaseLines case_without text text [] 1 begins_first refl refl (λ done good. let all = good.lines_are in absurd cc) (λ line more is b.
-    let all = b.good.lines_are in
-    let first : codes "fints-case 1" ≡ line = cc in
-    none more (is ∙ ap (λ (t : List ℕ). t ++ 10 ∷ more) (sym first)))
+pub lines_of : (v : List NamedValue) (a : List (List ℕ)) → IsCase v a → AreCaseLines (case_lines v a)
+lines_of v a is = record { values = v; answers = a; is = is; lines_are = refl }
+
+-- a line that is none of a case goes on with none
+pub no_line : (v : List NamedValue) (a : List (List ℕ)) (text : List ℕ) → IsBegun v a
+    → ((line : CaseLine) → IsCaseLine line → text ≢ line_text line)
+    → BeginsText AreCaseLines (case_lines v a ++ text ∷ []) → ⊥
+no_line v a text begun none b = let on = onward v a text begun b in none on.line on.good on.is
+
+pub not_next : (v : List NamedValue) (a : List (List ℕ)) (text : List ℕ) (line : CaseLine) → IsBegun v a
+    → IsCaseLine line → text ≡ line_text line → (IsNext v a line → ⊥)
+    → BeginsText AreCaseLines (case_lines v a ++ text ∷ []) → ⊥
+not_next v a text line begun good is not b =
+    let on = onward v a text begun b in
+    not (subst (IsNext v a) (line_once on.line line on.good good (sym on.is ∙ is)) on.next)
+
+-- ---- the texts of cases
+
+pub are_texts : AreTexts AreCaseLines
+are_texts all c = (
+  case_without all c,
+  subst (λ (ls : List (List ℕ)). length (text_of_lines ls) ≤ MAX_TEXT)
+      (sym c.lines_are) c.is.short,
+)
+
+pub headed : IsHeaded AreCaseLines (codes "fints-case 1\n") (case_lines [] [])
+headed = record {
+  line = codes "fints-case 1";
+  front_is = refl;
+  lines_are = refl;
+  first = λ all c. (map field_text c.values ++ map answer_text c.answers, c.lines_are);
+}
+
+pub none_begun : IsBegun [] []
+none_begun =
+    let size : length (case_text [] []) ≡ 13 = refl in
+    record {
+      first = λ p e. absurd cc;
+      apart = λ i j d below within. absurd (omega arith);
+      values_are = All-nil IsNamedValue;
+      answers_are = All-nil IsAnswer;
+      order = λ none. refl;
+      short = omega arith;
+    }
 
 pub case_or_bad_line : (text : List ℕ) → CaseOrBadLine text
 case_or_bad_line text none never =

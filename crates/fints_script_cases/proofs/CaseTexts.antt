@@ -11,15 +11,13 @@ use Rattle.hex.specs.Hex.{encode_lower, decode_of, lower_digits, IsBytes, is_hex
 use Rattle.hex.specs.declared.error.FromHexError.{FromHexError}
 use Rattle.hex.proofs.HexLemmas.{decode_of-encode_lower, decode_of-ok, length-encode_with}
 use Rattle.fints_params.specs.Feedback.{code_in}
-use Rattle.fints_script_fields.specs.Names.{IsName}
-use Rattle.fints_script_fields.proofs.NameLemmas.{name_without}
-use Rattle.fints_syntax_lines.specs.Lines.{IsSplit}
-use Rattle.fints_syntax_lines.specs.LineLaws.{split_same, split_none, plain}
+use Rattle.fints_syntax_lines.specs.LineLaws.{plain}
 use Rattle.fints_script_cases.specs.Patterns.{code_text}
 use Rattle.fints_script_cases.specs.Answers.{IsAnswer}
 use Rattle.fints_script_cases.specs.Cases.{value_text, field_text, codes_text, answer_text, IsNamedValue}
 use Rattle.fints_script_cases.specs.CaseReading.{IsValue}
 use Rattle.fints_script_cases.specs.declared.values.NamedValue.{NamedValue}
+use Rattle.fints_script_cases.proofs.NamedLines.{named_once, named_without}
 
 -- ---- values
 
@@ -88,20 +86,15 @@ value_without (b ∷ v) h =
 
 pub field_once : (p q : NamedValue) → IsNamedValue p → IsNamedValue q → field_text p ≡ field_text q → p ≡ q
 field_once p q hp hq e =
-    let tail : p.name ++ 32 ∷ value_text p.value ≡ q.name ++ 32 ∷ value_text q.value = append_cancel_left (codes "field ") _ _ e in
-    let parts =
-    split_same 32 p.name (value_text p.value) q.name (value_text q.value)
-    (name_without 32 p.name refl hp.0) (name_without 32 q.name refl hq.0) tail in
+    let parts = named_once (codes "field ") p.name q.name (value_text p.value) (value_text q.value) hp.0 hq.0 e in
     let value = value_once p.value q.value hp.1 hq.1 parts.1 in
     let make : List ℕ → List ℕ → NamedValue = λ n v. record { name = n; value = v } in
     ap (λ (n : List ℕ). make n p.value) parts.0 ∙ ap (λ (v : List ℕ). make q.name v) value
 
 pub field_without : (p : NamedValue) → IsNamedValue p → All (λ x. x ≢ 10) (field_text p)
 field_without p h =
-    let front = plain (codes "field ") refl in
-    All-append (λ x. x ≢ 10) (codes "field ") (p.name ++ 32 ∷ value_text p.value) front
-    (All-append (λ x. x ≢ 10) p.name (32 ∷ value_text p.value) (name_without 10 p.name refl h.0)
-    (All-cons (λ x. x ≢ 10) 32 (value_text p.value) (λ e. omega arith) (value_without p.value h.1)))
+    named_without (codes "field ") p.name (value_text p.value) (plain (codes "field ") refl) h.0
+    (value_without p.value h.1)
 
 -- ---- codes and lines of answers
 
@@ -224,25 +217,3 @@ pub field_no_answer : (p : NamedValue) (answer : List ℕ) → field_text p ≡ 
 field_no_answer p answer e = let first : ◌≡◌ {A = ℕ} 102 97 = ap (λ (t : List ℕ). get_or t 0 0) e in omega arith
 
 -- ---- what is read of a line
-
-pub no_second_part : (text rest : List ℕ) → text ≡ codes "field " ++ rest → All (λ b. b ≢ 32) rest
-    → (x : NamedValue) → IsNamedValue x → text ≡ field_text x → ⊥
-no_second_part text rest is none x h e =
-    let tail : rest ≡ x.name ++ 32 ∷ value_text x.value = append_cancel_left (codes "field ") rest _ (sym is ∙ e) in
-    split_none 32 x.name (value_text x.value) (subst (λ (t : List ℕ). All (λ b. b ≢ 32) t) tail none)
-
--- the parts of a field's line
-parts_of : (text rest name value : List ℕ) → text ≡ codes "field " ++ rest → IsSplit 32 rest name value
-    → (x : NamedValue) → IsNamedValue x → text ≡ field_text x → (name ≡ x.name) × (value ≡ value_text x.value)
-parts_of text rest name value is split x h e =
-    let tail : rest ≡ x.name ++ 32 ∷ value_text x.value = append_cancel_left (codes "field ") rest _ (sym is ∙ e) in
-    split_same 32 name value x.name (value_text x.value) split.1 (name_without 32 x.name refl h.0) (sym split.0 ∙ tail)
-
-pub no_name : (text rest name value : List ℕ) → text ≡ codes "field " ++ rest → IsSplit 32 rest name value
-    → (IsName name → ⊥) → (x : NamedValue) → IsNamedValue x → text ≡ field_text x → ⊥
-no_name text rest name value is split none x h e = none (subst IsName (sym (parts_of text rest name value is split x h e).0) h.0)
-
-pub no_value : (text rest name value : List ℕ) → text ≡ codes "field " ++ rest → IsSplit 32 rest name value
-    → ((v : List ℕ) → IsValue v → value ≢ value_text v) → (x : NamedValue) → IsNamedValue x
-    → text ≡ field_text x → ⊥
-no_value text rest name value is split none x h e = none x.value h.1 (parts_of text rest name value is split x h e).1

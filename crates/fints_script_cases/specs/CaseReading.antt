@@ -2,11 +2,12 @@
 use Rattle.std.specs.Prelude.{ℕ, ◌≡◌, ◌≢◌, ◌<◌, ◌≤◌, List, [], ◌∷◌, ◌++◌, codes, length, map, slice_get}
 use Rattle.std.specs.Option.{ForSome}
 use Rattle.std.specs.List.{All, AllPairs}
-use Rattle.fints_syntax_lines.specs.Lines.{IsNextLine}
+use Rattle.fints_script_fields.specs.NameSets.{HoldsNames}
 use Rattle.fints_script_cases.specs.Answers.{IsAnswer}
 use Rattle.fints_script_cases.specs.Cases.{field_text, answer_text, case_text, IsNamedValue}
 use Rattle.fints_script_cases.specs.declared.values.NamedValue.{NamedValue}
 use Rattle.fints_script_cases.specs.declared.case_reading.CaseLine.{CaseLine}
+use Rattle.fints_script_cases.specs.declared.case_reading.Taken.{Taken}
 use Rattle.fints_syntax_lines.specs.declared.lines.TheConstants.{MAX_TEXT}
 use Rattle.fints_script_cases.specs.declared.case_reading.CaseLine.TheVariants.{Field, Reply}
 
@@ -53,17 +54,7 @@ pub record IsBegun (values : List NamedValue) (answers : List (List ℕ)) : Type
   pub order : length values ≡ 0 → length answers ≡ 0
   pub short : length (case_text values answers) ≤ MAX_TEXT
 
--- a line of a case was taken from the rest of a text of `whole` bytes
-pub record IsLineTaken (whole : ℕ) (rest more : List ℕ) (values : List NamedValue) (answers : List (List ℕ))
-    (values_then : List NamedValue) (answers_then : List (List ℕ)) : Type 0 where
-  pub line : CaseLine
-  pub is : IsCaseLine line
-  pub next : IsNext values answers line
-  pub stands : IsNextLine whole rest (line_text line) more
-  pub values_are : values_then ≡ values_with values line
-  pub answers_are : answers_then ≡ answers_with answers line
-
--- no such line stands there
-abbrev pub HasNoLine : ℕ → List ℕ → List NamedValue → List (List ℕ) → Type 0
-HasNoLine whole rest values answers =
-    (line : CaseLine) (more : List ℕ) → IsCaseLine line → IsNext values answers line → IsNextLine whole rest (line_text line) more → ⊥
+-- a text may go on behind what was taken, in whose names each name is looked up
+pub record IsReady (taken : Taken) : Type 0 where
+  pub begun : IsBegun taken.case.values taken.case.answers.items
+  pub names : HoldsNames (value_names taken.case.values) taken.names

@@ -7,7 +7,7 @@ ghost use Rattle.fints_syntax_lines.specs.Lines.{IsReadAs};
 ghost use Rattle.fints_script_cases.specs.Patterns.{code_text};
 ghost use Rattle.fints_script_cases.specs.Answers.{IsAnswer};
 ghost use Rattle.fints_script_cases.specs.Cases.{value_text, field_text, codes_text, answer_text, IsNamedValue, IsCaseOf, IsCaseFault};
-ghost use Rattle.fints_script_cases.specs.CaseReading.{IsCapital, IsValue, IsCaseLine, line_text, IsNext, values_with, answers_with, value_names, IsLineTaken, HasNoLine};
+ghost use Rattle.fints_script_cases.specs.CaseReading.{IsCapital, IsValue, IsCaseLine, line_text, IsNext, values_with, answers_with, value_names};
 
 use crate::case::{Answer, Case};
 use crate::case_fault::CaseFault;
@@ -15,7 +15,7 @@ use crate::values::{NamedValue, Values};
 use fints_params::Code;
 use fints_script_fields::Name;
 use fints_syntax::{Bytes, Memory};
-use fints_syntax_lines::{after, next_line, split_once};
+use fints_syntax_lines::{LineTaker, after, read_lines, split_once};
 use hex::FromHexError;
 use std::alloc::Global;
 use std::collections::BTreeSet;
@@ -192,32 +192,31 @@ fn add(taken: &mut Taken, line: CaseLine) -> Result<(), Memory>
     Ok(())
 }
 
-/// Adds the line that the rest begins with, and gives what stands after it; none where that is no
-/// good line of a text of `whole` bytes.
-fn take_line<'a>(
-    alloc: Global,
-    taken: &mut Taken,
-    whole: usize,
-    rest: &'a [u8],
-) -> Result<Option<&'a [u8]>, Memory>
-    requires rest { length rest.now ≤ whole }
-    requires names { HoldsNames (value_names taken.old.case.values) taken.old.names }
-    ensures line { IfOk result (λ found. MatchOption found
-        (HasNoLine whole rest.now taken.old.case.values taken.old.case.answers.items)
-        (λ more. IsLineTaken whole rest.now more.now taken.old.case.values taken.old.case.answers.items taken.new.case.values taken.new.case.answers.items)) }
-    ensures names { IfOk result (λ found. IfSome found (λ _. HoldsNames (value_names taken.new.case.values) taken.new.names)) }
-{
-    let Some((text, more)) = next_line(whole, rest) else {
-        return Ok(None);
-    };
-    let Some(line) = parse_line(alloc, text)? else {
-        return Ok(None);
-    };
-    if !is_next(taken, &line) {
-        return Ok(None);
+impl LineTaker for Taken {
+    ghost use Rattle.fints_script_cases.specs.Cases.{case_lines, AreCaseLines};
+    ghost use Rattle.fints_script_cases.specs.CaseReading.{IsReady};
+
+    ghost kind = { AreCaseLines };
+
+    ghost lines = { λ t. case_lines t.case.values t.case.answers.items };
+
+    ghost ready = { IsReady };
+
+    fn take(&mut self, text: &[u8]) -> Result<bool, Memory> {
+        let alloc = *self.case.answers.allocator();
+        let Some(line) = parse_line(alloc, text)? else {
+            return Ok(false);
+        };
+        if !is_next(self, &line) {
+            return Ok(false);
+        }
+        add(self, line)?;
+        Ok(true)
     }
-    add(taken, line)?;
-    Ok(Some(more))
+
+    fn is_whole(&self) -> bool {
+        !self.case.values.pairs().is_empty()
+    }
 }
 
 impl Case {
@@ -226,9 +225,6 @@ impl Case {
         ensures case { IfOk result (λ case. IsCaseOf text.now case.values case.answers.items) }
         ensures refusal { IfErr result (IsCaseFault text.now) }
     {
-        let Some(mut rest) = after(text, b"fints-case 1\n") else {
-            return Err(CaseFault::Bad { line: 1 });
-        };
         let mut taken = Taken {
             case: Case {
                 values: Values::new(alloc),
@@ -236,17 +232,9 @@ impl Case {
             },
             names: BTreeSet::new(alloc),
         };
-        let mut line = 2;
-        while !rest.is_empty() {
-            match take_line(alloc, &mut taken, text.len(), rest)? {
-                Some(more) => rest = more,
-                None => return Err(CaseFault::Bad { line }),
-            }
-            line += 1;
+        match read_lines(text, b"fints-case 1\n", &mut taken)? {
+            Some(line) => Err(CaseFault::Bad { line }),
+            None => Ok(taken.case),
         }
-        if taken.case.values.pairs().is_empty() {
-            return Err(CaseFault::Bad { line });
-        }
-        Ok(taken.case)
     }
 }

@@ -1,2 +1,3 @@
 pub mod NextLines
 pub mod Prefixes
+pub mod ReadLines

@@ -36,7 +36,7 @@ plain xs h =
     (AllPass-from_list_all (λ b. not (b == 10)) xs h)
 
 -- where no line has a line feed, none of the first ones has
-all_front : (ls ms : List (List ℕ)) → All NoFeed (ls ++ ms) → All NoFeed ls
+pub all_front : (ls ms : List (List ℕ)) → All NoFeed (ls ++ ms) → All NoFeed ls
 all_front [] ms h = All-nil NoFeed
 all_front (l ∷ ls) ms h = All-cons NoFeed l ls (All-head NoFeed l (ls ++ ms) h) (all_front ls ms (All-tail NoFeed l (ls ++ ms) h))
 

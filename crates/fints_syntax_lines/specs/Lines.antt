@@ -43,11 +43,24 @@ pub record IsFirstBadLineOf (Good : List (List ℕ) → Type 0) (text : List ℕ
   pub bad : (line more : List ℕ) → rest ≡ line ++ 10 ∷ more → BeginsText Good (lines ++ line ∷ []) → ⊥
   pub no_text : (all : List (List ℕ)) → Good all → text ≢ text_of_lines all
 
--- ---- of private contracts and proofs alone
+-- ---- what a reader of lines is told of a kind of text
 
 -- without a line feed
 abbrev pub NoFeed : List ℕ → Type 0
 NoFeed line = All (λ b. b ≢ 10) line
+
+-- no line has a line feed, and no text has too many bytes
+abbrev pub AreTexts : (List (List ℕ) → Type 0) → Type 0
+AreTexts Good = (all : List (List ℕ)) → Good all → All NoFeed all × (length (text_of_lines all) ≤ MAX_TEXT)
+
+-- each text begins with the line that the front spells, and these are just that line
+pub record IsHeaded (Good : List (List ℕ) → Type 0) (front : List ℕ) (lines : List (List ℕ)) : Type 0 where
+  pub line : List ℕ
+  pub front_is : front ≡ line ++ 10 ∷ []
+  pub lines_are : lines ≡ line ∷ []
+  pub first : (all : List (List ℕ)) → Good all → (later : List (List ℕ)) × (all ≡ line ∷ later)
+
+-- ---- of private contracts and proofs alone
 
 -- what is found is a good value with this text, and nothing is found only where the text is that of no good value
 abbrev pub IsReadAs : {X : Type 0} → (X → Type 0) → (X → List ℕ) → List ℕ → Option X → Type 0

@@ -19,7 +19,7 @@ one_target P true x found otherwise here later = here
 one_target P false x found otherwise here later = later
 
 -- where the found branch leads, or the default
-found_target : (P : Target → Type 0) (p : Branch → Bool) (branches : List Branch) (otherwise : Target)
+pub found_target : (P : Target → Type 0) (p : Branch → Bool) (branches : List Branch) (otherwise : Target)
     → All (λ (branch : Branch). P branch.to) branches → P otherwise
     → P (option_map_or (λ (branch : Branch). branch.to) (find p branches) otherwise)
 found_target P p [] otherwise each o = o

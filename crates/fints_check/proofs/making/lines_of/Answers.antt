@@ -1,12 +1,13 @@
-use Rattle.std.proofs.Common.{ℕ, ◌≡◌, ◌+◌, ◌-◌, List, [], ◌∷◌, Some, take, sym, subst, arith}
+use Rattle.std.proofs.Common.{ℕ, ◌≡◌, ◌+◌, ◌-◌, List, [], ◌∷◌, Some, take, ap, sym, subst, ◌∙◌, arith}
 use Rattle.std.specs.List.{All, slice_get}
+use Rattle.std.proofs.lemmas.List.{map-append}
 use Rattle.std.proofs.lemmas.List.Elements.{All-append, All-cons}
 use Rattle.fints_script_fields.specs.Names.{IsName}
 use Rattle.fints_script.specs.Plans.{PlanValue}
 use Rattle.fints_script.specs.Steps.{StepValue}
-use Rattle.fints_check.specs.Certificates.{line_names, step_names}
+use Rattle.fints_check.specs.Certificates.{line_figures, line_names, step_names}
 use Rattle.fints_check.specs.declared.certificate.Line.{Line}
-use Rattle.fints_check.proofs.LinesMade.{AreFiguresTo, figures_more}
+use Rattle.fints_check_findings.proofs.Checking.{figures_more}
 use Rattle.fints_check.proofs.Numbered.{names_more}
 use Rattle.fints_check.proofs.making.lines_of.Goals as goal
 
@@ -29,8 +30,9 @@ loop-i-preserved c =
           (names_more (λ (x : Line). x.name) (λ (s : StepValue). s.name) old steps i line
           c.step.result.now there c.name-name.ensures c.loop-i.invariant.names);
       figures =
-          subst (AreFiguresTo script (i + 1)) (sym c.in_ok-push.ensures.items)
-          (figures_more script i old line c.reached.ensures.greatest c.loop-i.invariant.figures);
+          figures_more script i (line_figures old) (line_figures c.push.new.self.items) c.reached.result
+          (ap line_figures c.in_ok-push.ensures.items ∙ map-append (λ (x : Line). x.reached) old (line ∷ []))
+          c.reached.ensures.greatest c.loop-i.invariant.figures;
       are_names =
           subst (All (λ (x : Line). IsName x.name)) (sym c.in_ok-push.ensures.items)
           (All-append (λ (x : Line). IsName x.name) old (line ∷ []) c.loop-i.invariant.are_names

@@ -1,4 +1,5 @@
 use Rattle.std.proofs.Common.{ℕ, ◌≡◌, ◌+◌, ◌-◌, true, Some, slice_get, ap, sym, subst, ◌∙◌, arith, inl, inr}
+use Rattle.std.proofs.Math.ListN.{set}
 use Rattle.std.proofs.lemmas.Bool.{cases_lt}
 use Rattle.std.proofs.lemmas.List.{length-set}
 use Rattle.std.proofs.lemmas.Option.{same_Some}
@@ -6,7 +7,8 @@ use Rattle.fints_script.specs.Steps.{StepValue}
 use Rattle.fints_script_cases.specs.declared.answers.Target.TheVariants.{Again}
 use Rattle.fints_script.specs.Numbered.{numbered_from, numbered_within}
 use Rattle.fints_script_cases.specs.Answers.{IsOpenTo}
-use Rattle.fints_check.proofs.Numbered.{numbered_is, set_here, set_other}
+use Rattle.fints_check.proofs.Numbered.{numbered_is}
+use Rattle.fints_check_findings.proofs.Lists.{set_elsewhere, set_here}
 use Rattle.fints_script.proofs.LawLemmas.{sound_of}
 use Rattle.fints_check.proofs.verifying.repeats.Goals as goal
 
@@ -32,12 +34,13 @@ loop-i-preserved c =
       each = λ k step below at. elim (cases_lt k i) [
         | inl earlier ↦
             let old = c.loop-i.invariant.each k step earlier at in
-            let same = set_other flags i k found (λ e. omega arith) in
+            let same = set_elsewhere flags i k found (λ e. omega arith) in
             (λ h. old.0 (sym same ∙ h), λ can. same ∙ old.1 can)
         | inr past ↦
             let here : k ≡ i = omega arith in
             let is : c.step.result.now ≡ step = same_Some c.step.result.now step (sym there ∙ subst (λ (j : ℕ). slice_get steps j ≡ Some step) here at) in
-            let new = set_here flags i k found here (omega arith) in
+            let new = subst (λ (j : ℕ). slice_get (set flags i found) j ≡ Some found) (sym here)
+            (set_here flags i found (omega arith)) in
             let e = c.is_repeated.ensures in (
               λ h. subst (λ (s : StepValue). IsOpenTo s.branches s.otherwise Again) is (e.0 (same_Some found true (sym new ∙ h))),
               λ can. new ∙ ap (λ b. Some b) (e.1 (subst (λ (s : StepValue). IsOpenTo s.branches s.otherwise Again) (sym is) can)),

@@ -2,8 +2,9 @@ use Rattle.std.proofs.Common.{ℕ, ◌≡◌, ◌∙◌, Bool, List, Some, IfOk,
 use Rattle.std.proofs.lemmas.Option.{same_Some}
 use Rattle.fints_rules.specs.Breaks.{BreaksByContent}
 use Rattle.fints_script_cases.specs.declared.values.NamedValue.{NamedValue}
+use Rattle.fints_script_rows.specs.declared.fields.NamedField.{NamedField}
 use Rattle.fints_wire.specs.Views.{message_view}
-use Rattle.fints_check_findings.proofs.AtSteps.{from_same}
+use Rattle.fints_check_findings.proofs.AtSteps.{chosen_at, facts_decide}
 use Rattle.fints_check_findings.proofs.FigureRules.{figures_rule}
 use Rattle.fints_rules.specs.declared.rule.Rule.TheVariants as rule
 use Rattle.fints_script.specs.Numbered.{numbered}
@@ -14,9 +15,10 @@ use Rattle.fints_check_findings.specs.Findings.{IsReal}
 use Rattle.fints_wire.specs.Choices.{longest_choice, shortest_choice}
 use Rattle.fints_check_findings.specs.Choosing.{AreOfSort, IsChoice, chosen_sort}
 use Rattle.fints_check_findings.specs.Elements.{wants_tan}
+use Rattle.fints_check_findings.specs.StepFacts.{IsStepChoice}
 use Rattle.fints_check_findings.specs.Searching.{AreCaseValues, BreaksAtGreatest, IsGreatestAt}
 use Rattle.fints_check_findings.proofs.CaseLemmas.{if_ok, number_not, number_values, size_not, size_values, sort_is_choice}
-use Rattle.fints_check_findings.proofs.ChosenValues.{at_step_number, chosen_for, other_chosen, size_chosen}
+use Rattle.fints_check_findings.proofs.ChosenValues.{chosen_for, other_chosen, size_chosen}
 use Rattle.fints_check_findings.proofs.Reals.{real_breaks}
 use Rattle.fints_wire.proofs.LawLemmas.{extremes_are_admitted_shortest}
 use Rattle.fints_script.proofs.LawLemmas.{sound_of}
@@ -75,7 +77,9 @@ returns-in_default c =
     let granted = c.args.permissions.now in
     let sound = sound_of c.keeps.ensures.read in
     let f = c.args.finding in
-    let choice = c.choice-choice.result in
+    let choice = c.step_choice-choice.result in
+    let here = c.step-step.result.now in
+    let facts = c.facts_asked-facts.result in
     let sort : c.chosen_sort.result ≡ chosen_sort (wants_tan f.rule) choice =
     c.chosen_sort.ensures ∙ ap (λ (most : Bool). chosen_sort most choice) c.wants_tan.ensures in
     let is_choice : IfOk c.values_of-in_default.result (IsChoice (wants_tan f.rule) script.fields choice) =
@@ -83,6 +87,12 @@ returns-in_default c =
     (sort_is_choice (wants_tan f.rule) script.fields choice)
     (subst (λ s. IfOk c.values_of-in_default.result (AreOfSort script.fields s)) sort
     c.values_of-in_default.ensures) in
+    let decides =
+    facts_decide script granted c.args.plan.now.orders f.step here c.step-step.ensures.read c.step-step.ensures.numbered
+    c.keeps.ensures.closed (sym c.requires.orders) f.rule facts c.facts_asked-facts.ensures in
+    let chosen =
+    subst (λ (fields : List NamedField). IsStepChoice granted fields here facts f.rule f.segment choice)
+    c.fields.ensures c.step_choice-choice.ensures in
     let found : (number : ℕ) (step : StepValue) (values : List NamedValue) → (f.rule ≡ rule.Release → ⊥)
     → numbered script.steps f.step ≡ Some step → IsGreatestAt script.steps f.step number
     → IsReal granted script f → IsChoice (wants_tan f.rule) script.fields choice values
@@ -90,19 +100,23 @@ returns-in_default c =
     values =
     λ number step values not_release at peak real is.
     let b = real_breaks script granted sound f number step not_release at peak real in
-    let same : c.new-step.result.step ≡ step = same_Some c.new-step.result.step step (sym c.new-step.ensures.step ∙ at) in
+    let same : here ≡ step = same_Some here step (sym c.step-step.ensures.numbered ∙ at) in
     elim b.5 [
       | inl whole ↦ absurd (elim (figures_rule granted.rows.bank _ f.rule whole.1) [ inl is ↦ c.in_default.not-Number is | inr is ↦ c.in_default.not-Size is ])
       | inr held ↦
-          from_same
-          (λ g x s.
-          (other values : List NamedValue) (lower : ℕ) → Admits x.fields other
-          → BreaksByContent g (message_view x s lower other) f.rule f.segment
-          → IsChoice (wants_tan f.rule) x.fields choice values
-          → AreChosenAt (record { granted = g; script = x; n = f.step; step = s }) f.rule f.segment values)
-          c.new-step.result granted script step c.new-step.ensures.granted c.new-step.ensures.script same
-          (at_step_number c.new-step.result f.step f.rule f.segment choice c.choice-choice.ensures) b.0
-          values b.1 b.2 held is
+          let held_here =
+          subst
+          (λ (s : StepValue).
+          BreaksByContent granted (message_view script s b.1 b.0) f.rule f.segment)
+          (sym same) held in
+          subst
+          (λ (s : StepValue).
+          AreChosenAt (record { granted = granted; script = script; n = f.step; step = s }) f.rule
+          f.segment values)
+          same
+          (chosen_at (record { granted = granted; script = script; n = f.step; step = here }) f.rule
+          facts decides f.segment choice values
+          (chosen (decides.each b.1 b.0 f.segment b.2 held_here)) is)
     ]
     in
     if_ok (IsChoice (wants_tan f.rule) script.fields choice) (AreCaseValues granted script f) c.values_of-in_default.result

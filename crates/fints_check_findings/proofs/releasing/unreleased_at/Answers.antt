@@ -1,4 +1,4 @@
-use Rattle.std.proofs.Common.{ℕ, ◌≡◌, ◌∙◌, true, false, Some, sym, subst}
+use Rattle.std.proofs.Common.{ℕ, ◌↔◌, ◌≡◌, ◌∙◌, true, false, Option, Some, None, sym, subst}
 use Rattle.std.proofs.lemmas.Option.{same_Some}
 use Rattle.fints_script_cases.specs.Answers.{target_of}
 use Rattle.fints_script_cases.specs.Carrying.{Carries}
@@ -12,33 +12,41 @@ use Rattle.fints_script.proofs.LawLemmas.{sound_of}
 use Rattle.fints_check_findings.proofs.releasing.unreleased_at.Goals as goal
 
 -- where the branch leads
-goes_of : (step : StepValue) (t branch s : ℕ) (target : Target)
-    → target ≡ target_of step.branches step.otherwise branch → GoesTo step t target s
+goes_of : (step : StepValue) (t branch s : ℕ) (target : Target) (next : Option ℕ)
+    → target ≡ target_of step.branches step.otherwise branch
+    → ((s : ℕ) → GoesTo step t target s ↔ (next ≡ Some s)) → next ≡ Some s
     → GoesTo step t (target_of step.branches step.otherwise branch) s
-goes_of step t branch s target is goes = subst (λ (x : Target). GoesTo step t x s) is goes
+goes_of step t branch s target next is told here = subst (λ (x : Target). GoesTo step t x s) is ((told s).1 here)
 
 pub returns-in-None : goal.returns-in-None
-returns-in-None c s u = c.in-None.ensures s (subst (λ (target : Target). GoesTo c.args.step.now c.args.t target s) (sym c.target.ensures) u.carried.goes)
+returns-in-None c s u =
+    let next =
+    (c.next_step.ensures s).0
+    (subst (λ (target : Target). GoesTo c.args.step.now c.args.t target s) (sym c.target.ensures)
+    u.carried.goes) in
+    let both : ◌≡◌ {A = Option ℕ} None (Some s) = sym c.in-None.is ∙ next in
+    cc
 
 pub step-requires-clause-from : goal.step-requires-clause-from
 step-requires-clause-from c =
     (follower_within c.args.plan.now.script c.args.t c.args.branch c.in-Some.s c.args.step.now
     (sound_of c.keeps.ensures.read) c.requires.at
-    (goes_of c.args.step.now c.args.t c.args.branch c.in-Some.s c.target.result c.target.ensures
-    c.in-Some.ensures)).0
+    (goes_of c.args.step.now c.args.t c.args.branch c.in-Some.s c.target.result c.next_step.result
+    c.target.ensures c.next_step.ensures c.in-Some.is)).0
 
 pub step-requires-clause-to : goal.step-requires-clause-to
 step-requires-clause-to c =
     (follower_within c.args.plan.now.script c.args.t c.args.branch c.in-Some.s c.args.step.now
     (sound_of c.keeps.ensures.read) c.requires.at
-    (goes_of c.args.step.now c.args.t c.args.branch c.in-Some.s c.target.result c.target.ensures
-    c.in-Some.ensures)).1
+    (goes_of c.args.step.now c.args.t c.args.branch c.in-Some.s c.target.result c.next_step.result
+    c.target.ensures c.next_step.ensures c.in-Some.is)).1
 
 pub returns-then-releases : goal.returns-then-releases
 returns-then-releases c k u =
     let steps = c.args.plan.now.script.steps in
     let step = c.args.step.now in
-    let goes = goes_of step c.args.t c.args.branch c.in-Some.s c.target.result c.target.ensures c.in-Some.ensures in
+    let goes = goes_of step c.args.t c.args.branch c.in-Some.s c.target.result c.next_step.result
+    c.target.ensures c.next_step.ensures c.in-Some.is in
     let same = target_once c.args.t c.in-Some.s k step (target_of step.branches step.otherwise c.args.branch) goes u.carried.goes in
     let at : numbered steps c.in-Some.s ≡ Some u.to = subst (λ (j : ℕ). numbered steps j ≡ Some u.to) same u.there in
     let is : u.to ≡ c.step.result.now = same_Some u.to c.step.result.now (sym at ∙ c.step.ensures.numbered) in
@@ -56,7 +64,9 @@ pub returns-else-not-carries : goal.returns-else-not-carries
 returns-else-not-carries c = record {
   carried = record {
     carries = subst (λ (code : ℕ). Carries c.args.step.now.branches c.args.branch code) c.release_code.ensures (c.carries.ensures.0 c.if-not-carries.false);
-    goes = goes_of c.args.step.now c.args.t c.args.branch c.in-Some.s c.target.result c.target.ensures c.in-Some.ensures;
+    goes =
+        goes_of c.args.step.now c.args.t c.args.branch c.in-Some.s c.target.result c.next_step.result
+        c.target.ensures c.next_step.ensures c.in-Some.is;
   };
   to = c.step.result.now;
   there = c.step.ensures.numbered;

@@ -1,13 +1,14 @@
-use Rattle.std.proofs.Common.{ℕ, ◌+◌, ◌≤◌, ◌≡◌, List, Bool, Option, Some, None, length, map, refl, ap, arith, sym, subst, ◌∙◌}
+use Rattle.std.proofs.Common.{ℕ, ◌+◌, ◌<◌, ◌≤◌, ◌≡◌, List, Bool, Option, Some, None, length, get_or, map, refl, ap, arith, sym, subst, ◌∙◌}
 use Rattle.std.specs.Prelude.{◌↔◌, IsTrue, Vec, is_some}
 use Rattle.std.specs.declared.alloc.Global.{Global}
-use Rattle.fints_check_reach.specs.Numbers.{Has}
+use Rattle.fints_check_reach.specs.Numbers.{AreGreatest}
 use Rattle.fints_script.specs.Numbered.{numbered, numbered_at}
 use Rattle.fints_script.specs.Plans.{IsClosed}
 use Rattle.fints_check_findings.specs.Figures.{FiguresAre}
 use Rattle.fints_check_findings.specs.Findings.{IsReal}
 use Rattle.fints_check_findings.specs.Laws.{release_of}
 use Rattle.fints_script.specs.Scripts.{ScriptValue}
+use Rattle.fints_script.specs.Steps.{StepValue}
 use Rattle.fints_check_findings.specs.AtStep.{AtStepValue}
 use Rattle.fints_check_findings.specs.Searching.{AreFiguresAt, AreFoundTo, IsGreatestAt}
 use Rattle.fints_check_findings.specs.declared.finding.Finding.{Finding}
@@ -21,6 +22,14 @@ use Rattle.fints_check_findings.proofs.LawLemmas.{held_is_unreleased, release_is
 use Rattle.fints_script.proofs.LawLemmas.{sound_of}
 use Rattle.fints_check_findings.proofs.report.check.Goals as goal
 use Rattle.fints_check_findings.proofs.report.check.Goals.{in-None, in-Some+in_ok-search-in-Some}
+
+-- a number that stands at a place is the greatest of the step behind it
+peak_at : (steps : List StepValue) (numbers : List (Option ℕ)) (i number : ℕ) (cell : Option ℕ)
+    → AreGreatest steps numbers → i < length steps → cell ≡ get_or numbers i cell → cell ≡ Some number
+    → IsGreatestAt steps (i + 1) number
+peak_at steps numbers i number cell greatest within at is =
+    greatest_at steps numbers (i + 1) number greatest
+    (cell_at numbers i cell (omega (arith, greatest.long, within)) at ∙ ap (λ (x : Option ℕ). Some x) is)
 
 pub loop-i-init : goal.loop-i-init
 loop-i-init c =
@@ -38,28 +47,18 @@ loop-i-init c =
 pub figures_at-reached-requires-clause-least : goal.figures_at-reached-requires-clause-least
 figures_at-reached-requires-clause-least c =
     let script = c.args.plan.now.script in
-    let granted = c.args.permissions.now in
-    let sound = sound_of c.keeps.ensures.read in
-    let numbers = c.in_ok-numbers.numbers.greatest.items in
-    let greatest = c.in_ok-numbers.ensures.greatest in
-    let has : Has numbers (c.loop-i.i + 1) c.in-Some.number =
-    cell_at numbers c.loop-i.i c.index.result.now
-    (omega (arith, greatest.long, c.step_count-count.ensures.count)) c.index.ensures
-    ∙ ap (λ x. Some x) c.in-Some.is in
-    (number_small script granted sound (c.loop-i.i + 1) c.in-Some.number (greatest_at script.steps numbers (c.loop-i.i + 1) c.in-Some.number greatest has)).0
+    (number_small script c.args.permissions.now (sound_of c.keeps.ensures.read) (c.loop-i.i + 1) c.in-Some.number
+    (peak_at script.steps c.in_ok-numbers.numbers.greatest.items c.loop-i.i c.in-Some.number c.index.result.now
+    c.in_ok-numbers.ensures.greatest (omega (arith, c.step_count-count.ensures.count)) c.index.ensures
+    c.in-Some.is)).0
 
 pub figures_at-reached-requires-clause-most : goal.figures_at-reached-requires-clause-most
 figures_at-reached-requires-clause-most c =
     let script = c.args.plan.now.script in
-    let granted = c.args.permissions.now in
-    let sound = sound_of c.keeps.ensures.read in
-    let numbers = c.in_ok-numbers.numbers.greatest.items in
-    let greatest = c.in_ok-numbers.ensures.greatest in
-    let has : Has numbers (c.loop-i.i + 1) c.in-Some.number =
-    cell_at numbers c.loop-i.i c.index.result.now
-    (omega (arith, greatest.long, c.step_count-count.ensures.count)) c.index.ensures
-    ∙ ap (λ x. Some x) c.in-Some.is in
-    (number_small script granted sound (c.loop-i.i + 1) c.in-Some.number (greatest_at script.steps numbers (c.loop-i.i + 1) c.in-Some.number greatest has)).1
+    (number_small script c.args.permissions.now (sound_of c.keeps.ensures.read) (c.loop-i.i + 1) c.in-Some.number
+    (peak_at script.steps c.in_ok-numbers.numbers.greatest.items c.loop-i.i c.in-Some.number c.index.result.now
+    c.in_ok-numbers.ensures.greatest (omega (arith, c.step_count-count.ensures.count)) c.index.ensures
+    c.in-Some.is)).1
 
 pub new-requires-clause-figures : goal.new-requires-clause-figures
 new-requires-clause-figures c =
@@ -70,17 +69,13 @@ new-requires-clause-figures c =
 pub new-requires-clause-greatest : goal.new-requires-clause-greatest
 new-requires-clause-greatest c =
     let script = c.args.plan.now.script in
-    let numbers = c.in_ok-numbers.numbers.greatest.items in
-    let greatest = c.in_ok-numbers.ensures.greatest in
-    let has : Has numbers (c.loop-i.i + 1) c.in-Some.number =
-    cell_at numbers c.loop-i.i c.index.result.now
-    (omega (arith, greatest.long, c.step_count-count.ensures.count)) c.index.ensures
-    ∙ ap (λ x. Some x) c.in-Some.is in
     to_step (λ _ x n. IsGreatestAt x.steps n c.figures_at-reached.result.number) c.new-step.result
     c.args.permissions.now script (c.loop-i.i + 1) c.new-step.ensures.granted c.new-step.ensures.script
     c.new-step.ensures.number
     (subst (λ (k : ℕ). IsGreatestAt script.steps (c.loop-i.i + 1) k) (sym c.figures_at-reached.ensures.number)
-    (greatest_at script.steps numbers (c.loop-i.i + 1) c.in-Some.number greatest has))
+    (peak_at script.steps c.in_ok-numbers.numbers.greatest.items c.loop-i.i c.in-Some.number c.index.result.now
+    c.in_ok-numbers.ensures.greatest (omega (arith, c.step_count-count.ensures.count)) c.index.ensures
+    c.in-Some.is))
 
 pub new-requires-clause-unreleased : goal.new-requires-clause-unreleased
 new-requires-clause-unreleased c =
@@ -126,11 +121,11 @@ loop-i-preserved c =
             subst R (sym w.cell-is) (sym (ap (λ (x : Option ℕ). is_some x) w.in-None.is)),
           )
       | in-Some+in_ok-search-in-Some w ↦
-          let has : Has numbers (c.loop-i.i + 1) w.in-Some.number = cell ∙ ap (λ x. Some x) w.in-Some.is in
           let peak =
           subst (λ (k : ℕ). IsGreatestAt script.steps (c.loop-i.i + 1) k)
           (sym w.figures_at-reached.ensures.number)
-          (greatest_at script.steps numbers (c.loop-i.i + 1) w.in-Some.number greatest has) in
+          (peak_at script.steps numbers c.loop-i.i w.in-Some.number c.index.result.now greatest
+          (omega (arith, c.step_count-count.ensures.count)) c.index.ensures w.in-Some.is) in
           let step = numbered_at script.steps (c.loop-i.i + 1) (omega arith) (omega (arith, c.step_count-count.ensures.count)) in (
             subst P (sym w.findings-is)
                 (from_step (λ g x n. AreFoundTo g x (n + 1) 1 0 w.search.new.findings.items) w.new-step.result

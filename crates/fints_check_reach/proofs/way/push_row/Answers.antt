@@ -1,7 +1,6 @@
 use Rattle.std.proofs.Common.{ℕ, ◌+◌, ◌-◌, ◌<◌, ◌≡◌, List, arith, sym, subst}
 use Rattle.fints_wire.specs.Runs.{RouteTo}
 use Rattle.fints_check_reach.proofs.WayLemmas.{row_full, row_more}
-use Rattle.fints_wire.proofs.RunLawLemmas.{routes_grow_more}
 use Rattle.fints_script.proofs.LawLemmas.{sound_step_of}
 use Rattle.fints_check_reach.proofs.way.push_row.Goals as goal
 

@@ -1,10 +1,10 @@
 use Rattle.std.proofs.Common.{sym, subst}
 use Rattle.fints_params.specs.Captures.{IsReadOf}
-use Rattle.fints_cli_reports.specs.Told.{IsRefused}
-use Rattle.fints_cli_reports.proofs.Refusals.{params_refused}
+use Rattle.fints_cli_reports.specs.Told.{IsTellRefusal}
+use Rattle.fints_cli_reports.proofs.Refusals.{params_told}
 use Rattle.fints_cli_reports.proofs.telling.tell_read.Goals as goal
 
 pub returns-in-Err-clause-refused : goal.returns-in-Err-clause-refused
 returns-in-Err-clause-refused c =
-    λ capture read. subst (IsRefused capture c.args.orders.now c.args.script.now) (sym c.from.ensures)
-    (params_refused capture c.args.orders.now c.args.script.now c.in-Err.fault (subst (IsReadOf capture) c.in-Err.is read))
+    λ capture read. subst (IsTellRefusal c.args.wanted capture c.args.orders.now c.args.script.now) (sym c.from.ensures)
+    (params_told c.args.wanted capture c.args.orders.now c.args.script.now c.in-Err.fault (subst (IsReadOf capture) c.in-Err.is read))

@@ -1,15 +1,28 @@
-use Rattle.fints_script_cases.proofs.CaseTexts.{no_second_part, no_name, no_value}
+use Rattle.std.proofs.Common.{codes, subst, sym}
+use Rattle.fints_script_fields.specs.Names.{IsName}
+use Rattle.fints_script_cases.specs.Cases.{value_text}
+use Rattle.fints_script_cases.proofs.NamedLines.{has_space, parts_of}
 use Rattle.fints_script_cases.proofs.case_reading.parse_field.Goals as goal
 
 pub returns-in_default-split_once : goal.returns-in_default-split_once
-returns-in_default-split_once c = no_second_part c.args.text.now c.in-Some.rest.now c.in-Some.ensures.rest c.in_default-split_once.ensures.none
+returns-in_default-split_once c x h e =
+    has_space (codes "field ") c.args.text.now c.in-Some.rest.now c.in-Some.ensures.rest x.name
+    (value_text x.value)
+    h.0 e c.in_default-split_once.ensures.none
 
 pub returns-in_default-parse : goal.returns-in_default-parse
-returns-in_default-parse c =
-    no_name c.args.text.now c.in-Some.rest.now c.in-Some-split_once.name.now c.in-Some-split_once.value.now
-    c.in-Some.ensures.rest c.in-Some-split_once.ensures.parts c.in_default-parse.ensures
+returns-in_default-parse c x h e =
+    let parts =
+    parts_of (codes "field ") c.args.text.now c.in-Some.rest.now c.in-Some.ensures.rest x.name
+    (value_text x.value) h.0 e c.in-Some-split_once.name.now c.in-Some-split_once.value.now
+    c.in-Some-split_once.ensures.parts in
+    c.in_default-parse.ensures (subst IsName (sym parts.0) h.0)
 
 pub returns-in-None : goal.returns-in-None
-returns-in-None c =
-    no_value c.args.text.now c.in-Some.rest.now c.in-Some-split_once.name.now c.in-Some-split_once.value.now
-    c.in-Some.ensures.rest c.in-Some-split_once.ensures.parts (rw c.in-None.is at c.in_ok-value.ensures)
+returns-in-None c x h e =
+    let parts =
+    parts_of (codes "field ") c.args.text.now c.in-Some.rest.now c.in-Some.ensures.rest x.name
+    (value_text x.value) h.0 e c.in-Some-split_once.name.now c.in-Some-split_once.value.now
+    c.in-Some-split_once.ensures.parts in
+    let none = rw c.in-None.is at c.in_ok-value.ensures in
+    none x.value h.1 parts.1

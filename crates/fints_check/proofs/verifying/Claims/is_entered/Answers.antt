@@ -1,7 +1,7 @@
 use Rattle.std.proofs.Common.{◌∙◌, sym, subst}
 use Rattle.std.proofs.lemmas.Option.{same_Some}
 use Rattle.fints_script.specs.Numbered.{numbered_at}
-use Rattle.fints_check.specs.Certificates.{Covers}
+use Rattle.fints_check_reach.specs.Closed.{IsEnough}
 use Rattle.fints_check.proofs.verifying.Claims.is_entered.Goals as goal
 
 pub returns-in-Some : goal.returns-in-Some
@@ -15,8 +15,8 @@ returns-in-Some c =
           let figures = same_Some e.figures c.in-Some.reached (sym e.named ∙ named) in
           let one = same_Some e.step step.0 (sym e.at ∙ step.1) in
           told.1
-          (subst (λ s. Covers s c.args.from c.in-Some.reached.number) one
-          (subst (λ r. Covers e.step c.args.from r.number) figures e.covers)),
+          (subst (λ s. IsEnough s c.args.from c.in-Some.reached.number) one
+          (subst (λ r. IsEnough e.step c.args.from r.number) figures e.covers)),
     )
 
 pub returns-in-None : goal.returns-in-None
