@@ -1,5 +1,5 @@
 -- What is kept of a stream: how far more bytes are read, and why a piece is refused.
-use Rattle.std.proofs.Common.{◌≡◌, ◌≢◌, ℕ, ◌+◌, ◌-◌, ◌≤◌, List, [], ◌++◌, length, take, drop, refl, ap, ◌∙◌, sym, subst, arith, inl, inr, Option, Some, None}
+use Rattle.std.proofs.Common.{◌≡◌, ◌≢◌, ℕ, ◌+◌, ◌≤◌, List, ◌++◌, length, take, drop, refl, ap, ◌∙◌, sym, subst, arith, inl, inr, Option, Some, None}
 use Rattle.std.proofs.lemmas.List.{drop-append-le, length-drop}
 use Rattle.fints_syntax.specs.Buffered.{Buffered, IsHalted, IsUnfed, rest_at, rest_with}
 use Rattle.fints_syntax.specs.Streams.{IsReady, IsStreamFault}

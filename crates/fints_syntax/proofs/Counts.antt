@@ -5,7 +5,6 @@ use Rattle.std.proofs.lemmas.Bool.{cases_Bool}
 use Rattle.std.proofs.lemmas.List.{append-nil}
 use Rattle.fints_syntax_segments.specs.Spelling.{Spelled}
 use Rattle.fints_syntax_segments.specs.Segment.{Token, element_tokens, segment_tokens, IsFramed}
-use Rattle.fints_syntax_segments.specs.declared.limits.TheConstants.{MAX_ITEMS}
 use Rattle.fints_syntax.specs.Cursor.{after_element, ends_left}
 use Rattle.fints_syntax.proofs.Fills.{after_first}
 
@@ -29,17 +28,7 @@ few_ends (t ∷ ts) =
     let ih = few_ends ts in
     elim (cases_Bool (eqb t.after 58)) [ inl e ↦ rw e (omega arith) | inr e ↦ rw e (omega arith) ]
 
-behind_short : (ts : List Token) → length (after_element ts) ≤ length ts
-behind_short [] = omega arith
-behind_short (t ∷ ts) =
-    let ih = behind_short ts in
-    elim (cases_Bool (eqb t.after 58)) [ inl e ↦ rw e (omega arith) | inr e ↦ rw e (omega arith) ]
-
 -- behind the head are the other elements
-pub few_behind : (es : List (List Spelled)) (ts : List Token) → IsFramed es
-    → ts ≡ after_element (segment_tokens es) → length ts ≤ MAX_ITEMS
-few_behind es ts f is = omega (arith, ap length is, behind_short (segment_tokens es), f.items)
-
 pub count_behind : (es : List (List Spelled)) (ts : List Token) → IsFramed es
     → ts ≡ after_element (segment_tokens es) → 1 + ends_left ts ≡ length es
 count_behind [] ts f is = absurd (omega (arith, f.some))

@@ -1,7 +1,8 @@
 -- A cursor over the items of a segment.
-use Rattle.std.proofs.Common.{◌≡◌, ℕ, zero, suc, ◌+◌, ◌<◌, List, [], ◌∷◌, length, take, drop, refl, ap, ◌∙◌, sym, subst, arith, append_assoc}
+use Rattle.std.proofs.Common.{◌≡◌, ℕ, zero, suc, ◌+◌, ◌<◌, ◌≤◌, List, [], ◌∷◌, length, take, drop, refl, ap, ◌∙◌, sym, subst, arith, append_assoc}
 use Rattle.std.proofs.lemmas.List.{append-nil}
 use Rattle.fints_syntax_segments.specs.Segment.{Token, tokens_bytes, segment_tokens}
+use Rattle.fints_syntax_segments.specs.declared.limits.TheConstants.{MAX_ITEMS}
 use Rattle.fints_syntax.specs.Reader.{tokens_in, read_segment}
 use Rattle.fints_syntax.specs.Faults.{BeginsWithItem}
 use Rattle.fints_syntax.specs.Window.{IsFrameText}
@@ -46,18 +47,25 @@ pub record IsRead (bytes : List ℕ) (ts : List Token) : Type 0 where
   pub tokens : tokens_in (length bytes) bytes ≡ ts
   pub text : bytes ≡ tokens_bytes (tokens_in (length bytes) bytes)
   pub run : IsRun (tokens_in (length bytes) bytes)
+  pub few : length (tokens_in (length bytes) bytes) ≤ MAX_ITEMS
 
-pub read_run : (bytes : List ℕ) (ts : List Token) → IsRun ts → bytes ≡ tokens_bytes ts → IsRead bytes ts
-read_run bytes ts h e =
+pub read_run : (bytes : List ℕ) (ts : List Token) → IsRun ts → length ts ≤ MAX_ITEMS → bytes ≡ tokens_bytes ts
+    → IsRead bytes ts
+read_run bytes ts h few e =
     let is : tokens_in (length bytes) bytes ≡ ts = ap (λ (bs : List ℕ). tokens_in (length bs) bs) e ∙ tokens_in-run ts h in
-    record { tokens = is; text = e ∙ ap tokens_bytes (sym is); run = subst IsRun (sym is) h }
+    record {
+      tokens = is;
+      text = e ∙ ap tokens_bytes (sym is);
+      run = subst IsRun (sym is) h;
+      few = subst (λ (us : List Token). length us ≤ MAX_ITEMS) (sym is) few;
+    }
 
 pub read_frame : (source : List ℕ) → IsFrameText source → IsRead source (segment_tokens (read_segment source))
 read_frame source f =
     read_run source (segment_tokens (read_segment source))
     (run_closed (segment_tokens (read_segment source))
     (closed-segment (read_segment source) f.framed.some f.framed.nonempty f.framed.spelled))
-    f.text
+    f.framed.items f.text
 
 -- the next of what is left
 pub record IsNextOf (bytes : List ℕ) (len after : ℕ) (ts : List Token) : Type 0 where

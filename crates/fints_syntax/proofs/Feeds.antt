@@ -1,9 +1,9 @@
 -- What a piece gives to a feeder, and why it is refused.
-use Rattle.std.proofs.Common.{◌≡◌, ℕ, ◌+◌, ◌-◌, ◌<◌, ◌≤◌, List, [], ◌∷◌, ◌++◌, length, map, take, drop, refl, ap, ◌∙◌, sym, subst, arith, inl, inr, Bool, true, false, Option, Some, None}
+use Rattle.std.proofs.Common.{◌≡◌, ℕ, ◌+◌, ◌-◌, ◌<◌, ◌≤◌, List, [], ◌∷◌, ◌++◌, length, map, take, drop, refl, ap, ◌∙◌, sym, subst, arith, inl, inr, true, false, Option, Some, None}
 use Rattle.std.specs.List.{AllByRecursion, count_by}
 use Rattle.std.specs.Option.{is_some, option_map}
 use Rattle.std.proofs.lemmas.List.{drop_all, length-drop, length-append, take-append-drop, length-map}
-use Rattle.fints_syntax.specs.Buffered.{Buffered, IsFed, IsHalted, IsUnfed, failed_at, read_end, rest_at, rest_with, without_whole}
+use Rattle.fints_syntax.specs.Buffered.{Buffered, IsFed, IsHalted, IsUnfed, failed_at, rest_at, rest_with, without_whole}
 use Rattle.fints_syntax.specs.Capture.{IsBreak}
 use Rattle.fints_syntax.specs.Owned.{segment_of}
 use Rattle.fints_syntax.specs.Streams.{IsBegun, IsMemory, IsReadTo, PieceFaultAt, moved_by, data_place, is_quote, IsRest, IsReady}
@@ -14,7 +14,7 @@ use Rattle.fints_syntax_segments.specs.declared.item.OwnedSegment.{OwnedSegment}
 use Rattle.fints_syntax.specs.declared.stream.Begun.{Begun}
 use Rattle.fints_syntax.specs.declared.stream.ReadTo.{ReadTo}
 use Rattle.fints_syntax.specs.declared.capture.TheConstants.{MAX_CAPTURE}
-use Rattle.fints_syntax.specs.Feeding.{Fed, IsGiven, IsNotGiven, IsCut, IsEnded, IsUnended, stopped}
+use Rattle.fints_syntax.specs.Feeding.{Fed, IsGiven, IsNotGiven, IsCut, IsUnended}
 use Rattle.fints_syntax.proofs.Quotes.{few_segments}
 use Rattle.fints_syntax.proofs.Streams.{read_splits}
 

@@ -2,15 +2,16 @@
 use Rattle.std.proofs.Common.{◌≡◌, ◌≢◌, ℕ, ◌<◌, false, eqb, List, [], ◌∷◌, ◌++◌, length, drop, refl, ap, ◌∙◌, sym, subst, arith, ◌⊎◌, inl, inr, append_assoc}
 use Rattle.std.specs.List.{AllByRecursion}
 use Rattle.std.proofs.lemmas.List.{append-nil}
-use Rattle.fints_syntax_segments.specs.Spelling.{Spelled, item_of, IsSpelled}
+use Rattle.fints_syntax_segments.specs.Spelling.{Spelled, item_of}
 use Rattle.fints_syntax_segments.specs.Segment.{Token, element_tokens, segment_tokens, values_of, IsFramed}
 use Rattle.fints_syntax.specs.Reader.{read_elements}
 use Rattle.fints_syntax.specs.Owned.{owned_item_of}
-use Rattle.fints_syntax.specs.Cursor.{IsTaken, AreElements, after_element}
+use Rattle.fints_syntax.specs.Cursor.{IsRun, IsTaken, after_element}
 use Rattle.fints_syntax.specs.declared.cursor.Found.{Found}
 use Rattle.fints_syntax_segments.specs.declared.item.OwnedItem.{OwnedItem}
-use Rattle.fints_syntax.proofs.Tokens.{IsClosed, closed-segment, elements_in-tokens}
-use Rattle.fints_syntax.proofs.TakenItems.{owned_is, alone, with_items, none_read, first_read, element_read, colon_in, other_in, closed_colon, closed_other, none_of}
+use Rattle.fints_syntax.proofs.Tokens.{IsClosed, elements_in-tokens}
+use Rattle.fints_syntax.proofs.Cursors.{closed_run}
+use Rattle.fints_syntax.proofs.TakenItems.{owned_is, alone, with_items, none_read, first_read, element_read, colon_in, other_in, closed_colon, closed_other}
 
 -- ---- past an element
 
@@ -33,12 +34,6 @@ pub record Filled (all : List (List OwnedItem)) (tokens : List Token) (elements 
   pub closed : IsClosed tokens ⊎ ((tokens ≡ []) × (items ≡ []))
   pub values : elements ++ with_items (values_of (read_elements tokens)) items ≡ all
 
-closed_rest : (es : List (List Spelled)) → AllByRecursion (λ e. 0 < length e) es
-    → AllByRecursion (λ e. AllByRecursion IsSpelled e) es
-    → IsClosed (segment_tokens es) ⊎ ((segment_tokens es ≡ []) × (none_of ≡ []))
-closed_rest [] h s = inr (refl, refl)
-closed_rest (e ∷ es) h s = inl (closed-segment (e ∷ es) (omega arith) h s)
-
 pub all_rest : {A : Type 0} (P : A → Type 0) (xs : List A) → AllByRecursion P xs → AllByRecursion P (drop 1 xs)
 all_rest P [] h = tt
 all_rest P (x ∷ xs) h = h.1
@@ -48,16 +43,6 @@ values_rest [] = refl
 values_rest (e ∷ es) = refl
 
 -- what is behind the head
-pub elements_rest : (es : List (List Spelled)) (tokens : List Token) → IsFramed es
-    → tokens ≡ after_element (segment_tokens es) → AreElements tokens
-elements_rest es tokens f is =
-    record {
-      elements = drop 1 es;
-      nonempty = all_rest (λ (e : List Spelled). 0 < length e) es f.nonempty;
-      spelled = all_rest (λ (x : List Spelled). AllByRecursion IsSpelled x) es f.spelled;
-      tokens_are = is ∙ after_first es f.nonempty;
-    }
-
 pub values_behind : (es : List (List Spelled)) (tokens : List Token) → IsFramed es
     → tokens ≡ after_element (segment_tokens es) → values_of (read_elements tokens) ≡ drop 1 (values_of es)
 values_behind es tokens f is =
@@ -65,12 +50,10 @@ values_behind es tokens f is =
     ∙ ap (λ x. values_of x) (elements_in-tokens (drop 1 es) (all_rest (λ (e : List Spelled). 0 < length e) es f.nonempty))
     ∙ values_rest es
 
-pub filled_start : (tokens : List Token) → AreElements tokens → Filled (values_of (read_elements tokens)) tokens [] []
-filled_start tokens a =
-    subst (λ ts. Filled (values_of (read_elements ts)) ts [] []) (sym a.tokens_are) (record {
-      closed = closed_rest a.elements a.nonempty a.spelled;
-      values = none_read (values_of (read_elements (segment_tokens a.elements)));
-    })
+pub filled_start : (tokens : List Token) → IsRun tokens → Filled (values_of (read_elements tokens)) tokens [] []
+filled_start [] h = record { closed = inr (refl, refl); values = none_read (values_of (read_elements [])) }
+filled_start (t ∷ ts) h =
+    record { closed = inl (closed_run t ts h); values = none_read (values_of (read_elements (t ∷ ts))) }
 
 pub filled_colon : (all : List (List OwnedItem)) (old new : List Token) (elements : List (List OwnedItem))
     (items : List OwnedItem) (f : Found) → Filled all old elements items → IsTaken old f new → f.after ≡ 58

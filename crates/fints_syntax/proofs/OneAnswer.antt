@@ -1,13 +1,13 @@
 -- Each list of bytes is a capture, or has a fault.
-use Rattle.std.proofs.Common.{◌≡◌, ◌≢◌, ℕ, zero, suc, ◌+◌, ◌<◌, ◌≤◌, Bool, true, false, List, [], ◌∷◌, ◌++◌, length, map, take, drop, get_or, refl, ap, ◌∙◌, sym, subst, arith, inl, inr, Option, Some, None, eqb}
+use Rattle.std.proofs.Common.{◌≡◌, ◌≢◌, ℕ, zero, suc, ◌+◌, ◌<◌, ◌≤◌, true, false, List, [], ◌∷◌, ◌++◌, length, take, drop, get_or, refl, ap, ◌∙◌, sym, subst, arith, inl, inr, Option, Some, None, eqb}
 use Rattle.std.specs.List.{AllByRecursion}
 use Rattle.std.proofs.lemmas.Bool.{cases_Bool, cases_lt, eqb-true}
-use Rattle.std.proofs.lemmas.List.{length-append, length-take, length-drop, take-append-drop}
+use Rattle.std.proofs.lemmas.List.{length-append, length-take, take-append-drop}
 use Rattle.fints_syntax_segments.specs.Spelling.{Spelled, is_separator}
 use Rattle.fints_syntax_segments.specs.Segment.{segment_bytes, values_of, head_of, IsSegment}
 use Rattle.fints_syntax_segments.specs.declared.item.Head.{Head}
 use Rattle.fints_syntax_segments.specs.declared.limits.TheConstants.{MAX_BYTES, MAX_ITEMS}
-use Rattle.fints_syntax.specs.Capture.{IsBreak, IsClean, IsPlacedCapture, IsCapture, IsCaptureFault}
+use Rattle.fints_syntax.specs.Capture.{IsBreak, IsClean, IsPlacedCapture}
 use Rattle.fints_syntax.specs.Faults.{BeginsWithSegment, IsBadBinary, IsBadAt, HasTooManyItems, IsUnfinished, KindAt, window_of}
 use Rattle.fints_syntax.specs.Reader.{digits_in, read_segment}
 use Rattle.fints_syntax.specs.Runs.{RunFaultAt, fault_in_window}
@@ -16,12 +16,11 @@ use Rattle.fints_syntax.specs.Search.{SoFar}
 use Rattle.fints_syntax.specs.Window.{IsFrameOf}
 use Rattle.fints_syntax.specs.declared.capture.Placed.{Placed}
 use Rattle.fints_syntax.specs.declared.capture.TheConstants.{MAX_CAPTURE}
-use Rattle.fints_syntax.specs.declared.fault.SyntaxFault.{SyntaxFault}
 use Rattle.fints_syntax.specs.declared.fault.SyntaxKind.{SyntaxKind}
 use Rattle.fints_syntax.specs.declared.fault.SyntaxKind.TheVariants.{Memory, BadBinary, TooLong, Incomplete, BadHead, CaptureTooLong, Failed}
 use Rattle.fints_syntax.specs.Laws.{SegmentOrFault, CaptureOrFault}
 use Rattle.fints_syntax.proofs.Binaries.{HasLength, end_of, digits_in-split, bad_binary, cut_digits, cut_data, whole_binary, has_from, bad_no_length, bad_no_separator}
-use Rattle.fints_syntax.proofs.Captures.{Run, run_start, run_more, run_end, run_fault, short_fault, long_fault, long_read, placed_capture, some_bytes}
+use Rattle.fints_syntax.proofs.Captures.{Run, run_start, run_more, run_end, run_fault, short_fault, long_fault, long_read, some_bytes}
 use Rattle.fints_syntax.proofs.Parsed.{frame_text, frame_len, frame_segment, frame_begins, no_head, take_window, segment_read}
 use Rattle.fints_syntax.proofs.Steps.{text_size}
 use Rattle.fints_syntax.proofs.Texts.{whole_text, cut_text}

@@ -1,8 +1,8 @@
 -- What a cursor over a segment's text has left: items, each with the byte after it. Private contracts alone cite these words.
-use Rattle.std.specs.Prelude.{◌≡◌, ◌==◌, if◌then◌else◌, ℕ, ◌+◌, ◌<◌, List, [], ◌∷◌, length, map, Option, Some, None}
-use Rattle.std.specs.List.{AllByRecursion}
+use Rattle.std.specs.Prelude.{◌≡◌, ◌==◌, if◌then◌else◌, ℕ, ◌+◌, ◌≤◌, List, [], ◌∷◌, length, map, Option, Some, None}
 use Rattle.fints_syntax_segments.specs.Spelling.{Spelled, IsSpelled, item_of}
-use Rattle.fints_syntax_segments.specs.Segment.{Token, item_value, tokens_bytes, segment_tokens}
+use Rattle.fints_syntax_segments.specs.Segment.{Token, item_value, tokens_bytes}
+use Rattle.fints_syntax_segments.specs.declared.limits.TheConstants.{MAX_ITEMS}
 use Rattle.fints_syntax.specs.Reader.{tokens_in}
 use Rattle.fints_syntax.specs.Faults.{IsContinued}
 use Rattle.fints_syntax.specs.ItemIs.{IsItem}
@@ -21,6 +21,7 @@ tokens_of c = tokens_in (length c.rest.now) c.rest.now
 pub record IsCursor (c : Inside) : Type 0 where
   pub text : c.rest.now ≡ tokens_bytes (tokens_in (length c.rest.now) c.rest.now)
   pub run : IsRun (tokens_in (length c.rest.now) c.rest.now)
+  pub few : length (tokens_in (length c.rest.now) c.rest.now) ≤ MAX_ITEMS
 
 -- the first item that was left is found, and the others are left
 pub record IsTaken (old : List Token) (f : Found) (new : List Token) : Type 0 where
@@ -41,13 +42,6 @@ front (t ∷ ts) = t.item ∷ (if t.after == 58 then front ts else [])
 
 abbrev pub front_values : List Token → List (List ℕ)
 front_values ts = map item_value (map item_of (front ts))
-
--- the items are those of some elements, each of which has one
-pub record AreElements (tokens : List Token) : Type 0 where
-  pub elements : List (List Spelled)
-  pub nonempty : AllByRecursion (λ e. 0 < length e) elements
-  pub spelled : AllByRecursion (λ e. AllByRecursion IsSpelled e) elements
-  pub tokens_are : tokens ≡ segment_tokens elements
 
 -- how many of the items end an element
 abbrev pub ends_left : List Token → ℕ

@@ -1,12 +1,13 @@
 //! The items of a segment one after the other.
-ghost use Rattle.std.specs.Prelude.{◌≡◌, [], IfNone, IfSome};
-ghost use Rattle.fints_syntax_segments.specs.Segment.{segment_tokens};
-ghost use Rattle.fints_syntax.specs.Reader.{read_segment};
+ghost use Rattle.std.specs.Prelude.{◌≡◌, ◌≤◌, [], IfNone, IfSome, OnOk};
+ghost use Rattle.fints_syntax_segments.specs.Segment.{segment_tokens, values_of};
+ghost use Rattle.fints_syntax.specs.Reader.{read_elements, read_segment};
 ghost use Rattle.fints_syntax.specs.Window.{IsFrameText};
-ghost use Rattle.fints_syntax.specs.Cursor.{IsTaken};
+ghost use Rattle.fints_syntax.specs.Cursor.{ends_left, IsTaken};
 
 use crate::scan::{Scan, scan_item};
 use crate::text::{Item, item_from};
+use fints_syntax_segments::{Filling, MAX_ITEMS, Memory};
 use std::marker::Model;
 
 /// An item, and the byte after it: `:`, `+` or `'`.
@@ -16,7 +17,8 @@ pub struct Found<'a> {
     pub after: u8,
 }
 
-/// The items of a segment that are left; a contract sees them, each with the byte after it.
+/// The items of a segment that are left, at most 20,000; a contract sees them, each with the byte
+/// after it.
 #[derive(Drop)]
 pub struct Cursor<'a> {
     rest: &'a [u8],
@@ -51,6 +53,37 @@ impl<'a> Cursor<'a> {
         ensures { result ≡ self.now }
     {
         Cursor { rest: self.rest }
+    }
+
+    /// How many of the items end an element.
+    pub fn element_count(&self) -> usize
+        ensures value { result ≡ ends_left self.now }
+        ensures few { result ≤ MAX_ITEMS }
+    {
+        let mut cursor = Cursor { rest: self.rest };
+        let mut count = 0;
+        while let Some(found) = cursor.step() {
+            if found.after != b':' {
+                count += 1;
+            }
+        }
+        count
+    }
+
+    /// The values of the elements that the items make, in one pass, in place of what was held.
+    pub fn fill(&self, filling: &mut Filling) -> Result<(), Memory>
+        ensures { OnOk result (filling.new
+            ≡ record { elements = values_of (read_elements self.now); items = [] }) }
+    {
+        filling.clear();
+        let mut cursor = Cursor { rest: self.rest };
+        while let Some(found) = cursor.step() {
+            filling.add(&found.item)?;
+            if found.after != b':' {
+                filling.close()?;
+            }
+        }
+        Ok(())
     }
 
     /// The next item.

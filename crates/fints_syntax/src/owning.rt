@@ -1,16 +1,14 @@
-//! Items and elements by their values, read in one pass.
-ghost use Rattle.std.specs.Prelude.{◌≡◌, ◌≤◌, ◌++◌, [], OnOk, OnErr, length};
-ghost use Rattle.fints_syntax_segments.specs.Segment.{values_of};
+//! Items by their values, and the first items of elements.
+ghost use Rattle.std.specs.Prelude.{◌≡◌, ◌++◌, OnOk, OnErr};
 ghost use Rattle.fints_syntax_segments.specs.Spelling.{text_value};
 ghost use Rattle.fints_syntax_segments.specs.Written.{KeepsFront};
 ghost use Rattle.fints_syntax.specs.Owned.{owned_item_of};
-ghost use Rattle.fints_syntax.specs.Reader.{read_elements};
-ghost use Rattle.fints_syntax.specs.Cursor.{after_element, ends_left, first_of, AreElements};
+ghost use Rattle.fints_syntax.specs.Cursor.{after_element, first_of};
 ghost use Rattle.fints_syntax.specs.ItemIs.{ItemIs};
 
 use crate::cursor::Cursor;
 use crate::text::{Item, RawText, has_escape};
-use fints_syntax_segments::{Filling, MAX_ITEMS, Memory, Valued};
+use fints_syntax_segments::Valued;
 use std::alloc::AllocError;
 
 fn append_raw(out: &mut Vec<u8>, raw: &RawText<'_>) -> Result<(), AllocError>
@@ -64,36 +62,4 @@ pub fn first_item<'a>(cursor: &mut Cursor<'a>) -> Option<Item<'a>>
         skip_element(cursor);
     }
     Some(found.item)
-}
-
-/// How many elements the items are of.
-pub fn count_elements(items: &Cursor<'_>) -> usize
-    requires { length items.now ≤ MAX_ITEMS }
-    ensures { result ≡ ends_left items.now }
-{
-    let mut cursor = items.again();
-    let mut count = 0;
-    while let Some(found) = cursor.step() {
-        if found.after != b':' {
-            count += 1;
-        }
-    }
-    count
-}
-
-/// The values of these elements, in one pass, in place of what was held.
-pub fn fill(filling: &mut Filling, items: &Cursor<'_>) -> Result<(), Memory>
-    requires { AreElements items.now }
-    ensures { OnOk result (filling.new
-        ≡ record { elements = values_of (read_elements items.now); items = [] }) }
-{
-    filling.clear();
-    let mut cursor = items.again();
-    while let Some(found) = cursor.step() {
-        filling.add(&found.item)?;
-        if found.after != b':' {
-            filling.close()?;
-        }
-    }
-    Ok(())
 }

@@ -1,4 +1,4 @@
-use Rattle.std.proofs.Common.{◌+◌, drop, arith}
+use Rattle.std.proofs.Common.{◌+◌, drop}
 use Rattle.std.proofs.lemmas.List.{take_rest}
 use Rattle.fints_syntax.proofs.Windows.{framed, unfinished, so_far_more}
 use Rattle.fints_syntax.proofs.Texts.{no_units}

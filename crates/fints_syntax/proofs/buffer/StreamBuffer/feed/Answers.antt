@@ -1,4 +1,4 @@
-use Rattle.std.proofs.Common.{◌≡◌, ◌≢◌, Some, ◌+◌, ◌∙◌, ap, drop, refl, sym, subst, arith}
+use Rattle.std.proofs.Common.{◌≡◌, ◌≢◌, Some, ◌∙◌, ap, drop, refl, subst, arith}
 use Rattle.fints_syntax.specs.Buffered.{Buffered, IsUnfed, rest_with}
 use Rattle.fints_syntax.specs.BufferFields.{buffered_of}
 use Rattle.fints_syntax.specs.declared.fault.SyntaxKind.TheVariants.{Memory}

@@ -1,5 +1,6 @@
-use Rattle.std.proofs.Common.{◌≡◌, ◌<◌, ◌∷◌, ◌∙◌, List, length, sym, ap, subst, arith}
+use Rattle.std.proofs.Common.{◌≡◌, ◌<◌, ◌≤◌, ◌∷◌, ◌∙◌, List, length, sym, ap, subst, arith}
 use Rattle.fints_syntax_segments.specs.Segment.{Token}
+use Rattle.fints_syntax_segments.specs.declared.limits.TheConstants.{MAX_ITEMS}
 use Rattle.fints_syntax.specs.Reader.{tokens_in, read_item}
 use Rattle.fints_syntax.specs.Items.{IsSpelledText}
 use Rattle.fints_syntax.specs.ItemIs.{IsItem}
@@ -24,15 +25,17 @@ invariant_of-self c =
     let bs = c.self.inside.rest.now in
     let some : 0 < length bs = grind arith in
     let n = next_of bs c.in-Whole.len c.in-Whole.after (tokens_in (length bs) bs) c.self.invariant.run c.self.invariant.text some c.in-Whole.ensures in
-    let r = read_run c.split_at-in-Whole.result.1.now n.more n.run (c.split_at-in-Whole.ensures.back ∙ n.rest) in
-    record { text = r.text; run = r.run }
+    let few : length n.more ≤ MAX_ITEMS = omega (arith, ap length n.split, c.self.invariant.few) in
+    let r = read_run c.split_at-in-Whole.result.1.now n.more n.run few (c.split_at-in-Whole.ensures.back ∙ n.rest) in
+    record { text = r.text; run = r.run; few = r.few }
 
 pub returns-in-Whole-clause-taken : goal.returns-in-Whole-clause-taken
 returns-in-Whole-clause-taken c =
     let bs = c.self.inside.rest.now in
     let some : 0 < length bs = grind arith in
     let n = next_of bs c.in-Whole.len c.in-Whole.after (tokens_in (length bs) bs) c.self.invariant.run c.self.invariant.text some c.in-Whole.ensures in
-    let r = read_run c.split_at-in-Whole.result.1.now n.more n.run (c.split_at-in-Whole.ensures.back ∙ n.rest) in
+    let few : length n.more ≤ MAX_ITEMS = omega (arith, ap length n.split, c.self.invariant.few) in
+    let r = read_run c.split_at-in-Whole.result.1.now n.more n.run few (c.split_at-in-Whole.ensures.back ∙ n.rest) in
     let is = ap read_item c.split_at.ensures.front ∙ n.item in
     record {
       token = n.token;

@@ -1,8 +1,8 @@
-use Rattle.std.proofs.Common.{◌≡◌, ◌∙◌, true, false, [], ◌≤◌, ◌+◌, length, not, ap, refl, sym, subst, arith}
+use Rattle.std.proofs.Common.{◌∙◌, [], ◌+◌, not, ap, sym, subst, arith}
 use Rattle.fints_syntax.specs.Buffered.{Buffered}
 use Rattle.fints_syntax.specs.Feeding.{Fed, IsGiven, IsNotGiven}
-use Rattle.fints_syntax.specs.FeederFields.{fed_of, IsFeeder}
-use Rattle.fints_syntax.proofs.Feeds.{fault, fed_by, few, given, left_is, memory, nothing_begun, read_is, refused, stops, unfailed}
+use Rattle.fints_syntax.specs.FeederFields.{IsFeeder}
+use Rattle.fints_syntax.proofs.Feeds.{fault, fed_by, few, given, memory, nothing_begun, read_is, stops, unfailed}
 use Rattle.fints_syntax.proofs.feeder.Feeder.feed.Goals as goal
 
 pub invariant_of-self-then-is_none : goal.invariant_of-self-then-is_none

@@ -6,13 +6,8 @@ use Rattle.fints_syntax.specs.Owned.{segment_of}
 use Rattle.fints_syntax_segments.specs.declared.item.Head.{Head}
 use Rattle.fints_syntax_segments.specs.declared.item.OwnedItem.{OwnedItem}
 use Rattle.fints_syntax_segments.specs.declared.item.OwnedSegment.{OwnedSegment}
-use Rattle.fints_syntax.proofs.Fills.{elements_rest, values_behind}
+use Rattle.fints_syntax.proofs.Fills.{values_behind}
 use Rattle.fints_syntax.proofs.view.SegmentView.to_owned_in.Goals as goal
-
-pub fill-requires : goal.fill-requires
-fill-requires c =
-    let s = c.self.inside in
-    elements_rest (read_segment s.source.now) s.behind_head c.self.invariant.segment.framed c.self.invariant.behind_head
 
 abbrev make : Head → List (List OwnedItem) → OwnedSegment
 make h es = record { head = h; elements = es }
