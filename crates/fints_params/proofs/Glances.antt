@@ -22,7 +22,7 @@ use Rattle.fints_params.specs.Parameters.{skipped_in}
 use Rattle.fints_params.specs.Orders.{is_order_identifier, kind_of_orders, order_of, order_in, is_odd_order}
 use Rattle.fints_params.specs.Bank.{is_bank}
 use Rattle.fints_params.specs.Pins.{is_pins}
-use Rattle.fints_params.specs.Tans.{is_tans, tan_in, tan_of}
+use Rattle.fints_params.specs.Tans.{is_tans, tan_in}
 use Rattle.fints_params.specs.Accounts.{is_usage, is_account, entry_elements, is_odd_element}
 use Rattle.fints_params.specs.Sealed.{is_sealed}
 use Rattle.fints_params.specs.Taken.{AddsRows, ParamsSoFar, MOST, capped_sum}

@@ -40,10 +40,11 @@ fn number_in(item: &Option<Item<'_>>) -> Option<u32>
     parse_number(item.as_ref()?.plain_value()?)
 }
 
-// The row of a parameter segment, where its numbers are texts without escapes.
+// The row of a segment that says something of this kind of orders, where its numbers are texts
+// without escapes.
 fn order_row(segment: &SegmentView<'_>, kind: Kind) -> Option<OrderParam>
-    requires { kind_of_orders (segment_of segment.now).head.id ≡ Some kind }
-    ensures { IfSome result (λ row. order_in (segment_of segment.now) ≡ Some row) }
+    ensures { IfSome result (λ row. kind_of_orders (segment_of segment.now).head.id ≡ Some kind
+        → order_in (segment_of segment.now) ≡ Some row) }
 {
     let (second, third) = segment.first_items();
     let orders = number_in(&second)?;

@@ -11,4 +11,4 @@ returns-in-Some-order_row c =
     let id : s.head.id ≡ c.id-id.result = head_part {A = List ℕ} (λ h. h.id) c.args.segment.now c.id-id.result c.id-id.ensures in
     let kind : kind_of_orders s.head.id ≡ Some c.in-Some.kind = ap kind_of_orders id ∙ sym c.in-Some.ensures in
     let other : bytes_eq s.head.id (codes "HITANS") ≡ false = ap (λ x. bytes_eq x (codes "HITANS")) id ∙ sym c.if-is.ensures in
-    (order_alone s c.in-Some.kind kind other, c.in-Some-order_row.ensures)
+    (order_alone s c.in-Some.kind kind other, c.in-Some-order_row.ensures kind)
