@@ -17,7 +17,7 @@ use std::marker::Model;
 #[derive(Clone, Copy)]
 pub struct Kind {
     bytes: [u8; 6],
-    len: usize,
+    len: u8,
 }
 
 impl Model for Kind {
@@ -106,7 +106,7 @@ fn padded_kind(text: &[u8]) -> Option<Kind>
     bytes[..text.len()].copy_from_slice(text);
     Some(Kind {
         bytes,
-        len: text.len(),
+        len: text.len() as u8,
     })
 }
 
@@ -151,6 +151,6 @@ impl Kind {
     pub fn as_bytes(&self) -> &[u8]
         ensures { result.now ≡ self.now }
     {
-        &self.bytes[..self.len]
+        &self.bytes[..usize::from(self.len)]
     }
 }
