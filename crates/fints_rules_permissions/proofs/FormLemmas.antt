@@ -8,9 +8,9 @@ use Rattle.std.proofs.lemmas.Bool.{false≢true}
 use Rattle.std.proofs.lemmas.Bool.Decides.{Decides-and}
 use Rattle.std.proofs.lemmas.List.Folds.{Any-from_list_any, list_any-from_Any}
 use Rattle.std.proofs.lemmas.Slice.Eq.{bytes_eq-Decides}
-use Rattle.fints_rules_permissions.specs.LimitMaps.{HoldsForms, key_eq, order_key}
+use Rattle.fints_rules_permissions.specs.FormMaps.{HoldsForms, key_eq, order_key}
 use Rattle.fints_rules_permissions.specs.Orders.{IsSameOrder, form_of, is_order_of}
-use Rattle.fints_rules_permissions.specs.declared.limits.OrderKey.{OrderKey}
+use Rattle.fints_rules_permissions.specs.declared.ranks.OrderKey.{OrderKey}
 use Rattle.fints_rules_permissions.specs.declared.orders.AccountForm.{AccountForm}
 use Rattle.fints_rules_permissions.specs.declared.orders.OrderRow.{OrderRow}
 use Rattle.fints_rules_permissions.proofs.LimitLemmas.{key_decides}

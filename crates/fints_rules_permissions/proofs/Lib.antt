@@ -1,4 +1,6 @@
 pub mod OrderLemmas
+pub mod Members
+pub mod RankLemmas
 pub mod LimitLemmas
 pub mod NeedLemmas
 pub mod SeenLemmas

@@ -1,10 +1,8 @@
 -- The entries of accounts in order, and those that a permit speaks of.
-use Rattle.std.proofs.Common.{◌≡◌, ◌⊎◌, ℕ, zero, suc, List, [], ◌∷◌, Option, Some, None, refl, ap, ◌∙◌, sym, subst, arith, inl, inr}
+use Rattle.std.proofs.Common.{◌≡◌, ℕ, List, [], ◌∷◌, Option, Some, None, refl, ap, ◌∙◌, sym, subst, inl, inr}
 use mathlib.Core.Bool.{true≢false}
 use Rattle.std.specs.Prelude.{Contains}
-use Rattle.std.specs.List.{flat_map}
 use Rattle.std.specs.List.Sorted.{IsPermutation}
-use Rattle.std.proofs.lemmas.List.Elements.{Contains-append_left, Contains-append_right, Contains-append_cases}
 use Rattle.std.proofs.lemmas.List.Sorted.{IsPermutation-sym, Contains-permutation}
 use Rattle.fints_params.specs.Parameters.{Rows}
 use Rattle.fints_params.specs.declared.rows.AccountRow.{AccountRow}
@@ -15,37 +13,7 @@ use Rattle.fints_rules_permissions.specs.Permits.{IsEntryOf, IsLeastNeed}
 use Rattle.fints_rules_permissions.specs.declared.needs.Naming.{Naming}
 use Rattle.fints_rules_permissions.specs.declared.needs.Naming.TheVariants.{Iban, Items}
 use Rattle.fints_rules_permissions.specs.Needs.{Key, key_of, Seen, account_by, seen_as, seen_key, seen_twice, seen_in_row, seen_in, IsLeastOf}
-
--- ---- what stands in joined lists
-
-cons_cases : {X : Type 0} (x : X) (xs : List X) (y : X) → Contains (x ∷ xs) y → (x ≡ y) ⊎ Contains xs y
-cons_cases x xs y (zero, lt, is) = inl is
-cons_cases x xs y (suc k, lt, is) = inr (k, omega arith, is)
-
-cons_more : {X : Type 0} (x : X) (xs : List X) (y : X) → Contains xs y → Contains (x ∷ xs) y
-cons_more x xs y h = Contains-append_right (x ∷ []) xs y h
-
-none_in : {X : Type 0} (x : X) → Contains [] x → ⊥
-none_in x (k, lt, is) = absurd (omega arith)
-
-cons_first : {X : Type 0} (x : X) (xs : List X) → Contains (x ∷ xs) x
-cons_first x xs = (0, omega arith, refl)
-
-to_flat_map : {X A : Type 0} (f : X → List A) (xs : List X) (x : X) (a : A) → Contains xs x → Contains (f x) a
-    → Contains (flat_map f xs) a
-to_flat_map f [] x a (k, lt, is) h = absurd (omega arith)
-to_flat_map f (y ∷ ys) x a among h = elim (cons_cases y ys x among) [
-  | inl e ↦ Contains-append_left (f y) (flat_map f ys) a (subst (λ z. Contains (f z) a) (sym e) h)
-  | inr c ↦ Contains-append_right (f y) (flat_map f ys) a (to_flat_map f ys x a c h)
-]
-
-from_flat_map : {X A : Type 0} (f : X → List A) (xs : List X) (a : A) → Contains (flat_map f xs) a
-    → (x : X) × Contains xs x × Contains (f x) a
-from_flat_map f [] a (k, lt, is) = absurd (omega arith)
-from_flat_map f (y ∷ ys) a h = elim (Contains-append_cases (f y) (flat_map f ys) a h) [
-  | inl c ↦ (y, cons_first y ys, c)
-  | inr c ↦ let (x, among, at) = from_flat_map f ys a c in (x, cons_more y ys x among, at)
-]
+use Rattle.fints_rules_permissions.proofs.Members.{cons_cases, cons_first, cons_more, none_in, to_flat_map, from_flat_map}
 
 -- ---- entries of rows
 

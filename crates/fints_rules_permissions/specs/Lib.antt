@@ -6,5 +6,7 @@ pub mod Orders
 pub mod OrderFaults
 pub mod Laws
 pub mod Permits
-pub mod LimitMaps
+pub mod FormMaps
+pub mod Ranks
+pub mod Limits
 pub mod Needs

@@ -2,9 +2,8 @@
 use Rattle.std.specs.Prelude.{ℕ, ◌≡◌, ◌≤◌, Bool, true, false, List, [], ◌∷◌, Option, Some, None, Contains, slice_get}
 use Rattle.std.specs.Cmp.Lexicographic.{slice_cmp}
 use Rattle.std.specs.List.{flat_map}
-use Rattle.std.specs.List.Sorted.{IsPartitionPoint}
 use Rattle.std.specs.declared.cmp.Ordering.{Ordering}
-use Rattle.std.specs.Ordering.{is_lt, nat_cmp, bool_cmp, ordering_then}
+use Rattle.std.specs.Ordering.{nat_cmp, bool_cmp, ordering_then}
 use Rattle.fints_params.specs.declared.rows.AccountRow.{AccountRow}
 use Rattle.fints_params.specs.declared.rows.Entry.{Entry}
 use Rattle.fints_rules_permissions.specs.Accounts.{Account, nobody, by_items, by_iban}
@@ -111,14 +110,6 @@ seen_in_row row = flat_map (seen_twice row) row.entries
 
 abbrev pub seen_in : List AccountRow → List Seen
 seen_in rows = flat_map seen_in_row rows
-
--- the entries before place i are before the key, and the others aren't
-abbrev pub BeginsAt : {X : Type 0} → (X → Seen) → Key → List X → ℕ → Type 0
-BeginsAt seen key xs i =
-    IsPartitionPoint
-    (λ x. is_lt (key_cmp (seen_key (seen x)) key) ≡ true)
-    (λ x. is_lt (key_cmp (seen_key (seen x)) key) ≡ false)
-    xs i
 
 -- ---- the least
 

@@ -3,16 +3,17 @@
 #![tactic(auto)]
 
 mod account;
-mod hashing;
 pub mod kinds;
 pub mod laws;
 mod limits;
 mod needs;
 mod orders;
 mod permissions;
+mod ranks;
 
 pub use account::AccountKey;
 pub use fints_syntax::Memory;
-pub use limits::{Demand, Limits, OrderKey};
+pub use limits::{Demand, Limits};
 pub use orders::{AccountForm, MAX_ROWS, OrderRow, OrderTable, TableFault};
 pub use permissions::{Permissions, Permit};
+pub use ranks::OrderKey;

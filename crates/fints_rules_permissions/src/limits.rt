@@ -1,24 +1,14 @@
 //! The limits of each kind and version of orders, and whether a kind demands a TAN.
-ghost use Rattle.std.specs.Prelude.{◌≡◌, if◌then◌else◌, ℕ, List, IfOk, OnOk, Some};
-ghost use Rattle.std.specs.Str.{bytes_eq};
-ghost use Rattle.indexmap.specs.IndexMap.{get};
-ghost use Rattle.fints_rules_permissions.specs.declared.limits.OrderKey.{OrderKey};
-ghost use Rattle.fints_rules_permissions.specs.Permits.{LimitsAre, params_of};
-ghost use Rattle.fints_rules_permissions.specs.LimitMaps.{key_eq, lower, param_key, with_limits, with_pin, HoldsLimits, HoldsPins};
+ghost use Rattle.std.specs.Prelude.{◌≡◌, ◌<◌, ◌^◌, List, IfOk};
+ghost use Rattle.fints_params.specs.declared.rows.OrderParam.{OrderParam as OrderParamValue};
+ghost use Rattle.fints_params.specs.declared.rows.PinRow.{PinRow as PinRowValue};
+ghost use Rattle.fints_rules_permissions.specs.Permits.{params_of, DemandIs, LimitsAre};
+ghost use Rattle.fints_rules_permissions.specs.Limits.{limit_back, row_key, limit_ranked, need_ranked, kind_key, pin_ranked, HoldsLimits, HoldsPins};
 
-use crate::hashing::{order_hasher, pin_hasher};
+use crate::ranks::{OrderKey, Ranked, Ranks};
 use fints_params::{OrderParam, PinRow};
 use fints_syntax::{Kind, Memory};
-use indexmap::IndexMap;
 use std::alloc::Global;
-use std::collections::hash_map::RandomState;
-
-/// A kind and a version.
-#[derive(Clone, Copy, PartialEq, Eq, Hash)]
-pub struct OrderKey {
-    pub kind: Kind,
-    pub version: u16,
-}
 
 /// How many orders of a kind a message may have, with 0 for no limit, and how many signatures it
 /// needs.
@@ -39,75 +29,131 @@ pub enum Demand {
     Tan,
 }
 
-/// Limits by kind and version.
-pub type LimitMap = IndexMap<OrderKey, Limits, RandomState>;
-
-/// Whether a TAN is demanded, by kind.
-pub type PinMap = IndexMap<Kind, bool, RandomState>;
-
-// The lower of two limits, of which 0 is none.
-fn lower(m: u32, n: u32) -> u32
-    ensures { result ≡ lower m n }
+fn row_key(row: &OrderParam) -> OrderKey
+    ensures { result ≡ row_key row.now }
 {
-    if m == 0 {
-        n
-    } else if n == 0 {
-        m
-    } else if n < m {
-        n
-    } else {
-        m
-    }
-}
-
-// Adds a row to the limits of its kind and version.
-fn add_limits(map: &mut LimitMap, row: &OrderParam) -> Result<(), Memory>
-    ensures { OnOk result ((q : OrderKey) → get key_eq map.new q
-        ≡ if key_eq (param_key row.now) q then Some (with_limits (get key_eq map.old (param_key row.now)) row.now)
-        else get key_eq map.old q) }
-{
-    let key = OrderKey {
+    OrderKey {
         kind: row.kind,
         version: row.version,
+    }
+}
+
+// By its limit: a lower one stands first, and no limit last.
+fn limit_ranked(row: &OrderParam) -> Ranked
+    ensures ranked { result ≡ limit_ranked row.now }
+    ensures small { row.now.orders < 2 ^ 32 }
+{
+    let rank = if row.orders == 0 {
+        u32::MAX
+    } else {
+        row.orders - 1
     };
-    let limits = map.entry(key)?.or_insert(Limits {
-        orders: 0,
-        signatures: 0,
-    });
-    limits.orders = lower(limits.orders, row.orders);
-    limits.signatures = limits.signatures.max(row.signatures);
-    Ok(())
-}
-
-/// The limits of each kind and version of the rows, under a hasher whose keys are a digest of them.
-pub fn limit_map(alloc: Global, rows: &[OrderParam]) -> Result<LimitMap, Memory>
-    ensures { IfOk result (λ m. HoldsLimits rows.now (get key_eq m)) }
-{
-    let mut map = IndexMap::with_hasher(alloc, order_hasher(rows)?);
-    for row in rows {
-        add_limits(&mut map, row)?;
+    Ranked {
+        key: row_key(row),
+        rank,
     }
-    Ok(map)
 }
 
-// Adds a pair to the demands of its kind.
-fn add_pin(map: &mut PinMap, row: &PinRow) -> Result<(), Memory>
-    ensures { OnOk result ((kind : List ℕ) → get bytes_eq map.new kind
-        ≡ if bytes_eq row.now.kind kind then Some (with_pin (get bytes_eq map.old row.now.kind) row.now)
-        else get bytes_eq map.old kind) }
+// The limit of a rank.
+fn limit_of(rank: u32) -> u32
+    ensures { result ≡ limit_back rank }
 {
-    let tan = map.entry(row.kind)?.or_insert(false);
-    *tan = *tan || row.tan;
-    Ok(())
+    if rank == u32::MAX { 0 } else { rank + 1 }
 }
 
-/// Whether each kind of the pairs demands a TAN, under a hasher whose keys are a digest of them.
-pub fn pin_map(alloc: Global, rows: &[PinRow]) -> Result<PinMap, Memory>
-    ensures { IfOk result (λ m. HoldsPins rows.now (get bytes_eq m)) }
+// By its signatures: more stand first.
+fn need_ranked(row: &OrderParam) -> Ranked
+    ensures ranked { result ≡ need_ranked row.now }
+    ensures small { row.now.signatures < 2 ^ 32 }
 {
-    let mut map = IndexMap::with_hasher(alloc, pin_hasher(rows)?);
-    for row in rows {
-        add_pin(&mut map, row)?;
+    Ranked {
+        key: row_key(row),
+        rank: u32::MAX - row.signatures,
     }
-    Ok(map)
+}
+
+// By the demand: J stands before N.
+fn pin_ranked(pin: &PinRow) -> Ranked
+    ensures { result ≡ pin_ranked pin.now }
+{
+    Ranked {
+        key: kind_key(pin.kind),
+        rank: if pin.tan { 0 } else { 1 },
+    }
+}
+
+// A pair speaks of all versions of its kind, for which 0 stands.
+fn kind_key(kind: Kind) -> OrderKey
+    ensures { result ≡ kind_key kind }
+{
+    OrderKey { kind, version: 0 }
+}
+
+/// The rows of parameter segments, by the ranks of their limits and of their signatures.
+#[derive(Drop)]
+pub struct LimitTable {
+    pub orders: Ranks,
+    pub signatures: Ranks,
+}
+
+impl LimitTable {
+    /// The table of the rows.
+    pub fn of(alloc: Global, rows: &[OrderParam]) -> Result<LimitTable, Memory>
+        ensures { IfOk result (λ table. HoldsLimits rows.now table) }
+    {
+        let mut orders = Vec::new(alloc);
+        let mut signatures = Vec::new(alloc);
+        for row in rows {
+            orders.push(limit_ranked(row))?;
+            signatures.push(need_ranked(row))?;
+        }
+        Ok(LimitTable {
+            orders: Ranks::of(orders),
+            signatures: Ranks::of(signatures),
+        })
+    }
+
+    /// The limits of a kind and version, where a row has them.
+    pub fn limits(&self, key: &OrderKey) -> Option<Limits>
+        ensures { (rows : List OrderParamValue) → HoldsLimits rows self.now
+            → LimitsAre (params_of key.now.kind key.now.version rows) result }
+    {
+        let limit = self.orders.least(key)?;
+        let need = self.signatures.least(key)?;
+        Some(Limits {
+            orders: limit_of(limit),
+            signatures: u32::MAX - need,
+        })
+    }
+}
+
+/// The pairs of HIPINS, by the ranks of their demands.
+#[derive(Drop)]
+pub struct DemandTable {
+    pub ranks: Ranks,
+}
+
+impl DemandTable {
+    /// The table of the pairs.
+    pub fn of(alloc: Global, pins: &[PinRow]) -> Result<DemandTable, Memory>
+        ensures { IfOk result (λ table. HoldsPins pins.now table) }
+    {
+        let mut ranked = Vec::new(alloc);
+        for pin in pins {
+            ranked.push(pin_ranked(pin))?;
+        }
+        let ranks = Ranks::of(ranked);
+        Ok(DemandTable { ranks })
+    }
+
+    /// Whether a kind is listed, and demands a TAN.
+    pub fn demand(&self, kind: Kind) -> Demand
+        ensures { (pins : List PinRowValue) → HoldsPins pins self.now → DemandIs pins kind result }
+    {
+        match self.ranks.least(&kind_key(kind)) {
+            None => Demand::Unlisted,
+            Some(0) => Demand::Tan,
+            Some(_) => Demand::No,
+        }
+    }
 }

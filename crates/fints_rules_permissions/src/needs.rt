@@ -4,7 +4,8 @@ ghost use Rattle.std.specs.Prelude.{◌≡◌, ◌<◌, ◌++◌, length, get_or
 ghost use Rattle.std.specs.List.Sorted.{IsPermutation, IsSortedByKey};
 ghost use Rattle.std.specs.Ordering.{is_lt, is_eq};
 ghost use Rattle.fints_params.specs.declared.rows.AccountRow.{AccountRow as AccountRowValue};
-ghost use Rattle.fints_rules_permissions.specs.Needs.{key_in, key_cmp, seen_as, seen_at, seen_key, seen_cmp, seen_in_row, seen_in, BeginsAt, IsLeastOf};
+ghost use Rattle.fints_rules_permissions.specs.Needs.{key_in, key_cmp, seen_as, seen_at, seen_key, seen_cmp, seen_in_row, seen_in, IsLeastOf};
+ghost use Rattle.fints_rules_permissions.specs.Ranks.{BeginsAt};
 
 use fints_params::{AccountRow, Entry};
 use fints_syntax::Memory;
@@ -193,7 +194,7 @@ fn sort(places: &mut Vec<Place>, rows: &[AccountRow])
 // The first place whose entry isn't before the key.
 fn first_place(rows: &[AccountRow], places: &[Place], key: &NeedKey<'_>) -> usize
     requires { IsSortedByKey (seen_at rows.now) seen_cmp places.now }
-    ensures { BeginsAt (seen_at rows.now) (key_in key.now) places.now result }
+    ensures { BeginsAt key_cmp (λ p. seen_key (seen_at rows.now p)) (key_in key.now) places.now result }
 {
     places.partition_point(|place| is_before(rows, place, key))
 }

@@ -6,11 +6,11 @@ ghost use Rattle.toml.specs.Data.{array};
 ghost use Rattle.toml.specs.View.{view, table_view, items_view};
 ghost use Rattle.fints_rules_permissions.specs.declared.orders.TableFault.TheVariants.{Memory};
 ghost use Rattle.fints_rules_permissions.specs.Orders.{row_of, row_kind, account_form, AreRows, IsTableAt, DenotesTable, IsTableFault, form_of};
-ghost use Rattle.fints_rules_permissions.specs.LimitMaps.{order_key};
+ghost use Rattle.fints_rules_permissions.specs.FormMaps.{order_key};
 ghost use Rattle.fints_rules_permissions.specs.OrderFaults.{IsEntryFault, IsFaultAt, IsTableIn, IsFaultIn};
 
 use crate::kinds::is_table_kind;
-use crate::limits::OrderKey;
+use crate::ranks::OrderKey;
 use fints_syntax::{Kind, Memory};
 use fints_syntax_toml::document;
 use fints_syntax_toml::document::Unread;
@@ -95,7 +95,7 @@ impl Model for OrderTable {
     ghost Value = { List OrderRow };
 
     ghost use Rattle.indexmap.specs.IndexMap.{get};
-    ghost use Rattle.fints_rules_permissions.specs.LimitMaps.{key_eq, HoldsForms};
+    ghost use Rattle.fints_rules_permissions.specs.FormMaps.{key_eq, HoldsForms};
 
     ghost view = { λ t. t.rows.items };
 

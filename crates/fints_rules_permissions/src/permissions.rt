@@ -5,9 +5,10 @@ ghost use Rattle.fints_rules_permissions.specs.Permits.{LimitsAre, params_of, De
 
 use crate::account::AccountKey;
 use crate::kinds::is_plain_order;
-use crate::limits::{Demand, LimitMap, Limits, OrderKey, PinMap, limit_map, pin_map};
+use crate::limits::{Demand, DemandTable, LimitTable, Limits};
 use crate::needs::Needs;
 use crate::orders::{AccountForm, OrderTable};
+use crate::ranks::OrderKey;
 use fints_params::{BankRow, Params, TanRow, Usage};
 use fints_syntax::{Kind, Memory};
 use std::alloc::Global;
@@ -29,8 +30,8 @@ pub enum Permit {
 pub struct Permissions<'a> {
     params: &'a Params,
     orders: &'a OrderTable,
-    limits: LimitMap,
-    pins: PinMap,
+    limits: LimitTable,
+    pins: DemandTable,
     needs: Needs<'a>,
 }
 
@@ -39,16 +40,14 @@ impl<'a> Model for Permissions<'a> {
 
     ghost Value = { Granted };
 
-    ghost use Rattle.std.specs.Str.{bytes_eq};
-    ghost use Rattle.indexmap.specs.IndexMap.{get};
     ghost use Rattle.std.specs.List.Sorted.{IsPermutation};
-    ghost use Rattle.fints_rules_permissions.specs.LimitMaps.{key_eq, HoldsLimits, HoldsPins};
+    ghost use Rattle.fints_rules_permissions.specs.Limits.{HoldsLimits, HoldsPins};
     ghost use Rattle.fints_rules_permissions.specs.Needs.{seen_in};
 
     ghost view = { λ p. record { rows = p.params.now; orders = p.orders.now } };
 
-    ghost invariant = { λ p. HoldsLimits p.params.now.orders (get key_eq p.limits)
-        × HoldsPins p.params.now.pins (get bytes_eq p.pins)
+    ghost invariant = { λ p. HoldsLimits p.params.now.orders p.limits
+        × HoldsPins p.params.now.pins p.pins
         × IsPermutation (seen_in p.params.now.accounts) p.needs };
 }
 
@@ -62,8 +61,8 @@ impl<'a> Permissions<'a> {
         ensures rows { IfOk result (λ p. p.rows ≡ params.now) }
         ensures orders { IfOk result (λ p. p.orders ≡ orders.now) }
     {
-        let limits = limit_map(alloc, params.orders())?;
-        let pins = pin_map(alloc, params.pins())?;
+        let limits = LimitTable::of(alloc, params.orders())?;
+        let pins = DemandTable::of(alloc, params.pins())?;
         let needs = Needs::of(alloc, params.accounts())?;
         Ok(Permissions {
             params,
@@ -100,7 +99,7 @@ impl<'a> Permissions<'a> {
     pub fn limits(&self, kind: Kind, version: u16) -> Option<Limits>
         ensures { LimitsAre (params_of kind version self.now.rows.orders) result }
     {
-        self.limits.get(&OrderKey { kind, version }).copied()
+        self.limits.limits(&OrderKey { kind, version })
     }
 
     /// Whether some row of a kind and version needs more signatures.
@@ -118,11 +117,7 @@ impl<'a> Permissions<'a> {
     pub fn demand(&self, kind: Kind) -> Demand
         ensures { DemandIs self.now.rows.pins kind result }
     {
-        match self.pins.get(&kind) {
-            None => Demand::Unlisted,
-            Some(true) => Demand::Tan,
-            Some(false) => Demand::No,
-        }
+        self.pins.demand(kind)
     }
 
     fn is_listed_with_tan(&self, kind: Kind) -> bool

@@ -1,7 +1,7 @@
 use Rattle.std.proofs.Common.{ap, cond, ◌∙◌, ◌≡◌, ◌<◌, ◌+◌, arith, sym, Some, None, get_or, length, true, false}
 use Rattle.std.specs.Prelude.{Any, is_some}
 use Rattle.indexmap.specs.IndexMap.{get}
-use Rattle.fints_rules_permissions.specs.LimitMaps.{key_eq, order_key}
+use Rattle.fints_rules_permissions.specs.FormMaps.{key_eq, order_key}
 use Rattle.toml.specs.View.{view}
 use Rattle.fints_rules_permissions.specs.Orders.{form_of, row_of, IsSameOrder, IsNoRow, IsSecondRow}
 use Rattle.fints_rules_permissions.proofs.FormLemmas.{forms_more, stands, stands_not}

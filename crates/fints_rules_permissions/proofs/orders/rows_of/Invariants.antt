@@ -2,7 +2,7 @@ use Rattle.std.proofs.Common.{◌≡◌, take}
 use Rattle.std.specs.Prelude.{map}
 use Rattle.indexmap.specs.IndexMap.{get}
 use Rattle.toml.specs.View.{view}
-use Rattle.fints_rules_permissions.specs.LimitMaps.{HoldsForms, key_eq}
+use Rattle.fints_rules_permissions.specs.FormMaps.{HoldsForms, key_eq}
 use Rattle.fints_rules_permissions.specs.Orders.{AreRows}
 use Rattle.fints_rules_permissions.proofs.orders.rows_of.Given as goal
 

@@ -1,5 +1,4 @@
-use Rattle.std.proofs.Common.{rules}
 use Rattle.fints_rules_permissions.proofs.permissions.Permissions.demand.Goals as goal
 
-pub returns-in-None : goal.returns-in-None
-returns-in-None c = search rules
+pub returns : goal.returns
+returns c = rw (← c.self.view_is) (c.demand.ensures _ c.self.invariant.1)
