@@ -4,12 +4,13 @@ _fints() {
     case ${COMP_WORDS[1]} in
     show) words="--hints --params --message --help" files="--params --message" numbers="" ;;
     judge) words="--hints --params --orders --before --answer --message --help" files="--params --orders --before --answer --message" numbers="" ;;
+    audit) words="--hints --params --orders --dialogue --help" files="--params --orders --dialogue" numbers="" ;;
     check) words="--hints --params --orders --script --help" files="--params --orders --script" numbers="" ;;
     explain) words="--hints --params --orders --script --finding --help" files="--params --orders --script" numbers="--finding" ;;
     certify) words="--hints --params --orders --script --help" files="--params --orders --script" numbers="" ;;
     verify) words="--hints --params --orders --script --cert --help" files="--params --orders --script --cert" numbers="" ;;
     run) words="--hints --orders --script --case --message --help" files="--orders --script --case" numbers="--message" ;;
-    *) words="show judge check explain certify verify run help --hints --help --version" ;;
+    *) words="show judge audit check explain certify verify run help --hints --help --version" ;;
     esac
     case " $files " in
     *" $before "*)

@@ -7,8 +7,11 @@ use Rattle.fints_cli_reports.specs.RunText.{IsRunRefusal}
 use Rattle.fints_cli_texts.specs.declared.fault.Fault.{Fault}
 use Rattle.fints_cli_texts.specs.Judge.{IsJudgeRefusal}
 use Rattle.fints_cli_texts.specs.JudgeAfter.{IsJudgeAfterRefusal}
-use Rattle.fints_cli_words.specs.declared.words.Request.TheVariants.{Judge, JudgeAfter}
+use Rattle.fints_cli_recorded.specs.Audit.{IsAuditRefusal, IsOwnAuditRefusal}
+use Rattle.fints_cli_words.specs.declared.words.Request.TheVariants.{Judge, JudgeAfter, AuditOwn, Audit}
 use Rattle.fints_cli_words.specs.declared.words.Request.TheVariants as requests
+use Rattle.std.specs.Borrow.{Bor}
+use Rattle.fints_cli_words.specs.declared.words.AuditFiles.{AuditFiles}
 use Rattle.fints_cli_words.specs.declared.words.EarlierFiles.{EarlierFiles}
 use Rattle.fints_cli_words.specs.declared.words.JudgeFiles.{JudgeFiles}
 use Rattle.fints_cli_words.specs.declared.words.RunFiles.{RunFiles}
@@ -56,6 +59,28 @@ module _ (holds : Held) (params : Result Rows ParamFault) (contents : Contents) 
       (of_file (λ b. IfSome told (λ a. IsJudgeAfterRefusal capture.0 orders b a message fault)) old before loaded.before
       (of_file (λ a. IsJudgeAfterRefusal capture.0 orders before a message fault) told _ loaded.answer
       (refused capture.0 capture.2)))
+
+  pub audit_own_refused : (files : AuditFiles)
+      → IsOwnAuditRefusal contents.orders.items contents.dialogue.items fault
+      → IsLoaded (paths_of (AuditOwn files)) holds params contents
+      → RefusesRequest (AuditOwn files) holds fault
+  audit_own_refused files refused loaded =
+      let orders = contents.orders.items in
+      let told = holds files.dialogue.now in
+      of_file (λ t. IfSome told (λ d. IsOwnAuditRefusal t d fault)) (holds files.orders.now) orders loaded.orders
+      (of_file (λ d. IsOwnAuditRefusal orders d fault) told contents.dialogue.items loaded.dialogue refused)
+
+  pub audit_refused : (files : AuditFiles) (path : Bor (List ℕ))
+      → ((capture : List ℕ) → IsReadOf capture params
+      → IsAuditRefusal capture contents.orders.items contents.dialogue.items fault)
+      → IsLoaded (paths_of (Audit files path)) holds params contents
+      → RefusesRequest (Audit files path) holds fault
+  audit_refused files path refused loaded =
+      let capture = loaded.params in
+      of_files (λ q r s. IsAuditRefusal q r s fault)
+      (holds path.now) (holds files.orders.now) (holds files.dialogue.now)
+      capture.0 contents.orders.items contents.dialogue.items
+      capture.1 loaded.orders loaded.dialogue (refused capture.0 capture.2)
 
   pub run_refused : (files : RunFiles) (only : Option ℕ)
       → IsRunRefusal contents.orders.items contents.script.items contents.case.items only fault

@@ -6,8 +6,9 @@ use Rattle.fints_cli_commands.specs.declared.failing.Failure.{Failure}
 use Rattle.fints_cli_commands.specs.declared.failing.Failure.TheVariants.{Input, Unread}
 use Rattle.fints_cli_commands.specs.declared.failing.Refusal.{Refusal}
 use Rattle.fints_cli_words.specs.declared.words.Request.{Request}
-use Rattle.fints_cli_words.specs.declared.words.Request.TheVariants.{BuiltIn, Show, ShowMessage, Judge, JudgeAfter, Check, Explain, Certify, Verify}
+use Rattle.fints_cli_words.specs.declared.words.Request.TheVariants.{BuiltIn, Show, ShowMessage, Judge, JudgeAfter, AuditOwn, Audit, Check, Explain, Certify, Verify}
 use Rattle.fints_cli_words.specs.declared.words.Request.TheVariants as requests
+use Rattle.fints_cli_words.specs.declared.words.AuditFiles.{AuditFiles}
 use Rattle.fints_cli_words.specs.declared.words.JudgeFiles.{JudgeFiles}
 use Rattle.fints_cli_words.specs.declared.words.RunFiles.{RunFiles}
 use Rattle.fints_cli_words.specs.declared.words.ScriptFiles.{ScriptFiles}
@@ -17,6 +18,7 @@ use Rattle.fints_cli_texts.specs.Show.{IsShowOf, IsMemoryOrShowFault}
 use Rattle.fints_cli_texts.specs.ShowMessage.{IsShownMessage}
 use Rattle.fints_cli_texts.specs.Judge.{IsVerdictOf, IsMessageRefusal, IsJudgeRefusal}
 use Rattle.fints_cli_texts.specs.JudgeAfter.{IsJudgeAfterRefusal, IsVerdictAfter}
+use Rattle.fints_cli_recorded.specs.Audit.{IsAuditOf, IsOwnAuditOf, IsAuditRefusal, IsOwnAuditRefusal}
 use Rattle.fints_cli_reports.specs.Told.{IsToldOf, IsTellRefusal}
 use Rattle.fints_cli_reports.specs.declared.telling.Wanted.{Wanted}
 use Rattle.fints_cli_reports.specs.declared.telling.Wanted.TheVariants.{Report, Cases, OneCase, Certificate}
@@ -48,6 +50,15 @@ OfScript holds files P = IfTold (holds files.params.now) (holds files.orders.now
 abbrev pub OfMessage : Held → JudgeFiles → (List ℕ → List ℕ → List ℕ → Type 0) → Type 0
 OfMessage holds files P = IfTold (holds files.params.now) (holds files.orders.now) (holds files.message.now) P
 
+-- this holds of the capture, the order table and the recorded dialogue
+abbrev pub OfDialogue : Held → AuditFiles → List ℕ → (List ℕ → List ℕ → List ℕ → Type 0) → Type 0
+OfDialogue holds files params P = IfTold (holds params) (holds files.orders.now) (holds files.dialogue.now) P
+
+-- this holds of the order table and the recorded dialogue
+abbrev pub OfOwnDialogue : Held → AuditFiles → (List ℕ → List ℕ → Type 0) → Type 0
+OfOwnDialogue holds files P =
+    IfSome (holds files.orders.now) (λ table. IfSome (holds files.dialogue.now) (λ dialogue. P table dialogue))
+
 -- this holds of the order table, the script and the case
 abbrev pub OfCase : Held → RunFiles → (List ℕ → List ℕ → List ℕ → Type 0) → Type 0
 OfCase holds files P = IfTold (holds files.orders.now) (holds files.script.now) (holds files.case.now) P
@@ -71,6 +82,10 @@ AnswersTo (JudgeAfter files earlier) holds status text =
     OfMessage holds files (λ capture table message.
     IfSome (holds earlier.before.now) (λ before. IfSome (holds earlier.answer.now) (λ answer.
     IsVerdictAfter capture table before answer message status text)))
+AnswersTo (AuditOwn files) holds status text =
+    OfOwnDialogue holds files (λ table dialogue. IsOwnAuditOf table dialogue status text)
+AnswersTo (Audit files params) holds status text =
+    OfDialogue holds files params.now (λ capture table dialogue. IsAuditOf capture table dialogue status text)
 AnswersTo (Check files) holds status text =
     OfScript holds files (λ capture table script. IsToldOf Report capture table script status text)
 AnswersTo (Explain files finding) holds status text =
@@ -96,6 +111,10 @@ RefusesRequest (JudgeAfter files earlier) holds fault =
     OfMessage holds files (λ capture table message.
     IfSome (holds earlier.before.now) (λ before. IfSome (holds earlier.answer.now) (λ answer.
     IsJudgeAfterRefusal capture table before answer message fault)))
+RefusesRequest (AuditOwn files) holds fault =
+    OfOwnDialogue holds files (λ table dialogue. IsOwnAuditRefusal table dialogue fault)
+RefusesRequest (Audit files params) holds fault =
+    OfDialogue holds files params.now (λ capture table dialogue. IsAuditRefusal capture table dialogue fault)
 RefusesRequest (Check files) holds fault =
     OfScript holds files (λ capture table script. IsTellRefusal Report capture table script fault)
 RefusesRequest (Explain files finding) holds fault =

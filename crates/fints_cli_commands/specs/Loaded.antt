@@ -35,6 +35,7 @@ pub record IsLoaded (paths : Paths) (holds : Held) (capture : Result Rows ParamF
   pub before : IsFileAt paths.before holds contents.before.items
   pub answer : IsFileAt paths.answer holds contents.answer.items
   pub message : IsFileAt paths.message holds contents.message.items
+  pub dialogue : IsFileAt paths.dialogue holds contents.dialogue.items
 
 -- these files were read to their ends
 pub record AreRead (files : List NamedFile) (holds kept : Held) (before after : ReadCounts) : Type 0 where

@@ -7,8 +7,9 @@ use Rattle.fints_cli_commands.specs.declared.loading.Paths.{Paths}
 use Rattle.fints_cli_files.specs.Streams.{ReadCounts}
 use Rattle.fints_cli_files.specs.Loading.{HasFailed, NoneFailed, IsLonger, AreUsedUp}
 use Rattle.fints_cli_words.specs.declared.words.Request.{Request}
-use Rattle.fints_cli_words.specs.declared.words.Request.TheVariants.{BuiltIn, Show, ShowMessage, Judge, JudgeAfter, Check, Explain, Certify, Verify}
+use Rattle.fints_cli_words.specs.declared.words.Request.TheVariants.{BuiltIn, Show, ShowMessage, Judge, JudgeAfter, AuditOwn, Audit, Check, Explain, Certify, Verify}
 use Rattle.fints_cli_words.specs.declared.words.Request.TheVariants as requests
+use Rattle.fints_cli_words.specs.declared.words.AuditFiles.{AuditFiles}
 use Rattle.fints_cli_words.specs.declared.words.JudgeFiles.{JudgeFiles}
 use Rattle.fints_cli_words.specs.declared.words.ScriptFiles.{ScriptFiles}
 use Rattle.fints_syntax_lines.specs.declared.lines.TheConstants.{MAX_TEXT}
@@ -29,6 +30,7 @@ no_paths = record {
   before = None;
   answer = None;
   message = None;
+  dialogue = None;
 }
 
 abbrev pub script_paths : ScriptFiles → Paths
@@ -39,6 +41,9 @@ abbrev pub judge_paths : JudgeFiles → Paths
 judge_paths files =
     record no_paths { params = Some files.params; orders = Some files.orders; message = Some files.message }
 
+abbrev pub audit_paths : AuditFiles → Paths
+audit_paths files = record no_paths { orders = Some files.orders; dialogue = Some files.dialogue }
+
 -- the paths that a request names
 abbrev pub paths_of : Request → Paths
 paths_of BuiltIn = no_paths
@@ -47,6 +52,8 @@ paths_of (ShowMessage message) = record no_paths { message = Some message }
 paths_of (Judge files) = judge_paths files
 paths_of (JudgeAfter files earlier) =
     record (judge_paths files) { before = Some earlier.before; answer = Some earlier.answer }
+paths_of (AuditOwn files) = audit_paths files
+paths_of (Audit files params) = record (audit_paths files) { params = Some params }
 paths_of (Check files) = script_paths files
 paths_of (Explain files finding) = script_paths files
 paths_of (Certify files) = script_paths files
@@ -72,7 +79,8 @@ files_at paths =
     ++ (file_at (codes "orders") paths.orders MAX_TEXT ++ (file_at (codes "script") paths.script MAX_TEXT
     ++ (file_at (codes "case") paths.case MAX_TEXT ++ (file_at (codes "cert") paths.certificate MAX_TEXT
     ++ (file_at (codes "before") paths.before MAX_CAPTURE ++ (file_at (codes "answer") paths.answer MAX_CAPTURE
-    ++ file_at (codes "message") paths.message MAX_CAPTURE)))))))
+    ++ (file_at (codes "message") paths.message MAX_CAPTURE
+    ++ file_at (codes "dialogue") paths.dialogue MAX_CAPTURE))))))))
 
 -- the files that a request names
 abbrev pub files_of : Request → List NamedFile

@@ -16,6 +16,7 @@ use fints_cli_files::Files;
 use fints_cli_hints_reasons::judged_reasons;
 use fints_cli_hints_segments::skipped_notes;
 use fints_cli_hints_verdicts::{report_reasons, verified_reason};
+use fints_cli_recorded::{audit_own, audit_read};
 use fints_cli_reports::{Wanted, run_case, tell_read, tell_script, verify_read};
 use fints_cli_texts::{Fault, Reply, judge_after_read, judge_read, show, show_message};
 use fints_cli_words::Request;
@@ -84,6 +85,8 @@ fn answer(
             &contents.answer,
             &contents.message,
         ),
+        Request::AuditOwn(_) => audit_own(alloc, orders, &contents.dialogue),
+        Request::Audit { .. } => audit_read(alloc, params, orders, &contents.dialogue),
         Request::Check(_) => tell_read(alloc, params, orders, script, Wanted::Report),
         Request::Explain { finding, .. } => {
             tell_read(alloc, params, orders, script, cases_wanted(*finding))
@@ -125,7 +128,11 @@ fn reasons(alloc: Global, request: &Request<'_>, contents: &Contents, hints: boo
             report_reasons(alloc, &inputs).unwrap_or(None)
         }
         Request::Verify { .. } => verified_reason(alloc, &inputs).unwrap_or(None),
-        Request::BuiltIn | Request::ShowMessage { .. } | Request::Run { .. } => None,
+        Request::BuiltIn
+        | Request::ShowMessage { .. }
+        | Request::AuditOwn(_)
+        | Request::Audit { .. }
+        | Request::Run { .. } => None,
     }
 }
 

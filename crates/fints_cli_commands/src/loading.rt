@@ -8,7 +8,7 @@ ghost use Rattle.fints_cli_commands.specs.Loaded.{AreRead, IsFileAt, IsLoaded, I
 use crate::failing::{Refusal, unread};
 use fints_cli_files::{Capture, Files, ReadCapture, load, load_into};
 use fints_cli_hints::Inputs;
-use fints_cli_words::{JudgeFiles, Request, ScriptFiles};
+use fints_cli_words::{AuditFiles, JudgeFiles, Request, ScriptFiles};
 use fints_params::{ParamFault, Params};
 use fints_syntax::MAX_CAPTURE;
 use fints_syntax_lines::MAX_TEXT;
@@ -28,6 +28,7 @@ pub struct Paths<'a> {
     pub before: Option<&'a str>,
     pub answer: Option<&'a str>,
     pub message: Option<&'a str>,
+    pub dialogue: Option<&'a str>,
 }
 
 const NONE: Paths<'static> = Paths {
@@ -40,6 +41,7 @@ const NONE: Paths<'static> = Paths {
     before: None,
     answer: None,
     message: None,
+    dialogue: None,
 };
 
 fn script_paths<'a>(files: &ScriptFiles<'a>) -> Paths<'a>
@@ -64,6 +66,16 @@ fn judge_paths<'a>(files: &JudgeFiles<'a>) -> Paths<'a>
     }
 }
 
+fn audit_paths<'a>(files: &AuditFiles<'a>) -> Paths<'a>
+    ensures { result ≡ loading.audit_paths files.now }
+{
+    Paths {
+        orders: Some(files.orders),
+        dialogue: Some(files.dialogue),
+        ..NONE
+    }
+}
+
 /// The paths that a request names.
 pub fn paths_of<'a>(request: &Request<'a>) -> Paths<'a>
     ensures { result ≡ loading.paths_of request.now }
@@ -83,6 +95,11 @@ pub fn paths_of<'a>(request: &Request<'a>) -> Paths<'a>
             before: Some(earlier.before),
             answer: Some(earlier.answer),
             ..judge_paths(files)
+        },
+        Request::AuditOwn(files) => audit_paths(files),
+        Request::Audit { files, params } => Paths {
+            params: Some(params),
+            ..audit_paths(files)
         },
         Request::Check(files) | Request::Explain { files, .. } | Request::Certify(files) => {
             script_paths(files)
@@ -113,6 +130,7 @@ pub struct Contents {
     pub before: Vec<u8>,
     pub answer: Vec<u8>,
     pub message: Vec<u8>,
+    pub dialogue: Vec<u8>,
 }
 
 impl Contents {
@@ -218,6 +236,7 @@ pub fn load_all<F: Files>(
     let before = load_option(alloc, files, "before", paths.before, MAX_CAPTURE, hints)?;
     let answer = load_option(alloc, files, "answer", paths.answer, MAX_CAPTURE, hints)?;
     let message = load_option(alloc, files, "message", paths.message, MAX_CAPTURE, hints)?;
+    let dialogue = load_option(alloc, files, "dialogue", paths.dialogue, MAX_CAPTURE, hints)?;
     let ReadCapture { params, bytes } = capture;
     let contents = Contents {
         shown,
@@ -229,6 +248,7 @@ pub fn load_all<F: Files>(
         before,
         answer,
         message,
+        dialogue,
     };
     Ok(Loaded { params, contents })
 }

@@ -11,7 +11,9 @@ use Rattle.fints_script_cases.specs.declared.case_fault.CaseFault.{CaseFault}
 use Rattle.fints_script_cases.specs.declared.case_fault.CaseFault.TheVariants as cases
 use Rattle.fints_rules_messages.specs.declared.message.JudgeFault.{JudgeFault}
 use Rattle.fints_rules_messages.specs.declared.message.JudgeFault.TheVariants as message
-use Rattle.fints_cli_texts.specs.declared.fault.Fault.TheVariants.{Memory, Params, Orders, Script, Case, Before, Answer, Message}
+use Rattle.fints_rules_dialogues.specs.declared.fault.DialogueFault.{DialogueFault}
+use Rattle.fints_rules_dialogues.specs.declared.fault.DialogueFault.TheVariants as dialogues
+use Rattle.fints_cli_texts.specs.declared.fault.Fault.TheVariants.{Memory, Params, Orders, Script, Case, Before, Answer, Message, Dialogue}
 
 -- want of memory is one fault, wherever it is met
 abbrev pub fault_of : ParamFault → Fault
@@ -42,6 +44,14 @@ abbrev pub message_fault_of : JudgeFault → Fault
 message_fault_of message.Memory = Memory
 message_fault_of (message.NotAMessage offset) = Message (message.NotAMessage offset)
 message_fault_of (message.NotAMessageBefore offset) = Before offset
+
+abbrev pub dialogue_fault_of : DialogueFault → Fault
+dialogue_fault_of dialogues.Memory = Memory
+dialogue_fault_of dialogues.NoMessage = Dialogue dialogues.NoMessage
+dialogue_fault_of (dialogues.NotAMessage offset) = Dialogue (dialogues.NotAMessage offset)
+dialogue_fault_of (dialogues.NotInTurn offset) = Dialogue (dialogues.NotInTurn offset)
+dialogue_fault_of (dialogues.Answer start f) = Dialogue (dialogues.Answer start f)
+dialogue_fault_of dialogues.NoParameters = Dialogue dialogues.NoParameters
 
 -- a fault of a script, by its kind
 abbrev pub kind_fault_of : FaultKind → ScriptFault → Fault

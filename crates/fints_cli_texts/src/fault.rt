@@ -1,10 +1,11 @@
 //! Why inputs have no answer.
 ghost use Rattle.std.specs.Prelude.{◌≡◌};
-ghost use Rattle.fints_cli_texts.specs.Fault.{answer_fault_of, fault_of, order_fault_of, script_fault_of, case_fault_of, message_fault_of};
+ghost use Rattle.fints_cli_texts.specs.Fault.{answer_fault_of, dialogue_fault_of, fault_of, order_fault_of, script_fault_of, case_fault_of, message_fault_of};
 ghost use Rattle.fints_cli_texts.specs.declared.fault.Fault.TheVariants as fault;
 
 use fints_params::ParamFault;
 use fints_rules::{JudgeFault, TableFault};
+use fints_rules_dialogues::DialogueFault;
 use fints_script::{CaseFault, FaultKind, PlanFault, ScriptFault};
 use fints_syntax::Memory;
 use std::alloc::AllocError;
@@ -52,6 +53,10 @@ pub enum Fault {
     /// The bytes are no message; want of memory is no such refusal.
     #[error("message {0}")]
     Message(JudgeFault),
+    /// The bytes are no recorded dialogue, or it tells no parameters; want of memory is no such
+    /// refusal.
+    #[error("dialogue {0}")]
+    Dialogue(DialogueFault),
 }
 
 impl From<Memory> for Fault {
@@ -130,6 +135,17 @@ impl From<JudgeFault> for Fault {
             JudgeFault::Memory => Fault::Memory,
             JudgeFault::NotAMessageBefore { offset } => Fault::Before { offset },
             _ => Fault::Message(e),
+        }
+    }
+}
+
+impl From<DialogueFault> for Fault {
+    ghost from_gives = { λ e f. f ≡ dialogue_fault_of e };
+
+    fn from(e: DialogueFault) -> Fault {
+        match e {
+            DialogueFault::Memory => Fault::Memory,
+            _ => Fault::Dialogue(e),
         }
     }
 }

@@ -12,7 +12,8 @@ use fints_params::{ParamFault, Params};
 use fints_rules::{Broken, OrderTable, Permissions, judge};
 use std::alloc::{AllocError, Global};
 
-fn write_broken(text: &mut String, broken: &Broken) -> Result<(), AllocError>
+/// Writes the line of a rule that is broken.
+pub fn write_broken(text: &mut String, broken: &Broken) -> Result<(), AllocError>
     ensures { OnOk result (string_bytes text.new ≡ string_bytes text.old ++ broken_line broken.now) }
 {
     let Broken { rule, segment } = broken;
@@ -29,7 +30,8 @@ fn write_all(text: &mut String, broken: &[Broken]) -> Result<(), AllocError>
     Ok(())
 }
 
-fn write_last(text: &mut String, broken: &[Broken]) -> Result<(), AllocError>
+/// Writes the last line: that nothing is broken, or how much.
+pub fn write_last(text: &mut String, broken: &[Broken]) -> Result<(), AllocError>
     ensures { OnOk result (string_bytes text.new ≡ string_bytes text.old ++ last_line broken.now) }
 {
     if broken.is_empty() {
@@ -40,7 +42,8 @@ fn write_last(text: &mut String, broken: &[Broken]) -> Result<(), AllocError>
     }
 }
 
-fn verdict_status(broken: &[Broken]) -> u8
+/// The status: 0 where nothing is broken, else 1.
+pub fn verdict_status(broken: &[Broken]) -> u8
     ensures { result ≡ verdict_status broken.now }
 {
     if broken.is_empty() { 0 } else { 1 }

@@ -11,7 +11,7 @@ mod showing;
 mod showing_message;
 
 pub use fault::Fault;
-pub use judging::{judge_message, judge_read};
+pub use judging::{judge_message, judge_read, verdict_status, write_broken, write_last};
 pub use judging_after::judge_after_read;
 pub use reply::Reply;
 pub use showing::show;

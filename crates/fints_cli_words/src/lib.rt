@@ -3,4 +3,6 @@
 
 mod words;
 
-pub use words::{Asked, EarlierFiles, JudgeFiles, Request, RunFiles, ScriptFiles, read_words};
+pub use words::{
+    Asked, AuditFiles, EarlierFiles, JudgeFiles, Request, RunFiles, ScriptFiles, read_words,
+};

@@ -25,7 +25,8 @@ Files (- is standard input, for one of them):
   case         lines: 'fints-case 1', 'field NAME HEX' for each field, 'answer CODE CODE ..'
   certificate  lines: 'fints-cert 2', 'step NAME NUMBER SIZE' or 'step NAME -' for each step
   message      the segments of one message, HNHBK to HNHBS, as bytes
-  answer       the bank's answer to a message, as bytes: its feedback is read, HIRMG and HIRMS";
+  answer       the bank's answer to a message, as bytes: its feedback is read, HIRMG and HIRMS
+  dialogue     messages and answers in turn as they were sent, as bytes, the client's first";
 
 // What stands after the options of a command's help.
 const SEE_HELP: &str = "The statuses and the files: fints --help";
@@ -52,6 +53,13 @@ pub struct JudgeFiles<'a> {
 pub struct EarlierFiles<'a> {
     pub before: &'a str,
     pub answer: &'a str,
+}
+
+/// The files of a command that audits a recorded dialogue.
+#[derive(Clone, Copy)]
+pub struct AuditFiles<'a> {
+    pub orders: &'a str,
+    pub dialogue: &'a str,
 }
 
 /// The files of a command that sends the messages of a case.
@@ -81,6 +89,14 @@ pub enum Request<'a> {
     JudgeAfter {
         files: JudgeFiles<'a>,
         earlier: EarlierFiles<'a>,
+    },
+    /// The rules that the client's messages of a recorded dialogue break, by an order table and the
+    /// parameters that the dialogue tells itself.
+    AuditOwn(AuditFiles<'a>),
+    /// The same by a capture.
+    Audit {
+        files: AuditFiles<'a>,
+        params: &'a str,
     },
     /// What the runs of a script break, by a capture and an order table.
     Check(ScriptFiles<'a>),
@@ -121,6 +137,8 @@ pub enum Asked<'a> {
 enum Choice {
     // A file: the name of the option, and what the command's help says of it.
     File(&'static str, &'static str),
+    // A file that may be left out.
+    Optional(&'static str, &'static str),
     // A file: of those of a command that are said so, exactly one is given.
     Either(&'static str, &'static str),
     // A file that goes with that of another option, so that both are given or neither.
@@ -149,6 +167,13 @@ const ANSWER: Choice = Choice::Beside(
 
 const MESSAGE: Choice = Choice::File("message", "The message");
 
+const DIALOGUE: Choice = Choice::File("dialogue", "The recorded dialogue");
+
+const OTHER_PARAMS: Choice = Choice::Optional(
+    "params",
+    "The capture, in place of the dialogue's own answers",
+);
+
 const SENT: Choice = Choice::Number("message", "Only the bytes of message N");
 
 const FINDING: Choice = Choice::Number(
@@ -167,7 +192,7 @@ struct Described {
     options: &'static [Choice],
 }
 
-const COMMANDS: [Described; 7] = [
+const COMMANDS: [Described; 8] = [
     Described {
         name: "show",
         about: "Shows what a capture says of the bank and the user, or a message without PIN and TAN",
@@ -177,6 +202,11 @@ const COMMANDS: [Described; 7] = [
         name: "judge",
         about: "Names the rules that a message breaks",
         options: &[PARAMS, ORDERS, BEFORE, ANSWER, MESSAGE],
+    },
+    Described {
+        name: "audit",
+        about: "Names the rules that the messages of a recorded dialogue break",
+        options: &[OTHER_PARAMS, ORDERS, DIALOGUE],
     },
     Described {
         name: "check",
@@ -234,7 +264,9 @@ fn number_option<'a>(alloc: Global, name: &'a str, help: &'a str) -> Arg<'a> {
 fn option<'a>(alloc: Global, choice: &Choice) -> Result<Arg<'a>, AllocError> {
     match choice {
         Choice::File(name, help) => Ok(file_option(alloc, name, help).required(true)),
-        Choice::Either(name, help) => Ok(file_option(alloc, name, help)),
+        Choice::Optional(name, help) | Choice::Either(name, help) => {
+            Ok(file_option(alloc, name, help))
+        }
         Choice::Beside(name, help, other) => beside_option(alloc, name, help, other),
         Choice::Number(name, help) => Ok(number_option(alloc, name, help)),
     }
@@ -338,6 +370,8 @@ fn standard_inputs(request: &Request<'_>) -> usize {
         Request::JudgeAfter { files, earlier } => {
             judge_inputs(files).saturating_add(count_inputs(&[earlier.before, earlier.answer]))
         }
+        Request::AuditOwn(files) => count_inputs(&[files.orders, files.dialogue]),
+        Request::Audit { files, params } => count_inputs(&[*params, files.orders, files.dialogue]),
         Request::Check(files) | Request::Explain { files, .. } | Request::Certify(files) => {
             script_inputs(files)
         }
@@ -432,6 +466,17 @@ fn judge_request<'a>(options: &ArgMatches<'a>) -> Option<Request<'a>> {
     }
 }
 
+fn audit_request<'a>(options: &ArgMatches<'a>) -> Option<Request<'a>> {
+    let files = AuditFiles {
+        orders: options.get_str("orders")?,
+        dialogue: options.get_str("dialogue")?,
+    };
+    match options.get_str("params") {
+        Some(params) => Some(Request::Audit { files, params }),
+        None => Some(Request::AuditOwn(files)),
+    }
+}
+
 fn verify_request<'a>(options: &ArgMatches<'a>) -> Option<Request<'a>> {
     Some(Request::Verify {
         files: script_files(options)?,
@@ -458,6 +503,7 @@ fn named_request<'a>(name: &str, options: &ArgMatches<'a>) -> Option<Request<'a>
     match name {
         "show" => show_request(options),
         "judge" => judge_request(options),
+        "audit" => audit_request(options),
         "check" => Some(Request::Check(script_files(options)?)),
         "explain" => explain_request(options),
         "certify" => Some(Request::Certify(script_files(options)?)),

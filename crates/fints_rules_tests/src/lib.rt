@@ -4,6 +4,8 @@
 #[cfg(test)]
 mod captures;
 #[cfg(test)]
+mod dialogues;
+#[cfg(test)]
 mod feeding;
 #[cfg(test)]
 mod permissions;

@@ -1,7 +1,7 @@
 use Rattle.std.proofs.lemmas.Result.{IfErr-weaker}
 use Rattle.fints_cli_texts.specs.Judge.{IsMessageRefusal}
 use Rattle.fints_cli_texts.specs.Show.{IsMemoryOrShowFault}
-use Rattle.fints_cli_commands.proofs.Answering.{judge_refused, judge_after_refused, run_refused}
+use Rattle.fints_cli_commands.proofs.Answering.{audit_own_refused, audit_refused, judge_refused, judge_after_refused, run_refused}
 use Rattle.fints_cli_commands.proofs.Reading.{of_exit, of_file}
 use Rattle.fints_cli_commands.proofs.commands.answer.Goals as goal
 
@@ -48,3 +48,19 @@ returns-in-JudgeAfter-clause-refused c =
     rw c.in-JudgeAfter.is (IfErr-weaker c.judge_after_read.result _ _ (λ fault h holds loaded.
     judge_after_refused holds _ _ fault _ _ (rw (orders, before, answer, message) at h) loaded)
     c.judge_after_read.ensures.refused)
+
+pub returns-in-AuditOwn-clause-refused : goal.returns-in-AuditOwn-clause-refused
+returns-in-AuditOwn-clause-refused c =
+    let orders = c.deref-in-AuditOwn.ensures.value in
+    let dialogue = c.deref-in-AuditOwn-2.ensures.value in
+    rw c.in-AuditOwn.is (IfErr-weaker c.audit_own.result _ _ (λ fault h holds loaded.
+    audit_own_refused holds _ _ fault _ (rw (orders, dialogue) at h) loaded)
+    c.audit_own.ensures.refused)
+
+pub returns-in-Audit-clause-refused : goal.returns-in-Audit-clause-refused
+returns-in-Audit-clause-refused c =
+    let orders = c.deref-in-Audit.ensures.value in
+    let dialogue = c.deref-in-Audit-2.ensures.value in
+    rw c.in-Audit.is (IfErr-weaker c.audit_read.result _ _ (λ fault h holds loaded.
+    audit_refused holds _ _ fault _ _ (rw (orders, dialogue) at h) loaded)
+    c.audit_read.ensures.refused)

@@ -38,7 +38,16 @@ returns-in_err-message-clause-unread g c =
     (later_unread c.in_ok-orders.ensures.read (later_unread c.in_ok-script.ensures.read
     (later_unread c.in_ok-case.ensures.read (later_unread c.in_ok-certificate.ensures.read
     (later_unread c.in_ok-before.ensures.read (later_unread c.in_ok-answer.ensures.read
-    c.in_err-message.ensures.unread))))))))
+    (first_unread _ c.in_err-message.ensures.unread)))))))))
+
+pub returns-in_err-dialogue-clause-unread : goal.returns-in_err-dialogue-clause-unread
+returns-in_err-dialogue-clause-unread g c =
+    of_exit c.from_residual-in_err-dialogue.result _ _ c.from_residual-in_err-dialogue.ensures.1
+    (later_unread c.in_ok-shown.ensures.read (later_unread c.in_ok-capture.ensures.read
+    (later_unread c.in_ok-orders.ensures.read (later_unread c.in_ok-script.ensures.read
+    (later_unread c.in_ok-case.ensures.read (later_unread c.in_ok-certificate.ensures.read
+    (later_unread c.in_ok-before.ensures.read (later_unread c.in_ok-answer.ensures.read
+    (later_unread c.in_ok-message.ensures.read c.in_err-dialogue.ensures.unread)))))))))
 
 pub returns-clause-read : goal.returns-clause-read
 returns-clause-read g c =
@@ -46,4 +55,4 @@ returns-clause-read g c =
     (both_read c.in_ok-orders.ensures.read (both_read c.in_ok-script.ensures.read
     (both_read c.in_ok-case.ensures.read (both_read c.in_ok-certificate.ensures.read
     (both_read c.in_ok-before.ensures.read (both_read c.in_ok-answer.ensures.read
-    c.in_ok-message.ensures.read)))))))
+    (both_read c.in_ok-message.ensures.read c.in_ok-dialogue.ensures.read))))))))

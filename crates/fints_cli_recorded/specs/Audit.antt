@@ -1,0 +1,90 @@
+-- The text of `audit`: for each message of the client its number and its size, and then the rules that it breaks; in lines with LF at their ends.
+use Rattle.std.specs.Prelude.{◌≡◌, ◌⊎◌, ℕ, ◌+◌, List, [], ◌∷◌, ◌++◌, length, codes}
+use Rattle.std.specs.List.{flat_map}
+use Rattle.std.specs.Fmt.{decimal}
+use Rattle.fints_params.specs.Parameters.{Rows}
+use Rattle.fints_params.specs.Captures.{IsParamsOf}
+use Rattle.fints_rules_permissions.specs.declared.orders.OrderRow.{OrderRow}
+use Rattle.fints_rules_permissions.specs.Orders.{DenotesTable}
+use Rattle.fints_rules.specs.declared.rule.Broken.{Broken}
+use Rattle.fints_rules_dialogues.specs.declared.auditing.Audited.{Audited}
+use Rattle.fints_rules_dialogues.specs.declared.fault.DialogueFault.{DialogueFault}
+use Rattle.fints_rules_dialogues.specs.declared.reading.Exchange.{Exchange}
+use Rattle.fints_rules_dialogues.specs.Dialogues.{IsDialogue, IsDialogueFault}
+use Rattle.fints_rules_dialogues.specs.OwnParams.{TellsParams, IsOwnParamsFault}
+use Rattle.fints_rules_dialogues.specs.Auditing.{AreAudited}
+use Rattle.fints_cli_texts.specs.Judge.{broken_line, last_line, verdict_status, IsFirstRefusal, IsTableRefusal}
+use Rattle.fints_cli_texts.specs.declared.fault.Fault.{Fault}
+use Rattle.fints_cli_texts.specs.declared.fault.Fault.TheVariants.{Memory, Orders, Dialogue}
+
+abbrev pub broken_told : Broken → List ℕ
+broken_told b = codes "broken " ++ broken_line b
+
+-- the lines of the message of a number, which counts the client's from 1
+abbrev pub message_lines : ℕ → Audited → List ℕ
+message_lines n a =
+    codes "message " ++ decimal n ++ codes " size " ++ decimal (length a.message.bytes.now) ++ codes "\n"
+    ++ flat_map broken_told a.broken.items
+
+abbrev pub lines_from : ℕ → List Audited → List ℕ
+lines_from n [] = []
+lines_from n (a ∷ more) = message_lines n a ++ lines_from (n + 1) more
+
+-- what all messages break
+abbrev pub all_broken : List Audited → List Broken
+all_broken audited = flat_map (λ a. a.broken.items) audited
+
+abbrev pub audit_text : List Audited → List ℕ
+audit_text audited = lines_from 1 audited ++ last_line (all_broken audited)
+
+-- the status and the text tell the rules that the messages break, by these rows and this order table
+pub record IsAuditBy (rows : Rows) (table : List OrderRow) (exchanges : List Exchange) (status : ℕ) (text : List ℕ)
+    : Type 0 where
+  pub audited : List Audited
+  pub are : AreAudited (record { rows = rows; orders = table }) exchanges audited
+  pub text_is : text ≡ audit_text audited
+  pub status_is : status ≡ verdict_status (all_broken audited)
+
+-- they tell them of the dialogue, by the capture and the text of an order table
+pub record IsAuditOf (params orders dialogue : List ℕ) (status : ℕ) (text : List ℕ) : Type 0 where
+  pub rows : Rows
+  pub table : List OrderRow
+  pub exchanges : List Exchange
+  pub rows_are : IsParamsOf params rows
+  pub table_is : DenotesTable orders table
+  pub dialogue_is : IsDialogue dialogue exchanges
+  pub audit : IsAuditBy rows table exchanges status text
+
+-- they tell them by the parameters of the dialogue's own answers
+pub record IsOwnAuditOf (orders dialogue : List ℕ) (status : ℕ) (text : List ℕ) : Type 0 where
+  pub rows : Rows
+  pub table : List OrderRow
+  pub exchanges : List Exchange
+  pub table_is : DenotesTable orders table
+  pub dialogue_is : IsDialogue dialogue exchanges
+  pub rows_are : TellsParams exchanges rows
+  pub audit : IsAuditBy rows table exchanges status text
+
+-- want of memory, or the refusal of the dialogue
+abbrev pub IsDialogueRefusal : List ℕ → Fault → Type 0
+IsDialogueRefusal dialogue Memory = Unit {0}
+IsDialogueRefusal dialogue (Dialogue f) = IsDialogueFault dialogue f
+IsDialogueRefusal dialogue _ = ⊥
+
+-- why a dialogue isn't audited, by the capture and the text of an order table
+abbrev pub IsAuditRefusal : List ℕ → List ℕ → List ℕ → Fault → Type 0
+IsAuditRefusal params orders dialogue = IsFirstRefusal params orders (IsDialogueRefusal dialogue)
+
+-- the dialogue is refused, or it is one and its answers tell no parameters
+abbrev pub IsOwnFault : List ℕ → DialogueFault → Type 0
+IsOwnFault dialogue f =
+    IsDialogueFault dialogue f
+    ⊎ ((exchanges : List Exchange) × IsDialogue dialogue exchanges × IsOwnParamsFault exchanges f)
+
+-- why it isn't audited by its own parameters: want of memory, or the first refusal, of the order table or of the dialogue
+abbrev pub IsOwnAuditRefusal : List ℕ → List ℕ → Fault → Type 0
+IsOwnAuditRefusal orders dialogue Memory = Unit {0}
+IsOwnAuditRefusal orders dialogue (Orders f) = IsTableRefusal orders f
+IsOwnAuditRefusal orders dialogue (Dialogue f) =
+    ((table : List OrderRow) × DenotesTable orders table) × IsOwnFault dialogue f
+IsOwnAuditRefusal orders dialogue _ = ⊥

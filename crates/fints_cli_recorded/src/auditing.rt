@@ -1,0 +1,137 @@
+//! The text of `audit`: the rules that the messages of a recorded dialogue break.
+ghost use Rattle.std.specs.Prelude.{◌≡◌, ◌≤◌, ◌<◌, ◌+◌, ◌++◌, ◌^◌, ℕ, List, OnOk, IfOk, IfErr, string_bytes};
+ghost use Rattle.std.specs.List.{AllByRecursion, flat_map};
+ghost use Rattle.fints_params.specs.declared.fault.ParamFault.{ParamFault as ParamFaultValue};
+ghost use Rattle.fints_params.specs.Captures.{IsReadOf};
+ghost use Rattle.fints_rules_dialogues.specs.Dialogues.{IsExchange};
+ghost use Rattle.fints_cli_texts.specs.Fault.{fault_of};
+ghost use Rattle.fints_cli_texts.specs.Judge.{verdict_status};
+ghost use Rattle.fints_cli_texts.specs.declared.fault.Fault.TheVariants as fault;
+ghost use Rattle.fints_cli_recorded.specs.Audit.{broken_told, message_lines, lines_from, all_broken, audit_text, IsAuditBy, IsAuditOf, IsOwnAuditOf, IsAuditRefusal, IsOwnAuditRefusal};
+
+use fints_cli_texts::{Fault, Reply, verdict_status, write_broken, write_last};
+use fints_params::{ParamFault, Params};
+use fints_rules::{Broken, OrderTable, Permissions};
+use fints_rules_dialogues::{Audited, Exchange, audit, own_params, read_dialogue};
+use std::alloc::{AllocError, Global};
+
+fn write_told(text: &mut String, broken: &Broken) -> Result<(), AllocError>
+    ensures { OnOk result (string_bytes text.new ≡ string_bytes text.old ++ broken_told broken.now) }
+{
+    write!(text, "broken ")?;
+    write_broken(text, broken)
+}
+
+fn write_all_told(text: &mut String, broken: &[Broken]) -> Result<(), AllocError>
+    ensures { OnOk result (string_bytes text.new
+        ≡ string_bytes text.old ++ flat_map broken_told broken.now) }
+{
+    for one in broken {
+        write_told(text, one)?;
+    }
+    Ok(())
+}
+
+// The lines of the message of a number.
+fn write_message(text: &mut String, number: usize, audited: &Audited<'_>) -> Result<(), AllocError>
+    ensures { OnOk result (string_bytes text.new
+        ≡ string_bytes text.old ++ message_lines number audited.now) }
+{
+    let size = audited.message.bytes.len();
+    writeln!(text, "message {number} size {size}")?;
+    write_all_told(text, audited.broken.as_slice())
+}
+
+fn write_messages(text: &mut String, audited: &[Audited<'_>]) -> Result<(), AllocError>
+    ensures { OnOk result (string_bytes text.new ≡ string_bytes text.old ++ lines_from 1 audited.now) }
+{
+    for (i, one) in audited.iter().enumerate() {
+        write_message(text, i + 1, one)?;
+    }
+    Ok(())
+}
+
+// What all messages break.
+fn all_broken(alloc: Global, audited: &[Audited<'_>]) -> Result<Vec<Broken>, AllocError>
+    ensures { IfOk result (λ broken. broken.items ≡ all_broken audited.now) }
+{
+    let mut broken = Vec::new(alloc);
+    for one in audited {
+        broken.extend_from_slice(one.broken.as_slice())?;
+    }
+    Ok(broken)
+}
+
+// The text of audited messages, and its status.
+fn audit_reply(alloc: Global, audited: &[Audited<'_>]) -> Result<Reply, AllocError>
+    ensures text { IfOk result (λ reply. reply.text.items ≡ audit_text audited.now) }
+    ensures status { IfOk result (λ reply. reply.status ≡ verdict_status (all_broken audited.now)) }
+{
+    let broken = all_broken(alloc, audited)?;
+    let mut text = String::new(alloc);
+    write_messages(&mut text, audited)?;
+    write_last(&mut text, broken.as_slice())?;
+    Ok(Reply {
+        status: verdict_status(broken.as_slice()),
+        text: text.into_bytes(),
+    })
+}
+
+// The text of a dialogue's exchanges, by good parameters and a good order table.
+fn audit_with(
+    alloc: Global,
+    params: &Params,
+    orders: &OrderTable,
+    exchanges: &[Exchange<'_>],
+) -> Result<Reply, Fault>
+    requires { AllByRecursion IsExchange exchanges.now }
+    ensures audited { IfOk result (λ reply.
+        IsAuditBy params.now orders.now exchanges.now reply.status reply.text.items) }
+    ensures memory_alone { IfErr result (λ f. f ≡ fault.Memory) }
+{
+    let permissions = Permissions::build(alloc, params, orders)?;
+    let audited = audit(alloc, &permissions, exchanges)?;
+    let reply = audit_reply(alloc, audited.as_slice())?;
+    Ok(reply)
+}
+
+/// The rules that the client's messages of a recorded dialogue break, by what was read of a capture and
+/// an order table. Of the refusals that of the capture comes first, then that of the order table, then
+/// that of the dialogue.
+pub fn audit_read(
+    alloc: Global,
+    params: Result<Params, ParamFault>,
+    orders: &[u8],
+    dialogue: &[u8],
+) -> Result<Reply, Fault>
+    ensures status { IfOk result (λ reply. reply.status ≤ 1) }
+    ensures audited { IfOk result (λ reply. (capture : List ℕ) → IsReadOf capture params
+        → IsAuditOf capture orders.now dialogue.now reply.status reply.text.items) }
+    ensures refused { IfErr result (λ f. (capture : List ℕ) → IsReadOf capture params
+        → IsAuditRefusal capture orders.now dialogue.now f) }
+    ensures params_first { (f : ParamFaultValue) → params ≡ Err f → result ≡ Err (fault_of f) }
+{
+    let params = match params {
+        Ok(params) => params,
+        Err(fault) => return Err(Fault::from(fault)),
+    };
+    let orders = OrderTable::read(alloc, orders)?;
+    let exchanges = read_dialogue(alloc, dialogue)?;
+    let reply = audit_with(alloc, &params, &orders, exchanges.as_slice())?;
+    Ok(reply)
+}
+
+/// The same, by the parameters that the dialogue's own answers tell. Of the refusals that of the order
+/// table comes first, then that of the dialogue, then that of its parameters.
+pub fn audit_own(alloc: Global, orders: &[u8], dialogue: &[u8]) -> Result<Reply, Fault>
+    ensures status { IfOk result (λ reply. reply.status ≤ 1) }
+    ensures audited { IfOk result (λ reply.
+        IsOwnAuditOf orders.now dialogue.now reply.status reply.text.items) }
+    ensures refused { IfErr result (λ f. IsOwnAuditRefusal orders.now dialogue.now f) }
+{
+    let orders = OrderTable::read(alloc, orders)?;
+    let exchanges = read_dialogue(alloc, dialogue)?;
+    let params = own_params(alloc, exchanges.as_slice())?;
+    let reply = audit_with(alloc, &params, &orders, exchanges.as_slice())?;
+    Ok(reply)
+}

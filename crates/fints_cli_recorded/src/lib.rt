@@ -1,0 +1,6 @@
+//! What the program tells of recorded dialogues.
+#![tactic(auto)]
+
+mod auditing;
+
+pub use auditing::{audit_own, audit_read};

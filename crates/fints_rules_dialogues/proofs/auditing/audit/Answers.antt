@@ -1,0 +1,20 @@
+use Rattle.std.proofs.Common.{refl}
+use Rattle.std.specs.Prelude.{option_copied}
+use Rattle.fints_rules_dialogues.specs.declared.auditing.Audited.{Audited}
+use Rattle.fints_rules_dialogues.proofs.Audits.{all_audited, one_audited}
+use Rattle.fints_rules_dialogues.proofs.auditing.audit.Goals as goal
+
+pub loop-exchange-preserved : goal.loop-exchange-preserved
+loop-exchange-preserved c =
+    let e = c.exchange-item.result in
+    let a : Audited = record { message = e.message; broken = c.in_ok-broken.broken } in
+    one_audited c.args.permissions.now c.args.exchanges.now (option_copied c.loop-exchange.before)
+    c.loop-exchange.exchange-index e c.loop-exchange.audited.items c.push.new.self.items a
+    c.loop-exchange.invariant c.loop-exchange-test.true c.exchange-item.is refl c.in_ok-broken.ensures
+    c.in_ok-push.ensures.items
+
+pub returns : goal.returns
+returns c =
+    all_audited c.args.permissions.now c.args.exchanges.now (option_copied c.loop-exchange.before)
+    c.loop-exchange.exchange-index c.loop-exchange.audited.items c.loop-exchange.invariant
+    c.loop-exchange-test.false

@@ -1,0 +1,9 @@
+use Rattle.std.proofs.Common.{◌-◌, length}
+use Rattle.fints_rules_dialogues.proofs.Turns.{AreReadSoFar}
+use Rattle.fints_rules_dialogues.proofs.reading.read_exchanges.Given as goal
+
+abbrev pub invariant-loop-at : goal.invariant-loop-at
+invariant-loop-at l = AreReadSoFar l.messages l.at l.exchanges.items
+
+abbrev pub decreases-loop-at : goal.decreases-loop-at
+decreases-loop-at l = length l.messages - l.at

@@ -1,0 +1,31 @@
+-- Which rules each message of the client breaks, behind the message before it and the bank's answer to that.
+-- Words of private contracts and proofs alone stand last, under a heading.
+use Rattle.std.specs.Prelude.{◌≡◌, ℕ, List, [], ◌∷◌, Option, Some, None}
+use Rattle.fints_rules.specs.declared.rule.Broken.{Broken}
+use Rattle.fints_rules.specs.Breaks.{IsJudged, IsJudgedAfter}
+use Rattle.fints_rules_permissions.specs.Permits.{Granted}
+use Rattle.fints_rules_dialogues.specs.declared.auditing.Audited.{Audited}
+use Rattle.fints_rules_dialogues.specs.declared.reading.Answer.{Answer}
+use Rattle.fints_rules_dialogues.specs.declared.reading.Exchange.{Exchange}
+
+abbrev pub codes_told : Option Answer → List ℕ
+codes_told None = []
+codes_told (Some a) = a.codes.items
+
+-- these are the rules that the message breaks: the first by itself, another behind the exchange before it
+abbrev pub IsJudgedBehind : Granted → Option Exchange → List ℕ → List Broken → Type 0
+IsJudgedBehind granted None bytes broken = IsJudged granted bytes broken
+IsJudgedBehind granted (Some e) bytes broken =
+    IsJudgedAfter granted e.message.bytes.now (codes_told e.answer) bytes broken
+
+-- the same of the message of each exchange, of which the first stands behind that one
+abbrev pub AreJudgedBehind : Granted → Option Exchange → List Exchange → List Audited → Type 0
+AreJudgedBehind granted before [] audited = audited ≡ []
+AreJudgedBehind granted before (e ∷ es) [] = ⊥
+AreJudgedBehind granted before (e ∷ es) (a ∷ more) =
+    (a.message ≡ e.message) × IsJudgedBehind granted before e.message.bytes.now a.broken.items
+    × AreJudgedBehind granted (Some e) es more
+
+-- the messages of a recorded dialogue, each with the rules that it breaks
+abbrev pub AreAudited : Granted → List Exchange → List Audited → Type 0
+AreAudited granted exchanges audited = AreJudgedBehind granted None exchanges audited

@@ -1,0 +1,4 @@
+pub mod Dialogues
+pub mod Auditing
+pub mod OwnParams
+pub mod Laws

@@ -1,0 +1,65 @@
+-- The parameters that a recorded dialogue tells itself: those of the first answer that has a HIBPA 3 and a HIPINS 1.
+-- Words of private contracts and proofs alone stand last, under a heading.
+use Rattle.std.specs.Prelude.{◌≡◌, ◌≢◌, ◌⊎◌, ℕ, List, [], ◌∷◌, ◌++◌, Option, Some, None}
+use Rattle.std.specs.List.{AllByRecursion}
+use Rattle.fints_params.specs.declared.fault.ParamFault.{ParamFault}
+use Rattle.fints_params.specs.declared.fault.ParamFault.TheVariants.{NoBankParameters, NoPinParameters}
+use Rattle.fints_params.specs.Parameters.{Rows}
+use Rattle.fints_params.specs.Captures.{IsParamsOf, IsParamFault}
+use Rattle.fints_rules_dialogues.specs.declared.cutting.Sent.{Sent}
+use Rattle.fints_rules_dialogues.specs.declared.fault.DialogueFault.{DialogueFault}
+use Rattle.fints_rules_dialogues.specs.declared.fault.DialogueFault.TheVariants as fault
+use Rattle.fints_rules_dialogues.specs.declared.reading.Answer.{Answer}
+use Rattle.fints_rules_dialogues.specs.declared.reading.Exchange.{Exchange}
+
+-- the bytes are refused as a capture for this alone, that a HIBPA or a HIPINS is missing
+abbrev pub HasNoParams : List ℕ → Type 0
+HasNoParams bytes = IsParamFault bytes NoBankParameters ⊎ IsParamFault bytes NoPinParameters
+
+-- no answer is there, or one without parameters
+abbrev pub AnswerTellsNone : Option Answer → Type 0
+AnswerTellsNone None = Unit {0}
+AnswerTellsNone (Some a) = HasNoParams a.sent.bytes.now
+
+abbrev pub TellsNone : Exchange → Type 0
+TellsNone e = AnswerTellsNone e.answer
+
+abbrev pub AnswerTells : Rows → Option Answer → Type 0
+AnswerTells rows None = ⊥
+AnswerTells rows (Some a) = IsParamsOf a.sent.bytes.now rows
+
+-- the first answer with parameters tells these rows
+pub record TellsParams (exchanges : List Exchange) (rows : Rows) : Type 0 where
+  pub front : List Exchange
+  pub at : Exchange
+  pub back : List Exchange
+  pub split : exchanges ≡ front ++ at ∷ back
+  pub before : AllByRecursion TellsNone front
+  pub tells : AnswerTells rows at.answer
+
+-- why the answer is refused as a capture, other than for what is missing
+abbrev pub IsTellingFault : Option Answer → DialogueFault → Type 0
+IsTellingFault (Some a) (fault.Answer start f) =
+    IsParamFault a.sent.bytes.now f × (f ≢ NoBankParameters) × (f ≢ NoPinParameters) × (start ≡ a.sent.start)
+IsTellingFault _ _ = ⊥
+
+-- before any answer tells parameters one is refused
+pub record IsRefusedBefore (exchanges : List Exchange) (f : DialogueFault) : Type 0 where
+  pub front : List Exchange
+  pub at : Exchange
+  pub back : List Exchange
+  pub split : exchanges ≡ front ++ at ∷ back
+  pub before : AllByRecursion TellsNone front
+  pub refused : IsTellingFault at.answer f
+
+-- the first refusal of an answer as a capture, or that none has parameters
+abbrev pub IsOwnParamsFault : List Exchange → DialogueFault → Type 0
+IsOwnParamsFault exchanges f =
+    IsRefusedBefore exchanges f ⊎ ((f ≡ fault.NoParameters) × AllByRecursion TellsNone exchanges)
+
+-- ---- of private contracts and proofs alone
+
+-- what a look for parameters in an answer finds
+abbrev pub IsFound : Option Answer → Option Rows → Type 0
+IsFound answer None = AnswerTellsNone answer
+IsFound answer (Some rows) = AnswerTells rows answer

@@ -1,0 +1,15 @@
+//! Recorded dialogues: the messages of a client and the bank's answers to them, as they were sent.
+#![tactic(auto)]
+
+mod auditing;
+mod cutting;
+mod fault;
+pub mod laws;
+mod reading;
+mod telling;
+
+pub use auditing::{Audited, audit};
+pub use cutting::Sent;
+pub use fault::DialogueFault;
+pub use reading::{Answer, Exchange, read_dialogue};
+pub use telling::own_params;

@@ -1,0 +1,148 @@
+//! The exchanges of a recorded dialogue: each message of the client with the bank's answer to it.
+ghost use Rattle.std.specs.Prelude.{◌≡◌, ◌≢◌, ◌<◌, ◌≤◌, ◌+◌, ◌^◌, ℕ, [], length, IfOk, IfErr};
+ghost use Rattle.std.specs.List.{list_any};
+ghost use Rattle.fints_params.specs.Captures.{IsCodesOf};
+ghost use Rattle.fints_rules_messages.specs.Messages.{MessageView, IsMessage};
+ghost use Rattle.fints_rules_dialogues.specs.Dialogues.{is_hirmg, sents_in, IsFromClient, IsFromBank, IsClientFault, IsAnswerFault, IsExchangeFault, IsTurnFault, AreInTurn, IsDialogue, IsDialogueFault, IsMemoryOr, EndsBelow, BeginsWith};
+
+use crate::cutting::{Sent, cut};
+use crate::fault::DialogueFault;
+use fints_params::{Code, ParamFault, feedback_codes};
+use fints_rules_messages::{JudgeFault, Message, read_message};
+use std::alloc::Global;
+
+/// An answer of the bank, and the codes of its feedback in their order.
+#[derive(Drop)]
+pub struct Answer<'a> {
+    pub sent: Sent<'a>,
+    pub codes: Vec<Code>,
+}
+
+/// A message of the client and the bank's answer to it. Only the last message may have none.
+#[derive(Drop)]
+pub struct Exchange<'a> {
+    pub message: Sent<'a>,
+    pub answer: Option<Answer<'a>>,
+}
+
+fn has_hirmg(message: &Message) -> bool
+    ensures { result ≡ list_any is_hirmg message.now.body }
+{
+    message
+        .body()
+        .iter()
+        .any(|segment| segment.head.id.is(b"HIRMG"))
+}
+
+// Whether the message is one of the client.
+fn check_client(alloc: Global, sent: &Sent<'_>) -> Result<(), DialogueFault>
+    requires { sent.now.start + length sent.now.bytes.now < 2 ^ 64 }
+    ensures fine { IfOk result (λ _. IsFromClient sent.now.bytes.now) }
+    ensures refused { IfErr result (λ f. IsMemoryOr (IsClientFault sent.now) f) }
+{
+    let offset = sent.start;
+    match read_message(alloc, sent.bytes) {
+        Ok(message) => {
+            if has_hirmg(&message) {
+                return Err(DialogueFault::NotInTurn { offset });
+            }
+            Ok(())
+        }
+        Err(fault) => match fault {
+            JudgeFault::NotAMessage { offset: at } => Err(DialogueFault::NotAMessage {
+                offset: offset + at,
+            }),
+            _ => Err(DialogueFault::Memory),
+        },
+    }
+}
+
+// The answer that the message is.
+fn read_answer<'a>(alloc: Global, sent: &Sent<'a>) -> Result<Answer<'a>, DialogueFault>
+    ensures answer { IfOk result (λ a. IsFromBank a.sent.bytes.now a.codes.items) }
+    ensures sent { IfOk result (λ a. a.sent ≡ sent.now) }
+    ensures refused { IfErr result (λ f. IsMemoryOr (IsAnswerFault sent.now) f) }
+{
+    match feedback_codes(alloc, sent.bytes) {
+        Ok(codes) => {
+            if codes.is_empty() {
+                return Err(DialogueFault::NotInTurn { offset: sent.start });
+            }
+            Ok(Answer { sent: *sent, codes })
+        }
+        Err(fault) => match fault {
+            ParamFault::Memory => Err(DialogueFault::Memory),
+            _ => Err(DialogueFault::Answer {
+                start: sent.start,
+                fault,
+            }),
+        },
+    }
+}
+
+// The exchange at the front of the messages.
+fn read_exchange<'a>(alloc: Global, messages: &[Sent<'a>]) -> Result<Exchange<'a>, DialogueFault>
+    requires some { 0 < length messages.now }
+    requires below { EndsBelow messages.now }
+    ensures exchange { IfOk result (λ e. BeginsWith messages.now e) }
+    ensures refused { IfErr result (λ f. IsMemoryOr (IsExchangeFault messages.now) f) }
+{
+    let message = messages[0];
+    check_client(alloc, &message)?;
+    if messages.len() == 1 {
+        return Ok(Exchange {
+            message,
+            answer: None,
+        });
+    }
+    let answer = read_answer(alloc, &messages[1])?;
+    Ok(Exchange {
+        message,
+        answer: Some(answer),
+    })
+}
+
+// How many messages an exchange is.
+fn message_count(exchange: &Exchange<'_>) -> usize
+    ensures { result ≡ length (sents_in exchange.now) }
+{
+    match exchange.answer {
+        None => 1,
+        Some(_) => 2,
+    }
+}
+
+// The exchanges that the messages are.
+fn read_exchanges<'a>(
+    alloc: Global,
+    messages: &[Sent<'a>],
+) -> Result<Vec<Exchange<'a>>, DialogueFault>
+    requires { EndsBelow messages.now }
+    ensures exchanges { IfOk result (λ v. AreInTurn messages.now v.items []) }
+    ensures refused { IfErr result (λ f. IsMemoryOr (IsTurnFault messages.now) f) }
+{
+    let mut exchanges = Vec::new(alloc);
+    let mut at = 0;
+    while at < messages.len() {
+        let (_, rest) = messages.split_at(at);
+        let exchange = read_exchange(alloc, rest)?;
+        at += message_count(&exchange);
+        exchanges.push(exchange)?;
+    }
+    Ok(exchanges)
+}
+
+/// The exchanges of a recorded dialogue: the 1st, 3rd, .. message is the client's, and the 2nd, 4th, ..
+/// the bank's. The answer is the first refusal, in this order: where the file can't be cut, then that
+/// there is no message, then message by message: one of the client that is none or has a HIRMG, one of
+/// the bank whose feedback is refused or has no code (FinTS 3.0, Formals, messages and feedback).
+pub fn read_dialogue(alloc: Global, file: &[u8]) -> Result<Vec<Exchange<'_>>, DialogueFault>
+    ensures dialogue { IfOk result (λ v. IsDialogue file.now v.items) }
+    ensures refused { IfErr result (λ f. IsMemoryOr (IsDialogueFault file.now) f) }
+{
+    let messages = cut(alloc, file)?;
+    if messages.is_empty() {
+        return Err(DialogueFault::NoMessage);
+    }
+    read_exchanges(alloc, messages.as_slice())
+}

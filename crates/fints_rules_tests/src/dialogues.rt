@@ -1,0 +1,30 @@
+//! Recorded dialogues.
+use fints_rules::{OrderTable, Permissions};
+use fints_rules_dialogues::{DialogueFault, audit, own_params, read_dialogue};
+use fints_samples::T;
+use std::test::Fail;
+
+// The end of a dialogue, and an answer that tells parameters.
+const DIALOGUE: &[u8] =
+    b"HNHBK:1:3+000000000055+300+0+1'HKEND:2:1+0'HNHBS:3:1+1'\r\nHNHBK:1:3+000000000137+300+0+1'HIRMG:2:2+0010::OK'HIBPA:3:3+12+280:10020030+Bank+1+1+300+0'HIPINS:4:1+1+1+0+5:38:6:::HKSAL:N'HNHBS:5:1+1'";
+
+#[test]
+fn audited(rt: HostRuntime) -> Result<(), Fail> {
+    let exchanges = read_dialogue(rt.alloc(), DIALOGUE)?;
+    let params = own_params(rt.alloc(), exchanges.as_slice())?;
+    let orders = OrderTable::read(rt.alloc(), T)?;
+    let permissions = Permissions::build(rt.alloc(), &params, &orders)?;
+    let audited = audit(rt.alloc(), &permissions, exchanges.as_slice())?;
+    assert!(rt; audited.len() == 1);
+    for one in audited.iter() {
+        assert!(rt; (one.message.start, one.message.bytes.len()) == (0, 55));
+        assert!(rt; one.broken.is_empty());
+    }
+    Ok(())
+}
+
+#[test]
+fn no_dialogue(rt: HostRuntime) {
+    let fault = read_dialogue(rt.alloc(), b"\r\n").err();
+    assert_eq!(rt; fault, Some(DialogueFault::NoMessage));
+}
