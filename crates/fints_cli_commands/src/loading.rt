@@ -84,9 +84,10 @@ pub fn paths_of<'a>(request: &Request<'a>) -> Paths<'a>
             answer: Some(earlier.answer),
             ..judge_paths(files)
         },
-        Request::Check(files) | Request::Explain { files, .. } | Request::Certify(files) => {
-            script_paths(files)
-        }
+        Request::Check(files)
+        | Request::Explain { files, .. }
+        | Request::Certify(files)
+        | Request::DrawFound(files) => script_paths(files),
         Request::Verify { files, certificate } => Paths {
             certificate: Some(certificate),
             ..script_paths(files)
@@ -95,6 +96,10 @@ pub fn paths_of<'a>(request: &Request<'a>) -> Paths<'a>
             orders: Some(files.orders),
             script: Some(files.script),
             case: Some(files.case),
+            ..NONE
+        },
+        Request::Draw { script } => Paths {
+            script: Some(script),
             ..NONE
         },
     }
