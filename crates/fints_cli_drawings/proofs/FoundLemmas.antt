@@ -1,7 +1,7 @@
 -- What was found of a step stands together among findings in their order.
 use Rattle.std.proofs.Common.{◌≡◌, ◌∙◌, ◌<◌, ◌≤◌, ◌+◌, ◌-◌, ℕ, zero, suc, Bool, true, false, cond, List, [], ◌∷◌, length, take, drop, refl, ap, sym, subst, inl, inr, arith}
-use Rattle.std.specs.Prelude.{◌==◌, AllPairs, IsTrue, IsFalse}
-use Rattle.std.specs.List.{AllWithin, filter, slice_index_or, slice_range}
+use Rattle.std.specs.Prelude.{AllPairs}
+use Rattle.std.specs.List.{AllWithin, slice_index_or, slice_range}
 use Rattle.std.specs.List.Sorted.{IsNonDecreasingBy, IsPartitionPoint}
 use Rattle.std.proofs.Math.Dec.{leb, ltb}
 use Rattle.std.proofs.lemmas.Bool.{cases_lt, eq-eqb, leb-false, leb-true, ltb-false, ltb-true, ne_eqb}

@@ -1,12 +1,12 @@
 -- The least code that opens a branch, found among all codes.
 use Rattle.std.proofs.Common.{◌≡◌, ◌∙◌, ◌<◌, ◌≤◌, ◌+◌, ◌-◌, ℕ, zero, suc, Bool, true, false, cond, IsTrue, IsFalse, List, [], ◌∷◌, length, take, Option, None, Some, refl, ap, sym, subst, inl, inr, arith, All}
-use Rattle.std.specs.Prelude.{◌↔◌, ◌&&◌, not, IfSome, IsSome, MatchOption, slice_get}
+use Rattle.std.specs.Prelude.{◌↔◌, not, IfSome, IsSome, MatchOption, slice_get}
 use Rattle.std.specs.List.{find, list_all, range_with_len}
 use Rattle.std.specs.Option.{ForSome, option_map_or}
 use Rattle.std.proofs.lemmas.Bool.{and_from, and_parts, cases_lt, false≢true}
 use Rattle.std.proofs.lemmas.List.Elements.{All-nil, All-cons, All-head, All-tail}
 use Rattle.std.proofs.lemmas.Option.{same_Some}
-use Rattle.fints_script_cases.specs.Answers.{IsLeastOpener, IsOpen, IsOpener, OneCodeFires}
+use Rattle.fints_script_cases.specs.Answers.{IsLeastOpener, IsOpen, IsOpener}
 use Rattle.fints_script_cases.specs.Patterns.{matches}
 use Rattle.fints_script_cases.specs.declared.answers.Branch.{Branch}
 use Rattle.fints_script_cases.proofs.Firing.{one_code}

@@ -1,5 +1,5 @@
 -- The law of the codes that a picture tells of branches. It is the contract of a public function.
-use Rattle.std.specs.Prelude.{◌≡◌, ◌↔◌, ℕ, ◌+◌, ◌≤◌, List, length, IfSome, None}
+use Rattle.std.specs.Prelude.{◌≡◌, ◌↔◌, ℕ, List, IfSome, None}
 use Rattle.fints_script_cases.specs.Answers.{IsLeastOpener, IsOpen}
 use Rattle.fints_script_cases.specs.declared.answers.Branch.{Branch}
 use Rattle.fints_cli_drawings.specs.Openers.{opener_of}

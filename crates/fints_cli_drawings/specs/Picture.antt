@@ -75,7 +75,8 @@ repeat_text repeat _ = []
 
 -- dashed where it is the default
 abbrev pub default_style : List Branch → ℕ → List ℕ
-default_style branches b = option_map_or (λ (branch : Branch). []) (slice_get branches (b - 1)) (codes ", style=dashed")
+default_style branches b =
+    option_map_or (λ (branch : Branch). []) (slice_get branches (b - 1)) (codes ", style=dashed")
 
 -- grey where no answer fires it
 unfoldable pub closed_style : Option ℕ → List ℕ

@@ -38,7 +38,8 @@ fn write_step(
     requires from { 1 ≤ n }
     requires to { n ≤ length plan.now.script.steps }
     requires in_order { AllPairs IsBefore findings.now }
-    ensures { OnOk result (IsStepWritten plan.now.script.steps n reached findings.now text.old.items text.new.items) }
+    ensures { OnOk result (IsStepWritten plan.now.script.steps n reached findings.now
+        text.old.items text.new.items) }
 {
     plan.keeps();
     let step = plan.step(n);
@@ -56,7 +57,8 @@ fn write_steps(
     requires figures { length figures.now ≡ length plan.now.script.steps }
     requires in_order { AllPairs IsBefore findings.now }
     ensures { OnOk result (text.new.items
-        ≡ text.old.items ++ steps_text plan.now.script.steps 1 plan.now.script.steps figures.now findings.now) }
+        ≡ text.old.items
+        ++ steps_text plan.now.script.steps 1 plan.now.script.steps figures.now findings.now) }
 {
     for i in 0..figures.len() {
         write_step(text, plan, i + 1, figures[i], findings)?;

@@ -1,4 +1,4 @@
-use Rattle.std.proofs.Common.{ℕ, ◌+◌, ◌<◌, ◌≡◌, List, [], Option, Some, None, length, ap, arith, sym, subst, ◌∙◌}
+use Rattle.std.proofs.Common.{ℕ, ◌+◌, ◌≡◌, [], Option, Some, None, length, ap, arith, sym, subst, ◌∙◌}
 use Rattle.fints_params.specs.declared.rows.Usage.TheVariants.{Locked}
 use Rattle.fints_rules_permissions.specs.Permits.{Granted}
 use Rattle.fints_check_findings.specs.Figures.{FiguresAre}

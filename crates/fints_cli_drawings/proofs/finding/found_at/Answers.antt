@@ -1,4 +1,4 @@
-use Rattle.std.proofs.Common.{sym, ◌∙◌}
+use Rattle.std.proofs.Common.{sym}
 use Rattle.fints_cli_drawings.proofs.FoundLemmas.{found_between}
 use Rattle.fints_cli_drawings.proofs.finding.found_at.Goals as goal
 
