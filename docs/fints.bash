@@ -10,7 +10,8 @@ _fints() {
     certify) words="--hints --params --orders --script --help" files="--params --orders --script" numbers="" ;;
     verify) words="--hints --params --orders --script --cert --help" files="--params --orders --script --cert" numbers="" ;;
     run) words="--hints --orders --script --case --message --help" files="--orders --script --case" numbers="--message" ;;
-    *) words="show judge audit check explain certify verify run help --hints --help --version" ;;
+    draw) words="--hints --params --orders --script --help" files="--params --orders --script" numbers="" ;;
+    *) words="show judge audit check explain certify verify run draw help --hints --help --version" ;;
     esac
     case " $files " in
     *" $before "*)

@@ -197,6 +197,7 @@ def in_all_commands(lab):
             Run(["explain", *fork.words[1:]], fork.folder, fork.want),
             row("certify/fork"),
             row("verify/fork"),
+            row("draw/fork"),
         ],
         "certificates": [
             row("judge/message-of-a-kilobyte"),
@@ -212,6 +213,7 @@ def in_all_commands(lab):
         "dialogue": [
             *(row(f"dialogue/{it}") for it in "show judge-transfer run run-message-4 check".split()),
             *(row(f"dialogue/{it}") for it in "explain explain-second-signature certify verify".split()),
+            row("draw/second-signature"),
         ],
     }
     return {f"{group}: {(run.words or ['report'])[0]}, {os.path.basename(run.folder)}": run for group, runs in groups.items() for run in runs}
@@ -372,7 +374,8 @@ def lengths(lab, run, option, path):
 
 def files(lab):
     names = "show judge-transfer run check explain certify verify".split()
-    asked = [(run, *it) for run in (row(f"dialogue/{name}") for name in names) for it in options(run)]
+    runs = [*(row(f"dialogue/{name}") for name in names), row("draw/second-signature")]
+    asked = [(run, *it) for run in runs for it in options(run)]
     lab.each(later(call, lab, *it) for it in asked for call in (reads_fail, lengths))
 
 
@@ -423,11 +426,29 @@ def many_ways(lab, n):
     """So many steps, each with a branch to the next one and to the one behind that."""
     step = lambda i: f"step w{i} number {i} size {55 if i == 1 else 171 + 2 * len(str(i))}\n"
     told = "".join(map(step, range(1, n + 1))) + "clean\n"
+    check(lab, f"ways-{n}", "c1.fints", ways(n), Ran(0, told.encode(), b""))
+
+
+def ways(n):
+    """The script of so many steps with these branches."""
     text = ""
     for i in range(1, n + 1):
-        ways = [f'{{on = "{on}", to = "w{to}"}}' for on, to in (("0***", i + 1), ("3***", i + 2)) if to <= n]
-        text += f'[[step]]\nname = "w{i}"\nbranches = [{", ".join(ways)}]\n' + ENDS % ""
-    check(lab, f"ways-{n}", "c1.fints", text, Ran(0, told.encode(), b""))
+        told = [f'{{on = "{on}", to = "w{to}"}}' for on, to in (("0***", i + 1), ("3***", i + 2)) if to <= n]
+        text += f'[[step]]\nname = "w{i}"\nbranches = [{", ".join(told)}]\n' + ENDS % ""
+    return text
+
+
+def drawn_ways(lab, n):
+    """Its picture."""
+    lines = ["digraph fints {", "  node [shape=box];", '  "stop" [shape=doublecircle];']
+    for i in range(1, n + 1):
+        size = 55 if i == 1 else 171 + 2 * len(str(i))
+        lines.append(f'  "w{i}" [label="w{i}\\nHKEND:1\\nnumber {i} size {size}"];')
+        lines += [f'  "w{i}" -> "w{i + 1}" [label="0*** (0000)"];'] if i < n else []
+        lines += [f'  "w{i}" -> "w{i + 2}" [label="3*** (3000)"];'] if i + 1 < n else []
+        lines.append(f'  "w{i}" -> "stop" [label="default ({"1000" if i < n else "0000"})", style=dashed];')
+    script = write(f"{lab.room}/drawn-{n}.toml", ways(n))
+    lab.hold(f"drawn {n}", Ran(0, ("\n".join(lines) + "\n}\n").encode(), b""), ["draw", "--script", script], INPUTS)
 
 
 def check(lab, label, capture, text, wanted):
@@ -490,6 +511,7 @@ def families(lab):
     told = [it for it in names if row(it).want.status <= 1]
     lab.note(len(told) >= 30, f"only {len(told)} rows of check have a report", ROWS, ["ls", "check", "dialogue"])
     jobs = [later(padded, lab, m) for m in range(1201)] + [later(many_ways, lab, n) for n in (*range(1, 201), 500, 999, 1000)]
+    jobs += [later(drawn_ways, lab, n) for n in (1, 2, 3, 40, 1000)]
     lab.each(jobs + [later(other_names, lab, it) for it in told])
 
 

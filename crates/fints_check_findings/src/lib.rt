@@ -6,6 +6,7 @@ mod casing;
 mod choosing;
 mod confirming;
 mod elements;
+mod figuring;
 mod finding;
 mod kinds;
 mod laws;
@@ -18,6 +19,7 @@ mod templates;
 
 pub use at_step::AtStep;
 pub use confirming::confirm;
+pub use figuring::greatest_figures;
 pub use finding::{Finding, Reached};
 pub use fints_syntax::Memory;
 pub use laws::release_is_left;

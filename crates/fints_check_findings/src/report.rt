@@ -189,8 +189,8 @@ impl<'a> Report<'a> {
     }
 }
 
-// The figures of a step of this greatest number.
-fn figures_at(plan: &Plan<'_>, n: usize, number: u32) -> Reached
+/// The figures of a step of this greatest number.
+pub fn figures_at(plan: &Plan<'_>, n: usize, number: u32) -> Reached
     requires from { 1 ≤ n }
     requires to { n ≤ length plan.now.script.steps }
     requires least { 1 ≤ number }

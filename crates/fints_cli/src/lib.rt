@@ -7,6 +7,7 @@ mod responding;
 
 pub use emitting::emit;
 pub use fints_cli_commands::{Answered, Failure, Refusal, built_in, perform};
+pub use fints_cli_drawings::draw_script;
 pub use fints_cli_files::{Files, LoadFault, MAX_CALLS, Out, ReadFault, WriteFault, load};
 pub use fints_cli_reports::{Wanted, run_case, tell_script, verify_script};
 pub use fints_cli_texts::{Fault, Reply, judge_message, show, show_message};

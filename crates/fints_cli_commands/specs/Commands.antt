@@ -6,7 +6,7 @@ use Rattle.fints_cli_commands.specs.declared.failing.Failure.{Failure}
 use Rattle.fints_cli_commands.specs.declared.failing.Failure.TheVariants.{Input, Unread}
 use Rattle.fints_cli_commands.specs.declared.failing.Refusal.{Refusal}
 use Rattle.fints_cli_words.specs.declared.words.Request.{Request}
-use Rattle.fints_cli_words.specs.declared.words.Request.TheVariants.{BuiltIn, Show, ShowMessage, Judge, JudgeAfter, AuditOwn, Audit, Check, Explain, Certify, Verify}
+use Rattle.fints_cli_words.specs.declared.words.Request.TheVariants.{BuiltIn, Show, ShowMessage, Judge, JudgeAfter, AuditOwn, Audit, Check, Explain, Certify, Verify, Draw, DrawFound}
 use Rattle.fints_cli_words.specs.declared.words.Request.TheVariants as requests
 use Rattle.fints_cli_words.specs.declared.words.AuditFiles.{AuditFiles}
 use Rattle.fints_cli_words.specs.declared.words.JudgeFiles.{JudgeFiles}
@@ -19,7 +19,9 @@ use Rattle.fints_cli_texts.specs.ShowMessage.{IsShownMessage}
 use Rattle.fints_cli_texts.specs.Judge.{IsVerdictOf, IsMessageRefusal, IsJudgeRefusal}
 use Rattle.fints_cli_texts.specs.JudgeAfter.{IsJudgeAfterRefusal, IsVerdictAfter}
 use Rattle.fints_cli_recorded.specs.Audit.{IsAuditOf, IsOwnAuditOf, IsAuditRefusal, IsOwnAuditRefusal}
-use Rattle.fints_cli_reports.specs.Told.{IsToldOf, IsTellRefusal}
+use Rattle.fints_cli_drawings.specs.Drawn.{no_orders, IsDrawnOf, IsPictureOf}
+use Rattle.fints_cli_reports.specs.Plans.{IsPlanRefusal}
+use Rattle.fints_cli_reports.specs.Told.{IsRefused, IsToldOf, IsTellRefusal}
 use Rattle.fints_cli_reports.specs.declared.telling.Wanted.{Wanted}
 use Rattle.fints_cli_reports.specs.declared.telling.Wanted.TheVariants.{Report, Cases, OneCase, Certificate}
 use Rattle.fints_cli_reports.specs.RunText.{IsRunOf, IsRunRefusal}
@@ -98,6 +100,10 @@ AnswersTo (Verify files certificate) holds status text =
     IsVerifiedOf capture table script lines status text))
 AnswersTo (requests.Run files only) holds status text =
     (status ≡ 0) × OfCase holds files (λ table script case. IsRunOf table script case only text)
+AnswersTo (Draw script) holds status text =
+    (status ≡ 0) × IfSome (holds script.now) (λ bytes. IsPictureOf bytes text)
+AnswersTo (DrawFound files) holds status text =
+    OfScript holds files (λ capture table script. IsDrawnOf capture table script status text)
 
 -- the fault refuses the request, where the bytes of its files are told
 abbrev pub RefusesRequest : Request → Held → Fault → Type 0
@@ -127,6 +133,10 @@ RefusesRequest (Verify files certificate) holds fault =
     IsUnverified capture table script lines fault))
 RefusesRequest (requests.Run files only) holds fault =
     OfCase holds files (λ table script case. IsRunRefusal table script case only fault)
+RefusesRequest (Draw script) holds fault =
+    IfSome (holds script.now) (λ bytes. IsPlanRefusal no_orders bytes fault)
+RefusesRequest (DrawFound files) holds fault =
+    OfScript holds files (λ capture table script. IsRefused capture table script fault)
 
 -- a request that has files may have one that couldn't be read
 abbrev pub HasFiles : Request → Type 0

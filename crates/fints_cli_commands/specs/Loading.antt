@@ -7,7 +7,7 @@ use Rattle.fints_cli_commands.specs.declared.loading.Paths.{Paths}
 use Rattle.fints_cli_files.specs.Streams.{ReadCounts}
 use Rattle.fints_cli_files.specs.Loading.{HasFailed, NoneFailed, IsLonger, AreUsedUp}
 use Rattle.fints_cli_words.specs.declared.words.Request.{Request}
-use Rattle.fints_cli_words.specs.declared.words.Request.TheVariants.{BuiltIn, Show, ShowMessage, Judge, JudgeAfter, AuditOwn, Audit, Check, Explain, Certify, Verify}
+use Rattle.fints_cli_words.specs.declared.words.Request.TheVariants.{BuiltIn, Show, ShowMessage, Judge, JudgeAfter, AuditOwn, Audit, Check, Explain, Certify, Verify, Draw, DrawFound}
 use Rattle.fints_cli_words.specs.declared.words.Request.TheVariants as requests
 use Rattle.fints_cli_words.specs.declared.words.AuditFiles.{AuditFiles}
 use Rattle.fints_cli_words.specs.declared.words.JudgeFiles.{JudgeFiles}
@@ -60,6 +60,8 @@ paths_of (Certify files) = script_paths files
 paths_of (Verify files certificate) = record (script_paths files) { certificate = Some certificate }
 paths_of (requests.Run files only) =
     record no_paths { orders = Some files.orders; script = Some files.script; case = Some files.case }
+paths_of (Draw script) = record no_paths { script = Some script }
+paths_of (DrawFound files) = script_paths files
 
 -- the file of an option: its path, and how many bytes it may have
 pub record NamedFile : Type 0 where

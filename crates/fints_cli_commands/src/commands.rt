@@ -12,6 +12,7 @@ ghost use Rattle.fints_cli_commands.specs.Commands.{cases_wanted, failure_status
 use crate::built_in;
 use crate::failing::{Refusal, refused};
 use crate::loading::{Contents, Loaded, load_all, paths_of};
+use fints_cli_drawings::{draw_read, draw_script};
 use fints_cli_files::Files;
 use fints_cli_hints_reasons::judged_reasons;
 use fints_cli_hints_segments::skipped_notes;
@@ -99,6 +100,11 @@ fn answer(
             let text = run_case(alloc, orders, script, &contents.case, *message)?;
             Ok(Reply { status: 0, text })
         }
+        Request::Draw { .. } => {
+            let text = draw_script(alloc, script)?;
+            Ok(Reply { status: 0, text })
+        }
+        Request::DrawFound(_) => draw_read(alloc, params, orders, script),
     }
 }
 
@@ -124,15 +130,15 @@ fn reasons(alloc: Global, request: &Request<'_>, contents: &Contents, hints: boo
         Request::Judge(_) | Request::JudgeAfter { .. } => {
             judged_reasons(alloc, &inputs).unwrap_or(None)
         }
-        Request::Check(_) | Request::Explain { .. } | Request::Certify(_) => {
-            report_reasons(alloc, &inputs).unwrap_or(None)
-        }
+        Request::Check(_) | Request::Explain { .. } | Request::Certify(_) | Request::DrawFound(_) =>
+            report_reasons(alloc, &inputs).unwrap_or(None),
         Request::Verify { .. } => verified_reason(alloc, &inputs).unwrap_or(None),
         Request::BuiltIn
         | Request::ShowMessage { .. }
         | Request::AuditOwn(_)
         | Request::Audit { .. }
-        | Request::Run { .. } => None,
+        | Request::Run { .. }
+        | Request::Draw { .. } => None,
     }
 }
 

@@ -101,9 +101,10 @@ pub fn paths_of<'a>(request: &Request<'a>) -> Paths<'a>
             params: Some(params),
             ..audit_paths(files)
         },
-        Request::Check(files) | Request::Explain { files, .. } | Request::Certify(files) => {
-            script_paths(files)
-        }
+        Request::Check(files)
+        | Request::Explain { files, .. }
+        | Request::Certify(files)
+        | Request::DrawFound(files) => script_paths(files),
         Request::Verify { files, certificate } => Paths {
             certificate: Some(certificate),
             ..script_paths(files)
@@ -112,6 +113,10 @@ pub fn paths_of<'a>(request: &Request<'a>) -> Paths<'a>
             orders: Some(files.orders),
             script: Some(files.script),
             case: Some(files.case),
+            ..NONE
+        },
+        Request::Draw { script } => Paths {
+            script: Some(script),
             ..NONE
         },
     }

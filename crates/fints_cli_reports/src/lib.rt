@@ -10,6 +10,8 @@ mod telling;
 mod verifying;
 mod writing;
 
+pub use inputs::{Inputs, read_inputs};
 pub use running::run_case;
 pub use telling::{Wanted, tell, tell_read, tell_script};
 pub use verifying::{verify_certificate, verify_read, verify_script};
+pub use writing::report_status;

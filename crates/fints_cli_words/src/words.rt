@@ -11,7 +11,7 @@ use std::alloc::{AllocError, Global};
 const ABOUT_FILES: &str = "Without words: the report on a built-in script.
 
 Statuses:
-  0  clean, shown, permitted, valid or run; a certificate or this help
+  0  clean, shown, permitted, valid, run or drawn; a certificate or this help
   1  a rule is broken, or a certificate isn't valid
   2  usage error
   3  an input is refused
@@ -118,6 +118,12 @@ pub enum Request<'a> {
         files: RunFiles<'a>,
         message: Option<u32>,
     },
+    /// The picture of a script's ways.
+    Draw {
+        script: &'a str,
+    },
+    /// The picture with what the runs of the script break, by a capture and an order table.
+    DrawFound(ScriptFiles<'a>),
 }
 
 /// What the words ask for.
@@ -156,6 +162,14 @@ const SCRIPT: Choice = Choice::File("script", "The script");
 const CASE: Choice = Choice::File("case", "The case");
 
 const CERTIFICATE: Choice = Choice::File("cert", "The certificate");
+
+const WITH_PARAMS: Choice = Choice::Beside(
+    "params",
+    "The capture by which it is checked, with --orders",
+    "orders",
+);
+
+const WITH_ORDERS: Choice = Choice::Beside("orders", "The order table, with --params", "params");
 
 const BEFORE: Choice = Choice::Beside("before", "The message before it, with --answer", "answer");
 
@@ -232,6 +246,11 @@ const COMMANDS: [Described; 8] = [
         name: "run",
         about: "Prints the messages that a client sends under a case",
         options: &[ORDERS, SCRIPT, CASE, SENT],
+    },
+    Described {
+        name: "draw",
+        about: "Draws the steps and branches of a script in DOT, and the rules that some run breaks",
+        options: &[WITH_PARAMS, WITH_ORDERS, SCRIPT],
     },
 ];
 
@@ -372,9 +391,11 @@ fn standard_inputs(request: &Request<'_>) -> usize {
         }
         Request::AuditOwn(files) => count_inputs(&[files.orders, files.dialogue]),
         Request::Audit { files, params } => count_inputs(&[*params, files.orders, files.dialogue]),
-        Request::Check(files) | Request::Explain { files, .. } | Request::Certify(files) => {
-            script_inputs(files)
-        }
+        Request::Check(files)
+        | Request::Explain { files, .. }
+        | Request::Certify(files)
+        | Request::DrawFound(files) => script_inputs(files),
+        Request::Draw { script } => count_inputs(&[*script]),
         Request::Verify { files, certificate } => {
             script_inputs(files).saturating_add(count_inputs(&[*certificate]))
         }
@@ -498,6 +519,14 @@ fn run_request<'a>(options: &ArgMatches<'a>) -> Option<Request<'a>> {
     })
 }
 
+fn draw_request<'a>(options: &ArgMatches<'a>) -> Option<Request<'a>> {
+    if let Some(files) = script_files(options) {
+        return Some(Request::DrawFound(files));
+    }
+    let script = options.get_str("script")?;
+    Some(Request::Draw { script })
+}
+
 // The command with its options, each of which the command line requires.
 fn named_request<'a>(name: &str, options: &ArgMatches<'a>) -> Option<Request<'a>> {
     match name {
@@ -509,6 +538,7 @@ fn named_request<'a>(name: &str, options: &ArgMatches<'a>) -> Option<Request<'a>
         "certify" => Some(Request::Certify(script_files(options)?)),
         "verify" => verify_request(options),
         "run" => run_request(options),
+        "draw" => draw_request(options),
         _ => None,
     }
 }

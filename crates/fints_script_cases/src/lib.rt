@@ -16,5 +16,5 @@ pub use carried::{carries, carrying, passes};
 pub use case::{Answer, Case};
 pub use case_fault::CaseFault;
 pub use fints_syntax::Memory;
-pub use pattern::Pattern;
+pub use pattern::{Pattern, digits_of};
 pub use values::{NamedValue, Values};

@@ -2,7 +2,7 @@
 ghost use Rattle.std.specs.Prelude.{◌≡◌, ◌<◌, ◌≤◌, ◌==◌, IsTrue, MatchOption, get_or};
 ghost use Rattle.std.specs.List.{list_all, list_any, zip};
 ghost use Rattle.fints_script_cases.specs.CodeBlocks.{MatchesByBlocks, MissesBlock, size_at, tells};
-ghost use Rattle.fints_script_cases.specs.Patterns.{is_place, pattern_in, fits, code_text, matches};
+ghost use Rattle.fints_script_cases.specs.Patterns.{is_pattern, is_place, pattern_in, fits, code_text, matches};
 
 use fints_params::Code;
 use std::marker::Model;
@@ -89,6 +89,14 @@ impl Pattern {
             }
             _ => None,
         }
+    }
+
+    /// Its four characters.
+    pub fn as_bytes(&self) -> &[u8]
+        ensures text { result.now ≡ self.now }
+        ensures pattern { IsTrue (is_pattern self.now) }
+    {
+        &self.places
     }
 
     /// Whether each place is `*` or has the code's digit.

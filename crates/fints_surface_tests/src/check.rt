@@ -3,7 +3,8 @@ ghost use Rattle.std.specs.Prelude.{◌≡◌};
 
 use crate::samples::{C, C1, FORK, SECOND_ACCOUNT, SHOWN, T};
 use fints_check::{
-    CertFault, Certificate, Certified, Finding, Memory, Reached, Report, check, confirm, verify,
+    CertFault, Certificate, Certified, Finding, Memory, Reached, Report, check, confirm,
+    greatest_figures, verify,
 };
 use fints_params::Params;
 use fints_rules::{OrderTable, Permissions, Rule};
@@ -42,11 +43,17 @@ fn are_figures(report: &Report<'_>) -> bool {
         && matches!(report.visits(), 6..=8)
 }
 
+fn are_greatest(alloc: Global, plan: &Plan<'_>) -> Result<bool, Memory> {
+    let figures = greatest_figures(alloc, plan)?;
+    Ok(figures.as_slice() == [FIRST, None, LAST].as_slice())
+}
+
 fn is_fork(alloc: Global, permissions: &Permissions<'_>, plan: &Plan<'_>) -> Result<bool, Memory>
     requires { permissions.now.orders ≡ plan.now.orders }
 {
     let report = check(alloc, permissions, plan)?;
-    Ok(report.is_clean() && report.findings().is_empty() && are_figures(&report))
+    let clean = report.is_clean() && report.findings().is_empty();
+    Ok(clean && are_figures(&report) && are_greatest(alloc, plan)?)
 }
 
 const CERTIFICATE: &[u8] = b"fints-cert 2\nstep one 1 55\nstep bad -\nstep done 2 173\n";

@@ -25,6 +25,7 @@ fn are_branches(branches: &[Branch]) -> bool {
     match branches {
         [done, bad] => {
             (Some(done.on), done.to) == (Pattern::parse(b"0***"), Target::Step(3))
+                && done.on.as_bytes() == b"0***".as_slice()
                 && (Some(bad.on), bad.to) == (Pattern::parse(b"0030"), Target::Step(2))
         }
         _ => false,

@@ -1,4 +1,6 @@
 use Rattle.std.proofs.lemmas.Result.{IfErr-weaker}
+use Rattle.fints_cli_drawings.specs.Drawn.{no_orders}
+use Rattle.fints_cli_reports.specs.Plans.{IsPlanRefusal}
 use Rattle.fints_cli_texts.specs.Judge.{IsMessageRefusal}
 use Rattle.fints_cli_texts.specs.Show.{IsMemoryOrShowFault}
 use Rattle.fints_cli_commands.proofs.Answering.{audit_own_refused, audit_refused, judge_refused, judge_after_refused, run_refused}
@@ -30,6 +32,15 @@ returns-in_err-text-in-Run-clause-refused c =
     let exit = c.from_residual-in_err-text-in-Run.ensures.1 in
     rw c.in-Run.is (of_exit c.from_residual-in_err-text-in-Run.result _ _ exit (λ holds loaded.
     run_refused holds _ _ _ c.in-Run.files _ refused loaded))
+
+pub returns-in_err-text-in-Draw-clause-refused : goal.returns-in_err-text-in-Draw-clause-refused
+returns-in_err-text-in-Draw-clause-refused c =
+    let fault = c.in_err-text-in-Draw.field-0.0 in
+    let script = c.deref-in-Draw.ensures.value in
+    let refused = rw script at c.in_err-text-in-Draw.ensures.refused in
+    let exit = c.from_residual-in_err-text-in-Draw.ensures.1 in
+    rw c.in-Draw.is (of_exit c.from_residual-in_err-text-in-Draw.result fault _ exit (λ holds loaded.
+    of_file (λ bytes. IsPlanRefusal no_orders bytes fault) (holds c.in-Draw.script.now) _ loaded.script refused))
 
 pub returns-in-Judge-clause-refused : goal.returns-in-Judge-clause-refused
 returns-in-Judge-clause-refused c =

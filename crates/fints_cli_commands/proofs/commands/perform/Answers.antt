@@ -1,6 +1,6 @@
 use Rattle.std.proofs.Common.{arith, ◌≡◌, ◌≤◌, length}
 use Rattle.fints_cli_words.specs.declared.words.Request.{Request}
-use Rattle.fints_cli_words.specs.declared.words.Request.TheVariants.{BuiltIn, Show, ShowMessage, Judge, JudgeAfter, AuditOwn, Audit, Check, Explain, Certify, Verify}
+use Rattle.fints_cli_words.specs.declared.words.Request.TheVariants.{BuiltIn, Show, ShowMessage, Judge, JudgeAfter, AuditOwn, Audit, Check, Explain, Certify, Verify, Draw, DrawFound}
 use Rattle.fints_cli_words.specs.declared.words.Request.TheVariants as requests
 use Rattle.fints_cli_commands.specs.declared.loading.Paths.{Paths}
 use Rattle.fints_cli_commands.specs.Loading.{files_at, files_of, paths_of}
@@ -19,6 +19,8 @@ at_most_five (Explain files finding) = omega arith
 at_most_five (Certify files) = omega arith
 at_most_five (Verify files certificate) = omega arith
 at_most_five (requests.Run files only) = omega arith
+at_most_five (Draw script) = omega arith
+at_most_five (DrawFound files) = omega arith
 
 few : (request : Request) (paths : Paths) → paths ≡ paths_of request → length (files_at paths) ≤ 5
 few request paths is = rw is (at_most_five request)

@@ -1,0 +1,66 @@
+-- What is drawn of a plan is drawn of the texts that the plan was made of.
+use Rattle.std.proofs.Common.{◌≡◌, ◌≤◌, ℕ, List, [], ◌∷◌, Option, arith, sym, subst}
+use Rattle.fints_params.specs.Parameters.{Rows}
+use Rattle.fints_rules_permissions.specs.Orders.{DenotesTable}
+use Rattle.fints_rules_permissions.specs.declared.orders.OrderRow.{OrderRow}
+use Rattle.fints_script.specs.Plans.{IsClosed, PlanValue}
+use Rattle.fints_script.specs.Scripts.{Denotes, ScriptValue}
+use Rattle.fints_check_findings.specs.Figures.{AreFigures}
+use Rattle.fints_check_findings.specs.Findings.{AreFindings}
+use Rattle.fints_check_findings.specs.Reports.{ReportValue}
+use Rattle.fints_check_findings.specs.declared.finding.Finding.{Finding}
+use Rattle.fints_check_findings.specs.declared.finding.Reached.{Reached}
+use Rattle.fints_cli_reports.specs.ReportText.{report_status}
+use Rattle.fints_cli_reports.proofs.ReportLemmas.{on_plan}
+use Rattle.fints_cli_drawings.specs.Drawn.{no_orders, IsDrawnBy, IsDrawnOn, IsPictureOf}
+use Rattle.fints_cli_drawings.specs.Picture.{picture_text}
+
+pub picture_of : (script text : List ℕ) (orders : List OrderRow) (value : ScriptValue) (plan : PlanValue)
+    (figures : List (Option Reached)) → DenotesTable no_orders orders → Denotes script value
+    → IsClosed value orders → plan.script ≡ value → AreFigures plan.script figures
+    → text ≡ picture_text plan.script.steps figures [] → IsPictureOf script text
+picture_of script text orders value plan figures table is closed same are told = record {
+  value = value;
+  plan = record { table = orders; table_is = table; script_is = is; closed = closed };
+  picture = record {
+    figures = figures;
+    figures_are = subst (λ (v : ScriptValue). AreFigures v figures) same are;
+    text_is = subst (λ (v : ScriptValue). text ≡ picture_text v.steps figures []) same told;
+  };
+}
+
+pub drawn_on : (rows : Rows) (table text : List ℕ) (orders : List OrderRow) (value : ScriptValue)
+    (plan : PlanValue) (status : ℕ) (told : List ℕ) → DenotesTable table orders → Denotes text value
+    → IsClosed value orders → plan.script ≡ value → plan.orders ≡ orders
+    → IsDrawnBy (record { rows = rows; orders = plan.orders }) plan.script status told
+    → IsDrawnOn rows table text status told
+drawn_on rows table text orders value plan status told t s closed same made p =
+    let on = on_plan (λ g v. IsDrawnBy g v status told) rows table text orders value plan t s closed same made p in
+    record { value = value; plan = on.0; drawn = on.1 }
+
+report_low : (findings : List Finding) → report_status findings ≤ 1
+report_low [] = omega arith
+report_low (f ∷ fs) = omega arith
+
+-- a picture with what is found has status 0 or 1
+pub drawn_low : (rows : Rows) (table text : List ℕ) (status : ℕ) (told : List ℕ)
+    → IsDrawnOn rows table text status told → status ≤ 1
+drawn_low rows table text status told on =
+    subst (λ (n : ℕ). n ≤ 1) (sym on.drawn.status_is) (report_low on.drawn.findings)
+
+-- what a report found is drawn
+pub drawn_by : (report : ReportValue) (plan : PlanValue) (figures : List (Option Reached))
+    (findings : List Finding) (status : ℕ) (text : List ℕ) → report.plan ≡ plan
+    → findings ≡ report.findings → AreFindings report.granted report.plan.script report.findings
+    → AreFigures plan.script figures → text ≡ picture_text plan.script.steps figures findings
+    → status ≡ report_status findings → IsDrawnBy report.granted plan.script status text
+drawn_by report plan figures findings status text same found exactly are told is = record {
+  figures = figures;
+  findings = findings;
+  figures_are = are;
+  findings_are =
+      subst (λ (fs : List Finding). AreFindings report.granted plan.script fs) (sym found)
+      (subst (λ (p : PlanValue). AreFindings report.granted p.script report.findings) same exactly);
+  text_is = told;
+  status_is = is;
+}

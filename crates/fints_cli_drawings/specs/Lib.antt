@@ -1,0 +1,4 @@
+pub mod Drawn
+pub mod Laws
+pub mod Openers
+pub mod Picture
