@@ -31,9 +31,9 @@ unfoldable pub segment_text : Template → List ℕ
 segment_text t = codes "\\n" ++ t.kind ++ codes ":" ++ decimal t.version
 
 -- the greatest number and size of a step's messages, or that no run sends it
-unfoldable pub figures_text : Option Reached → List ℕ
-figures_text None = codes "\\nunreached"
-figures_text (Some reached) =
+unfoldable pub reached_label : Option Reached → List ℕ
+reached_label None = codes "\\nunreached"
+reached_label (Some reached) =
     codes "\\nnumber " ++ decimal reached.number ++ codes " size " ++ decimal reached.size
 
 -- the rule and the segment of what was found
@@ -49,7 +49,7 @@ node_style (Some reached) (f ∷ fs) = codes ", color=red, fontcolor=red"
 -- the lines of a step's label
 unfoldable pub label_text : StepValue → Option Reached → List Finding → List ℕ
 label_text step reached found =
-    step.name ++ flat_map segment_text step.templates ++ figures_text reached ++ flat_map broken_text found
+    step.name ++ flat_map segment_text step.templates ++ reached_label reached ++ flat_map broken_text found
 
 -- the line of a step
 unfoldable pub node_line : StepValue → Option Reached → List Finding → List ℕ
@@ -121,13 +121,13 @@ abbrev pub found_at : ℕ → List Finding → List Finding
 found_at n findings = filter (is_found_at n) findings
 
 -- the line of a step and those of its branches
-abbrev pub step_text : List StepValue → StepValue → Option Reached → List Finding → List ℕ
-step_text steps step reached found = node_line step reached found ++ edge_lines steps step
+abbrev pub step_drawn : List StepValue → StepValue → Option Reached → List Finding → List ℕ
+step_drawn steps step reached found = node_line step reached found ++ edge_lines steps step
 
 -- those of the steps from step n on, each with the figures at its place and what was found of it
 abbrev pub steps_text : List StepValue → ℕ → List StepValue → List (Option Reached) → List Finding → List ℕ
 steps_text steps n (step ∷ later) (reached ∷ figures) findings =
-    step_text steps step reached (found_at n findings) ++ steps_text steps (n + 1) later figures findings
+    step_drawn steps step reached (found_at n findings) ++ steps_text steps (n + 1) later figures findings
 steps_text steps n _ _ findings = []
 
 -- what stands before the steps: the end of the runs is a node too
@@ -143,4 +143,4 @@ picture_text steps figures findings = opening ++ (steps_text steps 1 steps figur
 abbrev pub IsStepWritten : List StepValue → ℕ → Option Reached → List Finding → List ℕ → List ℕ → Type 0
 IsStepWritten steps n reached findings old new =
     (step : StepValue) → numbered steps n ≡ Some step
-    → new ≡ old ++ step_text steps step reached (found_at n findings)
+    → new ≡ old ++ step_drawn steps step reached (found_at n findings)

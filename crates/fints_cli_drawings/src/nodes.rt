@@ -1,7 +1,7 @@
 //! The lines of the steps.
 ghost use Rattle.std.specs.Prelude.{◌≡◌, ◌++◌, OnOk};
 ghost use Rattle.std.specs.List.{flat_map};
-ghost use Rattle.fints_cli_drawings.specs.Picture.{broken_text, figures_text, label_text, node_line, node_style, segment_text};
+ghost use Rattle.fints_cli_drawings.specs.Picture.{broken_text, reached_label, label_text, node_line, node_style, segment_text};
 
 use fints_check::{Finding, Reached};
 use fints_script::{Step, Template};
@@ -33,9 +33,9 @@ fn write_segments(text: &mut Vec<u8>, templates: &[Template]) -> Result<(), Memo
     Ok(())
 }
 
-#[tactic(auto, unfolding(crate::specs::Picture::figures_text))]
+#[tactic(auto, unfolding(crate::specs::Picture::reached_label))]
 fn write_figures(text: &mut Vec<u8>, reached: Option<Reached>) -> Result<(), Memory>
-    ensures { OnOk result (text.new.items ≡ text.old.items ++ figures_text reached) }
+    ensures { OnOk result (text.new.items ≡ text.old.items ++ reached_label reached) }
 {
     let Some(reached) = reached else {
         text.extend_from_slice(b"\\nunreached")?;

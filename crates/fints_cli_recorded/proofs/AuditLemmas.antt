@@ -12,7 +12,7 @@ use Rattle.fints_rules_dialogues.specs.declared.auditing.Audited.{Audited}
 use Rattle.fints_rules_dialogues.specs.declared.fault.DialogueFault.{DialogueFault}
 use Rattle.fints_rules_dialogues.specs.declared.fault.DialogueFault.TheVariants as dialogues
 use Rattle.fints_rules_dialogues.specs.declared.reading.Exchange.{Exchange}
-use Rattle.fints_rules_dialogues.specs.Dialogues.{IsDialogue, IsDialogueFault, IsMemoryOr}
+use Rattle.fints_rules_dialogues.specs.Dialogues.{IsDialogue, IsDialogueFault, IsMemoryOrRefusal}
 use Rattle.fints_rules_dialogues.specs.OwnParams.{IsOwnParamsFault}
 use Rattle.fints_cli_texts.proofs.JudgeLemmas.{orders_refused}
 use Rattle.fints_cli_texts.specs.declared.fault.Fault.{Fault}
@@ -44,7 +44,7 @@ pub exit_refused : {T : Type 0} (r : Result T Fault) (e : Fault) (P : Fault → 
 exit_refused (Ok v) e P is p = tt
 exit_refused (Err f) e P is p = subst P (sym is) p
 
-pub dialogue_refused : (dialogue : List ℕ) (f : DialogueFault) → IsMemoryOr (IsDialogueFault dialogue) f
+pub dialogue_refused : (dialogue : List ℕ) (f : DialogueFault) → IsMemoryOrRefusal (IsDialogueFault dialogue) f
     → IsDialogueRefusal dialogue (dialogue_fault_of f)
 dialogue_refused dialogue dialogues.Memory h = tt
 dialogue_refused dialogue dialogues.NoMessage (inl e) = absurd (cc)
@@ -72,7 +72,7 @@ later_refused capture table dialogue rows orders (Dialogue f) h i p = (record { 
 later_refused capture table dialogue rows orders _ h i p = absurd p
 
 pub refused_later : (capture table dialogue : List ℕ) (rows : Rows) (orders : List OrderRow) (f : DialogueFault)
-    → IsParamsOf capture rows → DenotesTable table orders → IsMemoryOr (IsDialogueFault dialogue) f
+    → IsParamsOf capture rows → DenotesTable table orders → IsMemoryOrRefusal (IsDialogueFault dialogue) f
     → IsAuditRefusal capture table dialogue (dialogue_fault_of f)
 refused_later capture table dialogue rows orders f h i p =
     later_refused capture table dialogue rows orders (dialogue_fault_of f) h i (dialogue_refused dialogue f p)
@@ -86,7 +86,7 @@ own_table_refused table dialogue (orders.BadRow n) p = p
 own_table_refused table dialogue (orders.TwoRows n) p = p
 
 own_refused : (table dialogue : List ℕ) (orders : List OrderRow) (f : DialogueFault)
-    → DenotesTable table orders → IsMemoryOr (IsOwnFault dialogue) f
+    → DenotesTable table orders → IsMemoryOrRefusal (IsOwnFault dialogue) f
     → IsOwnAuditRefusal table dialogue (dialogue_fault_of f)
 own_refused table dialogue orders dialogues.Memory h p = tt
 own_refused table dialogue orders dialogues.NoMessage h (inl e) = absurd (cc)
@@ -101,14 +101,14 @@ own_refused table dialogue orders dialogues.NoParameters h (inl e) = absurd (cc)
 own_refused table dialogue orders dialogues.NoParameters h (inr p) = ((orders, h), p)
 
 pub own_dialogue_refused : (table dialogue : List ℕ) (orders : List OrderRow) (f : DialogueFault)
-    → DenotesTable table orders → IsMemoryOr (IsDialogueFault dialogue) f
+    → DenotesTable table orders → IsMemoryOrRefusal (IsDialogueFault dialogue) f
     → IsOwnAuditRefusal table dialogue (dialogue_fault_of f)
 own_dialogue_refused table dialogue orders f h (inl e) = own_refused table dialogue orders f h (inl e)
 own_dialogue_refused table dialogue orders f h (inr p) = own_refused table dialogue orders f h (inr (inl p))
 
 pub own_params_refused : (table dialogue : List ℕ) (orders : List OrderRow) (exchanges : List Exchange)
     (f : DialogueFault) → DenotesTable table orders → IsDialogue dialogue exchanges
-    → IsMemoryOr (IsOwnParamsFault exchanges) f → IsOwnAuditRefusal table dialogue (dialogue_fault_of f)
+    → IsMemoryOrRefusal (IsOwnParamsFault exchanges) f → IsOwnAuditRefusal table dialogue (dialogue_fault_of f)
 own_params_refused table dialogue orders exchanges f h i (inl e) = own_refused table dialogue orders f h (inl e)
 own_params_refused table dialogue orders exchanges f h i (inr p) =
     own_refused table dialogue orders f h (inr (inr (exchanges, i, p)))

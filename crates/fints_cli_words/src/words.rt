@@ -206,7 +206,7 @@ struct Described {
     options: &'static [Choice],
 }
 
-const COMMANDS: [Described; 8] = [
+const COMMANDS: [Described; 9] = [
     Described {
         name: "show",
         about: "Shows what a capture says of the bank and the user, or a message without PIN and TAN",

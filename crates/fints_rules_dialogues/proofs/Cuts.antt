@@ -4,7 +4,7 @@ use Rattle.std.specs.List.{AllByRecursion}
 use Rattle.std.proofs.lemmas.List.{append-nil, append_cancel_left, length-append, length-drop, length-take-le, take-append-drop, drop-drop, drop_all, take_at, drop_at}
 use Rattle.fints_syntax.specs.Capture.{IsBreak, IsClean}
 use Rattle.fints_rules_dialogues.specs.declared.cutting.Sent.{Sent}
-use Rattle.fints_rules_dialogues.specs.Dialogues.{SaysSize, IsSized, Stands, CutsInto, IsCut, NoneStands, CutStopsAt}
+use Rattle.fints_rules_dialogues.specs.Dialogues.{SaysSize, IsSized, Stands, CutsInto, IsCutFile, NoneStands, CutStopsAt}
 use Rattle.fints_rules_dialogues.proofs.Sizes.{long_enough, one_size, says_before}
 
 -- ---- one more message
@@ -82,7 +82,7 @@ cut_more file start len n messages m h at bytes sized le within breaks clean =
     }
 
 pub cut_end : (file : List ℕ) (start : ℕ) (messages : List Sent) → IsCutSoFar file start messages
-    → length file ≤ start → IsCut file messages
+    → length file ≤ start → IsCutFile file messages
 cut_end file start messages h le = (
   h.gap,
   h.breaks,
@@ -209,5 +209,5 @@ same_cuts at to xs ys (m ∷ ms) (n ∷ ns) more rest p e h g (r, st, i) (s, su,
           ∙ ap (λ zs. n.bytes.now ∷ zs) left.bytes;
     }
 
-pub one_cut : (file : List ℕ) (a b : List Sent) → IsCut file a → IsCut file b → AreSame a b
+pub one_cut : (file : List ℕ) (a b : List Sent) → IsCutFile file a → IsCutFile file b → AreSame a b
 one_cut file a b (more, h, i) (rest, g, j) = same_cuts 0 0 file file a b more rest refl refl h g i j

@@ -9,8 +9,8 @@ use Rattle.fints_params.specs.Faults.{IsMemoryOr as IsReadFault}
 use Rattle.fints_params.specs.Parameters.{Rows}
 use Rattle.fints_rules_dialogues.specs.declared.fault.DialogueFault.{DialogueFault}
 use Rattle.fints_rules_dialogues.specs.declared.reading.Exchange.{Exchange}
-use Rattle.fints_rules_dialogues.specs.Dialogues.{IsMemoryOr}
-use Rattle.fints_rules_dialogues.specs.OwnParams.{HasNoParams, TellsNone, AnswerTells, TellsParams, IsTellingFault, IsRefusedBefore, IsOwnParamsFault}
+use Rattle.fints_rules_dialogues.specs.Dialogues.{IsMemoryOrRefusal}
+use Rattle.fints_rules_dialogues.specs.OwnParams.{LacksParams, TellsNone, AnswerTells, TellsParams, IsTellingFault, IsRefusedBefore, IsOwnParamsFault}
 
 around : (xs : List Exchange) (i : ℕ) (x : Exchange) → i < length xs → x ≡ get_or xs i x
     → xs ≡ take i xs ++ x ∷ drop (i + 1) xs
@@ -29,8 +29,8 @@ told_at xs i x rows lt e before tells = record {
 }
 
 pub refused_at : (xs : List Exchange) (i : ℕ) (x : Exchange) (f : DialogueFault) → i < length xs
-    → x ≡ get_or xs i x → AllByRecursion TellsNone (take i xs) → IsMemoryOr (IsTellingFault x.answer) f
-    → IsMemoryOr (IsOwnParamsFault xs) f
+    → x ≡ get_or xs i x → AllByRecursion TellsNone (take i xs) → IsMemoryOrRefusal (IsTellingFault x.answer) f
+    → IsMemoryOrRefusal (IsOwnParamsFault xs) f
 refused_at xs i x f lt e before (inl memory) = inl memory
 refused_at xs i x f lt e before (inr refused) =
     inr (inl (record {
@@ -44,11 +44,11 @@ refused_at xs i x f lt e before (inr refused) =
 
 -- an answer that is refused for what is missing
 pub lacks_bank : (bytes : List ℕ) (f : ParamFault) → IsReadFault (IsParamFault bytes) f → f ≡ NoBankParameters
-    → HasNoParams bytes
+    → LacksParams bytes
 lacks_bank bytes f (inl memory) e = absurd (let other : Memory ≡ NoBankParameters = sym memory ∙ e in cc)
 lacks_bank bytes f (inr refused) e = inl (subst (IsParamFault bytes) e refused)
 
 pub lacks_pins : (bytes : List ℕ) (f : ParamFault) → IsReadFault (IsParamFault bytes) f → f ≡ NoPinParameters
-    → HasNoParams bytes
+    → LacksParams bytes
 lacks_pins bytes f (inl memory) e = absurd (let other : Memory ≡ NoPinParameters = sym memory ∙ e in cc)
 lacks_pins bytes f (inr refused) e = inr (subst (IsParamFault bytes) e refused)

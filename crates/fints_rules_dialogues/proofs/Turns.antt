@@ -9,7 +9,7 @@ use Rattle.fints_params.specs.Faults.{IsMemoryOr as IsReadFault}
 use Rattle.fints_rules_dialogues.specs.declared.cutting.Sent.{Sent}
 use Rattle.fints_rules_dialogues.specs.declared.fault.DialogueFault.TheVariants.{Answer}
 use Rattle.fints_rules_dialogues.specs.declared.reading.Exchange.{Exchange}
-use Rattle.fints_rules_dialogues.specs.Dialogues.{Stands, CutsInto, IsCut, sents_in, AreInTurn, IsExchange, IsAnswerFault, IsMemoryOr, EndsBelow, BeginsWith}
+use Rattle.fints_rules_dialogues.specs.Dialogues.{Stands, CutsInto, IsCutFile, sents_in, AreInTurn, IsExchange, IsAnswerFault, IsMemoryOrRefusal, EndsBelow, BeginsWith}
 
 pub all_drop : {X : Type 0} (P : X → Type 0) (n : ℕ) (xs : List X) → AllByRecursion P xs
     → AllByRecursion P (drop n xs)
@@ -54,7 +54,7 @@ ends_within at bytes (m ∷ ms) more (rest, s, h) lt =
       ends_within (m.start + length m.bytes.now) rest ms more h (omega (arith, lt, e, s.start_is)),
     )
 
-pub cut_ends : (file : List ℕ) (messages : List Sent) → IsCut file messages → length file < 2 ^ 64
+pub cut_ends : (file : List ℕ) (messages : List Sent) → IsCutFile file messages → length file < 2 ^ 64
     → EndsBelow messages
 cut_ends file messages (tail, breaks, h) lt = ends_within 0 file messages tail h (omega (arith, lt))
 
@@ -66,6 +66,6 @@ each_exchange messages (e ∷ es) rest (left, is, text, none, h) = (is, each_exc
 
 -- an answer whose feedback is refused, other than for want of memory
 pub answer_refused : (m : Sent) (f : ParamFault) → IsReadFault (IsCodeFault m.bytes.now) f
-    → (f ≡ params.Memory → ⊥) → IsMemoryOr (IsAnswerFault m) (Answer m.start f)
+    → (f ≡ params.Memory → ⊥) → IsMemoryOrRefusal (IsAnswerFault m) (Answer m.start f)
 answer_refused m f (inl memory) other = absurd (other memory)
 answer_refused m f (inr refused) other = inr (refused, refl)

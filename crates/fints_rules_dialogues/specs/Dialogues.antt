@@ -41,8 +41,8 @@ CutsInto at bytes [] more = bytes ≡ more
 CutsInto at bytes (m ∷ ms) more = (rest : List ℕ) × Stands at bytes m rest × CutsInto (m.start + length m.bytes.now) rest ms more
 
 -- the file is these messages, with line breaks before, between and behind them
-abbrev pub IsCut : List ℕ → List Sent → Type 0
-IsCut file messages = (tail : List ℕ) × AllByRecursion IsBreak tail × CutsInto 0 file messages tail
+abbrev pub IsCutFile : List ℕ → List Sent → Type 0
+IsCutFile file messages = (tail : List ℕ) × AllByRecursion IsBreak tail × CutsInto 0 file messages tail
 
 -- no bytes at the front are as many as they say
 abbrev pub NoneStands : List ℕ → Type 0
@@ -73,13 +73,13 @@ IsFromClient bytes = (m : MessageView) × IsMessage bytes m × (list_any is_hirm
 abbrev pub IsFromBank : List ℕ → List ℕ → Type 0
 IsFromBank bytes numbers = IsCodesOf bytes numbers × (numbers ≢ [])
 
-abbrev pub IsAnswer : Option Answer → Type 0
-IsAnswer None = Unit {0}
-IsAnswer (Some a) = IsFromBank a.sent.bytes.now a.codes.items
+abbrev pub IsBankAnswer : Option Answer → Type 0
+IsBankAnswer None = Unit {0}
+IsBankAnswer (Some a) = IsFromBank a.sent.bytes.now a.codes.items
 
 -- a message of the client, and the bank's answer to it, if there is one
 abbrev pub IsExchange : Exchange → Type 0
-IsExchange e = IsFromClient e.message.bytes.now × IsAnswer e.answer
+IsExchange e = IsFromClient e.message.bytes.now × IsBankAnswer e.answer
 
 -- ---- in turn
 
@@ -101,14 +101,14 @@ AreInTurn messages (e ∷ es) more =
 -- the file is a recorded dialogue of these exchanges
 pub record IsDialogue (file : List ℕ) (exchanges : List Exchange) : Type 0 where
   pub messages : List Sent
-  pub cut : IsCut file messages
+  pub cut : IsCutFile file messages
   pub some : messages ≢ []
   pub in_turn : AreInTurn messages exchanges []
 
 -- ---- refusals
 
-abbrev pub IsMemoryOr : (DialogueFault → Type 0) → DialogueFault → Type 0
-IsMemoryOr P f = (f ≡ fault.Memory) ⊎ P f
+abbrev pub IsMemoryOrRefusal : (DialogueFault → Type 0) → DialogueFault → Type 0
+IsMemoryOrRefusal P f = (f ≡ fault.Memory) ⊎ P f
 
 -- why the file can't be cut, or has no message
 abbrev pub IsFileFault : List ℕ → DialogueFault → Type 0
@@ -142,7 +142,7 @@ IsTurnFault messages f =
 
 -- the first refusal: of the file as a whole, or of its messages in their order
 abbrev pub IsDialogueFault : List ℕ → DialogueFault → Type 0
-IsDialogueFault file f = IsFileFault file f ⊎ ((messages : List Sent) × IsCut file messages × IsTurnFault messages f)
+IsDialogueFault file f = IsFileFault file f ⊎ ((messages : List Sent) × IsCutFile file messages × IsTurnFault messages f)
 
 -- ---- of private contracts and proofs alone
 

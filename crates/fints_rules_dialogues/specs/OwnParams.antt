@@ -13,13 +13,13 @@ use Rattle.fints_rules_dialogues.specs.declared.reading.Answer.{Answer}
 use Rattle.fints_rules_dialogues.specs.declared.reading.Exchange.{Exchange}
 
 -- the bytes are refused as a capture for this alone, that a HIBPA or a HIPINS is missing
-abbrev pub HasNoParams : List ℕ → Type 0
-HasNoParams bytes = IsParamFault bytes NoBankParameters ⊎ IsParamFault bytes NoPinParameters
+abbrev pub LacksParams : List ℕ → Type 0
+LacksParams bytes = IsParamFault bytes NoBankParameters ⊎ IsParamFault bytes NoPinParameters
 
 -- no answer is there, or one without parameters
 abbrev pub AnswerTellsNone : Option Answer → Type 0
 AnswerTellsNone None = Unit {0}
-AnswerTellsNone (Some a) = HasNoParams a.sent.bytes.now
+AnswerTellsNone (Some a) = LacksParams a.sent.bytes.now
 
 abbrev pub TellsNone : Exchange → Type 0
 TellsNone e = AnswerTellsNone e.answer

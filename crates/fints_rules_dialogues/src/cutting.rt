@@ -3,7 +3,7 @@ ghost use Rattle.std.specs.Prelude.{◌≡◌, ◌≤◌, ℕ, length, take, dro
 ghost use Rattle.std.specs.List.{AllByRecursion};
 ghost use Rattle.fints_syntax_segments.specs.Number.{number_in};
 ghost use Rattle.fints_syntax.specs.Capture.{IsBreak, IsClean};
-ghost use Rattle.fints_rules_dialogues.specs.Dialogues.{SaysSize, IsSized, NoneStands, IsCut, IsCutFault, IsMemoryOr};
+ghost use Rattle.fints_rules_dialogues.specs.Dialogues.{SaysSize, IsSized, NoneStands, IsCutFile, IsCutFault, IsMemoryOrRefusal};
 
 use crate::fault::DialogueFault;
 use std::alloc::Global;
@@ -80,8 +80,8 @@ fn message_len(bytes: &[u8]) -> Option<usize>
 
 /// The messages of a file, in their order. CR and LF before, between and behind them are skipped.
 pub fn cut(alloc: Global, file: &[u8]) -> Result<Vec<Sent<'_>>, DialogueFault>
-    ensures cut { IfOk result (λ messages. IsCut file.now messages.items) }
-    ensures refused { IfErr result (λ f. IsMemoryOr (IsCutFault file.now) f) }
+    ensures cut { IfOk result (λ messages. IsCutFile file.now messages.items) }
+    ensures refused { IfErr result (λ f. IsMemoryOrRefusal (IsCutFault file.now) f) }
 {
     let mut messages = Vec::new(alloc);
     let mut start = breaks_len(file);

@@ -3,7 +3,7 @@ ghost use Rattle.std.specs.Prelude.{◌≡◌, ◌≢◌, ◌<◌, ◌≤◌, �
 ghost use Rattle.std.specs.List.{list_any};
 ghost use Rattle.fints_params.specs.Captures.{IsCodesOf};
 ghost use Rattle.fints_rules_messages.specs.Messages.{MessageView, IsMessage};
-ghost use Rattle.fints_rules_dialogues.specs.Dialogues.{is_hirmg, sents_in, IsFromClient, IsFromBank, IsClientFault, IsAnswerFault, IsExchangeFault, IsTurnFault, AreInTurn, IsDialogue, IsDialogueFault, IsMemoryOr, EndsBelow, BeginsWith};
+ghost use Rattle.fints_rules_dialogues.specs.Dialogues.{is_hirmg, sents_in, IsFromClient, IsFromBank, IsClientFault, IsAnswerFault, IsExchangeFault, IsTurnFault, AreInTurn, IsDialogue, IsDialogueFault, IsMemoryOrRefusal, EndsBelow, BeginsWith};
 
 use crate::cutting::{Sent, cut};
 use crate::fault::DialogueFault;
@@ -38,7 +38,7 @@ fn has_hirmg(message: &Message) -> bool
 fn check_client(alloc: Global, sent: &Sent<'_>) -> Result<(), DialogueFault>
     requires { sent.now.start + length sent.now.bytes.now < 2 ^ 64 }
     ensures fine { IfOk result (λ _. IsFromClient sent.now.bytes.now) }
-    ensures refused { IfErr result (λ f. IsMemoryOr (IsClientFault sent.now) f) }
+    ensures refused { IfErr result (λ f. IsMemoryOrRefusal (IsClientFault sent.now) f) }
 {
     let offset = sent.start;
     match read_message(alloc, sent.bytes) {
@@ -61,7 +61,7 @@ fn check_client(alloc: Global, sent: &Sent<'_>) -> Result<(), DialogueFault>
 fn read_answer<'a>(alloc: Global, sent: &Sent<'a>) -> Result<Answer<'a>, DialogueFault>
     ensures answer { IfOk result (λ a. IsFromBank a.sent.bytes.now a.codes.items) }
     ensures sent { IfOk result (λ a. a.sent ≡ sent.now) }
-    ensures refused { IfErr result (λ f. IsMemoryOr (IsAnswerFault sent.now) f) }
+    ensures refused { IfErr result (λ f. IsMemoryOrRefusal (IsAnswerFault sent.now) f) }
 {
     match feedback_codes(alloc, sent.bytes) {
         Ok(codes) => {
@@ -85,7 +85,7 @@ fn read_exchange<'a>(alloc: Global, messages: &[Sent<'a>]) -> Result<Exchange<'a
     requires some { 0 < length messages.now }
     requires below { EndsBelow messages.now }
     ensures exchange { IfOk result (λ e. BeginsWith messages.now e) }
-    ensures refused { IfErr result (λ f. IsMemoryOr (IsExchangeFault messages.now) f) }
+    ensures refused { IfErr result (λ f. IsMemoryOrRefusal (IsExchangeFault messages.now) f) }
 {
     let message = messages[0];
     check_client(alloc, &message)?;
@@ -119,7 +119,7 @@ fn read_exchanges<'a>(
 ) -> Result<Vec<Exchange<'a>>, DialogueFault>
     requires { EndsBelow messages.now }
     ensures exchanges { IfOk result (λ v. AreInTurn messages.now v.items []) }
-    ensures refused { IfErr result (λ f. IsMemoryOr (IsTurnFault messages.now) f) }
+    ensures refused { IfErr result (λ f. IsMemoryOrRefusal (IsTurnFault messages.now) f) }
 {
     let mut exchanges = Vec::new(alloc);
     let mut at = 0;
@@ -138,7 +138,7 @@ fn read_exchanges<'a>(
 /// the bank whose feedback is refused or has no code (FinTS 3.0, Formals, messages and feedback).
 pub fn read_dialogue(alloc: Global, file: &[u8]) -> Result<Vec<Exchange<'_>>, DialogueFault>
     ensures dialogue { IfOk result (λ v. IsDialogue file.now v.items) }
-    ensures refused { IfErr result (λ f. IsMemoryOr (IsDialogueFault file.now) f) }
+    ensures refused { IfErr result (λ f. IsMemoryOrRefusal (IsDialogueFault file.now) f) }
 {
     let messages = cut(alloc, file)?;
     if messages.is_empty() {

@@ -1,7 +1,7 @@
 //! The parameters that a recorded dialogue tells itself.
 ghost use Rattle.std.specs.Prelude.{◌≡◌, Some, IfOk, IfErr};
 ghost use Rattle.fints_rules_dialogues.specs.OwnParams.{TellsParams, IsOwnParamsFault, IsFound, IsTellingFault};
-ghost use Rattle.fints_rules_dialogues.specs.Dialogues.{IsMemoryOr};
+ghost use Rattle.fints_rules_dialogues.specs.Dialogues.{IsMemoryOrRefusal};
 
 use crate::fault::DialogueFault;
 use crate::reading::{Answer, Exchange};
@@ -11,7 +11,7 @@ use std::alloc::Global;
 // The parameters of an answer, if it has them.
 fn params_in(alloc: Global, answer: &Answer<'_>) -> Result<Option<Params>, DialogueFault>
     ensures found { IfOk result (λ told. IsFound (Some answer.now) told) }
-    ensures refused { IfErr result (λ f. IsMemoryOr (IsTellingFault (Some answer.now)) f) }
+    ensures refused { IfErr result (λ f. IsMemoryOrRefusal (IsTellingFault (Some answer.now)) f) }
 {
     match Params::read(alloc, answer.sent.bytes) {
         Ok(params) => Ok(Some(params)),
@@ -30,7 +30,7 @@ fn params_in(alloc: Global, answer: &Answer<'_>) -> Result<Option<Params>, Dialo
 // The parameters of the answer of an exchange, if it has them.
 fn params_of(alloc: Global, exchange: &Exchange<'_>) -> Result<Option<Params>, DialogueFault>
     ensures found { IfOk result (λ told. IsFound exchange.now.answer told) }
-    ensures refused { IfErr result (λ f. IsMemoryOr (IsTellingFault exchange.now.answer) f) }
+    ensures refused { IfErr result (λ f. IsMemoryOrRefusal (IsTellingFault exchange.now.answer) f) }
 {
     match &exchange.answer {
         None => Ok(None),
@@ -42,7 +42,7 @@ fn params_of(alloc: Global, exchange: &Exchange<'_>) -> Result<Option<Params>, D
 /// before it that is refused as a capture for something else is the refusal.
 pub fn own_params(alloc: Global, exchanges: &[Exchange<'_>]) -> Result<Params, DialogueFault>
     ensures told { IfOk result (λ rows. TellsParams exchanges.now rows) }
-    ensures refused { IfErr result (λ f. IsMemoryOr (IsOwnParamsFault exchanges.now) f) }
+    ensures refused { IfErr result (λ f. IsMemoryOrRefusal (IsOwnParamsFault exchanges.now) f) }
 {
     for exchange in exchanges {
         if let Some(params) = params_of(alloc, exchange)? {

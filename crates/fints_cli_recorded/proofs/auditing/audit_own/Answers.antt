@@ -1,6 +1,6 @@
 use Rattle.std.proofs.Common.{[], sym, subst}
 use Rattle.std.specs.List.{AllByRecursion}
-use Rattle.fints_rules_dialogues.specs.Dialogues.{IsExchange, IsMemoryOr}
+use Rattle.fints_rules_dialogues.specs.Dialogues.{IsExchange, IsMemoryOrRefusal}
 use Rattle.fints_rules_dialogues.specs.OwnParams.{IsOwnParamsFault}
 use Rattle.fints_rules_dialogues.proofs.Turns.{each_exchange}
 use Rattle.fints_cli_texts.specs.Fault.{dialogue_fault_of}
@@ -33,5 +33,5 @@ returns-in_err-params-clause-refused c =
     (IsOwnAuditRefusal orders dialogue) c.from_residual-in_err-params.ensures.1
     (own_params_refused orders dialogue c.in_ok-orders.orders c.in_ok-exchanges.exchanges.items fault
     c.in_ok-orders.ensures.table c.in_ok-exchanges.ensures.dialogue
-    (subst (λ es. IsMemoryOr (IsOwnParamsFault es) fault) c.as_slice.ensures.value
+    (subst (λ es. IsMemoryOrRefusal (IsOwnParamsFault es) fault) c.as_slice.ensures.value
     c.in_err-params.ensures.refused))
