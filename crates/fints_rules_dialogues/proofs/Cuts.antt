@@ -1,11 +1,11 @@
 -- The messages of a file, as far as they are cut.
-use Rattle.std.proofs.Common.{◌≡◌, ◌⊎◌, ℕ, zero, suc, ◌+◌, ◌<◌, ◌≤◌, List, [], ◌∷◌, ◌++◌, length, map, drop, take, codes, refl, ap, ◌∙◌, sym, subst, arith, append_assoc, inl, inr}
+use Rattle.std.proofs.Common.{◌≡◌, ℕ, ◌+◌, ◌<◌, ◌≤◌, List, [], ◌∷◌, ◌++◌, length, map, drop, take, refl, ap, ◌∙◌, sym, subst, arith, inl, inr}
 use Rattle.std.specs.List.{AllByRecursion}
-use Rattle.std.proofs.lemmas.List.{append-nil, append_cancel_left, length-append, length-drop, length-take-le, take-append-drop, drop-drop, drop_all, take_at, drop_at}
+use Rattle.std.proofs.lemmas.List.{append-nil, append_cancel_left, length-drop, length-take-le, take-append-drop, drop-drop, drop_all, take_at, drop_at}
 use Rattle.fints_syntax.specs.Capture.{IsBreak, IsClean}
 use Rattle.fints_rules_dialogues.specs.declared.cutting.Sent.{Sent}
 use Rattle.fints_rules_dialogues.specs.Dialogues.{SaysSize, IsSized, Stands, CutsInto, IsCutFile, NoneStands, CutStopsAt}
-use Rattle.fints_rules_dialogues.proofs.Sizes.{long_enough, one_size, says_before}
+use Rattle.fints_rules_dialogues.proofs.Sizes.{one_size, says_before}
 
 -- ---- one more message
 

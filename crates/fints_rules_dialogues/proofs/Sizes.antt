@@ -1,7 +1,7 @@
 -- What HNHBK tells of the size of a message, and which bytes are as many as they say.
-use Rattle.std.proofs.Common.{◌≡◌, ℕ, zero, suc, ◌+◌, ◌-◌, ◌<◌, ◌≤◌, Bool, true, false, List, [], ◌∷◌, ◌++◌, length, get_or, drop, take, codes, refl, ap, ◌∙◌, sym, subst, arith, append_assoc, Option, Some, None, IfSome, IfNone, inl, inr}
+use Rattle.std.proofs.Common.{◌≡◌, ℕ, ◌+◌, ◌-◌, ◌<◌, ◌≤◌, List, [], ◌∷◌, ◌++◌, length, get_or, drop, take, codes, refl, ap, ◌∙◌, sym, subst, arith, append_assoc, Option, Some, None, IfSome, IfNone, inl, inr}
 use Rattle.std.proofs.lemmas.Bool.{cases_lt}
-use Rattle.std.proofs.lemmas.List.{length-append, length-drop, length-take-le, take-append-drop, drop_at, take_at}
+use Rattle.std.proofs.lemmas.List.{length-append, length-take-le, take-append-drop, drop_at, take_at}
 use Rattle.std.proofs.Math.Seq.{take-append-add}
 use Rattle.fints_syntax_segments.specs.Number.{number_in}
 use Rattle.fints_rules_messages.proofs.ItemValues.{number_in-long, number_in-short}

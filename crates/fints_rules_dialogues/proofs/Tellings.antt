@@ -1,7 +1,7 @@
 -- The first answer with parameters.
-use Rattle.std.proofs.Common.{◌≡◌, ℕ, zero, suc, ◌+◌, ◌<◌, ◌≤◌, List, [], ◌∷◌, ◌++◌, length, get_or, drop, take, refl, ap, ◌∙◌, sym, subst, arith, inl, inr}
+use Rattle.std.proofs.Common.{◌≡◌, ℕ, ◌+◌, ◌<◌, List, ◌∷◌, ◌++◌, length, get_or, drop, take, ap, ◌∙◌, sym, subst, inl, inr}
 use Rattle.std.specs.List.{AllByRecursion}
-use Rattle.std.proofs.lemmas.List.{drop_more, take-append-drop, take_all, take_more}
+use Rattle.std.proofs.lemmas.List.{drop_more, take-append-drop}
 use Rattle.fints_params.specs.declared.fault.ParamFault.{ParamFault}
 use Rattle.fints_params.specs.declared.fault.ParamFault.TheVariants.{Memory, NoBankParameters, NoPinParameters}
 use Rattle.fints_params.specs.Captures.{IsParamFault}
@@ -10,7 +10,7 @@ use Rattle.fints_params.specs.Parameters.{Rows}
 use Rattle.fints_rules_dialogues.specs.declared.fault.DialogueFault.{DialogueFault}
 use Rattle.fints_rules_dialogues.specs.declared.reading.Exchange.{Exchange}
 use Rattle.fints_rules_dialogues.specs.Dialogues.{IsMemoryOrRefusal}
-use Rattle.fints_rules_dialogues.specs.OwnParams.{LacksParams, TellsNone, AnswerTells, TellsParams, IsTellingFault, IsRefusedBefore, IsOwnParamsFault}
+use Rattle.fints_rules_dialogues.specs.OwnParams.{LacksParams, TellsNone, AnswerTells, TellsParams, IsTellingFault, IsOwnParamsFault}
 
 around : (xs : List Exchange) (i : ℕ) (x : Exchange) → i < length xs → x ≡ get_or xs i x
     → xs ≡ take i xs ++ x ∷ drop (i + 1) xs

@@ -1,7 +1,7 @@
 -- The exchanges of messages, as far as they are read.
-use Rattle.std.proofs.Common.{◌≡◌, ℕ, zero, suc, ◌+◌, ◌<◌, ◌≤◌, ◌^◌, List, [], ◌∷◌, ◌++◌, length, drop, refl, ap, ◌∙◌, sym, subst, arith, inl, inr}
+use Rattle.std.proofs.Common.{◌≡◌, ℕ, zero, suc, ◌+◌, ◌<◌, ◌≤◌, ◌^◌, List, [], ◌∷◌, ◌++◌, length, get_or, drop, refl, ap, ◌∙◌, sym, subst, arith, inl, inr}
 use Rattle.std.specs.List.{AllByRecursion}
-use Rattle.std.proofs.lemmas.List.{length-append, length-drop, drop-drop, drop_all, drop_at}
+use Rattle.std.proofs.lemmas.List.{length-append, length-drop, drop-drop, drop_all, drop_at, drop_more}
 use Rattle.fints_params.specs.declared.fault.ParamFault.{ParamFault}
 use Rattle.fints_params.specs.declared.fault.ParamFault.TheVariants as params
 use Rattle.fints_params.specs.Captures.{IsCodeFault}
@@ -9,7 +9,7 @@ use Rattle.fints_params.specs.Faults.{IsMemoryOr as IsReadFault}
 use Rattle.fints_rules_dialogues.specs.declared.cutting.Sent.{Sent}
 use Rattle.fints_rules_dialogues.specs.declared.fault.DialogueFault.TheVariants.{Answer}
 use Rattle.fints_rules_dialogues.specs.declared.reading.Exchange.{Exchange}
-use Rattle.fints_rules_dialogues.specs.Dialogues.{Stands, CutsInto, IsCutFile, sents_in, AreInTurn, IsExchange, IsAnswerFault, IsMemoryOrRefusal, EndsBelow, BeginsWith}
+use Rattle.fints_rules_dialogues.specs.Dialogues.{CutsInto, IsCutFile, sents_in, AreInTurn, IsExchange, IsAnswerFault, IsMemoryOrRefusal, EndsBelow, BeginsWith, BeginsWithOne}
 
 pub all_drop : {X : Type 0} (P : X → Type 0) (n : ℕ) (xs : List X) → AllByRecursion P xs
     → AllByRecursion P (drop n xs)
@@ -18,9 +18,9 @@ all_drop P (suc n) [] h = tt
 all_drop P (suc n) (x ∷ xs) h = all_drop P n xs h.1
 
 turn_more : (messages : List Sent) (es : List Exchange) (e : Exchange) (rest : List Sent)
-    → AreInTurn messages es rest → (b : BeginsWith rest e) → AreInTurn messages (es ++ e ∷ []) b.0
-turn_more messages [] e rest h (left, is, text, none) = (left, is, h ∙ text, none, refl)
-turn_more messages (x ∷ xs) e rest (left, is, text, none, h) b = (left, is, text, none, turn_more left xs e rest h b)
+    → AreInTurn messages es rest → (b : BeginsWithOne rest e) → AreInTurn messages (es ++ e ∷ []) b.0
+turn_more messages [] e rest h (left, begins) = (left, subst (λ xs. BeginsWith xs e left) (sym h) begins, refl)
+turn_more messages (x ∷ xs) e rest (left, begins, h) b = (left, begins, turn_more left xs e rest h b)
 
 -- the exchanges so far, and where the rest of the messages begins
 pub record AreReadSoFar (messages : List Sent) (at : ℕ) (exchanges : List Exchange) : Type 0 where
@@ -28,15 +28,15 @@ pub record AreReadSoFar (messages : List Sent) (at : ℕ) (exchanges : List Exch
   pub within : at ≤ length messages
 
 pub one_read : (messages : List Sent) (at : ℕ) (es : List Exchange) (e : Exchange)
-    → AreReadSoFar messages at es → BeginsWith (drop at messages) e
+    → AreReadSoFar messages at es → BeginsWithOne (drop at messages) e
     → AreReadSoFar messages (at + length (sents_in e)) (es ++ e ∷ [])
-one_read messages at es e h (left, is, text, none) =
+one_read messages at es e h (left, begins) =
     let rest : left ≡ drop (at + length (sents_in e)) messages =
-    sym (drop_at (sents_in e) left (length (sents_in e)) refl) ∙ ap (drop (length (sents_in e))) (sym text)
+    sym (drop_at (sents_in e) left (length (sents_in e)) refl) ∙ ap (drop (length (sents_in e))) (sym begins.split)
     ∙ drop-drop (length (sents_in e)) at messages in
     record {
-      in_turn = subst (AreInTurn messages (es ++ e ∷ [])) rest (turn_more messages es e (drop at messages) h.in_turn (left, is, text, none));
-      within = omega (arith, h.within, ap length text, length-append (sents_in e) left, length-drop at messages);
+      in_turn = subst (AreInTurn messages (es ++ e ∷ [])) rest (turn_more messages es e (drop at messages) h.in_turn (left, begins));
+      within = omega (arith, h.within, ap length begins.split, length-append (sents_in e) left, length-drop at messages);
     }
 
 pub all_read : (messages : List Sent) (at : ℕ) (es : List Exchange) → AreReadSoFar messages at es
@@ -58,11 +58,18 @@ pub cut_ends : (file : List ℕ) (messages : List Sent) → IsCutFile file messa
     → EndsBelow messages
 cut_ends file messages (tail, breaks, h) lt = ends_within 0 file messages tail h (omega (arith, lt))
 
+pub exchange_at : (es : List Exchange) (i : ℕ) (e : Exchange) → i < length es → e ≡ get_or es i e
+    → AllByRecursion IsExchange es → IsExchange e
+exchange_at es i e lt is all =
+    let there : AllByRecursion IsExchange (get_or es i e ∷ drop (i + 1) es) =
+    subst (AllByRecursion IsExchange) (drop_more es i e lt) (all_drop IsExchange i es all) in
+    subst IsExchange (sym is) there.0
+
 -- the exchanges of a dialogue are such
 pub each_exchange : (messages : List Sent) (es : List Exchange) (rest : List Sent)
     → AreInTurn messages es rest → AllByRecursion IsExchange es
 each_exchange messages [] rest h = tt
-each_exchange messages (e ∷ es) rest (left, is, text, none, h) = (is, each_exchange left es rest h)
+each_exchange messages (e ∷ es) rest (left, begins, h) = (begins.exchange, each_exchange left es rest h)
 
 -- an answer whose feedback is refused, other than for want of memory
 pub answer_refused : (m : Sent) (f : ParamFault) → IsReadFault (IsCodeFault m.bytes.now) f

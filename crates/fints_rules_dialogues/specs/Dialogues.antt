@@ -38,7 +38,8 @@ pub record Stands (at : ℕ) (bytes : List ℕ) (m : Sent) (rest : List ℕ) : T
 -- the bytes, which stand at this offset, begin with these messages, and then there is more
 abbrev pub CutsInto : ℕ → List ℕ → List Sent → List ℕ → Type 0
 CutsInto at bytes [] more = bytes ≡ more
-CutsInto at bytes (m ∷ ms) more = (rest : List ℕ) × Stands at bytes m rest × CutsInto (m.start + length m.bytes.now) rest ms more
+CutsInto at bytes (m ∷ ms) more =
+    (rest : List ℕ) × Stands at bytes m rest × CutsInto (m.start + length m.bytes.now) rest ms more
 
 -- the file is these messages, with line breaks before, between and behind them
 abbrev pub IsCutFile : List ℕ → List Sent → Type 0
@@ -91,12 +92,16 @@ sent_in (Some a) = a.sent ∷ []
 abbrev pub sents_in : Exchange → List Sent
 sents_in e = e.message ∷ sent_in e.answer
 
--- the messages begin with these exchanges, and then there are more, but none behind one without an answer
+-- the messages begin with this exchange, and then there is the rest, but nothing behind one without an answer
+pub record BeginsWith (messages : List Sent) (e : Exchange) (rest : List Sent) : Type 0 where
+  pub exchange : IsExchange e
+  pub split : messages ≡ sents_in e ++ rest
+  pub last : e.answer ≡ None → rest ≡ []
+
+-- they begin with these exchanges, and then there are more
 abbrev pub AreInTurn : List Sent → List Exchange → List Sent → Type 0
 AreInTurn messages [] more = messages ≡ more
-AreInTurn messages (e ∷ es) more =
-    (rest : List Sent) × IsExchange e × (messages ≡ sents_in e ++ rest) × (e.answer ≡ None → rest ≡ [])
-    × AreInTurn rest es more
+AreInTurn messages (e ∷ es) more = (rest : List Sent) × BeginsWith messages e rest × AreInTurn rest es more
 
 -- the file is a recorded dialogue of these exchanges
 pub record IsDialogue (file : List ℕ) (exchanges : List Exchange) : Type 0 where
@@ -120,7 +125,8 @@ IsFileFault file _ = ⊥
 abbrev pub IsClientFault : Sent → DialogueFault → Type 0
 IsClientFault m (fault.NotAMessage offset) = (at : ℕ) × CeasesAt m.bytes.now at × (offset ≡ m.start + at)
 IsClientFault m (fault.NotInTurn offset) =
-    (held : MessageView) × IsMessage m.bytes.now held × (list_any is_hirmg held.body ≡ true) × (offset ≡ m.start)
+    (held : MessageView) × IsMessage m.bytes.now held × (list_any is_hirmg held.body ≡ true)
+    × (offset ≡ m.start)
 IsClientFault m _ = ⊥
 
 -- why a message is no answer of the bank
@@ -142,7 +148,8 @@ IsTurnFault messages f =
 
 -- the first refusal: of the file as a whole, or of its messages in their order
 abbrev pub IsDialogueFault : List ℕ → DialogueFault → Type 0
-IsDialogueFault file f = IsFileFault file f ⊎ ((messages : List Sent) × IsCutFile file messages × IsTurnFault messages f)
+IsDialogueFault file f =
+    IsFileFault file f ⊎ ((messages : List Sent) × IsCutFile file messages × IsTurnFault messages f)
 
 -- ---- of private contracts and proofs alone
 
@@ -155,7 +162,5 @@ IsCutFault file _ = ⊥
 abbrev pub EndsBelow : List Sent → Type 0
 EndsBelow messages = AllByRecursion (λ m. m.start + length m.bytes.now < 2 ^ 64) messages
 
--- the messages begin with this exchange
-abbrev pub BeginsWith : List Sent → Exchange → Type 0
-BeginsWith messages e =
-    (rest : List Sent) × IsExchange e × (messages ≡ sents_in e ++ rest) × (e.answer ≡ None → rest ≡ [])
+abbrev pub BeginsWithOne : List Sent → Exchange → Type 0
+BeginsWithOne messages e = (rest : List Sent) × BeginsWith messages e rest

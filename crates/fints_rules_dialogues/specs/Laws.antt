@@ -7,4 +7,5 @@ use Rattle.fints_rules_dialogues.specs.Dialogues.{IsCutFile}
 abbrev pub OneCut : Type 0
 OneCut =
     (file : List ℕ) (a b : List Sent) → IsCutFile file a → IsCutFile file b
-    → (map (λ m. m.start) a ≡ map (λ m. m.start) b) × (map (λ m. m.bytes.now) a ≡ map (λ m. m.bytes.now) b)
+    → (map (λ m. m.start) a ≡ map (λ m. m.start) b)
+    × (map (λ m. m.bytes.now) a ≡ map (λ m. m.bytes.now) b)

@@ -1,12 +1,10 @@
 -- The parameters that a recorded dialogue tells itself: those of the first answer that has a HIBPA 3 and a HIPINS 1.
 -- Words of private contracts and proofs alone stand last, under a heading.
-use Rattle.std.specs.Prelude.{◌≡◌, ◌≢◌, ◌⊎◌, ℕ, List, [], ◌∷◌, ◌++◌, Option, Some, None}
+use Rattle.std.specs.Prelude.{◌≡◌, ◌≢◌, ◌⊎◌, ℕ, List, ◌∷◌, ◌++◌, Option, Some, None}
 use Rattle.std.specs.List.{AllByRecursion}
-use Rattle.fints_params.specs.declared.fault.ParamFault.{ParamFault}
 use Rattle.fints_params.specs.declared.fault.ParamFault.TheVariants.{NoBankParameters, NoPinParameters}
 use Rattle.fints_params.specs.Parameters.{Rows}
 use Rattle.fints_params.specs.Captures.{IsParamsOf, IsParamFault}
-use Rattle.fints_rules_dialogues.specs.declared.cutting.Sent.{Sent}
 use Rattle.fints_rules_dialogues.specs.declared.fault.DialogueFault.{DialogueFault}
 use Rattle.fints_rules_dialogues.specs.declared.fault.DialogueFault.TheVariants as fault
 use Rattle.fints_rules_dialogues.specs.declared.reading.Answer.{Answer}
@@ -40,7 +38,8 @@ pub record TellsParams (exchanges : List Exchange) (rows : Rows) : Type 0 where
 -- why the answer is refused as a capture, other than for what is missing
 abbrev pub IsTellingFault : Option Answer → DialogueFault → Type 0
 IsTellingFault (Some a) (fault.Answer start f) =
-    IsParamFault a.sent.bytes.now f × (f ≢ NoBankParameters) × (f ≢ NoPinParameters) × (start ≡ a.sent.start)
+    IsParamFault a.sent.bytes.now f × (f ≢ NoBankParameters) × (f ≢ NoPinParameters)
+    × (start ≡ a.sent.start)
 IsTellingFault _ _ = ⊥
 
 -- before any answer tells parameters one is refused

@@ -1,13 +1,15 @@
 //! The rules that the messages of a recorded dialogue break.
-ghost use Rattle.std.specs.Prelude.{◌≡◌, Option, Some, None, IfOk, option_copied};
+ghost use Rattle.std.specs.Prelude.{◌≡◌, IfOk, IfErr, IfSome, option_copied};
 ghost use Rattle.std.specs.List.{AllByRecursion};
-ghost use Rattle.fints_rules_dialogues.specs.Dialogues.{IsExchange};
+ghost use Rattle.fints_rules_messages.specs.declared.message.JudgeFault.TheVariants as fault;
+ghost use Rattle.fints_rules_dialogues.specs.Dialogues.{IsExchange, IsFromClient};
 ghost use Rattle.fints_rules_dialogues.specs.Auditing.{codes_told, IsJudgedBehind, AreAudited};
 
 use crate::cutting::Sent;
 use crate::reading::Exchange;
 use fints_params::Code;
 use fints_rules::{Broken, Permissions, judge, judge_after};
+use fints_rules_messages::JudgeFault;
 use fints_syntax::Memory;
 use std::alloc::Global;
 
@@ -28,6 +30,18 @@ fn codes_told<'e>(exchange: &'e Exchange<'_>) -> &'e [Code]
     }
 }
 
+// What was judged of good messages, of which only want of memory is refused.
+fn judged(found: Result<Vec<Broken>, JudgeFault>) -> Result<Vec<Broken>, Memory>
+    requires { IfErr found (λ f. f ≡ fault.Memory) }
+    ensures { IfOk result (λ broken. found ≡ Ok broken) }
+{
+    match found {
+        Ok(broken) => Ok(broken),
+        Err(JudgeFault::Memory) => Err(Memory),
+        Err(_) => unreachable!(),
+    }
+}
+
 // The rules that a message breaks behind the exchange before it.
 fn judge_behind(
     alloc: Global,
@@ -35,21 +49,17 @@ fn judge_behind(
     before: Option<&Exchange<'_>>,
     message: &[u8],
 ) -> Result<Vec<Broken>, Memory>
-    ensures { IfOk result (λ broken. IsJudgedBehind permissions.now (option_copied before.entry) message.now broken.items) }
+    requires before { IfSome before (λ e. IsExchange e.now) }
+    requires message { IsFromClient message.now }
+    ensures { IfOk result (λ broken.
+        IsJudgedBehind permissions.now (option_copied before.entry) message.now broken.items) }
 {
-    let judged = match before {
-        None => judge(alloc, permissions, message),
-        Some(earlier) => judge_after(
-            alloc,
-            permissions,
-            earlier.message.bytes,
-            codes_told(earlier),
-            message,
-        ),
-    };
-    match judged {
-        Ok(broken) => Ok(broken),
-        Err(_) => Err(Memory),
+    match before {
+        None => judged(judge(alloc, permissions, message)),
+        Some(earlier) => {
+            let codes = codes_told(earlier);
+            judged(judge_after(alloc, permissions, earlier.message.bytes, codes, message))
+        }
     }
 }
 

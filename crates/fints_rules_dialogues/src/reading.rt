@@ -1,9 +1,9 @@
 //! The exchanges of a recorded dialogue: each message of the client with the bank's answer to it.
 ghost use Rattle.std.specs.Prelude.{◌≡◌, ◌≢◌, ◌<◌, ◌≤◌, ◌+◌, ◌^◌, ℕ, [], length, IfOk, IfErr};
-ghost use Rattle.std.specs.List.{list_any};
+ghost use Rattle.std.specs.List.{AllByRecursion, list_any};
 ghost use Rattle.fints_params.specs.Captures.{IsCodesOf};
 ghost use Rattle.fints_rules_messages.specs.Messages.{MessageView, IsMessage};
-ghost use Rattle.fints_rules_dialogues.specs.Dialogues.{is_hirmg, sents_in, IsFromClient, IsFromBank, IsClientFault, IsAnswerFault, IsExchangeFault, IsTurnFault, AreInTurn, IsDialogue, IsDialogueFault, IsMemoryOrRefusal, EndsBelow, BeginsWith};
+ghost use Rattle.fints_rules_dialogues.specs.Dialogues.{is_hirmg, sents_in, IsExchange, IsFromClient, IsFromBank, IsClientFault, IsAnswerFault, IsExchangeFault, IsTurnFault, AreInTurn, IsDialogue, IsDialogueFault, IsMemoryOrRefusal, EndsBelow, BeginsWithOne};
 
 use crate::cutting::{Sent, cut};
 use crate::fault::DialogueFault;
@@ -84,7 +84,7 @@ fn read_answer<'a>(alloc: Global, sent: &Sent<'a>) -> Result<Answer<'a>, Dialogu
 fn read_exchange<'a>(alloc: Global, messages: &[Sent<'a>]) -> Result<Exchange<'a>, DialogueFault>
     requires some { 0 < length messages.now }
     requires below { EndsBelow messages.now }
-    ensures exchange { IfOk result (λ e. BeginsWith messages.now e) }
+    ensures exchange { IfOk result (λ e. BeginsWithOne messages.now e) }
     ensures refused { IfErr result (λ f. IsMemoryOrRefusal (IsExchangeFault messages.now) f) }
 {
     let message = messages[0];
@@ -138,6 +138,7 @@ fn read_exchanges<'a>(
 /// the bank whose feedback is refused or has no code (FinTS 3.0, Formals, messages and feedback).
 pub fn read_dialogue(alloc: Global, file: &[u8]) -> Result<Vec<Exchange<'_>>, DialogueFault>
     ensures dialogue { IfOk result (λ v. IsDialogue file.now v.items) }
+    ensures each { IfOk result (λ v. AllByRecursion IsExchange v.items) }
     ensures refused { IfErr result (λ f. IsMemoryOrRefusal (IsDialogueFault file.now) f) }
 {
     let messages = cut(alloc, file)?;

@@ -1,5 +1,5 @@
-use Rattle.std.proofs.Common.{◌+◌, subst, sym}
-use Rattle.fints_rules_dialogues.specs.Dialogues.{BeginsWith}
+use Rattle.std.proofs.Common.{subst}
+use Rattle.fints_rules_dialogues.specs.Dialogues.{BeginsWithOne}
 use Rattle.fints_rules_dialogues.proofs.Turns.{one_read}
 use Rattle.fints_rules_dialogues.proofs.reading.read_exchanges.Goals as goal
 
@@ -8,4 +8,4 @@ loop-at-preserved c =
     let e = c.in_ok-exchange.exchange in
     rw (c.in_ok-push.ensures.items, c.message_count-at.ensures)
     (one_read c.args.messages.now c.loop-at.at c.loop-at.exchanges.items e c.loop-at.invariant
-    (subst (λ xs. BeginsWith xs e) c.split_at.ensures.back c.in_ok-exchange.ensures.exchange))
+    (subst (λ xs. BeginsWithOne xs e) c.split_at.ensures.back c.in_ok-exchange.ensures.exchange))
