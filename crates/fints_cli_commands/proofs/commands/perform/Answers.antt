@@ -32,3 +32,7 @@ returns-in-Ok-clause-calls g c =
 pub returns-clause-calls : goal.returns-clause-calls
 returns-clause-calls g c =
     omega (arith, few c.args.request.now _ c.paths_of-paths.ensures, c.in_ok-params.ensures.read.calls)
+
+pub returns-in_err-params-clause-calls : goal.returns-in_err-params-clause-calls
+returns-in_err-params-clause-calls g c =
+    omega (arith, few c.args.request.now _ c.paths_of-paths.ensures, c.in_err-params.ensures.unread.calls)
