@@ -1,7 +1,9 @@
 -- The status and the output of the words that were given.
-use Rattle.std.specs.Prelude.{codes, ◌≡◌, ◌≤◌, ◌⊎◌, ℕ, false, List, [], ◌∷◌, ◌++◌, Option, string_bytes}
+use Rattle.std.specs.Prelude.{codes, ◌≡◌, ◌≤◌, ◌⊎◌, ℕ, true, false, List, [], ◌∷◌, ◌++◌, Option, string_bytes}
 use Rattle.fints_cli_files.specs.Streams.{ReadCounts, Gets, GetsNothing, GetsPrefix, one_more}
 use Rattle.fints_cli_files.specs.Loading.{NoneFailed}
+use Rattle.fints_cli_words.specs.declared.words.Request.{Request}
+use Rattle.fints_cli_words.specs.declared.words.Request.TheVariants.{Draft}
 use Rattle.fints_cli_words.specs.declared.words.Asked.{Asked}
 use Rattle.fints_cli_words.specs.declared.words.Asked.TheVariants.{Help, Usage, NoMemory, Run}
 use Rattle.fints_cli_commands.specs.declared.failing.Failure.{Failure}
@@ -91,6 +93,19 @@ memory_line = codes "error: memory" ++ 10 ∷ []
 abbrev pub write_line : List ℕ
 write_line = codes "error: write" ++ 10 ∷ []
 
+abbrev pub secrets_line : List ℕ
+secrets_line = codes "note: this case holds the PIN and the TANs of the dialogue" ++ 10 ∷ []
+
+-- what a stream gets beside the answer of a request: that a drafted case holds secrets, and nothing beside another answer
+abbrev pub SaysBeside : Request → (old new : Option (List ℕ)) (lost lost_after : ℕ) → Type 0
+SaysBeside (Draft files true) old new lost lost_after = Tells old new lost lost_after secrets_line
+SaysBeside _ old new lost lost_after = IsUntold old new lost lost_after
+
+-- the same, whatever was asked for
+abbrev pub SaysBesideIt : Asked → (old new : Option (List ℕ)) (lost lost_after : ℕ) → Type 0
+SaysBesideIt (Run request hints) old new lost lost_after = SaysBeside request old new lost lost_after
+SaysBesideIt _ old new lost lost_after = IsUntold old new lost lost_after
+
 -- no hint is asked for
 abbrev pub AsksNoHint : Asked → Type 0
 AsksNoHint (Help help) = Unit {0}
@@ -116,10 +131,10 @@ pub record TellsFault (alone : Type 0) (old new : Option (List ℕ)) (lost lost_
   pub nothing_more : alone → more ≡ []
   pub told : Tells old new lost lost_after (told_line (codes "error: ") why ++ more)
 
--- What the errors got. Where no hint is asked for that is nothing up to status 1. From 2 on it is the usage of a bad command
+-- What the errors got. Where no hint is asked for that is nothing up to status 1, but for what stands beside a drafted case. From 2 on it is the usage of a bad command
 -- line; else the line of a fault, alone where no hint is asked for. Want of memory has a line of its own, and so has an output that failed.
 pub record SaysWhy (asked : Asked) (status : ℕ) (old new : Option (List ℕ)) (lost lost_after : ℕ) : Type 0 where
-  pub quiet : status ≤ 1 → AsksNoHint asked → IsUntold old new lost lost_after
+  pub beside : status ≤ 1 → AsksNoHint asked → SaysBesideIt asked old new lost lost_after
   pub usage : TellsUsage asked old new lost lost_after
   pub line : 2 ≤ status → IsUsage asked ⊎ TellsFault (AsksNoHint asked) old new lost lost_after
   pub memory : status ≡ 4 → Tells old new lost lost_after memory_line

@@ -6,13 +6,13 @@ ghost use Rattle.fints_cli_words.specs.declared.words.Request.TheVariants as req
 ghost use Rattle.fints_cli_words.specs.declared.words.Asked.{Asked};
 ghost use Rattle.fints_cli_words.specs.declared.words.Asked.TheVariants as asked;
 ghost use Rattle.fints_cli_commands.specs.Commands.{failure_status};
-ghost use Rattle.fints_cli.specs.Responses.{IsAnswered, IsCutOff, IsResponse, RanOut, IsUntold, IsUsage, FailsToRead, FailsWith, FilesAreWithin, SaysWhy, Tells, TellsFault, told_line, memory_line, write_line};
+ghost use Rattle.fints_cli.specs.Responses.{IsAnswered, IsCutOff, IsResponse, RanOut, IsUntold, SaysBeside, IsUsage, FailsToRead, FailsWith, FilesAreWithin, SaysWhy, Tells, TellsFault, told_line, memory_line, write_line};
 
 use crate::emitting::emit;
 use arrayvec::ArrayString;
 use fints_cli_commands::{Answered, Refusal, perform};
 use fints_cli_files::{Files, Out, WriteFault};
-use fints_cli_words::{Asked, read_words};
+use fints_cli_words::{Asked, Request, read_words};
 use std::alloc::Global;
 use std::fmt::Write;
 
@@ -95,8 +95,22 @@ fn deliver<O: Out, E: Out>(text: &[u8], status: u8, out: &mut O, err: &mut E) ->
     status
 }
 
-// Writes the answer to the output, and then its reasons to the errors.
-fn respond_with<O: Out, E: Out>(answered: &Answered, out: &mut O, err: &mut E) -> u8
+// Says on the errors that a printed case holds PIN and TAN.
+fn warn<E: Out>(request: &Request<'_>, err: &mut E)
+    ensures { SaysBeside request.now (E.told err.old) (E.told err.new) (E.failed_calls err.old) (E.failed_calls err.new) }
+{
+    if let Request::Draft { case: true, .. } = request {
+        tell(b"note: this case holds the PIN and the TANs of the dialogue\n", err);
+    }
+}
+
+// Writes the answer to the output, and then what stands beside it to the errors.
+fn respond_with<O: Out, E: Out>(
+    request: &Request<'_>,
+    answered: &Answered,
+    out: &mut O,
+    err: &mut E,
+) -> u8
     requires { answered.now.reply.status ≤ 1 }
     ensures statuses { (result ≡ answered.now.reply.status) ⊎ (result ≡ 5) }
     ensures written { result ≡ answered.now.reply.status
@@ -104,8 +118,8 @@ fn respond_with<O: Out, E: Out>(answered: &Answered, out: &mut O, err: &mut E) -
     ensures fine { result ≡ answered.now.reply.status → O.failed_calls out.new ≡ O.failed_calls out.old }
     ensures cut { result ≡ 5 → GetsPrefix (O.told out.old) (O.told out.new) answered.now.reply.text.items }
     ensures failed { result ≡ 5 → O.failed_calls out.new ≡ one_more (O.failed_calls out.old) }
-    ensures quiet { result ≡ answered.now.reply.status → answered.now.reasons ≡ None
-        → IsUntold (E.told err.old) (E.told err.new) (E.failed_calls err.old) (E.failed_calls err.new) }
+    ensures beside { result ≡ answered.now.reply.status → answered.now.reasons ≡ None → SaysBeside request.now
+        (E.told err.old) (E.told err.new) (E.failed_calls err.old) (E.failed_calls err.new) }
     ensures line { result ≡ 5
         → Tells (E.told err.old) (E.told err.new) (E.failed_calls err.old) (E.failed_calls err.new) write_line }
 {
@@ -114,6 +128,7 @@ fn respond_with<O: Out, E: Out>(answered: &Answered, out: &mut O, err: &mut E) -
     if status == 5 {
         return status;
     }
+    warn(request, err);
     if let Some(reasons) = reasons {
         let _ = emit(reasons.as_bytes(), err);
     }
@@ -157,7 +172,7 @@ pub fn respond<F: Files, O: Out, E: Out>(
         }
         Asked::NoMemory => tell_memory(err),
         Asked::Run { request, hints } => match perform(alloc, request, files, *hints) {
-            Ok(answered) => respond_with(&answered, out, err),
+            Ok(answered) => respond_with(request, &answered, out, err),
             Err(refusal) => tell_refusal(&refusal, err),
         },
     }

@@ -1,12 +1,13 @@
 -- What the commands answer, and why they have no answer.
-use Rattle.std.specs.Prelude.{◌≡◌, ℕ, Bool, false, List, Option, None, Some, IfSome}
+use Rattle.std.specs.Prelude.{◌≡◌, ℕ, Bool, true, false, List, Option, None, Some, IfSome}
+use Rattle.std.specs.Borrow.{Bor}
 use Rattle.fints_cli_texts.specs.declared.fault.Fault.{Fault}
 use Rattle.fints_cli_texts.specs.declared.fault.Fault.TheVariants.{Memory, NoFinding, NoMessage}
 use Rattle.fints_cli_commands.specs.declared.failing.Failure.{Failure}
 use Rattle.fints_cli_commands.specs.declared.failing.Failure.TheVariants.{Input, Unread}
 use Rattle.fints_cli_commands.specs.declared.failing.Refusal.{Refusal}
 use Rattle.fints_cli_words.specs.declared.words.Request.{Request}
-use Rattle.fints_cli_words.specs.declared.words.Request.TheVariants.{BuiltIn, Show, ShowMessage, Judge, JudgeAfter, AuditOwn, Audit, Check, Explain, Certify, Verify, Draw, DrawFound}
+use Rattle.fints_cli_words.specs.declared.words.Request.TheVariants.{BuiltIn, Show, ShowMessage, Judge, JudgeAfter, AuditOwn, Audit, Draft, Check, Explain, Certify, Verify, Draw, DrawFound}
 use Rattle.fints_cli_words.specs.declared.words.Request.TheVariants as requests
 use Rattle.fints_cli_words.specs.declared.words.AuditFiles.{AuditFiles}
 use Rattle.fints_cli_words.specs.declared.words.JudgeFiles.{JudgeFiles}
@@ -20,6 +21,9 @@ use Rattle.fints_cli_texts.specs.Judge.{IsVerdictOf, IsMessageRefusal, IsJudgeRe
 use Rattle.fints_cli_texts.specs.JudgeAfter.{IsJudgeAfterRefusal, IsVerdictAfter}
 use Rattle.fints_cli_recorded.specs.Audit.{IsAuditOf, IsOwnAuditOf, IsAuditRefusal, IsOwnAuditRefusal}
 use Rattle.fints_cli_drawings.specs.Drawn.{no_orders, IsDrawnOf, IsPictureOf}
+use Rattle.fints_cli_drafts.specs.Drafts.{IsDraftOf, IsDraftRefusal}
+use Rattle.fints_cli_drafts.specs.declared.drafting.Drafted.{Drafted}
+use Rattle.fints_cli_drafts.specs.declared.drafting.Drafted.TheVariants as drafts
 use Rattle.fints_cli_reports.specs.Plans.{IsPlanRefusal}
 use Rattle.fints_cli_reports.specs.Told.{IsRefused, IsToldOf, IsTellRefusal}
 use Rattle.fints_cli_reports.specs.declared.telling.Wanted.{Wanted}
@@ -61,6 +65,16 @@ abbrev pub OfOwnDialogue : Held → AuditFiles → (List ℕ → List ℕ → Ty
 OfOwnDialogue holds files P =
     IfSome (holds files.orders.now) (λ table. IfSome (holds files.dialogue.now) (λ dialogue. P table dialogue))
 
+-- this holds of an order table; where none is named, of the empty one
+abbrev pub OfTable : Held → Option (Bor (List ℕ)) → (List ℕ → Type 0) → Type 0
+OfTable holds None P = P no_orders
+OfTable holds (Some path) P = IfSome (holds path.now) P
+
+-- what `draft` tells: the script, or the case
+abbrev pub drafted : Bool → Drafted
+drafted true = drafts.Case
+drafted false = drafts.Script
+
 -- this holds of the order table, the script and the case
 abbrev pub OfCase : Held → RunFiles → (List ℕ → List ℕ → List ℕ → Type 0) → Type 0
 OfCase holds files P = IfTold (holds files.orders.now) (holds files.script.now) (holds files.case.now) P
@@ -88,6 +102,8 @@ AnswersTo (AuditOwn files) holds status text =
     OfOwnDialogue holds files (λ table dialogue. IsOwnAuditOf table dialogue status text)
 AnswersTo (Audit files params) holds status text =
     OfDialogue holds files params.now (λ capture table dialogue. IsAuditOf capture table dialogue status text)
+AnswersTo (Draft files case) holds status text =
+    (status ≡ 0) × IfSome (holds files.dialogue.now) (λ dialogue. IsDraftOf (drafted case) dialogue text)
 AnswersTo (Check files) holds status text =
     OfScript holds files (λ capture table script. IsToldOf Report capture table script status text)
 AnswersTo (Explain files finding) holds status text =
@@ -121,6 +137,9 @@ RefusesRequest (AuditOwn files) holds fault =
     OfOwnDialogue holds files (λ table dialogue. IsOwnAuditRefusal table dialogue fault)
 RefusesRequest (Audit files params) holds fault =
     OfDialogue holds files params.now (λ capture table dialogue. IsAuditRefusal capture table dialogue fault)
+RefusesRequest (Draft files case) holds fault =
+    OfTable holds files.orders (λ table.
+    IfSome (holds files.dialogue.now) (λ dialogue. IsDraftRefusal table dialogue fault))
 RefusesRequest (Check files) holds fault =
     OfScript holds files (λ capture table script. IsTellRefusal Report capture table script fault)
 RefusesRequest (Explain files finding) holds fault =

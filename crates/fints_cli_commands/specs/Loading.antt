@@ -7,7 +7,7 @@ use Rattle.fints_cli_commands.specs.declared.loading.Paths.{Paths}
 use Rattle.fints_cli_files.specs.Streams.{ReadCounts}
 use Rattle.fints_cli_files.specs.Loading.{HasFailed, NoneFailed, IsLonger, AreUsedUp}
 use Rattle.fints_cli_words.specs.declared.words.Request.{Request}
-use Rattle.fints_cli_words.specs.declared.words.Request.TheVariants.{BuiltIn, Show, ShowMessage, Judge, JudgeAfter, AuditOwn, Audit, Check, Explain, Certify, Verify, Draw, DrawFound}
+use Rattle.fints_cli_words.specs.declared.words.Request.TheVariants.{BuiltIn, Show, ShowMessage, Judge, JudgeAfter, AuditOwn, Audit, Draft, Check, Explain, Certify, Verify, Draw, DrawFound}
 use Rattle.fints_cli_words.specs.declared.words.Request.TheVariants as requests
 use Rattle.fints_cli_words.specs.declared.words.AuditFiles.{AuditFiles}
 use Rattle.fints_cli_words.specs.declared.words.JudgeFiles.{JudgeFiles}
@@ -54,6 +54,7 @@ paths_of (JudgeAfter files earlier) =
     record (judge_paths files) { before = Some earlier.before; answer = Some earlier.answer }
 paths_of (AuditOwn files) = audit_paths files
 paths_of (Audit files params) = record (audit_paths files) { params = Some params }
+paths_of (Draft files case) = record no_paths { orders = files.orders; dialogue = Some files.dialogue }
 paths_of (Check files) = script_paths files
 paths_of (Explain files finding) = script_paths files
 paths_of (Certify files) = script_paths files

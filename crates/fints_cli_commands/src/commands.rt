@@ -1,17 +1,19 @@
 //! The commands: what each answers, of the files that it names.
-ghost use Rattle.std.specs.Prelude.{◌≡◌, ◌≤◌, ◌+◌, ◌*◌, false, None, IfOk, IfErr};
+ghost use Rattle.std.specs.Prelude.{◌≡◌, ◌≤◌, ◌+◌, ◌*◌, false, None, IfOk, IfErr, IfSome};
 ghost use Rattle.fints_cli_commands.specs.BuiltIn as texts;
+ghost use Rattle.fints_cli_drawings.specs.Drawn.{no_orders};
 ghost use Rattle.fints_cli_reports.specs.Told.{IsToldOf, IsTellRefusal};
 ghost use Rattle.fints_cli_reports.specs.declared.telling.Wanted.TheVariants as wants;
 ghost use Rattle.fints_cli_commands.specs.Loading.{files_of, paths_of as paths_named};
 ghost use Rattle.fints_cli_commands.specs.Loading.{AreWithin, FollowsReading, Held};
 ghost use Rattle.fints_cli_commands.specs.Loaded.{IsLoaded};
 ghost use Rattle.fints_cli_files.specs.Loading.{MAX_READS, NoneFailed};
-ghost use Rattle.fints_cli_commands.specs.Commands.{cases_wanted, failure_status, AnswersTo, FailsFor, HintsIfAsked, RefusesRequest};
+ghost use Rattle.fints_cli_commands.specs.Commands.{cases_wanted, drafted, failure_status, AnswersTo, FailsFor, HintsIfAsked, RefusesRequest};
 
 use crate::built_in;
 use crate::failing::{Refusal, refused};
 use crate::loading::{Contents, Loaded, load_all, paths_of};
+use fints_cli_drafts::{Drafted, draft_read};
 use fints_cli_drawings::{draw_read, draw_script};
 use fints_cli_files::Files;
 use fints_cli_hints_reasons::judged_reasons;
@@ -48,6 +50,24 @@ fn cases_wanted(finding: Option<u32>) -> Wanted
     match finding {
         None => Wanted::Cases,
         Some(number) => Wanted::OneCase(number),
+    }
+}
+
+// What `draft` tells: the script, or the case that has it send what was recorded.
+fn drafted(case: bool) -> Drafted
+    ensures { result ≡ drafted case }
+{
+    if case { Drafted::Case } else { Drafted::Script }
+}
+
+// The text of an order table that may be absent: then it is the empty one.
+fn table_of<'c>(path: Option<&str>, contents: &'c Contents) -> &'c [u8]
+    ensures absent { path.entry ≡ None → result.now ≡ no_orders }
+    ensures loaded { IfSome path.entry (λ _. result.now ≡ contents.now.orders.items) }
+{
+    match path {
+        None => &[],
+        Some(_) => contents.orders.as_slice(),
     }
 }
 
@@ -88,6 +108,11 @@ fn answer(
         ),
         Request::AuditOwn(_) => audit_own(alloc, orders, &contents.dialogue),
         Request::Audit { .. } => audit_read(alloc, params, orders, &contents.dialogue),
+        Request::Draft { files, case } => {
+            let orders = table_of(files.orders, contents);
+            let text = draft_read(alloc, orders, &contents.dialogue, drafted(*case))?;
+            Ok(Reply { status: 0, text })
+        }
         Request::Check(_) => tell_read(alloc, params, orders, script, Wanted::Report),
         Request::Explain { finding, .. } => {
             tell_read(alloc, params, orders, script, cases_wanted(*finding))
@@ -137,6 +162,7 @@ fn reasons(alloc: Global, request: &Request<'_>, contents: &Contents, hints: boo
         | Request::ShowMessage { .. }
         | Request::AuditOwn(_)
         | Request::Audit { .. }
+        | Request::Draft { .. }
         | Request::Run { .. }
         | Request::Draw { .. } => None,
     }

@@ -101,6 +101,11 @@ pub fn paths_of<'a>(request: &Request<'a>) -> Paths<'a>
             params: Some(params),
             ..audit_paths(files)
         },
+        Request::Draft { files, .. } => Paths {
+            orders: files.orders,
+            dialogue: Some(files.dialogue),
+            ..NONE
+        },
         Request::Check(files)
         | Request::Explain { files, .. }
         | Request::Certify(files)

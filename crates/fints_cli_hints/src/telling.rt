@@ -36,6 +36,6 @@ pub fn hint(alloc: Global, fault: &Fault, inputs: &Inputs<'_>) -> Result<Option<
         }
         Fault::Answer(fault) => params_hint(alloc, fault, inputs.answer),
         Fault::Message(fault) => message_hint(alloc, fault, inputs.message),
-        Fault::Dialogue(_) => Ok(None),
+        Fault::Dialogue(_) | Fault::NotDraftable { .. } => Ok(None),
     }
 }

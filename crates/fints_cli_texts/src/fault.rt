@@ -57,6 +57,11 @@ pub enum Fault {
     /// refusal.
     #[error("dialogue {0}")]
     Dialogue(DialogueFault),
+    /// No draft sends this segment of a message of the recorded dialogue as it was recorded. The
+    /// client's messages count from 1, and the segment has the number in its head: 0 is the message as
+    /// a whole, and message 0 the dialogue.
+    #[error("dialogue NotDraftable message {message} segment {segment}")]
+    NotDraftable { message: usize, segment: usize },
 }
 
 impl From<Memory> for Fault {

@@ -62,6 +62,13 @@ pub struct AuditFiles<'a> {
     pub dialogue: &'a str,
 }
 
+/// The files of a command that drafts a script. Without an order table nothing is told of accounts.
+#[derive(Clone, Copy)]
+pub struct DraftFiles<'a> {
+    pub orders: Option<&'a str>,
+    pub dialogue: &'a str,
+}
+
 /// The files of a command that sends the messages of a case.
 #[derive(Clone, Copy)]
 pub struct RunFiles<'a> {
@@ -97,6 +104,12 @@ pub enum Request<'a> {
     Audit {
         files: AuditFiles<'a>,
         params: &'a str,
+    },
+    /// A script that sends the client's messages of a recorded dialogue once more, or the case that has
+    /// it do so.
+    Draft {
+        files: DraftFiles<'a>,
+        case: bool,
     },
     /// What the runs of a script break, by a capture and an order table.
     Check(ScriptFiles<'a>),
@@ -149,6 +162,8 @@ enum Choice {
     Either(&'static str, &'static str),
     // A file that goes with that of another option, so that both are given or neither.
     Beside(&'static str, &'static str, &'static str),
+    // What is either given or not.
+    Flag(&'static str, &'static str),
     // A number.
     Number(&'static str, &'static str),
 }
@@ -188,6 +203,16 @@ const OTHER_PARAMS: Choice = Choice::Optional(
     "The capture, in place of the dialogue's own answers",
 );
 
+const OTHER_ORDERS: Choice = Choice::Optional(
+    "orders",
+    "The order table: the script says which orders name an account",
+);
+
+const REPLAYING: Choice = Choice::Flag(
+    "case",
+    "The case that sends the recorded messages, with PIN and TAN",
+);
+
 const SENT: Choice = Choice::Number("message", "Only the bytes of message N");
 
 const FINDING: Choice = Choice::Number(
@@ -206,7 +231,7 @@ struct Described {
     options: &'static [Choice],
 }
 
-const COMMANDS: [Described; 9] = [
+const COMMANDS: [Described; 10] = [
     Described {
         name: "show",
         about: "Shows what a capture says of the bank and the user, or a message without PIN and TAN",
@@ -221,6 +246,11 @@ const COMMANDS: [Described; 9] = [
         name: "audit",
         about: "Names the rules that the messages of a recorded dialogue break",
         options: &[OTHER_PARAMS, ORDERS, DIALOGUE],
+    },
+    Described {
+        name: "draft",
+        about: "Drafts a script that sends the messages of a recorded dialogue once more",
+        options: &[OTHER_ORDERS, DIALOGUE, REPLAYING],
     },
     Described {
         name: "check",
@@ -280,6 +310,13 @@ fn number_option<'a>(alloc: Global, name: &'a str, help: &'a str) -> Arg<'a> {
         .action(ArgAction::Set)
 }
 
+fn flag_option<'a>(alloc: Global, name: &'a str, help: &'a str) -> Arg<'a> {
+    Arg::new(alloc, name)
+        .long(name)
+        .help(help)
+        .action(ArgAction::SetTrue)
+}
+
 fn option<'a>(alloc: Global, choice: &Choice) -> Result<Arg<'a>, AllocError> {
     match choice {
         Choice::File(name, help) => Ok(file_option(alloc, name, help).required(true)),
@@ -287,6 +324,7 @@ fn option<'a>(alloc: Global, choice: &Choice) -> Result<Arg<'a>, AllocError> {
             Ok(file_option(alloc, name, help))
         }
         Choice::Beside(name, help, other) => beside_option(alloc, name, help, other),
+        Choice::Flag(name, help) => Ok(flag_option(alloc, name, help)),
         Choice::Number(name, help) => Ok(number_option(alloc, name, help)),
     }
 }
@@ -391,6 +429,9 @@ fn standard_inputs(request: &Request<'_>) -> usize {
         }
         Request::AuditOwn(files) => count_inputs(&[files.orders, files.dialogue]),
         Request::Audit { files, params } => count_inputs(&[*params, files.orders, files.dialogue]),
+        Request::Draft { files, .. } => {
+            count_inputs(&[files.orders.unwrap_or(""), files.dialogue])
+        }
         Request::Check(files)
         | Request::Explain { files, .. }
         | Request::Certify(files)
@@ -498,6 +539,16 @@ fn audit_request<'a>(options: &ArgMatches<'a>) -> Option<Request<'a>> {
     }
 }
 
+fn draft_request<'a>(options: &ArgMatches<'a>) -> Option<Request<'a>> {
+    Some(Request::Draft {
+        files: DraftFiles {
+            orders: options.get_str("orders"),
+            dialogue: options.get_str("dialogue")?,
+        },
+        case: options.get_flag("case"),
+    })
+}
+
 fn verify_request<'a>(options: &ArgMatches<'a>) -> Option<Request<'a>> {
     Some(Request::Verify {
         files: script_files(options)?,
@@ -533,6 +584,7 @@ fn named_request<'a>(name: &str, options: &ArgMatches<'a>) -> Option<Request<'a>
         "show" => show_request(options),
         "judge" => judge_request(options),
         "audit" => audit_request(options),
+        "draft" => draft_request(options),
         "check" => Some(Request::Check(script_files(options)?)),
         "explain" => explain_request(options),
         "certify" => Some(Request::Certify(script_files(options)?)),

@@ -1,0 +1,143 @@
+-- What a draft of a recorded dialogue is: the text of a script, and that of a case that has it send the client's
+-- messages once more.
+use Rattle.std.specs.Prelude.{codes, ◌≡◌, ◌⊎◌, ℕ, List, [], ◌∷◌, ◌++◌, length, get_or, Option, Some, None, IfSome}
+use Rattle.std.specs.List.{All, AllZip, flat_map}
+use Rattle.fints_syntax_segments.specs.Spelling.{Spelled}
+use Rattle.fints_syntax_segments.specs.Segment.{item_value, segment_bytes, IsSegment}
+use Rattle.fints_syntax.specs.Owned.{segment_of}
+use Rattle.fints_rules_messages.specs.Messages.{IsSealHead}
+use Rattle.fints_rules_permissions.specs.declared.orders.OrderRow.{OrderRow}
+use Rattle.fints_rules_permissions.specs.Orders.{DenotesTable}
+use Rattle.fints_rules_dialogues.specs.declared.reading.Answer.{Answer}
+use Rattle.fints_rules_dialogues.specs.declared.reading.Exchange.{Exchange}
+use Rattle.fints_rules_dialogues.specs.Dialogues.{IsDialogue, IsDialogueFault}
+use Rattle.fints_script_fields.specs.declared.field.Field.TheVariants as classes
+use Rattle.fints_script_rows.specs.declared.fields.NamedField.{NamedField}
+use Rattle.fints_script_cases.specs.Cases.{IsCaseOf}
+use Rattle.fints_script_cases.specs.declared.values.NamedValue.{NamedValue}
+use Rattle.fints_script_templates.specs.declared.template.Signer.{Signer}
+use Rattle.fints_script_templates.specs.declared.template.Template.{Template}
+use Rattle.fints_script_templates.specs.declared.template.TemplateItem.{TemplateItem}
+use Rattle.fints_script_templates.specs.declared.template.TemplateItem.TheVariants.{Literal, Dialog, Field}
+use Rattle.fints_script.specs.Plans.{Admits}
+use Rattle.fints_script.specs.Scripts.{Denotes, ScriptValue}
+use Rattle.fints_script.specs.Steps.{StepValue}
+use Rattle.fints_wire.specs.Runs.{Run}
+use Rattle.fints_wire.specs.declared.dialogue.Sent.{Sent}
+use Rattle.fints_cli_texts.specs.Judge.{IsTableRefusal}
+use Rattle.fints_cli_texts.specs.declared.fault.Fault.{Fault}
+use Rattle.fints_cli_texts.specs.declared.fault.Fault.TheVariants.{Memory, Orders, Dialogue, NotDraftable}
+use Rattle.fints_cli_drafts.specs.declared.drafting.Drafted.{Drafted}
+use Rattle.fints_cli_drafts.specs.declared.drafting.Drafted.TheVariants.{Script, Case}
+use Rattle.fints_cli_drafts.specs.declared.place.Undrafted.{Undrafted}
+use Rattle.fints_cli_drafts.specs.declared.place.Undrafted.TheVariants as undrafted
+
+-- ---- a message sent once more
+
+-- the bytes are HNHBK, with a size in 12 digits and then this front; some HNVSK; and the rest
+pub record IsSealedIn (bytes front rest : List ℕ) : Type 0 where
+  pub first : List (List Spelled)
+  pub seal : List (List Spelled)
+  pub size : List ℕ
+  pub is_first : IsSegment first
+  pub twelve : length size ≡ 12
+  pub first_text : segment_bytes first ≡ codes "HNHBK:1:3+" ++ (size ++ front)
+  pub is_seal : IsSegment seal
+  pub seal_head : IsSealHead (segment_of seal)
+  pub text : bytes ≡ segment_bytes first ++ (segment_bytes seal ++ rest)
+
+-- a message is sent as it was recorded, byte for byte; or both are sealed, and differ in what HNVSK has behind its head, and
+-- so in the size in HNHBK, and in nothing else
+abbrev pub IsSentAgain : List ℕ → List ℕ → Type 0
+IsSentAgain recorded sent =
+    (sent ≡ recorded) ⊎ ((front rest : List ℕ) × IsSealedIn recorded front rest × IsSealedIn sent front rest)
+
+-- the client's messages are sent so, in order, and nothing else is
+abbrev pub AreSentAgain : List Exchange → List Sent → Type 0
+AreSentAgain exchanges sent = AllZip (λ e m. IsSentAgain e.message.bytes.now m.bytes) exchanges sent
+
+-- the codes of an answer, if there is one
+abbrev pub codes_of : Option Answer → List (List ℕ)
+codes_of None = []
+codes_of (Some answer) = answer.codes.items ∷ []
+
+-- the bank's answers
+abbrev pub answers_of : List Exchange → List (List ℕ)
+answers_of exchanges = flat_map (λ e. codes_of e.answer) exchanges
+
+-- under these values and the bank's answers, the script sends the client's messages once more
+pub record Replays (exchanges : List Exchange) (script : ScriptValue) (values : List NamedValue) : Type 0 where
+  pub admits : Admits script.fields values
+  pub sent : List Sent
+  pub run : Run script values (answers_of exchanges) sent
+  pub again : AreSentAgain exchanges sent
+
+-- ---- no secret in the script
+
+-- the value of a field, or nothing
+abbrev pub IsBlank : TemplateItem → Type 0
+IsBlank (Literal item) = item_value item ≡ []
+IsBlank Dialog = ⊥
+IsBlank (Field place) = Unit {0}
+
+-- a signer's PIN and TAN: element 4 of its HNSHA
+abbrev pub HasBlankPin : Signer → Type 0
+HasBlankPin signer = All IsBlank (get_or signer.end 2 [])
+
+-- the new PIN of an HKPAE: its element 2
+abbrev pub HasBlankNewPin : Template → Type 0
+HasBlankNewPin t = t.kind ≡ codes "HKPAE" → All IsBlank (get_or t.elements 0 [])
+
+-- a field that lists none of its values
+abbrev pub IsUnlisted : NamedField → Type 0
+IsUnlisted f =
+    elim f.class [ classes.Text c ↦ Unit {0} | classes.Bin c ↦ Unit {0} | classes.OneOf c ↦ ⊥ | classes.Account c ↦ ⊥ ]
+
+-- PIN, TAN and new PIN are values of fields, and no field lists its values
+pub record KeepsSecrets (script : ScriptValue) : Type 0 where
+  pub fields : All IsUnlisted script.fields
+  pub signers : All HasBlankPin script.signers
+  pub steps : All (λ step. All HasBlankNewPin step.templates) script.steps
+
+-- ---- drafts
+
+-- the texts of a script and of a case that replay the exchanges; no secret stands in the script
+pub record IsDraft (exchanges : List Exchange) (script_text case_text : List ℕ) : Type 0 where
+  pub script : ScriptValue
+  pub values : List NamedValue
+  pub denotes : Denotes script_text script
+  pub case : IsCaseOf case_text values (answers_of exchanges)
+  pub replays : Replays exchanges script values
+  pub secrets : KeepsSecrets script
+
+abbrev pub drafted_text : Drafted → List ℕ → List ℕ → List ℕ
+drafted_text Script script case = script
+drafted_text Case script case = case
+
+-- the text is the wanted one of a draft of the dialogue
+pub record IsDraftOf (drafted : Drafted) (dialogue text : List ℕ) : Type 0 where
+  pub exchanges : List Exchange
+  pub script : List ℕ
+  pub case : List ℕ
+  pub dialogue_is : IsDialogue dialogue exchanges
+  pub draft : IsDraft exchanges script case
+  pub text_is : text ≡ drafted_text drafted script case
+
+-- why there is no draft of a dialogue, with the text of an order table: the first refusal, of the order table or of the
+-- dialogue; or that no draft was found, or want of memory
+abbrev pub IsDraftRefusal : List ℕ → List ℕ → Fault → Type 0
+IsDraftRefusal orders dialogue Memory = Unit {0}
+IsDraftRefusal orders dialogue (Orders f) = IsTableRefusal orders f
+IsDraftRefusal orders dialogue (Dialogue f) =
+    ((table : List OrderRow) × DenotesTable orders table) × IsDialogueFault dialogue f
+IsDraftRefusal orders dialogue (NotDraftable message segment) =
+    ((table : List OrderRow) × DenotesTable orders table)
+    × ((exchanges : List Exchange) × IsDialogue dialogue exchanges)
+IsDraftRefusal orders dialogue _ = ⊥
+
+-- ---- of private contracts and proofs alone
+
+-- the fault of a dialogue without a draft
+abbrev pub fault_of : Undrafted → Fault
+fault_of undrafted.Memory = Memory
+fault_of (undrafted.At place) = NotDraftable place.message place.segment

@@ -1,0 +1,125 @@
+//! Whether a message is sent again as it was recorded.
+ghost use Rattle.std.specs.Prelude.{◌≡◌, ◌++◌, IfSome, IsTrue};
+ghost use Rattle.fints_cli_drafts.specs.Drafts.{IsSealedIn, IsSentAgain};
+
+use crate::place::Place;
+use crate::recorded::Recorded;
+use fints_syntax::{Memory, SegmentView, parse_segment};
+use fints_syntax_segments::{HNVSK_NUMBER, HNVSK_VERSION};
+use std::alloc::Global;
+
+// A sealed message without the size in HNHBK and without HNVSK: HNHBK behind the size, and what follows
+// HNVSK.
+#[derive(Clone, Copy)]
+struct SealedParts<'a> {
+    front: &'a [u8],
+    rest: &'a [u8],
+}
+
+// HNHBK behind the size in 12 digits.
+fn behind_size<'a>(first: &SegmentView<'a>) -> Option<&'a [u8]> {
+    let text = first.as_bytes();
+    if text.len() < 22 {
+        return None;
+    }
+    if !text.starts_with(b"HNHBK:1:3+") {
+        return None;
+    }
+    let (_, front) = text.split_at(22);
+    Some(front)
+}
+
+fn is_seal_head(segment: &SegmentView<'_>) -> bool {
+    segment.is_named(b"HNVSK", HNVSK_VERSION) && segment.number() == HNVSK_NUMBER
+}
+
+// The parts of a sealed message.
+fn sealed_parts(bytes: &[u8]) -> Option<SealedParts<'_>>
+    ensures { IfSome result (λ parts. IsSealedIn bytes.now parts.front.now parts.rest.now) }
+{
+    let Ok((first, len)) = parse_segment(bytes) else {
+        return None;
+    };
+    let front = behind_size(&first)?;
+    let (_, behind) = bytes.split_at(len);
+    let Ok((seal, seal_len)) = parse_segment(behind) else {
+        return None;
+    };
+    if !is_seal_head(&seal) {
+        return None;
+    }
+    let (_, rest) = behind.split_at(seal_len);
+    Some(SealedParts { front, rest })
+}
+
+/// Whether a message is sent as it was recorded, but for what HNVSK has after its head.
+pub fn is_sent_again(recorded: &[u8], sent: &[u8]) -> bool
+    ensures { IsTrue result → IsSentAgain recorded.now sent.now }
+{
+    if sent == recorded {
+        return true;
+    }
+    let (Some(own), Some(other)) = (sealed_parts(recorded), sealed_parts(sent)) else {
+        return false;
+    };
+    own.front == other.front && own.rest == other.rest
+}
+
+// Whether a segment is sent as it was recorded, as far as that can be asked of it alone: HNVSK may be
+// another one, the data of HNVSD is asked of by itself, and the size in HNHBK hangs on both.
+fn is_alike(own: &SegmentView<'_>, other: &SegmentView<'_>) -> bool {
+    if own.as_bytes() == other.as_bytes() {
+        return true;
+    }
+    if own.id() != other.id() {
+        return false;
+    }
+    let kind = own.id();
+    if kind.is(b"HNVSK") || kind.is(b"HNVSD") {
+        return true;
+    }
+    match (behind_size(own), behind_size(other)) {
+        (Some(front), Some(sent)) => front == sent,
+        _ => false,
+    }
+}
+
+// The number of the first recorded segment that isn't sent so; 0 where more is sent.
+fn other_segment(recorded: &[u8], sent: &[u8]) -> Option<usize> {
+    let mut rest = recorded;
+    let mut sent = sent;
+    while let Ok((own, len)) = parse_segment(rest) {
+        let Ok((other, other_len)) = parse_segment(sent) else {
+            return Some(usize::from(own.number()));
+        };
+        if !is_alike(&own, &other) {
+            return Some(usize::from(own.number()));
+        }
+        let (_, behind) = rest.split_at(len);
+        let (_, sent_behind) = sent.split_at(other_len);
+        rest = behind;
+        sent = sent_behind;
+    }
+    if sent.is_empty() { None } else { Some(0) }
+}
+
+/// The place of the first segment that isn't sent as it was recorded, in the message of a number.
+pub fn other_place(
+    alloc: Global,
+    recorded: &[u8],
+    sent: &[u8],
+    message: usize,
+) -> Result<Place, Memory> {
+    if let Some(segment) = other_segment(recorded, sent) {
+        return Ok(Place { message, segment });
+    }
+    let own = Recorded::read(alloc, recorded)?;
+    let other = Recorded::read(alloc, sent)?;
+    match (own.data(), other.data()) {
+        (Some(inner), Some(sent)) => Ok(Place {
+            message,
+            segment: other_segment(inner, sent).unwrap_or(0),
+        }),
+        _ => Ok(Place::whole(message)),
+    }
+}

@@ -1,0 +1,20 @@
+//! Drafts of recorded dialogues: a script that sends a client's messages once more, and the case that
+//! has it send exactly these.
+#![tactic(auto)]
+
+mod blank;
+mod comparing;
+mod drafting;
+mod elements;
+mod notes;
+mod place;
+mod recorded;
+mod replaying;
+mod secrets;
+mod signers;
+mod sketching;
+mod steps;
+mod texts;
+mod turns;
+
+pub use drafting::{Drafted, draft_read};

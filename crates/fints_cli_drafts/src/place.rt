@@ -1,0 +1,74 @@
+//! Where in a recorded dialogue something stands that no draft sends.
+ghost use Rattle.std.specs.Prelude.{◌≡◌};
+ghost use Rattle.fints_cli_texts.specs.declared.fault.Fault.TheVariants as fault;
+ghost use Rattle.fints_cli_drafts.specs.Drafts.{fault_of};
+ghost use Rattle.fints_cli_drafts.specs.declared.place.Undrafted.TheVariants as undrafted;
+
+use fints_cli_texts::Fault;
+use fints_syntax::Memory;
+use std::alloc::{AllocError, AllocFailed};
+
+/// A segment of a message of the client, which counts from 1: segment 0 is the message as a whole, and
+/// message 0 the dialogue.
+#[derive(Clone, Copy)]
+pub struct Place {
+    pub message: usize,
+    pub segment: usize,
+}
+
+/// Why there is no draft: want of memory, or what stands at a place.
+#[derive(Clone, Copy)]
+pub enum Undrafted {
+    Memory,
+    At(Place),
+}
+
+impl Place {
+    /// A message as a whole.
+    pub fn whole(message: usize) -> Place {
+        Place {
+            message,
+            segment: 0,
+        }
+    }
+
+    /// The refusal of what stands there.
+    pub fn refused(self) -> Undrafted {
+        Undrafted::At(self)
+    }
+}
+
+impl From<Memory> for Undrafted {
+    ghost from_gives = { λ _ f. f ≡ undrafted.Memory };
+
+    fn from(_e: Memory) -> Undrafted {
+        Undrafted::Memory
+    }
+}
+
+impl From<AllocError> for Undrafted {
+    ghost from_gives = { λ _ f. f ≡ undrafted.Memory };
+
+    fn from(_e: AllocError) -> Undrafted {
+        Undrafted::Memory
+    }
+}
+
+impl<T: Drop> From<AllocFailed<T>> for Undrafted {
+    ghost from_gives = { λ _ f. f ≡ undrafted.Memory };
+
+    fn from(_e: AllocFailed<T>) -> Undrafted {
+        Undrafted::Memory
+    }
+}
+
+impl From<Undrafted> for Fault {
+    ghost from_gives = { λ e f. f ≡ fault_of e };
+
+    fn from(e: Undrafted) -> Fault {
+        match e {
+            Undrafted::Memory => Fault::Memory,
+            Undrafted::At(Place { message, segment }) => Fault::NotDraftable { message, segment },
+        }
+    }
+}

@@ -1,0 +1,130 @@
+//! Whether a script and a case send a recorded dialogue once more.
+ghost use Rattle.std.specs.Prelude.{◌≡◌, ◌++◌, IfNone, IfOk, OnOk, length};
+ghost use Rattle.std.specs.List.{AllByRecursion};
+ghost use Rattle.fints_rules_dialogues.specs.Dialogues.{IsExchange};
+ghost use Rattle.fints_cli_drafts.specs.Drafts.{answers_of, codes_of, AreSentAgain, Replays};
+
+use crate::comparing::{is_sent_again, other_place};
+use crate::place::{Place, Undrafted};
+use fints_params::Code;
+use fints_rules::OrderTable;
+use fints_rules_dialogues::Exchange;
+use fints_script::{Answer, Case, Plan, PlanFault, Script};
+use fints_syntax::Memory;
+use fints_wire::{Sent, run};
+use std::alloc::{AllocError, Global};
+
+// Where the id of the dialogue stands, which is the one value that no field may be made for.
+const DIALOGUE_ID: Place = Place {
+    message: 2,
+    segment: 1,
+};
+
+// A copy of the codes.
+fn copied_codes(alloc: Global, codes: &[Code]) -> Result<Vec<Code>, AllocError>
+    ensures { IfOk result (λ copy. copy.items ≡ codes.now) }
+{
+    let mut copy = Vec::new(alloc);
+    copy.extend_from_slice(codes)?;
+    Ok(copy)
+}
+
+// Adds the answer of an exchange, if it has one.
+fn add_answer(alloc: Global, answers: &mut Vec<Answer>, exchange: &Exchange<'_>) -> Result<(), Memory>
+    requires { IsExchange exchange.now }
+    ensures { OnOk result (answers.new.items ≡ answers.old.items ++ codes_of exchange.now.answer) }
+{
+    let Some(answer) = &exchange.answer else {
+        return Ok(());
+    };
+    let codes = copied_codes(alloc, answer.codes.as_slice())?;
+    let Some(answer) = Answer::new(codes) else {
+        unreachable!()
+    };
+    answers.push(answer)?;
+    Ok(())
+}
+
+/// The bank's answers to the client's messages.
+pub fn answers_of(alloc: Global, exchanges: &[Exchange<'_>]) -> Result<Vec<Answer>, Memory>
+    requires { AllByRecursion IsExchange exchanges.now }
+    ensures { IfOk result (λ answers. answers.items ≡ answers_of exchanges.now) }
+{
+    let mut answers = Vec::new(alloc);
+    for exchange in exchanges {
+        add_answer(alloc, &mut answers, exchange)?;
+    }
+    Ok(answers)
+}
+
+// The first message that isn't sent as it was recorded, by its place, which counts from 0.
+fn first_other(exchanges: &[Exchange<'_>], sent: &[Sent]) -> Option<usize>
+    requires { length sent.now ≡ length exchanges.now }
+    ensures { IfNone result (AreSentAgain exchanges.now sent.now) }
+{
+    for i in 0..exchanges.len() {
+        if !is_sent_again(exchanges[i].message.bytes, sent[i].bytes.as_slice()) {
+            return Some(i);
+        }
+    }
+    None
+}
+
+// The place of what isn't sent as it was recorded, if something isn't.
+fn other_sent(
+    alloc: Global,
+    exchanges: &[Exchange<'_>],
+    sent: &[Sent],
+) -> Result<Option<Place>, Memory>
+    ensures { IfOk result (λ other. IfNone other (AreSentAgain exchanges.now sent.now)) }
+{
+    if sent.len() != exchanges.len() {
+        return Ok(Some(Place::whole(sent.len() + 1)));
+    }
+    let Some(i) = first_other(exchanges, sent) else {
+        return Ok(None);
+    };
+    let (Some(exchange), Some(own)) = (exchanges.get(i), sent.get(i)) else {
+        return Ok(Some(Place::whole(i + 1)));
+    };
+    let place = other_place(alloc, exchange.message.bytes, own.bytes.as_slice(), i + 1)?;
+    Ok(Some(place))
+}
+
+// The plan of a script.
+fn plan_of<'a>(script: &'a Script, orders: &'a OrderTable) -> Result<Plan<'a>, Undrafted>
+    ensures { IfOk result (λ plan. plan.script ≡ script.now) }
+{
+    match script.plan(orders) {
+        Ok(plan) => Ok(plan),
+        Err(
+            PlanFault::OpenAccount { step, segment } | PlanFault::OpenProcess { step, segment },
+        ) => Err(Undrafted::At(Place {
+            message: step,
+            segment,
+        })),
+    }
+}
+
+/// Has a script send what it sends under these values and the bank's answers, and compares it with what
+/// was recorded.
+pub fn replay(
+    alloc: Global,
+    orders: &OrderTable,
+    exchanges: &[Exchange<'_>],
+    script: &Script,
+    case: &Case,
+) -> Result<(), Undrafted>
+    requires { case.now.answers.items ≡ answers_of exchanges.now }
+    ensures { OnOk result (Replays exchanges.now script.now case.now.values) }
+{
+    let plan = plan_of(script, orders)?;
+    if !plan.admits(&case.values) {
+        return Err(DIALOGUE_ID.refused());
+    }
+    let sent = run(alloc, &plan, &case.values, case.answers.as_slice())?;
+    match other_sent(alloc, exchanges, sent.as_slice())? {
+        Some(place) => Err(place.refused()),
+        None => Ok(()),
+    }
+}

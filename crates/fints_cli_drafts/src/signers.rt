@@ -1,0 +1,115 @@
+//! The signers of a draft: one for each pair of an HNSHK and an HNSHA that differs from the others.
+use crate::elements::{Written, write_elements};
+use crate::place::{Place, Undrafted};
+use crate::recorded::Recorded;
+use crate::secrets::Secrets;
+use fints_script::limits::{MAX_SIGNATURES, MAX_SIGNERS};
+use std::alloc::{AllocError, Global};
+
+// A signer: its row behind its name, and the message in which it was met first.
+#[derive(Drop)]
+struct SignerRow {
+    row: String,
+    met: Place,
+}
+
+/// The signers that were met.
+#[derive(Drop)]
+pub struct Signers {
+    rows: Vec<SignerRow>,
+}
+
+// The row of the signer of a place in a message, behind its name, and where its HNSHK stands.
+fn row_of(
+    alloc: Global,
+    secrets: &mut Secrets,
+    recorded: &Recorded,
+    message: usize,
+    place: usize,
+) -> Result<Option<SignerRow>, Undrafted> {
+    let Some(head) = recorded.signature(b"HNSHK", place) else {
+        return Ok(None);
+    };
+    let Some(end) = recorded.signature(b"HNSHA", place) else {
+        return Ok(None);
+    };
+    let dialogue_id = recorded.dialogue_id();
+    let head = Written {
+        segment: head,
+        dialogue_id,
+        message,
+    };
+    let end = Written {
+        segment: end,
+        dialogue_id,
+        message,
+    };
+    let mut row = String::new(alloc);
+    row.push_str("head = ")?;
+    write_elements(alloc, &mut row, secrets, &head)?;
+    row.push_str("\nend = ")?;
+    write_elements(alloc, &mut row, secrets, &end)?;
+    row.push('\n')?;
+    let met = head.place();
+    Ok(Some(SignerRow { row, met }))
+}
+
+impl Signers {
+    pub fn new(alloc: Global) -> Signers {
+        Signers {
+            rows: Vec::new(alloc),
+        }
+    }
+
+    /// Where a signer, which counts from 1, was met first.
+    pub fn met(&self, signer: usize) -> Option<Place> {
+        if signer == 0 {
+            return None;
+        }
+        Some(self.rows.get(signer - 1)?.met)
+    }
+
+    // The place of the signer of a row, which may be a new one.
+    fn place_of(&mut self, row: SignerRow) -> Result<usize, Undrafted> {
+        if let Some(found) = self.rows.iter().position(|own| own.row == row.row) {
+            return Ok(found);
+        }
+        if self.rows.len() == MAX_SIGNERS {
+            return Err(row.met.refused());
+        }
+        self.rows.push(row)?;
+        Ok(self.rows.len() - 1)
+    }
+
+    /// Writes the names of a message's signers, with commas between.
+    pub fn write_names(
+        &mut self,
+        alloc: Global,
+        text: &mut String,
+        secrets: &mut Secrets,
+        recorded: &Recorded,
+        message: usize,
+    ) -> Result<(), Undrafted> {
+        for place in 0..MAX_SIGNATURES {
+            let Some(row) = row_of(alloc, secrets, recorded, message, place)? else {
+                return Ok(());
+            };
+            let number = self.place_of(row)? + 1;
+            if place > 0 {
+                text.push_str(", ")?;
+            }
+            write!(text, "\"signer{number}\"")?;
+        }
+        Ok(())
+    }
+
+    /// Writes the rows of the signers.
+    pub fn write_rows(&self, text: &mut String) -> Result<(), AllocError> {
+        for (i, signer) in self.rows.iter().enumerate() {
+            let number = i + 1;
+            let row = signer.row.as_str();
+            write!(text, "\n[[signer]]\nname = \"signer{number}\"\n{row}")?;
+        }
+        Ok(())
+    }
+}

@@ -1,0 +1,195 @@
+//! The sketch of a draft: the text of its script, and the values of its case, before they are tried.
+use crate::elements::{Written, write_elements};
+use crate::notes::{OPENING, write_seal_note};
+use crate::place::{Place, Undrafted};
+use crate::recorded::Recorded;
+use crate::secrets::Secrets;
+use crate::signers::Signers;
+use crate::steps::{Common, write_step};
+use crate::turns::{Turn, ways_of};
+use fints_rules::OrderTable;
+use fints_rules_dialogues::Exchange;
+use fints_script::limits::MAX_STEPS;
+use fints_script::{Name, Values};
+use fints_syntax_segments::{HNVSK_NUMBER, Memory};
+use std::alloc::{AllocError, Global};
+
+/// The seal of a script: the HNVSK that is met first.
+#[derive(Drop)]
+struct Seal {
+    // The message that has it, and its number, which counts from 1.
+    first: Option<(Recorded, usize)>,
+    row: String,
+    // What differs in other messages.
+    notes: String,
+}
+
+impl Seal {
+    fn new(alloc: Global) -> Seal {
+        Seal {
+            first: None,
+            row: String::new(alloc),
+            notes: String::new(alloc),
+        }
+    }
+
+    // Where it was met.
+    fn met(&self) -> Place {
+        match &self.first {
+            None => Place::whole(0),
+            Some((_, message)) => Place {
+                message: *message,
+                segment: usize::from(HNVSK_NUMBER),
+            },
+        }
+    }
+
+    // Looks at the HNVSK of a message.
+    fn meet(
+        &mut self,
+        alloc: Global,
+        secrets: &mut Secrets,
+        recorded: Recorded,
+        message: usize,
+    ) -> Result<(), Undrafted> {
+        let Some(segment) = recorded.seal() else {
+            return Ok(());
+        };
+        if let Some((first, _)) = &self.first {
+            if let Some(seal) = first.seal() {
+                write_seal_note(&mut self.notes, seal, segment, message)?;
+            }
+            return Ok(());
+        }
+        let written = Written {
+            segment,
+            dialogue_id: recorded.dialogue_id(),
+            message,
+        };
+        self.row.push_str("\nseal = ")?;
+        write_elements(alloc, &mut self.row, secrets, &written)?;
+        self.row.push('\n')?;
+        self.first = Some((recorded, message));
+        Ok(())
+    }
+}
+
+/// A draft before it is tried: its script, and the values of its case.
+#[derive(Drop)]
+pub struct Sketch {
+    pub script: String,
+    pub values: Values,
+    signers: Signers,
+    seal_met: Place,
+}
+
+impl Sketch {
+    /// Where in the dialogue stands what a place of the script was drafted from.
+    pub fn source(&self, place: fints_script::Place) -> Place {
+        match place {
+            fints_script::Place::Step(row) => Place::whole(usize::from(row)),
+            fints_script::Place::Seal => self.seal_met,
+            fints_script::Place::Signer(row) => {
+                self.signers.met(usize::from(row)).unwrap_or(Place::whole(0))
+            }
+            fints_script::Place::Top | fints_script::Place::Field(_) => Place::whole(0),
+        }
+    }
+}
+
+// What each message of the client does with an order that demands a TAN.
+fn turns_of(alloc: Global, exchanges: &[Exchange<'_>]) -> Result<Vec<Turn>, Memory> {
+    let mut turns = Vec::new(alloc);
+    for exchange in exchanges {
+        let recorded = Recorded::read(alloc, exchange.message.bytes)?;
+        turns.push(Turn::of(&recorded))?;
+    }
+    Ok(turns)
+}
+
+// Writes the steps of all messages, and meets their seals.
+fn write_steps(
+    alloc: Global,
+    text: &mut String,
+    common: &mut Common,
+    seal: &mut Seal,
+    orders: &OrderTable,
+    exchanges: &[Exchange<'_>],
+) -> Result<(), Undrafted> {
+    let turns = turns_of(alloc, exchanges)?;
+    for (i, exchange) in exchanges.iter().enumerate() {
+        let message = i + 1;
+        let recorded = Recorded::read(alloc, exchange.message.bytes)?;
+        let ways = ways_of(turns.as_slice(), exchange, i);
+        write_step(alloc, text, common, orders, &recorded, message, &ways)?;
+        seal.meet(alloc, &mut common.secrets, recorded, message)?;
+    }
+    Ok(())
+}
+
+// The values of the fields. The id of the dialogue is that of the second message; it stands nowhere
+// in a dialogue that has none.
+fn values_of(
+    alloc: Global,
+    secrets: &Secrets,
+    exchanges: &[Exchange<'_>],
+) -> Result<Values, Memory> {
+    let mut values = Values::new(alloc);
+    let Some(dialog) = Name::parse(b"dialog") else {
+        return Ok(values);
+    };
+    match exchanges.get(1) {
+        None => values.push(dialog, b"0")?,
+        Some(exchange) => {
+            let recorded = Recorded::read(alloc, exchange.message.bytes)?;
+            values.push(dialog, recorded.dialogue_id())?;
+        }
+    }
+    secrets.add_values(alloc, &mut values)?;
+    Ok(values)
+}
+
+// The text of the script, of its parts.
+fn joined(
+    alloc: Global,
+    common: &Common,
+    seal: &Seal,
+    steps: &str,
+) -> Result<String, AllocError> {
+    let mut text = String::new(alloc);
+    text.push_str(OPENING)?;
+    text.push_str(seal.row.as_str())?;
+    text.push_str(seal.notes.as_str())?;
+    common.secrets.write_rows(&mut text)?;
+    common.signers.write_rows(&mut text)?;
+    text.push_str(steps)?;
+    Ok(text)
+}
+
+/// The sketch of a dialogue. The order table says which orders name an account, of which comments tell.
+pub fn sketch(
+    alloc: Global,
+    orders: &OrderTable,
+    exchanges: &[Exchange<'_>],
+) -> Result<Sketch, Undrafted> {
+    if exchanges.len() > MAX_STEPS {
+        return Err(Place::whole(MAX_STEPS + 1).refused());
+    }
+    let mut common = Common {
+        secrets: Secrets::new(alloc),
+        signers: Signers::new(alloc),
+    };
+    let mut seal = Seal::new(alloc);
+    let mut steps = String::new(alloc);
+    write_steps(alloc, &mut steps, &mut common, &mut seal, orders, exchanges)?;
+    let values = values_of(alloc, &common.secrets, exchanges)?;
+    let script = joined(alloc, &common, &seal, steps.as_str())?;
+    let seal_met = seal.met();
+    let Common { signers, .. } = common;
+    Ok(Sketch {
+        script,
+        values,
+        signers,
+        seal_met,
+    })
+}

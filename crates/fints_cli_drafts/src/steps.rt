@@ -1,0 +1,89 @@
+//! The steps of a draft: one for each message of the client.
+use crate::elements::{Written, write_elements};
+use crate::notes::write_segment_note;
+use crate::recorded::{Recorded, is_of_body};
+use crate::secrets::Secrets;
+use crate::signers::Signers;
+use crate::turns::{Ways, write_ways};
+use crate::place::Undrafted;
+use fints_rules::OrderTable;
+use fints_syntax::OwnedSegment;
+use std::alloc::Global;
+
+// Writes a segment of the body, with its comment.
+fn write_segment(
+    alloc: Global,
+    text: &mut String,
+    secrets: &mut Secrets,
+    orders: &OrderTable,
+    written: &Written<'_>,
+) -> Result<(), Undrafted> {
+    let OwnedSegment { head, elements } = written.segment;
+    write_segment_note(text, orders, written.segment)?;
+    text.push_str("  {kind = \"")?;
+    for b in head.id.as_bytes() {
+        text.push(char::from(*b))?;
+    }
+    let version = head.version;
+    write!(text, "\", version = {version}")?;
+    if !elements.is_empty() {
+        text.push_str(", elements = ")?;
+        write_elements(alloc, text, secrets, written)?;
+    }
+    text.push_str("},\n")?;
+    Ok(())
+}
+
+// Writes the segments of the body.
+fn write_body(
+    alloc: Global,
+    text: &mut String,
+    secrets: &mut Secrets,
+    orders: &OrderTable,
+    recorded: &Recorded,
+    message: usize,
+) -> Result<(), Undrafted> {
+    text.push_str("segments = [\n")?;
+    for segment in recorded.segments.iter().filter(|own| is_of_body(own)) {
+        let written = Written {
+            segment,
+            dialogue_id: recorded.dialogue_id(),
+            message,
+        };
+        write_segment(alloc, text, secrets, orders, &written)?;
+    }
+    text.push_str("]\n")?;
+    Ok(())
+}
+
+/// What the steps of a draft have in common.
+#[derive(Drop)]
+pub struct Common {
+    pub secrets: Secrets,
+    pub signers: Signers,
+}
+
+/// Writes the step of a message, which counts from 1.
+pub fn write_step(
+    alloc: Global,
+    text: &mut String,
+    common: &mut Common,
+    orders: &OrderTable,
+    recorded: &Recorded,
+    message: usize,
+    ways: &Ways,
+) -> Result<(), Undrafted> {
+    let Common { secrets, signers } = common;
+    write!(text, "\n[[step]]\nname = \"m{message}\"\n")?;
+    if recorded.seal().is_some() {
+        text.push_str("sealed = true\n")?;
+    }
+    if recorded.signature(b"HNSHK", 0).is_some() {
+        text.push_str("signers = [")?;
+        signers.write_names(alloc, text, secrets, recorded, message)?;
+        text.push_str("]\n")?;
+    }
+    write_body(alloc, text, secrets, orders, recorded, message)?;
+    write_ways(text, ways)?;
+    Ok(())
+}

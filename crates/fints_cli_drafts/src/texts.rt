@@ -1,0 +1,55 @@
+//! The strings of a script: items as they are written in TOML.
+use crate::place::{Place, Undrafted};
+use fints_script_fields::Alphabet;
+use fints_syntax::ItemRef;
+use std::alloc::{AllocError, Global};
+
+// Writes a text, whose bytes are characters of ISO 8859-1, without what TOML would read otherwise.
+fn write_characters(text: &mut String, value: &[u8]) -> Result<(), AllocError> {
+    for b in value {
+        if *b == b'"' || *b == b'\\' {
+            text.push('\\')?;
+        }
+        text.push(char::from(*b))?;
+    }
+    Ok(())
+}
+
+// Whether a text would be read as a field, as hex digits or as another text.
+fn is_marked(value: &[u8]) -> bool {
+    match value.first() {
+        Some(b) => *b == b'$' || *b == b'%' || *b == b'=',
+        None => false,
+    }
+}
+
+fn write_literal(text: &mut String, value: &[u8], place: Place) -> Result<(), Undrafted> {
+    if !value.iter().all(|b| Alphabet::Latin.has(*b)) {
+        return Err(place.refused());
+    }
+    if is_marked(value) {
+        text.push('=')?;
+    }
+    write_characters(text, value)?;
+    Ok(())
+}
+
+/// Writes the string of an item as it was recorded. A text with a character that no script has is
+/// refused.
+pub fn write_item(
+    alloc: Global,
+    text: &mut String,
+    item: &ItemRef<'_>,
+    place: Place,
+) -> Result<(), Undrafted> {
+    text.push('"')?;
+    match item {
+        ItemRef::Text(value) => write_literal(text, value, place)?,
+        ItemRef::Bin(value) => {
+            text.push('%')?;
+            text.push_str(hex::encode(alloc, *value)?.as_str())?;
+        }
+    }
+    text.push('"')?;
+    Ok(())
+}
