@@ -96,15 +96,20 @@ write_line = codes "error: write" ++ 10 ∷ []
 abbrev pub secrets_line : List ℕ
 secrets_line = codes "note: this case holds the PIN and the TANs of the dialogue" ++ 10 ∷ []
 
--- what a stream gets beside the answer of a request: that a drafted case holds secrets, and nothing beside another answer
-abbrev pub SaysBeside : Request → (old new : Option (List ℕ)) (lost lost_after : ℕ) → Type 0
-SaysBeside (Draft files true) old new lost lost_after = Tells old new lost lost_after secrets_line
-SaysBeside _ old new lost lost_after = IsUntold old new lost lost_after
+-- what is said beside the answer of a request: that a drafted case holds secrets, and nothing beside another answer
+abbrev pub line_beside : Request → List ℕ
+line_beside (Draft files true) = secrets_line
+line_beside _ = []
 
--- the same, whatever was asked for
-abbrev pub SaysBesideIt : Asked → (old new : Option (List ℕ)) (lost lost_after : ℕ) → Type 0
-SaysBesideIt (Run request hints) old new lost lost_after = SaysBeside request old new lost lost_after
-SaysBesideIt _ old new lost lost_after = IsUntold old new lost lost_after
+-- a stream got the text, or a prefix of it, after which a write failed; where the text is empty, nothing was written
+abbrev pub SaysText : List ℕ → (old new : Option (List ℕ)) (lost lost_after : ℕ) → Type 0
+SaysText [] old new lost lost_after = IsUntold old new lost lost_after
+SaysText (b ∷ text) old new lost lost_after = Tells old new lost lost_after (b ∷ text)
+
+-- what was said beside what was asked for
+abbrev pub SaysBeside : Asked → (old new : Option (List ℕ)) (lost lost_after : ℕ) → Type 0
+SaysBeside (Run request hints) old new lost lost_after = SaysText (line_beside request) old new lost lost_after
+SaysBeside _ old new lost lost_after = IsUntold old new lost lost_after
 
 -- no hint is asked for
 abbrev pub AsksNoHint : Asked → Type 0
@@ -134,7 +139,7 @@ pub record TellsFault (alone : Type 0) (old new : Option (List ℕ)) (lost lost_
 -- What the errors got. Where no hint is asked for that is nothing up to status 1, but for what stands beside a drafted case. From 2 on it is the usage of a bad command
 -- line; else the line of a fault, alone where no hint is asked for. Want of memory has a line of its own, and so has an output that failed.
 pub record SaysWhy (asked : Asked) (status : ℕ) (old new : Option (List ℕ)) (lost lost_after : ℕ) : Type 0 where
-  pub beside : status ≤ 1 → AsksNoHint asked → SaysBesideIt asked old new lost lost_after
+  pub beside : status ≤ 1 → AsksNoHint asked → SaysBeside asked old new lost lost_after
   pub usage : TellsUsage asked old new lost lost_after
   pub line : 2 ≤ status → IsUsage asked ⊎ TellsFault (AsksNoHint asked) old new lost lost_after
   pub memory : status ≡ 4 → Tells old new lost lost_after memory_line

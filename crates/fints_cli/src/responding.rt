@@ -6,7 +6,7 @@ ghost use Rattle.fints_cli_words.specs.declared.words.Request.TheVariants as req
 ghost use Rattle.fints_cli_words.specs.declared.words.Asked.{Asked};
 ghost use Rattle.fints_cli_words.specs.declared.words.Asked.TheVariants as asked;
 ghost use Rattle.fints_cli_commands.specs.Commands.{failure_status};
-ghost use Rattle.fints_cli.specs.Responses.{IsAnswered, IsCutOff, IsResponse, RanOut, IsUntold, SaysBeside, IsUsage, FailsToRead, FailsWith, FilesAreWithin, SaysWhy, Tells, TellsFault, told_line, memory_line, write_line};
+ghost use Rattle.fints_cli.specs.Responses.{IsAnswered, IsCutOff, IsResponse, RanOut, IsUntold, SaysText, IsUsage, FailsToRead, FailsWith, FilesAreWithin, SaysWhy, Tells, TellsFault, told_line, line_beside, memory_line, write_line};
 
 use crate::emitting::emit;
 use arrayvec::ArrayString;
@@ -97,7 +97,7 @@ fn deliver<O: Out, E: Out>(text: &[u8], status: u8, out: &mut O, err: &mut E) ->
 
 // Says on the errors that a printed case holds PIN and TAN.
 fn warn<E: Out>(request: &Request<'_>, err: &mut E)
-    ensures { SaysBeside request.now (E.told err.old) (E.told err.new) (E.failed_calls err.old) (E.failed_calls err.new) }
+    ensures { SaysText (line_beside request.now) (E.told err.old) (E.told err.new) (E.failed_calls err.old) (E.failed_calls err.new) }
 {
     if let Request::Draft { case: true, .. } = request {
         tell(b"note: this case holds the PIN and the TANs of the dialogue\n", err);
@@ -118,7 +118,7 @@ fn respond_with<O: Out, E: Out>(
     ensures fine { result ≡ answered.now.reply.status → O.failed_calls out.new ≡ O.failed_calls out.old }
     ensures cut { result ≡ 5 → GetsPrefix (O.told out.old) (O.told out.new) answered.now.reply.text.items }
     ensures failed { result ≡ 5 → O.failed_calls out.new ≡ one_more (O.failed_calls out.old) }
-    ensures beside { result ≡ answered.now.reply.status → answered.now.reasons ≡ None → SaysBeside request.now
+    ensures beside { result ≡ answered.now.reply.status → answered.now.reasons ≡ None → SaysText (line_beside request.now)
         (E.told err.old) (E.told err.new) (E.failed_calls err.old) (E.failed_calls err.new) }
     ensures line { result ≡ 5
         → Tells (E.told err.old) (E.told err.new) (E.failed_calls err.old) (E.failed_calls err.new) write_line }

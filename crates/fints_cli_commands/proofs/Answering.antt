@@ -1,5 +1,5 @@
 -- What is said of what was loaded is said of what the files of a request hold.
-use Rattle.std.proofs.Common.{ℕ, List, Option, IfSome, Result}
+use Rattle.std.proofs.Common.{ℕ, ◌≡◌, refl, subst, Bool, List, Option, None, Some, IfSome, Result}
 use Rattle.fints_params.specs.Captures.{IsReadOf}
 use Rattle.fints_params.specs.Parameters.{Rows}
 use Rattle.fints_params.specs.declared.fault.ParamFault.{ParamFault}
@@ -7,11 +7,14 @@ use Rattle.fints_cli_reports.specs.RunText.{IsRunRefusal}
 use Rattle.fints_cli_texts.specs.declared.fault.Fault.{Fault}
 use Rattle.fints_cli_texts.specs.Judge.{IsJudgeRefusal}
 use Rattle.fints_cli_texts.specs.JudgeAfter.{IsJudgeAfterRefusal}
+use Rattle.fints_cli_drafts.specs.Drafts.{IsDraftRefusal}
+use Rattle.fints_cli_drawings.specs.Drawn.{no_orders}
 use Rattle.fints_cli_recorded.specs.Audit.{IsAuditRefusal, IsOwnAuditRefusal}
-use Rattle.fints_cli_words.specs.declared.words.Request.TheVariants.{Judge, JudgeAfter, AuditOwn, Audit}
+use Rattle.fints_cli_words.specs.declared.words.Request.TheVariants.{Judge, JudgeAfter, AuditOwn, Audit, Draft}
 use Rattle.fints_cli_words.specs.declared.words.Request.TheVariants as requests
 use Rattle.std.specs.Borrow.{Bor}
 use Rattle.fints_cli_words.specs.declared.words.AuditFiles.{AuditFiles}
+use Rattle.fints_cli_words.specs.declared.words.DraftFiles.{DraftFiles}
 use Rattle.fints_cli_words.specs.declared.words.EarlierFiles.{EarlierFiles}
 use Rattle.fints_cli_words.specs.declared.words.JudgeFiles.{JudgeFiles}
 use Rattle.fints_cli_words.specs.declared.words.RunFiles.{RunFiles}
@@ -91,3 +94,19 @@ module _ (holds : Held) (params : Result Rows ParamFault) (contents : Contents) 
       (holds files.orders.now) (holds files.script.now) (holds files.case.now)
       contents.orders.items contents.script.items contents.case.items
       loaded.orders loaded.script loaded.case refused
+
+  -- the table is the one that was loaded, or the empty one where none is named
+  pub draft_refused : (files : DraftFiles) (case : Bool) (table : List ℕ)
+      → (files.orders ≡ None → table ≡ no_orders)
+      → IfSome files.orders (λ path. table ≡ contents.orders.items)
+      → IsDraftRefusal table contents.dialogue.items fault
+      → IsLoaded (paths_of (Draft files case)) holds params contents
+      → RefusesRequest (Draft files case) holds fault
+  draft_refused (record { orders = None; dialogue = dialogue }) case table absent named refused loaded =
+      of_file (λ d. IsDraftRefusal no_orders d fault) (holds dialogue.now) _ loaded.dialogue
+      (subst (λ t. IsDraftRefusal t contents.dialogue.items fault) (absent refl) refused)
+  draft_refused (record { orders = Some path; dialogue = dialogue }) case table absent named refused loaded =
+      let told = holds dialogue.now in
+      of_file (λ t. IfSome told (λ d. IsDraftRefusal t d fault)) (holds path.now) _ loaded.orders
+      (of_file (λ d. IsDraftRefusal contents.orders.items d fault) told _ loaded.dialogue
+      (subst (λ t. IsDraftRefusal t contents.dialogue.items fault) named refused))

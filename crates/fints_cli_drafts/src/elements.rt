@@ -47,9 +47,7 @@ fn write_string(
     };
     let is_empty = written.segment.value(element, item).is_empty();
     match Secret::at(written.segment, element, item) {
-        Some(secret) if !is_empty => {
-            secrets.write(alloc, text, secret, &found, written.place())
-        }
+        Some(secret) if !is_empty => { secrets.write(alloc, text, secret, &found, written.place()) }
         _ if written.is_dialogue_id(element, item) => {
             text.push_str("\"$dialog\"")?;
             Ok(())

@@ -64,7 +64,9 @@ impl Recorded {
 
     /// HNVSK, if the message is sealed.
     pub fn seal(&self) -> Option<&OwnedSegment> {
-        self.segments.iter().find(|segment| segment.head.id.is(b"HNVSK"))
+        self.segments
+            .iter()
+            .find(|segment| segment.head.id.is(b"HNVSK"))
     }
 
     /// The data of HNVSD, if the message is sealed.

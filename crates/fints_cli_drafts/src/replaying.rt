@@ -30,7 +30,11 @@ fn copied_codes(alloc: Global, codes: &[Code]) -> Result<Vec<Code>, AllocError>
 }
 
 // Adds the answer of an exchange, if it has one.
-fn add_answer(alloc: Global, answers: &mut Vec<Answer>, exchange: &Exchange<'_>) -> Result<(), Memory>
+fn add_answer(
+    alloc: Global,
+    answers: &mut Vec<Answer>,
+    exchange: &Exchange<'_>,
+) -> Result<(), Memory>
     requires { IsExchange exchange.now }
     ensures { OnOk result (answers.new.items ≡ answers.old.items ++ codes_of exchange.now.answer) }
 {
@@ -97,12 +101,11 @@ fn plan_of<'a>(script: &'a Script, orders: &'a OrderTable) -> Result<Plan<'a>, U
 {
     match script.plan(orders) {
         Ok(plan) => Ok(plan),
-        Err(
-            PlanFault::OpenAccount { step, segment } | PlanFault::OpenProcess { step, segment },
-        ) => Err(Undrafted::At(Place {
-            message: step,
-            segment,
-        })),
+        Err(PlanFault::OpenAccount { step, segment } | PlanFault::OpenProcess { step, segment }) =>
+            Err(Undrafted::At(Place {
+                message: step,
+                segment,
+            })),
     }
 }
 

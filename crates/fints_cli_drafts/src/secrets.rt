@@ -109,7 +109,11 @@ impl Secrets {
         item: &ItemRef<'_>,
         place: Place,
     ) -> Result<usize, Undrafted> {
-        if let Some(found) = self.fields.iter().position(|field| field.holds(secret, item)) {
+        if let Some(found) = self
+            .fields
+            .iter()
+            .position(|field| field.holds(secret, item))
+        {
             return Ok(found);
         }
         if self.fields.len() == MAX_FIELDS || !is_fit(item) {

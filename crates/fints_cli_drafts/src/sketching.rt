@@ -90,7 +90,9 @@ impl Sketch {
             fints_script::Place::Step(row) => Place::whole(usize::from(row)),
             fints_script::Place::Seal => self.seal_met,
             fints_script::Place::Signer(row) => {
-                self.signers.met(usize::from(row)).unwrap_or(Place::whole(0))
+                self.signers
+                    .met(usize::from(row))
+                    .unwrap_or(Place::whole(0))
             }
             fints_script::Place::Top | fints_script::Place::Field(_) => Place::whole(0),
         }
@@ -150,12 +152,7 @@ fn values_of(
 }
 
 // The text of the script, of its parts.
-fn joined(
-    alloc: Global,
-    common: &Common,
-    seal: &Seal,
-    steps: &str,
-) -> Result<String, AllocError> {
+fn joined(alloc: Global, common: &Common, seal: &Seal, steps: &str) -> Result<String, AllocError> {
     let mut text = String::new(alloc);
     text.push_str(OPENING)?;
     text.push_str(seal.row.as_str())?;

@@ -1,11 +1,11 @@
 //! The steps of a draft: one for each message of the client.
 use crate::elements::{Written, write_elements};
 use crate::notes::write_segment_note;
+use crate::place::Undrafted;
 use crate::recorded::{Recorded, is_of_body};
 use crate::secrets::Secrets;
 use crate::signers::Signers;
 use crate::turns::{Ways, write_ways};
-use crate::place::Undrafted;
 use fints_rules::OrderTable;
 use fints_syntax::OwnedSegment;
 use std::alloc::Global;

@@ -11,7 +11,7 @@ use std::alloc::{AllocError, Global};
 const ABOUT_FILES: &str = "Without words: the report on a built-in script.
 
 Statuses:
-  0  clean, shown, permitted, valid, run or drawn; a certificate or this help
+  0  clean, shown, permitted, valid, run, drafted or drawn; a certificate or this help
   1  a rule is broken, or a certificate isn't valid
   2  usage error
   3  an input is refused

@@ -31,7 +31,7 @@ pub returns-in-Help-clause-says : goal.returns-in-Help-clause-says
 returns-in-Help-clause-says g c =
     rw c.in-Help.is
     (record {
-      quiet = λ few none. elim c.deliver.ensures.statuses [ inl zero ↦ c.deliver.ensures.quiet zero | inr five ↦ absurd (omega (arith, few, five)) ];
+      beside = λ few none. elim c.deliver.ensures.statuses [ inl zero ↦ c.deliver.ensures.quiet zero | inr five ↦ absurd (omega (arith, few, five)) ];
       usage = tt;
       line = λ two. elim c.deliver.ensures.statuses [
         | inl zero ↦ absurd (omega (arith, two, zero))
@@ -44,7 +44,7 @@ pub returns-in-Usage-clause-says : goal.returns-in-Usage-clause-says
 returns-in-Usage-clause-says g c =
     rw c.in-Usage.is
     (record {
-      quiet = λ few none. absurd (omega (arith, few));
+      beside = λ few none. absurd (omega (arith, few));
       usage = subst (Tells _ _ _ _) c.as_bytes-in-Usage.ensures.value c.tell.ensures;
       line = λ two. inl tt;
       memory = λ four. absurd (omega (arith, four));
@@ -54,7 +54,7 @@ pub returns-in-NoMemory-clause-says : goal.returns-in-NoMemory-clause-says
 returns-in-NoMemory-clause-says g c =
     rw c.in-NoMemory.is
     (record {
-      quiet = λ few none. absurd (omega (arith, few, c.tell_memory.ensures.status));
+      beside = λ few none. absurd (omega (arith, few, c.tell_memory.ensures.status));
       usage = tt;
       line = λ two. inr (memory_fault _ _ _ _ _ c.tell_memory.ensures.line);
       memory = λ four. c.tell_memory.ensures.line;
@@ -64,7 +64,7 @@ pub returns-in-Ok-clause-says : goal.returns-in-Ok-clause-says
 returns-in-Ok-clause-says g c =
     rw c.in-Run.is
     (record {
-      quiet = λ few none. elim c.respond_with.ensures.statuses [ inl same ↦ c.respond_with.ensures.quiet same (c.in-Ok.ensures.no_reasons none) | inr five ↦ absurd (omega (arith, few, five)) ];
+      beside = λ few none. elim c.respond_with.ensures.statuses [ inl same ↦ c.respond_with.ensures.beside same (c.in-Ok.ensures.no_reasons none) | inr five ↦ absurd (omega (arith, few, five)) ];
       usage = tt;
       line = λ two. elim c.respond_with.ensures.statuses [
         | inl same ↦ absurd (omega (arith, two, same, c.in-Ok.ensures.status))
@@ -80,7 +80,7 @@ pub returns-in-Err-clause-says : goal.returns-in-Err-clause-says
 returns-in-Err-clause-says g c =
     rw c.in-Run.is
     (record {
-      quiet = λ few none. absurd (omega (arith, few, c.tell_refusal.ensures.status, failure_above c.in-Err.refusal.failure));
+      beside = λ few none. absurd (omega (arith, few, c.tell_refusal.ensures.status, failure_above c.in-Err.refusal.failure));
       usage = tt;
       line = λ two. inr (fault_under _ _ _ _ _ _ c.in-Err.ensures.unasked c.tell_refusal.ensures.line);
       memory = c.tell_refusal.ensures.memory;

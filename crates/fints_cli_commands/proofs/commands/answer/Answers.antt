@@ -3,7 +3,7 @@ use Rattle.fints_cli_drawings.specs.Drawn.{no_orders}
 use Rattle.fints_cli_reports.specs.Plans.{IsPlanRefusal}
 use Rattle.fints_cli_texts.specs.Judge.{IsMessageRefusal}
 use Rattle.fints_cli_texts.specs.Show.{IsMemoryOrShowFault}
-use Rattle.fints_cli_commands.proofs.Answering.{audit_own_refused, audit_refused, judge_refused, judge_after_refused, run_refused}
+use Rattle.fints_cli_commands.proofs.Answering.{audit_own_refused, audit_refused, draft_refused, judge_refused, judge_after_refused, run_refused}
 use Rattle.fints_cli_commands.proofs.Reading.{of_exit, of_file}
 use Rattle.fints_cli_commands.proofs.commands.answer.Goals as goal
 
@@ -32,6 +32,15 @@ returns-in_err-text-in-Run-clause-refused c =
     let exit = c.from_residual-in_err-text-in-Run.ensures.1 in
     rw c.in-Run.is (of_exit c.from_residual-in_err-text-in-Run.result _ _ exit (λ holds loaded.
     run_refused holds _ _ _ c.in-Run.files _ refused loaded))
+
+pub returns-in_err-text-in-Draft-clause-refused : goal.returns-in_err-text-in-Draft-clause-refused
+returns-in_err-text-in-Draft-clause-refused c =
+    let dialogue = c.deref-in-Draft.ensures.value in
+    let refused = rw dialogue at c.in_err-text-in-Draft.ensures.refused in
+    let exit = c.from_residual-in_err-text-in-Draft.ensures.1 in
+    rw c.in-Draft.is (of_exit c.from_residual-in_err-text-in-Draft.result _ _ exit (λ holds loaded.
+    draft_refused holds _ _ _ c.in-Draft.files c.in-Draft.case _ c.table_of.ensures.absent c.table_of.ensures.loaded refused
+    loaded))
 
 pub returns-in_err-text-in-Draw-clause-refused : goal.returns-in_err-text-in-Draw-clause-refused
 returns-in_err-text-in-Draw-clause-refused c =

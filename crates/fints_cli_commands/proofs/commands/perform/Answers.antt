@@ -1,6 +1,6 @@
-use Rattle.std.proofs.Common.{arith, ◌≡◌, ◌≤◌, length}
+use Rattle.std.proofs.Common.{arith, None, Some, ◌≡◌, ◌≤◌, length}
 use Rattle.fints_cli_words.specs.declared.words.Request.{Request}
-use Rattle.fints_cli_words.specs.declared.words.Request.TheVariants.{BuiltIn, Show, ShowMessage, Judge, JudgeAfter, AuditOwn, Audit, Check, Explain, Certify, Verify, Draw, DrawFound}
+use Rattle.fints_cli_words.specs.declared.words.Request.TheVariants.{BuiltIn, Show, ShowMessage, Judge, JudgeAfter, AuditOwn, Audit, Draft, Check, Explain, Certify, Verify, Draw, DrawFound}
 use Rattle.fints_cli_words.specs.declared.words.Request.TheVariants as requests
 use Rattle.fints_cli_commands.specs.declared.loading.Paths.{Paths}
 use Rattle.fints_cli_commands.specs.Loading.{files_at, files_of, paths_of}
@@ -14,6 +14,8 @@ at_most_five (Judge files) = omega arith
 at_most_five (JudgeAfter files earlier) = omega arith
 at_most_five (AuditOwn files) = omega arith
 at_most_five (Audit files params) = omega arith
+at_most_five (Draft (record { orders = None; dialogue = dialogue }) case) = omega arith
+at_most_five (Draft (record { orders = Some orders; dialogue = dialogue }) case) = omega arith
 at_most_five (Check files) = omega arith
 at_most_five (Explain files finding) = omega arith
 at_most_five (Certify files) = omega arith
