@@ -214,6 +214,7 @@ def in_all_commands(lab):
             *(row(f"dialogue/{it}") for it in "show judge-transfer run run-message-4 check".split()),
             *(row(f"dialogue/{it}") for it in "explain explain-second-signature certify verify".split()),
             row("draw/second-signature"),
+            *(row(it) for it in ("audit/decoupled", "draft/released", "draft/released-case")),
         ],
     }
     return {f"{group}: {(run.words or ['report'])[0]}, {os.path.basename(run.folder)}": run for group, runs in groups.items() for run in runs}
@@ -350,6 +351,8 @@ def at_limit(option, path, size):
         segment = b"HIXYZ:1:1+" + b"x" * 9_989 + b"'"
         text += segment * ((size - len(text)) // len(segment))
         return text + b"\n" * (size - len(text))
+    if option == "--dialogue":
+        return text + b"\n" * (size - len(text))
     if option in ("--orders", "--script"):
         return text + b"#" * (size - len(text))
     return text + b"x" * (size - len(text))
@@ -357,12 +360,12 @@ def at_limit(option, path, size):
 
 def lengths(lab, run, option, path):
     """A file of exactly its limit isn't unread, and one of one byte more is."""
-    limit = MOST_CAPTURE if option in ("--params", "--message") else MOST_TEXT
+    limit = MOST_CAPTURE if option in ("--params", "--message", "--dialogue") else MOST_TEXT
     where = f"{lab.room}/{run.words[0]}{option}"
     words = [where if it == path else it for it in run.words]
     write(where, at_limit(option, f"{run.folder}/{path}", limit))
     ran = lab.run(words, run.folder)
-    plain = option in ("--params", "--orders", "--script")
+    plain = option in ("--params", "--orders", "--script", "--dialogue")
     good = ran == run.want if plain else ran.status == 3 and not ran.out
     what = f"{run.words[0]} {option} of {limit} bytes: {shown(ran)}, wanted is {shown(run.want) if plain else 'status 3 and no output'}"
     lab.note(good, what, run.folder, [lab.program, *words])
@@ -374,7 +377,8 @@ def lengths(lab, run, option, path):
 
 def files(lab):
     names = "show judge-transfer run check explain certify verify".split()
-    runs = [*(row(f"dialogue/{name}") for name in names), row("draw/second-signature")]
+    runs = [*(row(f"dialogue/{name}") for name in names)]
+    runs += map(row, ("draw/second-signature", "audit/decoupled", "draft/released"))
     asked = [(run, *it) for run in runs for it in options(run)]
     lab.each(later(call, lab, *it) for it in asked for call in (reads_fail, lengths))
 

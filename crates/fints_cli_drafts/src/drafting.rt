@@ -9,7 +9,7 @@ ghost use Rattle.fints_cli_drafts.specs.Drafts.{answers_of, drafted_text, IsDraf
 use crate::blank::keeps_secrets;
 use crate::place::{Place, Undrafted};
 use crate::replaying::{answers_of, replay};
-use crate::sketching::{Sketch, sketch};
+use crate::sketching::{Sketch, sketch_of};
 use fints_cli_texts::Fault;
 use fints_rules::OrderTable;
 use fints_rules_dialogues::{Exchange, read_dialogue};
@@ -120,7 +120,7 @@ fn draft(alloc: Global, orders: &OrderTable, exchanges: &[Exchange<'_>]) -> Resu
     requires { AllByRecursion IsExchange exchanges.now }
     ensures { IfOk result (λ draft. IsDraft exchanges.now draft.script.items draft.case.items) }
 {
-    let sketch = sketch(alloc, orders, exchanges)?;
+    let sketch = sketch_of(alloc, orders, exchanges)?;
     tried(alloc, orders, exchanges, sketch)
 }
 
@@ -150,6 +150,6 @@ pub fn draft_read(
 {
     let orders = OrderTable::read(alloc, orders)?;
     let exchanges = read_dialogue(alloc, dialogue)?;
-    let draft = draft(alloc, &orders, exchanges.as_slice())?;
+    let draft = draft_of(alloc, &orders, exchanges.as_slice())?;
     Ok(text_of(draft, drafted))
 }

@@ -164,7 +164,7 @@ fn joined(alloc: Global, common: &Common, seal: &Seal, steps: &str) -> Result<St
 }
 
 /// The sketch of a dialogue. The order table says which orders name an account, of which comments tell.
-pub fn sketch(
+pub fn sketch_of(
     alloc: Global,
     orders: &OrderTable,
     exchanges: &[Exchange<'_>],
