@@ -14,6 +14,9 @@ use std::fmt::{Display, Formatter, Write};
 // What a message of a dialogue begins with; its size follows.
 const FRONT: &[u8] = b"HNHBK:1:3+";
 
+// A byte order mark.
+const MARK: &[u8] = b"\xef\xbb\xbf";
+
 // A message by its place among those of both sides, from 0.
 #[derive(Clone, Copy)]
 struct Turn(usize);
@@ -59,9 +62,9 @@ fn head_of(bytes: &[u8]) -> &[u8] {
     }
 }
 
-// Why the bytes at the front, where a message is due, can't be cut off as one.
-fn due_hint(alloc: Global, turn: Turn, bytes: &[u8]) -> Told {
-    if bytes.starts_with(FRONT) || !bytes.starts_with(b"HNHBK:") {
+// Why the bytes, which begin with an HNHBK, can't be cut off as a message.
+fn head_hint(alloc: Global, turn: Turn, bytes: &[u8]) -> Told {
+    if bytes.starts_with(FRONT) {
         return told_at(alloc, format_args!("{turn}: "), front_hint(alloc, bytes)?);
     }
     let head = Sample(head_of(bytes));
@@ -90,18 +93,34 @@ fn last_hint(alloc: Global, turn: Turn, bytes: &[u8]) -> Told {
     told_at(alloc, format_args!("{turn}, up to {end}: "), text)
 }
 
+// Why no message can be cut off at the front of a file, which begins with no HNHBK.
+fn file_hint(alloc: Global, file: &[u8]) -> Told {
+    match next_front(file) {
+        Some(len) if !file.starts_with(MARK) => told(
+            alloc,
+            format_args!(
+                "before the first HNHBK:1:3 stand {len} other bytes: remove them, or add what is missing of the message"
+            ),
+        ),
+        _ => told_at(alloc, "message 1: ", front_hint(alloc, file)?),
+    }
+}
+
 // Why no message can be cut off at an offset, where one is due.
 fn uncut_hint(alloc: Global, file: &[u8], offset: usize) -> Told {
     let Some(before) = cut_file(alloc, file.get(..offset).unwrap_or(&[]))? else {
         return Ok(None);
     };
     let rest = file.get(offset..).unwrap_or(&[]);
+    if rest.starts_with(b"HNHBK:") {
+        return head_hint(alloc, Turn(before.len()), rest);
+    }
     match before.last() {
-        Some(last) if !rest.starts_with(b"HNHBK:") => {
+        Some(last) => {
             let turn = Turn(before.len().saturating_sub(1));
             last_hint(alloc, turn, file.get(last.start..).unwrap_or(&[]))
         }
-        _ => due_hint(alloc, Turn(before.len()), rest),
+        None => file_hint(alloc, rest),
     }
 }
 
