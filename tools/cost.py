@@ -133,6 +133,23 @@ def table(rows, account="none"):
     return "".join(f'[[order]]\nkind = "{it}"\nversion = {version}\naccount = "{account}"\n' for it, version in rows)
 
 
+# Recorded dialogues. Each gives about so many bytes.
+
+RECEIVED = ("HIRMG", "2+0010::Received")
+ANSWER = message([RECEIVED])
+TOLD = message([RECEIVED, ("HIBPA", "3+12+280:1+Bank+1+1+300+0"), ("HIPINS", "1+1+1+0+5:38:6:::HKSAL:N")])
+
+
+def recorded(sent):
+    """Such a message again and again, each with an answer."""
+    return lambda size: (sent + ANSWER) * (size // len(sent + ANSWER))
+
+
+def told_last(sent):
+    """The same, and the last answer tells parameters."""
+    return lambda size: recorded(sent)(size - len(sent + TOLD)) + sent + TOLD
+
+
 # Scripts and cases.
 
 
@@ -269,6 +286,10 @@ def measured(room):
     elsewhere = room.file(message([("HKSAL", "5" + "+9999999" * 500)] * 900))
     untaken = room.file(message([("HKSAL", "10")] * 996))
 
+    audit = lambda make: lambda n: ["audit", "--params", C1, "--orders", ORDERS, "--dialogue", room.file(make(n))]
+    audit_own = lambda make: lambda n: ["audit", "--orders", ORDERS, "--dialogue", room.file(make(n))]
+    one, all_in_one = recorded(orders(1)), recorded(orders(996))
+
     def verify(n):
         words = on("certify", hostile)(n)
         return ["verify", *words[1:], "--cert", room.file(room.printed(words))]
@@ -292,6 +313,11 @@ def measured(room):
         ("judge --hints, rows of HIUPD, 900 orders of 500 elements", "bytes", half, hinted(judge(accounts, elsewhere))),
         ("judge --hints, all versions over and over, 996 orders", "bytes", half, hinted(judge(versions, untaken))),
         ("judge, a message of orders", "orders", 498, lambda n: judge(lambda _: HEAD, room.file(orders(n)))(0)),
+        ("audit, messages of 1 order", "bytes", half, audit(one)),
+        ("audit, messages of 996 orders", "bytes", half, audit(all_in_one)),
+        ("audit, messages of 1 order, the last answer tells parameters", "bytes", half, audit_own(told_last(orders(1)))),
+        ("audit --hints, messages of 1 order", "bytes", half, hinted(audit(one))),
+        ("audit --hints, messages of 996 orders", "bytes", half, hinted(audit(all_in_one))),
         ("run, a oneof of many values", "values", 80 * k, lambda n: run(room.file(listed("oneof", '"%s"')(n)), case)),
         ("run, an account of many values", "values", 62_500, lambda n: run(room.file(listed("account", '["%s"]')(n)), case)),
         ("run, a case of many fields", "lines", 40 * k, lambda n: run(end, room.file(lines(n)))),

@@ -34,7 +34,8 @@ def is_told(wanted, run):
     if wanted == "read":
         return run.returncode in (0, 1) and not err
     if wanted.startswith("error: "):
-        return (run.returncode, out, err) == (3, "", text_of(wanted) + "\n")
+        status = 5 if wanted.startswith("error: read ") else 3
+        return (run.returncode, out, err) == (status, "", text_of(wanted) + "\n")
     if wanted.startswith(("why: ", "note: ")):
         text = text_of(wanted) + "\n"
         status = int(any(line.startswith("why: ") for line in text.splitlines()))

@@ -16,6 +16,7 @@ use crate::loading::{Contents, Loaded, load_all, paths_of};
 use fints_cli_drafts::{Drafted, draft_read};
 use fints_cli_drawings::{draw_read, draw_script};
 use fints_cli_files::Files;
+use fints_cli_hints_dialogues::audited_reasons;
 use fints_cli_hints_reasons::judged_reasons;
 use fints_cli_hints_segments::skipped_notes;
 use fints_cli_hints_verdicts::{report_reasons, verified_reason};
@@ -155,13 +156,14 @@ fn reasons(alloc: Global, request: &Request<'_>, contents: &Contents, hints: boo
         Request::Judge(_) | Request::JudgeAfter { .. } => {
             judged_reasons(alloc, &inputs).unwrap_or(None)
         }
+        Request::AuditOwn(_) | Request::Audit { .. } => {
+            audited_reasons(alloc, &inputs).unwrap_or(None)
+        }
         Request::Check(_) | Request::Explain { .. } | Request::Certify(_) | Request::DrawFound(_) =>
             report_reasons(alloc, &inputs).unwrap_or(None),
         Request::Verify { .. } => verified_reason(alloc, &inputs).unwrap_or(None),
         Request::BuiltIn
         | Request::ShowMessage { .. }
-        | Request::AuditOwn(_)
-        | Request::Audit { .. }
         | Request::Draft { .. }
         | Request::Run { .. }
         | Request::Draw { .. } => None,

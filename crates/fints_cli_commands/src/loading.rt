@@ -160,6 +160,7 @@ impl Contents {
             before: self.before.as_slice(),
             answer: self.answer.as_slice(),
             message: self.message.as_slice(),
+            dialogue: self.dialogue.as_slice(),
         }
     }
 }

@@ -48,17 +48,17 @@ fn kinds_in(
     Ok(Kinds::of(kinds, permissions))
 }
 
-// A message that is judged, and the kinds of its segments.
+/// A message that is judged by what a bank permits, and what it is called: nothing where it is judged alone.
 #[derive(Clone, Copy)]
-struct Judged<'a> {
-    bank: &'a Bank<'a>,
-    message: &'a Message,
-    kinds: &'a Kinds,
+pub struct Judged<'a> {
+    pub bank: &'a Bank<'a>,
+    pub called: &'a str,
+    pub message: &'a Message,
 }
 
-fn place_of(broken: &Broken) -> Where<'static> {
+fn place_of<'a>(judged: &Judged<'a>, broken: &Broken) -> Where<'a> {
     Where {
-        step: "",
+        sent: judged.called,
         segment: broken.segment,
     }
 }
@@ -67,16 +67,13 @@ fn add_segment(
     text: &mut String,
     alloc: Global,
     judged: &Judged<'_>,
+    kinds: &Kinds,
     broken: &Broken,
     segment: &OwnedSegment,
 ) -> Result<(), Memory> {
-    let Judged {
-        bank,
-        message,
-        kinds,
-    } = *judged;
+    let bank = judged.bank;
     let (kind, version) = (segment.head.id, segment.head.version);
-    let signatures = message.ends().len();
+    let signatures = judged.message.ends().len();
     let seen = Seen {
         kind,
         version,
@@ -94,7 +91,7 @@ fn add_segment(
                 seen: &seen,
                 cause,
             };
-            add_why(text, alloc, place_of(broken), why)
+            add_why(text, alloc, place_of(judged, broken), why)
         }
     }
 }
@@ -103,6 +100,7 @@ fn add_whole(
     text: &mut String,
     alloc: Global,
     judged: &Judged<'_>,
+    kinds: &Kinds,
     broken: &Broken,
 ) -> Result<(), Memory> {
     if !is_of_whole(broken.rule) {
@@ -114,7 +112,7 @@ fn add_whole(
         protocol: message.protocol(),
         number: message.number(),
         size: message.size() as u64,
-        kinds: judged.kinds.plain(),
+        kinds: kinds.plain(),
         before: Before::Message,
     };
     let why = WholeWhy {
@@ -122,44 +120,53 @@ fn add_whole(
         whole: &whole,
         rule: broken.rule,
     };
-    add_why(text, alloc, place_of(broken), why)
+    add_why(text, alloc, place_of(judged, broken), why)
 }
 
-fn add_broken(
+// The segment of a body that has the number: they are numbered on from the first.
+fn segment_of(body: &[OwnedSegment], number: u16) -> Option<&OwnedSegment> {
+    let first = body.first()?.head.number;
+    body.get(usize::from(number.checked_sub(first)?))
+}
+
+/// Adds a line for each of these rules, which the message breaks, in their order: why, and what to change.
+pub fn add_reasons(
     text: &mut String,
     alloc: Global,
     judged: &Judged<'_>,
-    broken: &Broken,
+    broken: &[Broken],
 ) -> Result<(), Memory> {
     let body = judged.message.body();
-    match body.iter().find(|it| it.head.number == broken.segment) {
-        Some(segment) => add_segment(text, alloc, judged, broken, segment),
-        None => add_whole(text, alloc, judged, broken),
+    let kinds = kinds_in(alloc, judged.bank.permissions, body)?;
+    for one in broken {
+        match segment_of(body, one.segment) {
+            Some(segment) => add_segment(text, alloc, judged, &kinds, one, segment)?,
+            None => add_whole(text, alloc, judged, &kinds, one)?,
+        }
     }
+    Ok(())
 }
 
 const ANSWER: &str =
     "each segment begins with HI or DI, so this is a bank's answer: hand it over by --answer, the message that it answers by --before, and the client's next one by --message";
 
-// Whether the kind is one of segments that a bank sends.
-fn is_of_bank(kind: &Kind) -> bool {
-    let name = kind.as_bytes();
+// Whether the segment is one that a bank sends.
+fn is_of_bank(segment: &OwnedSegment) -> bool {
+    let name = segment.head.id.as_bytes();
     name.starts_with(b"HI") || name.starts_with(b"DI")
 }
 
-fn lines_of(alloc: Global, judged: &Judged<'_>, broken: &[Broken]) -> Result<String, Memory> {
-    let mut text = String::new(alloc);
-    for one in broken {
-        add_broken(&mut text, alloc, judged, one)?;
-    }
-    Ok(text)
+// Whether the message has segments, all of which a bank sends.
+fn is_answer(message: &Message) -> bool {
+    let body = message.body();
+    !body.is_empty() && body.iter().all(is_of_bank)
 }
 
 // The one line of a bank's answer.
 fn answer_line(alloc: Global) -> Result<String, Memory> {
     let mut text = String::new(alloc);
     let place = Where {
-        step: "",
+        sent: "",
         segment: 0,
     };
     add_why(&mut text, alloc, place, ANSWER)?;
@@ -177,17 +184,17 @@ fn judged_lines(
     let Ok(broken) = broken_by(alloc, bank.permissions, inputs) else {
         return Ok(None);
     };
-    let kinds = kinds_in(alloc, bank.permissions, message.body())?;
-    let sent = kinds.as_slice();
-    if !broken.is_empty() && !sent.is_empty() && sent.iter().all(is_of_bank) {
+    if !broken.is_empty() && is_answer(&message) {
         return Ok(Some(answer_line(alloc)?));
     }
     let judged = Judged {
         bank,
+        called: "",
         message: &message,
-        kinds: &kinds,
     };
-    Ok(Some(lines_of(alloc, &judged, broken.as_slice())?))
+    let mut text = String::new(alloc);
+    add_reasons(&mut text, alloc, &judged, broken.as_slice())?;
+    Ok(Some(text))
 }
 
 fn lines_by(

@@ -48,9 +48,4 @@ impl Kinds {
         }
         count
     }
-
-    /// The kinds of the segments, in order.
-    pub fn as_slice(&self) -> &[Kind] {
-        self.sorted.as_slice()
-    }
 }

@@ -22,22 +22,22 @@ impl Display for Called<'_> {
     }
 }
 
-/// Where a reason holds, as a report says it: a step by its name, or nothing for a message alone; and a
-/// segment by its number, or 0 for the whole message.
+/// Where a reason holds, as a report says it: a step by its name, a message of a dialogue by its number, or
+/// nothing for a message alone; and a segment by its number, or 0 for the whole message.
 #[derive(Clone, Copy)]
 pub struct Where<'a> {
-    pub step: &'a str,
+    pub sent: &'a str,
     pub segment: u16,
 }
 
 impl Display for Where<'_> {
     fn fmt<W: Write>(&self, f: &mut Formatter<W>) -> fmt::Result {
-        let Where { step, segment } = *self;
-        match (step.is_empty(), segment) {
+        let Where { sent, segment } = *self;
+        match (sent.is_empty(), segment) {
             (true, 0) => Ok(()),
             (true, _) => write!(f, "segment {segment}: "),
-            (false, 0) => write!(f, "{step}: "),
-            (false, _) => write!(f, "{step} segment {segment}: "),
+            (false, 0) => write!(f, "{sent}: "),
+            (false, _) => write!(f, "{sent} segment {segment}: "),
         }
     }
 }

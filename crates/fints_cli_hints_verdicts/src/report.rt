@@ -58,7 +58,7 @@ struct Found<'a> {
 
 fn place_of<'a>(name: &'a str, finding: Finding) -> Where<'a> {
     Where {
-        step: name,
+        sent: name,
         segment: finding.segment,
     }
 }

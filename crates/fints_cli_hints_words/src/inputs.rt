@@ -11,6 +11,7 @@ pub struct Inputs<'a> {
     pub before: &'a [u8],
     pub answer: &'a [u8],
     pub message: &'a [u8],
+    pub dialogue: &'a [u8],
 }
 
 impl Inputs<'_> {
@@ -25,6 +26,7 @@ impl Inputs<'_> {
             before: b"",
             answer: b"",
             message: b"",
+            dialogue: b"",
         }
     }
 }

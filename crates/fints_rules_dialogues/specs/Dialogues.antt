@@ -115,6 +115,11 @@ pub record IsDialogue (file : List ℕ) (exchanges : List Exchange) : Type 0 whe
 abbrev pub IsMemoryOrRefusal : (DialogueFault → Type 0) → DialogueFault → Type 0
 IsMemoryOrRefusal P f = (f ≡ fault.Memory) ⊎ P f
 
+-- the place where the cut stops
+abbrev pub IsCutFault : List ℕ → DialogueFault → Type 0
+IsCutFault file (fault.NotAMessage offset) = CutStopsAt file offset
+IsCutFault file _ = ⊥
+
 -- why the file can't be cut, or has no message
 abbrev pub IsFileFault : List ℕ → DialogueFault → Type 0
 IsFileFault file fault.NoMessage = AllByRecursion IsBreak file
@@ -152,11 +157,6 @@ IsDialogueFault file f =
     IsFileFault file f ⊎ ((messages : List Sent) × IsCutFile file messages × IsTurnFault messages f)
 
 -- ---- of private contracts and proofs alone
-
--- the place where the cut stops
-abbrev pub IsCutFault : List ℕ → DialogueFault → Type 0
-IsCutFault file (fault.NotAMessage offset) = CutStopsAt file offset
-IsCutFault file _ = ⊥
 
 -- each message ends where a machine's numbers still count
 abbrev pub EndsBelow : List Sent → Type 0

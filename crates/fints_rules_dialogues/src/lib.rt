@@ -9,7 +9,7 @@ mod reading;
 mod telling;
 
 pub use auditing::{Audited, audit};
-pub use cutting::Sent;
+pub use cutting::{Sent, cut};
 pub use fault::DialogueFault;
 pub use reading::{Answer, Exchange, read_dialogue};
 pub use telling::own_params;

@@ -1,0 +1,10 @@
+//! Recorded dialogues: what the refusal of one is about, why its messages break rules, and notes on it. They
+//! look at the inputs again, and a contract here says no more than that each call returns safely.
+#![tactic(auto)]
+
+mod notes;
+mod reasons;
+mod refused;
+
+pub use reasons::audited_reasons;
+pub use refused::dialogue_hint;

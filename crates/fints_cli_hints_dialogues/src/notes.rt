@@ -1,0 +1,231 @@
+//! What no rule forbids and is still wrong in a recorded dialogue: notes on its messages and answers.
+use fints_cli_hints_words::places::written;
+use fints_cli_hints_words::quoting::Sample;
+use fints_rules::{Message, read_message};
+use fints_rules_dialogues::{Answer, Exchange};
+use fints_syntax::{Memory, OwnedSegment, parse_number, parse_segment};
+use std::alloc::Global;
+use std::fmt;
+use std::fmt::{Display, Formatter, Write};
+
+// ---- what is said
+
+// A note on a message of the client, or on the answer to it.
+#[derive(Clone, Copy)]
+enum Note<'a> {
+    /// The number of the message, and the one that is due.
+    OtherNumber(u64, u64),
+    /// The dialogue id of the first message, which isn't 0.
+    EarlyDialogue(&'a [u8]),
+    /// The dialogue id of a later message, and the one that the bank has given.
+    OtherDialogue(&'a [u8], &'a [u8]),
+    /// The dialogue id that an HKEND names, and that of its message.
+    OtherEnd(&'a [u8], &'a [u8]),
+    NotSealed,
+    Ended,
+    /// The number of the message that an answer names, and that of the message.
+    OtherReference(&'a [u8], u64),
+}
+
+impl Display for Note<'_> {
+    fn fmt<W: Write>(&self, f: &mut Formatter<W>) -> fmt::Result {
+        match *self {
+            Note::OtherNumber(number, due) => write!(
+                f,
+                "the number in HNHBK is {number}, and must be {due}: the messages of a dialogue are numbered 1, 2, 3 and so on"
+            ),
+            Note::EarlyDialogue(id) => {
+                let id = Sample(id);
+                write!(
+                    f,
+                    "the dialogue id in HNHBK is {id}, and must be \"0\": the bank gives one in its first answer"
+                )
+            }
+            Note::OtherDialogue(id, given) => {
+                let (id, given) = (Sample(id), Sample(given));
+                write!(
+                    f,
+                    "the dialogue id in HNHBK is {id}, and must be {given}, which the bank's first answer gives"
+                )
+            }
+            Note::OtherEnd(named, id) => {
+                let (named, id) = (Sample(named), Sample(id));
+                write!(
+                    f,
+                    "element 2 of HKEND is {named}, and must be {id}, the dialogue id in HNHBK"
+                )
+            }
+            Note::NotSealed => f.write_str(
+                "the message is signed and not sealed: put its segments into an HNVSD, so that a PIN or a TAN doesn't stand in it as it is",
+            ),
+            Note::Ended => f.write_str(
+                "an answer before has 9800, by which the bank ended the dialogue: begin another one",
+            ),
+            Note::OtherReference(named, number) => {
+                let named = Sample(named);
+                write!(
+                    f,
+                    "the answer to it refers to message {named} (HNHBK, element 6), and the message has number {number}"
+                )
+            }
+        }
+    }
+}
+
+fn add_note(text: &mut String, alloc: Global, place: usize, note: Note<'_>) -> Result<(), Memory> {
+    let line = written(alloc, format_args!("note: message {place}: {note}\n"))?;
+    text.push_str(line.as_str())?;
+    Ok(())
+}
+
+// ---- what is there, and what is due
+
+// The HNHBK of a message, and whether an HNVSK stands behind it.
+#[derive(Drop)]
+struct Front {
+    head: OwnedSegment,
+    sealed: bool,
+}
+
+fn front_of(alloc: Global, bytes: &[u8]) -> Result<Option<Front>, Memory> {
+    let Ok((first, len)) = parse_segment(bytes) else {
+        return Ok(None);
+    };
+    let sealed = match parse_segment(bytes.get(len..).unwrap_or(&[])) {
+        Ok((second, _)) => second.id().is(b"HNVSK"),
+        Err(_) => false,
+    };
+    let head = first.to_owned(alloc)?;
+    Ok(Some(Front { head, sealed }))
+}
+
+fn answer_front(alloc: Global, exchange: Option<&Exchange<'_>>) -> Result<Option<Front>, Memory> {
+    match exchange.and_then(|it| it.answer.as_ref()) {
+        Some(answer) => front_of(alloc, answer.sent.bytes),
+        None => Ok(None),
+    }
+}
+
+// What is due of the message at a place, from 1, by what stands before it.
+#[derive(Clone, Copy)]
+struct Due<'a> {
+    place: usize,
+    number: u64,
+    /// The dialogue id that the bank has given: none before its first answer.
+    given: Option<&'a [u8]>,
+    /// Whether an answer has ended the dialogue.
+    ended: bool,
+}
+
+// ---- the notes on one message
+
+fn dialogue_note<'a>(id: &'a [u8], given: Option<&'a [u8]>) -> Option<Note<'a>> {
+    match given {
+        None if id != b"0".as_slice() => Some(Note::EarlyDialogue(id)),
+        Some(given) if id != given => Some(Note::OtherDialogue(id, given)),
+        _ => None,
+    }
+}
+
+// What an HKEND of the message names in place of the dialogue id.
+fn other_end<'a>(message: &'a Message, id: &[u8]) -> Option<&'a [u8]> {
+    for segment in message.body() {
+        let named = segment.value(2, 1);
+        if segment.head.id.is(b"HKEND") && named != id {
+            return Some(named);
+        }
+    }
+    None
+}
+
+// Adds the notes on a message of the client, and answers its number.
+fn add_message(
+    text: &mut String,
+    alloc: Global,
+    due: &Due<'_>,
+    bytes: &[u8],
+) -> Result<u64, Memory> {
+    let Ok(message) = read_message(alloc, bytes) else {
+        return Ok(due.number);
+    };
+    let Some(front) = front_of(alloc, bytes)? else {
+        return Ok(due.number);
+    };
+    let (place, number) = (due.place, message.number());
+    let id = front.head.value(4, 1);
+    if number != due.number {
+        add_note(text, alloc, place, Note::OtherNumber(number, due.number))?;
+    }
+    if let Some(note) = dialogue_note(id, due.given) {
+        add_note(text, alloc, place, note)?;
+    }
+    if let Some(named) = other_end(&message, id) {
+        add_note(text, alloc, place, Note::OtherEnd(named, id))?;
+    }
+    if !front.sealed && !message.ends().is_empty() {
+        add_note(text, alloc, place, Note::NotSealed)?;
+    }
+    if due.ended {
+        add_note(text, alloc, place, Note::Ended)?;
+    }
+    Ok(number)
+}
+
+fn spells(text: &[u8], number: u64) -> bool {
+    parse_number(text).is_some_and(|it| u64::from(it) == number)
+}
+
+// Adds the note on an answer whose reference is that of another message than the one of this number.
+fn add_answer(
+    text: &mut String,
+    alloc: Global,
+    place: usize,
+    number: u64,
+    answer: &Answer<'_>,
+) -> Result<(), Memory> {
+    let Some(front) = front_of(alloc, answer.sent.bytes)? else {
+        return Ok(());
+    };
+    let (id, named) = (front.head.value(6, 1), front.head.value(6, 2));
+    let has_reference = !id.is_empty() || !named.is_empty();
+    if has_reference && !spells(named, number) {
+        add_note(text, alloc, place, Note::OtherReference(named, number))?;
+    }
+    Ok(())
+}
+
+// ---- all notes
+
+// The code by which a bank ends a dialogue.
+const ENDED: u16 = 9800;
+
+fn ends(answer: &Answer<'_>) -> bool {
+    answer.codes.iter().any(|code| code.number() == ENDED)
+}
+
+/// Adds the notes on a dialogue, message by message.
+pub fn add_notes(
+    text: &mut String,
+    alloc: Global,
+    exchanges: &[Exchange<'_>],
+) -> Result<(), Memory> {
+    let first = answer_front(alloc, exchanges.first())?;
+    let given = first.as_ref().map(|it| it.head.value(4, 1));
+    let mut due = Due {
+        place: 1,
+        number: 1,
+        given: None,
+        ended: false,
+    };
+    for exchange in exchanges {
+        let number = add_message(text, alloc, &due, exchange.message.bytes)?;
+        if let Some(answer) = &exchange.answer {
+            add_answer(text, alloc, due.place, number, answer)?;
+            due.ended = due.ended || ends(answer);
+        }
+        due.place = due.place.saturating_add(1);
+        due.number = number.saturating_add(1);
+        due.given = given;
+    }
+    Ok(())
+}

@@ -1,0 +1,215 @@
+//! What the refusal of a recorded dialogue is about. Where a file can't be cut into messages nothing is shown
+//! of what stands there, since it may be a PIN or a TAN, but the head of a message.
+use fints_cli_hints_segments::{message_hint, params_hint};
+use fints_cli_hints_words::places::{Told, line_at, told, told_at};
+use fints_cli_hints_words::quoting::Sample;
+use fints_params::ParamFault;
+use fints_rules::JudgeFault;
+use fints_rules_dialogues::{DialogueFault, Sent, cut};
+use fints_syntax::Memory;
+use std::alloc::Global;
+use std::fmt;
+use std::fmt::{Display, Formatter, Write};
+
+// What a message of a dialogue begins with; its size follows.
+const FRONT: &[u8] = b"HNHBK:1:3+";
+
+// A byte order mark.
+const MARK: &[u8] = b"\xef\xbb\xbf";
+
+// A message by its place among those of both sides, from 0.
+#[derive(Clone, Copy)]
+struct Turn(usize);
+
+impl Turn {
+    fn is_of_client(self) -> bool {
+        self.0 % 2 == 0
+    }
+}
+
+impl Display for Turn {
+    fn fmt<W: Write>(&self, f: &mut Formatter<W>) -> fmt::Result {
+        let number = (self.0 / 2).saturating_add(1);
+        if self.is_of_client() {
+            write!(f, "message {number}")
+        } else {
+            write!(f, "the answer to message {number}")
+        }
+    }
+}
+
+// The messages of a file, where it can be cut.
+fn cut_file(alloc: Global, file: &[u8]) -> Result<Option<Vec<Sent<'_>>>, Memory> {
+    match cut(alloc, file) {
+        Ok(messages) => Ok(Some(messages)),
+        Err(DialogueFault::Memory) => Err(Memory),
+        Err(_) => Ok(None),
+    }
+}
+
+// ---- what is no message
+
+// That these bytes are no message from their front on.
+fn front_hint(alloc: Global, bytes: &[u8]) -> Told {
+    message_hint(alloc, &JudgeFault::NotAMessage { offset: 0 }, bytes)
+}
+
+// What ends at the first element.
+fn head_of(bytes: &[u8]) -> &[u8] {
+    match bytes.iter().position(|b| *b == b'+' || *b == b'\'') {
+        Some(end) => bytes.get(..end).unwrap_or(&[]),
+        None => bytes,
+    }
+}
+
+// Why the bytes, which begin with an HNHBK, can't be cut off as a message.
+fn head_hint(alloc: Global, turn: Turn, bytes: &[u8]) -> Told {
+    if bytes.starts_with(FRONT) {
+        return told_at(alloc, format_args!("{turn}: "), front_hint(alloc, bytes)?);
+    }
+    let head = Sample(head_of(bytes));
+    told(
+        alloc,
+        format_args!(
+            "{turn}: it begins with {head}; in a dialogue a message begins with HNHBK:1:3, and then its size in 12 digits"
+        ),
+    )
+}
+
+// Where the next message begins behind the front of one.
+fn next_front(bytes: &[u8]) -> Option<usize> {
+    let behind = bytes.get(1..)?;
+    let place = behind.windows(FRONT.len()).position(|it| it == FRONT)?;
+    place.checked_add(1)
+}
+
+// What the last message that could be cut off says of its size, and how many bytes there are of it.
+fn last_hint(alloc: Global, turn: Turn, bytes: &[u8]) -> Told {
+    let (len, end) = match next_front(bytes) {
+        Some(len) => (len, "the next HNHBK"),
+        None => (bytes.len(), "the end of the file"),
+    };
+    let text = front_hint(alloc, bytes.get(..len).unwrap_or(&[]))?;
+    told_at(alloc, format_args!("{turn}, up to {end}: "), text)
+}
+
+// Why no message can be cut off at the front of a file, which begins with no HNHBK.
+fn file_hint(alloc: Global, file: &[u8]) -> Told {
+    match next_front(file) {
+        Some(len) if !file.starts_with(MARK) => told(
+            alloc,
+            format_args!(
+                "before the first HNHBK:1:3 stand {len} other bytes: remove them, or add what is missing of the message"
+            ),
+        ),
+        _ => told_at(alloc, "message 1: ", front_hint(alloc, file)?),
+    }
+}
+
+// Why no message can be cut off at an offset, where one is due.
+fn uncut_hint(alloc: Global, file: &[u8], offset: usize) -> Told {
+    let Some(before) = cut_file(alloc, file.get(..offset).unwrap_or(&[]))? else {
+        return Ok(None);
+    };
+    let rest = file.get(offset..).unwrap_or(&[]);
+    if rest.starts_with(b"HNHBK:") {
+        return head_hint(alloc, Turn(before.len()), rest);
+    }
+    match before.last() {
+        Some(last) => {
+            let turn = Turn(before.len().saturating_sub(1));
+            last_hint(alloc, turn, file.get(last.start..).unwrap_or(&[]))
+        }
+        None => file_hint(alloc, rest),
+    }
+}
+
+// Why a message of the client ceases at an offset to be one: it is the last of the client that begins there
+// or before.
+fn client_hint(alloc: Global, messages: &[Sent<'_>], offset: usize) -> Told {
+    let begun = messages.iter().take_while(|it| it.start <= offset).count();
+    let last = begun.saturating_sub(1);
+    let place = last.saturating_sub(last % 2);
+    let Some(sent) = messages.get(place) else {
+        return Ok(None);
+    };
+    let turn = Turn(place);
+    let fault = JudgeFault::NotAMessage {
+        offset: offset.saturating_sub(sent.start),
+    };
+    told_at(
+        alloc,
+        format_args!("{turn}: "),
+        message_hint(alloc, &fault, sent.bytes)?,
+    )
+}
+
+fn no_message_hint(alloc: Global, file: &[u8], offset: usize) -> Told {
+    match cut_file(alloc, file)? {
+        Some(messages) => client_hint(alloc, messages.as_slice(), offset),
+        None => uncut_hint(alloc, file, offset),
+    }
+}
+
+// ---- what is out of turn, and answers
+
+// The place of the message that begins at an offset.
+fn place_at(messages: &[Sent<'_>], start: usize) -> Option<usize> {
+    messages.iter().position(|it| it.start == start)
+}
+
+fn turn_hint(alloc: Global, file: &[u8], offset: usize) -> Told {
+    let Some(messages) = cut_file(alloc, file)? else {
+        return Ok(None);
+    };
+    let Some(place) = place_at(messages.as_slice(), offset) else {
+        return Ok(None);
+    };
+    let turn = Turn(place);
+    let there = if turn.is_of_client() {
+        "an answer of the bank, since it has an HIRMG"
+    } else {
+        "no answer of the bank, since it has no code in an HIRMG or HIRMS"
+    };
+    told(
+        alloc,
+        format_args!(
+            "{turn} is due, and there stands {there}: the client's messages and the bank's answers stand in turn, the client's first"
+        ),
+    )
+}
+
+fn answer_hint(alloc: Global, file: &[u8], start: usize, fault: &ParamFault) -> Told {
+    let Some(messages) = cut_file(alloc, file)? else {
+        return Ok(None);
+    };
+    let Some(place) = place_at(messages.as_slice(), start) else {
+        return Ok(None);
+    };
+    let bytes = messages.get(place).map_or(b"".as_slice(), |it| it.bytes);
+    let turn = Turn(place);
+    let line = line_at(file, start);
+    told_at(
+        alloc,
+        format_args!("{turn}, of which line 1 is line {line} of the file: "),
+        params_hint(alloc, fault, bytes)?,
+    )
+}
+
+const NO_MESSAGE: &str =
+    "the file has no message: it holds the client's messages and the bank's answers in turn, the client's first";
+
+const NO_PARAMETERS: &str =
+    "no answer has both HIBPA version 3 and HIPINS version 1, the bank's parameters: record the dialogue from its initialisation on, or hand over a capture by --params";
+
+/// What the refusal of a recorded dialogue is about.
+pub fn dialogue_hint(alloc: Global, fault: &DialogueFault, file: &[u8]) -> Told {
+    match fault {
+        DialogueFault::Memory => Ok(None),
+        DialogueFault::NoMessage => told(alloc, NO_MESSAGE),
+        DialogueFault::NotAMessage { offset } => no_message_hint(alloc, file, *offset),
+        DialogueFault::NotInTurn { offset } => turn_hint(alloc, file, *offset),
+        DialogueFault::Answer { start, fault } => answer_hint(alloc, file, *start, fault),
+        DialogueFault::NoParameters => told(alloc, NO_PARAMETERS),
+    }
+}
