@@ -4,7 +4,7 @@ ghost use Rattle.fints_cli_drafts.specs.Drafts.{IsSealedIn, IsSentAgain};
 
 use crate::place::Place;
 use crate::recorded::Recorded;
-use fints_syntax::{Memory, SegmentView, parse_segment};
+use fints_syntax::{Memory, SegmentView, SyntaxFault, SyntaxKind, parse_all, parse_segment};
 use fints_syntax_segments::{HNVSK_NUMBER, HNVSK_VERSION};
 use std::alloc::Global;
 
@@ -84,23 +84,31 @@ fn is_alike(own: &SegmentView<'_>, other: &SegmentView<'_>) -> bool {
     }
 }
 
-// The number of the first recorded segment that isn't sent so; 0 where more is sent.
-fn other_segment(recorded: &[u8], sent: &[u8]) -> Option<usize> {
-    let mut rest = recorded;
-    let mut sent = sent;
-    while let Ok((own, len)) = parse_segment(rest) {
-        let Ok((other, other_len)) = parse_segment(sent) else {
-            return Some(usize::from(own.number()));
-        };
-        if !is_alike(&own, &other) {
-            return Some(usize::from(own.number()));
-        }
-        let (_, behind) = rest.split_at(len);
-        let (_, sent_behind) = sent.split_at(other_len);
-        rest = behind;
-        sent = sent_behind;
+// The segments of a message as they stand in it; none where it is no list of them.
+fn views_of(alloc: Global, bytes: &[u8]) -> Result<Vec<SegmentView<'_>>, Memory> {
+    match parse_all(alloc, bytes) {
+        Ok(views) => Ok(views),
+        Err(
+            SyntaxFault {
+                kind: SyntaxKind::Memory,
+                ..
+            },
+        ) => Err(Memory),
+        Err(_) => Ok(Vec::new(alloc)),
     }
-    if sent.is_empty() { None } else { Some(0) }
+}
+
+// The number of the first recorded segment that isn't sent so; 0 where more is sent.
+fn other_segment(alloc: Global, recorded: &[u8], sent: &[u8]) -> Result<Option<usize>, Memory> {
+    let own = views_of(alloc, recorded)?;
+    let others = views_of(alloc, sent)?;
+    for (i, segment) in own.iter().enumerate() {
+        match others.get(i) {
+            Some(other) if is_alike(segment, other) => {}
+            _ => return Ok(Some(usize::from(segment.number()))),
+        }
+    }
+    Ok((own.len() < others.len()).then_some(0))
 }
 
 /// The place of the first segment that isn't sent as it was recorded, in the message of a number.
@@ -110,7 +118,7 @@ pub fn other_place(
     sent: &[u8],
     message: usize,
 ) -> Result<Place, Memory> {
-    if let Some(segment) = other_segment(recorded, sent) {
+    if let Some(segment) = other_segment(alloc, recorded, sent)? {
         return Ok(Place { message, segment });
     }
     let own = Recorded::read(alloc, recorded)?;
@@ -118,7 +126,7 @@ pub fn other_place(
     match (own.data(), other.data()) {
         (Some(inner), Some(sent)) => Ok(Place {
             message,
-            segment: other_segment(inner, sent).unwrap_or(0),
+            segment: other_segment(alloc, inner, sent)?.unwrap_or(0),
         }),
         _ => Ok(Place::whole(message)),
     }

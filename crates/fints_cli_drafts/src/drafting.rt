@@ -116,7 +116,11 @@ fn tried(
     })
 }
 
-fn draft(alloc: Global, orders: &OrderTable, exchanges: &[Exchange<'_>]) -> Result<Draft, Undrafted>
+fn draft_of(
+    alloc: Global,
+    orders: &OrderTable,
+    exchanges: &[Exchange<'_>],
+) -> Result<Draft, Undrafted>
     requires { AllByRecursion IsExchange exchanges.now }
     ensures { IfOk result (λ draft. IsDraft exchanges.now draft.script.items draft.case.items) }
 {

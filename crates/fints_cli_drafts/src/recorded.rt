@@ -1,6 +1,8 @@
 //! The segments of a recorded message, and what stands where in it.
 use fints_params::{is_sealed, sealed_data};
-use fints_syntax::{Memory, OwnedSegment, is_frame_kind, parse_segment};
+use fints_syntax::{
+    Memory, OwnedSegment, SyntaxFault, SyntaxKind, is_frame_kind, owned_segments, parse_all,
+};
 use std::alloc::Global;
 
 /// A recorded message of the client: its segments in order, those of sealed data behind HNVSD.
@@ -9,47 +11,36 @@ pub struct Recorded {
     pub segments: Vec<OwnedSegment>,
 }
 
-// Adds the segments that the bytes begin with.
-fn add_segments(
-    alloc: Global,
-    segments: &mut Vec<OwnedSegment>,
-    bytes: &[u8],
-) -> Result<(), Memory> {
-    let mut rest = bytes;
-    while let Ok((view, len)) = parse_segment(rest) {
-        segments.push(view.to_owned(alloc)?)?;
-        let (_, more) = rest.split_at(len);
-        rest = more;
+// The segments that the bytes are the texts of; none where they are no such texts.
+fn segments_in(alloc: Global, bytes: &[u8]) -> Result<Vec<OwnedSegment>, Memory> {
+    match parse_all(alloc, bytes) {
+        Ok(views) => owned_segments(alloc, views.as_slice()),
+        Err(
+            SyntaxFault {
+                kind: SyntaxKind::Memory,
+                ..
+            },
+        ) => Err(Memory),
+        Err(_) => Ok(Vec::new(alloc)),
     }
-    Ok(())
 }
 
-// Adds those in the data of an HNVSD.
-fn add_inside(
-    alloc: Global,
-    segments: &mut Vec<OwnedSegment>,
-    segment: &OwnedSegment,
-) -> Result<(), Memory> {
-    if !is_sealed(segment) {
-        return Ok(());
-    }
+// Those in the data of an HNVSD, and none of any other segment.
+fn inside(alloc: Global, segment: &OwnedSegment) -> Result<Vec<OwnedSegment>, Memory> {
     match sealed_data(segment) {
-        Some(bytes) => add_segments(alloc, segments, bytes),
-        None => Ok(()),
+        Some(bytes) if is_sealed(segment) => segments_in(alloc, bytes),
+        _ => Ok(Vec::new(alloc)),
     }
 }
 
 impl Recorded {
     /// The message that the bytes are.
     pub fn read(alloc: Global, bytes: &[u8]) -> Result<Recorded, Memory> {
-        let mut outer = Vec::new(alloc);
-        add_segments(alloc, &mut outer, bytes)?;
         let mut segments = Vec::new(alloc);
-        for segment in outer {
-            let mut inside = Vec::new(alloc);
-            add_inside(alloc, &mut inside, &segment)?;
+        for segment in segments_in(alloc, bytes)? {
+            let mut inner = inside(alloc, &segment)?;
             segments.push(segment)?;
-            segments.append(&mut inside)?;
+            segments.append(&mut inner)?;
         }
         Ok(Recorded { segments })
     }
