@@ -6,7 +6,7 @@ use crate::findings::finding_hint;
 use crate::orders::orders_hint;
 use crate::plans::plan_hint;
 use crate::runs::run_hint;
-use fints_cli_hints_dialogues::dialogue_hint;
+use fints_cli_hints_dialogues::{dialogue_hint, draft_hint};
 use fints_cli_hints_scripts::script_hint;
 use fints_cli_hints_segments::{message_hint, params_hint};
 use fints_cli_hints_words::inputs::Inputs;
@@ -38,6 +38,8 @@ pub fn hint(alloc: Global, fault: &Fault, inputs: &Inputs<'_>) -> Result<Option<
         Fault::Answer(fault) => params_hint(alloc, fault, inputs.answer),
         Fault::Message(fault) => message_hint(alloc, fault, inputs.message),
         Fault::Dialogue(fault) => dialogue_hint(alloc, fault, inputs.dialogue),
-        Fault::NotDraftable { .. } => Ok(None),
+        Fault::NotDraftable { message, segment } => {
+            draft_hint(alloc, *message, *segment, inputs.dialogue)
+        }
     }
 }

@@ -5,6 +5,8 @@
 mod notes;
 mod reasons;
 mod refused;
+mod undrafted;
 
 pub use reasons::audited_reasons;
 pub use refused::dialogue_hint;
+pub use undrafted::draft_hint;
