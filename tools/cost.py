@@ -112,11 +112,11 @@ def accounts(size):
 # Messages.
 
 
-def message(segments):
+def message(segments, number=1):
     count = len(segments)
     body = "".join(f"{kind}:{i + 2}:{rest}'" for i, (kind, rest) in enumerate(segments))
-    end = f"HNHBS:{count + 2}:1+1'"
-    head = "HNHBK:1:3+%012d+300+0+1'"
+    end = f"HNHBS:{count + 2}:1+{number}'"
+    head = f"HNHBK:1:3+%012d+300+{'0' if number == 1 else 'D'}+{number}'"
     return head % (len(head % 0) + len(body) + len(end)) + body + end
 
 
@@ -148,6 +148,11 @@ def recorded(sent):
 def told_last(sent):
     """The same, and the last answer tells parameters."""
     return lambda size: recorded(sent)(size - len(sent + TOLD)) + sent + TOLD
+
+
+def numbered(segments):
+    """A dialogue of so many messages of these segments, which a script can send."""
+    return lambda count: "".join(message(segments, i + 1) + ANSWER for i in range(count))
 
 
 # Scripts and cases.
@@ -289,6 +294,7 @@ def measured(room):
     audit = lambda make: lambda n: ["audit", "--params", C1, "--orders", ORDERS, "--dialogue", room.file(make(n))]
     audit_own = lambda make: lambda n: ["audit", "--orders", ORDERS, "--dialogue", room.file(make(n))]
     one, all_in_one = recorded(orders(1)), recorded(orders(996))
+    draft = lambda make: lambda n: ["draft", "--dialogue", room.file(make(n))]
 
     def verify(n):
         words = on("certify", hostile)(n)
@@ -318,6 +324,9 @@ def measured(room):
         ("audit, messages of 1 order, the last answer tells parameters", "bytes", half, audit_own(told_last(orders(1)))),
         ("audit --hints, messages of 1 order", "bytes", half, hinted(audit(one))),
         ("audit --hints, messages of 996 orders", "bytes", half, hinted(audit(all_in_one))),
+        ("draft, messages of 1 order", "messages", 500, draft(numbered([("HKSAL", "5+9999999+N")]))),
+        ("draft, messages of 100 elements", "messages", 500, draft(numbered([("HKSAL", "5" + "+1" * 100)]))),
+        ("draft, a text of many letters", "letters", 250 * k, lambda n: draft(numbered([("HKXYZ", "1+" + "x" * n)]))(1)),
         ("run, a oneof of many values", "values", 80 * k, lambda n: run(room.file(listed("oneof", '"%s"')(n)), case)),
         ("run, an account of many values", "values", 62_500, lambda n: run(room.file(listed("account", '["%s"]')(n)), case)),
         ("run, a case of many fields", "lines", 40 * k, lambda n: run(end, room.file(lines(n)))),

@@ -34,14 +34,18 @@ use Rattle.fints_cli_drafts.specs.declared.place.Undrafted.TheVariants as undraf
 
 -- ---- a message sent once more
 
--- the bytes are HNHBK, with a size in 12 digits and then this front; some HNVSK; and the rest
+-- the text of an HNHBK is a size in 12 digits behind its head, and then this front
+pub record HasSizeBefore (text front : List ℕ) : Type 0 where
+  pub size : List ℕ
+  pub twelve : length size ≡ 12
+  pub text_is : text ≡ codes "HNHBK:1:3+" ++ (size ++ front)
+
+-- the bytes are such an HNHBK, some HNVSK, and the rest
 pub record IsSealedIn (bytes front rest : List ℕ) : Type 0 where
   pub first : List (List Spelled)
   pub seal : List (List Spelled)
-  pub size : List ℕ
   pub is_first : IsSegment first
-  pub twelve : length size ≡ 12
-  pub first_text : segment_bytes first ≡ codes "HNHBK:1:3+" ++ (size ++ front)
+  pub sized : HasSizeBefore (segment_bytes first) front
   pub is_seal : IsSegment seal
   pub seal_head : IsSealHead (segment_of seal)
   pub text : bytes ≡ segment_bytes first ++ (segment_bytes seal ++ rest)
@@ -56,14 +60,14 @@ IsSentAgain recorded sent =
 abbrev pub AreSentAgain : List Exchange → List Sent → Type 0
 AreSentAgain exchanges sent = AllZip (λ e m. IsSentAgain e.message.bytes.now m.bytes) exchanges sent
 
--- the codes of an answer, if there is one
-abbrev pub codes_of : Option Answer → List (List ℕ)
-codes_of None = []
-codes_of (Some answer) = answer.codes.items ∷ []
+-- the codes of the answer that there is, if there is one
+abbrev pub answer_in : Option Answer → List (List ℕ)
+answer_in None = []
+answer_in (Some answer) = answer.codes.items ∷ []
 
 -- the bank's answers
 abbrev pub answers_of : List Exchange → List (List ℕ)
-answers_of exchanges = flat_map (λ e. codes_of e.answer) exchanges
+answers_of exchanges = flat_map (λ e. answer_in e.answer) exchanges
 
 -- under these values and the bank's answers, the script sends the client's messages once more
 pub record Replays (exchanges : List Exchange) (script : ScriptValue) (values : List NamedValue) : Type 0 where

@@ -1,6 +1,9 @@
 //! Whether a message is sent again as it was recorded.
 ghost use Rattle.std.specs.Prelude.{◌≡◌, ◌++◌, IfSome, IsTrue};
-ghost use Rattle.fints_cli_drafts.specs.Drafts.{IsSealedIn, IsSentAgain};
+ghost use Rattle.fints_syntax_segments.specs.Segment.{segment_bytes};
+ghost use Rattle.fints_syntax.specs.Owned.{segment_of};
+ghost use Rattle.fints_rules_messages.specs.Messages.{IsSealHead};
+ghost use Rattle.fints_cli_drafts.specs.Drafts.{HasSizeBefore, IsSealedIn, IsSentAgain};
 
 use crate::place::Place;
 use crate::recorded::Recorded;
@@ -17,7 +20,9 @@ struct SealedParts<'a> {
 }
 
 // HNHBK behind the size in 12 digits.
-fn behind_size<'a>(first: &SegmentView<'a>) -> Option<&'a [u8]> {
+fn behind_size<'a>(first: &SegmentView<'a>) -> Option<&'a [u8]>
+    ensures { IfSome result (λ front. HasSizeBefore (segment_bytes first.now) front.now) }
+{
     let text = first.as_bytes();
     if text.len() < 22 {
         return None;
@@ -29,7 +34,9 @@ fn behind_size<'a>(first: &SegmentView<'a>) -> Option<&'a [u8]> {
     Some(front)
 }
 
-fn is_seal_head(segment: &SegmentView<'_>) -> bool {
+fn is_seal_head(segment: &SegmentView<'_>) -> bool
+    ensures { IsTrue result → IsSealHead (segment_of segment.now) }
+{
     segment.is_named(b"HNVSK", HNVSK_VERSION) && segment.number() == HNVSK_NUMBER
 }
 

@@ -54,6 +54,12 @@ fn case_of(alloc: Global, text: &[u8]) -> Result<Case, Undrafted>
     }
 }
 
+fn has_same_codes(own: &Answer, other: &Answer) -> bool
+    ensures { IsTrue result → own.now ≡ other.now }
+{
+    own.codes() == other.codes()
+}
+
 // Whether two lists of answers have the same codes.
 fn are_same(own: &[Answer], other: &[Answer]) -> bool
     ensures { IsTrue result → own.now ≡ other.now }
@@ -62,7 +68,7 @@ fn are_same(own: &[Answer], other: &[Answer]) -> bool
         return false;
     }
     for i in 0..own.len() {
-        if own[i].codes() != other[i].codes() {
+        if !has_same_codes(&own[i], &other[i]) {
             return false;
         }
     }

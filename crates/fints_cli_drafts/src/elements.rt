@@ -1,4 +1,6 @@
 //! The elements of a recorded segment, as they are written in a script.
+ghost use Rattle.std.specs.Prelude.{◌≤◌};
+
 use crate::place::{Place, Undrafted};
 use crate::secrets::{Secret, Secrets};
 use crate::texts::write_item;
@@ -41,7 +43,10 @@ fn write_string(
     written: &Written<'_>,
     element: usize,
     item: usize,
-) -> Result<(), Undrafted> {
+) -> Result<(), Undrafted>
+    requires element { 2 ≤ element }
+    requires item { 1 ≤ item }
+{
     let Some(found) = written.segment.items(element).get(item) else {
         return Ok(());
     };
@@ -63,7 +68,9 @@ fn write_strings(
     secrets: &mut Secrets,
     written: &Written<'_>,
     element: usize,
-) -> Result<(), Undrafted> {
+) -> Result<(), Undrafted>
+    requires { 2 ≤ element }
+{
     let count = written.segment.items(element).len();
     for item in 0..count {
         if item > 0 {
@@ -81,7 +88,9 @@ fn write_element(
     secrets: &mut Secrets,
     written: &Written<'_>,
     element: usize,
-) -> Result<(), Undrafted> {
+) -> Result<(), Undrafted>
+    requires { 2 ≤ element }
+{
     if written.segment.items(element).len() == 1 {
         return write_strings(alloc, text, secrets, written, element);
     }

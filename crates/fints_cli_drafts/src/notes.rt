@@ -1,4 +1,6 @@
 //! What a draft says in comments: what its reader may want to change.
+ghost use Rattle.std.specs.Prelude.{◌≤◌};
+
 use crate::recorded::has_process;
 use fints_rules::{AccountForm, OrderTable};
 use fints_syntax::{ElementRef, ItemRef, OwnedSegment};
@@ -59,7 +61,9 @@ fn is_same_item(one: &ItemRef<'_>, other: &ItemRef<'_>) -> bool {
 }
 
 // Whether an item, which counts from 1, is the same in both elements, or in none.
-fn has_same_at(one: &ElementRef<'_>, other: &ElementRef<'_>, item: usize) -> bool {
+fn has_same_at(one: &ElementRef<'_>, other: &ElementRef<'_>, item: usize) -> bool
+    requires { 1 ≤ item }
+{
     match (one.get(item), other.get(item)) {
         (Some(a), Some(b)) => is_same_item(&a, &b),
         (None, None) => true,
@@ -68,7 +72,12 @@ fn has_same_at(one: &ElementRef<'_>, other: &ElementRef<'_>, item: usize) -> boo
 }
 
 fn is_same_element(one: &ElementRef<'_>, other: &ElementRef<'_>) -> bool {
-    one.len() == other.len() && (1..=one.len()).all(|item| has_same_at(one, other, item))
+    for i in 0..one.len() {
+        if !has_same_at(one, other, i + 1) {
+            return false;
+        }
+    }
+    one.len() == other.len()
 }
 
 // The first element, from 2 on, in which two HNVSK differ, but for element 6, which is the time.

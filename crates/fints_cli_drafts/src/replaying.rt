@@ -2,7 +2,7 @@
 ghost use Rattle.std.specs.Prelude.{◌≡◌, ◌++◌, IfNone, IfOk, OnOk, length};
 ghost use Rattle.std.specs.List.{AllByRecursion};
 ghost use Rattle.fints_rules_dialogues.specs.Dialogues.{IsExchange};
-ghost use Rattle.fints_cli_drafts.specs.Drafts.{answers_of, codes_of, AreSentAgain, Replays};
+ghost use Rattle.fints_cli_drafts.specs.Drafts.{answers_of, answer_in, AreSentAgain, Replays};
 
 use crate::comparing::{is_sent_again, other_place};
 use crate::place::{Place, Undrafted};
@@ -36,7 +36,7 @@ fn add_answer(
     exchange: &Exchange<'_>,
 ) -> Result<(), Memory>
     requires { IsExchange exchange.now }
-    ensures { OnOk result (answers.new.items ≡ answers.old.items ++ codes_of exchange.now.answer) }
+    ensures { OnOk result (answers.new.items ≡ answers.old.items ++ answer_in exchange.now.answer) }
 {
     let Some(answer) = &exchange.answer else {
         return Ok(());

@@ -122,7 +122,7 @@ fn write_steps(
     for (i, exchange) in exchanges.iter().enumerate() {
         let message = i + 1;
         let recorded = Recorded::read(alloc, exchange.message.bytes)?;
-        let ways = ways_of(turns.as_slice(), exchange, i);
+        let ways = ways_of(turns.get(i..).unwrap_or(&[]), exchange, message);
         write_step(alloc, text, common, orders, &recorded, message, &ways)?;
         seal.meet(alloc, &mut common.secrets, recorded, message)?;
     }

@@ -51,59 +51,55 @@ fn asking_code(exchange: &Exchange<'_>) -> Option<Code> {
         .find(|code| ASKING.contains(&code.number()))
 }
 
-// The first message behind the one of this place, counted from 0, that goes on with no order.
-fn behind_releases(turns: &[Turn], at: usize) -> Option<usize> {
-    for (i, turn) in turns.iter().enumerate().skip(at + 1) {
-        if !turn.releases {
-            return Some(i + 1);
-        }
+// The first of these messages that goes on with no order, where they begin with the one of a number.
+fn past_releases(turns: &[Turn], number: usize) -> Option<usize> {
+    let count = turns.iter().take_while(|turn| turn.releases).count();
+    if count == turns.len() {
+        return None;
     }
-    None
+    Some(number.saturating_add(count))
 }
 
-// The ways of a step whose next message goes on with an order: by the code that asked for it, or else
-// past it.
-fn released(turns: &[Turn], at: usize, code: Option<Code>) -> Ways {
-    let next = Some(at + 2);
+// The ways of a step, by its turn and those behind it, of which the first has this number.
+fn ways_before(here: Turn, behind: &[Turn], number: usize, code: Option<Code>) -> Ways {
+    let next = Some(number);
+    let goes_on = behind.first().is_some_and(|turn| turn.releases);
+    let ends = behind.first().is_some_and(|turn| turn.ends);
     match code {
-        Some(code) => Ways {
+        Some(code) if goes_on => Ways {
             branch: Some((code, next)),
-            default: behind_releases(turns, at + 1),
+            default: past_releases(behind, number),
         },
-        None => Ways {
+        None if here.submits && !goes_on && !ends => Ways {
+            branch: Code::from_number(30).map(|code| (code, None)),
+            default: next,
+        },
+        _ => Ways {
             branch: None,
             default: next,
         },
     }
 }
 
-// The ways of a step whose next message goes on with none: where an order was submitted, a bank that
-// asks for a TAN ends the run, if it didn't ask in what was recorded.
-fn passed(here: Turn, next: Turn, at: usize, code: Option<Code>) -> Ways {
-    let branch = if here.submits && !next.ends && code.is_none() {
-        Code::from_number(30).map(|code| (code, None))
-    } else {
-        None
-    };
-    Ways {
-        branch,
-        default: Some(at + 2),
-    }
-}
-
-/// The ways of the step of an exchange, by its place, which counts from 0.
-pub fn ways_of(turns: &[Turn], exchange: &Exchange<'_>, at: usize) -> Ways {
-    let (Some(here), Some(next)) = (turns.get(at), turns.get(at + 1)) else {
-        return Ways {
+/// The ways of the step of an exchange, whose message has this number, by its turn and those behind it.
+/// Where the bank asked for a TAN or for a release elsewhere, and the next message goes on with the order, the
+/// code leads there and the default past it. Where an order was submitted, the next message does something
+/// else, and the bank asked for nothing, the code 0030 ends the run.
+pub fn ways_of(turns: &[Turn], exchange: &Exchange<'_>, number: usize) -> Ways {
+    match turns {
+        [here, behind @ ..] if !behind.is_empty() => {
+            ways_before(
+                *here,
+                behind,
+                number.saturating_add(1),
+                asking_code(exchange),
+            )
+        }
+        _ => Ways {
             branch: None,
             default: None,
-        };
-    };
-    let code = asking_code(exchange);
-    if next.releases {
-        return released(turns, at, code);
+        },
     }
-    passed(*here, *next, at, code)
 }
 
 fn write_target(text: &mut String, target: Option<usize>) -> Result<(), AllocError> {
