@@ -99,10 +99,16 @@ fn front_of(alloc: Global, bytes: &[u8]) -> Result<Option<Front>, Memory> {
     Ok(Some(Front { head, sealed }))
 }
 
-fn answer_front(alloc: Global, exchange: Option<&Exchange<'_>>) -> Result<Option<Front>, Memory> {
-    match exchange.and_then(|it| it.answer.as_ref()) {
-        Some(answer) => front_of(alloc, answer.sent.bytes),
-        None => Ok(None),
+fn first_answer(alloc: Global, exchanges: &[Exchange<'_>]) -> Result<Option<Front>, Memory> {
+    match exchanges {
+        [
+            Exchange {
+                answer: Some(answer),
+                ..
+            },
+            ..
+        ] => front_of(alloc, answer.sent.bytes),
+        _ => Ok(None),
     }
 }
 
@@ -209,7 +215,7 @@ pub fn add_notes(
     alloc: Global,
     exchanges: &[Exchange<'_>],
 ) -> Result<(), Memory> {
-    let first = answer_front(alloc, exchanges.first())?;
+    let first = first_answer(alloc, exchanges)?;
     let given = first.as_ref().map(|it| it.head.value(4, 1));
     let mut due = Due {
         place: 1,

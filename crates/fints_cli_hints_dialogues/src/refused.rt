@@ -78,9 +78,12 @@ fn head_hint(alloc: Global, turn: Turn, bytes: &[u8]) -> Told {
 
 // Where the next message begins behind the front of one.
 fn next_front(bytes: &[u8]) -> Option<usize> {
-    let behind = bytes.get(1..)?;
-    let place = behind.windows(FRONT.len()).position(|it| it == FRONT)?;
-    place.checked_add(1)
+    for at in 1..bytes.len() {
+        if bytes.get(at..).unwrap_or(&[]).starts_with(FRONT) {
+            return Some(at);
+        }
+    }
+    None
 }
 
 // What the last message that could be cut off says of its size, and how many bytes there are of it.
@@ -127,7 +130,7 @@ fn uncut_hint(alloc: Global, file: &[u8], offset: usize) -> Told {
 // Why a message of the client ceases at an offset to be one: it is the last of the client that begins there
 // or before.
 fn client_hint(alloc: Global, messages: &[Sent<'_>], offset: usize) -> Told {
-    let begun = messages.iter().take_while(|it| it.start <= offset).count();
+    let begun = messages.partition_point(|it| it.start <= offset);
     let last = begun.saturating_sub(1);
     let place = last.saturating_sub(last % 2);
     let Some(sent) = messages.get(place) else {
@@ -153,19 +156,20 @@ fn no_message_hint(alloc: Global, file: &[u8], offset: usize) -> Told {
 
 // ---- what is out of turn, and answers
 
-// The place of the message that begins at an offset.
-fn place_at(messages: &[Sent<'_>], start: usize) -> Option<usize> {
-    messages.iter().position(|it| it.start == start)
+// The message that begins at an offset, and its turn.
+fn sent_at<'a>(messages: &[Sent<'a>], start: usize) -> Option<(Turn, Sent<'a>)> {
+    let place = messages.iter().position(|it| it.start == start)?;
+    let sent = messages.get(place)?;
+    Some((Turn(place), *sent))
 }
 
 fn turn_hint(alloc: Global, file: &[u8], offset: usize) -> Told {
     let Some(messages) = cut_file(alloc, file)? else {
         return Ok(None);
     };
-    let Some(place) = place_at(messages.as_slice(), offset) else {
+    let Some((turn, _)) = sent_at(messages.as_slice(), offset) else {
         return Ok(None);
     };
-    let turn = Turn(place);
     let there = if turn.is_of_client() {
         "an answer of the bank, since it has an HIRMG"
     } else {
@@ -183,16 +187,14 @@ fn answer_hint(alloc: Global, file: &[u8], start: usize, fault: &ParamFault) -> 
     let Some(messages) = cut_file(alloc, file)? else {
         return Ok(None);
     };
-    let Some(place) = place_at(messages.as_slice(), start) else {
+    let Some((turn, sent)) = sent_at(messages.as_slice(), start) else {
         return Ok(None);
     };
-    let bytes = messages.get(place).map_or(b"".as_slice(), |it| it.bytes);
-    let turn = Turn(place);
     let line = line_at(file, start);
     told_at(
         alloc,
         format_args!("{turn}, of which line 1 is line {line} of the file: "),
-        params_hint(alloc, fault, bytes)?,
+        params_hint(alloc, fault, sent.bytes)?,
     )
 }
 
