@@ -60,7 +60,7 @@ IsSentAgain recorded sent =
 abbrev pub AreSentAgain : List Exchange → List Sent → Type 0
 AreSentAgain exchanges sent = AllZip (λ e m. IsSentAgain e.message.bytes.now m.bytes) exchanges sent
 
--- the codes of the answer that there is, if there is one
+-- the codes of the answer, if there is one
 abbrev pub answer_in : Option Answer → List (List ℕ)
 answer_in None = []
 answer_in (Some answer) = answer.codes.items ∷ []

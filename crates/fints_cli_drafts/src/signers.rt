@@ -69,16 +69,16 @@ impl Signers {
         Some(self.rows.get(signer - 1)?.met)
     }
 
-    // The place of the signer of a row, which may be a new one.
-    fn place_of(&mut self, row: SignerRow) -> Result<usize, Undrafted> {
+    // The number of the signer of a row, which may be a new one.
+    fn number_of(&mut self, row: SignerRow) -> Result<usize, Undrafted> {
         if let Some(found) = self.rows.iter().position(|own| own.row == row.row) {
-            return Ok(found);
+            return Ok(found + 1);
         }
         if self.rows.len() == MAX_SIGNERS {
             return Err(row.met.refused());
         }
         self.rows.push(row)?;
-        Ok(self.rows.len() - 1)
+        Ok(self.rows.len())
     }
 
     /// Writes the names of a message's signers, with commas between.
@@ -94,7 +94,7 @@ impl Signers {
             let Some(row) = row_of(alloc, secrets, recorded, message, place)? else {
                 return Ok(());
             };
-            let number = self.place_of(row)? + 1;
+            let number = self.number_of(row)?;
             if place > 0 {
                 text.push_str(", ")?;
             }
