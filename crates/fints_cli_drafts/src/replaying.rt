@@ -1,5 +1,5 @@
 //! Whether a script and a case send a recorded dialogue once more.
-ghost use Rattle.std.specs.Prelude.{◌≡◌, ◌++◌, IfNone, IfOk, OnOk, length};
+ghost use Rattle.std.specs.Prelude.{◌≡◌, ◌<◌, ◌++◌, IfNone, IfOk, IfSome, OnOk, length};
 ghost use Rattle.std.specs.List.{AllByRecursion};
 ghost use Rattle.fints_rules_dialogues.specs.Dialogues.{IsExchange};
 ghost use Rattle.fints_cli_drafts.specs.Drafts.{answers_of, answer_in, AreSentAgain, Replays};
@@ -64,7 +64,8 @@ pub fn answers_of(alloc: Global, exchanges: &[Exchange<'_>]) -> Result<Vec<Answe
 // The first message that isn't sent as it was recorded, by its place, which counts from 0.
 fn first_other(exchanges: &[Exchange<'_>], sent: &[Sent]) -> Option<usize>
     requires { length sent.now ≡ length exchanges.now }
-    ensures { IfNone result (AreSentAgain exchanges.now sent.now) }
+    ensures all { IfNone result (AreSentAgain exchanges.now sent.now) }
+    ensures within { IfSome result (λ i. i < length exchanges.now) }
 {
     for i in 0..exchanges.len() {
         if !is_sent_again(exchanges[i].message.bytes, sent[i].bytes.as_slice()) {
@@ -88,10 +89,8 @@ fn other_sent(
     let Some(i) = first_other(exchanges, sent) else {
         return Ok(None);
     };
-    let (Some(exchange), Some(own)) = (exchanges.get(i), sent.get(i)) else {
-        return Ok(Some(Place::whole(i + 1)));
-    };
-    let place = other_place(alloc, exchange.message.bytes, own.bytes.as_slice(), i + 1)?;
+    let recorded = exchanges[i].message.bytes;
+    let place = other_place(alloc, recorded, sent[i].bytes.as_slice(), i + 1)?;
     Ok(Some(place))
 }
 
