@@ -100,15 +100,12 @@ fn front_of(alloc: Global, bytes: &[u8]) -> Result<Option<Front>, Memory> {
 }
 
 fn first_answer(alloc: Global, exchanges: &[Exchange<'_>]) -> Result<Option<Front>, Memory> {
-    match exchanges {
-        [
-            Exchange {
-                answer: Some(answer),
-                ..
-            },
-            ..
-        ] => front_of(alloc, answer.sent.bytes),
-        _ => Ok(None),
+    let [first, ..] = exchanges else {
+        return Ok(None);
+    };
+    match &first.answer {
+        Some(answer) => front_of(alloc, answer.sent.bytes),
+        None => Ok(None),
     }
 }
 
