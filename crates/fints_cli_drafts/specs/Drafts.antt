@@ -1,6 +1,6 @@
 -- What a draft of a recorded dialogue is: the text of a script, and that of a case that has it send the client's
 -- messages once more.
-use Rattle.std.specs.Prelude.{codes, ◌≡◌, ◌⊎◌, ℕ, List, [], ◌∷◌, ◌++◌, length, get_or, Option, Some, None, IfSome}
+use Rattle.std.specs.Prelude.{codes, ◌≡◌, ◌⊎◌, ℕ, List, [], ◌∷◌, ◌++◌, length, get_or, Option, Some, None}
 use Rattle.std.specs.List.{All, AllZip, flat_map}
 use Rattle.fints_syntax_segments.specs.Spelling.{Spelled}
 use Rattle.fints_syntax_segments.specs.Segment.{item_value, segment_bytes, IsSegment}
@@ -21,7 +21,6 @@ use Rattle.fints_script_templates.specs.declared.template.TemplateItem.{Template
 use Rattle.fints_script_templates.specs.declared.template.TemplateItem.TheVariants.{Literal, Dialog, Field}
 use Rattle.fints_script.specs.Plans.{Admits}
 use Rattle.fints_script.specs.Scripts.{Denotes, ScriptValue}
-use Rattle.fints_script.specs.Steps.{StepValue}
 use Rattle.fints_wire.specs.Runs.{Run}
 use Rattle.fints_wire.specs.declared.dialogue.Sent.{Sent}
 use Rattle.fints_cli_texts.specs.Judge.{IsTableRefusal}
