@@ -95,12 +95,25 @@ fn deliver<O: Out, E: Out>(text: &[u8], status: u8, out: &mut O, err: &mut E) ->
     status
 }
 
-// Says on the errors that a printed case holds PIN and TAN.
-fn warn<E: Out>(request: &Request<'_>, err: &mut E)
-    ensures { SaysText (line_beside request.now) (E.told err.old) (E.told err.new) (E.failed_calls err.old) (E.failed_calls err.new) }
+// What is said beside the answer of a request: that a drafted case holds PIN and TAN.
+#[tactic(auto, unfolding(crate::specs::Responses::secrets_line))]
+fn line_beside(request: &Request<'_>) -> &'static [u8]
+    ensures { result.now ≡ line_beside request.now }
 {
-    if let Request::Draft { case: true, .. } = request {
-        tell(b"note: this case holds the PIN and the TANs of the dialogue\n", err);
+    match request {
+        Request::Draft { case: true, .. } => {
+            b"note: this case holds the PIN and the TANs of the dialogue\n"
+        }
+        _ => b"",
+    }
+}
+
+// Writes a text to the errors, if there is one.
+fn say<E: Out>(text: &[u8], err: &mut E)
+    ensures { SaysText text.now (E.told err.old) (E.told err.new) (E.failed_calls err.old) (E.failed_calls err.new) }
+{
+    if !text.is_empty() {
+        tell(text, err);
     }
 }
 
@@ -128,7 +141,7 @@ fn respond_with<O: Out, E: Out>(
     if status == 5 {
         return status;
     }
-    warn(request, err);
+    say(line_beside(request), err);
     if let Some(reasons) = reasons {
         let _ = emit(reasons.as_bytes(), err);
     }

@@ -19,9 +19,9 @@ use Rattle.fints_cli_words.specs.declared.words.EarlierFiles.{EarlierFiles}
 use Rattle.fints_cli_words.specs.declared.words.JudgeFiles.{JudgeFiles}
 use Rattle.fints_cli_words.specs.declared.words.RunFiles.{RunFiles}
 use Rattle.fints_cli_commands.specs.declared.loading.Contents.{Contents}
-use Rattle.fints_cli_commands.specs.Commands.{IfTold, RefusesRequest}
+use Rattle.fints_cli_commands.specs.Commands.{IfTold, OfTable, RefusesRequest}
 use Rattle.fints_cli_commands.specs.Loading.{Held, paths_of}
-use Rattle.fints_cli_commands.specs.Loaded.{IsLoaded}
+use Rattle.fints_cli_commands.specs.Loaded.{IsFileAt, IsLoaded}
 use Rattle.fints_cli_files.specs.Streams.{IsFile}
 use Rattle.fints_cli_commands.proofs.Reading.{of_file}
 
@@ -95,18 +95,21 @@ module _ (holds : Held) (params : Result Rows ParamFault) (contents : Contents) 
       contents.orders.items contents.script.items contents.case.items
       loaded.orders loaded.script loaded.case refused
 
-  -- the table is the one that was loaded, or the empty one where none is named
+  -- what holds of the table that was loaded, or of the empty one where none is named, holds of that of the request
+  of_table : (P : List ℕ → Type 0) (path : Option (Bor (List ℕ))) (table : List ℕ)
+      → (path ≡ None → table ≡ no_orders) → IfSome path (λ _. table ≡ contents.orders.items)
+      → IsFileAt path holds contents.orders.items → P table → OfTable holds path P
+  of_table P None table absent named file p = subst P (absent refl) p
+  of_table P (Some path) table absent named file p =
+      of_file P (holds path.now) contents.orders.items file (subst P named p)
+
   pub draft_refused : (files : DraftFiles) (case : Bool) (table : List ℕ)
       → (files.orders ≡ None → table ≡ no_orders)
       → IfSome files.orders (λ path. table ≡ contents.orders.items)
       → IsDraftRefusal table contents.dialogue.items fault
       → IsLoaded (paths_of (Draft files case)) holds params contents
       → RefusesRequest (Draft files case) holds fault
-  draft_refused (record { orders = None; dialogue = dialogue }) case table absent named refused loaded =
-      of_file (λ d. IsDraftRefusal no_orders d fault) (holds dialogue.now) _ loaded.dialogue
-      (subst (λ t. IsDraftRefusal t contents.dialogue.items fault) (absent refl) refused)
-  draft_refused (record { orders = Some path; dialogue = dialogue }) case table absent named refused loaded =
-      let told = holds dialogue.now in
-      of_file (λ t. IfSome told (λ d. IsDraftRefusal t d fault)) (holds path.now) _ loaded.orders
-      (of_file (λ d. IsDraftRefusal contents.orders.items d fault) told _ loaded.dialogue
-      (subst (λ t. IsDraftRefusal t contents.dialogue.items fault) named refused))
+  draft_refused files case table absent named refused loaded =
+      let told = holds files.dialogue.now in
+      of_table (λ t. IfSome told (λ d. IsDraftRefusal t d fault)) files.orders table absent named loaded.orders
+      (of_file (λ d. IsDraftRefusal table d fault) told _ loaded.dialogue refused)

@@ -39,7 +39,7 @@ returns-in_err-text-in-Draft-clause-refused c =
     let refused = rw dialogue at c.in_err-text-in-Draft.ensures.refused in
     let exit = c.from_residual-in_err-text-in-Draft.ensures.1 in
     rw c.in-Draft.is (of_exit c.from_residual-in_err-text-in-Draft.result _ _ exit (λ holds loaded.
-    draft_refused holds _ _ _ c.in-Draft.files c.in-Draft.case _ c.table_of.ensures.absent c.table_of.ensures.loaded refused
+    draft_refused holds _ _ _ c.in-Draft.files c.in-Draft.case _ c.table_of-orders.ensures.absent c.table_of-orders.ensures.loaded refused
     loaded))
 
 pub returns-in_err-text-in-Draw-clause-refused : goal.returns-in_err-text-in-Draw-clause-refused

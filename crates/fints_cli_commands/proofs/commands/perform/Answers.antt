@@ -1,10 +1,16 @@
-use Rattle.std.proofs.Common.{arith, None, Some, ◌≡◌, ◌≤◌, length}
+use Rattle.std.specs.Borrow.{Bor}
+use Rattle.std.proofs.Common.{arith, ℕ, List, Option, None, Some, ◌≡◌, ◌≤◌, length}
 use Rattle.fints_cli_words.specs.declared.words.Request.{Request}
 use Rattle.fints_cli_words.specs.declared.words.Request.TheVariants.{BuiltIn, Show, ShowMessage, Judge, JudgeAfter, AuditOwn, Audit, Draft, Check, Explain, Certify, Verify, Draw, DrawFound}
 use Rattle.fints_cli_words.specs.declared.words.Request.TheVariants as requests
 use Rattle.fints_cli_commands.specs.declared.loading.Paths.{Paths}
-use Rattle.fints_cli_commands.specs.Loading.{files_at, files_of, paths_of}
+use Rattle.fints_cli_commands.specs.Loading.{files_at, files_of, no_paths, paths_of}
 use Rattle.fints_cli_commands.proofs.commands.perform.Goals as goal
+
+with_dialogue : (orders : Option (Bor (List ℕ))) (dialogue : Bor (List ℕ))
+    → length (files_at (record no_paths { orders = orders; dialogue = Some dialogue })) ≤ 5
+with_dialogue None dialogue = omega arith
+with_dialogue (Some orders) dialogue = omega arith
 
 at_most_five : (request : Request) → length (files_of request) ≤ 5
 at_most_five BuiltIn = omega arith
@@ -14,8 +20,7 @@ at_most_five (Judge files) = omega arith
 at_most_five (JudgeAfter files earlier) = omega arith
 at_most_five (AuditOwn files) = omega arith
 at_most_five (Audit files params) = omega arith
-at_most_five (Draft (record { orders = None; dialogue = dialogue }) case) = omega arith
-at_most_five (Draft (record { orders = Some orders; dialogue = dialogue }) case) = omega arith
+at_most_five (Draft files case) = with_dialogue files.orders files.dialogue
 at_most_five (Check files) = omega arith
 at_most_five (Explain files finding) = omega arith
 at_most_five (Certify files) = omega arith
