@@ -1,11 +1,10 @@
 -- Writes one after another.
 use Rattle.std.specs.Prelude.{OnOk, OnErr}
-use Rattle.std.proofs.Common.{Result, Ok, Err, [], ◌∷◌, ◌<◌, ◌≤◌, arith, inl, inr, ◌≡◌, ◌∙◌, sym, ap, subst, ℕ, ◌+◌, ◌-◌, List, ◌++◌, length, take, drop, Option, Some, None, append_assoc}
+use Rattle.std.proofs.Common.{Result, Ok, Err, ◌<◌, ◌≤◌, arith, inl, inr, ◌≡◌, ◌∙◌, sym, ap, subst, ℕ, ◌+◌, ◌-◌, List, ◌++◌, length, take, drop, Option, Some, None, append_assoc}
 use Rattle.std.proofs.lemmas.Bool.{cases_lt}
 use Rattle.std.proofs.lemmas.List.{take_all, take_rest, take-append-le}
 use Rattle.std.proofs.Math.Seq.{take-add, take-append-add, take-append_seam}
-use Rattle.fints_cli_files.specs.Streams.{Gets, GetsPrefix, one_more}
-use Rattle.fints_cli.specs.Responses.{IsUntold, SaysText}
+use Rattle.fints_cli_files.specs.Streams.{Gets, GetsPrefix}
 
 -- the text from a place on, as a slice to its end has it
 abbrev pub rest_from : ℕ → List ℕ → List ℕ
@@ -79,14 +78,3 @@ none_is_no_some x e = absurd cc
 pub on_err_of : {T F : Type 0} (r : Result T F) (A : Type 0) → A → OnErr r A
 on_err_of (Ok x) A a = tt
 on_err_of (Err e) A a = a
-
--- what is said to a stream that got nothing before is all that it got
-pub untold_then : (text : List ℕ) (old mid new : Option (List ℕ)) (lost lost_mid lost_after : ℕ)
-    → IsUntold old mid lost lost_mid → SaysText text mid new lost_mid lost_after
-    → SaysText text old new lost lost_after
-untold_then [] old mid new lost lost_mid lost_after (got, same) (more, then) =
-    (gets-more old mid new [] [] got more, then ∙ same)
-untold_then (b ∷ text) old mid new lost lost_mid lost_after (got, same) (inl (more, then)) =
-    inl (gets-more old mid new [] (b ∷ text) got more, then ∙ same)
-untold_then (b ∷ text) old mid new lost lost_mid lost_after (got, same) (inr (cut, failed)) =
-    inr (gets-then-cut old mid new [] (b ∷ text) got cut, failed ∙ ap one_more same)
