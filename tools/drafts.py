@@ -1,7 +1,8 @@
 #!/usr/bin/env python3
 """Drafts a script and a case from each recorded dialogue of the rows and the examples with the built
 program, runs them, and compares what is sent with what was recorded, byte for byte but for what HNVSK has
-behind its head and the size in HNHBK. No value of a field but the dialogue's id may stand in the script.
+behind its head and the size in HNHBK. No string of the script may be the value of a field, but for the
+dialogue's id.
 
 Usage: tools/drafts.py
 """
@@ -72,7 +73,7 @@ def is_replayed(path, room):
     status, text = call("run", "--orders", ORDERS, "--script", room / "script", "--case", room / "case")
     own = [bare(message) for message in recorded(path.read_bytes())[::2]]
     again = [bare(message) for message in sent(text)]
-    hidden = all(len(value) < 4 or value not in script for value in secrets(case))
+    hidden = all(b'"%s"' % value not in script for value in secrets(case))
     return status == 0 and own == again and hidden
 
 
