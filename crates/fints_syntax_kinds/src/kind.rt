@@ -90,20 +90,19 @@ fn is_kind_byte(b: u8) -> bool
     b.is_ascii_uppercase() || b.is_ascii_digit()
 }
 
-fn is_kind(text: &[u8]) -> bool
-    ensures { IsTrue result ↔ IsKindText text.now }
-{
-    !text.is_empty() && text.len() <= 6 && text.iter().all(|b| is_kind_byte(*b))
-}
-
 fn padded_kind(text: &[u8]) -> Option<Kind>
     ensures { SomeIff result (IsKindText text.now) text.now }
 {
-    if !is_kind(text) {
+    if text.is_empty() || text.len() > 6 {
         return None;
     }
     let mut bytes = [0; 6];
-    bytes[..text.len()].copy_from_slice(text);
+    for (i, b) in text.iter().enumerate() {
+        if !is_kind_byte(*b) {
+            return None;
+        }
+        bytes[i] = *b;
+    }
     Some(Kind {
         bytes,
         len: text.len() as u8,
