@@ -52,29 +52,35 @@ fn write_shown(text: &mut Vec<u8>, value: &[u8]) -> Result<(), Memory>
     Ok(())
 }
 
-// Writes the number, with these words before it.
+// Writes the number, with these words before it; its digits are made in the buffer.
+#[inline(always)]
 #[tactic(auto, unfolding(crate::specs::Show::figure))]
-fn write_figure(text: &mut Vec<u8>, words: &[u8], number: u32) -> Result<(), Memory>
+fn write_figure(
+    text: &mut Vec<u8>,
+    digits: &mut Buffer,
+    words: &[u8],
+    number: u32,
+) -> Result<(), Memory>
     ensures { OnOk result (text.new.items ≡ text.old.items ++ figure words.now number) }
 {
-    let mut buffer = Buffer::new();
     text.extend_from_slice(words)?;
-    text.extend_from_slice(buffer.format(number).as_bytes())?;
+    text.extend_from_slice(digits.format(number).as_bytes())?;
     Ok(())
 }
 
+#[inline(always)]
 #[tactic(auto, unfolding(crate::specs::Show::after_space))]
-fn write_number(text: &mut Vec<u8>, number: u32) -> Result<(), Memory>
+fn write_number(text: &mut Vec<u8>, digits: &mut Buffer, number: u32) -> Result<(), Memory>
     ensures { OnOk result (text.new.items ≡ text.old.items ++ after_space number) }
 {
-    write_figure(text, b" ", number)
+    write_figure(text, digits, b" ", number)
 }
 
-fn write_numbers(text: &mut Vec<u8>, numbers: &[u32]) -> Result<(), Memory>
+fn write_numbers(text: &mut Vec<u8>, digits: &mut Buffer, numbers: &[u32]) -> Result<(), Memory>
     ensures { OnOk result (text.new.items ≡ text.old.items ++ flat_map after_space numbers.now) }
 {
     for number in numbers {
-        write_number(text, *number)?;
+        write_number(text, digits, *number)?;
     }
     Ok(())
 }
@@ -90,26 +96,28 @@ fn write_bank_text(text: &mut Vec<u8>, bank: &BankRow) -> Result<(), Memory>
 }
 
 #[tactic(auto, unfolding(crate::specs::Show::protocols_text))]
-fn write_protocols(text: &mut Vec<u8>, protocols: &[u32]) -> Result<(), Memory>
+fn write_protocols(text: &mut Vec<u8>, digits: &mut Buffer, protocols: &[u32]) -> Result<(), Memory>
     ensures { OnOk result (text.new.items ≡ text.old.items ++ protocols_text protocols.now) }
 {
     text.extend_from_slice(b" protocols")?;
-    write_numbers(text, protocols)
+    write_numbers(text, digits, protocols)
 }
 
 #[tactic(auto, unfolding(crate::specs::Show::bank_line))]
 fn write_bank(text: &mut Vec<u8>, bank: &BankRow) -> Result<(), Memory>
     ensures { OnOk result (text.new.items ≡ text.old.items ++ bank_line bank.now) }
 {
+    let mut digits = Buffer::new();
     write_bank_text(text, bank)?;
-    write_figure(text, b" kinds ", bank.kinds)?;
-    write_figure(text, b" kilobytes ", bank.kilobytes)?;
-    write_protocols(text, bank.protocols.as_slice())?;
+    write_figure(text, &mut digits, b" kinds ", bank.kinds)?;
+    write_figure(text, &mut digits, b" kilobytes ", bank.kilobytes)?;
+    write_protocols(text, &mut digits, bank.protocols.as_slice())?;
     text.push(b'\n')?;
     Ok(())
 }
 
 // Writes the kind, with a word before it.
+#[inline(always)]
 #[tactic(auto, unfolding(crate::specs::Show::kind_text))]
 fn write_kind(text: &mut Vec<u8>, word: &[u8], kind: &Kind) -> Result<(), Memory>
     ensures { OnOk result (text.new.items ≡ text.old.items ++ kind_text word.now kind.now) }
@@ -120,13 +128,13 @@ fn write_kind(text: &mut Vec<u8>, word: &[u8], kind: &Kind) -> Result<(), Memory
 }
 
 #[tactic(auto, unfolding(crate::specs::Show::order_line))]
-fn write_order(text: &mut Vec<u8>, row: &OrderParam) -> Result<(), Memory>
+fn write_order(text: &mut Vec<u8>, digits: &mut Buffer, row: &OrderParam) -> Result<(), Memory>
     ensures { OnOk result (text.new.items ≡ text.old.items ++ order_line row.now) }
 {
     write_kind(text, b"order ", &row.kind)?;
-    write_number(text, u32::from(row.version))?;
-    write_figure(text, b" orders ", row.orders)?;
-    write_figure(text, b" signatures ", row.signatures)?;
+    write_number(text, digits, u32::from(row.version))?;
+    write_figure(text, digits, b" orders ", row.orders)?;
+    write_figure(text, digits, b" signatures ", row.signatures)?;
     text.push(b'\n')?;
     Ok(())
 }
@@ -134,8 +142,9 @@ fn write_order(text: &mut Vec<u8>, row: &OrderParam) -> Result<(), Memory>
 fn write_orders(text: &mut Vec<u8>, rows: &[OrderParam]) -> Result<(), Memory>
     ensures { OnOk result (text.new.items ≡ text.old.items ++ flat_map order_line rows.now) }
 {
+    let mut digits = Buffer::new();
     for row in rows {
-        write_order(text, row)?;
+        write_order(text, &mut digits, row)?;
     }
     Ok(())
 }
@@ -173,10 +182,10 @@ fn write_pins(text: &mut Vec<u8>, rows: &[PinRow]) -> Result<(), Memory>
 }
 
 #[tactic(auto, unfolding(crate::specs::Show::tan_line))]
-fn write_tan(text: &mut Vec<u8>, row: &TanRow) -> Result<(), Memory>
+fn write_tan(text: &mut Vec<u8>, digits: &mut Buffer, row: &TanRow) -> Result<(), Memory>
     ensures { OnOk result (text.new.items ≡ text.old.items ++ tan_line row.now) }
 {
-    write_figure(text, b"tan ", u32::from(row.version))?;
+    write_figure(text, digits, b"tan ", u32::from(row.version))?;
     write_flag(text, row.one_step)?;
     write_flag(text, row.several)?;
     text.push(b'\n')?;
@@ -186,8 +195,9 @@ fn write_tan(text: &mut Vec<u8>, row: &TanRow) -> Result<(), Memory>
 fn write_tans(text: &mut Vec<u8>, rows: &[TanRow]) -> Result<(), Memory>
     ensures { OnOk result (text.new.items ≡ text.old.items ++ flat_map tan_line rows.now) }
 {
+    let mut digits = Buffer::new();
     for row in rows {
-        write_tan(text, row)?;
+        write_tan(text, &mut digits, row)?;
     }
     Ok(())
 }
@@ -236,11 +246,11 @@ fn write_account_line(alloc: Global, text: &mut Vec<u8>, account: &AccountRow) -
 }
 
 #[tactic(auto, unfolding(crate::specs::Show::entry_line))]
-fn write_entry(text: &mut Vec<u8>, entry: &Entry) -> Result<(), Memory>
+fn write_entry(text: &mut Vec<u8>, digits: &mut Buffer, entry: &Entry) -> Result<(), Memory>
     ensures { OnOk result (text.new.items ≡ text.old.items ++ entry_line entry.now) }
 {
     write_kind(text, b"entry ", &entry.kind)?;
-    write_number(text, entry.signatures)?;
+    write_number(text, digits, entry.signatures)?;
     text.push(b'\n')?;
     Ok(())
 }
@@ -248,8 +258,9 @@ fn write_entry(text: &mut Vec<u8>, entry: &Entry) -> Result<(), Memory>
 fn write_entries(text: &mut Vec<u8>, entries: &[Entry]) -> Result<(), Memory>
     ensures { OnOk result (text.new.items ≡ text.old.items ++ flat_map entry_line entries.now) }
 {
+    let mut digits = Buffer::new();
     for entry in entries {
-        write_entry(text, entry)?;
+        write_entry(text, &mut digits, entry)?;
     }
     Ok(())
 }
@@ -275,7 +286,7 @@ fn write_accounts(alloc: Global, text: &mut Vec<u8>, accounts: &[AccountRow]) ->
 fn write_skipped(text: &mut Vec<u8>, skipped: u32) -> Result<(), Memory>
     ensures { OnOk result (text.new.items ≡ text.old.items ++ skipped_line skipped) }
 {
-    write_figure(text, b"skipped ", skipped)?;
+    write_figure(text, &mut Buffer::new(), b"skipped ", skipped)?;
     text.push(b'\n')?;
     Ok(())
 }

@@ -10,7 +10,7 @@ ghost use Rattle.fints_params.specs.Orders.{kind_of_orders, order_in};
 use crate::opening::is_sealed_view;
 use crate::orders::kind_of;
 use crate::rows::OrderParam;
-use fints_syntax::{Item, Kind, SegmentView, parse_number};
+use fints_syntax::{Item, Kind, SegmentView};
 
 /// What a segment tells.
 pub enum Tells {
@@ -32,16 +32,16 @@ fn is_read_whole(segment: &SegmentView<'_>) -> bool
         || is_sealed_view(segment)
 }
 
-// The number that an item spells, where it is a text without escapes.
+// The number that an item spells.
+#[inline(always)]
 fn number_in(item: &Option<Item<'_>>) -> Option<u32>
     ensures { IfSome result (λ n. (es : List (List Spelled)) (element : ℕ)
         → ItemIs item.now (place_of es element 1) → SpellsNumber es element n) }
 {
-    parse_number(item.as_ref()?.plain_value()?)
+    item.as_ref()?.number()
 }
 
-// The row of a segment that says something of this kind of orders, where its numbers are texts
-// without escapes.
+// The row of a segment that says something of this kind of orders, where it has both numbers.
 fn order_row(segment: &SegmentView<'_>, kind: Kind) -> Option<OrderParam>
     ensures { IfSome result (λ row. kind_of_orders (segment_of segment.now).head.id ≡ Some kind
         → order_in (segment_of segment.now) ≡ Some row) }
@@ -57,7 +57,7 @@ fn order_row(segment: &SegmentView<'_>, kind: Kind) -> Option<OrderParam>
     })
 }
 
-/// What the segment tells, if its kind says it, or two numbers without escapes do.
+/// What the segment tells, if its kind says it, or two numbers do.
 pub fn glance(segment: &SegmentView<'_>) -> Tells
     ensures { IsGlance result (segment_of segment.now) }
 {

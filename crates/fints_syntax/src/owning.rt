@@ -51,6 +51,7 @@ fn skip_element(cursor: &mut Cursor<'_>)
 }
 
 /// The first item of the element at the front, and past its items.
+#[inline(always)]
 pub fn first_item<'a>(cursor: &mut Cursor<'a>) -> Option<Item<'a>>
     ensures item { ItemIs result (first_of cursor.old) }
     ensures rest { cursor.new ≡ after_element cursor.old }
