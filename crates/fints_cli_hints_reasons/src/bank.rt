@@ -18,10 +18,10 @@ pub struct Accounts<'a> {
 
 fn national_of(row: &AccountRow) -> NationalItems<'_> {
     (
-        row.national.number.as_slice(),
-        row.national.subaccount.as_slice(),
-        row.national.country.as_slice(),
-        row.national.bank.as_slice(),
+        row.national.number(),
+        row.national.subaccount(),
+        row.national.country(),
+        row.national.bank(),
     )
 }
 

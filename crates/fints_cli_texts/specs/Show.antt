@@ -9,7 +9,7 @@ use Rattle.fints_params.specs.declared.rows.OrderParam.{OrderParam}
 use Rattle.fints_params.specs.declared.rows.PinRow.{PinRow}
 use Rattle.fints_params.specs.declared.rows.TanRow.{TanRow}
 use Rattle.fints_params.specs.declared.rows.Entry.{Entry}
-use Rattle.fints_params.specs.declared.rows.National.{National}
+use Rattle.fints_params.specs.Nationals.{NationalValue}
 use Rattle.fints_params.specs.declared.rows.AccountRow.{AccountRow}
 use Rattle.fints_params.specs.declared.rows.Usage.{Usage}
 use Rattle.fints_params.specs.declared.rows.Usage.TheVariants.{Locked, Unsaid}
@@ -71,7 +71,7 @@ unfoldable pub item_text : List ℕ → List ℕ
 item_text value = written (Text value)
 
 -- the account as an element of four items is written
-unfoldable pub national_text : National → List ℕ
+unfoldable pub national_text : NationalValue → List ℕ
 national_text account =
     item_text account.number ++ codes ":" ++ item_text account.subaccount ++ codes ":"
     ++ item_text account.country ++ codes ":" ++ item_text account.bank

@@ -224,13 +224,13 @@ fn write_item_text(alloc: Global, text: &mut Vec<u8>, value: &[u8]) -> Result<()
 fn write_national(alloc: Global, text: &mut Vec<u8>, account: &National) -> Result<(), Memory>
     ensures { OnOk result (text.new.items ≡ text.old.items ++ national_text account.now) }
 {
-    write_item_text(alloc, text, account.number.as_slice())?;
+    write_item_text(alloc, text, account.number())?;
     text.push(b':')?;
-    write_item_text(alloc, text, account.subaccount.as_slice())?;
+    write_item_text(alloc, text, account.subaccount())?;
     text.push(b':')?;
-    write_item_text(alloc, text, account.country.as_slice())?;
+    write_item_text(alloc, text, account.country())?;
     text.push(b':')?;
-    write_item_text(alloc, text, account.bank.as_slice())
+    write_item_text(alloc, text, account.bank())
 }
 
 #[tactic(auto, unfolding(crate::specs::Show::account_line))]

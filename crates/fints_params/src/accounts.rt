@@ -5,7 +5,8 @@ ghost use Rattle.fints_params.specs.Accounts.{is_empty_element, entry_kind, entr
 ghost use Rattle.fints_params.specs.Faults.{IsBad};
 
 use crate::fault::{ParamFault, bad_element};
-use crate::rows::{AccountRow, Entries, Entry, National};
+use crate::national::National;
+use crate::rows::{AccountRow, Entries, Entry};
 use fints_syntax::{Bytes, ElementRef, Elements, ItemRef, Kind, OwnedSegment, parse_number};
 use std::alloc::{AllocError, Global};
 
@@ -95,12 +96,13 @@ fn entries_of(alloc: Global, elements: &Elements) -> Result<(Vec<Entry>, usize),
 fn read_national(alloc: Global, segment: &OwnedSegment) -> Result<National, AllocError>
     ensures { IfOk result (λ n. n ≡ (account_row segment.now).national) }
 {
-    Ok(National {
-        number: Bytes::copied(alloc, segment.value(2, 1))?,
-        subaccount: Bytes::copied(alloc, segment.value(2, 2))?,
-        country: Bytes::copied(alloc, segment.value(2, 3))?,
-        bank: Bytes::copied(alloc, segment.value(2, 4))?,
-    })
+    National::copied(
+        alloc,
+        segment.value(2, 1),
+        segment.value(2, 2),
+        segment.value(2, 3),
+        segment.value(2, 4),
+    )
 }
 
 /// What HIUPD says, and how many of its elements are skipped and counted.

@@ -82,10 +82,10 @@ fn key_of<'a>(naming: Naming, row: &'a AccountRow, entry: &'a Entry) -> NeedKey<
         },
         Naming::Items => NeedKey {
             by_iban: false,
-            account: row.national.number.as_slice(),
-            subaccount: row.national.subaccount.as_slice(),
-            country: row.national.country.as_slice(),
-            bank: row.national.bank.as_slice(),
+            account: row.national.number(),
+            subaccount: row.national.subaccount(),
+            country: row.national.country(),
+            bank: row.national.bank(),
             kind,
         },
     }

@@ -60,9 +60,8 @@ const ACCOUNTS: [Account<'static>; 2] = [
 fn is_account(account: &AccountRow, wanted: Account<'_>) -> bool {
     let (number, iban, entries) = wanted;
     let it = &account.national;
-    (it.number.as_slice(), it.subaccount.as_slice()) == (number, b"".as_slice())
-        && (it.country.as_slice(), it.bank.as_slice())
-            == (b"280".as_slice(), b"10020030".as_slice())
+    (it.number(), it.subaccount()) == (number, b"".as_slice())
+        && (it.country(), it.bank()) == (b"280".as_slice(), b"10020030".as_slice())
         && account.iban.as_slice() == iban
         && are_entries(account.entries.as_slice(), entries)
 }
