@@ -10,23 +10,24 @@ use crate::part::is_named;
 use crate::plain::read_tail;
 use crate::tail::Tail;
 use crate::values::number_at;
-use fints_syntax::{Memory, OwnedSegment, SegmentView, owned_segments};
+use fints_syntax::{Memory, SegmentView};
 use fints_syntax_segments::{HNHBK_NUMBER, HNHBK_VERSION};
 use std::alloc::{AllocError, Global};
 use std::marker::Model;
 use thiserror::Error;
 
-/// A message; a contract sees its values.
+/// A message, whose segments stand in the bytes that it was read from; a contract sees its values.
 #[derive(Drop)]
-pub struct Message {
+pub struct Message<'a> {
     size: usize,
     protocol: Option<u64>,
     number: u64,
-    body: Vec<OwnedSegment>,
-    ends: Vec<OwnedSegment>,
+    body: Vec<SegmentView<'a>>,
+    ends: Vec<SegmentView<'a>>,
 }
 
-impl Model for Message {
+impl<'a> Model for Message<'a> {
+    ghost use Rattle.fints_syntax.specs.Owned.{segments_of};
     ghost use Rattle.fints_rules_messages.specs.Messages.{MessageView};
 
     ghost Value = { MessageView };
@@ -35,12 +36,12 @@ impl Model for Message {
       size = m.size;
       protocol = m.protocol;
       number = m.number;
-      body = m.body.items;
-      ends = m.ends.items;
+      body = segments_of m.body.items;
+      ends = segments_of m.ends.items;
     } };
 }
 
-impl Message {
+impl<'a> Message<'a> {
     /// The length of the whole message in bytes.
     pub fn size(&self) -> usize
         ensures { result ≡ self.now.size }
@@ -63,15 +64,15 @@ impl Message {
     }
 
     /// The segments of the body, in order.
-    pub fn body(&self) -> &[OwnedSegment]
-        ensures { result.now ≡ self.now.body }
+    pub fn body(&self) -> &[SegmentView<'a>]
+        ensures { segments_of result.now ≡ self.now.body }
     {
         self.body.as_slice()
     }
 
     /// The HNSHA, one for each signature.
-    pub fn ends(&self) -> &[OwnedSegment]
-        ensures { result.now ≡ self.now.ends }
+    pub fn ends(&self) -> &[SegmentView<'a>]
+        ensures { segments_of result.now ≡ self.now.ends }
     {
         self.ends.as_slice()
     }
@@ -111,44 +112,6 @@ impl From<AllocError> for JudgeFault {
     }
 }
 
-// What HNHBK says of a message.
-struct Frame {
-    size: usize,
-    protocol: Option<u64>,
-    number: u64,
-}
-
-// The message with these segments.
-fn with_segments(
-    alloc: Global,
-    frame: Frame,
-    body: &[SegmentView<'_>],
-    ends: &[SegmentView<'_>],
-) -> Result<Message, Memory>
-    ensures { IfOk result (λ m. m ≡ record {
-      size = frame.size;
-      protocol = frame.protocol;
-      number = frame.number;
-      body = segments_of body.now;
-      ends = segments_of ends.now;
-    }) }
-{
-    let Frame {
-        size,
-        protocol,
-        number,
-    } = frame;
-    let body = owned_segments(alloc, body)?;
-    let ends = owned_segments(alloc, ends)?;
-    Ok(Message {
-        size,
-        protocol,
-        number,
-        body,
-        ends,
-    })
-}
-
 // The number of the message, where the segment is a good HNHBK.
 fn read_first(view: &SegmentView<'_>, size: usize) -> Option<u64>
     ensures some { IfSome result (λ n. IsFirst size n (segment_of view.now)) }
@@ -170,7 +133,7 @@ fn read_first(view: &SegmentView<'_>, size: usize) -> Option<u64>
 }
 
 /// The message that the bytes are.
-pub fn read_message(alloc: Global, bytes: &[u8]) -> Result<Message, JudgeFault>
+pub fn read_message(alloc: Global, bytes: &[u8]) -> Result<Message<'_>, JudgeFault>
     ensures message { IfOk result (λ m. IsMessage bytes.now m) }
     ensures refusal { IfErr result (λ f. IsJudgeFault bytes.now f) }
     ensures memory_alone { (m : MessageView) → IsMessage bytes.now m → IfErr result (λ f. f ≡ fault.Memory) }
@@ -186,12 +149,13 @@ pub fn read_message(alloc: Global, bytes: &[u8]) -> Result<Message, JudgeFault>
         Tail::Stop(at) => Err(JudgeFault::NotAMessage { offset: len + at }),
         Tail::Whole(body, ends) => {
             let protocol = number_at(&first, 3, 1, 1, 9);
-            let frame = Frame {
+            Ok(Message {
                 size: bytes.len(),
                 protocol,
                 number,
-            };
-            Ok(with_segments(alloc, frame, body.as_slice(), ends.as_slice())?)
+                body,
+                ends,
+            })
         }
     }
 }

@@ -9,3 +9,4 @@ pub mod ListedLemmas
 pub mod FormLemmas
 pub mod OneTable
 pub mod LawLemmas
+pub mod TanLemmas

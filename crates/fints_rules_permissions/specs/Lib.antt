@@ -10,3 +10,4 @@ pub mod FormMaps
 pub mod Ranks
 pub mod Limits
 pub mod Needs
+pub mod Tans

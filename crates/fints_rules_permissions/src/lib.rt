@@ -10,6 +10,7 @@ mod needs;
 mod orders;
 mod permissions;
 mod ranks;
+mod tans;
 
 pub use account::AccountKey;
 pub use fints_syntax::Memory;

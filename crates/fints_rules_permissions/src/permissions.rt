@@ -1,5 +1,5 @@
 //! What a bank permits, as look-ups in the rows of a capture and an order table.
-ghost use Rattle.std.specs.Prelude.{◌≡◌, ◌<◌, ◌↔◌, Any, IfOk, IsTrue};
+ghost use Rattle.std.specs.Prelude.{◌≡◌, ◌≢◌, ◌<◌, ◌↔◌, [], true, false, Any, IfOk, IsTrue};
 ghost use Rattle.fints_rules_permissions.specs.Orders.{form_of};
 ghost use Rattle.fints_rules_permissions.specs.Permits.{LimitsAre, params_of, DemandIs, IsLeastNeed, PermitIs, is_demanding, is_listed_with_tan};
 
@@ -9,6 +9,7 @@ use crate::limits::{Demand, DemandTable, LimitTable, Limits};
 use crate::needs::Needs;
 use crate::orders::{AccountForm, OrderTable};
 use crate::ranks::OrderKey;
+use crate::tans::TanTable;
 use fints_params::{BankRow, Params, TanRow, Usage};
 use fints_syntax::{Kind, Memory};
 use std::alloc::Global;
@@ -33,6 +34,7 @@ pub struct Permissions<'a> {
     limits: LimitTable,
     pins: DemandTable,
     needs: Needs<'a>,
+    tans: TanTable,
 }
 
 impl<'a> Model for Permissions<'a> {
@@ -43,12 +45,14 @@ impl<'a> Model for Permissions<'a> {
     ghost use Rattle.std.specs.List.Sorted.{IsPermutation};
     ghost use Rattle.fints_rules_permissions.specs.Limits.{HoldsLimits, HoldsPins};
     ghost use Rattle.fints_rules_permissions.specs.Needs.{seen_in};
+    ghost use Rattle.fints_rules_permissions.specs.Tans.{HoldsTans};
 
     ghost view = { λ p. record { rows = p.params.now; orders = p.orders.now } };
 
     ghost invariant = { λ p. HoldsLimits p.params.now.orders p.limits
         × HoldsPins p.params.now.pins p.pins
-        × IsPermutation (seen_in p.params.now.accounts) p.needs };
+        × IsPermutation (seen_in p.params.now.accounts) p.needs
+        × HoldsTans p.params.now.tans p.tans };
 }
 
 impl<'a> Permissions<'a> {
@@ -64,12 +68,14 @@ impl<'a> Permissions<'a> {
         let limits = LimitTable::of(alloc, params.orders())?;
         let pins = DemandTable::of(alloc, params.pins())?;
         let needs = Needs::of(alloc, params.accounts())?;
+        let tans = TanTable::of(alloc, params.tans())?;
         Ok(Permissions {
             params,
             orders,
             limits,
             pins,
             needs,
+            tans,
         })
     }
 
@@ -85,6 +91,22 @@ impl<'a> Permissions<'a> {
         ensures { result.now ≡ self.now.rows.tans }
     {
         self.params.tans()
+    }
+
+    /// Whether some HITANS of a version takes one order at a time.
+    pub fn takes_one_order(&self, version: u16) -> bool
+        ensures { IsTrue result
+            ↔ Any (λ row. (row.version ≡ version) × (row.several ≡ false)) self.now.rows.tans }
+    {
+        self.tans.takes_one(version)
+    }
+
+    /// Whether HITANS are there, and none lets a TAN go with its order.
+    pub fn needs_two_steps(&self) -> bool
+        ensures { IsTrue result ↔ ((self.now.rows.tans ≢ [])
+            × (Any (λ row. row.one_step ≡ true) self.now.rows.tans → ⊥)) }
+    {
+        self.tans.two_steps
     }
 
     /// How an order names its account, where the table has the order.

@@ -21,17 +21,14 @@ returns-in-Stop-clause-refusal c =
     (subst (λ z. Stops (BeginsBy (IsTail n)) (IsWholeBy (IsTail n)) z c.in-Stop.at) c.split_at.ensures.back
     (subst (TailIs (IsTail n) c.split_at.result.1.now) c.in-Stop.is c.in_ok-at.ensures.tail))
 
-pub returns-in_ok-with_segments-in-Whole-clause-message :
-    goal.returns-in_ok-with_segments-in-Whole-clause-message
-returns-in_ok-with_segments-in-Whole-clause-message c =
+pub returns-in-Whole-clause-message : goal.returns-in-Whole-clause-message
+returns-in-Whole-clause-message c =
     let n = c.in-Some-read_first.number in
-    let is =
     is_message c.args.bytes.now c.in-Some.len n c.number_at-protocol.result c.in-Whole.body.items
     c.in-Whole.ends.items c.in-Some.first c.in-Some.ensures.some c.in-Some-read_first.ensures.some
     c.number_at-protocol.ensures
     (subst (λ z. IsReadBy (IsTail n) z c.in-Whole.body.items c.in-Whole.ends.items) c.split_at.ensures.back
-    (subst (TailIs (IsTail n) c.split_at.result.1.now) c.in-Whole.is c.in_ok-at.ensures.tail)) in
-    rw (c.in_ok-with_segments-in-Whole.ensures, c.as_slice.ensures.value, c.as_slice-in-Whole.ensures.value) is
+    (subst (TailIs (IsTail n) c.split_at.result.1.now) c.in-Whole.is c.in_ok-at.ensures.tail))
 
 -- a message has no other refusal than want of memory
 
