@@ -4,12 +4,14 @@ and at 2n, the least of three runs or of as many as are asked for (of one, where
 seconds). No part of the gate.
 
 A run is given 150 seconds of processor time and 4 GiB of addresses. The second table is of maps whose
-keys collide. The last two tell how a run ends that can't have the memory it asks for, and which stack
-deep texts of TOML need.
+keys collide. The third tells how much memory a further byte of an input takes, beside the mark that it
+should keep. The last two tell how a run ends that can't have the memory it asks for, and which stack deep
+texts of TOML need.
 
 Usage: tools/cost.py [--program PATH] [--runs N] [WORD..]     only the lines with one of these words
 """
 import argparse
+import itertools
 import os
 import random
 import subprocess
@@ -109,6 +111,16 @@ def accounts(size):
     return HEAD + "".join(row % (i, i) for i in range((size - len(HEAD)) // len(row % (0, 0))))
 
 
+def unnamed(size):
+    """Rows of HIUPD that name nothing."""
+    return capture("HIUPD:1:6'", size)
+
+
+def procedures(size):
+    """Rows of HITANS that let several orders stand in a message."""
+    return capture("HITANS:9:6+1+1++J:J'", size)
+
+
 # Messages.
 
 
@@ -122,6 +134,16 @@ def message(segments, number=1):
 
 def orders(count):
     return message([("HKSAL", "5+9999999+N")] * count)
+
+
+def filler(part):
+    """Messages with segments of this part, as many as a segment may hold. Each gives about so many bytes."""
+    segment = ("HKXYZ", "1+" + part * 19_990)
+    return lambda size: message([segment] * max(1, size // (len(segment[1]) + 10)))
+
+
+SUBMITS = ("HKTAN", "6+4")
+DEMANDING = [("HKCCS", "1+DE111")] * 2
 
 
 def orders_of(rows):
@@ -228,6 +250,25 @@ def ordering(row):
     return text
 
 
+def submitting(count):
+    """As many HKTAN, in steps of 100 segments with two orders that demand a TAN."""
+    demanding = ['{kind="HKCCS",version=1,elements=["DE111"]}'] * 2
+    orders = ",".join(demanding + ['{kind="HKTAN",version=6,elements=["4"]}'] * 98)
+    return "".join(f'[[step]]\nname = "s{i}"\nsegments = [{orders}]\n' for i in range(count // 98))
+
+
+def texts(part, count):
+    """Scripts of segments that have this many of such a text as elements. Each gives about so many bytes."""
+    segment = '{kind="HKEND",version=1,elements=[' + ",".join([part] * count) + "]}"
+    segments = ",".join([segment] * (10 if count else 100))
+
+    def text(size):
+        steps = (f'[[step]]\nname = "s{i}"\nsegments = [{segments}]\n' for i in range(1000))
+        return "".join(itertools.islice(steps, max(1, size // (len(segments) + 40))))
+
+    return text
+
+
 def filled(names):
     """A step with as many places for the last of the fields that have these names."""
 
@@ -286,8 +327,8 @@ def measured(room):
     case, end = f"{INPUTS}/no-answer.case", f"{INPUTS}/end.toml"
     on = lambda command, make: lambda n: [command, "--params", C1, "--orders", ORDERS, "--script", room.file(make(n))]
     half = MOST_CAPTURE // 2
-    their_accounts = room.file(accounts(half))
-    of_accounts = lambda make: lambda n: ["check", "--params", their_accounts, "--orders", ORDERS, "--script", room.file(make(n))]
+    at = lambda bank: lambda make: lambda n: ["check", "--params", bank, "--orders", ORDERS, "--script", room.file(make(n))]
+    of_accounts, of_procedures = at(room.file(accounts(half))), at(room.file(procedures(half)))
     elsewhere = room.file(message([("HKSAL", "5" + "+9999999" * 500)] * 900))
     untaken = room.file(message([("HKSAL", "10")] * 996))
 
@@ -318,6 +359,8 @@ def measured(room):
         ("judge --hints, rows of HIUPD, 996 orders of 996 kinds", "bytes", half, hinted(judge(accounts, unlike, their_table))),
         ("judge --hints, rows of HIUPD, 900 orders of 500 elements", "bytes", half, hinted(judge(accounts, elsewhere))),
         ("judge --hints, all versions over and over, 996 orders", "bytes", half, hinted(judge(versions, untaken))),
+        ("judge, rows of HITANS, 990 HKTAN", "bytes", half, judge(procedures, room.file(message(DEMANDING + [SUBMITS] * 990)))),
+        ("check, HKTAN at a bank with rows of HITANS", "segments", 9_800, of_procedures(submitting)),
         ("judge, a message of orders", "orders", 498, lambda n: judge(lambda _: HEAD, room.file(orders(n)))(0)),
         ("audit, messages of 1 order", "bytes", half, audit(one)),
         ("audit, messages of 996 orders", "bytes", half, audit(all_in_one)),
@@ -414,6 +457,57 @@ def time_table(room, title, lines, runs):
             print(f"{label:58} {f'{count:,} {unit}':>15} {status:6} {took:>8} {peak / 1024:7.1f}  {said if status > 1 else ''}".rstrip(), flush=True)
 
 
+def marked(room):
+    """Inputs whose memory has a mark: the label, bytes, the words of a run over about so many, and the mark in bytes for each
+    further byte. Of a text of TOML what `toml` takes isn't counted: the last words are of a run that ends when that has read the text."""
+    half, small = MOST_CAPTURE // 2, room.file(orders(1))
+    show = lambda make: lambda n: ["show", "--params", room.file(make(n))]
+    judge = lambda make: lambda n: ["judge", "--params", room.file(make(n)), "--orders", ORDERS, "--message", small]
+    judged = lambda make: lambda n: ["judge", "--params", C1, "--orders", ORDERS, "--message", room.file(make(n))]
+    check = lambda make: lambda n: ["check", "--params", C1, "--orders", ORDERS, "--script", room.file(make(n))]
+    tabled = lambda make: lambda n: ["judge", "--params", C1, "--orders", room.file(make(n)), "--message", small]
+    unread = lambda make: lambda n: "unread = 1\n" + make(n)
+    of_toml = lambda label, words, make: (label, MOST_TEXT // 2 - 2_000, words(make), 30, words(unread(make)))
+    rows = lambda size: table([("HKAAA", 1)] * (size // len(table([("HKAAA", 1)]))))
+    return [
+        ("show, an ordinary capture", half, show(ordinary), 4, None),
+        ("judge, an ordinary capture", half, judge(ordinary), 4, None),
+        ("show, segments of + alone", half, show(full("+")), 12, None),
+        ("show, segments of elements of one byte", half, show(full("+a")), 12, None),
+        ("show, HIPINS of different kinds", half, show(kinds), 12, None),
+        ("judge, HIPINS of different kinds", half, judge(kinds), 12, None),
+        ("show, rows of HIUPD", half, show(accounts), 12, None),
+        ("judge, rows of HIUPD", half, judge(accounts), 12, None),
+        ("show, rows of HIUPD that name nothing", half, show(unnamed), 12, None),
+        ("judge, rows of HIUPD that name nothing", half, judge(unnamed), 12, None),
+        ("judge, rows of HITANS", half, judge(procedures), 12, None),
+        ("judge, a message of + alone", half, judged(filler("+")), 12, None),
+        ("judge, a message of : alone", half, judged(filler(":")), 12, None),
+        ("judge, a message of elements of one byte", half, judged(filler("+a")), 12, None),
+        of_toml("check, a script of empty texts", check, texts('""', 990)),
+        of_toml("check, a script of texts of one letter", check, texts('"a"', 990)),
+        of_toml("check, a script of segments without elements", check, texts('""', 0)),
+        of_toml("check, steps with 20 hostile branches each", check, lambda size: hostile(size // 700)),
+        of_toml("judge, an order table of too many rows", tabled, rows),
+    ]
+
+
+def mark_table(room, wanted):
+    lines = [it for it in marked(room) if wanted("marks") or wanted(it[0])]
+    if lines:
+        print(f"\n{'Memory':58} {'bytes':>15} {'MiB':>8} {'a byte':>7} {'mark':>5}")
+    for label, least_size, words, mark, of_toml in lines:
+        peaks, sizes, of_others = [], [], []
+        for size in (least_size, 2 * least_size):
+            run = words(size)
+            sizes.append(sum(os.path.getsize(it) for it in run if os.path.isfile(it)))
+            peaks.append(room.run(run)[2])
+            of_others.append(room.run(of_toml(size))[2] if of_toml else 0)
+        further = (peaks[1] - peaks[0] - of_others[1] + of_others[0]) * 1024 / (sizes[1] - sizes[0])
+        over = "  over" if further > mark else ""
+        print(f"{label:58} {sizes[1]:15,} {peaks[1] / 1024:8.1f} {further:7.1f} {mark:5}{over}", flush=True)
+
+
 def memory_table(room, wanted):
     label = "run, 19,800 messages of 980 kB each"
     if not wanted(label):
@@ -505,7 +599,7 @@ def main():
     words = argparse.ArgumentParser(description="Prints what the built program takes for large inputs.")
     words.add_argument("--program", default=os.environ.get("FINTS", f"{TOP}/crates/fints/out/fints"))
     words.add_argument("--runs", type=int, default=3, help="of which the least time is printed")
-    words.add_argument("word", nargs="*", help="only the lines with one of these words; `keys` is the table of maps, `deep` that of stacks")
+    words.add_argument("word", nargs="*", help="only the lines with one of these words; `keys` is the table of maps, `marks` that of memory, `deep` that of stacks")
     asked = words.parse_args()
     if not os.access(asked.program, os.X_OK):
         sys.exit(f"cost: {asked.program} isn't built")
@@ -514,6 +608,7 @@ def main():
         room = Room(os.path.abspath(asked.program), folder)
         time_table(room, "What", [it for it in measured(room) if wanted(it[0])], asked.runs)
         time_table(room, "Maps by their keys", [it for it in measured_keys(room) if wanted("keys") or wanted(it[0])], asked.runs)
+        mark_table(room, wanted)
         memory_table(room, wanted)
         stack_table(room, wanted)
 
