@@ -1,5 +1,5 @@
 -- What is drawn of a plan is drawn of the texts that the plan was made of.
-use Rattle.std.proofs.Common.{◌≡◌, ◌≤◌, ℕ, List, [], ◌∷◌, Option, arith, sym, subst}
+use Rattle.std.proofs.Common.{◌≡◌, ◌∙◌, ◌≤◌, ℕ, List, [], ◌∷◌, Option, ap, arith, sym, subst}
 use Rattle.fints_params.specs.Parameters.{Rows}
 use Rattle.fints_rules_permissions.specs.Orders.{DenotesTable}
 use Rattle.fints_rules_permissions.specs.declared.orders.OrderRow.{OrderRow}
@@ -50,17 +50,15 @@ drawn_low rows table text status told on =
 
 -- what a report found is drawn
 pub drawn_by : (report : ReportValue) (plan : PlanValue) (figures : List (Option Reached))
-    (findings : List Finding) (status : ℕ) (text : List ℕ) → report.plan ≡ plan
+    (findings : List Finding) (status : ℕ) (text : List ℕ) → plan ≡ report.plan
     → findings ≡ report.findings → AreFindings report.granted report.plan.script report.findings
     → AreFigures plan.script figures → text ≡ picture_text plan.script.steps figures findings
-    → status ≡ report_status findings → IsDrawnBy report.granted plan.script status text
+    → status ≡ report_status findings → IsDrawnBy report.granted report.plan.script status text
 drawn_by report plan figures findings status text same found exactly are told is = record {
   figures = figures;
   findings = findings;
-  figures_are = are;
-  findings_are =
-      subst (λ (fs : List Finding). AreFindings report.granted plan.script fs) (sym found)
-      (subst (λ (p : PlanValue). AreFindings report.granted p.script report.findings) same exactly);
-  text_is = told;
+  figures_are = subst (λ (p : PlanValue). AreFigures p.script figures) same are;
+  findings_are = subst (λ (fs : List Finding). AreFindings report.granted report.plan.script fs) (sym found) exactly;
+  text_is = told ∙ ap (λ (p : PlanValue). picture_text p.script.steps figures findings) same;
   status_is = is;
 }

@@ -99,12 +99,12 @@ pub fn draw_script(alloc: Global, script: &[u8]) -> Result<Vec<u8>, Fault>
     Ok(text)
 }
 
-// The picture of a plan with what a report found, with its status.
-fn draw_report(alloc: Global, plan: &Plan<'_>, report: &Report<'_>) -> Result<Reply, Memory>
-    requires { report.now.plan ≡ plan.now }
+// The picture of a report's plan with what was found, with its status.
+fn draw_report(alloc: Global, report: &Report<'_>) -> Result<Reply, Memory>
     ensures { IfOk result (λ reply.
-        IsDrawnBy report.now.granted plan.now.script reply.status reply.text.items) }
+        IsDrawnBy report.now.granted report.now.plan.script reply.status reply.text.items) }
 {
+    let plan = report.plan();
     let figures = greatest_figures(alloc, plan)?;
     let findings = report.findings();
     let text = picture(alloc, plan, figures.as_slice(), findings)?;
@@ -122,7 +122,7 @@ fn draw_plan(alloc: Global, params: &Params, plan: &Plan<'_>) -> Result<Reply, M
 {
     let permissions = Permissions::build(alloc, params, plan.orders())?;
     let report = check(alloc, &permissions, plan)?;
-    draw_report(alloc, plan, &report)
+    draw_report(alloc, &report)
 }
 
 // The picture of a script with what its runs break, by good parameters.

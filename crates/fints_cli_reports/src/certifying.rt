@@ -6,7 +6,6 @@ ghost use Rattle.fints_check.specs.CertTexts.{cert_text};
 use crate::writing::reply;
 use fints_check::{Certificate, Certified, Report};
 use fints_cli_texts::Reply;
-use fints_script::Plan;
 use fints_syntax::Memory;
 use std::alloc::Global;
 
@@ -18,16 +17,15 @@ fn certificate_reply(alloc: Global, certificate: &Certificate) -> Result<Reply, 
     Ok(Reply { status: 0, text })
 }
 
-/// The certificate of a plan without findings, or else the report, with its status.
-pub fn certify(alloc: Global, plan: &Plan<'_>, report: &Report<'_>) -> Result<Reply, Memory>
-    requires { report.now.plan ≡ plan.now }
+/// The certificate of a report without findings, or else the report, with its status.
+pub fn certify(alloc: Global, report: &Report<'_>) -> Result<Reply, Memory>
     ensures { IfOk result (λ reply.
-        IsCertifiedBy report.now.granted plan.now.script reply.status reply.text.items) }
+        IsCertifiedBy report.now.granted report.now.plan.script reply.status reply.text.items) }
 {
     report.keeps();
-    plan.keeps();
+    report.plan().keeps();
     match report.certificate(alloc)? {
         Some(certificate) => certificate_reply(alloc, &certificate),
-        None => reply(alloc, plan, report),
+        None => reply(alloc, report),
     }
 }

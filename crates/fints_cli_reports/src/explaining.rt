@@ -12,7 +12,7 @@ use crate::writing::{report_status, write_finding_text, write_report};
 use fints_check::{Finding, Report};
 use fints_cli_texts::{Fault, Reply};
 use fints_rules::Rule;
-use fints_script::{Answer, Case, Name, Plan, Values};
+use fints_script::{Answer, Case, Name, Values};
 use fints_syntax::Memory;
 use itoa::Buffer;
 use std::alloc::Global;
@@ -95,36 +95,28 @@ fn write_values(
 fn write_case(
     alloc: Global,
     text: &mut Vec<u8>,
-    plan: &Plan<'_>,
     report: &Report<'_>,
     number: usize,
     finding: Finding,
     way: Vec<Answer>,
 ) -> Result<Vec<Answer>, Memory>
-    requires plan { report.now.plan ≡ plan.now }
     requires number { 1 ≤ number }
     requires finding { slice_get report.now.findings (number - 1) ≡ Some finding }
     requires within { number ≤ length report.now.findings }
-    requires of_step { IsFindingOf plan.now.script.steps finding }
+    requires of_step { IsFindingOf report.now.plan.script.steps finding }
     requires way { LeadsFor report.now.plan.script report.now.figures finding way.items }
     ensures kept { IfOk result (λ kept. kept.items ≡ way.items) }
-    ensures written { OnOk result (IsCaseWritten report.now.granted plan.now.script report.now.figures
-        number finding text.old.items text.new.items) }
+    ensures written { OnOk result (IsCaseWritten report.now.granted report.now.plan.script
+        report.now.figures number finding text.old.items text.new.items) }
 {
-    let step = plan.step(finding.step as usize);
+    let step = report.plan().step(finding.step as usize);
     write_case_line(text, number, step.name(), &finding)?;
     let values = report.values(alloc, number - 1)?;
     write_values(alloc, text, values, way)
 }
 
-fn write_cases(
-    alloc: Global,
-    text: &mut Vec<u8>,
-    plan: &Plan<'_>,
-    report: &Report<'_>,
-) -> Result<(), Memory>
-    requires { report.now.plan ≡ plan.now }
-    ensures { OnOk result (AreCasesWritten report.now.granted plan.now.script report.now.figures
+fn write_cases(alloc: Global, text: &mut Vec<u8>, report: &Report<'_>) -> Result<(), Memory>
+    ensures { OnOk result (AreCasesWritten report.now.granted report.now.plan.script report.now.figures
         report.now.findings text.old.items text.new.items) }
 {
     let findings = report.findings();
@@ -134,21 +126,20 @@ fn write_cases(
         let finding = findings[i];
         way = way_to(alloc, report, i, finding, at, way)?;
         at = way_step(finding);
-        way = write_case(alloc, text, plan, report, i + 1, finding, way)?;
+        way = write_case(alloc, text, report, i + 1, finding, way)?;
     }
     Ok(())
 }
 
-/// The report on a plan and the cases of its findings, with its status.
-pub fn explain(alloc: Global, plan: &Plan<'_>, report: &Report<'_>) -> Result<Reply, Memory>
-    requires { report.now.plan ≡ plan.now }
+/// The report and the cases of its findings, with its status.
+pub fn explain(alloc: Global, report: &Report<'_>) -> Result<Reply, Memory>
     ensures { IfOk result (λ reply.
-        IsExplainedBy report.now.granted plan.now.script reply.status reply.text.items) }
+        IsExplainedBy report.now.granted report.now.plan.script reply.status reply.text.items) }
 {
     report.keeps();
     let mut text = Vec::new(alloc);
-    write_report(&mut text, plan, report)?;
-    write_cases(alloc, &mut text, plan, report)?;
+    write_report(&mut text, report)?;
+    write_cases(alloc, &mut text, report)?;
     Ok(Reply {
         status: report_status(report.findings()),
         text,
@@ -165,28 +156,23 @@ fn finding_of(findings: &[Finding], number: u32) -> Option<Finding>
     findings.get(number as usize - 1).copied()
 }
 
-/// The report on a plan and the case of the finding of this number alone, with its status; findings
-/// count from 1.
-pub fn explain_one(
-    alloc: Global,
-    plan: &Plan<'_>,
-    report: &Report<'_>,
-    number: u32,
-) -> Result<Reply, Fault>
-    requires { report.now.plan ≡ plan.now }
+/// The report and the case of the finding of this number alone, with its status; findings count
+/// from 1.
+pub fn explain_one(alloc: Global, report: &Report<'_>, number: u32) -> Result<Reply, Fault>
     ensures told { IfOk result (λ reply.
-        IsExplainedAt report.now.granted plan.now.script number reply.status reply.text.items) }
-    ensures refused { IfErr result (λ f. IsUnfound report.now.granted plan.now.script number f) }
+        IsExplainedAt report.now.granted report.now.plan.script number reply.status reply.text.items) }
+    ensures refused { IfErr result (λ f.
+        IsUnfound report.now.granted report.now.plan.script number f) }
 {
     report.keeps();
     let Some(finding) = finding_of(report.findings(), number) else {
         return Err(Fault::NoFinding { number });
     };
     let mut text = Vec::new(alloc);
-    write_report(&mut text, plan, report)?;
+    write_report(&mut text, report)?;
     let number = number as usize;
     let way = report.way(alloc, number - 1)?;
-    write_case(alloc, &mut text, plan, report, number, finding, way)?;
+    write_case(alloc, &mut text, report, number, finding, way)?;
     Ok(Reply {
         status: report_status(report.findings()),
         text,

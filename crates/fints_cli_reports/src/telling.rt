@@ -45,10 +45,10 @@ fn tell_plan(
     let permissions = Permissions::build(alloc, params, plan.orders())?;
     let report = check(alloc, &permissions, plan)?;
     match wanted {
-        Wanted::Report => Ok(reply(alloc, plan, &report)?),
-        Wanted::Cases => Ok(explain(alloc, plan, &report)?),
-        Wanted::OneCase(number) => explain_one(alloc, plan, &report, number),
-        Wanted::Certificate => Ok(certify(alloc, plan, &report)?),
+        Wanted::Report => Ok(reply(alloc, &report)?),
+        Wanted::Cases => Ok(explain(alloc, &report)?),
+        Wanted::OneCase(number) => explain_one(alloc, &report, number),
+        Wanted::Certificate => Ok(certify(alloc, &report)?),
     }
 }
 

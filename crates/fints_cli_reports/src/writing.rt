@@ -40,13 +40,13 @@ fn write_step(text: &mut Vec<u8>, name: Name, reached: Option<Reached>) -> Resul
     Ok(())
 }
 
-fn write_steps(text: &mut Vec<u8>, plan: &Plan<'_>, report: &Report<'_>) -> Result<(), Memory>
-    requires { report.now.plan ≡ plan.now }
+fn write_steps(text: &mut Vec<u8>, report: &Report<'_>) -> Result<(), Memory>
     ensures { OnOk result (text.new.items
-        ≡ text.old.items ++ step_lines plan.now.script.steps report.now.figures) }
+        ≡ text.old.items ++ step_lines report.now.plan.script.steps report.now.figures) }
 {
-    for i in 0..plan.step_count() {
-        write_step(text, plan.step(i + 1).name(), report.reached(i + 1))?;
+    for i in 0..report.plan().step_count() {
+        let step = report.plan().step(i + 1);
+        write_step(text, step.name(), report.reached(i + 1))?;
     }
     Ok(())
 }
@@ -111,14 +111,13 @@ fn write_last(text: &mut Vec<u8>, findings: &[Finding]) -> Result<(), Memory>
     Ok(())
 }
 
-/// Writes the report on a plan.
-pub fn write_report(text: &mut Vec<u8>, plan: &Plan<'_>, report: &Report<'_>) -> Result<(), Memory>
-    requires { report.now.plan ≡ plan.now }
-    ensures { OnOk result (text.new.items
-        ≡ text.old.items ++ report_text plan.now.script.steps report.now.figures report.now.findings) }
+/// Writes the report.
+pub fn write_report(text: &mut Vec<u8>, report: &Report<'_>) -> Result<(), Memory>
+    ensures { OnOk result (text.new.items ≡ text.old.items
+        ++ report_text report.now.plan.script.steps report.now.figures report.now.findings) }
 {
-    write_steps(text, plan, report)?;
-    write_findings(text, plan, report.findings())?;
+    write_steps(text, report)?;
+    write_findings(text, report.plan(), report.findings())?;
     write_last(text, report.findings())
 }
 
@@ -129,16 +128,15 @@ pub fn report_status(findings: &[Finding]) -> u8
     if findings.is_empty() { 0 } else { 1 }
 }
 
-/// The report on a plan, with its status.
-pub fn reply(alloc: Global, plan: &Plan<'_>, report: &Report<'_>) -> Result<Reply, Memory>
-    requires { report.now.plan ≡ plan.now }
+/// The report, with its status.
+pub fn reply(alloc: Global, report: &Report<'_>) -> Result<Reply, Memory>
     ensures report { IfOk result (λ reply.
-        IsReportBy report.now.granted plan.now.script reply.status reply.text.items) }
+        IsReportBy report.now.granted report.now.plan.script reply.status reply.text.items) }
     ensures status { IfOk result (λ reply. reply.status ≡ report_status report.now.findings) }
 {
     report.keeps();
     let mut text = Vec::new(alloc);
-    write_report(&mut text, plan, report)?;
+    write_report(&mut text, report)?;
     Ok(Reply {
         status: report_status(report.findings()),
         text,

@@ -118,9 +118,7 @@ fn element_in(
         Value::Array(values) => array_in(alloc, fields, values.as_slice()),
         _ => {
             let item = item_in(alloc, fields, free, value)?;
-            let mut items = Vec::with_capacity(alloc, 1)?;
-            items.push(item)?;
-            Ok(items)
+            Ok(Vec::from_array(alloc, [item])?)
         }
     }
 }

@@ -12,7 +12,7 @@ picture-requires-clause-in_order c =
 
 pub returns : goal.returns
 returns c =
-    drawn_by c.args.report.now c.args.plan.now c.in_ok-figures.figures.items c.findings-findings.result.now
-    c.report_status.result c.in_ok-text.text.items c.requires c.findings-findings.ensures.findings
+    drawn_by c.args.report.now c.plan-plan.result.now c.in_ok-figures.figures.items c.findings-findings.result.now
+    c.report_status.result c.in_ok-text.text.items c.plan-plan.ensures c.findings-findings.ensures.findings
     c.findings-findings.ensures.exactly c.in_ok-figures.ensures
     (rw c.as_slice.ensures.value at c.in_ok-text.ensures) c.report_status.ensures

@@ -5,9 +5,9 @@ use Rattle.fints_check.specs.Certificates.{line_figures, IsClosedCertificate}
 use Rattle.fints_check.specs.CertTexts.{cert_text}
 use Rattle.fints_check.specs.declared.certificate.Line.{Line}
 use Rattle.fints_check_findings.specs.Figures.{AreFigures}
-use Rattle.fints_check_findings.specs.Findings.{AreFindings, EachIsPermitted}
 use Rattle.fints_cli_texts.specs.declared.reply.Reply.{Reply}
 use Rattle.fints_script.specs.Plans.{PlanValue}
+use Rattle.fints_script.specs.Scripts.{IsRead}
 use Rattle.fints_cli_reports.specs.Certified.{IsCertifiedBy}
 use Rattle.fints_cli_reports.proofs.CertifyLemmas.{both_ok, certified}
 use Rattle.fints_script.proofs.LawLemmas.{sound_of}
@@ -16,7 +16,7 @@ use Rattle.fints_cli_reports.proofs.certifying.certify.Goals as goal
 pub returns-in-Some : goal.returns-in-Some
 returns-in-Some c =
     let granted = c.args.report.now.granted in
-    let script = c.args.plan.now.script in
+    let script = c.args.report.now.plan.script in
     let findings = c.args.report.now.findings in
     let lines = c.in-Some.certificate in
     let none : findings ≡ [] = search rules in
@@ -31,16 +31,11 @@ returns-in-Some c =
     IfSome found
     (λ certificate. AreFigures c.args.report.now.plan.script (line_figures certificate)))
     c.in-Some.is c.in_ok-certificate.ensures.figures in
-    let of_plan =
-    subst
-    (λ (p : PlanValue).
-    AreFindings granted p.script findings × EachIsPermitted granted p.script
-    × IsClosedCertificate granted p.script lines × AreFigures p.script (line_figures lines))
-    c.requires
-    (c.keeps.ensures.exactly, c.keeps.ensures.permitted none, closed, figures) in
-    let promise = closed_promises_promise granted script lines (sound_of c.keeps-2.ensures.read) of_plan.2 in
+    let read = subst (λ (p : PlanValue). IsRead p.script) c.plan.ensures c.keeps-2.ensures.read in
+    let promise = closed_promises_promise granted script lines (sound_of read) closed in
     both_ok (λ (reply : Reply). reply.status ≡ 0) (λ (reply : Reply). reply.text.items ≡ cert_text lines)
     (λ (reply : Reply). IsCertifiedBy granted script reply.status reply.text.items)
     c.certificate_reply.result
     c.certificate_reply.ensures.status c.certificate_reply.ensures.text
-    (λ reply zero same. certified granted script lines findings reply.status reply.text.items none of_plan.0 of_plan.3 of_plan.2 promise of_plan.1 zero same)
+    (λ reply zero same. certified granted script lines findings reply.status reply.text.items none
+    c.keeps.ensures.exactly figures closed promise (c.keeps.ensures.permitted none) zero same)

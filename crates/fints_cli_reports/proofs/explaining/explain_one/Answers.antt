@@ -1,9 +1,6 @@
-use Rattle.std.proofs.Common.{◌≡◌, ◌∙◌, ◌++◌, ℕ, List, [], Some, ap, sym, subst}
-use Rattle.fints_check_findings.specs.Figures.{AreFigures}
-use Rattle.fints_check_findings.specs.Findings.{AreFindings}
+use Rattle.std.proofs.Common.{◌≡◌, ◌∙◌, ◌++◌, ℕ, List, Some, ap, sym, subst}
 use Rattle.fints_check_findings.specs.declared.finding.Finding.{Finding}
 use Rattle.fints_script.specs.Numbered.{numbered, numbered_from, numbered_holds}
-use Rattle.fints_script.specs.Plans.{PlanValue}
 use Rattle.fints_cli_reports.specs.ExplainText.{shown_case}
 use Rattle.fints_cli_reports.specs.ReportText.{report_status, report_text}
 use Rattle.fints_cli_reports.specs.StepNames.{IsFindingOf}
@@ -18,8 +15,7 @@ write_case-requires-clause-of_step c =
     subst (λ (fs : List Finding). numbered fs c.args.number ≡ Some f) c.findings.ensures.findings
     (sym c.in-Some.ensures) in
     let within = findings_within report.granted report.plan.script report.findings c.keeps.ensures.exactly in
-    subst (λ (p : PlanValue). IsFindingOf p.script.steps f) c.requires
-    (numbered_holds (IsFindingOf report.plan.script.steps) report.findings c.args.number f within at)
+    numbered_holds (IsFindingOf report.plan.script.steps) report.findings c.args.number f within at
 
 pub write_case-requires-clause-way : goal.write_case-requires-clause-way
 write_case-requires-clause-way c =
@@ -32,8 +28,7 @@ write_case-requires-clause-way c =
 
 pub returns-clause-told : goal.returns-clause-told
 returns-clause-told c =
-    let granted = c.args.report.now.granted in
-    let script = c.args.plan.now.script in
+    let script = c.args.report.now.plan.script in
     let figures = c.args.report.now.figures in
     let findings = c.args.report.now.findings in
     let f : Finding = c.in-Some.finding in
@@ -43,10 +38,8 @@ returns-clause-told c =
       findings = findings;
       finding = f;
       case = w.case;
-      figures_are = subst (λ (p : PlanValue). AreFigures p.script figures) c.requires c.keeps.ensures.figures;
-      findings_are =
-          subst (λ (p : PlanValue). AreFindings granted p.script findings) c.requires
-          c.keeps.ensures.exactly;
+      figures_are = c.keeps.ensures.figures;
+      findings_are = c.keeps.ensures.exactly;
       number_is =
           subst (λ (fs : List Finding). numbered fs c.args.number ≡ Some f) c.findings.ensures.findings
           (sym c.in-Some.ensures);

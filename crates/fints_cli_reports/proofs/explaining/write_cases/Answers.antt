@@ -1,11 +1,9 @@
-use Rattle.std.proofs.Common.{◌≡◌, ℕ, List, All, Some, get_or, ap, sym, subst}
+use Rattle.std.proofs.Common.{◌≡◌, ℕ, List, All, Some, get_or, sym, subst}
 use Rattle.std.specs.List.{slice_get}
 use Rattle.std.proofs.lemmas.Option.{slice_get-get_or}
 use Rattle.fints_check_findings.specs.declared.finding.Finding.{Finding}
 use Rattle.fints_check_findings.specs.Reports.{LeadsFor}
 use Rattle.fints_rules.specs.declared.rule.Rule.TheVariants as rule
-use Rattle.fints_script.specs.Plans.{PlanValue}
-use Rattle.fints_script.specs.Steps.{StepValue}
 use Rattle.fints_cli_reports.specs.StepNames.{IsFindingOf}
 use Rattle.fints_cli_reports.proofs.CaseLemmas.{way_on, written_more}
 use Rattle.fints_cli_reports.proofs.StepLemmas.{findings_within}
@@ -19,9 +17,7 @@ pub write_case-requires-clause-of_step : goal.write_case-requires-clause-of_step
 unfolding nothing
 write_case-requires-clause-of_step c =
     let within = findings_within c.args.report.now.granted c.args.report.now.plan.script c.args.report.now.findings c.findings-findings.ensures.exactly in
-    let all = subst (λ (steps : List StepValue). All (IsFindingOf steps) c.findings-findings.result.now) (ap (λ (p : PlanValue). p.script.steps) c.requires)
-    (subst (All (IsFindingOf c.args.report.now.plan.script.steps)) (sym c.findings-findings.ensures.findings) within)
-    in
+    let all = subst (All (IsFindingOf c.args.report.now.plan.script.steps)) (sym c.findings-findings.ensures.findings) within in
     all c.loop-i.i nothing c.loop-i-test.true
 
 pub loop-i-preserved : goal.loop-i-preserved
@@ -39,7 +35,7 @@ loop-i-preserved c =
           (λ (a : List (List ℕ)). LeadsFor c.args.report.now.plan.script c.args.report.now.figures f a)
           (sym c.in_ok-way-2.ensures.kept) c.in_ok-way.ensures);
       written =
-          written_more c.args.report.now.granted c.args.plan.now.script c.args.report.now.figures
+          written_more c.args.report.now.granted c.args.report.now.plan.script c.args.report.now.figures
           c.args.report.now.findings c.loop-i.i f c.args.text.now.items c.loop-i.text.items
           c.write_case.new.text.items at c.loop-i.invariant.written c.in_ok-way-2.ensures.written;
     }

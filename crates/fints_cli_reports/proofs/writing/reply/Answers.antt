@@ -1,25 +1,20 @@
-use Rattle.std.proofs.Common.{◌≡◌, ◌∙◌, ◌++◌, ℕ, List, [], ap, subst}
-use Rattle.fints_check_findings.specs.Figures.{AreFigures}
-use Rattle.fints_check_findings.specs.Findings.{AreFindings, EachIsPermitted}
-use Rattle.fints_script.specs.Plans.{PlanValue}
+use Rattle.std.proofs.Common.{◌∙◌, ◌++◌, ℕ, List, ap}
 use Rattle.fints_cli_reports.specs.ReportText.{report_status, report_text}
 use Rattle.fints_cli_reports.proofs.Endings.{clean_is_none}
 use Rattle.fints_cli_reports.proofs.writing.reply.Goals as goal
 
 pub returns-clause-report : goal.returns-clause-report
 returns-clause-report c =
-    let granted = c.args.report.now.granted in
-    let script = c.args.plan.now.script in
+    let script = c.args.report.now.plan.script in
     let figures = c.args.report.now.figures in
     let findings = c.args.report.now.findings in
     let text = c.in_ok-write_report.ensures ∙ ap (λ (l : List ℕ). l ++ report_text script.steps figures findings) c.new-text.ensures.items in
-    let permitted = subst (λ (p : PlanValue). findings ≡ [] → EachIsPermitted granted p.script) c.requires c.keeps.ensures.permitted in
     record {
       figures = figures;
       findings = findings;
-      figures_are = subst (λ (p : PlanValue). AreFigures p.script figures) c.requires c.keeps.ensures.figures;
-      findings_are = subst (λ (p : PlanValue). AreFindings granted p.script findings) c.requires c.keeps.ensures.exactly;
+      figures_are = c.keeps.ensures.figures;
+      findings_are = c.keeps.ensures.exactly;
       text_is = text;
       status_is = c.report_status.ensures ∙ ap report_status c.findings.ensures.findings;
-      permitted = λ ends. permitted (clean_is_none script.steps figures findings _ text ends);
+      permitted = λ ends. c.keeps.ensures.permitted (clean_is_none script.steps figures findings _ text ends);
     }

@@ -1,6 +1,7 @@
 use Rattle.std.proofs.Common.{◌≡◌, ◌∙◌, ◌+◌, ◌-◌, ◌++◌, ℕ, suc, List, ap, sym, subst, take, Option, Some, append_assoc, arith}
 use Rattle.std.specs.Prelude.{slice_get}
-use Rattle.fints_script.specs.Numbered.{numbered_from}
+use Rattle.fints_script.specs.Numbered.{numbered, numbered_from}
+use Rattle.fints_script.specs.Plans.{PlanValue}
 use Rattle.fints_script.specs.Steps.{StepValue}
 use Rattle.fints_check_findings.specs.declared.finding.Reached.{Reached}
 use Rattle.fints_cli_reports.specs.ReportText.{step_line, step_lines}
@@ -10,14 +11,15 @@ use Rattle.fints_cli_reports.proofs.writing.write_steps.Goals as goal
 pub loop-i-preserved : goal.loop-i-preserved
 loop-i-preserved c =
     let i : ℕ = c.loop-i.i in
-    let steps : List StepValue = c.args.plan.now.script.steps in
+    let steps : List StepValue = c.args.report.now.plan.script.steps in
     let figures : List (Option Reached) = c.args.report.now.figures in
     let before = c.loop-i.text.items in
     let back : i + 1 - 1 ≡ i = omega arith in
     let next : suc i ≡ i + 1 = omega arith in
     let at : slice_get steps i ≡ Some c.step.result.now =
     subst (λ (k : ℕ). slice_get steps k ≡ Some c.step.result.now) back
-    (numbered_from steps (i + 1) c.step.result.now c.step.ensures.numbered) in
+    (numbered_from steps (i + 1) c.step.result.now
+    (subst (λ (p : PlanValue). numbered p.script.steps (i + 1) ≡ Some c.step.result.now) c.plan-2.ensures c.step.ensures.numbered)) in
     let has : slice_get figures i ≡ Some c.reached.result =
     subst (λ (k : ℕ). slice_get figures k ≡ Some c.reached.result) back
     (numbered_from figures (i + 1) c.reached.result c.reached.ensures.told) in
