@@ -2,7 +2,6 @@
 use Rattle.std.proofs.Common.{◌≡◌, ℕ, ◌<◌, ◌==◌, arith, Bool, ◌||◌, List, [], ◌∷◌, length, get_or, map, Some, None, Option, refl, ap, ◌∙◌, sym}
 use Rattle.std.specs.Prelude.{slice_get, unwrap_or}
 use Rattle.std.specs.List.{list_any}
-use Rattle.std.specs.Option.{option_map}
 use Rattle.std.specs.Str.{bytes_eq}
 use Rattle.std.proofs.lemmas.Bool.Decides.{nat_tests}
 use Rattle.std.proofs.lemmas.List.{get_or-map, length-map}
@@ -48,7 +47,8 @@ none_equal (x ∷ xs) = grind (arith, nat_tests)
 
 -- a list of six by its elements
 pub six_whole : (xs : List (List ℕ)) (a b c d e f : List ℕ) → length xs ≡ 6
-    → (get_or xs 0 a ∷ get_or xs 1 b ∷ get_or xs 2 c ∷ get_or xs 3 d ∷ get_or xs 4 e ∷ get_or xs 5 f ∷ []) ≡ xs
+    → (get_or xs 0 a ∷ get_or xs 1 b ∷ get_or xs 2 c ∷ get_or xs 3 d ∷ get_or xs 4 e ∷ get_or xs 5 f ∷ [])
+    ≡ xs
 six_whole [] a b c d e f h = absurd (omega arith)
 six_whole (u ∷ []) a b c d e f h = absurd (omega arith)
 six_whole (u ∷ v ∷ []) a b c d e f h = absurd (omega arith)
@@ -69,8 +69,8 @@ pub any_in : (p : OwnedSegment → Bool) (trees : List (List (List Spelled))) (s
     → segments_of trees ≡ segments → list_any (λ t. p (segment_of t)) trees ≡ list_any p segments
 any_in p trees segments is = any_segments p trees ∙ ap (list_any p) is
 
-pub length_in : (trees : List (List (List Spelled))) (segments : List OwnedSegment) → segments_of trees ≡ segments
-    → length trees ≡ length segments
+pub length_in : (trees : List (List (List Spelled))) (segments : List OwnedSegment)
+    → segments_of trees ≡ segments → length trees ≡ length segments
 length_in trees segments is = sym (length-map trees segment_of) ∙ ap length is
 
 -- the segment at a place
@@ -78,21 +78,22 @@ pub segment_at : (trees : List (List (List Spelled))) (i : ℕ) (t : List (List 
     → t ≡ get_or trees i t → segment_of t ≡ get_or (segments_of trees) i (segment_of t)
 segment_at trees i t lt at = ap segment_of at ∙ sym (get_or-map segment_of trees i t (segment_of t) lt)
 
-pub at_place : (trees : List (List (List Spelled))) (segments : List OwnedSegment) (i : ℕ) (t : List (List Spelled))
-    (s : OwnedSegment)
-    → segments_of trees ≡ segments → i < length segments → t ≡ get_or trees i t → slice_get segments i ≡ Some s
-    → segment_of t ≡ s
+pub at_place : (trees : List (List (List Spelled))) (segments : List OwnedSegment) (i : ℕ)
+    (t : List (List Spelled)) (s : OwnedSegment)
+    → segments_of trees ≡ segments → i < length segments → t ≡ get_or trees i t
+    → slice_get segments i ≡ Some s → segment_of t ≡ s
 at_place trees segments i t s is lt at found =
     let long = length_in trees segments is in
     let within : i < length trees = omega (arith, long, lt) in
     let here : segment_of t ≡ get_or segments i (segment_of t) =
     segment_at trees i t within at ∙ ap (λ (ss : List OwnedSegment). get_or ss i (segment_of t)) is in
-    let there : slice_get segments i ≡ Some (get_or segments i (segment_of t)) = slice_get-get_or segments i (segment_of t) lt in
+    let there : slice_get segments i ≡ Some (get_or segments i (segment_of t)) =
+    slice_get-get_or segments i (segment_of t) lt in
     cc
 
 -- the facts of the segment at a place
-pub facts_at : (m : MessageView) (trees : List (List (List Spelled))) (i : ℕ) (t : List (List Spelled)) (h : Head)
-    (s : OwnedSegment) (leading : List (List (List ℕ))) (lead : List (List ℕ)) (count : ℕ)
+pub facts_at : (m : MessageView) (trees : List (List (List Spelled))) (i : ℕ)
+    (t : List (List Spelled)) (h : Head) (s : OwnedSegment) (leading : List (List (List ℕ))) (lead : List (List ℕ)) (count : ℕ)
     → segments_of trees ≡ m.body → i < length m.body → t ≡ get_or trees i t → slice_get m.body i ≡ Some s
     → head_of (values_of t) ≡ Some h → leading ≡ map six_items m.body → lead ≡ get_or leading i lead
     → count ≡ count_of h.id m.body

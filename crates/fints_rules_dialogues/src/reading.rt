@@ -1,6 +1,7 @@
 //! The exchanges of a recorded dialogue: each message of the client with the bank's answer to it.
 ghost use Rattle.std.specs.Prelude.{◌≡◌, ◌≢◌, ◌<◌, ◌≤◌, ◌+◌, ◌^◌, ℕ, [], length, IfOk, IfErr};
 ghost use Rattle.std.specs.List.{AllByRecursion, list_any};
+ghost use Rattle.fints_syntax.specs.Owned.{segment_of};
 ghost use Rattle.fints_params.specs.Captures.{IsCodesOf};
 ghost use Rattle.fints_rules_messages.specs.Messages.{MessageView, IsMessage};
 ghost use Rattle.fints_rules_dialogues.specs.Dialogues.{is_hirmg, sents_in, IsExchange, IsFromClient, IsFromBank, IsClientFault, IsAnswerFault, IsExchangeFault, IsTurnFault, AreInTurn, IsDialogue, IsDialogueFault, IsMemoryOrRefusal, EndsBelow, BeginsWithOne};
@@ -9,6 +10,7 @@ use crate::cutting::{Sent, cut};
 use crate::fault::DialogueFault;
 use fints_params::{Code, ParamFault, feedback_codes};
 use fints_rules_messages::{JudgeFault, Message, read_message};
+use fints_syntax::SegmentView;
 use std::alloc::Global;
 
 /// An answer of the bank, and the codes of its feedback in their order.
@@ -25,13 +27,22 @@ pub struct Exchange<'a> {
     pub answer: Option<Answer<'a>>,
 }
 
-fn has_hirmg(message: &Message) -> bool
+fn is_hirmg(segment: &SegmentView<'_>) -> bool
+    ensures { result ≡ is_hirmg (segment_of segment.now) }
+{
+    segment.head().id.is(b"HIRMG")
+}
+
+fn some_hirmg(body: &[SegmentView<'_>]) -> bool
+    ensures { result ≡ list_any (λ s. is_hirmg (segment_of s)) body.now }
+{
+    body.iter().any(|segment| is_hirmg(segment))
+}
+
+fn has_hirmg(message: &Message<'_>) -> bool
     ensures { result ≡ list_any is_hirmg message.now.body }
 {
-    message
-        .body()
-        .iter()
-        .any(|segment| segment.head.id.is(b"HIRMG"))
+    some_hirmg(message.body())
 }
 
 // Whether the message is one of the client.

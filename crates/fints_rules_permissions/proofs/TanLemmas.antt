@@ -15,13 +15,17 @@ same_test m n h = grind (arith, nat_tests)
 
 row_test : (version : ℕ) (row : TanRow)
     → IsTrue (takes_one version row) ↔ (row.version ≡ version) × (row.several ≡ false)
-row_test version row = by_test (row.version == version) row.several (same_number row.version version, same_test row.version version)
+row_test version row =
+    by_test (row.version == version) row.several
+    (same_number row.version version, same_test row.version version)
   where
     by_test : (b s : Bool) → IsTrue b ↔ (row.version ≡ version)
         → IsTrue (b && not s) ↔ (row.version ≡ version) × (s ≡ false)
-    by_test true true d = (λ h. let no_match : false ≡ true = h in cc, λ h. let no_match : true ≡ false = h.1 in cc)
+    by_test true true d =
+        (λ h. let no_match : false ≡ true = h in cc, λ h. let no_match : true ≡ false = h.1 in cc)
     by_test true false d = (λ h. (d.0 refl, refl), λ h. refl)
-    by_test false s d = (λ h. let no_match : false ≡ true = h in cc, λ h. let no_match : false ≡ true = d.1 h.0 in cc)
+    by_test false s d =
+        (λ h. let no_match : false ≡ true = h in cc, λ h. let no_match : false ≡ true = d.1 h.0 in cc)
 
 pub takes_one_any : (rows : List TanRow) (version : ℕ) (b : Bool) → b ≡ list_any (takes_one version) rows
     → IsTrue b ↔ Any (λ row. (row.version ≡ version) × (row.several ≡ false)) rows

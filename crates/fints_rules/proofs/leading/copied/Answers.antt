@@ -11,6 +11,7 @@ returns-in-None c =
 pub returns-in_ok-append_value-in-Some : goal.returns-in_ok-append_value-in-Some
 returns-in_ok-append_value-in-Some c =
     let second : 1 < 2 = omega arith in
-    let copy = rw c.new-value.ensures.items at (c.new-in-Some.ensures ∙ c.in_ok-append_value-in-Some.ensures.added) in
+    let copy =
+    rw c.new-value.ensures.items at (c.new-in-Some.ensures ∙ c.in_ok-append_value-in-Some.ensures.added) in
     copy ∙ owned_value c.in-Some.found
     ∙ sym (value_found c.args.segment.now 2 c.args.item c.in-Some.found second c.requires c.in-Some.ensures)

@@ -18,11 +18,14 @@ loop-segment-preserved c =
     let body = segments_of views in
     let i = c.loop-segment.segment-index in
     let s = segment_of c.segment-item.result in
-    let kind : c.head-kind.result.id ≡ s.head.id = ap (λ (h : Head). h.id) (sym (head_is c.segment-item.result c.head-kind.result c.head-kind.ensures.head)) in
+    let kind : c.head-kind.result.id ≡ s.head.id =
+    ap (λ (h : Head). h.id) (sym (head_is c.segment-item.result c.head-kind.result c.head-kind.ensures.head)) in
     let less : i < length body = omega (arith, length-map views segment_of, c.loop-segment-test.true) in
     let at = segment_at views i c.segment-item.result c.loop-segment-test.true c.segment-item.is in
     let before = c.count_in-before.result in
-    let is : before ≡ count_of s.head.id (take i body) = c.count_in-before.ensures ∙ c.loop-segment.invariant.counts c.head-kind.result.id ∙ ap (λ k. count_of k (take i body)) kind in
+    let is : before ≡ count_of s.head.id (take i body) =
+    c.count_in-before.ensures ∙ c.loop-segment.invariant.counts c.head-kind.result.id
+    ∙ ap (λ k. count_of k (take i body)) kind in
     let counts : HoldsCounts (take (i + 1) body) (get (slice_cmp nat_cmp) c.insert.new.self) =
     λ k.
     counts_more k body i s before (before + 1) _ _ less at is

@@ -1,7 +1,5 @@
-use Rattle.std.proofs.Common.{◌≡◌, ◌∙◌, ap, length}
+use Rattle.std.proofs.Common.{◌∙◌, ap}
 use Rattle.std.specs.Prelude.{codes}
-use Rattle.std.specs.List.{list_any}
-use Rattle.fints_syntax.specs.Owned.{segment_of}
 use Rattle.fints_rules_permissions.specs.Kinds.{is_tan_order}
 use Rattle.fints_rules.specs.Facts.{demanding_of, ends_dialogue, has_tan, has_tan_process}
 use Rattle.fints_rules.proofs.ViewLemmas.{any_in, length_in}
@@ -13,10 +11,14 @@ returns c =
     let body = c.body-body.result.now in
     let ends = c.ends-ends.result.now in
     let signatures = length_in ends m.ends c.ends-ends.ensures in
-    let submits = c.some_has_tan_process.ensures ∙ any_in (has_tan_process (codes "4")) body m.body c.body-body.ensures in
-    let sends = c.some_has_tan_process-2.ensures ∙ any_in (has_tan_process (codes "2")) body m.body c.body-body.ensures in
+    let submits =
+    c.some_has_tan_process.ensures ∙ any_in (has_tan_process (codes "4")) body m.body c.body-body.ensures in
+    let sends =
+    c.some_has_tan_process-2.ensures ∙ any_in (has_tan_process (codes "2")) body m.body c.body-body.ensures in
     let end = c.some_ends.ensures ∙ any_in ends_dialogue body m.body c.body-body.ensures in
     let tan = c.some_has_tan.ensures ∙ any_in has_tan ends m.ends c.ends-ends.ensures in
-    let order = c.some_tan_order.ensures ∙ any_in (λ s. is_tan_order s.head.id) body m.body c.body-body.ensures in
-    let demanding = c.count_demanding.ensures ∙ ap (demanding_of c.args.permissions.now.rows.pins) c.body-body.ensures in
+    let order =
+    c.some_tan_order.ensures ∙ any_in (λ s. is_tan_order s.head.id) body m.body c.body-body.ensures in
+    let demanding =
+    c.count_demanding.ensures ∙ ap (demanding_of c.args.permissions.now.rows.pins) c.body-body.ensures in
     cc
