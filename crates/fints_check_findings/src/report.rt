@@ -97,13 +97,6 @@ impl<'a> Report<'a> {
         self.plan.keeps();
     }
 
-    /// The plan that it is about.
-    pub fn plan(&self) -> &'a Plan<'a>
-        ensures { result.now ≡ self.now.plan }
-    {
-        self.plan
-    }
-
     /// Whether nothing was found.
     pub fn is_clean(&self) -> bool
         ensures { IsTrue result ↔ (self.now.findings ≡ []) }
