@@ -15,7 +15,7 @@ use fints_rules_messages::{JudgeFault, Message, read_message};
 use std::alloc::Global;
 
 // The message before the judged one.
-fn read_before(alloc: Global, before: &[u8]) -> Result<Message, Fault>
+fn read_before(alloc: Global, before: &[u8]) -> Result<Message<'_>, Fault>
     ensures message { IfOk result (λ m. IsMessage before.now m) }
     ensures refused { IfErr result (λ f. IsBeforeRefusal before.now f) }
 {
