@@ -12,7 +12,7 @@ use fints_rules::{
     Broken, JudgeFault, Message, OrderTable, Permissions, judge, judge_after, read_message,
 };
 use fints_rules_causes::segment_cause;
-use fints_syntax::{Kind, Memory, OwnedSegment};
+use fints_syntax::{Kind, Memory, SegmentView};
 use std::alloc::Global;
 
 // The rules that the message breaks.
@@ -39,11 +39,11 @@ fn broken_by(
 fn kinds_in(
     alloc: Global,
     permissions: &Permissions<'_>,
-    body: &[OwnedSegment],
+    body: &[SegmentView<'_>],
 ) -> Result<Kinds, Memory> {
     let mut kinds: Vec<Kind> = Vec::new(alloc);
     for segment in body {
-        kinds.push(segment.head.id)?;
+        kinds.push(segment.id())?;
     }
     Ok(Kinds::of(kinds, permissions))
 }
@@ -53,7 +53,7 @@ fn kinds_in(
 pub struct Judged<'a> {
     pub bank: &'a Bank<'a>,
     pub called: &'a str,
-    pub message: &'a Message,
+    pub message: &'a Message<'a>,
 }
 
 fn place_of<'a>(judged: &Judged<'a>, broken: &Broken) -> Where<'a> {
@@ -69,31 +69,30 @@ fn add_segment(
     judged: &Judged<'_>,
     kinds: &Kinds,
     broken: &Broken,
-    segment: &OwnedSegment,
+    segment: &SegmentView<'_>,
 ) -> Result<(), Memory> {
     let bank = judged.bank;
-    let (kind, version) = (segment.head.id, segment.head.version);
+    let (kind, version) = (segment.id(), segment.version());
     let signatures = judged.message.ends().len();
+    let Some(cause) = segment_cause(bank.permissions, broken.rule, kind, version, signatures) else {
+        return Ok(());
+    };
+    let sent = segment.to_owned(alloc)?;
     let seen = Seen {
         kind,
         version,
-        elements: Elements::Sent(segment),
+        elements: Elements::Sent(&sent),
         count: kinds.count(kind),
         signatures,
         demanding: kinds.demanding(),
         no_tan: NoTan::NoneThere,
     };
-    match segment_cause(bank.permissions, broken.rule, kind, version, signatures) {
-        None => Ok(()),
-        Some(cause) => {
-            let why = SegmentWhy {
-                bank,
-                seen: &seen,
-                cause,
-            };
-            add_why(text, alloc, place_of(judged, broken), why)
-        }
-    }
+    let why = SegmentWhy {
+        bank,
+        seen: &seen,
+        cause,
+    };
+    add_why(text, alloc, place_of(judged, broken), why)
 }
 
 fn add_whole(
@@ -124,8 +123,8 @@ fn add_whole(
 }
 
 // The segment of a body that has the number: they are numbered on from the first.
-fn segment_of(body: &[OwnedSegment], number: u16) -> Option<&OwnedSegment> {
-    let first = body.first()?.head.number;
+fn segment_of<'b, 'a>(body: &'b [SegmentView<'a>], number: u16) -> Option<&'b SegmentView<'a>> {
+    let first = body.first()?.number();
     body.get(usize::from(number.checked_sub(first)?))
 }
 
@@ -151,13 +150,14 @@ const ANSWER: &str =
     "each segment begins with HI or DI, so this is a bank's answer: hand it over by --answer, the message that it answers by --before, and the client's next one by --message";
 
 // Whether the segment is one that a bank sends.
-fn is_of_bank(segment: &OwnedSegment) -> bool {
-    let name = segment.head.id.as_bytes();
+fn is_of_bank(segment: &SegmentView<'_>) -> bool {
+    let kind = segment.id();
+    let name = kind.as_bytes();
     name.starts_with(b"HI") || name.starts_with(b"DI")
 }
 
 // Whether the message has segments, all of which a bank sends.
-fn is_answer(message: &Message) -> bool {
+fn is_answer(message: &Message<'_>) -> bool {
     let body = message.body();
     !body.is_empty() && body.iter().all(is_of_bank)
 }
