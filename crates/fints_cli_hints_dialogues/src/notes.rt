@@ -130,15 +130,21 @@ fn dialogue_note<'a>(id: &'a [u8], given: Option<&'a [u8]>) -> Option<Note<'a>> 
     }
 }
 
-// What an HKEND of the message names in place of the dialogue id.
-fn other_end<'a>(message: &'a Message, id: &[u8]) -> Option<&'a [u8]> {
+// The first HKEND of the message that names another than the dialogue id.
+fn other_end(
+    alloc: Global,
+    message: &Message<'_>,
+    id: &[u8],
+) -> Result<Option<OwnedSegment>, Memory> {
     for segment in message.body() {
-        let named = segment.value(2, 1);
-        if segment.head.id.is(b"HKEND") && named != id {
-            return Some(named);
+        if segment.id().is(b"HKEND") {
+            let end = segment.to_owned(alloc)?;
+            if end.value(2, 1) != id {
+                return Ok(Some(end));
+            }
         }
     }
-    None
+    Ok(None)
 }
 
 // Adds the notes on a message of the client, and answers its number.
@@ -162,8 +168,8 @@ fn add_message(
     if let Some(note) = dialogue_note(id, due.given) {
         add_note(text, alloc, place, note)?;
     }
-    if let Some(named) = other_end(&message, id) {
-        add_note(text, alloc, place, Note::OtherEnd(named, id))?;
+    if let Some(end) = other_end(alloc, &message, id)? {
+        add_note(text, alloc, place, Note::OtherEnd(end.value(2, 1), id))?;
     }
     if !front.sealed && !message.ends().is_empty() {
         add_note(text, alloc, place, Note::NotSealed)?;
