@@ -14,5 +14,5 @@ pub use fault::Fault;
 pub use judging::{judge_message, judge_read, verdict_status, write_broken, write_last};
 pub use judging_after::judge_after_read;
 pub use reply::Reply;
-pub use showing::show;
+pub use showing::{show, show_read};
 pub use showing_message::show_message;

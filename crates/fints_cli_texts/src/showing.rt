@@ -1,24 +1,29 @@
 //! The text of `show`: what a capture says of the bank and the user.
-ghost use Rattle.std.specs.Prelude.{◌≡◌, ◌++◌, OnOk, IfOk, IfErr};
+ghost use Rattle.std.specs.Prelude.{◌≡◌, ◌++◌, ℕ, List, Err, OnOk, IfOk, IfErr};
 ghost use Rattle.std.specs.List.{flat_map};
-ghost use Rattle.fints_cli_texts.specs.Show.{shown, after_space, figure, bank_text, protocols_text, kind_text, flag_text, bank_line, order_line, pin_line, tan_line, usage_line, item_text, national_text, account_line, entry_line, account_lines, skipped_line, code_line, rows_text, IsShowOf, IsMemoryOrShowFault};
+ghost use Rattle.fints_cli_texts.specs.Show.{shown, after_space, figure, bank_text, protocols_text, kind_text, flag_text, bank_line, order_line, pin_line, tan_line, usage_line, item_text, national_text, account_line, entry_line, account_lines, skipped_line, code_line, rows_text, IsBothReadOf, IsShowOf, IsMemoryOrShowFault};
+ghost use Rattle.fints_cli_texts.specs.Fault.{fault_of};
+ghost use Rattle.fints_params.specs.declared.fault.ParamFault.{ParamFault as ParamFaultValue};
 
 use crate::fault::Fault;
 use fints_params::{
-    AccountRow, BankRow, Code, Entry, National, OrderParam, Params, PinRow, TanRow, Usage,
-    params_and_codes,
+    AccountRow, BankRow, Code, Entry, National, OrderParam, ParamFault, Params, ParamsAndCodes,
+    PinRow, TanRow, Usage, params_and_codes,
 };
 use fints_syntax::{Bytes, Kind, Memory, OwnedItem, write_item};
 use itoa::Buffer;
 use std::alloc::Global;
 
-/// The lines of a capture's parameters and of its feedback. Of the refusals that of the parameters
-/// comes first.
-pub fn show(alloc: Global, capture: &[u8]) -> Result<Vec<u8>, Fault>
-    ensures shown { IfOk result (λ text. IsShowOf capture.now text.items) }
-    ensures refused { IfErr result (λ f. IsMemoryOrShowFault capture.now f) }
+/// The lines of a capture's parameters and of its feedback, by what was read of it. The capture itself
+/// need not be there any more.
+pub fn show_read(alloc: Global, read: Result<ParamsAndCodes, ParamFault>) -> Result<Vec<u8>, Fault>
+    ensures shown { IfOk result (λ text. (capture : List ℕ) → IsBothReadOf capture read
+        → IsShowOf capture text.items) }
+    ensures refused { IfErr result (λ f. (capture : List ℕ) → IsBothReadOf capture read
+        → IsMemoryOrShowFault capture f) }
+    ensures read_first { (f : ParamFaultValue) → read ≡ Err f → result ≡ Err (fault_of f) }
 {
-    let told = match params_and_codes(alloc, capture) {
+    let told = match read {
         Ok(told) => told,
         Err(fault) => return Err(Fault::from(fault)),
     };
@@ -26,6 +31,15 @@ pub fn show(alloc: Global, capture: &[u8]) -> Result<Vec<u8>, Fault>
     write_params(alloc, &mut text, &told.params)?;
     write_codes(&mut text, told.codes.as_slice())?;
     Ok(text)
+}
+
+/// The lines of a capture's parameters and of its feedback. Of the refusals that of the parameters
+/// comes first.
+pub fn show(alloc: Global, capture: &[u8]) -> Result<Vec<u8>, Fault>
+    ensures shown { IfOk result (λ text. IsShowOf capture.now text.items) }
+    ensures refused { IfErr result (λ f. IsMemoryOrShowFault capture.now f) }
+{
+    show_read(alloc, params_and_codes(alloc, capture))
 }
 
 #[tactic(auto, unfolding(crate::specs::Show::rows_text))]

@@ -1,5 +1,6 @@
 -- What rows give, one behind the other, and the place of the first fault.
-use Rattle.std.specs.Prelude.{◌≡◌, ◌⊎◌, ℕ, ◌+◌, List, [], ◌∷◌, Result, Ok, Err}
+use Rattle.std.specs.Prelude.{◌≡◌, ◌⊎◌, ℕ, ◌+◌, List, [], ◌∷◌, ◌++◌, codes, Result, Ok, Err}
+use Rattle.std.specs.Fmt.{decimal}
 use Rattle.toml.specs.Data.{Data}
 use Rattle.fints_script_rows.specs.Parts.{Part, ◌>>=◌}
 use Rattle.fints_script_rows.specs.declared.fault.FaultKind.{FaultKind}
@@ -7,6 +8,14 @@ use Rattle.fints_script_rows.specs.declared.fault.FaultKind.TheVariants as kinds
 use Rattle.fints_script_rows.specs.declared.fault.Place.{Place}
 use Rattle.fints_script_rows.specs.declared.fault.Place.TheVariants as places
 use Rattle.fints_script_rows.specs.declared.fault.ScriptFault.{ScriptFault}
+
+-- how a place is told
+abbrev pub place_text : Place → List ℕ
+place_text places.Top = codes "top"
+place_text (places.Field row) = codes "field " ++ decimal row
+place_text (places.Signer row) = codes "signer " ++ decimal row
+place_text places.Seal = codes "seal"
+place_text (places.Step row) = codes "step " ++ decimal row
 
 abbrev pub fault_at : Place → FaultKind → ScriptFault
 fault_at place kind = record { kind = kind; place = place }

@@ -1,5 +1,6 @@
 //! What is wrong with a script.
-ghost use Rattle.std.specs.Prelude.{◌≡◌};
+ghost use Rattle.std.specs.Prelude.{◌≡◌, Some};
+ghost use Rattle.fints_script_rows.specs.Rows.{place_text};
 ghost use Rattle.fints_script_rows.specs.declared.fault.FaultKind.TheVariants as kinds;
 ghost use Rattle.fints_script_rows.specs.declared.fault.Place.TheVariants as places;
 
@@ -68,6 +69,8 @@ pub enum Place {
 }
 
 impl Display for Place {
+    ghost output = { λ place. Some (place_text place) };
+
     fn fmt<W: Write>(&self, f: &mut Formatter<W>) -> fmt::Result {
         match self {
             Place::Top => write!(f, "top"),

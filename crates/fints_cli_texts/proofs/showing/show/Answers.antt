@@ -1,25 +1,14 @@
-use Rattle.std.proofs.Common.{◌++◌, ◌∙◌, ap, sym, subst}
-use Rattle.std.specs.List.{flat_map}
-use Rattle.fints_cli_texts.specs.Show.{code_line, rows_text, IsMemoryOrShowFault}
-use Rattle.fints_cli_texts.proofs.ShowLemmas.{kept}
+use Rattle.std.proofs.Common.{ℕ, List}
+use Rattle.std.proofs.lemmas.Result.{IfErr-weaker}
+use Rattle.fints_cli_texts.specs.Show.{IsBothReadOf, IsMemoryOrShowFault}
+use Rattle.fints_cli_texts.proofs.ShowLemmas.{both_read}
 use Rattle.fints_cli_texts.proofs.showing.show.Goals as goal
 
-pub returns-in-Err-clause-refused : goal.returns-in-Err-clause-refused
-returns-in-Err-clause-refused c =
-    subst (IsMemoryOrShowFault c.args.capture.now) (sym c.from.ensures)
-    (kept c.args.capture.now c.in-Err.fault c.in-Err.ensures.refused)
-
-pub returns-clause-shown : goal.returns-clause-shown
-returns-clause-shown c =
-    let told = c.in-Ok.told in
-    let codes = c.as_slice.result.now in
-    let rows = c.in_ok-write_params.ensures ∙ ap (λ xs. xs ++ rows_text told.params) c.new-text.ensures.items in
-    record {
-      rows = told.params;
-      feedback = told.codes.items;
-      rows_are = c.in-Ok.ensures.params;
-      feedback_is = c.in-Ok.ensures.codes;
-      text_is =
-          c.in_ok-write_codes.ensures ∙ ap (λ xs. xs ++ flat_map code_line codes) rows
-          ∙ ap (λ cs. rows_text told.params ++ flat_map code_line cs) c.as_slice.ensures.value;
-    }
+pub returns-clause-refused : goal.returns-clause-refused
+returns-clause-refused c =
+    let capture = c.args.capture.now in
+    let told = c.params_and_codes.ensures in
+    let read = both_read capture c.params_and_codes.result told.params told.codes told.refused in
+    IfErr-weaker c.show_read.result
+    (λ f. (capture : List ℕ) → IsBothReadOf capture c.params_and_codes.result → IsMemoryOrShowFault capture f)
+    (IsMemoryOrShowFault capture) (λ f h. h capture read) c.show_read.ensures.refused
