@@ -1,10 +1,13 @@
 -- The laws, each with its proof, for the proofs of the crates above.
 use Rattle.std.specs.Prelude.{ℕ, ◌≡◌, Some}
 use Rattle.fints_script.specs.Laws.{ClosedSegments, DenotedIsSound, NoScriptAtFault, OneScript, OneTextFault, ReadIsSound}
+use Rattle.fints_script.specs.RefusalLaws.{FirstKindTold, FirstPlaceTold, NoneInScript}
 use Rattle.fints_script.specs.Scripts.{IsRead, ScriptValue}
 use Rattle.fints_script.specs.Numbered.{numbered, numbered_holds}
 use Rattle.fints_script.specs.Sound.{IsSound, IsSoundStep}
 use Rattle.fints_script.specs.Steps.{StepValue}
+use Rattle.fints_script.proofs.FirstKinds.{first_told}
+use Rattle.fints_script.proofs.NoFaults.{first_place, none_in_script}
 use Rattle.fints_script.proofs.OneScript.{no_script, one_fault, one_script}
 use Rattle.fints_script.proofs.ClosedSegments.{closed_segment}
 use Rattle.fints_script.proofs.SoundScripts.{sound}
@@ -36,3 +39,12 @@ denoted_is_sound text s d = sound s (d.members, d.is)
 
 pub closed_segments : ClosedSegments
 closed_segments = closed_segment
+
+pub told_is_first_kind : FirstKindTold
+told_is_first_kind = first_told one_field
+
+pub told_is_first_place : FirstPlaceTold
+told_is_first_place = first_place one_field
+
+pub told_is_first_none : NoneInScript
+told_is_first_none = none_in_script one_field

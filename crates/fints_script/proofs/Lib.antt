@@ -14,4 +14,10 @@ pub mod SoundScripts
 pub mod ClosedSegments
 pub mod OneScript
 pub mod DialogFields
+pub mod ToldKinds
+pub mod ToldParts
+pub mod ToldFrames
+pub mod ToldSteps
+pub mod FirstKinds
+pub mod NoFaults
 pub mod LawLemmas

@@ -51,7 +51,7 @@ module _ (one_field : OneField) where
       let rest : fs ≡ gs = others_once fs gs cc in
       λ j. first j ∷ rest j
 
-  one_fields : (rows : List Data) (fs gs : List NamedField) → DenoteFields rows fs → DenoteFields rows gs
+  pub one_fields : (rows : List Data) (fs gs : List NamedField) → DenoteFields rows fs → DenoteFields rows gs
       → fs ≡ gs
   one_fields rows fs gs h i = others_once fs gs (h.2 ∙ ap (λ others. dialog_value ∷ others) (same_ok h.0 i.0 (sym h.1 ∙ i.1)) ∙ sym i.2)
 
@@ -110,7 +110,7 @@ module _ (one_field : OneField) where
   TextGives text r = TooLong text r ⊎ NoToml text r ⊎ IsTable text r
 
   -- a text that is too long is no document
-  too_long : (text : List ℕ) → MAX_TEXT < length text → document text ≡ None
+  pub too_long : (text : List ℕ) → MAX_TEXT < length text → document text ≡ None
   unfolding document
   too_long text h = elim (cases_Bool (leb (length text) 1048576)) [
     | inl le ↦ let short : length text ≤ 1048576 = grind (arith, nat_tests) in absurd (omega arith)

@@ -5,3 +5,4 @@ pub mod Plans
 pub mod Numbered
 pub mod Sound
 pub mod Laws
+pub mod RefusalLaws
