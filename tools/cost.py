@@ -349,6 +349,7 @@ def measured(room):
         ("show, segments of elements of one byte", "bytes", half, show(full("+a"))),
         ("show, segments of items of one byte", "bytes", half, show(full(":a"))),
         ("show, segments of a megabyte in one item", "bytes", half, show(full("a" * (MOST_TEXT - 100), 1))),
+        ("judge, segments of a megabyte in one item, in pieces", "bytes", half, judge(full("a" * (MOST_TEXT - 100), 1), small)),
         ("show, HIPINS of different kinds", "bytes", half, show(kinds)),
         ("judge, HIPINS of different kinds, 1 order", "bytes", half, judge(kinds, small)),
         ("judge, HIPINS of different kinds, 996 orders", "bytes", half, judge(kinds, many)),

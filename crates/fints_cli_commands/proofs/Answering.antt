@@ -1,6 +1,8 @@
 -- What is said of what was loaded is said of what the files of a request hold.
-use Rattle.std.proofs.Common.{ℕ, ◌≡◌, refl, subst, Bool, List, Option, None, Some, IfSome}
+use Rattle.std.proofs.Common.{ℕ, ◌≡◌, refl, subst, Bool, List, Option, None, Some, IfSome, Result}
 use Rattle.fints_params.specs.Captures.{IsReadOf}
+use Rattle.fints_params.specs.Parameters.{Rows}
+use Rattle.fints_params.specs.declared.fault.ParamFault.{ParamFault}
 use Rattle.fints_cli_reports.specs.RunText.{IsRunRefusal}
 use Rattle.fints_cli_texts.specs.declared.fault.Fault.{Fault}
 use Rattle.fints_cli_texts.specs.Judge.{IsJudgeRefusal}
@@ -16,7 +18,6 @@ use Rattle.fints_cli_words.specs.declared.words.DraftFiles.{DraftFiles}
 use Rattle.fints_cli_words.specs.declared.words.EarlierFiles.{EarlierFiles}
 use Rattle.fints_cli_words.specs.declared.words.JudgeFiles.{JudgeFiles}
 use Rattle.fints_cli_words.specs.declared.words.RunFiles.{RunFiles}
-use Rattle.fints_cli_commands.specs.declared.loading.Captures.{Captures}
 use Rattle.fints_cli_commands.specs.declared.loading.Contents.{Contents}
 use Rattle.fints_cli_commands.specs.Commands.{IfTold, OfTable, RefusesRequest}
 use Rattle.fints_cli_commands.specs.Loading.{Held, paths_of}
@@ -30,11 +31,11 @@ of_files P a b c x y z h i j p =
     of_file (λ q. IfSome b (λ r. IfSome c (λ s. P q r s))) a x h
     (of_file (λ r. IfSome c (λ s. P x r s)) b y i (of_file (λ s. P x y s) c z j p))
 
-module _ (holds : Held) (captures : Captures) (contents : Contents) (fault : Fault) where
+module _ (holds : Held) (params : Result Rows ParamFault) (contents : Contents) (fault : Fault) where
   pub judge_refused : (files : JudgeFiles)
-      → ((capture : List ℕ) → IsReadOf capture captures.params
+      → ((capture : List ℕ) → IsReadOf capture params
       → IsJudgeRefusal capture contents.orders.items contents.message.items fault)
-      → IsLoaded (paths_of (Judge files)) holds captures contents
+      → IsLoaded (paths_of (Judge files)) holds params contents
       → RefusesRequest (Judge files) holds fault
   judge_refused files refused loaded =
       let capture = loaded.params in
@@ -44,9 +45,9 @@ module _ (holds : Held) (captures : Captures) (contents : Contents) (fault : Fau
       capture.1 loaded.orders loaded.message (refused capture.0 capture.2)
 
   pub judge_after_refused : (files : JudgeFiles) (earlier : EarlierFiles)
-      → ((capture : List ℕ) → IsReadOf capture captures.params → IsJudgeAfterRefusal
+      → ((capture : List ℕ) → IsReadOf capture params → IsJudgeAfterRefusal
       capture contents.orders.items contents.before.items contents.answer.items contents.message.items fault)
-      → IsLoaded (paths_of (JudgeAfter files earlier)) holds captures contents
+      → IsLoaded (paths_of (JudgeAfter files earlier)) holds params contents
       → RefusesRequest (JudgeAfter files earlier) holds fault
   judge_after_refused files earlier refused loaded =
       let capture = loaded.params in
@@ -64,7 +65,7 @@ module _ (holds : Held) (captures : Captures) (contents : Contents) (fault : Fau
 
   pub audit_own_refused : (files : AuditFiles)
       → IsOwnAuditRefusal contents.orders.items contents.dialogue.items fault
-      → IsLoaded (paths_of (AuditOwn files)) holds captures contents
+      → IsLoaded (paths_of (AuditOwn files)) holds params contents
       → RefusesRequest (AuditOwn files) holds fault
   audit_own_refused files refused loaded =
       let orders = contents.orders.items in
@@ -73,9 +74,9 @@ module _ (holds : Held) (captures : Captures) (contents : Contents) (fault : Fau
       (of_file (λ d. IsOwnAuditRefusal orders d fault) told contents.dialogue.items loaded.dialogue refused)
 
   pub audit_refused : (files : AuditFiles) (path : Bor (List ℕ))
-      → ((capture : List ℕ) → IsReadOf capture captures.params
+      → ((capture : List ℕ) → IsReadOf capture params
       → IsAuditRefusal capture contents.orders.items contents.dialogue.items fault)
-      → IsLoaded (paths_of (Audit files path)) holds captures contents
+      → IsLoaded (paths_of (Audit files path)) holds params contents
       → RefusesRequest (Audit files path) holds fault
   audit_refused files path refused loaded =
       let capture = loaded.params in
@@ -86,7 +87,7 @@ module _ (holds : Held) (captures : Captures) (contents : Contents) (fault : Fau
 
   pub run_refused : (files : RunFiles) (only : Option ℕ)
       → IsRunRefusal contents.orders.items contents.script.items contents.case.items only fault
-      → IsLoaded (paths_of (requests.Run files only)) holds captures contents
+      → IsLoaded (paths_of (requests.Run files only)) holds params contents
       → RefusesRequest (requests.Run files only) holds fault
   run_refused files only refused loaded =
       of_files (λ q r s. IsRunRefusal q r s only fault)
@@ -106,7 +107,7 @@ module _ (holds : Held) (captures : Captures) (contents : Contents) (fault : Fau
       → (files.orders ≡ None → table ≡ no_orders)
       → IfSome files.orders (λ path. table ≡ contents.orders.items)
       → IsDraftRefusal table contents.dialogue.items fault
-      → IsLoaded (paths_of (Draft files case)) holds captures contents
+      → IsLoaded (paths_of (Draft files case)) holds params contents
       → RefusesRequest (Draft files case) holds fault
   draft_refused files case table absent named refused loaded =
       let told = holds files.dialogue.now in

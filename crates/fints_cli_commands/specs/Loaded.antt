@@ -2,18 +2,15 @@
 use Rattle.std.specs.Prelude.{◌≡◌, ◌≤◌, ◌+◌, ◌-◌, ◌*◌, ◌^◌, min, ℕ, List, length, Option, IfSome, Result}
 use Rattle.std.specs.Borrow.{Bor}
 use Rattle.fints_params.specs.Parameters.{Rows}
-use Rattle.fints_params.specs.declared.both.ParamsAndCodes.{ParamsAndCodes}
 use Rattle.fints_params.specs.declared.fault.ParamFault.{ParamFault}
 use Rattle.fints_cli_files.specs.Captures.{IsReadFrom}
 use Rattle.fints_cli_files.specs.Loading.{MAX_READS, NoneFailed}
 use Rattle.fints_cli_files.specs.Streams.{IsFile, ReadCounts}
 use Rattle.fints_cli_files.specs.declared.reading.LoadFault.{LoadFault}
 use Rattle.fints_cli_files.specs.declared.reading.LoadFault.TheVariants as load_faults
-use Rattle.fints_cli_texts.specs.Show.{IsBothReadOf}
 use Rattle.fints_cli_texts.specs.declared.fault.Fault.TheVariants.{Memory}
 use Rattle.fints_cli_commands.specs.declared.failing.Failure.{Failure}
 use Rattle.fints_cli_commands.specs.declared.failing.Failure.TheVariants.{Input, Unread}
-use Rattle.fints_cli_commands.specs.declared.loading.Captures.{Captures}
 use Rattle.fints_cli_commands.specs.declared.loading.Contents.{Contents}
 use Rattle.fints_cli_commands.specs.declared.loading.Paths.{Paths}
 use Rattle.fints_cli_commands.specs.Loading.{Held, NamedFile, AreWithin, FollowsReading}
@@ -26,18 +23,11 @@ IsFileAt path holds bytes = IfSome path (λ p. IsFile (holds p.now) bytes)
 abbrev pub IsReadAt : Option (Bor (List ℕ)) → Held → Result Rows ParamFault → Type 0
 IsReadAt path holds params = IfSome path (λ p. IsReadFrom (holds p.now) params)
 
--- what was answered where the parameters and the codes of a file were read
-abbrev pub IsBothReadFrom : Option (List ℕ) → Result ParamsAndCodes ParamFault → Type 0
-IsBothReadFrom held read = (bytes : List ℕ) × IsFile held bytes × IsBothReadOf bytes read
-
--- the capture of the path was read so, where there is a path
-abbrev pub IsShownAt : Option (Bor (List ℕ)) → Held → Result ParamsAndCodes ParamFault → Type 0
-IsShownAt path holds read = IfSome path (λ p. IsBothReadFrom (holds p.now) read)
-
 -- what was loaded is what the files of these paths hold
-pub record IsLoaded (paths : Paths) (holds : Held) (captures : Captures) (contents : Contents) : Type 0 where
-  pub shown : IsShownAt paths.shown holds captures.shown
-  pub params : IsReadAt paths.params holds captures.params
+pub record IsLoaded (paths : Paths) (holds : Held) (capture : Result Rows ParamFault) (contents : Contents)
+    : Type 0 where
+  pub shown : IsFileAt paths.shown holds contents.shown.items
+  pub params : IsReadAt paths.params holds capture
   pub orders : IsFileAt paths.orders holds contents.orders.items
   pub script : IsFileAt paths.script holds contents.script.items
   pub case : IsFileAt paths.case holds contents.case.items

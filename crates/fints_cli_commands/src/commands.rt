@@ -12,7 +12,7 @@ ghost use Rattle.fints_cli_commands.specs.Commands.{cases_wanted, drafted, failu
 
 use crate::built_in;
 use crate::failing::{Refusal, refused};
-use crate::loading::{Captures, Contents, Loaded, load_all, paths_of};
+use crate::loading::{Contents, Loaded, load_all, paths_of};
 use fints_cli_drafts::{Drafted, draft_read};
 use fints_cli_drawings::{draw_read, draw_script};
 use fints_cli_files::Files;
@@ -22,8 +22,9 @@ use fints_cli_hints_segments::skipped_notes;
 use fints_cli_hints_verdicts::{report_reasons, verified_reason};
 use fints_cli_recorded::{audit_own, audit_read};
 use fints_cli_reports::{Wanted, run_case, tell_read, tell_script, verify_read};
-use fints_cli_texts::{Fault, Reply, judge_after_read, judge_read, show_message, show_read};
+use fints_cli_texts::{Fault, Reply, judge_after_read, judge_read, show, show_message};
 use fints_cli_words::Request;
+use fints_params::{ParamFault, Params};
 use std::alloc::Global;
 
 #[tactic(auto, unfolding(crate::specs::BuiltIn::capture, crate::specs::BuiltIn::orders, crate::specs::BuiltIn::script))]
@@ -75,23 +76,22 @@ fn table_of<'c>(path: Option<&str>, contents: &'c Contents) -> &'c [u8]
 fn answer(
     alloc: Global,
     request: &Request<'_>,
-    captures: Captures,
+    params: Result<Params, ParamFault>,
     contents: &Contents,
 ) -> Result<Reply, Fault>
     ensures status { IfOk result (λ reply. reply.status ≤ 1) }
     ensures answers { IfOk result (λ reply.
-        (holds : Held) → IsLoaded (paths_named request.now) holds captures contents.now
+        (holds : Held) → IsLoaded (paths_named request.now) holds params contents.now
         → AnswersTo request.now holds reply.status reply.text.items) }
     ensures refused { IfErr result (λ fault.
-        (holds : Held) → IsLoaded (paths_named request.now) holds captures contents.now
+        (holds : Held) → IsLoaded (paths_named request.now) holds params contents.now
         → RefusesRequest request.now holds fault) }
 {
-    let Captures { shown, params } = captures;
     let Contents { orders, script, .. } = contents;
     match request {
         Request::BuiltIn => tell_built_in(alloc),
         Request::Show { .. } => {
-            let text = show_read(alloc, shown)?;
+            let text = show(alloc, &contents.shown)?;
             Ok(Reply { status: 0, text })
         }
         Request::ShowMessage { .. } => {
@@ -194,8 +194,8 @@ pub fn perform<F: Files>(
     ensures no_reasons { IfOk result (λ it. hints ≡ false → it.reasons ≡ None) }
 {
     let paths = paths_of(request);
-    let Loaded { captures, contents } = load_all(alloc, files, &paths, hints)?;
-    match answer(alloc, request, captures, &contents) {
+    let Loaded { params, contents } = load_all(alloc, files, &paths, hints)?;
+    match answer(alloc, request, params, &contents) {
         Ok(reply) => {
             let reasons = reasons(alloc, request, &contents, hints);
             Ok(Answered { reply, reasons })

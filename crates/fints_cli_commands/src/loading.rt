@@ -3,13 +3,13 @@ ghost use Rattle.std.specs.Prelude.{◌≡◌, IfOk, IfErr, codes};
 ghost use Rattle.fints_cli_commands.specs.Commands.{HintsIfAsked};
 ghost use Rattle.fints_cli_commands.specs.Loading.{file_at, files_at};
 ghost use Rattle.fints_cli_commands.specs.Loading as loading;
-ghost use Rattle.fints_cli_commands.specs.Loaded.{AreRead, IsFileAt, IsLoaded, IsOneUnread, IsReadAt, IsShownAt};
+ghost use Rattle.fints_cli_commands.specs.Loaded.{AreRead, IsFileAt, IsLoaded, IsOneUnread, IsReadAt};
 
 use crate::failing::{Refusal, unread};
 use fints_cli_files::{Capture, Files, ReadCapture, load, load_into};
 use fints_cli_hints::Inputs;
 use fints_cli_words::{AuditFiles, JudgeFiles, Request, ScriptFiles};
-use fints_params::{ParamFault, Params, ParamsAndCodes, params_and_codes};
+use fints_params::{ParamFault, Params};
 use fints_syntax::MAX_CAPTURE;
 use fints_syntax_lines::MAX_TEXT;
 use std::alloc::Global;
@@ -17,7 +17,7 @@ use std::alloc::Global;
 /// The paths that a request names, by what their files are; none of a file that it doesn't need.
 #[derive(Clone, Copy)]
 pub struct Paths<'a> {
-    /// A capture that is shown: it is read whole, and its bytes are let go then.
+    /// A capture that is shown: its bytes are loaded whole.
     pub shown: Option<&'a str>,
     /// A capture by which something is judged: it is read as it comes.
     pub params: Option<&'a str>,
@@ -130,7 +130,8 @@ pub fn paths_of<'a>(request: &Request<'a>) -> Paths<'a>
 /// The bytes of the files that were loaded; empty where there is no path.
 #[derive(Drop)]
 pub struct Contents {
-    /// Those of a capture that is shown, or that was read as it came: empty where no hint may need them.
+    pub shown: Vec<u8>,
+    /// Those of a capture that was read as it came: empty where no hint may need them.
     pub capture: Vec<u8>,
     pub orders: Vec<u8>,
     pub script: Vec<u8>,
@@ -145,8 +146,13 @@ pub struct Contents {
 impl Contents {
     /// The bytes for a hint.
     pub fn inputs(&self) -> Inputs<'_> {
+        let params = if self.shown.is_empty() {
+            &self.capture
+        } else {
+            &self.shown
+        };
         Inputs {
-            params: self.capture.as_slice(),
+            params: params.as_slice(),
             orders: self.orders.as_slice(),
             script: self.script.as_slice(),
             case: self.case.as_slice(),
@@ -159,27 +165,12 @@ impl Contents {
     }
 }
 
-/// What was read of captures, or why they are refused.
-#[derive(Drop)]
-pub struct Captures {
-    /// The parameters and codes of one that is shown.
-    pub shown: Result<ParamsAndCodes, ParamFault>,
-    /// The parameters of one that was read as it came.
-    pub params: Result<Params, ParamFault>,
-}
-
-/// What was loaded: what was read of captures, and the bytes of the files.
+/// What was loaded: the parameters of a capture that was read as it came, or why it is refused, and
+/// the bytes of the files.
 #[derive(Drop)]
 pub struct Loaded {
-    pub captures: Captures,
+    pub params: Result<Params, ParamFault>,
     pub contents: Contents,
-}
-
-// What was read of a capture that is shown, and its bytes, where a hint may need them.
-#[derive(Drop)]
-struct Shown {
-    read: Result<ParamsAndCodes, ParamFault>,
-    bytes: Vec<u8>,
 }
 
 // Loads the file of an option, where it has a path.
@@ -205,32 +196,6 @@ fn load_option<F: Files>(
         Ok(bytes) => Ok(bytes),
         Err(fault) => Err(unread(alloc, option, path, fault, limit, hints)),
     }
-}
-
-// Loads the file of a capture that is shown, where it has a path, and reads it. Its bytes are let go
-// before its lines are written, but where a hint may need them.
-fn load_shown<F: Files>(
-    alloc: Global,
-    files: &mut F,
-    path: Option<&str>,
-    hints: bool,
-) -> Result<Shown, Refusal>
-    ensures loaded { IfOk result (λ shown. IsShownAt path.entry (F.holds files.old) shown.read) }
-    ensures read { IfOk result (λ _. AreRead (file_at (codes "params") path.entry MAX_CAPTURE)
-        (F.holds files.old) (F.holds files.new) (F.reads files.old) (F.reads files.new)) }
-    ensures unread { IfErr result (λ r. IsOneUnread (file_at (codes "params") path.entry MAX_CAPTURE)
-        (F.holds files.old) (F.holds files.new) (F.reads files.old) (F.reads files.new) r.failure) }
-    ensures unasked { IfErr result (λ r. HintsIfAsked hints r) }
-{
-    let bytes = load_option(alloc, files, "params", path, MAX_CAPTURE, hints)?;
-    let read = params_and_codes(alloc, &bytes);
-    if hints {
-        return Ok(Shown { read, bytes });
-    }
-    Ok(Shown {
-        read,
-        bytes: Vec::new(alloc),
-    })
 }
 
 // Loads the file of a capture, where it has a path, and reads it as it comes. Its bytes are kept
@@ -266,14 +231,14 @@ pub fn load_all<F: Files>(
     hints: bool,
 ) -> Result<Loaded, Refusal>
     ensures loaded { IfOk result (λ loaded.
-        IsLoaded paths.now (F.holds files.old) loaded.captures loaded.contents) }
+        IsLoaded paths.now (F.holds files.old) loaded.params loaded.contents) }
     ensures read { IfOk result (λ _. AreRead (files_at paths.now)
         (F.holds files.old) (F.holds files.new) (F.reads files.old) (F.reads files.new)) }
     ensures unread { IfErr result (λ r. IsOneUnread (files_at paths.now)
         (F.holds files.old) (F.holds files.new) (F.reads files.old) (F.reads files.new) r.failure) }
     ensures unasked { IfErr result (λ r. HintsIfAsked hints r) }
 {
-    let shown = load_shown(alloc, files, paths.shown, hints)?;
+    let shown = load_option(alloc, files, "params", paths.shown, MAX_CAPTURE, hints)?;
     let capture = load_capture(alloc, files, paths.params, hints)?;
     let orders = load_option(alloc, files, "orders", paths.orders, MAX_TEXT, hints)?;
     let script = load_option(alloc, files, "script", paths.script, MAX_TEXT, hints)?;
@@ -284,9 +249,9 @@ pub fn load_all<F: Files>(
     let message = load_option(alloc, files, "message", paths.message, MAX_CAPTURE, hints)?;
     let dialogue = load_option(alloc, files, "dialogue", paths.dialogue, MAX_CAPTURE, hints)?;
     let ReadCapture { params, bytes } = capture;
-    let Shown { read, bytes: shown } = shown;
     let contents = Contents {
-        capture: if shown.is_empty() { bytes } else { shown },
+        shown,
+        capture: bytes,
         orders,
         script,
         case,
@@ -296,9 +261,5 @@ pub fn load_all<F: Files>(
         message,
         dialogue,
     };
-    let captures = Captures {
-        shown: read,
-        params,
-    };
-    Ok(Loaded { captures, contents })
+    Ok(Loaded { params, contents })
 }

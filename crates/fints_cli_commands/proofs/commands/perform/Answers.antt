@@ -34,12 +34,12 @@ few request paths is = rw is (at_most_five request)
 
 pub returns-in-Ok-clause-calls : goal.returns-in-Ok-clause-calls
 returns-in-Ok-clause-calls g c =
-    omega (arith, few c.args.request.now _ c.paths_of-paths.ensures, c.in_ok-captures.ensures.read.calls)
+    omega (arith, few c.args.request.now _ c.paths_of-paths.ensures, c.in_ok-params.ensures.read.calls)
 
 pub returns-clause-calls : goal.returns-clause-calls
 returns-clause-calls g c =
-    omega (arith, few c.args.request.now _ c.paths_of-paths.ensures, c.in_ok-captures.ensures.read.calls)
+    omega (arith, few c.args.request.now _ c.paths_of-paths.ensures, c.in_ok-params.ensures.read.calls)
 
-pub returns-in_err-captures-clause-calls : goal.returns-in_err-captures-clause-calls
-returns-in_err-captures-clause-calls g c =
-    omega (arith, few c.args.request.now _ c.paths_of-paths.ensures, c.in_err-captures.ensures.unread.calls)
+pub returns-in_err-params-clause-calls : goal.returns-in_err-params-clause-calls
+returns-in_err-params-clause-calls g c =
+    omega (arith, few c.args.request.now _ c.paths_of-paths.ensures, c.in_err-params.ensures.unread.calls)
