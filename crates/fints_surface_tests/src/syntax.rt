@@ -110,7 +110,8 @@ fn written(rt: HostRuntime) -> Result<(), Fail> {
     let data = Bytes::copied(alloc, b"a'")?;
     assert!(rt; is_item_written(alloc, &OwnedItem::Bin(data), b"@2@a'")?);
     assert!(rt; is_end_written(alloc, element(alloc, b"0")?, b"HKEND:2:1+0'")?);
-    assert!(rt; Bytes::copied(alloc, b"a'")?.into_vec().as_slice() == b"a'");
+    let handed_back = Bytes::copied(alloc, b"a'")?.into_vec();
+    assert!(rt; handed_back.as_slice() == b"a'".as_slice());
     Ok(())
 }
 
