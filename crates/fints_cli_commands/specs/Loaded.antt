@@ -1,6 +1,7 @@
 -- What was loaded, and what loading says of the files: words of private contracts and proofs alone.
 use Rattle.std.specs.Prelude.{◌≡◌, ◌≤◌, ◌+◌, ◌-◌, ◌*◌, ◌^◌, min, ℕ, List, length, Option, IfSome, Result}
 use Rattle.std.specs.Borrow.{Bor}
+use Rattle.fints_params.specs.Captures.{IsReadOf, IsBothReadOf}
 use Rattle.fints_params.specs.Parameters.{Rows}
 use Rattle.fints_params.specs.declared.fault.ParamFault.{ParamFault}
 use Rattle.fints_cli_files.specs.Captures.{IsReadFrom}
@@ -19,15 +20,15 @@ use Rattle.fints_cli_commands.specs.Loading.{Held, NamedFile, AreWithin, Follows
 abbrev pub IsFileAt : Option (Bor (List ℕ)) → Held → List ℕ → Type 0
 IsFileAt path holds bytes = IfSome path (λ p. IsFile (holds p.now) bytes)
 
--- the capture of the path was read so, where there is a path
-abbrev pub IsReadAt : Option (Bor (List ℕ)) → Held → Result Rows ParamFault → Type 0
-IsReadAt path holds params = IfSome path (λ p. IsReadFrom (holds p.now) params)
+-- the file of the path was read so, where there is a path
+abbrev pub IsReadAt : {T : Type 0} → (List ℕ → T → Type 0) → Option (Bor (List ℕ)) → Held → T → Type 0
+IsReadAt Answers path holds told = IfSome path (λ p. IsReadFrom Answers (holds p.now) told)
 
 -- what was loaded is what the files of these paths hold
 pub record IsLoaded (paths : Paths) (holds : Held) (capture : Result Rows ParamFault) (contents : Contents)
     : Type 0 where
-  pub shown : IsFileAt paths.shown holds contents.shown.items
-  pub params : IsReadAt paths.params holds capture
+  pub shown : IsReadAt IsBothReadOf paths.shown holds contents.shown.told
+  pub params : IsReadAt IsReadOf paths.params holds capture
   pub orders : IsFileAt paths.orders holds contents.orders.items
   pub script : IsFileAt paths.script holds contents.script.items
   pub case : IsFileAt paths.case holds contents.case.items

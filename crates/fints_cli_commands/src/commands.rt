@@ -22,7 +22,7 @@ use fints_cli_hints_segments::skipped_notes;
 use fints_cli_hints_verdicts::{report_reasons, verified_reason};
 use fints_cli_recorded::{audit_own, audit_read};
 use fints_cli_reports::{Wanted, run_case, tell_read, tell_script, verify_read};
-use fints_cli_texts::{Fault, Reply, judge_after_read, judge_read, show, show_message};
+use fints_cli_texts::{Fault, Reply, judge_after_read, judge_read, show_message, show_read};
 use fints_cli_words::Request;
 use fints_params::{ParamFault, Params};
 use std::alloc::Global;
@@ -91,7 +91,7 @@ fn answer(
     match request {
         Request::BuiltIn => tell_built_in(alloc),
         Request::Show { .. } => {
-            let text = show(alloc, &contents.shown)?;
+            let text = show_read(alloc, &contents.shown.told)?;
             Ok(Reply { status: 0, text })
         }
         Request::ShowMessage { .. } => {

@@ -4,12 +4,13 @@ ghost use Rattle.fints_cli_commands.specs.Commands.{HintsIfAsked};
 ghost use Rattle.fints_cli_commands.specs.Loading.{file_at, files_at};
 ghost use Rattle.fints_cli_commands.specs.Loading as loading;
 ghost use Rattle.fints_cli_commands.specs.Loaded.{AreRead, IsFileAt, IsLoaded, IsOneUnread, IsReadAt};
+ghost use Rattle.fints_cli_files.specs.Captures.{HoldsCapture};
 
 use crate::failing::{Refusal, unread};
 use fints_cli_files::{Capture, Files, ReadCapture, load, load_into};
 use fints_cli_hints::Inputs;
 use fints_cli_words::{AuditFiles, JudgeFiles, Request, ScriptFiles};
-use fints_params::{ParamFault, Params};
+use fints_params::{ParamFault, Params, ParamsAndCodes};
 use fints_syntax::MAX_CAPTURE;
 use fints_syntax_lines::MAX_TEXT;
 use std::alloc::Global;
@@ -17,9 +18,9 @@ use std::alloc::Global;
 /// The paths that a request names, by what their files are; none of a file that it doesn't need.
 #[derive(Clone, Copy)]
 pub struct Paths<'a> {
-    /// A capture that is shown: its bytes are loaded whole.
+    /// A capture that is shown.
     pub shown: Option<&'a str>,
-    /// A capture by which something is judged: it is read as it comes.
+    /// A capture by which something is judged.
     pub params: Option<&'a str>,
     pub orders: Option<&'a str>,
     pub script: Option<&'a str>,
@@ -127,11 +128,11 @@ pub fn paths_of<'a>(request: &Request<'a>) -> Paths<'a>
     }
 }
 
-/// The bytes of the files that were loaded; empty where there is no path.
+/// What a capture that is shown told, and the bytes of the other files; empty where there is no path.
 #[derive(Drop)]
 pub struct Contents {
-    pub shown: Vec<u8>,
-    /// Those of a capture that was read as it came: empty where no hint may need them.
+    pub shown: ReadCapture<ParamsAndCodes>,
+    /// Those of a capture by which something is judged: empty where no hint may need them.
     pub capture: Vec<u8>,
     pub orders: Vec<u8>,
     pub script: Vec<u8>,
@@ -146,10 +147,10 @@ pub struct Contents {
 impl Contents {
     /// The bytes for a hint.
     pub fn inputs(&self) -> Inputs<'_> {
-        let params = if self.shown.is_empty() {
+        let params = if self.shown.bytes.is_empty() {
             &self.capture
         } else {
-            &self.shown
+            &self.shown.bytes
         };
         Inputs {
             params: params.as_slice(),
@@ -165,8 +166,8 @@ impl Contents {
     }
 }
 
-/// What was loaded: the parameters of a capture that was read as it came, or why it is refused, and
-/// the bytes of the files.
+/// What was loaded: the parameters of a capture by which something is judged, or why it is refused,
+/// and what the files hold.
 #[derive(Drop)]
 pub struct Loaded {
     pub params: Result<Params, ParamFault>,
@@ -205,8 +206,8 @@ fn load_capture<F: Files>(
     files: &mut F,
     path: Option<&str>,
     hints: bool,
-) -> Result<ReadCapture, Refusal>
-    ensures loaded { IfOk result (λ capture. IsReadAt path.entry (F.holds files.old) capture.params) }
+) -> Result<Capture, Refusal>
+    ensures loaded { IfOk result (λ capture. IsReadAt HoldsCapture path.entry (F.holds files.old) capture) }
     ensures read { IfOk result (λ _. AreRead (file_at (codes "params") path.entry MAX_CAPTURE)
         (F.holds files.old) (F.holds files.new) (F.reads files.old) (F.reads files.new)) }
     ensures unread { IfErr result (λ r. IsOneUnread (file_at (codes "params") path.entry MAX_CAPTURE)
@@ -215,10 +216,10 @@ fn load_capture<F: Files>(
 {
     let capture = Capture::new(alloc, hints);
     let Some(path) = path else {
-        return Ok(capture.end());
+        return Ok(capture);
     };
     match load_into(files, path, MAX_CAPTURE, capture) {
-        Ok(capture) => Ok(capture.end()),
+        Ok(capture) => Ok(capture),
         Err(fault) => Err(unread(alloc, "params", path, fault, MAX_CAPTURE, hints)),
     }
 }
@@ -238,8 +239,10 @@ pub fn load_all<F: Files>(
         (F.holds files.old) (F.holds files.new) (F.reads files.old) (F.reads files.new) r.failure) }
     ensures unasked { IfErr result (λ r. HintsIfAsked hints r) }
 {
-    let shown = load_option(alloc, files, "params", paths.shown, MAX_CAPTURE, hints)?;
+    let shown = load_capture(alloc, files, paths.shown, hints)?;
+    let shown_read = shown.end_with_codes();
     let capture = load_capture(alloc, files, paths.params, hints)?;
+    let read = capture.end();
     let orders = load_option(alloc, files, "orders", paths.orders, MAX_TEXT, hints)?;
     let script = load_option(alloc, files, "script", paths.script, MAX_TEXT, hints)?;
     let case = load_option(alloc, files, "case", paths.case, MAX_TEXT, hints)?;
@@ -248,10 +251,9 @@ pub fn load_all<F: Files>(
     let answer = load_option(alloc, files, "answer", paths.answer, MAX_CAPTURE, hints)?;
     let message = load_option(alloc, files, "message", paths.message, MAX_CAPTURE, hints)?;
     let dialogue = load_option(alloc, files, "dialogue", paths.dialogue, MAX_CAPTURE, hints)?;
-    let ReadCapture { params, bytes } = capture;
     let contents = Contents {
-        shown,
-        capture: bytes,
+        shown: shown_read,
+        capture: read.bytes,
         orders,
         script,
         case,
@@ -261,5 +263,8 @@ pub fn load_all<F: Files>(
         message,
         dialogue,
     };
-    Ok(Loaded { params, contents })
+    Ok(Loaded {
+        params: read.told,
+        contents,
+    })
 }

@@ -3,11 +3,12 @@ use Rattle.std.proofs.Common.{◌≡◌, ◌≢◌, ℕ, Bool, true, false, List
 use Rattle.std.specs.Option.{is_some}
 use Rattle.std.specs.Prelude.{IfOk, IfErr}
 use Rattle.std.proofs.lemmas.List.{append-nil}
-use Rattle.fints_params.specs.Captures.{IsParamsOf, IsParamFault, IsReadOf}
+use Rattle.fints_params.specs.Captures.{IsParamsOf, IsParamFault, IsCodesOf, IsEitherFault, IsReadOf, IsBothReadOf}
 use Rattle.fints_params.specs.Faults.{IsMemoryOr}
 use Rattle.fints_params.specs.Laws.{PieceFaultIsParamFault}
 use Rattle.fints_params.specs.Parameters.{Rows}
-use Rattle.fints_params.specs.Pieces.{Received, IsReceived, IsNotReceived, HasNoParams, IsPieceFault}
+use Rattle.fints_params.specs.Pieces.{Received, IsReceived, IsNotReceived, TellsNothing, IsPieceFault}
+use Rattle.fints_params.specs.declared.both.ParamsAndCodes.{ParamsAndCodes}
 use Rattle.fints_params.specs.declared.fault.ParamFault.{ParamFault}
 use Rattle.fints_params.specs.declared.fault.ParamFault.TheVariants.{Memory}
 use Rattle.fints_cli_files.specs.Captures.{AreKept, FedReader, HoldsCapture, HasTaken, kept_after}
@@ -78,7 +79,29 @@ read_fault law reader (Some g) f is bytes (front, more, e, h) =
 
 pub read_end : (reader : Received) (read : Result Rows ParamFault)
     → IfOk read (λ rows. (reader.failed ≡ None) × IsParamsOf reader.bytes rows)
-    → IfErr read (λ f. HasNoParams reader.failed reader f) → (bytes : List ℕ) → HasTaken bytes reader None
-    → IsReadOf bytes read
+    → IfErr read (λ f. TellsNothing IsParamFault reader.failed reader f)
+    → (bytes : List ℕ) → HasTaken bytes reader None → IsReadOf bytes read
 read_end reader (Ok rows) good bad bytes e = subst (λ (xs : List ℕ). IsParamsOf xs rows) (ap (λ (r : Received). r.bytes) e) good.1
-read_end reader (Err f) good bad bytes e = subst (λ (r : Received). HasNoParams r.failed r f) e bad
+read_end reader (Err f) good bad bytes e = subst (λ (r : Received). TellsNothing IsParamFault r.failed r f) e bad
+
+-- the same where the codes of feedback are read too
+
+pub both_fault : (law : PieceFaultIsParamFault) (reader : Received) (fault : Option ParamFault)
+    (f : ParamFault) → fault ≡ Some f → (bytes : List ℕ) → HasTaken bytes reader fault
+    → IsBothReadOf bytes (Err f)
+both_fault law reader fault f is bytes h = elim (read_fault law reader fault f is bytes h) [
+  | inl m ↦ inl m
+  | inr p ↦ inr (inl p)
+]
+
+pub both_end : (reader : Received) (read : Result ParamsAndCodes ParamFault)
+    → IfOk read (λ it. (reader.failed ≡ None) × IsParamsOf reader.bytes it.params)
+    → IfOk read (λ it. IsCodesOf reader.bytes it.codes.items)
+    → IfErr read (λ f. TellsNothing IsEitherFault reader.failed reader f)
+    → (bytes : List ℕ) → HasTaken bytes reader None → IsBothReadOf bytes read
+both_end reader (Ok it) good codes bad bytes e =
+    let same = ap (λ (r : Received). r.bytes) e in (
+      subst (λ (xs : List ℕ). IsParamsOf xs it.params) same good.1,
+      subst (λ (xs : List ℕ). IsCodesOf xs it.codes.items) same codes,
+    )
+both_end reader (Err f) good codes bad bytes e = subst (λ (r : Received). TellsNothing IsEitherFault r.failed r f) e bad

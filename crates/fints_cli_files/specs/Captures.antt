@@ -1,9 +1,7 @@
 -- What a capture that is read while it comes holds. Words of private contracts and proofs alone stand last, under a heading.
-use Rattle.std.specs.Prelude.{◌≡◌, ℕ, Bool, true, false, List, [], ◌++◌, Option, None, Some, Result}
+use Rattle.std.specs.Prelude.{◌≡◌, ℕ, Bool, true, false, List, [], ◌++◌, Option, None, Some}
 use Rattle.fints_params.specs.Pieces.{Received, IsPieceFault}
 use Rattle.fints_params.specs.declared.fault.ParamFault.{ParamFault}
-use Rattle.fints_params.specs.Parameters.{Rows}
-use Rattle.fints_params.specs.Captures.{IsReadOf}
 use Rattle.fints_cli_files.specs.Streams.{IsFile}
 
 -- what reads a capture as its file comes: a reader, and the fault that it met; whether it keeps the bytes, and what it kept
@@ -33,6 +31,6 @@ abbrev pub kept_after : Bool → List ℕ → List ℕ → List ℕ
 kept_after true kept piece = kept ++ piece
 kept_after false kept piece = kept
 
--- what was answered where the parameters of a file were read
-abbrev pub IsReadFrom : Option (List ℕ) → Result Rows ParamFault → Type 0
-IsReadFrom held params = (bytes : List ℕ) × IsFile held bytes × IsReadOf bytes params
+-- what was answered where a file was read, by what is answered of its bytes
+abbrev pub IsReadFrom : {T : Type 0} → (List ℕ → T → Type 0) → Option (List ℕ) → T → Type 0
+IsReadFrom Answers held told = (bytes : List ℕ) × IsFile held bytes × Answers bytes told

@@ -1,10 +1,10 @@
 //! A capture that is read while its file comes.
 ghost use Rattle.std.specs.Prelude.{◌≡◌, ℕ, List, [], OnOk};
-ghost use Rattle.fints_params.specs.Captures.{IsReadOf};
+ghost use Rattle.fints_params.specs.Captures.{IsReadOf, IsBothReadOf};
 ghost use Rattle.fints_cli_files.specs.Captures.{AreKept, HoldsCapture, kept_after};
 
 use crate::reading::PieceTaker;
-use fints_params::{ParamFault, ParamReader, Params};
+use fints_params::{ParamFault, ParamReader, Params, ParamsAndCodes};
 use fints_syntax::Memory;
 use std::alloc::Global;
 use std::marker::Model;
@@ -29,8 +29,8 @@ impl Model for Capture {
 
 /// What a whole capture gave, and its bytes, where they were kept.
 #[derive(Drop)]
-pub struct ReadCapture {
-    pub params: Result<Params, ParamFault>,
+pub struct ReadCapture<T> {
+    pub told: Result<T, ParamFault>,
     pub bytes: Vec<u8>,
 }
 
@@ -49,8 +49,8 @@ impl Capture {
     }
 
     /// The parameters of the capture, which ends here, or its first refusal.
-    pub fn end(self) -> ReadCapture
-        ensures read { (bytes : List ℕ) → HoldsCapture bytes self → IsReadOf bytes result.params }
+    pub fn end(self) -> ReadCapture<Params>
+        ensures read { (bytes : List ℕ) → HoldsCapture bytes self → IsReadOf bytes result.told }
         ensures kept { (bytes : List ℕ) → HoldsCapture bytes self → AreKept self.keeps bytes result.bytes.items }
     {
         let Capture {
@@ -61,11 +61,35 @@ impl Capture {
         } = self;
         match fault {
             Some(fault) => ReadCapture {
-                params: Err(fault),
+                told: Err(fault),
                 bytes,
             },
             None => ReadCapture {
-                params: reader.finish(),
+                told: reader.finish(),
+                bytes,
+            },
+        }
+    }
+
+    /// The parameters of the capture, which ends here, and the codes of its feedback, or its first
+    /// refusal.
+    pub fn end_with_codes(self) -> ReadCapture<ParamsAndCodes>
+        ensures read { (bytes : List ℕ) → HoldsCapture bytes self → IsBothReadOf bytes result.told }
+        ensures kept { (bytes : List ℕ) → HoldsCapture bytes self → AreKept self.keeps bytes result.bytes.items }
+    {
+        let Capture {
+            reader,
+            fault,
+            bytes,
+            ..
+        } = self;
+        match fault {
+            Some(fault) => ReadCapture {
+                told: Err(fault),
+                bytes,
+            },
+            None => ReadCapture {
+                told: reader.finish_with_codes(),
                 bytes,
             },
         }

@@ -4,9 +4,9 @@ use Rattle.fints_params.specs.declared.both.ParamsAndCodes.{ParamsAndCodes}
 use Rattle.fints_params.specs.declared.fault.ParamFault.{ParamFault}
 use Rattle.fints_params.specs.declared.fault.ParamFault.TheVariants as params
 use Rattle.fints_params.specs.Faults.{IsMemoryOr}
-use Rattle.fints_params.specs.Captures.{IsCodesOf, IsEitherFault, IsParamsOf}
+use Rattle.fints_params.specs.Captures.{IsBothReadOf, IsCodesOf, IsEitherFault, IsParamsOf}
 use Rattle.fints_cli_texts.specs.Fault.{fault_of}
-use Rattle.fints_cli_texts.specs.Show.{IsBothReadOf, IsMemoryOrShowFault}
+use Rattle.fints_cli_texts.specs.Show.{IsMemoryOrShowFault}
 
 pub kept : (capture : List ℕ) (f : ParamFault) → IsMemoryOr (IsEitherFault capture) f
     → IsMemoryOrShowFault capture (fault_of f)

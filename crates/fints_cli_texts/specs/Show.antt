@@ -1,12 +1,9 @@
 -- The text of `show`: what a capture says of the bank and the user, in lines with LF at their ends.
-use Rattle.std.specs.Prelude.{◌≡◌, ℕ, Bool, true, false, List, [], ◌∷◌, ◌++◌, length, drop, codes, Result, Ok, Err}
+use Rattle.std.specs.Prelude.{◌≡◌, ℕ, Bool, true, false, List, [], ◌∷◌, ◌++◌, length, drop, codes}
 use Rattle.std.specs.List.{flat_map}
 use Rattle.std.specs.Fmt.{decimal}
 use Rattle.fints_syntax_segments.specs.declared.item.OwnedItem.TheVariants.{Text}
 use Rattle.fints_syntax_segments.specs.Spelling.{written}
-use Rattle.fints_params.specs.declared.both.ParamsAndCodes.{ParamsAndCodes}
-use Rattle.fints_params.specs.declared.fault.ParamFault.{ParamFault}
-use Rattle.fints_params.specs.Faults.{IsMemoryOr}
 use Rattle.fints_params.specs.declared.rows.BankRow.{BankRow}
 use Rattle.fints_params.specs.declared.rows.OrderParam.{OrderParam}
 use Rattle.fints_params.specs.declared.rows.PinRow.{PinRow}
@@ -99,11 +96,6 @@ unfoldable pub rows_text : Rows → List ℕ
 rows_text rows =
     bank_line rows.bank ++ flat_map order_line rows.orders ++ flat_map pin_line rows.pins
     ++ flat_map tan_line rows.tans ++ usage_line rows.usage ++ flat_map account_lines rows.accounts ++ skipped_line rows.skipped
-
--- what is answered where the parameters of a capture and the codes of its feedback are read
-abbrev pub IsBothReadOf : List ℕ → Result ParamsAndCodes ParamFault → Type 0
-IsBothReadOf capture (Ok told) = IsParamsOf capture told.params × IsCodesOf capture told.codes.items
-IsBothReadOf capture (Err f) = IsMemoryOr (IsEitherFault capture) f
 
 -- the text shows the capture: the rows of its parameters, and the codes of its feedback
 pub record IsShowOf (capture text : List ℕ) : Type 0 where

@@ -1,8 +1,9 @@
 //! The text of `show`: what a capture says of the bank and the user.
 ghost use Rattle.std.specs.Prelude.{◌≡◌, ◌++◌, ℕ, List, Err, OnOk, IfOk, IfErr};
 ghost use Rattle.std.specs.List.{flat_map};
-ghost use Rattle.fints_cli_texts.specs.Show.{shown, after_space, figure, bank_text, protocols_text, kind_text, flag_text, bank_line, order_line, pin_line, tan_line, usage_line, item_text, national_text, account_line, entry_line, account_lines, skipped_line, code_line, rows_text, IsBothReadOf, IsShowOf, IsMemoryOrShowFault};
+ghost use Rattle.fints_cli_texts.specs.Show.{shown, after_space, figure, bank_text, protocols_text, kind_text, flag_text, bank_line, order_line, pin_line, tan_line, usage_line, item_text, national_text, account_line, entry_line, account_lines, skipped_line, code_line, rows_text, IsShowOf, IsMemoryOrShowFault};
 ghost use Rattle.fints_cli_texts.specs.Fault.{fault_of};
+ghost use Rattle.fints_params.specs.Captures.{IsBothReadOf};
 ghost use Rattle.fints_params.specs.declared.fault.ParamFault.{ParamFault as ParamFaultValue};
 
 use crate::fault::Fault;
@@ -16,16 +17,16 @@ use std::alloc::Global;
 
 /// The lines of a capture's parameters and of its feedback, by what was read of it. The capture itself
 /// need not be there any more.
-pub fn show_read(alloc: Global, read: Result<ParamsAndCodes, ParamFault>) -> Result<Vec<u8>, Fault>
-    ensures shown { IfOk result (λ text. (capture : List ℕ) → IsBothReadOf capture read
+pub fn show_read(alloc: Global, read: &Result<ParamsAndCodes, ParamFault>) -> Result<Vec<u8>, Fault>
+    ensures shown { IfOk result (λ text. (capture : List ℕ) → IsBothReadOf capture read.now
         → IsShowOf capture text.items) }
-    ensures refused { IfErr result (λ f. (capture : List ℕ) → IsBothReadOf capture read
+    ensures refused { IfErr result (λ f. (capture : List ℕ) → IsBothReadOf capture read.now
         → IsMemoryOrShowFault capture f) }
-    ensures read_first { (f : ParamFaultValue) → read ≡ Err f → result ≡ Err (fault_of f) }
+    ensures read_first { (f : ParamFaultValue) → read.now ≡ Err f → result ≡ Err (fault_of f) }
 {
     let told = match read {
         Ok(told) => told,
-        Err(fault) => return Err(Fault::from(fault)),
+        Err(fault) => return Err(Fault::from(*fault)),
     };
     let mut text = Vec::new(alloc);
     write_params(alloc, &mut text, &told.params)?;
@@ -39,7 +40,7 @@ pub fn show(alloc: Global, capture: &[u8]) -> Result<Vec<u8>, Fault>
     ensures shown { IfOk result (λ text. IsShowOf capture.now text.items) }
     ensures refused { IfErr result (λ f. IsMemoryOrShowFault capture.now f) }
 {
-    show_read(alloc, params_and_codes(alloc, capture))
+    show_read(alloc, &params_and_codes(alloc, capture))
 }
 
 #[tactic(auto, unfolding(crate::specs::Show::rows_text))]

@@ -15,7 +15,7 @@ use Rattle.fints_params.specs.Opened.{OpenTo, AreSegmentsOf}
 use Rattle.fints_params.specs.Parameters.{Rows, IsRowsOf, end_fault}
 use Rattle.fints_params.specs.Refused.{IsFirstRefused, values_in}
 use Rattle.fints_params.specs.Steps.{Continues, StopsIn}
-use Rattle.fints_params.specs.Taken.{IsGathered, ParamsSoFar, CodesSoFar, CodesRead}
+use Rattle.fints_params.specs.Taken.{IsGathered, IsBothSoFar, ParamsSoFar, CodesSoFar, CodesRead}
 use Rattle.fints_params.proofs.Fine.{each_bad_element, each_bad_code, some_pins}
 use Rattle.fints_params.proofs.FoundCodes.{codes_unread}
 use Rattle.fints_params.proofs.Refusing.{refused_later}
@@ -40,9 +40,6 @@ codes_refused None old new s f e n (inl m) = absurd (n m)
 codes_refused None old new s f e n (inr k) = λ seen h. refused_later feedback_fault [] seen (s ∷ []) [] f (k seen h)
 
 -- both, at a glance
-abbrev pub IsBothSoFar : List OwnedSegment → Both → Type 0
-IsBothSoFar seen both = ParamsSoFar seen both.rows × CodesRead seen both.refused both.found.codes.items
-
 codes_past : (refused : Option ParamFault) (numbers : List ℕ) (s : OwnedSegment) → is_feedback s ≡ false
     → (seen : List OwnedSegment) → CodesRead seen refused numbers → CodesRead (seen ++ s ∷ []) refused numbers
 codes_past None numbers s other = codes_unread s numbers other

@@ -1,9 +1,8 @@
 -- What a reader of parameters keeps of a stream that comes in pieces.
 use Rattle.std.proofs.Common.{◌≡◌, ℕ, ◌+◌, ◌-◌, ◌≤◌, List, [], ◌∷◌, ◌++◌, length, drop, refl, ap, ◌∙◌, sym, subst, arith, inl, inr, append_assoc, Option, Some, None}
 use Rattle.std.specs.List.{flat_map}
-use Rattle.std.specs.Option.{option_map}
 use Rattle.std.proofs.lemmas.List.{append-nil, length-append, length-drop}
-use Rattle.fints_syntax.specs.Buffered.{Buffered, IsFed, IsUnfed, IsUnread, failed_at as syntax_failed_at, rest_at, rest_with}
+use Rattle.fints_syntax.specs.Buffered.{Buffered, IsFed, IsUnfed, IsUnread, rest_at, rest_with}
 use Rattle.fints_syntax.specs.Streams.{PieceFaultAt, moved_by}
 use Rattle.fints_syntax.specs.declared.capture.Placed as syntax
 use Rattle.fints_syntax.specs.declared.fault.SyntaxFault.{SyntaxFault}
@@ -17,7 +16,7 @@ use Rattle.fints_params.specs.declared.fault.ParamFault.{ParamFault}
 use Rattle.fints_params.specs.Captures.{IsParamFault}
 use Rattle.fints_params.specs.Refused.{Rule}
 use Rattle.fints_params.specs.Faults.{IsMemoryOr, as_param_fault}
-use Rattle.fints_params.specs.Pieces.{Received, unread, AreReceived, IsPieceFault, IsReceived, IsNotReceived, HasNoParams}
+use Rattle.fints_params.specs.Pieces.{Received, unread, AreReceived, IsPieceFault, IsReceived, IsNotReceived, TellsNothing}
 use Rattle.fints_params.specs.Steps.{HasRead, HasCome, HasComeIn}
 use Rattle.fints_params.proofs.GoingOn.{come_none, come_on, piece_fault, syntax_fault, syntax_from}
 
@@ -80,11 +79,6 @@ start_stays (Some o) old piece f new (is, same) = ap (λ (x : Buffered). x.at) s
 start_stays None old piece f new (inl (m, same)) = ap (λ (x : Buffered). x.at) same
 start_stays None old piece f new (inr (o, at, p, s)) = s.at
 
-pub unfailed : (failed : Option ℕ) (r : Option SyntaxFault) → r ≡ option_map syntax_failed_at failed
-    → ((f : SyntaxFault) → r ≡ Some f → ⊥) → failed ≡ None
-unfailed None r e n = refl
-unfailed (Some o) r e n = absurd (n (syntax_failed_at o) e)
-
 -- what a reader shows of a buffer
 abbrev pub received_by : Buffered → Received
 received_by b = record { bytes = b.bytes; failed = b.failed }
@@ -130,11 +124,14 @@ pub not_received : {S : Type 0} (rule : Rule) (Good : List OwnedSegment → S �
     → IsNotReceived old.failed (received_by old) piece (as_param_fault f) (received_by new)
 not_received rule Good old piece f new before a start h u = not_received_by rule Good old.failed old piece f new before a start h u
 
--- why there are no parameters at the end
-pub unfinished : (failed : Option ℕ) (r : Received) (bytes : List ℕ) (f : ParamFault) → failed ≡ None
-    → bytes ≡ r.bytes → IsMemoryOr (IsParamFault bytes) f → HasNoParams failed r f
-unfinished (Some o) r bytes f none e h = absurd cc
-unfinished None r bytes f none e h = subst (λ (xs : List ℕ). IsMemoryOr (IsParamFault xs) f) e h
+-- ---- the end
+
+-- why nothing is told of the bytes
+pub unfinished : (Refuses : List ℕ → ParamFault → Type 0) (r : Received) (bytes : List ℕ) (f : ParamFault)
+    → r.failed ≡ None → bytes ≡ r.bytes → IsMemoryOr (Refuses bytes) f → TellsNothing Refuses r.failed r f
+unfinished Refuses r bytes f none e h =
+    subst (λ (o : Option ℕ). TellsNothing Refuses o r f) (sym none)
+    (subst (λ (xs : List ℕ). IsMemoryOr (Refuses xs) f) e h)
 
 -- ---- all pieces
 

@@ -2,6 +2,7 @@
 use Rattle.std.specs.Prelude.{◌≡◌, ◌⊎◌, ℕ, List, [], Some, None, Result, Ok, Err}
 use Rattle.std.specs.List.{AllByRecursion, filter}
 use Rattle.fints_syntax_segments.specs.declared.item.OwnedSegment.{OwnedSegment}
+use Rattle.fints_params.specs.declared.both.ParamsAndCodes.{ParamsAndCodes}
 use Rattle.fints_params.specs.declared.fault.ParamFault.{ParamFault}
 use Rattle.fints_params.specs.Faults.{IsMemoryOr}
 use Rattle.fints_params.specs.Feedback.{bad_code, codes_in, feedback_fault}
@@ -45,3 +46,8 @@ IsCodeFault message f = IsRefusedOf feedback_fault message f
 -- the first refusal of a capture of which both are asked for: by its parameters, or where it has parameters by its codes
 abbrev pub IsEitherFault : List ℕ → ParamFault → Type 0
 IsEitherFault capture f = IsParamFault capture f ⊎ ((rows : Rows) × IsParamsOf capture rows × IsCodeFault capture f)
+
+-- what is answered where both are read
+abbrev pub IsBothReadOf : List ℕ → Result ParamsAndCodes ParamFault → Type 0
+IsBothReadOf capture (Ok told) = IsParamsOf capture told.params × IsCodesOf capture told.codes.items
+IsBothReadOf capture (Err f) = IsMemoryOr (IsEitherFault capture) f

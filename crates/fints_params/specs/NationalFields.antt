@@ -3,8 +3,8 @@ use Rattle.std.specs.Prelude.{ℕ, ◌-◌, ◌≤◌, length, take, drop}
 use Rattle.fints_params.specs.Nationals.{NationalValue}
 use Rattle.fints_params.specs.declared.national.National.TheInside.{Inside}
 
-abbrev pub national_of : Inside → NationalValue
-national_of n = record {
+abbrev pub four_texts : Inside → NationalValue
+four_texts n = record {
   number = take n.number_end n.texts.items;
   subaccount = take (n.subaccount_end - n.number_end) (drop n.number_end n.texts.items);
   country = take (n.country_end - n.subaccount_end) (drop n.subaccount_end n.texts.items);

@@ -9,7 +9,6 @@ use Rattle.fints_params.specs.declared.fault.ParamFault.{ParamFault}
 use Rattle.fints_params.specs.declared.fault.ParamFault.TheVariants.{Memory, Syntax}
 use Rattle.fints_params.specs.Faults.{IsMemoryOr}
 use Rattle.fints_syntax.specs.declared.capture.TheConstants.{MAX_CAPTURE}
-use Rattle.fints_params.specs.Captures.{IsParamFault}
 
 -- What a reader keeps: the stream so far, and once it has met a fault the fault's offset alone.
 pub record Received : Type 0 where
@@ -49,10 +48,10 @@ abbrev pub IsNotReceived : Option ℕ → Received → List ℕ → ParamFault �
 IsNotReceived (Some offset) old piece f new = (f ≡ answer_after offset) × (new ≡ old)
 IsNotReceived None old piece f new = RefusesPiece old piece f new
 
--- why there are no parameters where the stream ends here
-abbrev pub HasNoParams : Option ℕ → Received → ParamFault → Type 0
-HasNoParams (Some offset) received f = f ≡ answer_after offset
-HasNoParams None received f = IsMemoryOr (IsParamFault received.bytes) f
+-- why nothing is told where the stream ends here, by what refuses a capture
+abbrev pub TellsNothing : (List ℕ → ParamFault → Type 0) → Option ℕ → Received → ParamFault → Type 0
+TellsNothing Refuses (Some offset) received f = f ≡ answer_after offset
+TellsNothing Refuses None received f = IsMemoryOr (Refuses received.bytes) f
 
 -- ---- of private contracts and proofs alone
 

@@ -1,9 +1,12 @@
 //! Parameters and feedback of a capture, read at once.
-ghost use Rattle.std.specs.Prelude.{IfOk, IfErr};
+ghost use Rattle.std.specs.Prelude.{[], IfOk, IfErr};
 ghost use Rattle.fints_params.specs.Captures.{IsParamsOf, IsCodesOf, IsEitherFault};
 ghost use Rattle.fints_params.specs.Faults.{IsMemoryOr};
+ghost use Rattle.fints_params.specs.Parameters.{fault_after};
+ghost use Rattle.fints_params.specs.Steps.{HasComeIn};
+ghost use Rattle.fints_params.specs.Taken.{IsBothSoFar};
 
-use crate::capture::read_capture;
+use crate::capture::read_to_end;
 use crate::code::Code;
 use crate::fault::{ParamFault, is_memory};
 use crate::feedback::{Found, is_feedback_view, none_found};
@@ -11,6 +14,7 @@ use crate::gathered::Gathered;
 use crate::gathering::no_rows;
 use crate::opening::SegmentTaker;
 use crate::params::{Params, params_of};
+use crate::progress::Progress;
 use fints_syntax::{OwnedSegment, SegmentView};
 use std::alloc::{AllocError, Global};
 
@@ -21,21 +25,32 @@ pub struct ParamsAndCodes {
     pub codes: Vec<Code>,
 }
 
-// The rows so far, and the codes, or the first segment that is refused for its code.
+/// The rows so far, and the codes, or the first segment that is refused for its code.
 #[derive(Drop)]
-struct Both {
-    rows: Gathered,
-    found: Found,
-    refused: Option<ParamFault>,
+pub struct Both {
+    pub rows: Gathered,
+    pub found: Found,
+    pub refused: Option<ParamFault>,
+}
+
+/// The rows and the codes of no segment.
+pub fn none_read(alloc: Global) -> Both
+    ensures { IsBothSoFar [] result }
+{
+    Both {
+        rows: no_rows(alloc),
+        found: none_found(alloc),
+        refused: None,
+    }
 }
 
 impl SegmentTaker for Both {
     ghost use Rattle.fints_params.specs.Parameters.{fault_after};
-    ghost use Rattle.fints_params.specs.Taken.{ParamsSoFar, CodesRead};
+    ghost use Rattle.fints_params.specs.Taken.{IsBothSoFar};
 
     ghost rule = { fault_after };
 
-    ghost good = { λ seen both. ParamsSoFar seen both.rows × CodesRead seen both.refused both.found.codes.items };
+    ghost good = { IsBothSoFar };
 
     fn glance(&mut self, segment: &SegmentView<'_>) -> Result<bool, AllocError> {
         if is_feedback_view(segment) {
@@ -64,23 +79,18 @@ impl SegmentTaker for Both {
     ghost none_refused = { λ seen both h. h.0.none };
 }
 
-/// The parameters of a capture and the codes of its feedback, as `Params::read` and
-/// `feedback_codes` give them, in one pass. Of the refusals that of the parameters comes first.
-pub fn params_and_codes(alloc: Global, capture: &[u8]) -> Result<ParamsAndCodes, ParamFault>
+/// The parameters of a capture and the codes of its feedback, of whose front so much was read before.
+pub fn both_in(progress: Progress<Both>, capture: &[u8]) -> Result<ParamsAndCodes, ParamFault>
+    requires { HasComeIn fault_after IsBothSoFar capture.now progress.to progress.reading.refused progress.reading.reader }
     ensures params { IfOk result (λ it. IsParamsOf capture.now it.params) }
     ensures codes { IfOk result (λ it. IsCodesOf capture.now it.codes.items) }
     ensures refused { IfErr result (λ f. IsMemoryOr (IsEitherFault capture.now) f) }
 {
-    let none = Both {
-        rows: no_rows(alloc),
-        found: none_found(alloc),
-        refused: None,
-    };
     let Both {
         rows,
         found,
         refused,
-    } = read_capture(alloc, capture, none)?;
+    } = read_to_end(progress, capture)?;
     let params = params_of(rows)?;
     if let Some(fault) = refused {
         return Err(fault);
@@ -89,4 +99,14 @@ pub fn params_and_codes(alloc: Global, capture: &[u8]) -> Result<ParamsAndCodes,
         params,
         codes: found.codes,
     })
+}
+
+/// The parameters of a capture and the codes of its feedback, as `Params::read` and
+/// `feedback_codes` give them, in one pass. Of the refusals that of the parameters comes first.
+pub fn params_and_codes(alloc: Global, capture: &[u8]) -> Result<ParamsAndCodes, ParamFault>
+    ensures params { IfOk result (λ it. IsParamsOf capture.now it.params) }
+    ensures codes { IfOk result (λ it. IsCodesOf capture.now it.codes.items) }
+    ensures refused { IfErr result (λ f. IsMemoryOr (IsEitherFault capture.now) f) }
+{
+    both_in(Progress::new(alloc, none_read(alloc)), capture)
 }

@@ -19,9 +19,9 @@ impl Model for National {
 
     ghost Value = { NationalValue };
 
-    ghost use Rattle.fints_params.specs.NationalFields.{national_of, IsNational};
+    ghost use Rattle.fints_params.specs.NationalFields.{four_texts, IsNational};
 
-    ghost view = { national_of };
+    ghost view = { four_texts };
 
     ghost invariant = { IsNational };
 }

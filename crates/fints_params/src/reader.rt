@@ -1,11 +1,13 @@
 //! Parameters of a capture that comes in pieces.
-ghost use Rattle.std.specs.Prelude.{◌≡◌, None, OnOk, IfOk, IfErr};
-ghost use Rattle.fints_params.specs.Captures.{IsParamsOf};
-ghost use Rattle.fints_params.specs.Pieces.{unread, IsReceived, IsNotReceived, HasNoParams};
+ghost use Rattle.std.specs.Prelude.{◌≡◌, ℕ, None, Some, OnOk, IfOk, IfErr};
+ghost use Rattle.fints_params.specs.Captures.{IsParamsOf, IsCodesOf, IsParamFault, IsEitherFault};
+ghost use Rattle.fints_params.specs.Parameters.{fault_after};
+ghost use Rattle.fints_params.specs.Pieces.{unread, answer_after, IsReceived, IsNotReceived, TellsNothing};
+ghost use Rattle.fints_params.specs.Steps.{HasComeIn};
+ghost use Rattle.fints_params.specs.Taken.{IsBothSoFar};
 
+use crate::both::{Both, ParamsAndCodes, both_in, none_read};
 use crate::fault::ParamFault;
-use crate::gathered::Gathered;
-use crate::gathering::no_rows;
 use crate::params::{Params, params_in};
 use crate::progress::{Progress, Reading};
 use fints_syntax::StreamBuffer;
@@ -18,7 +20,7 @@ use std::marker::Model;
 #[derive(Drop)]
 pub struct ParamReader {
     buffer: StreamBuffer,
-    reading: Reading<Gathered>,
+    reading: Reading<Both>,
     alloc: Global,
 }
 
@@ -41,7 +43,7 @@ impl ParamReader {
     {
         ParamReader {
             buffer: StreamBuffer::new(alloc),
-            reading: Reading::new(alloc, no_rows(alloc)),
+            reading: Reading::new(alloc, none_read(alloc)),
             alloc,
         }
     }
@@ -58,17 +60,18 @@ impl ParamReader {
             Ok(()) => Ok(()),
             Err(fault) => {
                 self.buffer.read_anew();
-                self.reading = Reading::new(self.alloc, no_rows(self.alloc));
+                self.reading = Reading::new(self.alloc, none_read(self.alloc));
                 Err(ParamFault::from(fault))
             }
         }
     }
 
-    /// The parameters of the capture, which ends here, as `Params::read` gives them, or the first
-    /// refusal in its order; after a fault of a piece its offset.
-    pub fn finish(self) -> Result<Params, ParamFault>
-        ensures rows { IfOk result (λ p. (self.failed ≡ None) × IsParamsOf self.bytes p) }
-        ensures refused { IfErr result (λ f. HasNoParams self.failed self f) }
+    // What was read of the capture's front, and its bytes; after a fault of a piece its offset.
+    fn into_progress(self) -> Result<(Progress<Both>, StreamBuffer), ParamFault>
+        ensures come { IfOk result (λ it.
+            HasComeIn fault_after IsBothSoFar it.1.bytes it.0.to it.0.reading.refused it.0.reading.reader) }
+        ensures bytes { IfOk result (λ it. (self.failed ≡ None) × (it.1.bytes ≡ self.bytes)) }
+        ensures failed { IfErr result (λ f. (offset : ℕ) × (self.failed ≡ Some offset) × (f ≡ answer_after offset)) }
     {
         if let Some(fault) = self.buffer.failure() {
             return Err(ParamFault::Syntax(fault));
@@ -79,6 +82,28 @@ impl ParamReader {
             ..
         } = self;
         let to = buffer.read_to();
-        params_in(Progress { to, reading }, buffer.as_bytes())
+        Ok((Progress { to, reading }, buffer))
+    }
+
+    /// The parameters of the capture, which ends here, as `Params::read` gives them, or the first
+    /// refusal in its order; after a fault of a piece its offset.
+    pub fn finish(self) -> Result<Params, ParamFault>
+        ensures rows { IfOk result (λ p. (self.failed ≡ None) × IsParamsOf self.bytes p) }
+        ensures refused { IfErr result (λ f. TellsNothing IsParamFault self.failed self f) }
+    {
+        let (progress, buffer) = self.into_progress()?;
+        params_in(progress, buffer.as_bytes())
+    }
+
+    /// The parameters of the capture, which ends here, and the codes of its feedback, as
+    /// `params_and_codes` gives them, or the first refusal in its order; after a fault of a piece its
+    /// offset.
+    pub fn finish_with_codes(self) -> Result<ParamsAndCodes, ParamFault>
+        ensures rows { IfOk result (λ it. (self.failed ≡ None) × IsParamsOf self.bytes it.params) }
+        ensures codes { IfOk result (λ it. IsCodesOf self.bytes it.codes.items) }
+        ensures refused { IfErr result (λ f. TellsNothing IsEitherFault self.failed self f) }
+    {
+        let (progress, buffer) = self.into_progress()?;
+        both_in(progress, buffer.as_bytes())
     }
 }

@@ -10,9 +10,10 @@ use Rattle.fints_cli_commands.proofs.commands.answer.Goals as goal
 pub returns-in_err-text-in-Show-clause-refused : goal.returns-in_err-text-in-Show-clause-refused
 returns-in_err-text-in-Show-clause-refused c =
     let fault = c.in_err-text-in-Show.field-0.0 in
-    let refused = rw c.deref.ensures.value at c.in_err-text-in-Show.ensures.refused in
     rw c.in-Show.is (of_exit c.from_residual.result fault _ c.from_residual.ensures.1 (λ holds loaded.
-    of_file (λ capture. IsMemoryOrShowFault capture fault) (holds c.in-Show.params.now) _ loaded.shown refused))
+    let (bytes, file, read) = loaded.shown in
+    of_file (λ capture. IsMemoryOrShowFault capture fault) (holds c.in-Show.params.now) bytes file
+    (c.in_err-text-in-Show.ensures.refused bytes read)))
 
 pub returns-in_err-text-in-ShowMessage-clause-refused : goal.returns-in_err-text-in-ShowMessage-clause-refused
 returns-in_err-text-in-ShowMessage-clause-refused c =

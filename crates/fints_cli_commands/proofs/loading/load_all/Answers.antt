@@ -1,4 +1,8 @@
-use Rattle.fints_cli_commands.proofs.Reading.{both_read, first_unread, later_unread, of_exit}
+use Rattle.std.proofs.Common.{◌∙◌, subst}
+use Rattle.fints_params.specs.Captures.{IsReadOf, IsBothReadOf}
+use Rattle.fints_cli_commands.specs.Loading.{Held}
+use Rattle.fints_cli_commands.specs.Loaded.{IsFileAt, IsReadAt}
+use Rattle.fints_cli_commands.proofs.Reading.{both_read, first_unread, later_unread, of_exit, read_at}
 use Rattle.fints_cli_commands.proofs.loading.load_all.Goals as goal
 
 pub returns-in_err-case-clause-unread : goal.returns-in_err-case-clause-unread
@@ -56,3 +60,29 @@ returns-clause-read g c =
     (both_read c.in_ok-case.ensures.read (both_read c.in_ok-certificate.ensures.read
     (both_read c.in_ok-before.ensures.read (both_read c.in_ok-answer.ensures.read
     (both_read c.in_ok-message.ensures.read c.in_ok-dialogue.ensures.read))))))))
+
+pub returns-clause-loaded : goal.returns-clause-loaded
+returns-clause-loaded g c =
+    let shown = c.in_ok-shown.ensures.read.keeps in
+    let capture = c.in_ok-capture.ensures.read.keeps ∙ shown in
+    let orders = c.in_ok-orders.ensures.read.keeps ∙ capture in
+    let script = c.in_ok-script.ensures.read.keeps ∙ orders in
+    let case = c.in_ok-case.ensures.read.keeps ∙ script in
+    let certificate = c.in_ok-certificate.ensures.read.keeps ∙ case in
+    let before = c.in_ok-before.ensures.read.keeps ∙ certificate in
+    let answer = c.in_ok-answer.ensures.read.keeps ∙ before in
+    let message = c.in_ok-message.ensures.read.keeps ∙ answer in
+    record {
+      shown = read_at IsBothReadOf _ _ _ _ c.end_with_codes-shown_read.ensures.read c.in_ok-shown.ensures.loaded;
+      params =
+          subst (λ (held : Held). IsReadAt IsReadOf _ held _) shown
+          (read_at IsReadOf _ _ _ _ c.end-read.ensures.read c.in_ok-capture.ensures.loaded);
+      orders = subst (λ (held : Held). IsFileAt _ held _) capture c.in_ok-orders.ensures.loaded;
+      script = subst (λ (held : Held). IsFileAt _ held _) orders c.in_ok-script.ensures.loaded;
+      case = subst (λ (held : Held). IsFileAt _ held _) script c.in_ok-case.ensures.loaded;
+      certificate = subst (λ (held : Held). IsFileAt _ held _) case c.in_ok-certificate.ensures.loaded;
+      before = subst (λ (held : Held). IsFileAt _ held _) certificate c.in_ok-before.ensures.loaded;
+      answer = subst (λ (held : Held). IsFileAt _ held _) before c.in_ok-answer.ensures.loaded;
+      message = subst (λ (held : Held). IsFileAt _ held _) answer c.in_ok-message.ensures.loaded;
+      dialogue = subst (λ (held : Held). IsFileAt _ held _) message c.in_ok-dialogue.ensures.loaded;
+    }

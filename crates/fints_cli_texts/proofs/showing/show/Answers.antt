@@ -1,6 +1,7 @@
 use Rattle.std.proofs.Common.{ℕ, List}
 use Rattle.std.proofs.lemmas.Result.{IfErr-weaker}
-use Rattle.fints_cli_texts.specs.Show.{IsBothReadOf, IsMemoryOrShowFault}
+use Rattle.fints_params.specs.Captures.{IsBothReadOf}
+use Rattle.fints_cli_texts.specs.Show.{IsMemoryOrShowFault}
 use Rattle.fints_cli_texts.proofs.ShowLemmas.{both_read}
 use Rattle.fints_cli_texts.proofs.showing.show.Goals as goal
 

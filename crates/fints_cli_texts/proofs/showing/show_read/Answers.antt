@@ -1,6 +1,7 @@
 use Rattle.std.proofs.Common.{◌++◌, ◌∙◌, ap, sym, subst}
 use Rattle.std.specs.List.{flat_map}
-use Rattle.fints_cli_texts.specs.Show.{code_line, rows_text, IsBothReadOf, IsMemoryOrShowFault}
+use Rattle.fints_params.specs.Captures.{IsBothReadOf}
+use Rattle.fints_cli_texts.specs.Show.{code_line, rows_text, IsMemoryOrShowFault}
 use Rattle.fints_cli_texts.proofs.ShowLemmas.{kept}
 use Rattle.fints_cli_texts.proofs.showing.show_read.Goals as goal
 

@@ -20,9 +20,9 @@ pub params_of-requires : goal.params_of-requires
 params_of-requires c =
     let e = c.in_ok-rows.ensures.ok in
     let few : skipped_in e.0 < 2 ^ 32 = can_count c.args.capture.now e.0 e.1 in
-    omega (arith, few, e.2.rows.skipped)
+    omega (arith, few, e.2.0.rows.skipped)
 
 pub returns-clause-rows : goal.returns-clause-rows
 returns-clause-rows c =
     let e = c.in_ok-rows.ensures.ok in
-    params_read c.args.capture.now e.0 c.in_ok-rows.rows c.params_of.result e.1 e.2 c.params_of.ensures.complete c.params_of.ensures.rows
+    params_read c.args.capture.now e.0 c.in_ok-rows.field-0.rows c.params_of.result e.1 e.2.0 c.params_of.ensures.complete c.params_of.ensures.rows

@@ -2,8 +2,8 @@ use Rattle.std.proofs.Common.{sym}
 use Rattle.std.proofs.lemmas.Result.{IfOk-weaker}
 use Rattle.fints_syntax.specs.Owned.{segment_of}
 use Rattle.fints_params.specs.Glancing.{IsGlanced}
-use Rattle.fints_params.specs.Taken.{ParamsSoFar}
-use Rattle.fints_params.proofs.BothRead.{IsBothSoFar, both_glanced}
+use Rattle.fints_params.specs.Taken.{IsBothSoFar, ParamsSoFar}
+use Rattle.fints_params.proofs.BothRead.{both_glanced}
 use Rattle.fints_params.proofs.both.BothSegmentTaker.glance.Goals as goal
 
 pub returns : goal.returns

@@ -5,7 +5,7 @@ use Rattle.fints_params.specs.Faults.{as_param_fault}
 use Rattle.fints_params.specs.Inside.{received_of}
 use Rattle.fints_params.specs.Parameters.{fault_after}
 use Rattle.fints_params.specs.Pieces.{Received, IsReceived, IsNotReceived}
-use Rattle.fints_params.specs.Taken.{ParamsSoFar}
+use Rattle.fints_params.specs.Taken.{IsBothSoFar}
 use Rattle.fints_params.proofs.Receiving.{come_anew, come_with, come_all, start_stays, received, received_by, not_received}
 use Rattle.fints_params.proofs.reader.ParamReader.feed.Goals as goal
 
@@ -14,12 +14,12 @@ invariant_of-self c =
     let i = c.self.inside in
     let (next, h, goes) = c.in-Ok.ensures.fed in
     let come =
-    come_with fault_after ParamsSoFar i.buffer c.args.piece.now next c.feed.new.self i.reading.refused
+    come_with fault_after IsBothSoFar i.buffer c.args.piece.now next c.feed.new.self i.reading.refused
     c.feed.new.taker.refused i.reading.reader c.feed.new.taker.reader c.self.invariant.start
     c.self.invariant.come h goes in
     record {
       start = ap (λ (b : Buffered). b.at) h.new_is ∙ c.self.invariant.start;
-      come = come_all fault_after ParamsSoFar i.buffer c.args.piece.now next c.feed.new.self c.feed.new.taker.refused c.feed.new.taker.reader h come;
+      come = come_all fault_after IsBothSoFar i.buffer c.args.piece.now next c.feed.new.self c.feed.new.taker.refused c.feed.new.taker.reader h come;
     }
 
 pub invariant_of-self-in-Err : goal.invariant_of-self-in-Err
@@ -33,8 +33,8 @@ invariant_of-self-in-Err c =
           ∙ c.self.invariant.start;
       come =
           rw (c.new.ensures.reader, c.new.ensures.none)
-          (come_anew fault_after ParamsSoFar c.read_anew.new.self.bytes c.read_anew.new.self.to
-          c.no_rows.result c.read_anew.ensures.unread c.no_rows.ensures);
+          (come_anew fault_after IsBothSoFar c.read_anew.new.self.bytes c.read_anew.new.self.to
+          c.none_read.result c.read_anew.ensures.unread c.none_read.ensures);
     }
 
 pub returns-in-Ok-clause-received : goal.returns-in-Ok-clause-received
@@ -42,17 +42,17 @@ returns-in-Ok-clause-received c =
     let i = c.self.inside in
     let (next, h, goes) = c.in-Ok.ensures.fed in
     let come =
-    come_with fault_after ParamsSoFar i.buffer c.args.piece.now next c.feed.new.self i.reading.refused
+    come_with fault_after IsBothSoFar i.buffer c.args.piece.now next c.feed.new.self i.reading.refused
     c.feed.new.taker.refused i.reading.reader c.feed.new.taker.reader c.self.invariant.start
     c.self.invariant.come h goes in
-    let made = received fault_after ParamsSoFar i.buffer c.args.piece.now next c.feed.new.self c.feed.new.taker.refused c.feed.new.taker.reader h come in
+    let made = received fault_after IsBothSoFar i.buffer c.args.piece.now next c.feed.new.self c.feed.new.taker.refused c.feed.new.taker.reader h come in
     subst (λ (r : Received). IsReceived r c.args.piece.now (received_by c.feed.new.self)) c.self.view_is made
 
 pub returns-in-Err-clause-refused : goal.returns-in-Err-clause-refused
 returns-in-Err-clause-refused c =
     let i = c.self.inside in
     let made =
-    not_received fault_after ParamsSoFar i.buffer c.args.piece.now c.in-Err.fault c.feed.new.self
+    not_received fault_after IsBothSoFar i.buffer c.args.piece.now c.in-Err.fault c.feed.new.self
     i.reading.refused i.reading.reader c.self.invariant.start c.self.invariant.come
     c.in-Err.ensures.refused in
     let kept : received_by c.feed.new.self ≡ received_by c.read_anew.new.self =

@@ -1,5 +1,5 @@
 use Rattle.fints_params.specs.Parameters.{fault_after}
-use Rattle.fints_params.specs.Taken.{ParamsSoFar}
+use Rattle.fints_params.specs.Taken.{IsBothSoFar}
 use Rattle.fints_params.proofs.Receiving.{come_anew}
 use Rattle.fints_params.proofs.reader.ParamReader.new.Goals as goal
 
@@ -9,6 +9,6 @@ invariant_of-result c =
       start = c.new.ensures.at;
       come =
           rw (c.new-2.ensures.reader, c.new-2.ensures.none)
-          (come_anew fault_after ParamsSoFar c.new.result.bytes c.new.result.to c.no_rows.result
-          c.new.ensures.unread c.no_rows.ensures);
+          (come_anew fault_after IsBothSoFar c.new.result.bytes c.new.result.to c.none_read.result
+          c.new.ensures.unread c.none_read.ensures);
     }

@@ -5,7 +5,7 @@ use Rattle.fints_params.specs.Faults.{IsMemoryOr}
 use Rattle.fints_params.specs.Parameters.{skipped_in}
 use Rattle.fints_params.proofs.Bounds.{can_count}
 use Rattle.fints_params.proofs.BothRead.{code_fault, codes_are, codes_ended, params_of, missing}
-use Rattle.fints_params.proofs.both.params_and_codes.Goals as goal
+use Rattle.fints_params.proofs.both.both_in.Goals as goal
 
 pub params_of-requires : goal.params_of-requires
 params_of-requires c =
