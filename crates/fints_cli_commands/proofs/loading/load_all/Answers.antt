@@ -1,9 +1,24 @@
-use Rattle.std.proofs.Common.{◌∙◌, subst}
+use Rattle.std.proofs.Common.{◌∙◌}
 use Rattle.fints_params.specs.Captures.{IsReadOf, IsBothReadOf}
-use Rattle.fints_cli_commands.specs.Loading.{Held}
-use Rattle.fints_cli_commands.specs.Loaded.{IsFileAt, IsReadAt}
 use Rattle.fints_cli_commands.proofs.Reading.{both_read, first_unread, later_unread, of_exit, read_at}
 use Rattle.fints_cli_commands.proofs.loading.load_all.Goals as goal
+
+pub returns-in_err-capture-clause-unread : goal.returns-in_err-capture-clause-unread
+returns-in_err-capture-clause-unread g c =
+    of_exit c.from_residual-in_err-capture.result _ _ c.from_residual-in_err-capture.ensures.1
+    (later_unread c.in_ok-shown.ensures.read (first_unread _ c.in_err-capture.ensures.unread))
+
+pub returns-in_err-orders-clause-unread : goal.returns-in_err-orders-clause-unread
+returns-in_err-orders-clause-unread g c =
+    of_exit c.from_residual-in_err-orders.result _ _ c.from_residual-in_err-orders.ensures.1
+    (later_unread c.in_ok-shown.ensures.read (later_unread c.in_ok-capture.ensures.read
+    (first_unread _ c.in_err-orders.ensures.unread)))
+
+pub returns-in_err-script-clause-unread : goal.returns-in_err-script-clause-unread
+returns-in_err-script-clause-unread g c =
+    of_exit c.from_residual-in_err-script.result _ _ c.from_residual-in_err-script.ensures.1
+    (later_unread c.in_ok-shown.ensures.read (later_unread c.in_ok-capture.ensures.read
+    (later_unread c.in_ok-orders.ensures.read (first_unread _ c.in_err-script.ensures.unread))))
 
 pub returns-in_err-case-clause-unread : goal.returns-in_err-case-clause-unread
 returns-in_err-case-clause-unread g c =
@@ -75,14 +90,13 @@ returns-clause-loaded g c =
     record {
       shown = read_at IsBothReadOf _ _ _ _ c.end_with_codes-shown_read.ensures.read c.in_ok-shown.ensures.loaded;
       params =
-          subst (λ (held : Held). IsReadAt IsReadOf _ held _) shown
-          (read_at IsReadOf _ _ _ _ c.end-read.ensures.read c.in_ok-capture.ensures.loaded);
-      orders = subst (λ (held : Held). IsFileAt _ held _) capture c.in_ok-orders.ensures.loaded;
-      script = subst (λ (held : Held). IsFileAt _ held _) orders c.in_ok-script.ensures.loaded;
-      case = subst (λ (held : Held). IsFileAt _ held _) script c.in_ok-case.ensures.loaded;
-      certificate = subst (λ (held : Held). IsFileAt _ held _) case c.in_ok-certificate.ensures.loaded;
-      before = subst (λ (held : Held). IsFileAt _ held _) certificate c.in_ok-before.ensures.loaded;
-      answer = subst (λ (held : Held). IsFileAt _ held _) before c.in_ok-answer.ensures.loaded;
-      message = subst (λ (held : Held). IsFileAt _ held _) answer c.in_ok-message.ensures.loaded;
-      dialogue = subst (λ (held : Held). IsFileAt _ held _) message c.in_ok-dialogue.ensures.loaded;
+          rw shown at (read_at IsReadOf _ _ _ _ c.end-read.ensures.read c.in_ok-capture.ensures.loaded);
+      orders = rw capture at c.in_ok-orders.ensures.loaded;
+      script = rw orders at c.in_ok-script.ensures.loaded;
+      case = rw script at c.in_ok-case.ensures.loaded;
+      certificate = rw case at c.in_ok-certificate.ensures.loaded;
+      before = rw certificate at c.in_ok-before.ensures.loaded;
+      answer = rw before at c.in_ok-answer.ensures.loaded;
+      message = rw answer at c.in_ok-message.ensures.loaded;
+      dialogue = rw message at c.in_ok-dialogue.ensures.loaded;
     }
