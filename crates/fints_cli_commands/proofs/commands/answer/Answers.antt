@@ -18,7 +18,7 @@ returns-in_err-text-in-Show-clause-refused c =
 pub returns-in_err-text-in-ShowMessage-clause-refused : goal.returns-in_err-text-in-ShowMessage-clause-refused
 returns-in_err-text-in-ShowMessage-clause-refused c =
     let fault = c.in_err-text-in-ShowMessage.field-0.0 in
-    let message = c.deref-in-ShowMessage.ensures.value in
+    let message = c.deref.ensures.value in
     let refused = rw message at c.in_err-text-in-ShowMessage.ensures.refused in
     let exit = c.from_residual-in_err-text-in-ShowMessage.ensures.1 in
     rw c.in-ShowMessage.is (of_exit c.from_residual-in_err-text-in-ShowMessage.result fault _ exit (λ holds loaded.
