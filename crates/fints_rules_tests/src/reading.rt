@@ -145,3 +145,41 @@ fn rows_and_codes(rt: HostRuntime) -> Result<(), Fail> {
     assert!(rt; are_of_c(&told.params) && told.codes.len() == 0);
     Ok(())
 }
+
+// A reader that took these pieces.
+fn fed(alloc: Global, pieces: &[&[u8]]) -> Result<ParamReader, ParamFault> {
+    let mut reader = ParamReader::new(alloc);
+    for piece in pieces {
+        reader.feed(piece)?;
+    }
+    Ok(reader)
+}
+
+#[test]
+fn codes_in_pieces(rt: HostRuntime) -> Result<(), Fail> {
+    let rest = b"10::Received'HIRMS:3:2:4+0030::TAN++3060::Note'".as_slice();
+    let reader = fed(rt.alloc(), &[C, b"HIRMG:2:2+00", rest])?;
+    let told = reader.finish_with_codes()?;
+    let numbers: Vec<u16> = told
+        .codes
+        .iter()
+        .map(|code| code.number())
+        .collect(rt.alloc())?;
+    assert!(rt; are_of_c(&told.params));
+    assert!(rt; numbers.as_slice() == [10, 30, 3060].as_slice());
+    Ok(())
+}
+
+// A code that is none is no matter for who asks for the parameters alone.
+#[test]
+fn bad_code_in_pieces(rt: HostRuntime) -> Result<(), Fail> {
+    let pieces = [C, b"HIRMS:3:2+0010+:1".as_slice(), b"+003x'".as_slice()];
+    let told = fed(rt.alloc(), &pieces)?.finish_with_codes().err();
+    let refused = ParamFault::BadElement {
+        segment: 3,
+        element: 4,
+    };
+    assert_eq!(rt; told, Some(refused));
+    assert!(rt; are_of_c(&fed(rt.alloc(), &pieces)?.finish()?));
+    Ok(())
+}
