@@ -100,13 +100,6 @@ figures_once (Some p) (Some q) ha hb e =
     let make : ℕ → ℕ → Reached = λ n s. record { number = n; size = s } in
     ap (λ (n : ℕ). Some (make n p.size)) number ∙ ap (λ (s : ℕ). Some (make q.number s)) size
 
--- a dash is no number and size
-pub dash_only : (text : List ℕ) → (text ≡ codes "-" → ⊥)
-    → ((r : Reached) → AreShown (Some r) → text ≢ figures_text (Some r)) → (r : Option Reached) → AreShown r
-    → text ≢ figures_text r
-dash_only text no_dash none None h e = no_dash e
-dash_only text no_dash none (Some r) h e = none r h e
-
 pub no_space : (text : List ℕ) → All (λ b. b ≢ 32) text → (r : Reached) → AreShown (Some r)
     → text ≢ figures_text (Some r)
 no_space text none r h e = split_none 32 (decimal r.number) (decimal r.size) (subst (λ (t : List ℕ). All (λ b. b ≢ 32) t) e none)

@@ -32,9 +32,6 @@ none_in_nil (suc k) e h = cc
 
 -- ---- marks
 
-pub marks_none : (steps : List StepValue) → AreSubmittingTo steps 0 []
-marks_none steps = record { long = refl; each = λ t step low at. let within = numbered_within steps t step at in let some = within.0 in absurd (omega arith) }
-
 pub marks_more : (steps : List StepValue) (i : ℕ) (marks : List Bool) (step : StepValue) (mark : Bool)
     → numbered steps (i + 1) ≡ Some step → mark ≡ submits step → AreSubmittingTo steps i marks
     → AreSubmittingTo steps (i + 1) (marks ++ mark ∷ [])
@@ -59,13 +56,6 @@ pub record HoldersFrom (steps : List StepValue) (behind : List (Option ℕ)) (i 
       → Has behind s t × ((to : StepValue) × (numbered steps s ≡ Some to) × (releases to ≡ false))
   pub all : (s u : ℕ) (to : StepValue) → s ≤ i → Has behind s u → numbered steps s ≡ Some to
       → releases to ≡ false → Has holders s u
-
-pub from_none : (steps : List StepValue) (behind : List (Option ℕ)) → HoldersFrom steps behind 0 []
-from_none steps behind = record {
-  long = refl;
-  each = λ s t h. absurd (none_in_nil s t h);
-  all = λ s u to low has there. let within = numbered_within steps s to there in let some = within.0 in absurd (omega arith);
-}
 
 chosen : (b : Bool) (kept cell : Option ℕ) (t : ℕ) → cell ≡ cond b None kept → cell ≡ Some t
     → (b ≡ false) × (kept ≡ Some t)

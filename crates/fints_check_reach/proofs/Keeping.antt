@@ -12,9 +12,9 @@ use Rattle.fints_script_cases.specs.declared.answers.Target.TheVariants.{Step, A
 use Rattle.fints_script.specs.Numbered.{numbered, numbered_within}
 use Rattle.fints_script.specs.Sound.{IsOnward}
 use Rattle.fints_script.specs.Steps.{StepValue}
-use Rattle.fints_check_reach.specs.Following.{AreBehind, CarriesTo, GoesTo, IsCarriedTo}
+use Rattle.fints_check_reach.specs.Following.{AreBehind, CarriesTo, GoesTo}
 use Rattle.fints_check_reach.specs.Numbers.{Has}
-use Rattle.fints_check_reach.specs.Passes.{AreKept, Asks, BranchAsks, IsOpenAt, PassAsks, StepAsks}
+use Rattle.fints_check_reach.specs.Passes.{AreKept, BranchAsks, IsOpenAt, PassAsks, StepAsks}
 use Rattle.fints_check_reach.proofs.Blanks.{none_in_blank, none_in_nil}
 use Rattle.fints_check_reach.proofs.Lookups.{numbered_push_cases, numbered_push_here, numbered_push_old, numbered_set_here, numbered_set_other, slice_get_set_here, slice_get_set_other}
 use Rattle.fints_check_reach.proofs.Scripts.{IsScript, lead_forward}
@@ -84,27 +84,6 @@ kept_both n Goes Others old mid new k l = record {
 abbrev pub SoFarAsks : StepValue → List Bool → ℕ → ℕ → ℕ → ℕ → Type 0
 SoFarAsks step marks n code b s = (branch : ℕ) × (1 ≤ branch) × (branch < b) × BranchAsks step marks n code branch s
 
-pub none_yet : (step : StepValue) (marks : List Bool) (n code : ℕ) (old : List (Option ℕ))
-    → AreKept n (SoFarAsks step marks n code 1) old old
-none_yet step marks n code old = kept_none n (SoFarAsks step marks n code 1) old (λ s (branch, low, high, asks). omega arith)
-
--- a target determines where it goes
-goes_once : (step : StepValue) (n : ℕ) (target : Target) (s r : ℕ) → GoesTo step n target s
-    → GoesTo step n target r → s ≡ r
-goes_once step n (Step to) s r g h = sym g ∙ h
-goes_once step n Again s r g h = g.0 ∙ sym h.0
-goes_once step n Stop s r g h = absurd g
-
--- what is kept for the step that a branch goes to is kept for the branch
-pub kept_target : (step : StepValue) (marks : List Bool) (n code b s : ℕ) (old new : List (Option ℕ))
-    → Asks marks n → IsCarriedTo step n b code s → AreKept n (λ k. k ≡ s) old new
-    → AreKept n (BranchAsks step marks n code b) old new
-kept_target step marks n code b s old new asks carried =
-    kept_as n (λ k. k ≡ s) (BranchAsks step marks n code b) old new
-    (λ r is. (asks, subst (λ j. IsCarriedTo step n b code j) (sym is) carried))
-    (λ r both.
-    sym (goes_once step n (target_of step.branches step.otherwise b) s r carried.goes both.1.goes))
-
 pub kept_more : (step : StepValue) (marks : List Bool) (n code b : ℕ) (old mid new : List (Option ℕ)) → 1 ≤ b
     → AreKept n (SoFarAsks step marks n code b) old mid → AreKept n (BranchAsks step marks n code b) mid new
     → AreKept n (SoFarAsks step marks n code (b + 1)) old new
@@ -120,13 +99,6 @@ kept_more step marks n code b old mid new low k l =
       | inr other ↦ elim other [ inl below ↦ inl (branch, from, below, asks) | inr above ↦ absurd (omega arith) ]
     ])
     (kept_both n (SoFarAsks step marks n code b) (BranchAsks step marks n code b) old mid new k l)
-
-pub kept_all : (step : StepValue) (marks : List Bool) (n code : ℕ) (old new : List (Option ℕ))
-    → AreKept n (SoFarAsks step marks n code (length step.branches + 2)) old new
-    → AreKept n (StepAsks step marks n code) old new
-kept_all step marks n code old new = kept_as n (SoFarAsks step marks n code (length step.branches + 2)) (StepAsks step marks n code) old new
-    (λ s (branch, from, to, asks). (asks.0, (branch, asks.1)))
-    (λ s (marked, (branch, c)). let from = c.carries.1.fires.from in let to = c.carries.1.fires.to in (branch, from, omega arith, (marked, c)))
 
 -- ---- of one step
 

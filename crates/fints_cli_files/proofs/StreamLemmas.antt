@@ -1,9 +1,8 @@
 -- Reads one after another.
-use Rattle.std.proofs.Common.{◌≡◌, Ok, IfSome, arith, ◌<◌, ◌≤◌, ◌∙◌, refl, sym, ap, subst, ℕ, ◌+◌, List, [], ◌++◌, length, take, Option, Some, None}
+use Rattle.std.proofs.Common.{◌≡◌, Ok, IfSome, arith, ◌<◌, ◌≤◌, ◌∙◌, refl, sym, ap, ℕ, ◌+◌, List, ◌++◌, length, take, Option, Some, None}
 use Rattle.std.proofs.lemmas.List.{take_all, length-append, length-take-le}
 use Rattle.std.proofs.Math.Seq.{take-add}
 use Rattle.fints_cli_files.specs.Streams.{ReadsFrom, IsFile, one_more}
-use Rattle.fints_cli_files.specs.Loading.{IsTakenFrom}
 
 -- a count goes up by at most one
 pub one_more_le : (count : ℕ) → one_more count ≤ count + 1
@@ -27,11 +26,6 @@ pub record IsTakenSo {S : Type 0} (Holds : List ℕ → S → Type 0) (held : Op
   pub right : Holds bytes taker
   pub front : IfSome held (λ file. bytes ≡ take at file)
 
-pub taken-none : {S : Type 0} (Holds : List ℕ → S → Type 0) (held : Option (List ℕ)) (taker : S)
-    → Holds [] taker → IsTakenSo Holds held 0 taker
-taken-none Holds None taker h = record { bytes = []; size = refl; right = h; front = tt }
-taken-none Holds (Some file) taker h = record { bytes = []; size = refl; right = h; front = refl }
-
 -- and the next part of it
 pub taken-next : {S : Type 0} (Holds : List ℕ → S → Type 0) (held : Option (List ℕ)) (at count : ℕ)
     (buffer : List ℕ) (taker next : S) → IsTakenSo Holds held at taker → ReadsFrom held at buffer (Ok count)
@@ -50,14 +44,3 @@ ends : (held : Option (List ℕ)) (at : ℕ) (bytes buffer : List ℕ) → IfSom
     → ReadsFrom held at buffer (Ok 0) → 0 < length buffer → IsFile held bytes
 ends None at bytes buffer front honest some = tt
 ends (Some file) at bytes buffer front honest some = front ∙ take_all at file ((honest (omega arith)).1 refl some)
-
--- where no byte is left it took the file
-pub taken-all : {S : Type 0} (Holds : List ℕ → S → Type 0) (held : Option (List ℕ)) (at limit : ℕ)
-    (buffer : List ℕ) (taker : S) → IsTakenSo Holds held at taker → ReadsFrom held at buffer (Ok 0)
-    → 0 < length buffer → at ≤ limit → IsTakenFrom Holds held limit taker
-taken-all Holds held at limit buffer taker t honest some le = (t.bytes, ends held at t.bytes buffer t.front honest some, omega (arith, t.size), t.right)
-
--- a vector that took a file holds it
-pub vec-taken : (held : Option (List ℕ)) (limit : ℕ) (items : List ℕ)
-    → IsTakenFrom (λ bytes it. it ≡ bytes) held limit items → IsFile held items × (length items ≤ limit)
-vec-taken held limit items (bytes, file, le, e) = (subst (IsFile held) (sym e) file, omega (arith, le, ap length e))

@@ -1,7 +1,7 @@
 -- The lines of audited messages; and what refuses an input of `audit` is the refusal of the call.
-use Rattle.std.proofs.Common.{◌≡◌, ℕ, ◌+◌, ◌<◌, ◌≤◌, List, [], ◌∷◌, ◌++◌, length, get_or, drop, refl, ap, ◌∙◌, sym, subst, arith, append_assoc, inl, inr, Result, Ok, Err, IfErr}
+use Rattle.std.proofs.Common.{◌≡◌, ℕ, ◌+◌, ◌<◌, List, ◌∷◌, ◌++◌, length, get_or, drop, ap, ◌∙◌, sym, subst, append_assoc, inl, inr, Result, Ok, Err, IfErr}
 use Rattle.std.specs.Result.{IsErrAnd}
-use Rattle.std.proofs.lemmas.List.{append-nil, drop_all, drop_more}
+use Rattle.std.proofs.lemmas.List.{drop_more}
 use Rattle.fints_params.specs.Parameters.{Rows}
 use Rattle.fints_params.specs.Captures.{IsParamsOf}
 use Rattle.fints_rules_permissions.specs.declared.orders.OrderRow.{OrderRow}
@@ -31,10 +31,6 @@ line_more xs i a text lt is =
     append_assoc text (message_lines (i + 1) a) (lines_from (i + 1 + 1) (drop (i + 1) xs))
     ∙ ap (λ ys. text ++ lines_from (i + 1) ys)
     (sym (drop_more xs i a lt ∙ ap (λ x. x ∷ drop (i + 1) xs) (sym is)))
-
-pub lines_end : (xs : List Audited) (i n : ℕ) (text : List ℕ) → length xs ≤ i
-    → text ++ lines_from n (drop i xs) ≡ text
-lines_end xs i n text le = ap (λ ys. text ++ lines_from n ys) (drop_all i xs le) ∙ append-nil text
 
 -- ---- refusals
 
@@ -76,14 +72,6 @@ pub refused_later : (capture table dialogue : List ℕ) (rows : Rows) (orders : 
     → IsAuditRefusal capture table dialogue (dialogue_fault_of f)
 refused_later capture table dialogue rows orders f h i p =
     later_refused capture table dialogue rows orders (dialogue_fault_of f) h i (dialogue_refused dialogue f p)
-
-pub own_table_refused : (table dialogue : List ℕ) (f : TableFault) → IsTableFault table f
-    → IsOwnAuditRefusal table dialogue (order_fault_of f)
-own_table_refused table dialogue orders.Memory p = tt
-own_table_refused table dialogue orders.NotToml p = p
-own_table_refused table dialogue orders.UnknownKey p = p
-own_table_refused table dialogue (orders.BadRow n) p = p
-own_table_refused table dialogue (orders.TwoRows n) p = p
 
 own_refused : (table dialogue : List ℕ) (orders : List OrderRow) (f : DialogueFault)
     → DenotesTable table orders → IsMemoryOrRefusal (IsOwnFault dialogue) f

@@ -1,5 +1,5 @@
 -- What `certify` and `verify` tell.
-use Rattle.std.proofs.Common.{Result, Ok, Err, IfOk, ◌≡◌, ◌∙◌, ◌↔◌, ℕ, Bool, IsTrue, List, [], ◌∷◌, refl, subst, inl, inr}
+use Rattle.std.proofs.Common.{Result, Ok, Err, IfOk, ◌≡◌, ◌↔◌, ℕ, Bool, IsTrue, List, [], subst, inl}
 use Rattle.fints_check.specs.Certificates.{line_figures, IsClosedCertificate, KeepsPromise}
 use Rattle.fints_check.specs.CertTexts.{cert_text, IsCertificateOf}
 use Rattle.fints_check.specs.declared.certificate.Line.{Line}
@@ -11,7 +11,6 @@ use Rattle.fints_rules_permissions.specs.Permits.{Granted}
 use Rattle.fints_rules_permissions.specs.declared.orders.OrderRow.{OrderRow}
 use Rattle.fints_script.specs.Scripts.{ScriptValue}
 use Rattle.fints_cli_reports.specs.Certified.{IsCertifiedBy}
-use Rattle.fints_cli_reports.specs.ReportText.{report_status, IsReportBy}
 use Rattle.fints_cli_reports.specs.Verified.{IsVerifiedBy, TellsWhether}
 
 pub certified : (granted : Granted) (script : ScriptValue) (lines : List Line) (findings : List Finding)
@@ -32,15 +31,6 @@ certified granted script lines findings status text none are figures closed prom
         permitted = permitted;
       },
     )
-
-found_status : (findings : List Finding) → (findings ≡ [] → ⊥) → report_status findings ≡ 1
-found_status [] some = absurd (some refl)
-found_status (f ∷ fs) some = refl
-
-pub reported : (granted : Granted) (script : ScriptValue) (findings : List Finding) (status : ℕ)
-    (text : List ℕ) → (findings ≡ [] → ⊥) → status ≡ report_status findings
-    → IsReportBy granted script status text → IsCertifiedBy granted script status text
-reported granted script findings status text some same report = inr (same ∙ found_status findings some, report)
 
 -- what `verify` tells, by permissions that have these rows and this order table
 pub verified_by : (p : Granted) (rows : Rows) (orders : List OrderRow) (script : ScriptValue)

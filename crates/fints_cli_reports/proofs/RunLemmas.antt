@@ -1,5 +1,5 @@
 -- The text of a run, as its messages are made one by one.
-use Rattle.std.proofs.Common.{◌≡◌, ◌<◌, ◌+◌, ℕ, zero, suc, List, [], ◌∷◌, ◌++◌, length, take, get_or, ap, sym, subst, ◌∙◌, refl, Option, Some, None, All, arith}
+use Rattle.std.proofs.Common.{◌≡◌, ◌<◌, ◌+◌, ℕ, zero, suc, List, [], ◌∷◌, ◌++◌, length, take, get_or, ap, sym, subst, ◌∙◌, refl, Option, Some, All, arith}
 use Rattle.std.specs.Prelude.{Contains}
 use Rattle.std.proofs.lemmas.Option.{same_Some}
 use Rattle.std.proofs.lemmas.List.{take_more, append-nil}
@@ -98,11 +98,6 @@ run_of script values answers visits sent vs are =
       after = vs.after;
       messages = subst (λ (ws : List Visit). AreSent script values ws sent) vs.first are;
     }
-
-pub tells_all : (script : ScriptValue) (values : List NamedValue) (answers : List (List ℕ))
-    (visits : List Visit) (text : List ℕ) → AreVisits script.steps answers visits
-    → TellsVisits script values visits text → TellsRun script values answers None text
-tells_all script values answers visits text vs t = record { sent = t.sent; run = run_of script values answers visits t.sent vs t.messages; text_is = t.text_is }
 
 pub tells_one : (script : ScriptValue) (values : List NamedValue) (answers : List (List ℕ))
     (visits : List Visit) (number : ℕ) (text : List ℕ) → All (IsWithin script.steps) visits

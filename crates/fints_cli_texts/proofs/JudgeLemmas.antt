@@ -6,17 +6,15 @@ use Rattle.fints_params.specs.declared.fault.ParamFault.TheVariants as params
 use Rattle.fints_params.specs.Faults.{IsMemoryOr}
 use Rattle.fints_params.specs.Parameters.{Rows}
 use Rattle.fints_params.specs.Captures.{IsCodeFault, IsCodesOf, IsParamsOf, IsParamFault, IsReadOf}
-use Rattle.fints_rules_permissions.specs.declared.orders.OrderRow.{OrderRow}
 use Rattle.fints_rules_permissions.specs.declared.orders.TableFault.{TableFault}
 use Rattle.fints_rules_permissions.specs.declared.orders.TableFault.TheVariants as orders
 use Rattle.fints_rules_messages.specs.declared.message.JudgeFault.{JudgeFault}
 use Rattle.fints_rules_messages.specs.declared.message.JudgeFault.TheVariants as message
-use Rattle.fints_rules_permissions.specs.Orders.{DenotesTable, IsTableFault}
-use Rattle.fints_rules_messages.specs.Read.{IsJudgeFault}
-use Rattle.fints_cli_texts.specs.declared.fault.Fault.TheVariants.{Memory, Before, Answer, Message}
+use Rattle.fints_rules_permissions.specs.Orders.{IsTableFault}
+use Rattle.fints_cli_texts.specs.declared.fault.Fault.TheVariants.{Memory, Answer}
 use Rattle.fints_cli_texts.specs.Fault.{answer_fault_of, fault_of, order_fault_of, message_fault_of}
-use Rattle.fints_cli_texts.specs.Judge.{IsFirstRefusal, IsMessageRefusal, IsJudgeRefusal}
-use Rattle.fints_cli_texts.specs.JudgeAfter.{IsAnswerRefusal, IsBeforeRefusal, IsJudgeAfterRefusal, IsRefusalOfThree}
+use Rattle.fints_cli_texts.specs.Judge.{IsFirstRefusal}
+use Rattle.fints_cli_texts.specs.JudgeAfter.{IsAnswerRefusal, IsRefusalOfThree}
 use Rattle.fints_rules_messages.specs.Messages.{IsMessage, MessageView}
 use Rattle.fints_rules.specs.Breaks.{IsJudgeFaultAfter}
 
@@ -48,36 +46,7 @@ orders_refused capture table P rows orders.UnknownKey h p = ((rows, h), p)
 orders_refused capture table P rows (orders.BadRow n) h p = ((rows, h), p)
 orders_refused capture table P rows (orders.TwoRows n) h p = ((rows, h), p)
 
-pub message_refused : (bytes : List ℕ) (f : JudgeFault) → IsJudgeFault bytes f
-    → IsMessageRefusal bytes (message_fault_of f)
-message_refused bytes message.Memory h = tt
-message_refused bytes (message.NotAMessage offset) h = h
-message_refused bytes (message.NotAMessageBefore offset) h = h
-
--- a refusal of what is read after a good capture and a good order table
-pub refused_whole : (capture table bytes : List ℕ) (rows : Rows) (orders : List OrderRow) (f : Fault)
-    → IsParamsOf capture rows → DenotesTable table orders → IsMessageRefusal bytes f
-    → IsJudgeRefusal capture table bytes f
-refused_whole capture table bytes rows orders Memory h i p = tt
-refused_whole capture table bytes rows orders (Message f) h i p = (record { rows = rows; table = orders; rows_are = h; table_is = i }, p)
-refused_whole capture table bytes rows orders _ h i p = absurd p
-
-pub refused_three : (capture table before answer bytes : List ℕ) (rows : Rows) (orders : List OrderRow)
-    (f : Fault) → IsParamsOf capture rows → DenotesTable table orders → IsRefusalOfThree before answer bytes f
-    → IsJudgeAfterRefusal capture table before answer bytes f
-refused_three capture table before answer bytes rows orders Memory h i p = tt
-refused_three capture table before answer bytes rows orders (Before offset) h i p = (record { rows = rows; table = orders; rows_are = h; table_is = i }, p)
-refused_three capture table before answer bytes rows orders (Answer f) h i p = (record { rows = rows; table = orders; rows_are = h; table_is = i }, p)
-refused_three capture table before answer bytes rows orders (Message f) h i p = (record { rows = rows; table = orders; rows_are = h; table_is = i }, p)
-refused_three capture table before answer bytes rows orders _ h i p = absurd p
-
 -- ---- of a message behind another one
-
-pub before_refused : (before answer bytes : List ℕ) (f : Fault) → IsBeforeRefusal before f
-    → IsRefusalOfThree before answer bytes f
-before_refused before answer bytes Memory p = tt
-before_refused before answer bytes (Before offset) p = p
-before_refused before answer bytes _ p = absurd p
 
 pub answer_refused : (before answer bytes : List ℕ) (m : MessageView) (f : Fault) → IsMessage before m
     → IsAnswerRefusal answer f → IsRefusalOfThree before answer bytes f

@@ -14,7 +14,7 @@ use Rattle.fints_params.specs.declared.both.Both.{Both}
 use Rattle.fints_params.specs.Opened.{OpenTo, AreSegmentsOf}
 use Rattle.fints_params.specs.Parameters.{Rows, IsRowsOf, end_fault}
 use Rattle.fints_params.specs.Refused.{IsFirstRefused, values_in}
-use Rattle.fints_params.specs.Steps.{Continues, StopsIn}
+use Rattle.fints_params.specs.Steps.{StopsIn}
 use Rattle.fints_params.specs.Taken.{IsGathered, IsBothSoFar, ParamsSoFar, CodesSoFar, CodesRead}
 use Rattle.fints_params.proofs.Fine.{each_bad_element, each_bad_code, some_pins}
 use Rattle.fints_params.proofs.FoundCodes.{codes_unread}
@@ -25,12 +25,6 @@ pub codes_kept : (refused : Option ParamFault) (numbers : List ℕ) (s : OwnedSe
     → (seen : List OwnedSegment) → CodesRead seen refused numbers → CodesRead (seen ++ s ∷ []) refused numbers
 codes_kept None numbers s e = absurd cc
 codes_kept (Some f) numbers s e = λ seen h. refused_later feedback_fault [] [] seen (s ∷ []) f h
-
-pub codes_next : (refused : Option ParamFault) (old new : List ℕ) (s : OwnedSegment) → is_some refused ≡ false
-    → Continues CodesSoFar old new (s ∷ []) → (seen : List OwnedSegment) → CodesRead seen refused old
-    → CodesRead (seen ++ s ∷ []) refused new
-codes_next None old new s e k = λ seen h. k seen h
-codes_next (Some f) old new s e k = absurd cc
 
 pub codes_refused : (refused : Option ParamFault) (old new : List ℕ) (s : OwnedSegment) (f : ParamFault)
     → is_some refused ≡ false → f ≢ Memory → IsMemoryOr (StopsIn feedback_fault CodesSoFar old (s ∷ [])) f

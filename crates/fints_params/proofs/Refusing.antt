@@ -1,6 +1,6 @@
 -- What is read so far, and where a reader stops.
-use Rattle.std.proofs.Common.{◌≡◌, ℕ, ◌+◌, ◌<◌, ◌≤◌, List, [], ◌∷◌, ◌++◌, length, take, drop, get_or, refl, ap, ◌∙◌, sym, subst, arith, inl, inr, append_assoc, true, false, Some, None}
-use Rattle.std.proofs.lemmas.List.{append-nil, length-append, take_all}
+use Rattle.std.proofs.Common.{◌≡◌, ℕ, ◌+◌, ◌<◌, List, [], ◌∷◌, ◌++◌, length, take, drop, get_or, refl, ap, ◌∙◌, sym, subst, arith, inl, inr, append_assoc, true, false, Some, None}
+use Rattle.std.proofs.lemmas.List.{append-nil, length-append}
 use Rattle.fints_syntax_segments.specs.declared.item.OwnedSegment.{OwnedSegment}
 use Rattle.fints_params.specs.declared.fault.ParamFault.{ParamFault}
 use Rattle.fints_syntax.specs.declared.fault.SyntaxKind.{SyntaxKind}
@@ -33,9 +33,6 @@ pub memory_or : (P Q : ParamFault → Type 0) (f : ParamFault) → ((g : ParamFa
     → IsMemoryOr Q f
 memory_or P Q f k (inl e) = inl e
 memory_or P Q f k (inr p) = inr (k f p)
-
-pub continue_nil : {S : Type 0} (Good : List OwnedSegment → S → Type 0) (a : S) → Continues Good a a []
-continue_nil Good a = λ seen g. subst (λ (xs : List OwnedSegment). Good xs a) (sym (append-nil seen)) g
 
 pub continue_more : {S : Type 0} (Good : List OwnedSegment → S → Type 0) (a b c : S)
     (xs ys : List OwnedSegment) → Continues Good a b xs → Continues Good b c ys
@@ -96,11 +93,6 @@ stop_next rule Good a b segments i s f lt e h m =
     let split : take i segments ++ ((s ∷ []) ++ rest) ≡ segments = sym (split_at segments i s lt e) in
     memory_or (StopsIn rule Good b (s ∷ [])) (StopsIn rule Good a segments) f
     (λ g k. subst (λ (ss : List OwnedSegment). StopsIn rule Good a ss g) split (stop_later rule Good a b (take i segments) (s ∷ []) rest g h k)) m
-
-pub continue_end : {S : Type 0} (Good : List OwnedSegment → S → Type 0) (a b : S)
-    (segments : List OwnedSegment) (i : ℕ) → length segments ≤ i → Continues Good a b (take i segments)
-    → Continues Good a b segments
-continue_end Good a b segments i le h = subst (λ (xs : List OwnedSegment). Continues Good a b xs) (take_all i segments le) h
 
 -- ---- over segments and what they stand for
 

@@ -1,5 +1,5 @@
 -- The messages of exchanges, as far as they are judged.
-use Rattle.std.proofs.Common.{◌≡◌, ℕ, ◌+◌, ◌<◌, ◌≤◌, List, [], ◌∷◌, ◌++◌, length, get_or, drop, refl, ap, ◌∙◌, sym, subst, append_assoc, Option, Some, None}
+use Rattle.std.proofs.Common.{◌≡◌, ℕ, ◌+◌, ◌<◌, ◌≤◌, List, [], ◌∷◌, ◌++◌, length, get_or, drop, refl, ap, ◌∙◌, sym, subst, append_assoc, Option, Some}
 use Rattle.std.proofs.lemmas.List.{append-nil, drop_all, drop_more}
 use Rattle.fints_rules_permissions.specs.Permits.{Granted}
 use Rattle.fints_rules_dialogues.specs.declared.auditing.Audited.{Audited}
@@ -11,10 +11,6 @@ abbrev pub AreAuditedSoFar : Granted → List Exchange → Option Exchange → L
 AreAuditedSoFar granted exchanges before left audited =
     (more : List Audited) → AreJudgedBehind granted before left more
     → AreAudited granted exchanges (audited ++ more)
-
-pub none_audited : (granted : Granted) (es : List Exchange) (audited : List Audited) → audited ≡ []
-    → AreAuditedSoFar granted es None es audited
-none_audited granted es audited e = λ more h. subst (λ xs. AreAudited granted es (xs ++ more)) (sym e) h
 
 pub one_audited : (granted : Granted) (es : List Exchange) (before : Option Exchange) (i : ℕ) (e : Exchange)
     (audited new : List Audited) (a : Audited)

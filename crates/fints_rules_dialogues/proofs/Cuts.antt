@@ -1,10 +1,10 @@
 -- The messages of a file, as far as they are cut.
-use Rattle.std.proofs.Common.{◌≡◌, ℕ, ◌+◌, ◌<◌, ◌≤◌, List, [], ◌∷◌, ◌++◌, length, map, drop, take, refl, ap, ◌∙◌, sym, subst, arith, inl, inr}
+use Rattle.std.proofs.Common.{◌≡◌, ℕ, ◌+◌, ◌≤◌, List, [], ◌∷◌, ◌++◌, length, map, drop, take, refl, ap, ◌∙◌, sym, subst, arith, inl, inr}
 use Rattle.std.specs.List.{AllByRecursion}
-use Rattle.std.proofs.lemmas.List.{append-nil, append_cancel_left, length-drop, length-take-le, take-append-drop, drop-drop, drop_all, take_at, drop_at}
+use Rattle.std.proofs.lemmas.List.{append_cancel_left, length-drop, length-take-le, take-append-drop, drop-drop, take_at, drop_at}
 use Rattle.fints_syntax.specs.Capture.{IsBreak, IsClean}
 use Rattle.fints_rules_dialogues.specs.declared.cutting.Sent.{Sent}
-use Rattle.fints_rules_dialogues.specs.Dialogues.{SaysSize, IsSized, Stands, CutsInto, IsCutFile, NoneStands, CutStopsAt}
+use Rattle.fints_rules_dialogues.specs.Dialogues.{SaysSize, IsSized, Stands, CutsInto, IsCutFile}
 use Rattle.fints_rules_dialogues.proofs.Sizes.{one_size, says_before}
 
 -- ---- one more message
@@ -32,17 +32,6 @@ pub record IsCutSoFar (file : List ℕ) (start : ℕ) (messages : List Sent) : T
   pub start_is : start ≡ end_of 0 messages + length gap
   pub within : start ≤ length file
   pub clean : IsClean (drop start file)
-
-pub cut_start : (file : List ℕ) (n : ℕ) → n ≤ length file → AllByRecursion IsBreak (take n file)
-    → IsClean (drop n file) → IsCutSoFar file n []
-cut_start file n le breaks clean = record {
-  gap = take n file;
-  breaks = breaks;
-  cut = sym (take-append-drop n file);
-  start_is = omega (arith, length-take-le n file le);
-  within = le;
-  clean = clean;
-}
 
 pub cut_more : (file : List ℕ) (start len n : ℕ) (messages : List Sent) (m : Sent)
     → IsCutSoFar file start messages → m.start ≡ start → m.bytes.now ≡ take len (drop start file)
@@ -80,34 +69,6 @@ cut_more file start len n messages m h at bytes sized le within breaks clean =
       within = omega (arith, left, less, within);
       clean = subst IsClean to clean;
     }
-
-pub cut_end : (file : List ℕ) (start : ℕ) (messages : List Sent) → IsCutSoFar file start messages
-    → length file ≤ start → IsCutFile file messages
-cut_end file start messages h le = (
-  h.gap,
-  h.breaks,
-  subst (CutsInto 0 file messages) (ap (λ xs. h.gap ++ xs) (drop_all start file le) ∙ append-nil h.gap) h.cut,
-)
-
-stops_at : (file : List ℕ) (start : ℕ) (messages : List Sent) (rest : List ℕ)
-    → IsCutSoFar file start messages → drop start file ≡ rest → start < length file → NoneStands rest
-    → CutStopsAt file start
-stops_at file start messages [] h e lt none = absurd (omega (arith, ap length e, length-drop start file))
-stops_at file start messages (b ∷ bs) h e lt none = record {
-  messages = messages;
-  gap = h.gap;
-  first = b;
-  more = bs;
-  cut = subst (λ xs. CutsInto 0 file messages (h.gap ++ xs)) e h.cut;
-  breaks = h.breaks;
-  no_break = subst IsClean e h.clean;
-  offset_is = omega (arith, ap length e, length-drop start file);
-  none = none;
-}
-
-pub cut_stops : (file : List ℕ) (start : ℕ) (messages : List Sent) → IsCutSoFar file start messages
-    → start < length file → NoneStands (drop start file) → CutStopsAt file start
-cut_stops file start messages h lt none = stops_at file start messages (drop start file) h refl lt none
 
 -- ---- one cut
 

@@ -65,15 +65,6 @@ pub no_number_told : (bytes : List ℕ) (r : Option ℕ) → r ≡ number_in 12 
 no_number_told bytes None e = λ n h. let d : None ≡ Some n = e ∙ number_told bytes n h in cc
 no_number_told bytes (Some m) e = tt
 
-pub plus_told : (bytes : List ℕ) (n : ℕ) → SaysSize bytes n → get_or (drop 12 (drop 10 bytes)) 0 0 ≡ 43
-plus_told bytes n h =
-    ap (λ xs. get_or xs 0 0)
-    (ap (drop 12) (behind_head bytes n h) ∙ drop_at h.digits (43 ∷ h.more) 12 (twelve h.digits n h.size_is))
-
-pub head_told : (bytes : List ℕ) (n : ℕ) (h : SaysSize bytes n)
-    → bytes ≡ head_text ++ (h.digits ++ 43 ∷ h.more)
-head_told bytes n h = h.text
-
 pub long_enough : (bytes : List ℕ) (n : ℕ) → SaysSize bytes n → 23 ≤ length bytes
 long_enough bytes n h =
     omega (

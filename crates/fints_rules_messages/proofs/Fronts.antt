@@ -10,7 +10,7 @@ use Rattle.fints_rules_messages.specs.Parts.{part_of}
 use Rattle.fints_rules_messages.specs.declared.part.Part.{Part}
 use Rattle.fints_rules_messages.specs.declared.part.Part.TheVariants.{Opener, Body, Ender, Other}
 use Rattle.fints_rules_messages.specs.Messages.{IsNumbered}
-use Rattle.fints_rules_messages.specs.Front.{IsHalf, IsFront, IsNextSegment, CanStand, CanFollow, NoneStands}
+use Rattle.fints_rules_messages.specs.Front.{IsHalf, IsFront, IsNextSegment, CanStand, CanFollow}
 use Rattle.fints_syntax.specs.Laws.{OneSegmentText}
 use Rattle.fints_rules_messages.proofs.Texts.{all_append, segment_positive, text-snoc, segments-snoc}
 
@@ -24,16 +24,6 @@ numbered-append n (x ∷ xs) ys h g =
 pub length-half : (ss body ends : List OwnedSegment) (k : ℕ) → IsHalf ss body ends k
     → length ss ≡ k + (length body + length ends)
 length-half ss body ends k h = omega (arith, ap length h.together, length-append h.opened (body ++ ends), length-append body ends, h.count)
-
-pub front_start : (bytes : List ℕ) → IsFront bytes 0 0 [] []
-front_start bytes = record {
-  trees = [];
-  each = tt;
-  text = refl;
-  at_is = refl;
-  half = record { opened = []; openers_are = tt; body_is = tt; ends_are = tt; count = refl; at_most = omega arith; together = refl };
-  numbered = tt;
-}
 
 pub front_text : (bytes : List ℕ) (at : ℕ) (trees : List (List (List Spelled))) (t : List (List Spelled))
     (n : ℕ)
@@ -153,12 +143,6 @@ next_from law bytes t n h e le =
       within = le;
       only = λ u more is q. law t u (drop n bytes) more h.framed is.framed (sym text ∙ q);
     }
-
-pub none_stands : (bs : List ℕ) (t : List (List Spelled)) (n k b e : ℕ) → IsNextSegment bs t n
-    → (CanStand (segment_of t) k b e → ⊥) → NoneStands bs k b e
-none_stands bs t n k b e next bad u more h eq stands =
-    let same : t ≡ u = next.only u more h eq in
-    bad (subst (λ z. CanStand (segment_of z) k b e) (sym same) stands)
 
 pub after_opener : (s : OwnedSegment) (k b e : ℕ) → CanStand s k b e → Opener ≡ part_of s → (b ≡ 0) × (e ≡ 0)
 after_opener s k b e h p = subst (λ q. CanFollow q k b e) (sym p) h.1

@@ -1,13 +1,9 @@
 -- Items and numbers.
-use Rattle.std.proofs.Common.{◌≡◌, ℕ, zero, suc, ◌+◌, ◌-◌, ◌*◌, ◌^◌, ◌<◌, ◌≤◌, Bool, true, false, ◌&&◌, leb, List, [], ◌∷◌, length, get_or, map, refl, ap, ◌∙◌, sym, arith, Option, Some, None}
+use Rattle.std.proofs.Common.{◌≡◌, ℕ, zero, suc, ◌-◌, ◌^◌, ◌<◌, ◌≤◌, Bool, true, false, ◌&&◌, leb, List, [], ◌∷◌, length, get_or, map, refl, ap, ◌∙◌, sym, arith, Option, Some, None}
 use Rattle.std.specs.Prelude.{unwrap_or, option_and_then, option_map, slice_get}
-use Rattle.std.specs.Char.{is_ascii_digit, digit_value}
 use Rattle.std.specs.Str.{all_ascii_digits}
-use Rattle.std.specs.Str.Parse.{digits_value, digits_value_after}
-use Rattle.std.proofs.lemmas.Bool.{le-leb, lt-leb}
-use Rattle.std.proofs.lemmas.Bool.Decides.{nat_tests}
+use Rattle.std.proofs.lemmas.Bool.{lt-leb}
 use Rattle.std.proofs.Math.Nat.{pow-le-pow_right}
-use Rattle.std.proofs.lemmas.Nat.{pow-add}
 use Rattle.fints_syntax_segments.specs.Spelling.{Spelled, item_of}
 use Rattle.fints_syntax_segments.specs.Segment.{item_value}
 use Rattle.fints_syntax.specs.Places.{place_of}
@@ -98,33 +94,6 @@ number_in-long least most bs h = rw (lt-leb (length bs) most h, and_false_right 
 
 pub number_in-short : (least most : ℕ) (bs : List ℕ) → length bs < least → number_in least most bs ≡ None
 number_in-short least most bs h = rw (lt-leb least (length bs) h, and_false_right (all_ascii_digits bs)) refl
-
-pub number_in-other : (least most : ℕ) (bs : List ℕ) → all_ascii_digits bs ≡ false
-    → number_in least most bs ≡ None
-number_in-other least most bs h = rw h refl
-
-pub number_in-digits : (least most : ℕ) (bs : List ℕ) → all_ascii_digits bs ≡ true → least ≤ length bs
-    → length bs ≤ most → number_in least most bs ≡ Some (digits_value 10 bs)
-number_in-digits least most bs h low high = rw (h, le-leb least (length bs) low, le-leb (length bs) most high) refl
-
--- one more digit
-pub record IsDigitStep (b n count : ℕ) (left : List ℕ) : Type 0 where
-  pub low : 48 ≤ b
-  pub high : b ≤ 57
-  pub fits : n * 10 + (b - 48) < 2 ^ 64
-  pub below : n * 10 + (b - 48) < 10 ^ (count + 1)
-  pub more : digits_value_after 10 (n * 10 + (b - 48)) left ≡ digits_value_after 10 n (b ∷ left)
-
-pub digit_step : (b n count : ℕ) (left : List ℕ) → is_ascii_digit b ≡ true → n < 10 ^ count → count < 18
-    → IsDigitStep b n count left
-digit_step b n count left h lt few =
-    let low : 48 ≤ b = grind (arith, nat_tests) in
-    let high : b ≤ 57 = grind (arith, nat_tests) in
-    let d : digit_value b ≡ b - 48 = grind (arith, nat_tests) in
-    let next : 10 ^ (count + 1) ≡ 10 ^ count * 10 = pow-add 10 count 1 in
-    let power : 10 ^ (count + 1) ≤ 10 ^ 18 = let pos : 0 < 10 = omega arith in let le : count + 1 ≤ 18 = omega arith in pow-le-pow_right pos le in
-    let below : n * 10 + (b - 48) < 10 ^ (count + 1) = omega arith in
-    record { low = low; high = high; fits = omega arith; below = below; more = ap (λ x. digits_value_after 10 (n * 10 + x) left) (sym d) }
 
 -- ---- data
 

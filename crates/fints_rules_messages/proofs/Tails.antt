@@ -7,7 +7,7 @@ use Rattle.fints_syntax_segments.specs.declared.item.OwnedSegment.{OwnedSegment}
 use Rattle.fints_syntax.specs.Owned.{segment_of, segments_of}
 use Rattle.fints_rules_messages.specs.Segments.{texts_of}
 use Rattle.fints_rules_messages.specs.Messages.{IsTail, IsSealHead, Stops}
-use Rattle.fints_rules_messages.specs.Front.{IsFront, IsNextSegment, HasNoNext, NoneStands, CanStand, IsNumber, IsEndOf, BeginsBy, IsWholeBy, IsReadBy, TailIs, ClosesAs, StopsWithin}
+use Rattle.fints_rules_messages.specs.Front.{IsFront, IsNextSegment, HasNoNext, NoneStands, CanStand, IsNumber, IsEndOf, BeginsBy, IsWholeBy, IsReadBy, TailIs, ClosesAs}
 use Rattle.fints_rules_messages.specs.declared.front.Inner.{Inner}
 use Rattle.fints_rules_messages.specs.declared.tail.Tail.{Tail}
 use Rattle.fints_rules_messages.specs.declared.tail.Tail.TheVariants.{Whole, Stop}
@@ -22,9 +22,6 @@ with_next : (number : ℕ) (front : List (List (List Spelled))) (t : List (List 
     → IsTail number (segments_of front ++ segment_of t ∷ more) b e
 with_next number front t more b e h =
     subst (λ z. IsTail number z b e) (ap (λ z. z ++ more) (segments-snoc front t) ∙ append_assoc (segments_of front) (segment_of t ∷ []) more) h
-
-nothing_next : (rest : List ℕ) (t : List (List Spelled)) (n : ℕ) → IsNextSegment rest t n → rest ≡ [] → ⊥
-nothing_next rest t n h e = omega (arith, h.within, h.some, ap length e)
 
 pub stop_none : (tail : List ℕ) (at k number : ℕ) (body ends : List (List (List Spelled))) → IsNumber number
     → IsFront tail at k body ends → HasNoNext (drop at tail)
@@ -170,9 +167,3 @@ closed tail number n i t (Stop _) v f is_next none not_seal_head (inl (at, not_e
     rw at (stop_here tail i.at i.openers n number i.body.items i.ends.items t v f is_next none not_seal_head not_end)
 closed tail number n i t (Stop _) v f is_next none not_seal_head (inr (at, is_end, lt)) =
     rw at (stop_after tail i.at i.openers n number i.body.items i.ends.items t v f is_next is_end lt)
-
-pub closes_within : (number at n size : ℕ) (s : OwnedSegment) (i : Inner) (r : Tail) → at + n ≤ size
-    → ClosesAs number s i at n size r → StopsWithin r size
-closes_within number at n size s i (Whole body ends) le h = tt
-closes_within number at n size s i (Stop stop) le (inl (is, _)) = omega arith
-closes_within number at n size s i (Stop stop) le (inr (is, _, _)) = omega arith

@@ -113,6 +113,3 @@ least_need rows account kind needs (Some n) some p h' =
     let ((s, among, key, is), h) = h' in
     let (e, entry, same) = seen_entry rows account kind s some (Contains-permutation _ _ _ (IsPermutation-sym _ _ p) among) key in
     ((e, entry, same ∙ is), λ x i. h _ (Contains-permutation _ _ _ p (entry_seen rows account kind x i)) refl)
-
-pub nobody_needs : (rows : Rows) (kind : List ℕ) → IsLeastNeed rows nobody kind None
-nobody_needs rows kind e i = i.matches

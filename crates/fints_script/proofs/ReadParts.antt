@@ -7,7 +7,7 @@ use Rattle.std.proofs.lemmas.Option.{none-some, same_Some, slice_get_within, sli
 use Rattle.toml.specs.Data.{Data, integer}
 use Rattle.fints_syntax_toml.specs.Document.{number_between}
 use Rattle.fints_script_rows.specs.PartLaws.{bind_ok, each_all, or_ok, rows_at, rows_length}
-use Rattle.fints_script_rows.specs.Parts.{Part, ◌>>=◌, at_most, each, entries_of, integer_in, not_empty, optional, seen}
+use Rattle.fints_script_rows.specs.Parts.{Part, ◌>>=◌, at_most, each, entries_of, integer_in, not_empty, optional}
 use Rattle.fints_script_rows.specs.Rows.{part_at, rows_from}
 use Rattle.fints_script_rows.specs.declared.fault.FaultKind.TheVariants as kinds
 use Rattle.fints_script_rows.specs.declared.fault.Place.{Place}
@@ -35,11 +35,6 @@ pub failed : {X F : Type 0} (b : Bool) (p : Result X F) (fault : F) (x : X) → 
     → (b ≡ false) × (p ≡ Ok x)
 failed true p fault x e = absurd cc
 failed false p fault x e = (refl, e)
-
-pub seen_ok : {X Y F : Type 0} (see : X → Y) (r : Result X F) (y : Y) → seen see r ≡ Ok y
-    → (x : X) × (r ≡ Ok x) × (see x ≡ y)
-seen_ok see (Ok x) y e = (x, refl, same_ok (see x) y e)
-seen_ok see (Err fault) y e = absurd cc
 
 -- what stands for an absent part, and what the part gives
 pub optional_ok : {X : Type 0} (absent : X) (part : Data → Part X) (P : X → Type 0) → P absent

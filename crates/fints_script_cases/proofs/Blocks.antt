@@ -19,9 +19,6 @@ use Rattle.fints_script_cases.specs.declared.answers.Branch.{Branch}
 coarser : (n m s k : ℕ) → n / s ≡ m / s → n / (s * k) ≡ m / (s * k)
 coarser n m s k e = sym (div-div-eq-div-mul n s k) ∙ ap (λ (q : ℕ). q / k) e ∙ div-div-eq-div-mul m s k
 
-pub by_ones : (p : List ℕ) → MatchesByBlocks p 1
-by_ones p n m e = ap (matches p) (sym (div-one n) ∙ e ∙ div-one m)
-
 -- a pattern has four places
 record Four (p : List ℕ) : Type 0 where
   pub x : ℕ
@@ -38,51 +35,13 @@ four (x ∷ y ∷ z ∷ []) len = absurd (omega (arith, len))
 four (x ∷ y ∷ z ∷ w ∷ []) len = record { x = x; y = y; z = z; w = w; is = refl }
 four (x ∷ y ∷ z ∷ w ∷ v ∷ p) len = absurd (omega (arith, len))
 
-tens : (x y z w : ℕ) → w ≡ 42 → MatchesByBlocks (x ∷ y ∷ z ∷ w ∷ []) 10
-tens x y z w d n m e =
-    let e2 : n / 100 ≡ m / 100 = coarser n m 10 10 e in
-    let e1 : n / 1000 ≡ m / 1000 = coarser n m 100 10 e2 in
-    rw (d, e, e1, e2) refl
-
-pub by_tens : (p : List ℕ) → length p ≡ 4 → get_or p 3 0 ≡ 42 → MatchesByBlocks p 10
-by_tens p len d =
-    let f = four p len in
-    subst (λ (q : List ℕ). MatchesByBlocks q 10) f.is (tens f.x f.y f.z f.w (ap (λ (q : List ℕ). get_or q 3 0) f.is ∙ d))
-
 hundreds : (x y z w : ℕ) → z ≡ 42 → w ≡ 42 → MatchesByBlocks (x ∷ y ∷ z ∷ w ∷ []) 100
 hundreds x y z w c d n m e =
     let e1 : n / 1000 ≡ m / 1000 = coarser n m 100 10 e in
     rw (c, d, e, e1) refl
 
-pub by_hundreds : (p : List ℕ) → length p ≡ 4 → get_or p 2 0 ≡ 42 → get_or p 3 0 ≡ 42 → MatchesByBlocks p 100
-by_hundreds p len c d =
-    let f = four p len in
-    subst (λ (q : List ℕ). MatchesByBlocks q 100) f.is
-    (hundreds f.x f.y f.z f.w (ap (λ (q : List ℕ). get_or q 2 0) f.is ∙ c)
-    (ap (λ (q : List ℕ). get_or q 3 0) f.is ∙ d))
-
-thousands : (x y z w : ℕ) → y ≡ 42 → z ≡ 42 → w ≡ 42 → MatchesByBlocks (x ∷ y ∷ z ∷ w ∷ []) 1000
-thousands x y z w b c d n m e = rw (b, c, d, e) refl
-
-pub by_thousands : (p : List ℕ) → length p ≡ 4 → get_or p 1 0 ≡ 42 → get_or p 2 0 ≡ 42 → get_or p 3 0 ≡ 42
-    → MatchesByBlocks p 1000
-by_thousands p len b c d =
-    let f = four p len in
-    subst (λ (q : List ℕ). MatchesByBlocks q 1000) f.is
-    (thousands f.x f.y f.z f.w (ap (λ (q : List ℕ). get_or q 1 0) f.is ∙ b)
-    (ap (λ (q : List ℕ). get_or q 2 0) f.is ∙ c) (ap (λ (q : List ℕ). get_or q 3 0) f.is ∙ d))
-
 every : (x y z w : ℕ) → x ≡ 42 → y ≡ 42 → z ≡ 42 → w ≡ 42 → MatchesByBlocks (x ∷ y ∷ z ∷ w ∷ []) 10000
 every x y z w a b c d n m e = rw (a, b, c, d) refl
-
-pub by_all : (p : List ℕ) → length p ≡ 4 → get_or p 0 0 ≡ 42 → get_or p 1 0 ≡ 42 → get_or p 2 0 ≡ 42
-    → get_or p 3 0 ≡ 42 → MatchesByBlocks p 10000
-by_all p len a b c d =
-    let f = four p len in
-    subst (λ (q : List ℕ). MatchesByBlocks q 10000) f.is
-    (every f.x f.y f.z f.w (ap (λ (q : List ℕ). get_or q 0 0) f.is ∙ a)
-    (ap (λ (q : List ℕ). get_or q 1 0) f.is ∙ b) (ap (λ (q : List ℕ). get_or q 2 0) f.is ∙ c)
-    (ap (λ (q : List ℕ). get_or q 3 0) f.is ∙ d))
 
 -- a digit that doesn't fit its place
 misses : (x y z w place n : ℕ) → place < 4
@@ -95,14 +54,6 @@ misses x y z w (suc (suc (suc zero))) n lt h other e =
     let same : other ≡ n = sym (div-one other) ∙ e ∙ div-one n in
     rw (same, h, and-false, and-false) (and-false (fits x (48 + n / 1000)))
 misses x y z w (suc (suc (suc (suc place)))) n lt h other e = absurd (omega (arith, lt))
-
-pub misses_at : (p : List ℕ) (place n : ℕ) → length p ≡ 4 → place < 4
-    → fits (get_or p place 0) (get_or (code_text n) place 0) ≡ false → MissesBlock p n (size_at place)
-misses_at p place n len lt h =
-    let f = four p len in
-    subst (λ (q : List ℕ). MissesBlock q n (size_at place)) f.is
-    (misses f.x f.y f.z f.w place n lt
-    (ap (λ (q : List ℕ). fits (get_or q place 0) (get_or (code_text n) place 0)) f.is ∙ h))
 
 -- a digit that fits at each place
 pub fits_all : (p : List ℕ) (n : ℕ) → length p ≡ 4
@@ -117,15 +68,6 @@ fits_all p n len each =
     let c = at 2 (omega arith) in
     let d = at 3 (omega arith) in
     subst (λ (q : List ℕ). matches q n ≡ true) f.is (rw (a, b, c, d) refl)
-
--- one more place that fits
-pub fits_more : (p ds : List ℕ) (i : ℕ) → ((k : ℕ) → k < i → fits (get_or p k 0) (get_or ds k 0) ≡ true)
-    → fits (get_or p i 0) (get_or ds i 0) ≡ true → (k : ℕ) → k < i + 1
-    → fits (get_or p k 0) (get_or ds k 0) ≡ true
-fits_more p ds i below here k lt = elim (cases_lt k i) [
-  | inl h ↦ below k h
-  | inr h ↦ let same : k ≡ i = omega arith in rw same here
-]
 
 -- ---- the digit before another
 

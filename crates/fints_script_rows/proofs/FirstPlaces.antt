@@ -134,16 +134,6 @@ noted found now name i new updates q = elim (cases_Bool (bytes_eq name q)) [
       updates q ∙ ap (λ t. cond t (Some i) (found q)) other ∙ sym (ap (λ t. first_place (found q) t i) (turned name q false other) ∙ nameless (found q) i)
 ]
 
--- and one in which it was there
-pub not_noted : (found : List ℕ → Option ℕ) (name : List ℕ) (i : ℕ) → is_some (found name) ≡ true
-    → (q : List ℕ) → found q ≡ first_place (found q) (bytes_eq q name) i
-not_noted found name i known q = elim (cases_Bool (bytes_eq q name)) [
-  | inl same ↦
-      let there : is_some (found q) ≡ true = ap (λ n. is_some (found n)) ((bytes_eq-Decides q name).0 same) ∙ known in
-      sym (ap (λ t. cond t (found q) (cond (bytes_eq q name) (Some i) None)) there)
-  | inr other ↦ sym (ap (λ t. first_place (found q) t i) other ∙ nameless (found q) i)
-]
-
 -- ---- names of rows
 
 text_of : (q n : List ℕ) (o : Option Data) → Some n ≡ option_and_then as_str o → holds_text q o ≡ bytes_eq q n

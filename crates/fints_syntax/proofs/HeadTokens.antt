@@ -9,7 +9,7 @@ use Rattle.fints_syntax_segments.specs.Segment.{Token, element_tokens, segment_t
 use Rattle.fints_syntax.specs.Reader.{read_segment}
 use Rattle.fints_syntax.specs.Window.{IsFrameText}
 use Rattle.fints_syntax.specs.ItemIs.{value_of_item}
-use Rattle.fints_syntax.specs.Cursor.{IsTaken, after_element, front, front_values}
+use Rattle.fints_syntax.specs.Cursor.{IsTaken, front, front_values}
 use Rattle.fints_syntax.specs.declared.cursor.Found.{Found}
 use Rattle.fints_syntax.proofs.HeadItems.{same_value}
 
@@ -57,15 +57,3 @@ pub values_more : (old new : List Token) (f : Found) → IsTaken old f new
 values_more old new f t =
     let v = same_value f.item t.token.item t.item in
     (map item_value (map item_of (cond (eqb t.token.after 58) (front new) [])), ap front_values t.split ∙ rw v refl)
-
--- past the head
-pub past_colon : (old new : List Token) (f : Found) → IsTaken old f new → f.after ≡ 58
-    → after_element old ≡ after_element new
-past_colon old new f t q =
-    let b : eqb t.token.after 58 ≡ true = eq-eqb t.token.after 58 (sym t.after ∙ q) in
-    ap after_element t.split ∙ rw b refl
-
-pub past_other : (old new : List Token) (f : Found) → IsTaken old f new → f.after ≢ 58 → after_element old ≡ new
-past_other old new f t q =
-    let b : eqb t.token.after 58 ≡ false = ne_eqb t.token.after 58 (λ e. q (t.after ∙ e)) in
-    ap after_element t.split ∙ rw b refl

@@ -12,9 +12,6 @@ use Rattle.fints_syntax.specs.Plain.{IsPlainByte, IsPlainEnd}
 use Rattle.fints_syntax.proofs.Tokens.{IsClosed, closed-append}
 use Rattle.fints_syntax.proofs.Grouping.{tree_of}
 
-token_of : List TextUnit → ℕ → Token
-token_of us a = record { item = text us; after = a }
-
 -- the items that the bytes are, where `'` follows them
 pub record PlainTokens (p : List ℕ) : Type 0 where
   pub units : List TextUnit
