@@ -102,7 +102,8 @@ impl<'a> AtStep<'a> {
 
         // ..and else for none, at any.
         ensures each { (number : ℕ) (values : List NamedValue) → Admits self.now.script.fields values
-            → BreaksByContent self.now.granted (message_view self.now.script self.now.step number values) rule place → IsTrue result }
+            → BreaksByContent self.now.granted (message_view self.now.script self.now.step number values)
+            rule place → IsTrue result }
     {
         step_breaks(
             self.permissions,

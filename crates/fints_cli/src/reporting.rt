@@ -17,7 +17,8 @@ pub fn report_text(
     orders: &[u8],
     script: &[u8],
 ) -> Result<Vec<u8>, Fault>
-    ensures told { IfOk result (λ text. (status : ℕ) × IsToldOn wanted_is.Report params.now orders.now script.now status text.items) }
+    ensures told { IfOk result (λ text. (status : ℕ)
+        × IsToldOn wanted_is.Report params.now orders.now script.now status text.items) }
     ensures refused { IfErr result (λ f. IsPlanRefusal orders.now script.now f) }
 {
     let reply = tell(alloc, params, orders, script, Wanted::Report)?;
@@ -32,7 +33,8 @@ pub fn check_text(
     orders: &[u8],
     script: &[u8],
 ) -> Result<Vec<u8>, Fault>
-    ensures told { IfOk result (λ text. (status : ℕ) × IsToldOf wanted_is.Report params.now orders.now script.now status text.items) }
+    ensures told { IfOk result (λ text. (status : ℕ)
+        × IsToldOf wanted_is.Report params.now orders.now script.now status text.items) }
     ensures refused { IfErr result (λ f. IsRefused params.now orders.now script.now f) }
 {
     let reply = tell_script(alloc, params, orders, script, Wanted::Report)?;

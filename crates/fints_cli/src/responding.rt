@@ -21,14 +21,16 @@ const LONGEST_FAULT: usize = 256;
 
 // Writes a text to the errors; a fault there changes nothing.
 fn tell<E: Out>(text: &[u8], err: &mut E)
-    ensures { Tells (E.told err.old) (E.told err.new) (E.failed_calls err.old) (E.failed_calls err.new) text.now }
+    ensures { Tells (E.told err.old) (E.told err.new) (E.failed_calls err.old)
+        (E.failed_calls err.new) text.now }
 {
     let _ = emit(text, err);
 }
 
 fn tell_memory<E: Out>(err: &mut E) -> u8
     ensures status { result ≡ 4 }
-    ensures line { Tells (E.told err.old) (E.told err.new) (E.failed_calls err.old) (E.failed_calls err.new) memory_line }
+    ensures line { Tells (E.told err.old) (E.told err.new) (E.failed_calls err.old)
+        (E.failed_calls err.new) memory_line }
 {
     tell(b"error: memory\n", err);
     4
@@ -65,7 +67,9 @@ fn emit_refusal<E: Out>(refusal: &Refusal, err: &mut E) -> Result<(), WriteFault
 // Says on the errors why there is no answer; no hint stands behind want of memory.
 fn tell_refusal<E: Out>(refusal: &Refusal, err: &mut E) -> u8
     ensures status { result ≡ failure_status refusal.now.failure }
-    ensures memory { result ≡ 4 → Tells (E.told err.old) (E.told err.new) (E.failed_calls err.old) (E.failed_calls err.new) memory_line }
+    ensures memory { result ≡ 4
+        → Tells (E.told err.old) (E.told err.new) (E.failed_calls err.old)
+        (E.failed_calls err.new) memory_line }
     ensures line { TellsFault (refusal.now.hint ≡ None)
         (E.told err.old) (E.told err.new) (E.failed_calls err.old) (E.failed_calls err.new) }
 {
@@ -85,8 +89,11 @@ fn deliver<O: Out, E: Out>(text: &[u8], status: u8, out: &mut O, err: &mut E) ->
     ensures fine { result ≡ status → O.failed_calls out.new ≡ O.failed_calls out.old }
     ensures cut { result ≡ 5 → GetsPrefix (O.told out.old) (O.told out.new) text.now }
     ensures failed { result ≡ 5 → O.failed_calls out.new ≡ one_more (O.failed_calls out.old) }
-    ensures quiet { result ≡ status → IsUntold (E.told err.old) (E.told err.new) (E.failed_calls err.old) (E.failed_calls err.new) }
-    ensures line { result ≡ 5 → Tells (E.told err.old) (E.told err.new) (E.failed_calls err.old) (E.failed_calls err.new) write_line }
+    ensures quiet { result ≡ status
+        → IsUntold (E.told err.old) (E.told err.new) (E.failed_calls err.old) (E.failed_calls err.new) }
+    ensures line { result ≡ 5
+        → Tells (E.told err.old) (E.told err.new) (E.failed_calls err.old)
+        (E.failed_calls err.new) write_line }
 {
     if emit(text, out).is_err() {
         tell(b"error: write\n", err);
@@ -110,7 +117,8 @@ fn line_beside(request: &Request<'_>) -> &'static [u8]
 
 // Writes a text to the errors, if there is one.
 fn say<E: Out>(text: &[u8], err: &mut E)
-    ensures { SaysText text.now (E.told err.old) (E.told err.new) (E.failed_calls err.old) (E.failed_calls err.new) }
+    ensures { SaysText text.now (E.told err.old) (E.told err.new) (E.failed_calls err.old)
+        (E.failed_calls err.new) }
 {
     if !text.is_empty() {
         tell(text, err);
@@ -131,10 +139,12 @@ fn respond_with<O: Out, E: Out>(
     ensures fine { result ≡ answered.now.reply.status → O.failed_calls out.new ≡ O.failed_calls out.old }
     ensures cut { result ≡ 5 → GetsPrefix (O.told out.old) (O.told out.new) answered.now.reply.text.items }
     ensures failed { result ≡ 5 → O.failed_calls out.new ≡ one_more (O.failed_calls out.old) }
-    ensures beside { result ≡ answered.now.reply.status → answered.now.reasons ≡ None → SaysText (line_beside request.now)
+    ensures beside { result ≡ answered.now.reply.status → answered.now.reasons ≡ None
+        → SaysText (line_beside request.now)
         (E.told err.old) (E.told err.new) (E.failed_calls err.old) (E.failed_calls err.new) }
     ensures line { result ≡ 5
-        → Tells (E.told err.old) (E.told err.new) (E.failed_calls err.old) (E.failed_calls err.new) write_line }
+        → Tells (E.told err.old) (E.told err.new) (E.failed_calls err.old)
+        (E.failed_calls err.new) write_line }
 {
     let Answered { reply, reasons } = answered;
     let status = deliver(reply.text.as_slice(), reply.status, out, err);
@@ -167,7 +177,8 @@ pub fn respond<F: Files, O: Out, E: Out>(
         → GetsNothing (O.told out.old) (O.told out.new) }
     ensures fine { result ≤ 4 → O.failed_calls out.new ≡ O.failed_calls out.old }
     ensures failed { result ≡ 5
-        → (FailsToRead asked.now (F.holds files.old) (F.reads files.old) (F.reads files.new) × GetsNothing (O.told out.old) (O.told out.new))
+        → (FailsToRead asked.now (F.holds files.old) (F.reads files.old) (F.reads files.new)
+        × GetsNothing (O.told out.old) (O.told out.new))
         ⊎ (IsCutOff asked.now (F.holds files.old) (O.told out.old) (O.told out.new)
         × (O.failed_calls out.new ≡ one_more (O.failed_calls out.old))) }
     ensures unread { IsUsage asked.now → (F.reads files.new).calls ≡ (F.reads files.old).calls }
@@ -208,7 +219,8 @@ pub fn execute<F: Files, O: Out, E: Out>(
     ensures responds { (what : Asked) × (words.now ≡ [] → what ≡ asked.Run request.BuiltIn false)
         × IsResponse what (F.holds files.old) (F.reads files.old) (F.reads files.new)
         (O.failed_calls out.old) (O.failed_calls out.new) result (O.told out.old) (O.told out.new)
-        × SaysWhy what result (E.told err.old) (E.told err.new) (E.failed_calls err.old) (E.failed_calls err.new) }
+        × SaysWhy what result (E.told err.old) (E.told err.new) (E.failed_calls err.old)
+        (E.failed_calls err.new) }
     ensures calls { (F.reads files.new).calls ≤ (F.reads files.old).calls + 5 * MAX_READS }
 {
     let asked = read_words(alloc, words);

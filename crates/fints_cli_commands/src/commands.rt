@@ -187,7 +187,8 @@ pub fn perform<F: Files>(
     ensures refused_within { IfErr result (λ r.
         failure_status r.failure ≤ 3 → AreWithin (files_of request.now) (F.holds files.old)) }
     ensures reason { IfErr result (λ r.
-        FollowsReading (files_of request.now) (F.holds files.old) (F.reads files.old) (F.reads files.new) r.failure) }
+        FollowsReading (files_of request.now) (F.holds files.old) (F.reads files.old)
+        (F.reads files.new) r.failure) }
     ensures calls { (F.reads files.new).calls ≤ (F.reads files.old).calls + 5 * MAX_READS }
     ensures keeps { F.holds files.new ≡ F.holds files.old }
     ensures unasked { IfErr result (λ r. HintsIfAsked hints r) }

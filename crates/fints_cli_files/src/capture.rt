@@ -24,7 +24,8 @@ impl Model for Capture {
 
     ghost Value = { FedReader };
 
-    ghost view = { λ c. record { reader = c.reader; fault = c.fault; keeps = c.keeps; kept = c.bytes.items } };
+    ghost view = { λ c.
+        record { reader = c.reader; fault = c.fault; keeps = c.keeps; kept = c.bytes.items } };
 }
 
 /// What a whole capture gave, and its bytes, where they were kept.
@@ -51,7 +52,8 @@ impl Capture {
     /// The parameters of the capture, which ends here, or its first refusal.
     pub fn end(self) -> ReadCapture<Params>
         ensures read { (bytes : List ℕ) → HoldsCapture bytes self → IsReadOf bytes result.told }
-        ensures kept { (bytes : List ℕ) → HoldsCapture bytes self → AreKept self.keeps bytes result.bytes.items }
+        ensures kept { (bytes : List ℕ) → HoldsCapture bytes self
+            → AreKept self.keeps bytes result.bytes.items }
     {
         let Capture {
             reader,
@@ -75,7 +77,8 @@ impl Capture {
     /// refusal.
     pub fn end_with_codes(self) -> ReadCapture<ParamsAndCodes>
         ensures read { (bytes : List ℕ) → HoldsCapture bytes self → IsBothReadOf bytes result.told }
-        ensures kept { (bytes : List ℕ) → HoldsCapture bytes self → AreKept self.keeps bytes result.bytes.items }
+        ensures kept { (bytes : List ℕ) → HoldsCapture bytes self
+            → AreKept self.keeps bytes result.bytes.items }
     {
         let Capture {
             reader,
@@ -97,7 +100,8 @@ impl Capture {
 
     // Keeps the bytes, where a hint may need them.
     fn keep(&mut self, piece: &[u8]) -> Result<(), Memory>
-        ensures { OnOk result (self.new ≡ record self.old { kept = kept_after self.old.keeps self.old.kept piece.now }) }
+        ensures { OnOk result
+            (self.new ≡ record self.old { kept = kept_after self.old.keeps self.old.kept piece.now }) }
     {
         if self.keeps {
             self.bytes.extend_from_slice(piece)?;

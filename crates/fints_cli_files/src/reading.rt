@@ -35,7 +35,8 @@ pub trait PieceTaker {
 
     /// Takes the next bytes.
     fn take(&mut self, piece: &[u8]) -> Result<(), Memory>
-        ensures { OnOk result ((bytes : List ℕ) → holds bytes self.old → holds (bytes ++ piece.now) self.new) };
+        ensures { OnOk result ((bytes : List ℕ) → holds bytes self.old
+            → holds (bytes ++ piece.now) self.new) };
 }
 
 impl PieceTaker for Vec<u8> {
@@ -63,7 +64,8 @@ pub fn load_into<F: Files, S: PieceTaker + Drop>(
     ensures keeps { F.holds files.new ≡ F.holds files.old }
     ensures exact { IfOk result (λ s. IsTakenFrom S.holds (F.holds files.old path.now) limit s) }
     ensures fine { IfOk result (λ _. NoneFailed (F.reads files.old) (F.reads files.new)) }
-    ensures fault { IfErr result (λ f. IsLoadFault f (F.holds files.old path.now) limit (F.reads files.old) (F.reads files.new)) }
+    ensures fault { IfErr result (λ f.
+        IsLoadFault f (F.holds files.old path.now) limit (F.reads files.old) (F.reads files.new)) }
 {
     let mut at = 0;
     let mut buffer = [0u8; PIECE];
@@ -102,7 +104,8 @@ pub fn load<F: Files>(
     ensures exact { IfOk result (λ bytes. IsFile (F.holds files.old path.now) bytes.items) }
     ensures within { IfOk result (λ bytes. vec_len bytes ≤ limit) }
     ensures fine { IfOk result (λ _. NoneFailed (F.reads files.old) (F.reads files.new)) }
-    ensures fault { IfErr result (λ f. IsLoadFault f (F.holds files.old path.now) limit (F.reads files.old) (F.reads files.new)) }
+    ensures fault { IfErr result (λ f.
+        IsLoadFault f (F.holds files.old path.now) limit (F.reads files.old) (F.reads files.new)) }
 {
     load_into(files, path, limit, Vec::new(alloc))
 }

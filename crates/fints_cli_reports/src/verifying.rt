@@ -51,7 +51,8 @@ fn verify_plan(
     certificate: &[u8],
 ) -> Result<Reply, Fault>
     ensures told { IfOk result (λ reply.
-        IsVerifiedBy (record { rows = params.now; orders = plan.now.orders }) plan.now.script certificate.now reply.status reply.text.items) }
+        IsVerifiedBy (record { rows = params.now; orders = plan.now.orders }) plan.now.script certificate.now
+        reply.status reply.text.items) }
     ensures refused { IfErr result (λ f. IsCertificateRefusal certificate.now f) }
 {
     let permissions = Permissions::build(alloc, params, plan.orders())?;

@@ -70,7 +70,8 @@ fn judge_with(
     orders: &OrderTable,
     message: &[u8],
 ) -> Result<Reply, Fault>
-    ensures judged { IfOk result (λ reply. IsVerdictBy params.now orders.now message.now reply.status reply.text.items) }
+    ensures judged { IfOk result (λ reply.
+        IsVerdictBy params.now orders.now message.now reply.status reply.text.items) }
     ensures refused { IfErr result (λ f. IsMessageRefusal message.now f) }
 {
     let permissions = Permissions::build(alloc, params, orders)?;
@@ -90,7 +91,8 @@ pub fn judge_read(
     ensures status { IfOk result (λ reply. reply.status ≤ 1) }
     ensures judged { IfOk result (λ reply. (capture : List ℕ) → IsReadOf capture params
         → IsVerdictOf capture orders.now message.now reply.status reply.text.items) }
-    ensures refused { IfErr result (λ f. (capture : List ℕ) → IsReadOf capture params → IsJudgeRefusal capture orders.now message.now f) }
+    ensures refused { IfErr result (λ f. (capture : List ℕ) → IsReadOf capture params
+        → IsJudgeRefusal capture orders.now message.now f) }
     ensures params_first { (f : ParamFaultValue) → params ≡ Err f → result ≡ Err (fault_of f) }
 {
     let params = match params {
@@ -109,7 +111,8 @@ pub fn judge_message(
     orders: &[u8],
     message: &[u8],
 ) -> Result<Reply, Fault>
-    ensures judged { IfOk result (λ reply. IsVerdictOf params.now orders.now message.now reply.status reply.text.items) }
+    ensures judged { IfOk result (λ reply.
+        IsVerdictOf params.now orders.now message.now reply.status reply.text.items) }
     ensures refused { IfErr result (λ f. IsJudgeRefusal params.now orders.now message.now f) }
 {
     judge_read(alloc, Params::read(alloc, params), orders, message)

@@ -69,7 +69,9 @@ fn judge_after_with(
     answer: &[u8],
     message: &[u8],
 ) -> Result<Reply, Fault>
-    ensures judged { IfOk result (λ reply. IsVerdictAfterBy params.now orders.now before.now answer.now message.now reply.status reply.text.items) }
+    ensures judged { IfOk result (λ reply.
+        IsVerdictAfterBy params.now orders.now before.now answer.now message.now
+        reply.status reply.text.items) }
     ensures refused { IfErr result (λ f. IsRefusalOfThree before.now answer.now message.now f) }
 {
     let permissions = Permissions::build(alloc, params, orders)?;

@@ -148,7 +148,8 @@ fn write_all(alloc: Global, text: &mut Vec<u8>, segments: &[OwnedSegment]) -> Re
 pub fn show_message(alloc: Global, message: &[u8]) -> Result<Vec<u8>, Fault>
     ensures shown { IfOk result (λ text. IsShownMessage message.now text.items) }
     ensures refused { IfErr result (λ f. IsMessageRefusal message.now f) }
-    ensures memory_alone { (m : MessageView) → IsMessage message.now m → IfErr result (λ f. f ≡ fault.Memory) }
+    ensures memory_alone { (m : MessageView) → IsMessage message.now m
+        → IfErr result (λ f. f ≡ fault.Memory) }
 {
     read_message(alloc, message)?;
     let segments = segments_in(alloc, message)?;

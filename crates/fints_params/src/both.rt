@@ -81,7 +81,8 @@ impl SegmentTaker for Both {
 
 /// The parameters of a capture and the codes of its feedback, of whose front so much was read before.
 pub fn both_in(progress: Progress<Both>, capture: &[u8]) -> Result<ParamsAndCodes, ParamFault>
-    requires { HasComeIn fault_after IsBothSoFar capture.now progress.to progress.reading.refused progress.reading.reader }
+    requires { HasComeIn fault_after IsBothSoFar capture.now progress.to progress.reading.refused
+        progress.reading.reader }
     ensures params { IfOk result (λ it. IsParamsOf capture.now it.params) }
     ensures codes { IfOk result (λ it. IsCodesOf capture.now it.codes.items) }
     ensures refused { IfErr result (λ f. IsMemoryOr (IsEitherFault capture.now) f) }

@@ -15,7 +15,8 @@ pub fn read_to_end<R: SegmentTaker + Drop>(
     progress: Progress<R>,
     capture: &[u8],
 ) -> Result<R, ParamFault>
-    requires { HasComeIn R.rule R.good capture.now progress.to progress.reading.refused progress.reading.reader }
+    requires { HasComeIn R.rule R.good capture.now progress.to progress.reading.refused
+        progress.reading.reader }
     ensures ok { IfOk result (λ reader. ReadsCapture R.good capture.now reader) }
     ensures refused { IfErr result (λ f. IsMemoryOr (IsRefusedOf R.rule capture.now) f) }
 {

@@ -35,7 +35,8 @@ pub trait SegmentTaker {
         ensures ok { IfOk result (λ _. Continues good self.old self.new (segment.now ∷ [])) }
         ensures stopped { IfErr result (λ f. IsMemoryOr (StopsIn rule good self.old (segment.now ∷ [])) f) };
 
-    ghost none_refused: { (seen : List OwnedSegment) (reader : Self) → good seen reader → NoneRefused rule seen };
+    ghost none_refused: { (seen : List OwnedSegment) (reader : Self) → good seen reader
+        → NoneRefused rule seen };
 }
 
 /// Whether the segment holds sealed data: HNVSD version 1.

@@ -100,7 +100,8 @@ impl<R: SegmentTaker + Drop> Progress<R> {
     /// Reads on, where these bytes begin with those that were read.
     pub fn go_on(self, bytes: &[u8]) -> Result<Progress<R>, ParamFault>
         requires { HasComeIn R.rule R.good bytes.now self.to self.reading.refused self.reading.reader }
-        ensures read { IfOk result (λ p. HasCome R.rule R.good bytes.now p.to p.reading.refused p.reading.reader) }
+        ensures read { IfOk result (λ p.
+            HasCome R.rule R.good bytes.now p.to p.reading.refused p.reading.reader) }
         ensures fault { IfErr result (λ f. IsMemoryOr (IsPieceFault bytes.now) f) }
     {
         let Progress { to, mut reading } = self;

@@ -71,7 +71,8 @@ impl ParamReader {
         ensures come { IfOk result (λ it.
             HasComeIn fault_after IsBothSoFar it.1.bytes it.0.to it.0.reading.refused it.0.reading.reader) }
         ensures bytes { IfOk result (λ it. (self.failed ≡ None) × (it.1.bytes ≡ self.bytes)) }
-        ensures failed { IfErr result (λ f. (offset : ℕ) × (self.failed ≡ Some offset) × (f ≡ answer_after offset)) }
+        ensures failed { IfErr result (λ f. (offset : ℕ) × (self.failed ≡ Some offset)
+            × (f ≡ answer_after offset)) }
     {
         if let Some(fault) = self.buffer.failure() {
             return Err(ParamFault::Syntax(fault));

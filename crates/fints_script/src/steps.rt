@@ -189,7 +189,8 @@ fn spend_signature(left: u64, around: &Around<'_, '_>, place: usize) -> Option<u
 }
 
 fn spend_signatures(allowance: u64, around: &Around<'_, '_>, places: &[usize]) -> Option<u64>
-    ensures { Spends allowance (total (signature_weight around.now.figures.now around.now.signers.now) places.now) result }
+    ensures { Spends allowance
+        (total (signature_weight around.now.figures.now around.now.signers.now) places.now) result }
 {
     let mut left = allowance;
     for place in places {

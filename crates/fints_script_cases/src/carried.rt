@@ -25,7 +25,8 @@ fn is_passed(branches: &[Branch], branch: usize, code: Code) -> bool
 /// Whether the branch's own pattern, if it has one, matches the code.
 fn matches_own(branches: &[Branch], branch: usize, code: Code) -> bool
     requires from { 1 ≤ branch }
-    ensures { IsTrue result ↔ ForSome (slice_get branches.now (branch - 1)) (λ own. IsTrue (matches own.on code)) }
+    ensures { IsTrue result ↔ ForSome (slice_get branches.now (branch - 1))
+        (λ own. IsTrue (matches own.on code)) }
 {
     match branches.get(branch - 1) {
         Some(own) => own.on.matches(code),

@@ -179,7 +179,8 @@ fn is_next(taken: &Taken, line: &CaseLine) -> bool
 fn add(taken: &mut Taken, line: CaseLine) -> Result<(), Memory>
     requires { HoldsNames (value_names taken.old.case.values) taken.old.names }
     ensures values { OnOk result (taken.new.case.values ≡ values_with taken.old.case.values line) }
-    ensures answers { OnOk result (taken.new.case.answers.items ≡ answers_with taken.old.case.answers.items line) }
+    ensures answers { OnOk result
+        (taken.new.case.answers.items ≡ answers_with taken.old.case.answers.items line) }
     ensures names { OnOk result (HoldsNames (value_names taken.new.case.values) taken.new.names) }
 {
     match line {

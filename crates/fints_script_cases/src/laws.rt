@@ -13,12 +13,14 @@ pub fn one_code_fires()
 
 /// Every list of codes fires exactly one branch, and leads where that branch does.
 pub fn one_branch_fires()
-    ensures { (branches : List Branch) (otherwise : Target) (codes : List ℕ) → OneBranchFires branches otherwise codes }
+    ensures { (branches : List Branch) (otherwise : Target) (codes : List ℕ)
+        → OneBranchFires branches otherwise codes }
 {}
 
 /// Some answer leads to a target exactly where some open branch, the default among them, has it.
 pub fn open_branches_lead()
-    ensures { (branches : List Branch) (otherwise target : Target) → CanLead branches otherwise target ↔ IsOpenTo branches otherwise target }
+    ensures { (branches : List Branch) (otherwise target : Target)
+        → CanLead branches otherwise target ↔ IsOpenTo branches otherwise target }
 {}
 
 /// An opener alone leads to its branch's target.

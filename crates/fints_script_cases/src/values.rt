@@ -73,7 +73,8 @@ impl Values {
 
     /// The first value of a name.
     pub fn get(&self, name: Name) -> Option<&[u8]>
-        ensures { option_copied result ≡ option_map (λ pair. pair.value) (find (λ pair. bytes_eq pair.name name) self.now) }
+        ensures { option_copied result ≡ option_map (λ pair. pair.value)
+            (find (λ pair. bytes_eq pair.name name) self.now) }
     {
         let pair = self.pairs.iter().find(|pair| pair.name == name)?;
         Some(pair.value.as_slice())

@@ -77,9 +77,12 @@ impl FieldClass for Digits {
         self.text().longest_written()
     }
 
-    ghost longest_admitted = { λ c. counted_most (IsCharacter alphabets.Digits) c.min c.max 57 (longest_has alphabets.Digits) c.ordered };
+    ghost longest_admitted = { λ c.
+        counted_most (IsCharacter alphabets.Digits) c.min c.max 57 (longest_has alphabets.Digits) c.ordered };
 
-    ghost shortest_admitted = { λ c. counted_least (IsCharacter alphabets.Digits) c.min c.max 48 (shortest_has alphabets.Digits) c.ordered };
+    ghost shortest_admitted = { λ c.
+        counted_least (IsCharacter alphabets.Digits) c.min c.max 48
+        (shortest_has alphabets.Digits) c.ordered };
 
     ghost some_item = { λ c v h. Prim.omega arith };
 
@@ -154,9 +157,11 @@ impl FieldClass for Plain {
         self.text().longest_written()
     }
 
-    ghost longest_admitted = { λ c. counted_most (IsCharacter alphabets.Plain) c.min c.max 90 (longest_has alphabets.Plain) c.ordered };
+    ghost longest_admitted = { λ c.
+        counted_most (IsCharacter alphabets.Plain) c.min c.max 90 (longest_has alphabets.Plain) c.ordered };
 
-    ghost shortest_admitted = { λ c. counted_least (IsCharacter alphabets.Plain) c.min c.max 65 (shortest_has alphabets.Plain) c.ordered };
+    ghost shortest_admitted = { λ c.
+        counted_least (IsCharacter alphabets.Plain) c.min c.max 65 (shortest_has alphabets.Plain) c.ordered };
 
     ghost some_item = { λ c v h. Prim.omega arith };
 

@@ -49,7 +49,8 @@ pub trait FieldClass {
     ghost some_item: { (c : Self) (v : List ℕ) → domain c v → 0 < length (items_of c v) };
 
     // it is written as these items
-    ghost written_as_items: { (c : Self) (v : List ℕ) → domain c v → written c v ≡ length (joined (items_of c v)) };
+    ghost written_as_items: { (c : Self) (v : List ℕ) → domain c v
+        → written c v ≡ length (joined (items_of c v)) };
 
     ghost none_longer: { (c : Self) (v : List ℕ) → domain c v → written c v ≤ written c (longest c) };
 

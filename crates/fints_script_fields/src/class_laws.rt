@@ -15,7 +15,8 @@ ghost use Rattle.fints_script_fields.specs.declared.listing.OneOf.{OneOf};
 /// The value of an account field is the text of its items.
 #[tactic(auto, using(crate::specs::ListedLaws::account_found))]
 pub fn account_is_its_items()
-    ensures { (c : Account) (v : List ℕ) → field_domain (fields.Account c) v → joined (field_items (fields.Account c) v) ≡ v }
+    ensures { (c : Account) (v : List ℕ) → field_domain (fields.Account c) v
+        → joined (field_items (fields.Account c) v) ≡ v }
 {}
 
 /// The text of a listed account tells its items: no two listed accounts have the same text.
@@ -25,7 +26,8 @@ pub fn text_is_one_account()
 
 /// A value of an account field is the text of a listed account, and stands as its items.
 pub fn account_values_are_listed()
-    ensures { (c : Account) (v : List ℕ) → field_domain (fields.Account c) v → IsListedSomewhere (fields.Account c) v }
+    ensures { (c : Account) (v : List ℕ) → field_domain (fields.Account c) v
+        → IsListedSomewhere (fields.Account c) v }
 {}
 
 /// The text of each listed account is a value of the field, and stands as that account's items.
@@ -36,7 +38,8 @@ pub fn listed_accounts_are_values()
 
 /// A field that lists no accounts stands as one item with its value.
 pub fn others_are_one_item()
-    ensures { (f : Field) (v : List ℕ) → field_accounts f ≡ [] → (item : OwnedItem) × (field_items f v ≡ item ∷ []) × (item_value item ≡ v) }
+    ensures { (f : Field) (v : List ℕ) → field_accounts f ≡ [] → (item : OwnedItem)
+        × (field_items f v ≡ item ∷ []) × (item_value item ≡ v) }
 {}
 
 /// Where a field admits the empty value, its shortest value is empty.
@@ -47,7 +50,8 @@ pub fn empty_is_shortest()
 /// Where the longest value of a field is written as no bytes, each value is empty; and only there the
 /// longest value is.
 pub fn longest_is_empty_alone()
-    ensures alone { (f : Field) (v : List ℕ) → field_domain f v → field_written f (field_longest f) ≡ 0 → v ≡ [] }
+    ensures alone { (f : Field) (v : List ℕ) → field_domain f v
+        → field_written f (field_longest f) ≡ 0 → v ≡ [] }
     ensures empty { (f : Field) → field_longest f ≡ [] → field_written f (field_longest f) ≡ 0 }
 {}
 

@@ -94,9 +94,13 @@ impl FieldClass for Text {
         }
     }
 
-    ghost longest_admitted = { λ c. counted_most (IsCharacter c.alphabet) c.min c.max (longest_character c.alphabet) (longest_has c.alphabet) c.ordered };
+    ghost longest_admitted = { λ c.
+        counted_most (IsCharacter c.alphabet) c.min c.max (longest_character c.alphabet)
+        (longest_has c.alphabet) c.ordered };
 
-    ghost shortest_admitted = { λ c. counted_least (IsCharacter c.alphabet) c.min c.max (shortest_character c.alphabet) (shortest_has c.alphabet) c.ordered };
+    ghost shortest_admitted = { λ c.
+        counted_least (IsCharacter c.alphabet) c.min c.max (shortest_character c.alphabet)
+        (shortest_has c.alphabet) c.ordered };
 
     ghost some_item = { λ c v h. Prim.omega arith };
 

@@ -24,7 +24,8 @@ impl Field {
     #[tactic(auto, using(crate::specs::FieldLaws::has_few_items))]
     pub fn most_items(&self) -> u32
         ensures most { result ≡ field_most_items self.now }
-        ensures none_more { (v : List ℕ) → field_domain self.now v → length (field_items self.now v) ≤ result }
+        ensures none_more { (v : List ℕ) → field_domain self.now v
+            → length (field_items self.now v) ≤ result }
     {
         match self {
             Field::Account(c) => c.most_items(),

@@ -93,7 +93,8 @@ fn of_texts(values: Texts) -> OneOf
 impl OneOf {
     /// A field of these values.
     pub fn new(values: Texts) -> Option<OneOf>
-        ensures some { IsSome result ↔ ((1 ≤ length values) × (length values ≤ MAX_VALUES) × All IsShort values × AllPairs (λ s t. s ≢ t) values) }
+        ensures some { IsSome result ↔ ((1 ≤ length values) × (length values ≤ MAX_VALUES)
+            × All IsShort values × AllPairs (λ s t. s ≢ t) values) }
         ensures values { IfSome result (λ c. c.values ≡ values) }
     {
         let texts = values.as_slice();
@@ -186,7 +187,8 @@ fn of_accounts(values: Accounts) -> Account
 impl Account {
     /// A field of these values.
     pub fn new(values: Accounts) -> Option<Account>
-        ensures some { IsSome result ↔ ((1 ≤ length values) × (length values ≤ MAX_VALUES) × All IsAccountList values × AllPairs (λ a b. a ≢ b) values) }
+        ensures some { IsSome result ↔ ((1 ≤ length values) × (length values ≤ MAX_VALUES)
+            × All IsAccountList values × AllPairs (λ a b. a ≢ b) values) }
         ensures values { IfSome result (λ c. c.values ≡ values) }
     {
         let accounts = values.as_slice();

@@ -45,12 +45,14 @@ impl Model for Fields {
 
     ghost view = { λ f. f.list.items };
 
-    ghost invariant = { λ f. HoldsPlaces is_field_named f.list.items (get bytes_eq f.places) × AreNamed f.list.items };
+    ghost invariant = { λ f. HoldsPlaces is_field_named f.list.items (get bytes_eq f.places)
+        × AreNamed f.list.items };
 }
 
 // Notes the place of a name, unless one is there.
 fn note(places: &mut IndexMap<Name, usize>, name: Name, place: usize) -> Result<(), Memory>
-    ensures { OnOk result ((q : List ℕ) → get bytes_eq places.new q ≡ first_place (get bytes_eq places.old q) (bytes_eq q name) place) }
+    ensures { OnOk result ((q : List ℕ)
+        → get bytes_eq places.new q ≡ first_place (get bytes_eq places.old q) (bytes_eq q name) place) }
 {
     if !places.contains_key(&name) {
         places.insert(name, place)?;

@@ -54,7 +54,8 @@ fn note<'a>(
     name: &'a str,
     place: usize,
 ) -> Result<(), Memory>
-    ensures { OnOk result ((q : List ℕ) → place_in places.new q ≡ first_place (place_in places.old q) (bytes_eq q name.now) place) }
+    ensures { OnOk result ((q : List ℕ)
+        → place_in places.new q ≡ first_place (place_in places.old q) (bytes_eq q name.now) place) }
 {
     if !places.contains_key(name) {
         places.insert(name, place)?;

@@ -53,7 +53,8 @@ fn frame_at(
 }
 
 fn signer_name(earlier: &[Value], table: &Table) -> Result<Name, FaultKind>
-    ensures { result ≡ row_name (λ name. list_any (is_called name) (map view earlier.now)) (table_view table.now) }
+    ensures { result ≡ row_name (λ name. list_any (is_called name) (map view earlier.now))
+        (table_view table.now) }
 {
     let text = name_text(table)?;
     new_name(text, some_is_named(text, earlier))

@@ -90,7 +90,8 @@ impl StreamBuffer {
     /// memory what is kept is as before; what took the segments may have taken some then.
     pub fn feed<T: Taker>(&mut self, piece: &[u8], taker: &mut T) -> Result<(), SyntaxFault>
         ensures fed { OnOk result ((placed : List Placed) × IsFed self.old piece.now placed self.new
-            × ((seen : List Placed) → T.good seen taker.old → T.good (seen ++ moved_by (rest_at self.old) placed) taker.new)) }
+            × ((seen : List Placed) → T.good seen taker.old
+            → T.good (seen ++ moved_by (rest_at self.old) placed) taker.new)) }
         ensures refused { IfErr result (λ f. IsUnfed self.old.failed self.old piece.now f self.new) }
     {
         if let Some(offset) = self.failed {

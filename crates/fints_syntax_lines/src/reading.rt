@@ -24,7 +24,8 @@ pub trait LineTaker {
     fn take(&mut self, line: &[u8]) -> Result<bool, Memory>
         requires ready { ready self.old }
         requires short { length (text_of_lines (lines self.old ++ line.now ∷ [])) ≤ MAX_TEXT }
-        ensures lines { IfOk result (λ taken. IsTrue taken → lines self.new ≡ lines self.old ++ line.now ∷ []) }
+        ensures lines { IfOk result (λ taken. IsTrue taken
+            → lines self.new ≡ lines self.old ++ line.now ∷ []) }
         ensures ready { IfOk result (λ taken. IsTrue taken → ready self.new) }
         ensures begins { IfOk result (λ taken. IsTrue taken → BeginsText kind (lines self.new)) }
         ensures refused { IfOk result (λ taken.
