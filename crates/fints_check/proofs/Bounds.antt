@@ -26,7 +26,8 @@ number_of reached = option_map (λ (r : Reached). r.number) reached
 abbrev line_numbers : List Line → List (Option ℕ)
 line_numbers lines = map (λ (line : Line). number_of line.reached) lines
 
-named_number : (lines : List Line) (n : ℕ) (r : Reached) → Names lines n r → Has (line_numbers lines) n r.number
+named_number : (lines : List Line) (n : ℕ) (r : Reached) → Names lines n r
+    → Has (line_numbers lines) n r.number
 named_number lines zero r h = absurd cc
 named_number [] (suc n) r h = absurd cc
 named_number (l ∷ lines) (suc zero) r h = ap (λ (x : Option Reached). Some (number_of x)) h

@@ -19,7 +19,8 @@ lines_with v line = ap (λ (ls : List (List ℕ)). codes "fints-cert 2" ∷ ls) 
 -- a line is taken
 pub grown_by : (v : List Line) (line : Line) (text : List ℕ) (w : List Line) → IsBegun v → IsStepLine line
     → IsNew v line
-    → text ≡ step_text line → length (text_of_lines (cert_lines v ++ text ∷ [])) ≤ MAX_TEXT → w ≡ v ++ line ∷ []
+    → text ≡ step_text line
+    → length (text_of_lines (cert_lines v ++ text ∷ [])) ≤ MAX_TEXT → w ≡ v ++ line ∷ []
     → IsBegun w
 grown_by v line text w begun good next is short lines =
     let whole = lines_with v line ∙ ap (λ (t : List ℕ). cert_lines v ++ t ∷ []) (sym is) in
@@ -91,7 +92,8 @@ pub no_line : (v : List Line) (text : List ℕ) → IsBegun v
     → BeginsText AreCertLines (cert_lines v ++ text ∷ []) → ⊥
 no_line v text begun none b = let on = onward v text begun b in none on.line on.good on.is
 
-pub not_new : (v : List Line) (text : List ℕ) (line : Line) → IsBegun v → IsStepLine line → text ≡ step_text line
+pub not_new : (v : List Line) (text : List ℕ) (line : Line) → IsBegun v
+    → IsStepLine line → text ≡ step_text line
     → (IsNew v line → ⊥) → BeginsText AreCertLines (cert_lines v ++ text ∷ []) → ⊥
 not_new v text line begun good is not b =
     let on = onward v text begun b in

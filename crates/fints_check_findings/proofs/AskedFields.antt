@@ -27,7 +27,8 @@ asked_is fields r t (inr e) = ap (λ (q : Rule). accounts_asked fields q t) (sym
 
 -- where the rules ask for no account, the field that element 2 is has none
 pub asked_none : (fields : List NamedField) (r : Rule) (t : Template) (place : ℕ) (field : NamedField)
-    → (r ≡ Signatures) ⊎ (r ≡ Account) → element_two t ≡ Field place ∷ [] → slice_get fields place ≡ Some field
+    → (r ≡ Signatures) ⊎ (r ≡ Account) → element_two t ≡ Field place ∷ []
+    → slice_get fields place ≡ Some field
     → accounts_asked fields r t ≡ [] → field_accounts field.class ≡ []
 asked_none fields r t place field asks element there none =
     ap accounts_at (sym there) ∙ (ap (listed_in fields) (sym element) ∙ (asked_is fields r t asks ∙ none))

@@ -27,7 +27,8 @@ decided granted script n step facts is r =
     (message_is granted script step facts is.facts_are (wants_tan r))
 
 -- the same of the facts of a message, by the number of its step
-pub facts_decide : (script : ScriptValue) (granted : Granted) (table : List OrderRow) (n : ℕ) (step : StepValue)
+pub facts_decide : (script : ScriptValue) (granted : Granted) (table : List OrderRow)
+    (n : ℕ) (step : StepValue)
     → IsRead script → numbered script.steps n ≡ Some step → IsClosed script table → table ≡ granted.orders
     → (r : Rule) (f : MessageFacts) → AreMessageFacts granted script step (wants_tan r) f
     → Decides granted script step r f

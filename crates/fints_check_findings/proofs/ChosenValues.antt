@@ -36,7 +36,8 @@ module _ (granted : Granted) (script : ScriptValue) (f : Finding) (values : List
   }
 
   pub chosen_for : (step : StepValue) → numbered script.steps f.step ≡ Some step → (f.rule ≡ Size → ⊥)
-      → ((values ≡ extreme_choice (wants_tan f.rule) script.fields) × AsksNoField script step f.rule f.segment)
+      → ((values ≡ extreme_choice (wants_tan f.rule) script.fields)
+      × AsksNoField script step f.rule f.segment)
       ⊎ HaveFirstAccount granted script step f.rule f.segment values
       → AreChosenFor granted script f values
   chosen_for step at not_size chosen = record {

@@ -13,10 +13,12 @@ module _ (old new : Option (List ℕ)) (lost lost_after : ℕ) where
       → TellsFault B old new lost lost_after
   fault_under A B h t = record { why = t.why; more = t.more; nothing_more = λ b. t.nothing_more (h b); told = t.told }
 
-  pub memory_fault : (A : Type 0) → Tells old new lost lost_after memory_line → TellsFault A old new lost lost_after
+  pub memory_fault : (A : Type 0) → Tells old new lost lost_after memory_line
+      → TellsFault A old new lost lost_after
   memory_fault A told = record { why = codes "memory"; more = []; nothing_more = λ _. refl; told = told }
 
-  pub write_fault : (A : Type 0) → Tells old new lost lost_after write_line → TellsFault A old new lost lost_after
+  pub write_fault : (A : Type 0) → Tells old new lost lost_after write_line
+      → TellsFault A old new lost lost_after
   write_fault A told = record { why = codes "write"; more = []; nothing_more = λ _. refl; told = told }
 
 -- no failure has the status of an answer

@@ -10,7 +10,8 @@ use Rattle.fints_cli_reports.specs.declared.telling.Wanted.TheVariants.{OneCase,
 no_number : (number : ℕ) → Report ≡ OneCase number → ⊥
 no_number number is = cc
 
-pub plan_refused : (rows : Rows) (orders script : List ℕ) (f : Fault) → IsTellRefusalOn Report rows orders script f
+pub plan_refused : (rows : Rows) (orders script : List ℕ) (f : Fault)
+    → IsTellRefusalOn Report rows orders script f
     → IsPlanRefusal orders script f
 plan_refused rows orders script (NoFinding number) p = absurd (no_number number p.0)
 plan_refused rows orders script _ p = p

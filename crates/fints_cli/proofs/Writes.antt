@@ -54,7 +54,8 @@ gets-then-cut (Some x) (Some y) (Some z) a b first second = (
 )
 
 -- a prefix of a text is a prefix of it and more
-pub cut-of-more : (old new : Option (List ℕ)) (a b : List ℕ) → GetsPrefix old new a → GetsPrefix old new (a ++ b)
+pub cut-of-more : (old new : Option (List ℕ)) (a b : List ℕ) → GetsPrefix old new a
+    → GetsPrefix old new (a ++ b)
 cut-of-more None new a b h = tt
 cut-of-more (Some x) None a b h = absurd h
 cut-of-more (Some x) (Some y) a b h = elim (cases_lt h.0 (length a)) [
@@ -64,11 +65,13 @@ cut-of-more (Some x) (Some y) a b h = elim (cases_lt h.0 (length a)) [
 
 -- ---- what is done, and what failed
 
-pub on_ok_both : {T F : Type 0} (r : Result T F) (A B C : Type 0) → (A → B → C) → OnOk r A → OnOk r B → OnOk r C
+pub on_ok_both : {T F : Type 0} (r : Result T F) (A B C : Type 0) → (A → B → C)
+    → OnOk r A → OnOk r B → OnOk r C
 on_ok_both (Ok x) A B C h a b = h a b
 on_ok_both (Err e) A B C h a b = tt
 
-pub on_err_both : {T F : Type 0} (r : Result T F) (A B C : Type 0) → (A → B → C) → OnErr r A → OnErr r B → OnErr r C
+pub on_err_both : {T F : Type 0} (r : Result T F) (A B C : Type 0) → (A → B → C)
+    → OnErr r A → OnErr r B → OnErr r C
 on_err_both (Ok x) A B C h a b = tt
 on_err_both (Err e) A B C h a b = h a b
 

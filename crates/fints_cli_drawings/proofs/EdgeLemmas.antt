@@ -46,7 +46,8 @@ onward_any count n (targets.Step s) h = (omega (arith, h.0), h.1)
 onward_any count n targets.Again h = tt
 onward_any count n targets.Stop h = tt
 
-each_any : (count n : ℕ) (branches : List Branch) → All (λ (branch : Branch). IsOnward count n branch.to) branches
+each_any : (count n : ℕ) (branches : List Branch)
+    → All (λ (branch : Branch). IsOnward count n branch.to) branches
     → All (λ (branch : Branch). IsOnward count 0 branch.to) branches
 each_any count n [] h = All-nil (λ (branch : Branch). IsOnward count 0 branch.to)
 each_any count n (x ∷ xs) h =

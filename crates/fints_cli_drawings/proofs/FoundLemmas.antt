@@ -24,7 +24,8 @@ rising findings pairs i j d low high = elim (cases_lt i j) [
 
 -- what the tests of the two searches say
 pub below_from : (n : ℕ) (findings : List Finding) (i : ℕ)
-    → IsPartitionPoint (λ (f : Finding). ltb f.step n ≡ true) (λ (f : Finding). ltb f.step n ≡ false) findings i
+    → IsPartitionPoint (λ (f : Finding). ltb f.step n ≡ true)
+    (λ (f : Finding). ltb f.step n ≡ false) findings i
     → IsPartitionPoint (λ (f : Finding). f.step < n) (λ (f : Finding). n ≤ f.step) findings i
 below_from n findings i h = (
   λ k d low high. ltb-true (slice_index_or findings k d).step n (h.0 k d low high),
@@ -32,7 +33,8 @@ below_from n findings i h = (
 )
 
 pub up_to_from : (n : ℕ) (findings : List Finding) (i : ℕ)
-    → IsPartitionPoint (λ (f : Finding). leb f.step n ≡ true) (λ (f : Finding). leb f.step n ≡ false) findings i
+    → IsPartitionPoint (λ (f : Finding). leb f.step n ≡ true)
+    (λ (f : Finding). leb f.step n ≡ false) findings i
     → IsPartitionPoint (λ (f : Finding). f.step ≤ n) (λ (f : Finding). n < f.step) findings i
 up_to_from n findings i h = (
   λ k d low high. leb-true (slice_index_or findings k d).step n (h.0 k d low high),

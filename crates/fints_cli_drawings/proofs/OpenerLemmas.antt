@@ -128,7 +128,8 @@ pub opener_found : (branches : List Branch) (b : ℕ) → Found branches b (open
 unfolding opener_of
 opener_found branches b = found_of branches b (find (opens branches b) (range_with_len 0 10000)) (searched (opens branches b) 0 10000)
 
-fires_open : (branches : List Branch) (b code : ℕ) → 1 ≤ b → b ≤ length branches + 1 → IsOpener branches b code
+fires_open : (branches : List Branch) (b code : ℕ) → 1 ≤ b → b ≤ length branches + 1
+    → IsOpener branches b code
     → IsOpen branches b
 fires_open branches b code from to o = record {
   codes = code ∷ [];

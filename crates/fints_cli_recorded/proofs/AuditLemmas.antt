@@ -40,7 +40,8 @@ pub exit_refused : {T : Type 0} (r : Result T Fault) (e : Fault) (P : Fault → 
 exit_refused (Ok v) e P is p = tt
 exit_refused (Err f) e P is p = subst P (sym is) p
 
-pub dialogue_refused : (dialogue : List ℕ) (f : DialogueFault) → IsMemoryOrRefusal (IsDialogueFault dialogue) f
+pub dialogue_refused : (dialogue : List ℕ) (f : DialogueFault)
+    → IsMemoryOrRefusal (IsDialogueFault dialogue) f
     → IsDialogueRefusal dialogue (dialogue_fault_of f)
 dialogue_refused dialogue dialogues.Memory h = tt
 dialogue_refused dialogue dialogues.NoMessage (inl e) = absurd (cc)
@@ -67,7 +68,8 @@ later_refused capture table dialogue rows orders Memory h i p = tt
 later_refused capture table dialogue rows orders (Dialogue f) h i p = (record { rows = rows; table = orders; rows_are = h; table_is = i }, p)
 later_refused capture table dialogue rows orders _ h i p = absurd p
 
-pub refused_later : (capture table dialogue : List ℕ) (rows : Rows) (orders : List OrderRow) (f : DialogueFault)
+pub refused_later : (capture table dialogue : List ℕ) (rows : Rows)
+    (orders : List OrderRow) (f : DialogueFault)
     → IsParamsOf capture rows → DenotesTable table orders → IsMemoryOrRefusal (IsDialogueFault dialogue) f
     → IsAuditRefusal capture table dialogue (dialogue_fault_of f)
 refused_later capture table dialogue rows orders f h i p =
@@ -96,7 +98,8 @@ own_dialogue_refused table dialogue orders f h (inr p) = own_refused table dialo
 
 pub own_params_refused : (table dialogue : List ℕ) (orders : List OrderRow) (exchanges : List Exchange)
     (f : DialogueFault) → DenotesTable table orders → IsDialogue dialogue exchanges
-    → IsMemoryOrRefusal (IsOwnParamsFault exchanges) f → IsOwnAuditRefusal table dialogue (dialogue_fault_of f)
+    → IsMemoryOrRefusal (IsOwnParamsFault exchanges) f
+    → IsOwnAuditRefusal table dialogue (dialogue_fault_of f)
 own_params_refused table dialogue orders exchanges f h i (inl e) = own_refused table dialogue orders f h (inl e)
 own_params_refused table dialogue orders exchanges f h i (inr p) =
     own_refused table dialogue orders f h (inr (inr (exchanges, i, p)))

@@ -35,7 +35,8 @@ line_more (s ∷ ss) (f ∷ fs) (suc i) step cell at has =
     ∙ sym (append_assoc (step_line s.name f) (step_lines (take i ss) fs) (step_line step.name cell))
 
 -- what holds of a plan holds of the plan of two good texts
-pub on_plan : (P : Granted → ScriptValue → Type 0) (rows : Rows) (table text : List ℕ) (orders : List OrderRow)
+pub on_plan : (P : Granted → ScriptValue → Type 0) (rows : Rows) (table text : List ℕ)
+    (orders : List OrderRow)
     (value : ScriptValue) (plan : PlanValue) → DenotesTable table orders → Denotes text value
     → IsClosed value orders → plan.script ≡ value → plan.orders ≡ orders
     → P (record { rows = rows; orders = plan.orders }) plan.script

@@ -122,7 +122,8 @@ one_more_shown ss s before middle after h g =
     }
 
 -- what refuses a message for want of memory is that
-pub memory_told : {T : Type 0} (r : Result T Fault) (e : JudgeFault) → IsErrAnd r (λ f. f ≡ message_fault_of e)
+pub memory_told : {T : Type 0} (r : Result T Fault) (e : JudgeFault)
+    → IsErrAnd r (λ f. f ≡ message_fault_of e)
     → e ≡ refusals.Memory → IfErr r (λ f. f ≡ Memory)
 memory_told (Ok v) e is memory = tt
 memory_told (Err f) e is memory = is ∙ ap message_fault_of memory

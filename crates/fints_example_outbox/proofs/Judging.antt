@@ -48,7 +48,8 @@ empty : (broken : List Broken) → ((b : Broken) → Contains broken b → ⊥) 
 empty [] h = refl
 empty (b ∷ bs) h = absurd (h b (0, omega arith, refl))
 
-pub nothing_broken : (granted : Granted) (bytes : List ℕ) (broken : List Broken) → IsJudged granted bytes broken
+pub nothing_broken : (granted : Granted) (bytes : List ℕ) (broken : List Broken)
+    → IsJudged granted bytes broken
     → Permitted granted bytes → broken ≡ []
 nothing_broken granted bytes broken h p =
     empty broken
@@ -58,7 +59,8 @@ nothing_broken granted bytes broken h p =
     ((h.exactly b.rule b.segment).0 c)))
 
 pub nothing_broken_after : (granted : Granted) (before codes bytes : List ℕ) (broken : List Broken)
-    → IsJudgedAfter granted before codes bytes broken → PermittedAfter granted before codes bytes → broken ≡ []
+    → IsJudgedAfter granted before codes bytes broken
+    → PermittedAfter granted before codes bytes → broken ≡ []
 nothing_broken_after granted before codes bytes broken h p =
     empty broken
     (λ b c.

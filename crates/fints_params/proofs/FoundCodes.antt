@@ -117,12 +117,14 @@ codes_more s old new fine e = λ seen h.
     }
 
 -- a segment that is no feedback has no codes
-pub codes_unread : (s : OwnedSegment) (old : List ℕ) → is_feedback s ≡ false → Continues CodesSoFar old old (s ∷ [])
+pub codes_unread : (s : OwnedSegment) (old : List ℕ) → is_feedback s ≡ false
+    → Continues CodesSoFar old old (s ∷ [])
 codes_unread s old e =
     let none : codes_in (s ∷ []) ≡ [] = rw e refl in
     codes_more s old old (rw e refl) (sym (append-nil old) ∙ ap (λ xs. old ++ xs) (sym none))
 
-pub found_glanced : (s : OwnedSegment) (old : Found) (closed : Bool) → closed ≡ is_sealed s → is_feedback s ≡ false
+pub found_glanced : (s : OwnedSegment) (old : Found) (closed : Bool)
+    → closed ≡ is_sealed s → is_feedback s ≡ false
     → IsGlanced {S = Found} (λ seen found. CodesSoFar seen found.codes.items) old old s (not closed)
 found_glanced s old true e other = refl
 found_glanced s old false e other = (sym e, codes_unread s old.codes.items other)

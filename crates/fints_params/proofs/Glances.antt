@@ -90,7 +90,8 @@ identified id k e =
       | inr f ↦ let none : kind_of_orders id ≡ None = rw f refl in absurd (let x = sym none ∙ e in cc)
     ]
 
-not_that : (id c : List ℕ) → is_order_identifier id ≡ true → is_order_identifier c ≡ false → bytes_eq id c ≡ false
+not_that : (id c : List ℕ) → is_order_identifier id ≡ true
+    → is_order_identifier c ≡ false → bytes_eq id c ≡ false
 not_that id c h n =
     elim (cases_Bool (bytes_eq id c)) [
       | inl t ↦
@@ -196,7 +197,8 @@ order_even s row e =
 
 -- ---- the rows so far
 
-glanced : (s : OwnedSegment) (old new : Gathered) → IsReadAlone s → is_odd_order s ≡ false → AddsOrders s old new
+glanced : (s : OwnedSegment) (old new : Gathered) → IsReadAlone s
+    → is_odd_order s ≡ false → AddsOrders s old new
     → IsGlanced ParamsSoFar old new s true
 glanced s old new alone odd a = (
   (five s alone.whole).plain,

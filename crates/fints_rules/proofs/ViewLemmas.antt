@@ -93,7 +93,8 @@ at_place trees segments i t s is lt at found =
 
 -- the facts of the segment at a place
 pub facts_at : (m : MessageView) (trees : List (List (List Spelled))) (i : ℕ)
-    (t : List (List Spelled)) (h : Head) (s : OwnedSegment) (leading : List (List (List ℕ))) (lead : List (List ℕ)) (count : ℕ)
+    (t : List (List Spelled)) (h : Head) (s : OwnedSegment) (leading : List (List (List ℕ)))
+    (lead : List (List ℕ)) (count : ℕ)
     → segments_of trees ≡ m.body → i < length m.body → t ≡ get_or trees i t → slice_get m.body i ≡ Some s
     → head_of (values_of t) ≡ Some h → leading ≡ map six_items m.body → lead ≡ get_or leading i lead
     → count ≡ count_of h.id m.body

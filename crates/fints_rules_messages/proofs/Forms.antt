@@ -327,7 +327,8 @@ inner_no_other : (ss body ends : List OwnedSegment) (s : OwnedSegment) (more : L
     → IsInner ss body ends → ss ≡ s ∷ more → part_of s ≡ Other → ⊥
 inner_no_other ss body ends s more h e p = none_3 rank_of h.openers body ends [] s more (inner_ranked ss body ends h) (sym e ∙ h.together) (ap rank p)
 
-seal_head_first : (number : ℕ) (s : OwnedSegment) (ss inner b e : List OwnedSegment) (last : OwnedSegment) → IsSealHead s
+seal_head_first : (number : ℕ) (s : OwnedSegment) (ss inner b e : List OwnedSegment)
+    (last : OwnedSegment) → IsSealHead s
     → IsInner inner b e → IsLast number last → s ∷ ss ≡ inner ++ last ∷ [] → ⊥
 seal_head_first number s ss [] b e last h i l q = let same : s ≡ last = cc in seal_head_not_last number s h (subst (IsLast number) (sym same) l)
 seal_head_first number s ss (x ∷ xs) b e last h i l q = let same : x ≡ s = cc in inner_no_other (x ∷ xs) b e x xs i refl (ap part_of same ∙ seal_head_other s h)

@@ -267,7 +267,8 @@ whole_rest rest n m k number body ends t u h o g q le = record {
 
 -- ---- with HNVSK before it
 
-with_seal_head : (number : ℕ) (s : OwnedSegment) (ss b e : List OwnedSegment) → IsSealHead s → IsSealedRest number ss b e
+with_seal_head : (number : ℕ) (s : OwnedSegment) (ss b e : List OwnedSegment) → IsSealHead s
+    → IsSealedRest number ss b e
     → IsTail number (s ∷ ss) b e
 with_seal_head number s ss b e h w = record {
   inner = w.inner;
@@ -323,7 +324,8 @@ stops_seal_head tail n at number t h seal_head s = record {
 
 pub whole_seal_head : (tail : List ℕ) (n number : ℕ) (body ends : List (List (List Spelled)))
     (t : List (List Spelled))
-    → IsNextSegment tail t n → IsSealHead (segment_of t) → IsReadBy (IsSealedRest number) (drop n tail) body ends
+    → IsNextSegment tail t n → IsSealHead (segment_of t)
+    → IsReadBy (IsSealedRest number) (drop n tail) body ends
     → IsReadBy (IsTail number) tail body ends
 whole_seal_head tail n number body ends t h seal_head r = record {
   trees = t ∷ r.trees;

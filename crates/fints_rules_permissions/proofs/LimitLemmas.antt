@@ -54,7 +54,8 @@ key_of q row h = (key_decides (row_key row) q).0 h
 
 module _ (rank : OrderParam → Ranked) (keyed : (row : OrderParam) → (rank row).key ≡ row_key row)
     (rows : List OrderParam) (table : List Ranked) (same : IsPermutation (map rank rows) table) (q : OrderKey) where
-  there : (row : OrderParam) → Contains (params_of q.kind q.version rows) row → Contains table (rank row) × ((rank row).key ≡ q)
+  there : (row : OrderParam) → Contains (params_of q.kind q.version rows) row
+      → Contains table (rank row) × ((rank row).key ≡ q)
   there row among =
       let r = from_filter (is_param_of q.kind q.version) rows row among in
       (Contains-permutation _ _ _ same (to_map rank rows row r.0), keyed row ∙ key_of q row r.1)
@@ -67,7 +68,8 @@ module _ (rank : OrderParam → Ranked) (keyed : (row : OrderParam) → (rank ro
       (row, to_filter (is_param_of q.kind q.version) rows row there' (of_key q row own), is)
 
   -- no rank of the key: no row of it
-  pub none_of : IsLeastRank (λ (r : Ranked). r.key) (λ (r : Ranked). r.rank) q table None → params_of q.kind q.version rows ≡ []
+  pub none_of : IsLeastRank (λ (r : Ranked). r.key) (λ (r : Ranked). r.rank) q table None
+      → params_of q.kind q.version rows ≡ []
   none_of none = nothing_in _ (λ row among. let t = there row among in none (rank row) t.0 t.1)
 
   -- the least rank is that of a row
@@ -90,7 +92,8 @@ ranks_more {X} rank rows i row old new lt at is more =
     ap (map rank) (take_more rows i row lt ∙ ap (λ (r : X). take i rows ++ r ∷ []) (sym at))
     ∙ map-append rank (take i rows) (row ∷ []) ∙ ap (λ (rs : List Ranked). rs ++ rank row ∷ []) is ∙ sym more
 
-pub small_more : (rows : List OrderParam) (i : ℕ) (row : OrderParam) → i < length rows → row ≡ get_or rows i row
+pub small_more : (rows : List OrderParam) (i : ℕ) (row : OrderParam) → i < length rows
+    → row ≡ get_or rows i row
     → All IsSmall (take i rows) → IsSmall row → All IsSmall (take (i + 1) rows)
 small_more rows i row lt at all small =
     subst (All IsSmall) (sym (take_more rows i row lt ∙ ap (λ (r : OrderParam). take i rows ++ r ∷ []) (sym at)))
@@ -109,7 +112,8 @@ limit_is m n lt e = grind (arith, nat_tests)
 limit_least : (m n : ℕ) → m < 2 ^ 32 → n ≤ limit_rank m → m ≢ 0 → (limit_back n ≢ 0) × (limit_back n ≤ m)
 limit_least m n lt le ne = grind (arith, nat_tests)
 
-pub least_limit : (rows : List OrderParam) (table : LimitTable) (q : OrderKey) (n : ℕ) → HoldsLimits rows table
+pub least_limit : (rows : List OrderParam) (table : LimitTable) (q : OrderKey) (n : ℕ)
+    → HoldsLimits rows table
     → IsLeastRank (λ (r : Ranked). r.key) (λ (r : Ranked). r.rank) q table.orders (Some n)
     → IsLeastLimit (params_of q.kind q.version rows) (limit_back n)
 least_limit rows table q n h least' =
@@ -120,7 +124,8 @@ least_limit rows table q n h least' =
           (λ r among ne. limit_least r.orders n (small_of rows q r h.small among).0 (least r among) ne);
     }
 
-pub greatest_need : (rows : List OrderParam) (table : LimitTable) (q : OrderKey) (n : ℕ) → HoldsLimits rows table
+pub greatest_need : (rows : List OrderParam) (table : LimitTable) (q : OrderKey) (n : ℕ)
+    → HoldsLimits rows table
     → IsLeastRank (λ (r : Ranked). r.key) (λ (r : Ranked). r.rank) q table.signatures (Some n)
     → IsGreatestNeed (params_of q.kind q.version rows) (2 ^ 32 - 1 - n)
 greatest_need rows table q n h least' =
@@ -146,15 +151,18 @@ no_needs rows table q h none = none_of need_ranked (λ r. refl) rows table.signa
 
 -- ---- demands
 
-pin_there : (pins : List PinRow) (table : DemandTable) (pin : PinRow) → HoldsPins pins table → Contains pins pin
+pin_there : (pins : List PinRow) (table : DemandTable) (pin : PinRow)
+    → HoldsPins pins table → Contains pins pin
     → Contains table.ranks (pin_ranked pin)
 pin_there pins table pin h among = Contains-permutation _ _ _ h (to_map pin_ranked pins pin among)
 
-pin_back : (pins : List PinRow) (table : DemandTable) (r : Ranked) → HoldsPins pins table → Contains table.ranks r
+pin_back : (pins : List PinRow) (table : DemandTable) (r : Ranked) → HoldsPins pins table
+    → Contains table.ranks r
     → (pin : PinRow) × Contains pins pin × (pin_ranked pin ≡ r)
 pin_back pins table r h among = from_map pin_ranked pins r (Contains-permutation _ _ _ (IsPermutation-sym _ _ h) among)
 
-kind_is : (kind : List ℕ) (pin : PinRow) (r : Ranked) → pin_ranked pin ≡ r → r.key ≡ kind_key kind → pin.kind ≡ kind
+kind_is : (kind : List ℕ) (pin : PinRow) (r : Ranked) → pin_ranked pin ≡ r
+    → r.key ≡ kind_key kind → pin.kind ≡ kind
 kind_is kind pin r is e = ap (λ (x : Ranked). x.key.kind) is ∙ ap (λ (k : OrderKey). k.kind) e
 
 tan_rank : (pin : PinRow) → (pin_ranked pin).rank ≡ 0 → pin.tan ≡ true
@@ -182,7 +190,8 @@ listed_tan pins table kind h least' =
     any_in (λ p. (p.kind ≡ kind) × (p.tan ≡ true)) pins pin there'
     (kind_is kind pin r same e, tan_rank pin (ap (λ (x : Ranked). x.rank) same ∙ is))
 
-pub listed_only : (pins : List PinRow) (table : DemandTable) (kind : List ℕ) (n : ℕ) → HoldsPins pins table → n ≢ 0
+pub listed_only : (pins : List PinRow) (table : DemandTable) (kind : List ℕ) (n : ℕ)
+    → HoldsPins pins table → n ≢ 0
     → IsLeastRank (λ (r : Ranked). r.key) (λ (r : Ranked). r.rank) (kind_key kind) table.ranks (Some n)
     → IsListedKind pins kind × (IsListedWithTan pins kind → ⊥)
 listed_only pins table kind n h ne least' =

@@ -19,7 +19,8 @@ none_in x (k, lt, is) = absurd (omega arith)
 pub cons_first : {X : Type 0} (x : X) (xs : List X) → Contains (x ∷ xs) x
 cons_first x xs = (0, omega arith, refl)
 
-pub to_flat_map : {X A : Type 0} (f : X → List A) (xs : List X) (x : X) (a : A) → Contains xs x → Contains (f x) a
+pub to_flat_map : {X A : Type 0} (f : X → List A) (xs : List X) (x : X) (a : A)
+    → Contains xs x → Contains (f x) a
     → Contains (flat_map f xs) a
 to_flat_map f [] x a (k, lt, is) h = absurd (omega arith)
 to_flat_map f (y ∷ ys) x a among h = elim (cons_cases y ys x among) [

@@ -88,7 +88,8 @@ module _ {X K : Type 0} {cmp : K → K → Ordering} (total : IsTotalOrder cmp)
         let no' : is_lt (cmp b a) ≡ true = ap is_lt no in
         cc
 
-    pub parted : (xs : List X) → IsSorted (ranked_cmp cmp key rank) xs → IsPartitionedBy (λ x. is_lt (cmp (key x) q)) xs
+    pub parted : (xs : List X) → IsSorted (ranked_cmp cmp key rank) xs
+        → IsPartitionedBy (λ x. is_lt (cmp (key x) q)) xs
     parted xs up i j d le lt h =
         let a : K = key (get_or xs i d) in
         let b : K = key (get_or xs j d) in
@@ -158,7 +159,8 @@ module _ {X K : Type 0} {cmp : K → K → Ordering} (total : IsTotalOrder cmp)
         let level : is_eq (cmp (key x) q) ≡ true = ap (λ k. is_eq (cmp k q)) e ∙ ap is_eq (tied_itself total q) in
         true≢false (sym level ∙ other)
 
-    pub none_left : (xs : List X) (i : ℕ) → BeginsAt cmp key q xs i → length xs ≤ i → IsLeastRank key rank q xs None
+    pub none_left : (xs : List X) (i : ℕ) → BeginsAt cmp key q xs i → length xs ≤ i
+        → IsLeastRank key rank q xs None
     none_left [] i at le y (k, lt, is) of = absurd (omega arith)
     none_left (x ∷ xs) i at le y among of =
         let (j, lt', here) = at_place (x ∷ xs) y x among in

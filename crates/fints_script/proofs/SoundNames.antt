@@ -64,7 +64,8 @@ module _ (rows : List Data) (others : List NamedField) (each : fields_from rows 
       let is = is_field (take k rows) row.0 f.name (class_value f.class) row.2 in
       ((row.0, row.1, is.named, is.new), is.no_dialog)
 
-  pub fields_apart : (dialog : NamedField) → field_value dialog ≡ dialog_value → FieldsAreApart (dialog ∷ others)
+  pub fields_apart : (dialog : NamedField) → field_value dialog ≡ dialog_value
+      → FieldsAreApart (dialog ∷ others)
   fields_apart dialog built_in =
       AllPairs-cons (λ (f g : NamedField). f.name ≢ g.name) dialog others
       (λ k d within e. (field_named k (get_or others k d) (slice_get-get_or others k d within)).1 (sym e ∙ ap (λ (v : List ℕ × ClassValue). v.0) built_in))

@@ -246,7 +246,8 @@ signatures_kept signers ms places e =
 repeat_kept : (ms : Members) (n : ℕ) → may ms (codes "repeat") 1 (integer_in 1 99) ≡ Ok n → (1 ≤ n) × (n ≤ 99)
 repeat_kept ms n e = optional_ok 1 (integer_in 1 99) (λ m. (1 ≤ m) × (m ≤ 99)) (omega arith, omega arith) (integer_ok 1 99) (get_member (codes "repeat") ms) n e
 
-seal_kept : (there : Bool) (ms : Members) (sealed : Bool) → may ms (codes "sealed") false (sealed_in there) ≡ Ok sealed → sealed ≡ true
+seal_kept : (there : Bool) (ms : Members) (sealed : Bool)
+    → may ms (codes "sealed") false (sealed_in there) ≡ Ok sealed → sealed ≡ true
     → there ≡ true
 seal_kept there ms sealed e =
     optional_ok false (sealed_in there) (λ b. b ≡ true → there ≡ true) (λ set. absurd (false≢true set))

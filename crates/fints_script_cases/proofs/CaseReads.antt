@@ -64,7 +64,8 @@ grown v a (Reply answer) begun good next short = record {
 }
 
 -- a line is taken
-pub grown_by : (v : List NamedValue) (a : List (List ℕ)) (line : CaseLine) (text : List ℕ) (w : List NamedValue)
+pub grown_by : (v : List NamedValue) (a : List (List ℕ)) (line : CaseLine)
+    (text : List ℕ) (w : List NamedValue)
     (b : List (List ℕ)) → IsBegun v a → IsCaseLine line → IsNext v a line → text ≡ line_text line
     → length (text_of_lines (case_lines v a ++ text ∷ [])) ≤ MAX_TEXT → w ≡ values_with v line
     → b ≡ answers_with a line → IsBegun w b
@@ -115,7 +116,8 @@ least_case =
 begins_first : BeginsText AreCaseLines []
 begins_first = record { later = case_lines (dialog ∷ []) []; good = record { values = dialog ∷ []; answers = []; is = least_case; lines_are = refl } }
 
-pub begins : (v : List NamedValue) (a : List (List ℕ)) → IsBegun v a → BeginsText AreCaseLines (case_lines v a)
+pub begins : (v : List NamedValue) (a : List (List ℕ)) → IsBegun v a
+    → BeginsText AreCaseLines (case_lines v a)
 begins [] [] begun = record { later = field_text dialog ∷ []; good = record { values = dialog ∷ []; answers = []; is = least_case; lines_are = refl } }
 begins [] (x ∷ a) begun = let none : length (x ∷ a) ≡ 0 = begun.order refl in absurd (omega arith)
 begins (x ∷ v) a begun =

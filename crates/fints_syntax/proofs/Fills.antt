@@ -34,7 +34,8 @@ pub record Filled (all : List (List OwnedItem)) (tokens : List Token) (elements 
   pub closed : IsClosed tokens ⊎ ((tokens ≡ []) × (items ≡ []))
   pub values : elements ++ with_items (values_of (read_elements tokens)) items ≡ all
 
-pub all_rest : {A : Type 0} (P : A → Type 0) (xs : List A) → AllByRecursion P xs → AllByRecursion P (drop 1 xs)
+pub all_rest : {A : Type 0} (P : A → Type 0) (xs : List A) → AllByRecursion P xs
+    → AllByRecursion P (drop 1 xs)
 all_rest P [] h = tt
 all_rest P (x ∷ xs) h = h.1
 
@@ -50,7 +51,8 @@ values_behind es tokens f is =
     ∙ ap (λ x. values_of x) (elements_in-tokens (drop 1 es) (all_rest (λ (e : List Spelled). 0 < length e) es f.nonempty))
     ∙ values_rest es
 
-pub filled_start : (tokens : List Token) → IsRun tokens → Filled (values_of (read_elements tokens)) tokens [] []
+pub filled_start : (tokens : List Token) → IsRun tokens
+    → Filled (values_of (read_elements tokens)) tokens [] []
 filled_start [] h = record { closed = inr (refl, refl); values = none_read (values_of (read_elements [])) }
 filled_start (t ∷ ts) h =
     record { closed = inl (closed_run t ts h); values = none_read (values_of (read_elements (t ∷ ts))) }

@@ -20,14 +20,17 @@ rest_within Good text rest lines n read =
     omega (arith, ap length read.text_is, length-append (text_of_lines lines) rest)
 
 -- the lines up to the next one are as short as that ends early
-pub short_with : (Good : List (List ℕ) → Type 0) (text rest line more : List ℕ) (lines : List (List ℕ)) (n : ℕ)
+pub short_with : (Good : List (List ℕ) → Type 0) (text rest line more : List ℕ)
+    (lines : List (List ℕ)) (n : ℕ)
     → IsReadTo Good text rest lines n → rest ≡ line ++ 10 ∷ more
     → length text - length more ≡ length (text_of_lines (lines ++ line ∷ []))
 short_with Good text rest line more lines n read is =
     length_taken text more (lines ++ line ∷ []) (text_taken text rest line more lines read.text_is is)
 
-pub read_more : (Good : List (List ℕ) → Type 0) (text rest line more : List ℕ) (lines new : List (List ℕ)) (n : ℕ)
-    → IsReadTo Good text rest lines n → rest ≡ line ++ 10 ∷ more → new ≡ lines ++ line ∷ [] → BeginsText Good new
+pub read_more : (Good : List (List ℕ) → Type 0) (text rest line more : List ℕ)
+    (lines new : List (List ℕ)) (n : ℕ)
+    → IsReadTo Good text rest lines n → rest ≡ line ++ 10 ∷ more
+    → new ≡ lines ++ line ∷ [] → BeginsText Good new
     → IsReadTo Good text more new (n + 1)
 read_more Good text rest line more lines new n read is same begins = record {
   begins = begins;
@@ -53,7 +56,8 @@ module _ (Good : List (List ℕ) → Type 0) (texts : AreTexts Good) (text : Lis
   few_lines rest lines n read = omega (arith, read.number, lines_long lines, begun_short lines read.begins)
 
   -- a text that begins otherwise
-  pub stops_at_front : (front : List ℕ) (lines : List (List ℕ)) → IsHeaded Good front lines → BeginsText Good lines
+  pub stops_at_front : (front : List ℕ) (lines : List (List ℕ))
+      → IsHeaded Good front lines → BeginsText Good lines
       → ((rest : List ℕ) → text ≢ front ++ rest) → IsFirstBadLineOf Good text 1
   stops_at_front front lines headed begins none =
       refused_at Good without text text [] 1 (record { later = lines ++ begins.later; good = begins.good }) refl refl

@@ -10,13 +10,15 @@ use Rattle.fints_cli_texts.specs.Fault.{dialogue_fault_of}
 use Rattle.fints_cli_drafts.specs.Drafts.{IsDraftRefusal}
 use Rattle.fints_cli_drafts.proofs.drafting.draft_read.Goals as goal
 
-exit_refused : {T : Type 0} (r : Result T Fault) (e : Fault) (P : Fault → Type 0) → IsErrAnd r (λ f. f ≡ e) → P e
+exit_refused : {T : Type 0} (r : Result T Fault) (e : Fault) (P : Fault → Type 0)
+    → IsErrAnd r (λ f. f ≡ e) → P e
     → IfErr r P
 exit_refused (Ok v) e P is p = tt
 exit_refused (Err f) e P is p = subst P (sym is) p
 
 -- what refuses a dialogue behind a good order table refuses its draft
-dialogue_refused : (text dialogue : List ℕ) (table : List OrderRow) (f : DialogueFault) → DenotesTable text table
+dialogue_refused : (text dialogue : List ℕ) (table : List OrderRow) (f : DialogueFault)
+    → DenotesTable text table
     → IsMemoryOrRefusal (IsDialogueFault dialogue) f → IsDraftRefusal text dialogue (dialogue_fault_of f)
 dialogue_refused text dialogue table dialogues.Memory h r = tt
 dialogue_refused text dialogue table dialogues.NoMessage h (inl e) = absurd cc

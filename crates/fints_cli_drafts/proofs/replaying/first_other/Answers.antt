@@ -7,7 +7,8 @@ use Rattle.fints_cli_drafts.specs.Drafts.{AreSentAgain, IsSentAgain}
 use Rattle.fints_cli_drafts.proofs.replaying.first_other.Goals as goal
 
 -- the next message is sent again too
-one_more : (exchanges : List Exchange) (sent : List Sent) (i : ℕ) (e : Exchange) (m : Sent) → i < length exchanges
+one_more : (exchanges : List Exchange) (sent : List Sent) (i : ℕ) (e : Exchange)
+    (m : Sent) → i < length exchanges
     → i < length sent → AreSentAgain (take i exchanges) (take i sent)
     → IsSentAgain (get_or exchanges i e).message.bytes.now (get_or sent i m).bytes
     → AreSentAgain (take (i + 1) exchanges) (take (i + 1) sent)

@@ -6,6 +6,7 @@ use Rattle.fints_cli_reports.proofs.explaining.write_cases.Given as goal
 abbrev pub invariant-loop-i : goal.invariant-loop-i
 invariant-loop-i l = record {
   way : IsWayTo l.report.plan.script.steps l.report.figures l.at l.way.items;
-  written : AreCasesWritten l.report.granted l.report.plan.script l.report.figures (take l.i l.report.findings)
+  written : AreCasesWritten l.report.granted l.report.plan.script l.report.figures
+      (take l.i l.report.findings)
       l.initial.text.items l.text.items;
 }
