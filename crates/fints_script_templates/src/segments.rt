@@ -46,7 +46,8 @@ fn version_at(table: &Table) -> Result<u16, FaultKind>
 }
 
 fn elements_at(alloc: Global, fields: &Fields, table: &Table) -> Result<TemplateElements, FaultKind>
-    ensures { Gives (λ e. e) result (may (table_view table.now) (codes "elements") [] (elements_in fields.now true)) }
+    ensures { Gives (λ e. e) result
+        (may (table_view table.now) (codes "elements") [] (elements_in fields.now true)) }
 {
     match document::member(table, "elements") {
         None => Ok(TemplateElements::new(alloc)),

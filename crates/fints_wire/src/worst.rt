@@ -183,7 +183,8 @@ fn frame_size(step: &Step, number: u32) -> u64
     requires templates { length step.now.templates ≤ 100 }
     ensures is { (script : ScriptValue)
         → result ≡ head_len (codes "HNHBK") HNHBK_NUMBER HNHBK_VERSION + 17 + number_len number
-        + (head_len (codes "HNHBS") (2 + length (templates_of script step.now)) HNHBS_VERSION + number_len number) }
+        + (head_len (codes "HNHBS") (2 + length (templates_of script step.now)) HNHBS_VERSION
+        + number_len number) }
     ensures small { result ≤ 200 }
 {
     let digits = digit_count(u64::from(number)) + 1;
