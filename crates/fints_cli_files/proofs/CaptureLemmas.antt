@@ -5,12 +5,12 @@ use Rattle.std.specs.Prelude.{IfOk, IfErr}
 use Rattle.std.proofs.lemmas.List.{append-nil}
 use Rattle.fints_params.specs.Captures.{IsParamsOf, IsParamFault, IsCodesOf, IsEitherFault, IsReadOf, IsBothReadOf}
 use Rattle.fints_params.specs.Faults.{IsMemoryOr}
-use Rattle.fints_params.specs.Laws.{PieceFaultIsParamFault}
 use Rattle.fints_params.specs.Parameters.{Rows}
 use Rattle.fints_params.specs.Pieces.{Received, IsReceived, IsNotReceived, TellsNothing, IsPieceFault}
 use Rattle.fints_params.specs.declared.both.ParamsAndCodes.{ParamsAndCodes}
 use Rattle.fints_params.specs.declared.fault.ParamFault.{ParamFault}
 use Rattle.fints_params.specs.declared.fault.ParamFault.TheVariants.{Memory}
+use Rattle.fints_params.proofs.Receiving.{param_fault_of}
 use Rattle.fints_cli_files.specs.Captures.{AreKept, FedReader, HoldsCapture, HasTaken, kept_after}
 
 -- ---- a piece more
@@ -68,14 +68,14 @@ with_piece old seen reader fault piece is goes bytes h =
 
 -- ---- the end
 
-pub read_fault : (law : PieceFaultIsParamFault) (reader : Received) (fault : Option ParamFault)
-    (f : ParamFault) → fault ≡ Some f → (bytes : List ℕ) → HasTaken bytes reader fault
-    → IsReadOf bytes (Err f)
-read_fault law reader None f is bytes h = absurd cc
-read_fault law reader (Some g) f is bytes (front, more, e, h) =
+-- a fault that was met refuses the bytes
+pub met_fault : (reader : Received) (fault : Option ParamFault) (f : ParamFault) → fault ≡ Some f
+    → (bytes : List ℕ) → HasTaken bytes reader fault → IsParamFault bytes f
+met_fault reader None f is bytes h = absurd cc
+met_fault reader (Some g) f is bytes (front, more, e, h) =
     let same : g ≡ f = cc in
     let piece : IsPieceFault front f = subst (IsPieceFault front) same h in
-    inr (subst (λ (xs : List ℕ). IsParamFault xs f) (sym e) (law front more f piece))
+    subst (λ (xs : List ℕ). IsParamFault xs f) (sym e) (param_fault_of front more f piece)
 
 pub read_end : (reader : Received) (read : Result Rows ParamFault)
     → IfOk read (λ rows. (reader.failed ≡ None) × IsParamsOf reader.bytes rows)
@@ -83,16 +83,6 @@ pub read_end : (reader : Received) (read : Result Rows ParamFault)
     → (bytes : List ℕ) → HasTaken bytes reader None → IsReadOf bytes read
 read_end reader (Ok rows) good bad bytes e = subst (λ (xs : List ℕ). IsParamsOf xs rows) (ap (λ (r : Received). r.bytes) e) good.1
 read_end reader (Err f) good bad bytes e = subst (λ (r : Received). TellsNothing IsParamFault r.failed r f) e bad
-
--- the same where the codes of feedback are read too
-
-pub both_fault : (law : PieceFaultIsParamFault) (reader : Received) (fault : Option ParamFault)
-    (f : ParamFault) → fault ≡ Some f → (bytes : List ℕ) → HasTaken bytes reader fault
-    → IsBothReadOf bytes (Err f)
-both_fault law reader fault f is bytes h = elim (read_fault law reader fault f is bytes h) [
-  | inl m ↦ inl m
-  | inr p ↦ inr (inl p)
-]
 
 pub both_end : (reader : Received) (read : Result ParamsAndCodes ParamFault)
     → IfOk read (λ it. (reader.failed ≡ None) × IsParamsOf reader.bytes it.params)

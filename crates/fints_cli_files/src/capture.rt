@@ -1,5 +1,6 @@
 //! A capture that is read while its file comes.
 ghost use Rattle.std.specs.Prelude.{◌≡◌, ℕ, List, [], OnOk};
+ghost use Rattle.std.proofs.Common.{inl, inr};
 ghost use Rattle.fints_params.specs.Captures.{IsReadOf, IsBothReadOf};
 ghost use Rattle.fints_cli_files.specs.Captures.{AreKept, HoldsCapture, kept_after};
 
@@ -28,6 +29,43 @@ impl Model for Capture {
         record { reader = c.reader; fault = c.fault; keeps = c.keeps; kept = c.bytes.items } };
 }
 
+/// What is asked of a capture at its end: its parameters, or these and the codes of its feedback.
+pub trait ToldAtEnd {
+    ghost use Rattle.std.specs.Prelude.{ℕ, List, None, Err, Result};
+    ghost use Rattle.fints_params.specs.Captures.{IsParamFault};
+    ghost use Rattle.fints_params.specs.declared.fault.ParamFault.{ParamFault};
+    ghost use Rattle.fints_cli_files.specs.Captures.{HasTaken};
+
+    /// What is answered of these bytes.
+    ghost answers: { List ℕ → Result Self ParamFault → Type 0 };
+
+    /// What the reader tells of what it took.
+    fn told(reader: ParamReader) -> Result<Self, ParamFault>
+        ensures { (bytes : List ℕ) → HasTaken bytes reader None → answers bytes result };
+
+    ghost refused: { (bytes : List ℕ) (f : ParamFault) → IsParamFault bytes f → answers bytes (Err f) };
+}
+
+impl ToldAtEnd for Params {
+    ghost answers = { IsReadOf };
+
+    fn told(reader: ParamReader) -> Result<Params, ParamFault> {
+        reader.finish()
+    }
+
+    ghost refused = { λ bytes f h. inr h };
+}
+
+impl ToldAtEnd for ParamsAndCodes {
+    ghost answers = { IsBothReadOf };
+
+    fn told(reader: ParamReader) -> Result<ParamsAndCodes, ParamFault> {
+        reader.finish_with_codes()
+    }
+
+    ghost refused = { λ bytes f h. inr (inl h) };
+}
+
 /// What a whole capture gave, and its bytes, where they were kept.
 #[derive(Drop)]
 pub struct ReadCapture<T> {
@@ -49,9 +87,9 @@ impl Capture {
         }
     }
 
-    /// The parameters of the capture, which ends here, or its first refusal.
-    pub fn end(self) -> ReadCapture<Params>
-        ensures read { (bytes : List ℕ) → HoldsCapture bytes self → IsReadOf bytes result.told }
+    /// What is told of the capture, which ends here, or its first refusal.
+    pub fn end<T: ToldAtEnd + Drop>(self) -> ReadCapture<T>
+        ensures read { (bytes : List ℕ) → HoldsCapture bytes self → T.answers bytes result.told }
         ensures kept { (bytes : List ℕ) → HoldsCapture bytes self
             → AreKept self.keeps bytes result.bytes.items }
     {
@@ -67,32 +105,7 @@ impl Capture {
                 bytes,
             },
             None => ReadCapture {
-                told: reader.finish(),
-                bytes,
-            },
-        }
-    }
-
-    /// The parameters of the capture, which ends here, and the codes of its feedback, or its first
-    /// refusal.
-    pub fn end_with_codes(self) -> ReadCapture<ParamsAndCodes>
-        ensures read { (bytes : List ℕ) → HoldsCapture bytes self → IsBothReadOf bytes result.told }
-        ensures kept { (bytes : List ℕ) → HoldsCapture bytes self
-            → AreKept self.keeps bytes result.bytes.items }
-    {
-        let Capture {
-            reader,
-            fault,
-            bytes,
-            ..
-        } = self;
-        match fault {
-            Some(fault) => ReadCapture {
-                told: Err(fault),
-                bytes,
-            },
-            None => ReadCapture {
-                told: reader.finish_with_codes(),
+                told: T::told(reader),
                 bytes,
             },
         }

@@ -6,6 +6,6 @@ mod capture;
 mod reading;
 mod streams;
 
-pub use capture::{Capture, ReadCapture};
+pub use capture::{Capture, ReadCapture, ToldAtEnd};
 pub use reading::{LoadFault, MAX_CALLS, PieceTaker, load, load_into};
 pub use streams::{Files, Out, ReadFault, WriteFault};
