@@ -240,9 +240,9 @@ pub fn load_all<F: Files>(
     ensures unasked { IfErr result (λ r. HintsIfAsked hints r) }
 {
     let shown = load_capture(alloc, files, paths.shown, hints)?;
-    let shown_told: ReadCapture<ParamsAndCodes> = shown.end();
+    let shown_read: ReadCapture<ParamsAndCodes> = shown.end();
     let capture = load_capture(alloc, files, paths.params, hints)?;
-    let told: ReadCapture<Params> = capture.end();
+    let read: ReadCapture<Params> = capture.end();
     let orders = load_option(alloc, files, "orders", paths.orders, MAX_TEXT, hints)?;
     let script = load_option(alloc, files, "script", paths.script, MAX_TEXT, hints)?;
     let case = load_option(alloc, files, "case", paths.case, MAX_TEXT, hints)?;
@@ -252,8 +252,8 @@ pub fn load_all<F: Files>(
     let message = load_option(alloc, files, "message", paths.message, MAX_CAPTURE, hints)?;
     let dialogue = load_option(alloc, files, "dialogue", paths.dialogue, MAX_CAPTURE, hints)?;
     let contents = Contents {
-        shown: shown_told,
-        capture: told.bytes,
+        shown: shown_read,
+        capture: read.bytes,
         orders,
         script,
         case,
@@ -264,7 +264,7 @@ pub fn load_all<F: Files>(
         dialogue,
     };
     Ok(Loaded {
-        params: told.told,
+        params: read.told,
         contents,
     })
 }
