@@ -107,12 +107,6 @@ IsRunRefusal orders script case only f = IsPlanRefusal orders script f
 
 -- ---- of private contracts and proofs alone
 
--- want of memory, or that no message has the number
-abbrev pub IsUnsentRefusal : List Sent → ℕ → Fault → Type 0
-IsUnsentRefusal sent number Memory = Unit {0}
-IsUnsentRefusal sent number (NoMessage n) = (n ≡ number) × IsUnsent sent number
-IsUnsentRefusal sent number _ = ⊥
-
 -- want of memory, or a number that was asked for and isn't reached
 abbrev pub IsAdmittedRefusal : ScriptValue → List NamedValue → List (List ℕ) → Option ℕ → Fault → Type 0
 IsAdmittedRefusal script values answers only Memory = Unit {0}

@@ -1,4 +1,4 @@
-//! Parameters of a capture that comes in pieces.
+//! Parameters and feedback of a capture that comes in pieces.
 ghost use Rattle.std.specs.Prelude.{◌≡◌, ℕ, None, Some, OnOk, IfOk, IfErr};
 ghost use Rattle.fints_params.specs.Captures.{IsParamsOf, IsCodesOf, IsParamFault, IsEitherFault};
 ghost use Rattle.fints_params.specs.Parameters.{fault_after};
@@ -14,9 +14,10 @@ use fints_syntax::StreamBuffer;
 use std::alloc::Global;
 use std::marker::Model;
 
-/// What reads a capture as its pieces come; a contract sees what it keeps. A segment is read when
-/// its last byte has come, and only once. The bytes are kept, so that after want of memory the
-/// reader is as before; what was read of them is read once more then.
+/// What reads a capture as its pieces come: its parameters, and beside them the codes of its
+/// feedback. A contract sees what it keeps. A segment is read when its last byte has come, and only
+/// once. The bytes are kept, so that after want of memory the reader is as before; what was read of
+/// them is read once more then.
 #[derive(Drop)]
 pub struct ParamReader {
     buffer: StreamBuffer,

@@ -13,9 +13,6 @@ use Rattle.std.proofs.lemmas.Map.Text.{is_eq-slice_cmp}
 use Rattle.std.proofs.lemmas.Slice.Eq.{bytes_eq-Decides}
 use Rattle.fints_script_fields.specs.NameSets.{HoldsNames}
 
-pub no_names : (set : BTreeSet (List ℕ)) → set.keys ≡ [] → HoldsNames [] set
-no_names set none name = ap (λ (ks : List (List ℕ)). list_any (λ k. is_eq (slice_cmp nat_cmp name k)) ks) none
-
 cond_or : (b o : Bool) → cond b true o ≡ (o || (b || false))
 cond_or true true = refl
 cond_or true false = refl
