@@ -4,7 +4,6 @@ use Rattle.std.specs.Option.{is_some}
 use Rattle.std.specs.Prelude.{IfOk, IfErr}
 use Rattle.std.proofs.lemmas.List.{append-nil}
 use Rattle.fints_params.specs.Captures.{IsParamsOf, IsParamFault, IsCodesOf, IsEitherFault, IsReadOf, IsBothReadOf}
-use Rattle.fints_params.specs.Faults.{IsMemoryOr}
 use Rattle.fints_params.specs.Parameters.{Rows}
 use Rattle.fints_params.specs.Pieces.{Received, IsReceived, IsNotReceived, TellsNothing, IsPieceFault}
 use Rattle.fints_params.specs.declared.both.ParamsAndCodes.{ParamsAndCodes}
