@@ -15,6 +15,16 @@ use fints_syntax::{Bytes, Kind, Memory, OwnedItem, write_item};
 use itoa::Buffer;
 use std::alloc::Global;
 
+// The bytes of a row's line, in round numbers.
+const LINE: usize = 64;
+
+// Room for the lines of all rows, so that the text isn't copied while it grows.
+fn room_for(params: &Params) -> usize {
+    let orders = params.orders().len().saturating_add(params.pins().len());
+    let accounts = params.tans().len().saturating_add(params.accounts().len());
+    orders.saturating_add(accounts).saturating_mul(LINE)
+}
+
 /// The lines of a capture's parameters and of its feedback, by what was read of it. The capture itself
 /// need not be there any more.
 pub fn show_read(alloc: Global, read: &Result<ParamsAndCodes, ParamFault>) -> Result<Vec<u8>, Fault>
@@ -28,7 +38,7 @@ pub fn show_read(alloc: Global, read: &Result<ParamsAndCodes, ParamFault>) -> Re
         Ok(told) => told,
         Err(fault) => return Err(Fault::from(*fault)),
     };
-    let mut text = Vec::new(alloc);
+    let mut text = Vec::with_capacity(alloc, room_for(&told.params))?;
     write_params(alloc, &mut text, &told.params)?;
     write_codes(&mut text, told.codes.as_slice())?;
     Ok(text)

@@ -14,7 +14,7 @@ pub returns-clause-shown : goal.returns-clause-shown
 returns-clause-shown c =
     let told = c.in-Ok.told in
     let codes = c.as_slice.result.now in
-    let rows = c.in_ok-write_params.ensures ∙ ap (λ xs. xs ++ rows_text told.params) c.new-text.ensures.items in
+    let rows = c.in_ok-write_params.ensures ∙ ap (λ xs. xs ++ rows_text told.params) c.in_ok-text.ensures.items in
     λ capture read.
     let both = subst (IsBothReadOf capture) c.in-Ok.is read in
     record {
