@@ -1,7 +1,8 @@
 -- Digits, and the characters of a kind, stand for themselves.
-use Rattle.std.proofs.Common.{◌≡◌, ◌≢◌, ℕ, ◌^◌, ◌<◌, ◌≤◌, true, false, leb, ◌&&◌, List, [], ◌∷◌, length, refl, ap, ◌∙◌, sym, subst, arith, inl, inr, Some, None}
+use Rattle.std.proofs.Common.{◌≡◌, ◌≢◌, ℕ, ◌^◌, ◌<◌, ◌≤◌, true, false, leb, ◌&&◌, List, [], ◌∷◌, length, refl, ap, ◌∙◌, sym, subst, arith, inl, inr, Option, Some, None}
+use Rattle.std.specs.Prelude.{IsSome}
 use Rattle.std.specs.Char.{is_ascii_digit, digit_value}
-use Rattle.std.specs.List.{AllByRecursion}
+use Rattle.std.specs.List.{AllByRecursion, list_all}
 use Rattle.std.specs.Str.{all_ascii_digits}
 use Rattle.std.specs.Str.Parse.{AllDigits, digits_value}
 use Rattle.std.proofs.lemmas.Bool.{cases_Bool, and_parts, leb-true}
@@ -9,7 +10,8 @@ use Rattle.std.proofs.lemmas.Bool.Decides.{nat_tests}
 use Rattle.std.proofs.lemmas.List.Elements.{recursion_from_All}
 use Rattle.std.proofs.lemmas.Int.Digits.{digits_value-lt}
 use Rattle.std.proofs.Math.Nat.{pow-le-pow_right}
-use Rattle.fints_syntax_kinds.specs.Kind.{IsKindByte, IsKindText, kind_from}
+use Rattle.fints_syntax_kinds.specs.Kind.{IsKindText, kind_from}
+use Rattle.fints_syntax_kinds.specs.KindLaws.{is_kind_byte, spelled_kind}
 use Rattle.fints_syntax_segments.specs.Number.{number_in}
 use Rattle.fints_syntax_segments.specs.Spelling.{TextUnit, text_bytes, text_value}
 use Rattle.fints_syntax.specs.Items.{HasNoEscape}
@@ -35,16 +37,12 @@ number_unescaped least most n bs h =
       | inr e ↦ let none : number_in least most bs ≡ None = rw e refl in absurd (let x = sym none ∙ h in cc)
     ]
 
-kind_byte_unescaped : (b : ℕ) → IsKindByte b → b ≢ 63
-kind_byte_unescaped b h e = absurd (omega arith)
-
-kind_bytes_unescaped : (bs : List ℕ) → AllByRecursion IsKindByte bs → HasNoEscape bs
-kind_bytes_unescaped [] h = tt
-kind_bytes_unescaped (b ∷ bs) h = (kind_byte_unescaped b h.0, kind_bytes_unescaped bs h.1)
-
 -- nor has the text of a kind
-kind_unescaped : (bs : List ℕ) → IsKindText bs → HasNoEscape bs
-kind_unescaped bs h = kind_bytes_unescaped bs (recursion_from_All IsKindByte bs h.2)
+kind_bytes_unescaped : (bs : List ℕ) → list_all is_kind_byte bs ≡ true → HasNoEscape bs
+kind_bytes_unescaped [] h = tt
+kind_bytes_unescaped (b ∷ bs) h =
+    let p = and_parts (is_kind_byte b) (list_all is_kind_byte bs) h in
+    (λ e. absurd (let f : is_kind_byte b ≡ false = rw e refl in cc), kind_bytes_unescaped bs p.1)
 
 -- so both are the values of the text
 pub number_value : (least most n : ℕ) (us : List TextUnit) (bs : List ℕ) → bs ≡ text_bytes us
@@ -53,10 +51,11 @@ number_value least most n us bs e h =
     let none : HasNoEscape (text_bytes us) = subst HasNoEscape e (number_unescaped least most n bs (sym h)) in
     h ∙ ap (number_in least most) (e ∙ no_escape_value us none)
 
-pub kind_value : (k : List ℕ) (us : List TextUnit) (bs : List ℕ) → bs ≡ text_bytes us → IsKindText bs
-    → Some k ≡ kind_from bs → Some k ≡ kind_from (text_value us)
-kind_value k us bs e kind h =
-    let none : HasNoEscape (text_bytes us) = subst HasNoEscape e (kind_unescaped bs kind) in
+pub kind_value : (k : List ℕ) (us : List TextUnit) (bs : List ℕ) → bs ≡ text_bytes us → Some k ≡ kind_from bs
+    → Some k ≡ kind_from (text_value us)
+kind_value k us bs e h =
+    let kind : IsKindText bs = subst (λ (o : Option (List ℕ)). IsSome o) h refl in
+    let none : HasNoEscape (text_bytes us) = subst HasNoEscape e (kind_bytes_unescaped bs (spelled_kind bs kind).each) in
     h ∙ ap kind_from (e ∙ no_escape_value us none)
 
 passing : (bs : List ℕ) → all_ascii_digits bs ≡ true → AllDigits 10 bs

@@ -10,6 +10,7 @@ use Rattle.fints_syntax_segments.specs.Spelling.{Spelled, text, binary, escaped,
 use Rattle.fints_syntax_segments.specs.Segment.{tokens_bytes, element_tokens, segment_tokens, segment_bytes, item_value, element_head, IsSegment}
 use Rattle.fints_syntax_segments.specs.Spelling.{item_of}
 use Rattle.fints_syntax_kinds.specs.Kind.{kind_from}
+use Rattle.fints_syntax_kinds.specs.KindLaws.{is_kind_byte, spelled_kind}
 use Rattle.fints_syntax_segments.specs.Head.{head_with}
 use Rattle.fints_syntax.specs.Faults.{KindAt, BeginsWithSegment, window_of}
 use Rattle.fints_syntax.specs.Capture.{IsBreak, IsClean, Piece, piece_bytes, IsPiece, IsCapture, FaultsAt, IsCaptureFault, CaptureFaultAt}
@@ -39,20 +40,15 @@ then_some : {A B : Type 0} (f : A → Option B) (o : Option A) → IsSome (optio
 then_some f None h = absurd cc
 then_some f (Some x) h = refl
 
-kind_test : (test : Bool) (bytes : List ℕ) → IsSome (cond test (Some bytes) None) → test ≡ true
-kind_test true bytes h = refl
-kind_test false bytes h = absurd cc
-
-no_break_letter : (b : ℕ) → (is_ascii_uppercase b || is_ascii_digit b) ≡ true → IsBreak b → ⊥
+no_break_letter : (b : ℕ) → is_kind_byte b ≡ true → IsBreak b → ⊥
 no_break_letter b h e = elim e [ inl q ↦ grind (arith, nat_tests) | inr q ↦ grind (arith, nat_tests) ]
 
 -- an identifier has a first byte, which is no line break
 kind_begins : (bytes : List ℕ) → IsSome (kind_from bytes) → Begins bytes
 kind_begins [] h = absurd cc
 kind_begins (b ∷ bs) h =
-    let test = kind_test _ (b ∷ bs) h in
-    let all = (and_parts _ _ (and_parts _ _ test).0).0 in
-    record { first = b; more = bs; text = refl; no_break = no_break_letter b (and_parts (is_ascii_uppercase b || is_ascii_digit b) _ all).0 }
+    let all = (spelled_kind (b ∷ bs) h).each in
+    record { first = b; more = bs; text = refl; no_break = no_break_letter b (and_parts (is_kind_byte b) _ all).0 }
 
 head_with_id : (i n v r : List ℕ) → IsSome (head_with i n v r) → IsSome (kind_from i)
 head_with_id i n v r h = then_some _ (kind_from i) h

@@ -6,7 +6,8 @@ ghost use Rattle.std.specs.Cmp.Rules.{comparing, hashing};
 ghost use Rattle.std.specs.Ordering.{nat_cmp};
 ghost use Rattle.std.specs.Hash as fed;
 ghost use Rattle.std.specs.Str.{bytes_eq};
-ghost use Rattle.fints_syntax_kinds.specs.Kind.{IsKindText, IsKindByte, kind_from, is_frame_kind};
+ghost use Rattle.fints_syntax_kinds.specs.Kind.{kind_from, is_frame_kind};
+ghost use Rattle.fints_syntax_kinds.specs.KindLaws.{is_kind_byte};
 
 use std::cmp::Ordering;
 use std::fmt;
@@ -85,13 +86,13 @@ impl Hash for Kind {
 }
 
 fn is_kind_byte(b: u8) -> bool
-    ensures { IsTrue result ↔ IsKindByte b }
+    ensures { result ≡ is_kind_byte b }
 {
     b.is_ascii_uppercase() || b.is_ascii_digit()
 }
 
 fn padded_kind(text: &[u8]) -> Option<Kind>
-    ensures { SomeIff result (IsKindText text.now) text.now }
+    ensures { result ≡ kind_from text.now }
 {
     if text.is_empty() || text.len() > 6 {
         return None;
@@ -133,7 +134,6 @@ impl fmt::Display for Kind {
 impl Kind {
     /// The identifier that the bytes spell, if they do.
     pub fn parse(text: &[u8]) -> Option<Kind>
-        ensures kind { SomeIff result (IsKindText text.now) text.now }
         ensures value { result ≡ kind_from text.now }
     {
         padded_kind(text)

@@ -3,5 +3,5 @@ use Rattle.fints_syntax.proofs.head.kind_in.Goals as goal
 
 pub returns : goal.returns
 returns c =
-    let found = c.in-Some.ensures in
-    rw c.in-Text.is (kind_value c.in-Some.kind c.in-Text.raw c.as_bytes.result.now c.as_bytes.ensures found.kind.0 found.value)
+    rw c.in-Text.is
+    (kind_value c.in-Some.kind c.in-Text.raw c.as_bytes.result.now c.as_bytes.ensures c.in-Some.ensures.value)

@@ -1,8 +1,8 @@
-use Rattle.std.proofs.Common.{◌≡◌, ◌∙◌, ◌+◌, ◌-◌, ◌<◌, ℕ, List, [], ◌∷◌, ◌++◌, length, take, drop, get_or, ap, sym, arith, rules}
+use Rattle.std.proofs.Common.{◌≡◌, ◌∙◌, ◌+◌, ◌-◌, ◌<◌, ℕ, List, [], ◌∷◌, ◌++◌, length, drop, get_or, ap, sym, arith}
 use Rattle.std.proofs.Math.ListN.{set, replicate}
 use Rattle.std.proofs.lemmas.List.{length-set, take_more, take_more_set, drop-set-lt, drop-drop, drop-replicate}
-use Rattle.std.proofs.lemmas.List.Elements.{All-more}
-use Rattle.fints_syntax_kinds.specs.Kind.{IsKindByte}
+use Rattle.std.proofs.lemmas.List.Folds.{list_all_more}
+use Rattle.fints_syntax_kinds.specs.KindLaws.{is_kind_byte}
 use Rattle.fints_syntax_kinds.proofs.kind.padded_kind.Goals as goal
 
 -- one byte more is as in the text, and behind it zeros are left
@@ -23,5 +23,6 @@ loop-i-preserved c =
       take_more_set bs i (get_or t i 0) inside
           ∙ ap (λ (ys : List ℕ). ys ++ get_or t i 0 ∷ []) c.loop-i.invariant.1 ∙ sym (take_more t i 0 short),
       rest_of bs i (get_or t i 0) c.loop-i.invariant.2,
-      All-more IsKindByte t i 0 short c.loop-i.invariant.3 (search rules),
+      list_all_more is_kind_byte t i 0 short
+          ∙ rw c.loop-i.invariant.3 (sym c.is_kind_byte.ensures ∙ c.if-not-is_kind_byte.false),
     )
