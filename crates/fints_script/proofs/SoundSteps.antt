@@ -1,6 +1,6 @@
 -- What the steps of a read script keep.
-use Rattle.std.proofs.Common.{◌≡◌, ℕ, ◌+◌, ◌<◌, ◌≤◌, Bool, true, false, ◌&&◌, ◌||◌, not, cond, codes, List, [], ◌∷◌, length, map, take, nat_lt, All, Some, None, Ok, refl, ap, subst, ◌∙◌, sym, inl, inr, arith}
-use Rattle.std.specs.Prelude.{nat_le, ok_or, is_some}
+use Rattle.std.proofs.Common.{◌≡◌, ℕ, ◌+◌, ◌<◌, ◌≤◌, Bool, true, false, ◌&&◌, ◌||◌, not, cond, codes, List, [], ◌∷◌, length, map, take, nat_lt, All, Option, Some, None, Ok, refl, ap, subst, ◌∙◌, sym, inl, inr, arith}
+use Rattle.std.specs.Prelude.{IsSome, ok_or, is_some}
 use Rattle.std.specs.List.{list_any, list_all}
 use Rattle.std.specs.Str.{bytes_eq}
 use Rattle.std.specs.Char.{is_ascii_digit, is_ascii_uppercase}
@@ -11,7 +11,8 @@ use Rattle.std.proofs.lemmas.Slice.Eq.{bytes_eq-Decides}
 use Rattle.std.proofs.lemmas.List.Elements.{All-cons, All-nil}
 use Rattle.std.proofs.lemmas.List.Sums.{AllPass-from_list_all}
 use Rattle.toml.specs.Data.{Data, string, table, Members, get_member}
-use Rattle.fints_syntax.specs.Kind.{IsKindText, IsKindByte, kind_from, frame_kinds, is_frame_kind}
+use Rattle.fints_syntax.specs.Kind.{IsKindText, kind_from, frame_kinds, is_frame_kind}
+use Rattle.fints_syntax.specs.KindLaws.{kind_from-kind}
 use Rattle.fints_syntax_toml.specs.Document.{only_keys}
 use Rattle.fints_syntax_toml.specs.Entries.{is_called, name_in}
 use Rattle.fints_script_cases.specs.declared.answers.Branch.{Branch}
@@ -38,28 +39,11 @@ use Rattle.fints_script.proofs.SoundTargets.{branch_onward, target_onward}
 
 -- ---- kinds
 
-kind_byte : (b : ℕ) → (is_ascii_uppercase b || is_ascii_digit b) ≡ true → IsKindByte b
-kind_byte b h = grind (arith, nat_tests)
-
 -- an identifier is its own text
 kind_text : (text kind : List ℕ) → kind_from text ≡ Some kind → (text ≡ kind) × IsKindText text
-kind_text text kind h = elim (cases_Bool (list_all (λ b. is_ascii_uppercase b || is_ascii_digit b) text && nat_le 1 (length text) && nat_le (length text) 6)) [
-  | inl e ↦
-      let outer = and_parts (list_all (λ b. is_ascii_uppercase b || is_ascii_digit b) text && nat_le 1 (length text)) (nat_le (length text) 6) e in
-      let inner = and_parts (list_all (λ b. is_ascii_uppercase b || is_ascii_digit b) text) (nat_le 1 (length text)) outer.0 in
-      let low : nat_le 1 (length text) ≡ true = inner.1 in
-      let high : nat_le (length text) 6 ≡ true = outer.1 in (
-        same_Some text kind (ap (λ b. cond b (Some text) None) (sym e) ∙ h),
-        (
-          grind (arith, nat_tests),
-          grind (arith, nat_tests),
-          λ k d lt.
-              kind_byte _
-              (AllPass-from_list_all (λ b. is_ascii_uppercase b || is_ascii_digit b) text inner.0 k d lt),
-        ),
-      )
-  | inr e ↦ absurd (none-some kind (ap (λ b. cond b (Some text) None) (sym e) ∙ h))
-]
+kind_text text kind h =
+    let is : IsKindText text = subst (λ (o : Option (List ℕ)). IsSome o) (sym h) refl in
+    (same_Some text kind (sym (kind_from-kind text is) ∙ h), is)
 
 no_frame_of : (text : List ℕ) (frames : List (List ℕ)) → list_any (bytes_eq text) frames ≡ false
     → All (λ frame. frame ≡ text → ⊥) frames

@@ -6,8 +6,10 @@ use Rattle.std.proofs.lemmas.Bool.{cases_Bool}
 use Rattle.std.proofs.lemmas.Bool.Decides.{nat_tests}
 use Rattle.std.proofs.lemmas.Fmt.{length-decimal-le}
 use Rattle.std.proofs.lemmas.List.{drop_all, drop_more, length-append}
-use Rattle.std.proofs.lemmas.List.Elements.{All-append, All-from_recursion, All-head, All-map, All-tail}
-use Rattle.fints_syntax.specs.Kind.{IsKindByte, IsKindText}
+use Rattle.std.proofs.lemmas.List.Sums.{AllPass-from_list_all}
+use Rattle.std.proofs.lemmas.List.Elements.{All-append, All-head, All-map, All-tail}
+use Rattle.fints_syntax.specs.Kind.{IsKindText}
+use Rattle.fints_syntax.specs.KindLaws.{is_kind_byte, spelled_kind}
 use Rattle.fints_syntax_segments.specs.Spelling.{written}
 use Rattle.fints_syntax_segments.specs.declared.item.OwnedItem.{OwnedItem}
 use Rattle.fints_script_fields.specs.ClassLaws.{text_len_marks}
@@ -72,64 +74,26 @@ elements_light sizes figures es h =
 
 -- ---- heads of segments
 
-kind_bare : (b : ℕ) → IsKindByte b → IsBare b
+kind_bare : (b : ℕ) → is_kind_byte b ≡ true → IsBare b
 kind_bare b h = is_bare b (grind (arith, nat_tests))
 
+-- an identifier is written as its characters
+kind_text : (kind : List ℕ) → IsKindText kind → text_len kind ≡ length kind
+kind_text kind k =
+    bare_len kind (λ i d lt. kind_bare _ (AllPass-from_list_all is_kind_byte kind (spelled_kind kind k).each i d lt))
+
 pub kind_len : (kind : List ℕ) → IsKindText kind → text_len kind ≤ 6
-kind_len kind k = let a : text_len kind ≡ length kind = bare_len kind (λ i d lt. kind_bare _ (k.2 i d lt)) in omega (arith, k.1)
+kind_len kind k = omega (arith, kind_text kind k, (spelled_kind kind k).most)
 
 head_light : (kind : List ℕ) (n version : ℕ) → IsKindText kind → n < 1000 → version < 1000
     → head_len kind n version ≤ 15
 head_light kind n version k small v =
-    let a : text_len kind ≡ length kind = bare_len kind (λ i d lt. kind_bare _ (k.2 i d lt)) in
+    let a = kind_len kind k in
     let b = number_text-len n (omega arith) in
     let c = number_text-len version (omega arith) in
     let d = length-decimal-le 3 n (omega arith) (omega arith) (omega arith) in
     let e = length-decimal-le 3 version (omega arith) (omega arith) (omega arith) in
-    omega (arith, k.1)
-
-letters : (a b c d e : ℕ) → IsKindByte a → IsKindByte b → IsKindByte c → IsKindByte d → IsKindByte e
-    → IsKindText (a ∷ b ∷ c ∷ d ∷ e ∷ [])
-letters a b c d e ha hb hc hd he = (omega arith, omega arith, All-from_recursion IsKindByte (a ∷ b ∷ c ∷ d ∷ e ∷ []) (ha, (hb, (hc, (hd, (he, tt))))))
-
-capital : (b : ℕ) → 65 ≤ b → b ≤ 90 → IsKindByte b
-capital b low high = inl (low, high)
-
-HNSHK_kind : IsKindText (codes "HNSHK")
-HNSHK_kind =
-    letters 72 78 83 72 75 (capital 72 (omega arith) (omega arith)) (capital 78 (omega arith) (omega arith))
-    (capital 83 (omega arith) (omega arith)) (capital 72 (omega arith) (omega arith))
-    (capital 75 (omega arith) (omega arith))
-
-HNSHA_kind : IsKindText (codes "HNSHA")
-HNSHA_kind =
-    letters 72 78 83 72 65 (capital 72 (omega arith) (omega arith)) (capital 78 (omega arith) (omega arith))
-    (capital 83 (omega arith) (omega arith)) (capital 72 (omega arith) (omega arith))
-    (capital 65 (omega arith) (omega arith))
-
-pub HNHBK_kind : IsKindText (codes "HNHBK")
-HNHBK_kind =
-    letters 72 78 72 66 75 (capital 72 (omega arith) (omega arith)) (capital 78 (omega arith) (omega arith))
-    (capital 72 (omega arith) (omega arith)) (capital 66 (omega arith) (omega arith))
-    (capital 75 (omega arith) (omega arith))
-
-pub HNHBS_kind : IsKindText (codes "HNHBS")
-HNHBS_kind =
-    letters 72 78 72 66 83 (capital 72 (omega arith) (omega arith)) (capital 78 (omega arith) (omega arith))
-    (capital 72 (omega arith) (omega arith)) (capital 66 (omega arith) (omega arith))
-    (capital 83 (omega arith) (omega arith))
-
-pub HNVSK_kind : IsKindText (codes "HNVSK")
-HNVSK_kind =
-    letters 72 78 86 83 75 (capital 72 (omega arith) (omega arith)) (capital 78 (omega arith) (omega arith))
-    (capital 86 (omega arith) (omega arith)) (capital 83 (omega arith) (omega arith))
-    (capital 75 (omega arith) (omega arith))
-
-pub HNVSD_kind : IsKindText (codes "HNVSD")
-HNVSD_kind =
-    letters 72 78 86 83 68 (capital 72 (omega arith) (omega arith)) (capital 78 (omega arith) (omega arith))
-    (capital 86 (omega arith) (omega arith)) (capital 83 (omega arith) (omega arith))
-    (capital 68 (omega arith) (omega arith))
+    omega arith
 
 -- ---- segments
 
@@ -194,9 +158,9 @@ module _ (script : ScriptValue) (step : StepValue) (figures : List Figures) (h :
   pub small_templates : All IsSmall (templates_of script step)
   small_templates =
       let heads : All IsSmall (map head_template (signers_of script step)) =
-      All-map IsSmall head_template (signers_of script step) (λ i d lt. (HNSHK_kind, omega arith)) in
+      All-map IsSmall head_template (signers_of script step) (λ i d lt. (refl, omega arith)) in
       let ends : All IsSmall (map end_template (signers_of script step)) =
-      All-map IsSmall end_template (signers_of script step) (λ i d lt. (HNSHA_kind, omega arith)) in
+      All-map IsSmall end_template (signers_of script step) (λ i d lt. (refl, omega arith)) in
       let body : All IsSmall step.templates = λ i d lt. let t = h.templates i d lt in (t.kind, omega (arith, t.most)) in
       All-append IsSmall (map head_template (signers_of script step))
       (step.templates ++ map end_template (signers_of script step)) heads
@@ -210,13 +174,13 @@ middle_light : (sizes : Sizes) (figures : List Figures) (sealed : Bool)
     inner ≤ inner + seal_weight figures sealed seal + 40
 middle_light sizes figures false seal inner w small = omega arith
 middle_light sizes figures true None inner w small =
-    let a = head_light (codes "HNVSK") 998 3 HNVSK_kind (omega arith) (omega arith) in
-    let b = head_light (codes "HNVSD") 999 1 HNVSD_kind (omega arith) (omega arith) in
+    let a = head_light (codes "HNVSK") 998 3 refl (omega arith) (omega arith) in
+    let b = head_light (codes "HNVSD") 999 1 refl (omega arith) (omega arith) in
     let c = length-decimal-le 7 inner (omega arith) small (omega arith) in
     omega arith
 middle_light sizes figures true (Some seal) inner w small =
-    let a = head_light (codes "HNVSK") 998 3 HNVSK_kind (omega arith) (omega arith) in
-    let b = head_light (codes "HNVSD") 999 1 HNVSD_kind (omega arith) (omega arith) in
+    let a = head_light (codes "HNVSK") 998 3 refl (omega arith) (omega arith) in
+    let b = head_light (codes "HNVSD") 999 1 refl (omega arith) (omega arith) in
     let c = length-decimal-le 7 inner (omega arith) small (omega arith) in
     let d = elements_light sizes figures seal w in
     omega arith
@@ -247,8 +211,8 @@ step_short script step sizes number h w small =
     let inner = segments_light sizes figures 2 (templates_of script step) w (small_templates script step figures h) (omega arith) in
     let mid = middle_light sizes figures step.sealed script.seal (segments_len sizes 2 (templates_of script step)) w (omega arith) in
     let k = length-decimal-le 5 number (omega arith) (omega arith) (omega arith) in
-    let first = head_light (codes "HNHBK") 1 3 HNHBK_kind (omega arith) (omega arith) in
-    let last = head_light (codes "HNHBS") (2 + length (templates_of script step)) 1 HNHBS_kind (omega arith) (omega arith) in
+    let first = head_light (codes "HNHBK") 1 3 refl (omega arith) (omega arith) in
+    let last = head_light (codes "HNHBS") (2 + length (templates_of script step)) 1 refl (omega arith) (omega arith) in
     let dialog = w.dialog in
     let seal = seal_light sizes figures script.seal w in
     record {

@@ -1,5 +1,5 @@
 -- The segments of a message can be written.
-use Rattle.std.proofs.Common.{ℕ, ◌+◌, ◌^◌, ◌<◌, ◌≤◌, Bool, true, false, codes, List, [], ◌∷◌, ◌++◌, length, map, arith}
+use Rattle.std.proofs.Common.{ℕ, ◌+◌, ◌^◌, ◌<◌, ◌≤◌, Bool, true, false, codes, List, [], ◌∷◌, ◌++◌, length, map, refl, arith}
 use Rattle.std.specs.List.{All, AllByRecursion}
 use Rattle.std.specs.Option.{IfSome}
 use Rattle.std.specs.Fmt.{decimal}
@@ -27,7 +27,7 @@ use Rattle.fints_wire.proofs.Counting.{inner-len}
 use Rattle.fints_wire.proofs.FilledLemmas.{dialog_some, sealed_filled, templates_filled}
 use Rattle.fints_wire.proofs.ItemCounts.{dialog_few, sealed_few, templates_few, tokens-len}
 use Rattle.fints_wire.specs.declared.building.TheConstants.{MAX_NUMBER}
-use Rattle.fints_wire.proofs.Weighing.{HNHBK_kind, HNHBS_kind, HNVSD_kind, HNVSK_kind, IsShort, IsSmall, choice_light, message_light, small_templates, step_short}
+use Rattle.fints_wire.proofs.Weighing.{IsShort, IsSmall, choice_light, message_light, small_templates, step_short}
 use Rattle.fints_syntax_segments.specs.declared.limits.TheConstants.{MAX_BYTES}
 
 abbrev HasItem : List OwnedItem → Type 0
@@ -103,20 +103,20 @@ first_proper size dialog number some few =
     make_proper (codes "HNHBK") 1 3
     ((Text (twelve_digits size) ∷ []) ∷ (Text (codes "300") ∷ []) ∷ dialog ∷ (Text (decimal number) ∷ [])
     ∷ [])
-    HNHBK_kind (omega arith) (omega arith) (omega arith, (omega arith, (some, (omega arith, tt))))
+    refl (omega arith) (omega arith) (omega arith, (omega arith, (some, (omega arith, tt))))
     (omega arith)
 
 last_proper : (n number : ℕ) → n < 1000 → IsProper (last_segment n number)
-last_proper n number small = make_proper (codes "HNHBS") n 1 ((Text (decimal number) ∷ []) ∷ []) HNHBS_kind small (omega arith) (omega arith, tt) (omega arith)
+last_proper n number small = make_proper (codes "HNHBS") n 1 ((Text (decimal number) ∷ []) ∷ []) refl small (omega arith) (omega arith, tt) (omega arith)
 
 middle_proper : (sealed : Bool) (seal : List (List OwnedItem)) (inner : List OwnedSegment)
     → AllByRecursion (λ e. 0 < length e) seal → total length seal ≤ 10000 → AllByRecursion IsProper inner
     → AllByRecursion IsProper (middle_segments sealed seal inner)
 middle_proper false seal inner some few h = h
 middle_proper true seal inner some few h =
-    let key = make_proper (codes "HNVSK") 998 3 seal HNVSK_kind (omega arith) (omega arith) some few in
+    let key = make_proper (codes "HNVSK") 998 3 seal refl (omega arith) (omega arith) some few in
     let data' =
-    make_proper (codes "HNVSD") 999 1 ((Bin (segments_text inner) ∷ []) ∷ []) HNVSD_kind (omega arith)
+    make_proper (codes "HNVSD") 999 1 ((Bin (segments_text inner) ∷ []) ∷ []) refl (omega arith)
     (omega arith) (omega arith, tt) (omega arith) in
     (key, (data', tt))
 
