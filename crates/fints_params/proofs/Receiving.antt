@@ -1,5 +1,5 @@
 -- What a reader of parameters keeps of a stream that comes in pieces.
-use Rattle.std.proofs.Common.{◌≡◌, ℕ, ◌+◌, ◌-◌, ◌≤◌, List, [], ◌∷◌, ◌++◌, length, drop, refl, ap, ◌∙◌, sym, subst, arith, inl, inr, append_assoc, Option, Some, None}
+use Rattle.std.proofs.Common.{◌≡◌, ℕ, ◌+◌, ◌-◌, ◌≤◌, List, [], ◌∷◌, ◌++◌, length, drop, refl, ap, ◌∙◌, sym, subst, arith, inl, inr, append_assoc, Option, Some, None, Result, Ok, Err, IfErr}
 use Rattle.std.specs.List.{flat_map}
 use Rattle.std.proofs.lemmas.List.{append-nil, length-append, length-drop}
 use Rattle.fints_syntax.specs.Buffered.{Buffered, IsFed, IsUnfed, IsUnread, rest_at, rest_with}
@@ -127,11 +127,18 @@ not_received rule Good old piece f new before a start h u = not_received_by rule
 -- ---- the end
 
 -- why nothing is told of the bytes
-pub unfinished : (Refuses : List ℕ → ParamFault → Type 0) (r : Received) (bytes : List ℕ) (f : ParamFault)
+nothing_told : (Refuses : List ℕ → ParamFault → Type 0) (r : Received) (bytes : List ℕ) (f : ParamFault)
     → r.failed ≡ None → bytes ≡ r.bytes → IsMemoryOr (Refuses bytes) f → TellsNothing Refuses r.failed r f
-unfinished Refuses r bytes f none e h =
+nothing_told Refuses r bytes f none e h =
     subst (λ (o : Option ℕ). TellsNothing Refuses o r f) (sym none)
     (subst (λ (xs : List ℕ). IsMemoryOr (Refuses xs) f) e h)
+
+-- a refusal of what is told of them
+pub unfinished : {T : Type 0} (Refuses : List ℕ → ParamFault → Type 0) (r : Received) (bytes : List ℕ)
+    (told : Result T ParamFault) → r.failed ≡ None → bytes ≡ r.bytes → IfErr told (IsMemoryOr (Refuses bytes))
+    → IfErr told (TellsNothing Refuses r.failed r)
+unfinished Refuses r bytes (Ok _) none e h = tt
+unfinished Refuses r bytes (Err f) none e h = nothing_told Refuses r bytes f none e h
 
 -- ---- all pieces
 

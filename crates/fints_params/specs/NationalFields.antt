@@ -1,5 +1,5 @@
 -- The fields of a `National` are its four texts one after the other, and where three of them end.
-use Rattle.std.specs.Prelude.{ℕ, ◌-◌, ◌≤◌, length, take, drop}
+use Rattle.std.specs.Prelude.{◌-◌, ◌≤◌, length, take, drop}
 use Rattle.fints_params.specs.Nationals.{NationalValue}
 use Rattle.fints_params.specs.declared.national.National.TheInside.{Inside}
 

@@ -1,15 +1,9 @@
 use Rattle.std.proofs.Common.{◌∙◌}
-use Rattle.std.proofs.lemmas.Result.{IfErr-weaker}
 use Rattle.fints_params.specs.Captures.{IsParamFault}
-use Rattle.fints_params.specs.Faults.{IsMemoryOr}
-use Rattle.fints_params.specs.Pieces.{TellsNothing}
 use Rattle.fints_params.proofs.Receiving.{unfinished}
 use Rattle.fints_params.proofs.reader.ParamReader.finish.Goals as goal
 
 pub returns-clause-refused : goal.returns-clause-refused
 returns-clause-refused c =
-    let read = c.args.self in
-    let bytes = c.as_bytes.result.now in
     let all = c.in_ok-progress.ensures.bytes in
-    IfErr-weaker c.params_in.result (IsMemoryOr (IsParamFault bytes)) (TellsNothing IsParamFault read.failed read)
-    (λ f h. unfinished IsParamFault read bytes f all.0 (c.as_bytes.ensures ∙ all.1) h) c.params_in.ensures.refused
+    unfinished IsParamFault c.args.self c.as_bytes.result.now c.params_in.result all.0 (c.as_bytes.ensures ∙ all.1) c.params_in.ensures.refused
