@@ -77,24 +77,16 @@ record Peak (script : ScriptValue) (n : ℕ) (step : StepValue) (f : Reached) : 
 
 module _ (granted : Granted) (script : ScriptValue) (lines : List Line) (sound : IsSound script) (figures : AreFigures script (line_figures lines)) where
   -- a visit's message with the longest values
+  abbrev longest_message : Visit → StepValue → Sent
+  longest_message v step = record { step = v.step; number = v.number; bytes = message_bytes script step v.number (longest_choice script.fields) }
+
   sent_at : (v : Visit) (step : StepValue) → numbered script.steps v.step ≡ Some step → Arrives script.steps v
-      → IsSentOf script v.step
-      (record {
-        step = v.step;
-        number = v.number;
-        bytes = message_bytes script step v.number (longest_choice script.fields);
-      })
+      → IsSentOf script v.step (longest_message v step)
   sent_at v step at arrives = record {
     values = longest_choice script.fields;
     admitted = extremes_are_admitted_longest script.fields;
     sends =
-        (last_messages script (longest_choice script.fields)
-        (record {
-          step = v.step;
-          number = v.number;
-          bytes = message_bytes script step v.number (longest_choice script.fields);
-        })
-        sound).1
+        (last_messages script (longest_choice script.fields) (longest_message v step) sound).1
         (v, arrives, record { at = step; of = at; is = refl });
     of = refl;
   }
@@ -112,28 +104,13 @@ module _ (granted : Granted) (script : ScriptValue) (lines : List Line) (sound :
       by : (step : StepValue) → numbered script.steps v.step ≡ Some step → (cell : Option Reached)
           → numbered (line_figures lines) v.step ≡ Some cell → FiguresAre script v.step cell
           → Kept script lines v
-      by step at None there are =
-          absurd
-          (are
-          (record {
-            step = v.step;
-            number = v.number;
-            bytes = message_bytes script step v.number (longest_choice script.fields);
-          })
-          (sent_at v step at arrives))
+      by step at None there are = absurd (are (longest_message v step) (sent_at v step at arrives))
       by step at (Some f) there are = record {
         step = step;
         at = at;
         figures = f;
         named = figures_named lines v.step f there;
-        number =
-            (are.most
-            (record {
-              step = v.step;
-              number = v.number;
-              bytes = message_bytes script step v.number (longest_choice script.fields);
-            })
-            (sent_at v step at arrives)).0;
+        number = (are.most (longest_message v step) (sent_at v step at arrives)).0;
       }
 
   -- where runs enter a step, its number is enough
@@ -236,21 +213,8 @@ module _ (granted : Granted) (script : ScriptValue) (lines : List Line) (sound :
         let number = p.number in
         let here : numbered script.steps p.visit.step ≡ Some step = ap (numbered script.steps) p.here ∙ at in
         let worst =
-        p.most
-        (record {
-          step = p.visit.step;
-          number = p.visit.number;
-          bytes = message_bytes script step p.visit.number (longest_choice script.fields);
-        })
-        (subst
-        (λ (k : ℕ).
-        IsSentOf script k
-        (record {
-          step = p.visit.step;
-          number = p.visit.number;
-          bytes = message_bytes script step p.visit.number (longest_choice script.fields);
-        }))
-        p.here (sent_at p.visit step here p.arrives)) in
+        p.most (longest_message p.visit step)
+        (subst (λ (k : ℕ). IsSentOf script k (longest_message p.visit step)) p.here (sent_at p.visit step here p.arrives)) in
         let is : length (message_bytes script step p.visit.number p.sent.values) ≡ f.size = sym (ap length p.bytes) ∙ p.size in
         let whole = view_is.size in
         record {

@@ -15,8 +15,8 @@ use Rattle.fints_check_findings.proofs.at_step.AtStep.breaks.Goals as goal
 pub step_breaks-requires : goal.step_breaks-requires
 step_breaks-requires c = c.self.invariant.facts_are.counts
 
-pub returns-clause-some : goal.returns-clause-some
-returns-clause-some c t =
+pub returns : goal.returns
+returns c =
     let inside = c.self.inside in
     let d = decided inside.permissions.now inside.plan.now.script inside.n inside.step.now inside.facts c.self.invariant c.args.rule in
     let b =
@@ -26,24 +26,15 @@ returns-clause-some c t =
     ↔ StepBreaks inside.permissions.now fields inside.step.now
     (message_for inside.facts (wants_tan c.args.rule)) c.args.rule c.args.place)
     c.fields.ensures c.step_breaks.ensures in
-    subst (λ (v : AtStepValue). CanBreak v.granted v.script v.step c.args.rule c.args.place) c.self.view_is (d.some c.args.place (b.0 t))
-
-pub returns-clause-each : goal.returns-clause-each
-returns-clause-each c =
-    let inside = c.self.inside in
-    let d = decided inside.permissions.now inside.plan.now.script inside.n inside.step.now inside.facts c.self.invariant c.args.rule in
-    let b =
-    subst
-    (λ (fields : List NamedField).
-    IsTrue c.step_breaks.result
-    ↔ StepBreaks inside.permissions.now fields inside.step.now
-    (message_for inside.facts (wants_tan c.args.rule)) c.args.rule c.args.place)
-    c.fields.ensures c.step_breaks.ensures in
-    subst
-    (λ (v : AtStepValue).
-    (number : ℕ) (values : List NamedValue) → Admits v.script.fields values
-    → BreaksByContent v.granted (message_view v.script v.step number values) c.args.rule
-    c.args.place
-    → IsTrue c.step_breaks.result)
-    c.self.view_is
-    (λ number values admits h. b.1 (d.each number values c.args.place admits h))
+    record {
+      some = λ t. subst (λ (v : AtStepValue). CanBreak v.granted v.script v.step c.args.rule c.args.place) c.self.view_is (d.some c.args.place (b.0 t));
+      each =
+          subst
+          (λ (v : AtStepValue).
+          (number : ℕ) (values : List NamedValue) → Admits v.script.fields values
+          → BreaksByContent v.granted (message_view v.script v.step number values) c.args.rule
+          c.args.place
+          → IsTrue c.step_breaks.result)
+          c.self.view_is
+          (λ number values admits h. b.1 (d.each number values c.args.place admits h));
+    }

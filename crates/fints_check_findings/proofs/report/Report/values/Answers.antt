@@ -17,34 +17,8 @@ case_values-requires-clause-to c =
     subst (λ (r : ReportValue). c.finding-finding.result.step ≤ length r.plan.script.steps) (sym c.self.view_is)
     c.finding-finding.ensures.to
 
-pub returns-clause-shown : goal.returns-clause-shown
-returns-clause-shown c =
-    let inside = c.self.inside in
-    let script = inside.plan.now.script in
-    let granted = inside.permissions.now in
-    let found = c.finding-finding.result in
-    let report : ReportValue =
-    record {
-      plan = inside.plan.now;
-      granted = granted;
-      figures = inside.figures.items;
-      findings = inside.findings.items;
-      visits = inside.numbers.visits;
-    } in
-    let is = subst (λ (r : ReportValue). IsFindingOf r c.args.i found) (sym c.self.view_is)
-    c.finding-finding.ensures in
-    let closed = subst (IsClosed script) (sym c.self.invariant.0) c.keeps.ensures.closed in
-    subst (λ (r : ReportValue). IfOk c.case_values.result (AreValuesOf r c.args.i)) c.self.view_is
-    (if_ok (AreCaseValues granted script found) (AreValuesOf report c.args.i) c.case_values.result
-    (λ values are f answers at leads.
-    let same = same_Some found f (sym is.at ∙ at) in
-    subst (λ (x : Finding). Shows granted script x values answers) same
-    (case_shown report (sound_of c.keeps.ensures.read) closed c.self.invariant.2 found values answers is.real are
-    (subst (λ (x : Finding). LeadsFor script inside.figures.items x answers) (sym same) leads)))
-    c.case_values.ensures)
-
-pub returns-clause-chosen : goal.returns-clause-chosen
-returns-clause-chosen c =
+pub returns : goal.returns
+returns c =
     let inside = c.self.inside in
     let script = inside.plan.now.script in
     let granted = inside.permissions.now in
@@ -60,13 +34,26 @@ returns-clause-chosen c =
     } in
     let is = subst (λ (r : ReportValue). IsFindingOf r c.args.i found) (sym c.self.view_is)
     c.finding-finding.ensures in
+    let sound = sound_of c.keeps.ensures.read in
+    let closed = subst (IsClosed script) (sym c.self.invariant.0) c.keeps.ensures.closed in
     let step = numbered_at script.steps found.step is.from is.to in
-    let number = real_has script granted (sound_of c.keeps.ensures.read) numbers c.self.invariant.4 found
-    is.real in
+    let number = real_has script granted sound numbers c.self.invariant.4 found is.real in
     let peak = greatest_at script.steps numbers found.step number.0 c.self.invariant.4 number.1 in
-    subst (λ (r : ReportValue). IfOk c.case_values.result (AreChosenOf r c.args.i)) c.self.view_is
-    (if_ok (AreCaseValues granted script found) (AreChosenOf report c.args.i) c.case_values.result
-    (λ values are f at.
-    subst (λ (x : Finding). AreChosenFor granted script x values) (same_Some found f (sym is.at ∙ at))
-    (are.chosen number.0 step.0 step.1 peak is.real))
-    c.case_values.ensures)
+    record {
+      shown =
+          subst (λ (r : ReportValue). IfOk c.case_values.result (AreValuesOf r c.args.i)) c.self.view_is
+          (if_ok (AreCaseValues granted script found) (AreValuesOf report c.args.i) c.case_values.result
+          (λ values are f answers at leads.
+          let same = same_Some found f (sym is.at ∙ at) in
+          subst (λ (x : Finding). Shows granted script x values answers) same
+          (case_shown report sound closed c.self.invariant.2 found values answers is.real are
+          (subst (λ (x : Finding). LeadsFor script inside.figures.items x answers) (sym same) leads)))
+          c.case_values.ensures);
+      chosen =
+          subst (λ (r : ReportValue). IfOk c.case_values.result (AreChosenOf r c.args.i)) c.self.view_is
+          (if_ok (AreCaseValues granted script found) (AreChosenOf report c.args.i) c.case_values.result
+          (λ values are f at.
+          subst (λ (x : Finding). AreChosenFor granted script x values) (same_Some found f (sym is.at ∙ at))
+          (are.chosen number.0 step.0 step.1 peak is.real))
+          c.case_values.ensures);
+    }

@@ -8,6 +8,19 @@ use Rattle.fints_example_outbox.specs.Outboxes.{IsNextIn, IsPermittedAfter, Outb
 use Rattle.fints_example_outbox.proofs.Judging.{is_message, nothing_broken, nothing_broken_after, permitted, permitted_after}
 use Rattle.fints_example_outbox.proofs.outbox.Outbox.broken.Goals as goal
 
+-- the last of what was sent, where its list is lent
+last_is : (sent lent : List SentValue) (o : Option SentValue) → lent ≡ sent → o ≡ slice_get lent (length lent - 1)
+    → slice_get sent (length sent - 1) ≡ o
+last_is sent lent o same found = ap (λ (xs : List SentValue). slice_get xs (length xs - 1)) (sym same) ∙ sym found
+
+-- what is next is permitted behind the last message and the answer to it
+next_permitted : (s : OutboxValue) (before : SentValue) (message earlier codes : List ℕ)
+    → slice_get s.sent (length s.sent - 1) ≡ Some before → earlier ≡ before.message → codes ≡ s.codes
+    → IsNextIn s message → PermittedAfter s.granted earlier codes message
+next_permitted s before message earlier codes last was said next =
+    let one : PermittedAfter s.granted before.message s.codes message = subst (λ (o : Option SentValue). IsPermittedAfter s.granted o s.codes message) last next in
+    rw (was, said) one
+
 -- ---- behind the last message that was sent
 
 pub returns-in-Some-clause-permitted : goal.returns-in-Some-clause-permitted
@@ -15,9 +28,7 @@ returns-in-Some-clause-permitted c =
     let s = outbox_of c.self.inside in
     let message = c.args.message.now in
     let before = c.in-Some.before.now in
-    let last : slice_get s.sent (length s.sent - 1) ≡ Some before =
-    ap (λ (xs : List SentValue). slice_get xs (length xs - 1)) (sym c.deref.ensures.value)
-    ∙ sym c.in-Some.ensures.value in
+    let last = last_is s.sent _ (Some before) c.deref.ensures.value c.in-Some.ensures.value in
     subst (λ (v : OutboxValue). IfOk c.judge_after.result (λ broken. broken.items ≡ [] → IsNextIn v message)) c.self.view_is
     (IfOk-weaker c.judge_after.result
     (λ broken. IsJudgedAfter s.granted c.message.result.now c.as_slice.result.now message broken.items)
@@ -34,14 +45,8 @@ returns-in-Some-clause-broken c =
     let s = outbox_of c.self.inside in
     let message = c.args.message.now in
     let before = c.in-Some.before.now in
-    let last : slice_get s.sent (length s.sent - 1) ≡ Some before =
-    ap (λ (xs : List SentValue). slice_get xs (length xs - 1)) (sym c.deref.ensures.value)
-    ∙ sym c.in-Some.ensures.value in
-    let back : IsNextIn s message → PermittedAfter s.granted c.message.result.now c.as_slice.result.now message =
-    λ next.
-    let one = subst (λ (o : Option SentValue). IsPermittedAfter s.granted o s.codes message) last next in
-    let two = subst (λ (codes : List ℕ). PermittedAfter s.granted before.message codes message) (sym c.as_slice.ensures.value) one in
-    subst (λ (b : List ℕ). PermittedAfter s.granted b c.as_slice.result.now message) (sym c.message.ensures) two in
+    let last = last_is s.sent _ (Some before) c.deref.ensures.value c.in-Some.ensures.value in
+    let back = next_permitted s before message c.message.result.now c.as_slice.result.now last c.message.ensures c.as_slice.ensures.value in
     subst (λ (v : OutboxValue). IfOk c.judge_after.result (λ broken. IsNextIn v message → broken.items ≡ [])) c.self.view_is
     (IfOk-weaker c.judge_after.result
     (λ broken. IsJudgedAfter s.granted c.message.result.now c.as_slice.result.now message broken.items)
@@ -56,14 +61,8 @@ returns-in-Some-clause-memory_alone c =
     let s = outbox_of c.self.inside in
     let message = c.args.message.now in
     let before = c.in-Some.before.now in
-    let last : slice_get s.sent (length s.sent - 1) ≡ Some before =
-    ap (λ (xs : List SentValue). slice_get xs (length xs - 1)) (sym c.deref.ensures.value)
-    ∙ sym c.in-Some.ensures.value in
-    let back : IsNextIn s message → PermittedAfter s.granted c.message.result.now c.as_slice.result.now message =
-    λ next.
-    let one = subst (λ (o : Option SentValue). IsPermittedAfter s.granted o s.codes message) last next in
-    let two = subst (λ (codes : List ℕ). PermittedAfter s.granted before.message codes message) (sym c.as_slice.ensures.value) one in
-    subst (λ (b : List ℕ). PermittedAfter s.granted b c.as_slice.result.now message) (sym c.message.ensures) two in
+    let last = last_is s.sent _ (Some before) c.deref.ensures.value c.in-Some.ensures.value in
+    let back = next_permitted s before message c.message.result.now c.as_slice.result.now last c.message.ensures c.as_slice.ensures.value in
     let front = take (length s.sent - 1) s.sent in
     let was =
     is_message s.granted (slice_get front (length front - 1)) before.heard before.message
@@ -80,9 +79,7 @@ pub returns-in-None-clause-permitted : goal.returns-in-None-clause-permitted
 returns-in-None-clause-permitted c =
     let s = outbox_of c.self.inside in
     let message = c.args.message.now in
-    let last : slice_get s.sent (length s.sent - 1) ≡ None =
-    ap (λ (xs : List SentValue). slice_get xs (length xs - 1)) (sym c.deref.ensures.value)
-    ∙ sym c.in-None.ensures.value in
+    let last = last_is s.sent _ None c.deref.ensures.value c.in-None.ensures.value in
     subst (λ (v : OutboxValue). IfOk c.judge.result (λ broken. broken.items ≡ [] → IsNextIn v message)) c.self.view_is
     (IfOk-weaker c.judge.result (λ broken. IsJudged s.granted message broken.items) (λ broken. broken.items ≡ [] → IsNextIn s message)
     (λ broken h none.
@@ -94,9 +91,7 @@ pub returns-in-None-clause-broken : goal.returns-in-None-clause-broken
 returns-in-None-clause-broken c =
     let s = outbox_of c.self.inside in
     let message = c.args.message.now in
-    let last : slice_get s.sent (length s.sent - 1) ≡ None =
-    ap (λ (xs : List SentValue). slice_get xs (length xs - 1)) (sym c.deref.ensures.value)
-    ∙ sym c.in-None.ensures.value in
+    let last = last_is s.sent _ None c.deref.ensures.value c.in-None.ensures.value in
     subst (λ (v : OutboxValue). IfOk c.judge.result (λ broken. IsNextIn v message → broken.items ≡ [])) c.self.view_is
     (IfOk-weaker c.judge.result (λ broken. IsJudged s.granted message broken.items) (λ broken. IsNextIn s message → broken.items ≡ [])
     (λ broken h next.
@@ -108,9 +103,7 @@ pub returns-in-None-clause-memory_alone : goal.returns-in-None-clause-memory_alo
 returns-in-None-clause-memory_alone c =
     let s = outbox_of c.self.inside in
     let message = c.args.message.now in
-    let last : slice_get s.sent (length s.sent - 1) ≡ None =
-    ap (λ (xs : List SentValue). slice_get xs (length xs - 1)) (sym c.deref.ensures.value)
-    ∙ sym c.in-None.ensures.value in
+    let last = last_is s.sent _ None c.deref.ensures.value c.in-None.ensures.value in
     subst (λ (v : OutboxValue). IsNextIn v message → IfErr c.judge.result (λ f. f ≡ Memory)) c.self.view_is
     (λ next.
     let p = subst (λ (o : Option SentValue). IsPermittedAfter s.granted o s.codes message) last next in
