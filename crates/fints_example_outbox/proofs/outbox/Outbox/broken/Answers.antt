@@ -9,8 +9,8 @@ use Rattle.fints_example_outbox.proofs.Judging.{is_message, nothing_broken, noth
 use Rattle.fints_example_outbox.proofs.outbox.Outbox.broken.Goals as goal
 
 -- the last of what was sent, where its list is lent
-last_is : (sent lent : List SentValue) (o : Option SentValue) → lent ≡ sent → o ≡ slice_get lent (length lent - 1)
-    → slice_get sent (length sent - 1) ≡ o
+last_is : (sent lent : List SentValue) (o : Option SentValue) → lent ≡ sent
+    → o ≡ slice_get lent (length lent - 1) → slice_get sent (length sent - 1) ≡ o
 last_is sent lent o same found = ap (λ (xs : List SentValue). slice_get xs (length xs - 1)) (sym same) ∙ sym found
 
 -- what is next is permitted behind the last message and the answer to it
