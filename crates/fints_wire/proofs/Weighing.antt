@@ -80,7 +80,8 @@ kind_bare b h = is_bare b (grind (arith, nat_tests))
 -- an identifier is written as its characters
 kind_text : (kind : List ℕ) → IsKindText kind → text_len kind ≡ length kind
 kind_text kind k =
-    bare_len kind (λ i d lt. kind_bare _ (AllPass-from_list_all is_kind_byte kind (spelled_kind kind k).each i d lt))
+    bare_len kind
+    (λ i d lt. kind_bare (get_or kind i d) (AllPass-from_list_all is_kind_byte kind (spelled_kind kind k).each i d lt))
 
 pub kind_len : (kind : List ℕ) → IsKindText kind → text_len kind ≤ 6
 kind_len kind k = omega (arith, kind_text kind k, (spelled_kind kind k).most)
