@@ -6,6 +6,7 @@ tools/believe.py --apart   the spec files of which public contracts reach nothin
 tools/believe.py --doubles the names that stand for two things or more, of those that public contracts reach
 tools/believe.py NAME..    the same table for what these definitions alone reach, as Headline
 --bare                     with any of these: lines without the comments
+--words                    with any of these: the words of the definitions, which hang on no width, in place of lines
 
 A definition's lines are its signature, its equations and the comment above it. The contracts of laws
 and the files of laws are left out: what a law says is proved, so nobody need believe it.
@@ -177,10 +178,12 @@ def main():
         return
     lines, believed = collections.Counter(), collections.Counter()
     for key, it in definitions.items():
-        lines[it.crate] += it.lines
-        believed[it.crate] += it.lines * (key in reached)
+        size = len(it.text.split()) if "--words" in sys.argv else it.lines
+        lines[it.crate] += size
+        believed[it.crate] += size * (key in reached)
     by = f"these: {', '.join(names)}" if names else "public contracts"
-    print(f"| Crate | Lines of definitions | Reached by {by} |\n|---|---|---|")
+    what = "Words" if "--words" in sys.argv else "Lines"
+    print(f"| Crate | {what} of definitions | Reached by {by} |\n|---|---|---|")
     for crate in sorted(lines):
         print(f"| `{crate}` | {lines[crate]} | {believed[crate]} |")
     print(f"| all | {sum(lines.values())} | {sum(believed.values())} |")
