@@ -5,6 +5,7 @@ use Rattle.std.specs.List.{AllByRecursion, slice_get}
 use Rattle.std.proofs.lemmas.List.{length-append, map-append, take_all, take_more}
 use Rattle.std.proofs.lemmas.Option.{same_Some, slice_get-get_or}
 use Rattle.fints_rules.specs.Breaks.{Permitted}
+use Rattle.fints_rules.specs.declared.facts.MessageFacts.{MessageFacts}
 use Rattle.fints_rules.specs.declared.rule.Rule.{Rule}
 use Rattle.fints_rules.specs.declared.rule.Rule.TheVariants.{Release}
 use Rattle.fints_rules_permissions.specs.Permits.{Granted}
@@ -21,6 +22,7 @@ use Rattle.fints_wire.specs.declared.dialogue.Sent.{Sent}
 use Rattle.fints_check_findings.specs.Figures.{AreFigures, FiguresAre}
 use Rattle.fints_check_findings.specs.Findings.{BreaksBehind, EachIsPermitted, IsPermittedBehind, IsReal}
 use Rattle.fints_check_findings.specs.Searching.{IsGreatestAt}
+use Rattle.fints_check_findings.specs.StepFacts.{AreFactsAt, AreFactsOf}
 use Rattle.fints_check_findings.specs.declared.finding.Finding.{Finding}
 use Rattle.fints_check_findings.specs.declared.finding.Reached.{Reached}
 use Rattle.fints_check_findings.proofs.Reals.{itself, sends_last}
@@ -75,38 +77,42 @@ real_within granted script sound f real =
     let high = w.to in
     (omega arith, omega arith)
 
--- ---- figures, step by step
+-- ---- figures and facts, step by step
 
-pub record AreFiguresTo (script : ScriptValue) (n : ℕ) (figures : List (Option Reached)) : Type 0 where
-  pub long : length figures ≡ n
-  pub each : (k : ℕ) (cell : Option Reached) → numbered figures k ≡ Some cell → FiguresAre script k cell
+-- each of the first n steps has this of its own
+pub record AreTo {X : Type 0} (P : ℕ → X → Type 0) (n : ℕ) (xs : List X) : Type 0 where
+  pub long : length xs ≡ n
+  pub each : (k : ℕ) (x : X) → numbered xs k ≡ Some x → P k x
 
-pub figures_none : (script : ScriptValue) (figures : List (Option Reached)) → figures ≡ []
-    → AreFiguresTo script 0 figures
-figures_none script figures e = subst (AreFiguresTo script 0) (sym e) (record { long = refl; each = λ k cell h. absurd (none_there k cell h) })
-  where
-    none_there : (k : ℕ) (cell : Option Reached) → numbered [] k ≡ Some cell → ⊥
-    none_there zero cell h = cc
-    none_there (suc k) cell h = cc
+module _ {X : Type 0} (P : ℕ → X → Type 0) where
+  pub none_yet : (xs : List X) → xs ≡ [] → AreTo P 0 xs
+  none_yet xs e = subst (AreTo P 0) (sym e) (record { long = refl; each = λ k x h. absurd (none_there k x h) })
+    where
+      none_there : (k : ℕ) (x : X) → numbered [] k ≡ Some x → ⊥
+      none_there zero x h = cc
+      none_there (suc k) x h = cc
 
-pub figures_more : (script : ScriptValue) (n : ℕ) (figures new : List (Option Reached))
-    (cell : Option Reached) → new ≡ figures ++ cell ∷ [] → FiguresAre script (n + 1) cell
-    → AreFiguresTo script n figures → AreFiguresTo script (n + 1) new
-figures_more script n figures new cell e is a =
-    subst (AreFiguresTo script (n + 1)) (sym e) (record { long = omega (arith, a.long, length-append figures (cell ∷ [])); each = each })
-  where
-    each : (k : ℕ) (c : Option Reached) → numbered (figures ++ cell ∷ []) k ≡ Some c → FiguresAre script k c
-    each zero c h = absurd cc
-    each (suc k) c h = elim (slice_get_push_cases figures cell k c h) [
-      | inl old ↦ a.each (suc k) c old
-      | inr here ↦
-          let same : n + 1 ≡ suc k = omega (arith, here.0, a.long) in
-          subst (λ j. FiguresAre script j c) same (subst (FiguresAre script (n + 1)) here.1 is)
-    ]
+  pub one_more : (n : ℕ) (xs new : List X) (x : X) → new ≡ xs ++ x ∷ [] → P (n + 1) x → AreTo P n xs
+      → AreTo P (n + 1) new
+  one_more n xs new x e is a =
+      subst (AreTo P (n + 1)) (sym e) (record { long = omega (arith, a.long, length-append xs (x ∷ [])); each = each })
+    where
+      each : (k : ℕ) (y : X) → numbered (xs ++ x ∷ []) k ≡ Some y → P k y
+      each zero y h = absurd cc
+      each (suc k) y h = elim (slice_get_push_cases xs x k y h) [
+        | inl old ↦ a.each (suc k) y old
+        | inr here ↦
+            let same : n + 1 ≡ suc k = omega (arith, here.0, a.long) in
+            subst (λ j. P j y) same (subst (P (n + 1)) here.1 is)
+      ]
 
 pub figures_all : (script : ScriptValue) (n : ℕ) (figures : List (Option Reached)) → n ≡ length script.steps
-    → AreFiguresTo script n figures → AreFigures script figures
+    → AreTo (FiguresAre script) n figures → AreFigures script figures
 figures_all script n figures e a = record { long = a.long ∙ e; each = a.each }
+
+pub facts_all : (granted : Granted) (script : ScriptValue) (n : ℕ) (facts : List MessageFacts)
+    → n ≡ length script.steps → AreTo (AreFactsAt granted script) n facts → AreFactsOf granted script facts
+facts_all granted script n facts e a = record { long = a.long ∙ e; each = a.each }
 
 -- which steps have figures, one more
 pub reached_more : (figures new : List (Option Reached)) (cell : Option Reached) (numbers : List (Option ℕ))

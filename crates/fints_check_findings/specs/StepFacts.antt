@@ -10,6 +10,7 @@ use Rattle.fints_rules_permissions.specs.Permits.{Granted}
 use Rattle.fints_rules.specs.Rules.{MessageBreaks, SegmentBreaks}
 use Rattle.fints_rules.specs.declared.facts.MessageFacts.{MessageFacts}
 use Rattle.fints_rules.specs.declared.rule.Rule.{Rule}
+use Rattle.fints_script.specs.Numbered.{numbered}
 use Rattle.fints_script.specs.Plans.{Admits, IsClosedTemplate}
 use Rattle.fints_script.specs.Scripts.{ScriptValue}
 use Rattle.fints_script.specs.Sound.{IsSound, IsSoundStep}
@@ -43,6 +44,15 @@ pub record AreStepFacts (granted : Granted) (script : ScriptValue) (step : StepV
   pub least : AreMessageFacts granted script step false f.least
   pub most : AreMessageFacts granted script step true f.most
   pub counts : AreCounts step.templates f.counts
+
+-- those of the message of step n, with a TAN where no choice leaves it empty
+abbrev pub AreFactsAt : Granted → ScriptValue → ℕ → MessageFacts → Type 0
+AreFactsAt granted script n f = (step : StepValue) → numbered script.steps n ≡ Some step → AreMessageFacts granted script step false f
+
+-- those of all steps, in order
+pub record AreFactsOf (granted : Granted) (script : ScriptValue) (facts : List MessageFacts) : Type 0 where
+  pub long : length facts ≡ length script.steps
+  pub each : (n : ℕ) (f : MessageFacts) → numbered facts n ≡ Some f → AreFactsAt granted script n f
 
 -- those of which a rule is asked
 abbrev pub message_for : StepFacts → Bool → MessageFacts

@@ -1,6 +1,6 @@
 //! A step as the rules are asked of it, other than P2 and P3, for all admitted values and all
 //! numbers.
-ghost use Rattle.std.specs.Prelude.{◌≡◌, ◌↔◌, ◌≤◌, ◌+◌, ℕ, List, IsTrue, Some, length};
+ghost use Rattle.std.specs.Prelude.{◌≡◌, ◌↔◌, ◌≤◌, ◌+◌, ℕ, List, IsTrue, Some, false, length};
 ghost use Rattle.fints_script_cases.specs.declared.values.NamedValue.{NamedValue};
 ghost use Rattle.fints_rules.specs.Breaks.{BreaksByContent};
 ghost use Rattle.fints_script.specs.Numbered.{numbered};
@@ -8,10 +8,11 @@ ghost use Rattle.fints_script.specs.Plans.{Admits};
 ghost use Rattle.fints_script.specs.Sound.{IsSound, IsSoundStep};
 ghost use Rattle.fints_wire.specs.Views.{message_view};
 ghost use Rattle.fints_check_findings.specs.Breakable.{CanBreak, IsCleanStep, NeverBreaks};
+ghost use Rattle.fints_check_findings.specs.StepFacts.{AreMessageFacts};
 
 use crate::step_facts::{StepFacts, step_facts};
 use crate::templates::step_breaks;
-use fints_rules::{Permissions, Rule};
+use fints_rules::{MessageFacts, Permissions, Rule};
 use fints_script::{Plan, Step};
 use std::marker::Model;
 
@@ -84,6 +85,13 @@ impl<'a> AtStep<'a> {
         ensures { result ≡ self.now.n }
     {
         self.n
+    }
+
+    /// The facts of its message, with a TAN where no choice leaves it empty.
+    pub(crate) fn message_facts(&self) -> MessageFacts
+        ensures { AreMessageFacts self.now.granted self.now.script self.now.step false result }
+    {
+        self.facts.least
     }
 
     /// How many places its message has: the whole message, and the segments before those of the end.

@@ -8,6 +8,7 @@ ghost use Rattle.fints_check_findings.specs.Findings.{AreFindings, EachIsPermitt
 ghost use Rattle.fints_check_findings.specs.Releases.{LeadsUnreleased};
 ghost use Rattle.fints_check_findings.specs.Reports.{AreChosenOf, AreValuesOf, IsWayOf, ShowsFindingAt};
 ghost use Rattle.fints_check_findings.specs.Searching.{AreFiguresAt, IsFindingOf, IsGreatestAt};
+ghost use Rattle.fints_check_findings.specs.StepFacts.{AreFactsAt};
 ghost use Rattle.fints_check_findings.specs.declared.finding.Finding.{Finding as FindingValue};
 ghost use Rattle.fints_wire.specs.declared.building.TheConstants.{MAX_NUMBER};
 ghost use Rattle.fints_rules.specs.declared.rule.Rule.TheVariants.{Release};
@@ -18,7 +19,7 @@ use crate::finding::{Finding, Reached};
 use crate::releasing::{holder_of, holders, release_code, submitting};
 use crate::searching::SentStep;
 use fints_check_reach::{Numbers, greatest_numbers, longest_way, way_behind};
-use fints_rules::{Permissions, Rule};
+use fints_rules::{MessageFacts, Permissions, Rule};
 use fints_script::{Answer, Case, Plan, Values};
 use fints_syntax::Memory;
 use fints_wire::worst_size;
@@ -32,6 +33,8 @@ pub struct Report<'a> {
     plan: &'a Plan<'a>,
     figures: Vec<Option<Reached>>,
     findings: Vec<Finding>,
+    // Those of each step's message, with a TAN where no choice leaves it empty.
+    facts: Vec<MessageFacts>,
     numbers: Numbers,
     holders: Vec<Option<u16>>,
 }
@@ -44,6 +47,7 @@ impl<'a> Model for Report<'a> {
     ghost use Rattle.fints_check_findings.specs.Findings.{AreFindings};
     ghost use Rattle.fints_check_findings.specs.Releases.{AreHolders};
     ghost use Rattle.fints_check_findings.specs.Reports.{ReportValue};
+    ghost use Rattle.fints_check_findings.specs.StepFacts.{AreFactsOf};
 
     ghost Value = { ReportValue };
 
@@ -61,7 +65,8 @@ impl<'a> Model for Report<'a> {
         × (r.numbers.visits ≡ looked_at r.plan.now.script.steps (map is_some r.figures.items))
         × AreGreatest r.plan.now.script.steps r.numbers.greatest.items
         × AreSources r.plan.now.script.steps r.numbers.greatest.items r.numbers.sources.items
-        × AreHolders r.plan.now.script.steps r.numbers.greatest.items r.holders.items };
+        × AreHolders r.plan.now.script.steps r.numbers.greatest.items r.holders.items
+        × AreFactsOf r.permissions.now r.plan.now.script r.facts.items };
 }
 
 impl<'a> Report<'a> {
@@ -134,6 +139,15 @@ impl<'a> Report<'a> {
         self.findings[i]
     }
 
+    // The facts of a step's message, with a TAN where no choice leaves it empty; steps count from 1.
+    fn facts(&self, n: usize) -> MessageFacts
+        requires from { 1 ≤ n }
+        requires to { n ≤ length self.now.plan.script.steps }
+        ensures { AreFactsAt self.now.granted self.now.plan.script n result }
+    {
+        self.facts[n - 1]
+    }
+
     // Answers after which a run ends with a message of the finding's step that leaves an order
     // unreleased.
     fn unreleased_way(&self, alloc: Global, finding: Finding) -> Result<Vec<Answer>, Memory>
@@ -172,7 +186,8 @@ impl<'a> Report<'a> {
     {
         self.plan.keeps();
         let finding = self.finding(i);
-        case_values(alloc, self.permissions, self.plan, finding)
+        let facts = self.facts(finding.step as usize);
+        case_values(alloc, self.permissions, self.plan, facts, finding)
     }
 
     /// A run that a finding speaks of: its answers are those of `way`, and its values those of `values`.
@@ -229,12 +244,14 @@ pub fn check<'a>(
     let holders = holders(alloc, plan, marks.as_slice(), &numbers)?;
     let mut findings = Vec::new(alloc);
     let mut figures = Vec::with_capacity(alloc, count)?;
+    let mut facts = Vec::with_capacity(alloc, count)?;
     for i in 0..count {
+        let step = AtStep::new(permissions, plan, i + 1);
+        facts.push(step.message_facts())?;
         let cell = match numbers.greatest[i] {
             None => None,
             Some(number) => {
                 let reached = figures_at(plan, i + 1, number);
-                let step = AtStep::new(permissions, plan, i + 1);
                 SentStep::new(step, reached, holders[i].is_some()).search(&mut findings)?;
                 Some(reached)
             }
@@ -246,6 +263,7 @@ pub fn check<'a>(
         plan,
         figures,
         findings,
+        facts,
         numbers,
         holders,
     })

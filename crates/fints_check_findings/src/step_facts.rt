@@ -81,16 +81,18 @@ fn with_most_tans(
     most
 }
 
-/// The facts of a step's message of which the rule is asked. It takes no memory.
+/// The facts of a step's message of which the rule is asked, from those with a TAN where no choice leaves
+/// it empty.
 pub fn facts_asked(
     permissions: &Permissions<'_>,
     plan: &Plan<'_>,
     step: &Step,
+    least: MessageFacts,
     rule: Rule,
 ) -> MessageFacts
+    requires { AreMessageFacts permissions.now plan.now.script step.now false least }
     ensures { AreMessageFacts permissions.now plan.now.script step.now (wants_tan rule) result }
 {
-    let least = message_facts(permissions, plan, step);
     if wants_tan(rule) {
         with_most_tans(permissions, plan, step, least)
     } else {

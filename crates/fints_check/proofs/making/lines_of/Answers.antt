@@ -7,7 +7,8 @@ use Rattle.fints_script.specs.Plans.{PlanValue}
 use Rattle.fints_script.specs.Steps.{StepValue}
 use Rattle.fints_check.specs.Certificates.{line_figures, line_names, step_names}
 use Rattle.fints_check.specs.declared.certificate.Line.{Line}
-use Rattle.fints_check_findings.proofs.Checking.{figures_more}
+use Rattle.fints_check_findings.specs.Figures.{FiguresAre}
+use Rattle.fints_check_findings.proofs.Checking.{one_more}
 use Rattle.fints_check.proofs.Numbered.{names_more}
 use Rattle.fints_check.proofs.making.lines_of.Goals as goal
 
@@ -30,7 +31,7 @@ loop-i-preserved c =
           (names_more (λ (x : Line). x.name) (λ (s : StepValue). s.name) old steps i line
           c.step.result.now there c.name-name.ensures c.loop-i.invariant.names);
       figures =
-          figures_more script i (line_figures old) (line_figures c.push.new.self.items) c.reached.result
+          one_more (FiguresAre script) i (line_figures old) (line_figures c.push.new.self.items) c.reached.result
           (ap line_figures c.in_ok-push.ensures.items ∙ map-append (λ (x : Line). x.reached) old (line ∷ []))
           c.reached.ensures.greatest c.loop-i.invariant.figures;
       are_names =

@@ -71,6 +71,9 @@ returns-in-Release c =
     })
     c.values_of-in-Release.ensures
 
+pub facts_asked-asked-requires : goal.facts_asked-asked-requires
+facts_asked-asked-requires c = c.requires.facts c.step-step.result.now c.step-step.ensures.numbered
+
 pub returns-in_default : goal.returns-in_default
 returns-in_default c =
     let script = c.args.plan.now.script in
@@ -79,7 +82,7 @@ returns-in_default c =
     let f = c.args.finding in
     let choice = c.step_choice-choice.result in
     let here = c.step-step.result.now in
-    let facts = c.facts_asked-facts.result in
+    let facts = c.facts_asked-asked.result in
     let sort : c.chosen_sort.result ≡ chosen_sort (wants_tan f.rule) choice =
     c.chosen_sort.ensures ∙ ap (λ (most : Bool). chosen_sort most choice) c.wants_tan.ensures in
     let is_choice : IfOk c.values_of-in_default.result (IsChoice (wants_tan f.rule) script.fields choice) =
@@ -89,7 +92,7 @@ returns-in_default c =
     c.values_of-in_default.ensures) in
     let decides =
     facts_decide script granted c.args.plan.now.orders f.step here c.step-step.ensures.read c.step-step.ensures.numbered
-    c.keeps.ensures.closed (sym c.requires.orders) f.rule facts c.facts_asked-facts.ensures in
+    c.keeps.ensures.closed (sym c.requires.orders) f.rule facts c.facts_asked-asked.ensures in
     let chosen =
     subst (λ (fields : List NamedField). IsStepChoice granted fields here facts f.rule f.segment choice)
     c.fields.ensures c.step_choice-choice.ensures in

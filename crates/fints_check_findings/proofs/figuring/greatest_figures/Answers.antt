@@ -4,7 +4,7 @@ use Rattle.fints_rules_permissions.specs.Permits.{Granted}
 use Rattle.fints_check_findings.specs.Figures.{FiguresAre}
 use Rattle.fints_check_findings.specs.Searching.{IsGreatestAt}
 use Rattle.fints_check_findings.specs.declared.finding.Reached.{Reached}
-use Rattle.fints_check_findings.proofs.Checking.{cell_at, figures_all, figures_more, figures_none, greatest_at, unreached}
+use Rattle.fints_check_findings.proofs.Checking.{cell_at, figures_all, greatest_at, none_yet, one_more, unreached}
 use Rattle.fints_check_findings.proofs.Reals.{figures_are, number_small}
 use Rattle.fints_script.proofs.LawLemmas.{sound_of}
 use Rattle.fints_script.specs.Numbered.{numbered, numbered_at}
@@ -27,7 +27,7 @@ nothing = record {
 }
 
 pub loop-i-init : goal.loop-i-init
-loop-i-init c = figures_none c.args.plan.now.script c.in_ok-figures.figures.items c.in_ok-figures.ensures.items
+loop-i-init c = none_yet (FiguresAre c.args.plan.now.script) c.in_ok-figures.figures.items c.in_ok-figures.ensures.items
 
 pub figures_at-requires-clause-least : goal.figures_at-requires-clause-least
 figures_at-requires-clause-least c =
@@ -74,7 +74,7 @@ loop-i-preserved c =
           (figures_are script nothing sound (c.loop-i.i + 1) step.0 w.figures_at.result step.1
           peak (w.figures_at.ensures.figures step.0 step.1))
     ] in
-    figures_more script c.loop-i.i c.loop-i.figures.items c.push.new.self.items c.match-index.reached
+    one_more (FiguresAre script) c.loop-i.i c.loop-i.figures.items c.push.new.self.items c.match-index.reached
     c.in_ok-push.ensures.items are c.loop-i.invariant
 
 pub returns : goal.returns

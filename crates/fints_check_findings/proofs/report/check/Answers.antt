@@ -1,5 +1,6 @@
-use Rattle.std.proofs.Common.{ℕ, ◌+◌, ◌<◌, ◌≤◌, ◌≡◌, List, Bool, Option, Some, None, length, get_or, map, refl, ap, arith, sym, subst, ◌∙◌}
+use Rattle.std.proofs.Common.{ℕ, ◌+◌, ◌<◌, ◌≤◌, ◌≡◌, List, Bool, Option, Some, None, false, length, get_or, map, refl, ap, arith, sym, subst, ◌∙◌}
 use Rattle.std.specs.Prelude.{◌↔◌, IsTrue, Vec, is_some}
+use Rattle.std.proofs.lemmas.Option.{same_Some}
 use Rattle.std.specs.declared.alloc.Global.{Global}
 use Rattle.fints_check_reach.specs.Numbers.{AreGreatest}
 use Rattle.fints_script.specs.Numbered.{numbered, numbered_at}
@@ -11,10 +12,11 @@ use Rattle.fints_script.specs.Scripts.{ScriptValue}
 use Rattle.fints_script.specs.Steps.{StepValue}
 use Rattle.fints_check_findings.specs.AtStep.{AtStepValue}
 use Rattle.fints_check_findings.specs.Searching.{AreFiguresAt, AreFoundTo, IsGreatestAt}
+use Rattle.fints_check_findings.specs.StepFacts.{AreFactsAt, AreMessageFacts}
 use Rattle.fints_check_findings.specs.declared.finding.Finding.{Finding}
 use Rattle.fints_check_findings.specs.declared.finding.Reached.{Reached}
-use Rattle.fints_check_findings.proofs.AtSteps.{from_step, to_step}
-use Rattle.fints_check_findings.proofs.Checking.{cell_at, clean_permits, figures_all, figures_more, figures_none, greatest_at, nothing_real, reached_more, real_within, unreached, visits_told}
+use Rattle.fints_check_findings.proofs.AtSteps.{from_same, from_step, to_step}
+use Rattle.fints_check_findings.proofs.Checking.{cell_at, clean_permits, facts_all, figures_all, greatest_at, none_yet, nothing_real, one_more, reached_more, real_within, unreached, visits_told}
 use Rattle.fints_check_findings.proofs.Founds.{found_all, found_first, found_none}
 use Rattle.fints_check_findings.proofs.Holding.{cell_tells}
 use Rattle.fints_check_findings.proofs.Reals.{figures_are, number_small}
@@ -40,7 +42,8 @@ loop-i-init c =
       findings =
           subst (AreFoundTo granted script 1 1 0) (sym c.new-findings.ensures.items)
           (found_first granted script (λ f real. (real_within granted script sound f real).0));
-      figures = figures_none script c.in_ok-figures.figures.items c.in_ok-figures.ensures.items;
+      figures = none_yet (FiguresAre script) c.in_ok-figures.figures.items c.in_ok-figures.ensures.items;
+      facts = none_yet (AreFactsAt granted script) c.in_ok-facts.facts.items c.in_ok-facts.ensures.items;
       reached = ap (λ (xs : List (Option Reached)). map is_some xs) c.in_ok-figures.ensures.items;
     }
 
@@ -128,9 +131,9 @@ loop-i-preserved c =
           (omega (arith, c.step_count-count.ensures.count)) c.index.ensures w.in-Some.is) in
           let step = numbered_at script.steps (c.loop-i.i + 1) (omega arith) (omega (arith, c.step_count-count.ensures.count)) in (
             subst P (sym w.findings-is)
-                (from_step (λ g x n. AreFoundTo g x (n + 1) 1 0 w.search.new.findings.items) w.new-step.result
-                granted script (c.loop-i.i + 1) w.new-step.ensures.granted w.new-step.ensures.script
-                w.new-step.ensures.number
+                (from_step (λ g x n. AreFoundTo g x (n + 1) 1 0 w.search.new.findings.items) c.new-step.result
+                granted script (c.loop-i.i + 1) c.new-step.ensures.granted c.new-step.ensures.script
+                c.new-step.ensures.number
                 (subst
                 (λ (a : AtStepValue).
                 AreFoundTo a.granted a.script (a.n + 1) 1 0 w.search.new.findings.items)
@@ -141,14 +144,22 @@ loop-i-preserved c =
             subst R (sym w.cell-is) (sym (ap (λ (x : Option ℕ). is_some x) w.in-Some.is)),
           )
     ] in
+    let facts : AreFactsAt granted script (c.loop-i.i + 1) c.message_facts.result =
+    λ step at.
+    from_same (λ g x s. AreMessageFacts g x s false c.message_facts.result) c.new-step.result granted script
+    step c.new-step.ensures.granted c.new-step.ensures.script
+    (same_Some c.new-step.result.step step (sym c.new-step.ensures.step ∙ at)) c.message_facts.ensures in
     record {
       findings = all.0;
       figures =
-          figures_more script c.loop-i.i c.loop-i.figures.items c.push.new.self.items c.match-index.cell
-          c.in_ok-push.ensures.items all.1 c.loop-i.invariant.figures;
+          one_more (FiguresAre script) c.loop-i.i c.loop-i.figures.items c.push-in-loop-i.new.self.items
+          c.match-index.cell c.in_ok-push-2.ensures.items all.1 c.loop-i.invariant.figures;
+      facts =
+          one_more (AreFactsAt granted script) c.loop-i.i c.loop-i.facts.items c.push.new.self.items
+          c.message_facts.result c.in_ok-push.ensures.items facts c.loop-i.invariant.facts;
       reached =
-          reached_more c.loop-i.figures.items c.push.new.self.items c.match-index.cell numbers c.loop-i.i
-          c.index.result.now c.in_ok-push.ensures.items
+          reached_more c.loop-i.figures.items c.push-in-loop-i.new.self.items c.match-index.cell numbers c.loop-i.i
+          c.index.result.now c.in_ok-push-2.ensures.items
           (omega (arith, greatest.long, c.step_count-count.ensures.count)) c.index.ensures all.2
           c.loop-i.invariant.reached;
     }
@@ -170,6 +181,7 @@ invariant_of-result c =
       c.in_ok-numbers.ensures.greatest,
       c.in_ok-numbers.ensures.sources,
       c.in_ok-holders.ensures,
+      facts_all granted script c.loop-i.i c.loop-i.facts.items all c.loop-i.invariant.facts,
     )
 
 pub returns-clause-exactly : goal.returns-clause-exactly

@@ -6,6 +6,7 @@ use Rattle.fints_check_findings.specs.Findings.{Shows}
 use Rattle.fints_check_findings.specs.Cases.{AreChosenFor}
 use Rattle.fints_check_findings.specs.Reports.{AreChosenOf, AreValuesOf, LeadsFor, ReportValue}
 use Rattle.fints_check_findings.specs.Searching.{AreCaseValues, IsFindingOf}
+use Rattle.fints_check_findings.specs.StepFacts.{AreFactsAt}
 use Rattle.fints_check_findings.specs.declared.finding.Finding.{Finding}
 use Rattle.fints_check_findings.proofs.CaseLemmas.{case_shown, if_ok, real_has}
 use Rattle.fints_check_findings.proofs.Checking.{greatest_at}
@@ -16,6 +17,11 @@ pub case_values-requires-clause-to : goal.case_values-requires-clause-to
 case_values-requires-clause-to c =
     subst (λ (r : ReportValue). c.finding-finding.result.step ≤ length r.plan.script.steps) (sym c.self.view_is)
     c.finding-finding.ensures.to
+
+pub case_values-requires-clause-facts : goal.case_values-requires-clause-facts
+case_values-requires-clause-facts c =
+    subst (λ (r : ReportValue). AreFactsAt r.granted r.plan.script c.finding-finding.result.step c.facts-facts.result)
+    (sym c.self.view_is) c.facts-facts.ensures
 
 pub returns : goal.returns
 returns c =
