@@ -1,7 +1,7 @@
 #!/usr/bin/env python3
 """Prints what the built program takes for large inputs: processor time and memory at its peak, at n
 and at 2n, the least of three runs or of as many as are asked for (of one, where it takes over two
-seconds). No part of the gate.
+seconds), and how many times as long 2n takes. No part of the gate.
 
 A run is given 150 seconds of processor time and 4 GiB of addresses. The second table is of maps whose
 keys collide. The third tells how much memory a further byte of an input takes, beside the mark that it
@@ -11,9 +11,10 @@ texts of TOML need.
 Usage: tools/cost.py [--program PATH] [--runs N] [WORD..]     only the lines with one of these words
 """
 import argparse
-import itertools
 import os
 import random
+import re
+import shutil
 import subprocess
 import sys
 import tempfile
@@ -22,6 +23,7 @@ TOP = os.path.dirname(os.path.dirname(os.path.abspath(__file__)))
 INPUTS = f"{TOP}/rows/inputs"
 MOST_CAPTURE, MOST_TEXT = 4_194_304, 1_048_576
 SECONDS, MEMORY = 150, 4 << 20  # of a run: processor time, KiB of addresses
+LEAST_TOLD, MOST_TIMES = 10, 2.5  # in milliseconds; and of how many times as long it is told why
 C1 = f"{INPUTS}/c1.fints"
 ORDERS = f"{INPUTS}/orders.toml"
 HEAD = open(C1, "rb").read().decode()
@@ -55,8 +57,14 @@ class Room:
         lines = ran.stderr.decode(errors="replace").splitlines()
         return *map(int, ran.stdout.split()), lines[0] if lines else ""
 
-    def printed(self, words):
-        return subprocess.run([self.program, *words], capture_output=True, check=True).stdout.decode("latin-1")
+    def printed(self, words, check=False):
+        return subprocess.run([self.program, *words], capture_output=True, check=check).stdout.decode("latin-1")
+
+    def instructions(self, words):
+        """Those that callgrind counts, in millions."""
+        command = ["valgrind", "--tool=callgrind", "--callgrind-out-file=/dev/null", self.program, *words]
+        said = subprocess.run(command, capture_output=True, check=False).stderr.decode(errors="replace")
+        return int(re.search(r"Collected : (\d+)", said)[1]) / 1e6
 
     def colliding(self, *what):
         """Keys that collide (tools/collide.c)."""
@@ -106,9 +114,15 @@ def limits(rows):
     return HEAD + "".join(f"{it[0]}I{it[2:]}S:9:{version}+1+1'" for it, version in rows if it[2:] != "PIN")
 
 
+ACCOUNT = "HIUPD:1:6+%06d::280:1+DE%06d++++++++HKSAL:1'\n"
+
+
+def so_many_accounts(count):
+    return HEAD + "".join(ACCOUNT % (i, i) for i in range(count))
+
+
 def accounts(size):
-    row = "HIUPD:1:6+%06d::280:1+DE%06d++++++++HKSAL:1'\n"
-    return HEAD + "".join(row % (i, i) for i in range((size - len(HEAD)) // len(row % (0, 0))))
+    return so_many_accounts((size - len(HEAD)) // len(ACCOUNT % (0, 0)))
 
 
 def unnamed(size):
@@ -211,10 +225,27 @@ hostile = branching(LATE, ENDS)
 unreleased = branching([f"{j:02}**" for j in range(1, 21)], 'segments = [{kind = "HKTAN", version = 6, elements = ["4"]}]')
 
 
+def in_a_row(segments, count):
+    """So many steps of these segments, each behind the one before."""
+    ends = [f'default = "s{i + 1}"\n' for i in range(count - 1)] + [""]
+    return "".join(f'[[step]]\nname = "s{i}"\nsegments = [{segments}]\n{end}' for i, end in enumerate(ends))
+
+
 def naming(count):
     """Orders that name an account which no bank has, in steps of 100."""
-    orders = ",".join(['{kind="HKSAL",version=5,elements=["9999999"]}'] * 100)
-    return "".join(f'[[step]]\nname = "s{i}"\nsegments = [{orders}]\n' for i in range(count // 100))
+    return in_a_row(",".join(['{kind="HKSAL",version=5,elements=["9999999"]}'] * 100), count // 100)
+
+
+def unknown(count):
+    """Orders that no bank takes, in steps of 100 kinds."""
+    return in_a_row(",".join('{kind="HKX%02d",version=1}' % i for i in range(100)), count // 100)
+
+
+def of_listed(count):
+    """Orders that each name any of 100 listed accounts, in steps of 100."""
+    values = ",".join(f'["DE{i:06d}"]' for i in range(100))
+    orders = ",".join(['{kind="HKSAL",version=7,elements=["$account"]}'] * 100)
+    return f'[[field]]\nname = "account"\nclass = "account"\nvalues = [{values}]\n' + in_a_row(orders, count // 100)
 
 
 def versions(size):
@@ -243,30 +274,22 @@ def heavy_case(count):
 def ordering(row):
     """As many orders of this kind and version, in steps of 100."""
 
-    def text(count):
-        orders = ",".join(['{kind="%s",version=%s}' % row] * 100)
-        return "".join(f'[[step]]\nname = "s{i}"\nsegments = [{orders}]\n' for i in range(count // 100))
-
-    return text
+    orders = ",".join(['{kind="%s",version=%s}' % row] * 100)
+    return lambda count: in_a_row(orders, count // 100)
 
 
 def submitting(count):
     """As many HKTAN, in steps of 100 segments with two orders that demand a TAN."""
     demanding = ['{kind="HKCCS",version=1,elements=["DE111"]}'] * 2
     orders = ",".join(demanding + ['{kind="HKTAN",version=6,elements=["4"]}'] * 98)
-    return "".join(f'[[step]]\nname = "s{i}"\nsegments = [{orders}]\n' for i in range(count // 98))
+    return in_a_row(orders, count // 98)
 
 
 def texts(part, count):
     """Scripts of segments that have this many of such a text as elements. Each gives about so many bytes."""
     segment = '{kind="HKEND",version=1,elements=[' + ",".join([part] * count) + "]}"
     segments = ",".join([segment] * (10 if count else 100))
-
-    def text(size):
-        steps = (f'[[step]]\nname = "s{i}"\nsegments = [{segments}]\n' for i in range(1000))
-        return "".join(itertools.islice(steps, max(1, size // (len(segments) + 40))))
-
-    return text
+    return lambda size: in_a_row(segments, min(1000, max(1, size // (len(segments) + 56))))
 
 
 def filled(names):
@@ -329,6 +352,7 @@ def measured(room):
     half = MOST_CAPTURE // 2
     at = lambda bank: lambda make: lambda n: ["check", "--params", bank, "--orders", ORDERS, "--script", room.file(make(n))]
     of_accounts, of_procedures = at(room.file(accounts(half))), at(room.file(procedures(half)))
+    of_few = at(room.file(so_many_accounts(202)))
     elsewhere = room.file(message([("HKSAL", "5" + "+9999999" * 500)] * 900))
     untaken = room.file(message([("HKSAL", "10")] * 996))
 
@@ -339,7 +363,7 @@ def measured(room):
 
     def verify(n):
         words = on("certify", hostile)(n)
-        return ["verify", *words[1:], "--cert", room.file(room.printed(words))]
+        return ["verify", *words[1:], "--cert", room.file(room.printed(words, check=True))]
 
     return [
         ("show, an ordinary capture", "bytes", m, show(ordinary)),
@@ -379,6 +403,9 @@ def measured(room):
         ("check, steps that submit orders, 20 branches each", "steps", 500, on("check", unreleased)),
         ("explain, steps that submit orders, 20 branches each", "steps", 500, on("explain", unreleased)),
         ("check --hints, steps that submit orders, 20 branches each", "steps", 500, hinted(on("check", unreleased))),
+        ("check, orders over 100 listed accounts, 202 at the bank", "orders", 10 * k, of_few(of_listed)),
+        ("explain, orders that no bank takes, 100 kinds a step", "orders", 10 * k, on("explain", unknown)),
+        ("explain --finding 1, orders that no bank takes", "orders", 10 * k, lambda n: [*on("explain", unknown)(n), "--finding", "1"]),
         ("check --hints, orders of none of 42,000 accounts", "orders", 10 * k, hinted(of_accounts(naming))),
         ("certify, steps with 20 hostile branches each", "steps", 500, on("certify", hostile)),
         ("verify, steps with 20 hostile branches each", "steps", 500, verify),
@@ -450,12 +477,36 @@ def least(room, words, runs):
 
 def time_table(room, title, lines, runs):
     if lines:
-        print(f"\n{title:58} {'n':>15} {'status':>6} {'s':>8} {'MiB':>7}")
+        print(f"\n{title:58} {'n':>15} {'status':>6} {'s':>8} {'MiB':>7} {'times':>6}")
     for label, unit, n, words in lines:
+        before = None
         for count in (n, 2 * n):
-            status, milliseconds, peak, said = least(room, words(count), runs)
+            run = words(count)
+            status, milliseconds, peak, said = least(room, run, runs)
             took = f"over {SECONDS}" if status == 137 else f"{milliseconds / 1000:.3f}"
-            print(f"{label:58} {f'{count:,} {unit}':>15} {status:6} {took:>8} {peak / 1024:7.1f}  {said if status > 1 else ''}".rstrip(), flush=True)
+            grown = growth(room, before, (run, milliseconds)) if before else ""
+            before = run, milliseconds
+            line = f"{label:58} {f'{count:,} {unit}':>15} {status:6} {took:>8} {peak / 1024:7.1f} {grown:>6}"
+            print(f"{line}  {said if status > 1 else ''}".rstrip(), flush=True)
+
+
+def growth(room, once, twice):
+    """How many times as long the run takes with twice the input. Where that is far more than two and than
+    what goes in and comes out grows, how many times as many instructions, which hang on no other work on the
+    machine; where those are as many, it is over."""
+    if once[1] < LEAST_TOLD:
+        return "-"
+    times = twice[1] / once[1]
+    if times <= MOST_TIMES:
+        return f"{times:.1f}"
+    bytes_of = lambda run: len(room.printed(run)) + sum(os.path.getsize(it) for it in run if os.path.isfile(it))
+    more = bytes_of(twice[0]) / bytes_of(once[0])
+    if times <= MOST_TIMES / 2 * more:
+        return f"{times:.1f} for {more:.1f} times the bytes"
+    if not shutil.which("valgrind"):
+        return f"{times:.1f}, over"
+    counted = room.instructions(twice[0]) / room.instructions(once[0])
+    return f"{times:.1f}, in instructions {counted:.1f}" + (", over" if counted > MOST_TIMES / 2 * more else "")
 
 
 def marked(room):

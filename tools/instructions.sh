@@ -18,7 +18,6 @@ room=$(mktemp -d)
 trap 'rm -rf "$room"' EXIT
 PYTHONPATH=tools PYTHONDONTWRITEBYTECODE=1 python3 - "$program" "$room" <<'END'
 import re
-import subprocess
 import sys
 
 import cost
@@ -28,17 +27,9 @@ page = open("docs/performance.md", encoding="utf-8").read()
 told = page.split("### Instructions\n", 1)[1].split("```\n")[1]
 room = cost.Room(program, folder)
 runs = {label: words for label, _, _, words in cost.measured(room)}
-
-
-def counted(words):
-    command = ["valgrind", "--tool=callgrind", "--callgrind-out-file=/dev/null", program, *words]
-    said = subprocess.run(command, capture_output=True, check=False).stderr.decode(errors="replace")
-    return int(re.search(r"Collected : (\d+)", said)[1]) / 1e6
-
-
 failed = 0
 for label, count, figure in re.findall(r"(?m)^(\w.*?) {2,}([\d,]+) \w+ +([\d.]+)$", told):
-    millions = counted(runs[label](int(count.replace(",", ""))))
+    millions = room.instructions(runs[label](int(count.replace(",", ""))))
     is_over = millions > 1.1 * float(figure)
     failed += is_over
     print(f"{label:58} {millions:8.1f} million{', far over ' + figure if is_over else ''}", flush=True)
