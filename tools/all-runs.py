@@ -6,11 +6,12 @@ listed answers, `run` makes the messages and `judge` names what each breaks by i
 behind the message before and the answer between, P11, is found here, in their bytes and codes. What
 was seen so must be what `check` prints: the rules broken in each step, its greatest number and its
 greatest size. These figures as a certificate must be valid where nothing is broken, and else invalid.
-And each case that `explain` prints must be a run whose last message breaks what it is a case of. One
-script more has 10,200 messages in a row, the last 201 with numbers that P2 refuses. Of further
-scripts, which break nothing, the certificate must be valid, and with any figure one less, or none,
-invalid. And of scripts with long fields the run with the longest values must have the figures that
-`check` prints.
+And each case that `explain` prints must be a run whose last message breaks what it is a case of; of
+P11 the reason that `check --hints` tells must name the step that this run sends last but one, and the
+branch that leads on from there. One script more has 10,200 messages in a row, the last 201 with
+numbers that P2 refuses. Of further scripts, which break nothing, the certificate must be valid, and
+with any figure one less, or none, invalid. And of scripts with long fields the run with the longest
+values must have the figures that `check` prints.
 
 The last line tells how many scripts passed and failed.
 """
@@ -29,14 +30,20 @@ PROGRAM = f"{TOP}/crates/fints/out/fints"
 RULES = 12
 ITEM = re.compile(rb"@(\d+)@|((?:\?.|[^+:'?])*)", re.S)
 MESSAGE = re.compile(rb"message (\d+) step (\S+) size (\d+)\n")
+REASON = re.compile(r'^why: (\S+): step "(\S+)" submits .*, and (?:branch (\d+)|the default) of it leads here', re.M)
+
+
+def ran(*words):
+    """The program, once it has run; a refusal ends the whole."""
+    it = subprocess.run([PROGRAM, *words], stdin=subprocess.DEVNULL, capture_output=True, timeout=600)
+    if it.returncode > 1:
+        sys.exit(f"all-runs: fints {' '.join(words)}: status {it.returncode}: {it.stderr.decode()}")
+    return it
 
 
 def fints(*words):
-    """What the program prints on standard output; a refusal ends the whole."""
-    ran = subprocess.run([PROGRAM, *words], stdin=subprocess.DEVNULL, capture_output=True, timeout=600)
-    if ran.returncode > 1:
-        sys.exit(f"all-runs: fints {' '.join(words)}: status {ran.returncode}: {ran.stderr.decode()}")
-    return ran.stdout
+    """What the program prints on standard output."""
+    return ran(*words).stdout
 
 
 def write(path, text):
@@ -58,6 +65,11 @@ def value_of(word):
 def case_text(names, values, answers):
     lines = ["fints-case 1", *(f"field {name} {value.hex() or '-'}" for name, value in zip(names, values))]
     return "\n".join([*lines, *(f"answer {it.replace('+', ' ')}" for it in answers)]) + "\n"
+
+
+def answers_of(case):
+    """The answers of a case, each by its codes."""
+    return [line.split()[1:] for line in case.splitlines() if line.startswith("answer ")]
 
 
 def segments(text):
@@ -92,13 +104,26 @@ class Script:
     def __init__(self, room, capture, orders, text):
         self.room, self.judged = room, {}
         self.names = ["dialog", *(it["name"] for it in tomllib.loads(text).get("field", []))]
-        self.steps = [it["name"] for it in tomllib.loads(text)["step"]]
+        self.branches = {it["name"]: it.get("branches", []) for it in tomllib.loads(text)["step"]}
+        self.steps = list(self.branches)
         self.tables = ["--orders", write(f"{room}/orders.toml", orders)]
         self.params = ["--params", write(f"{room}/capture.fints", capture)]
         self.script = ["--script", write(f"{room}/script.toml", text)]
 
     def ask(self, command, *words):
         return fints(command, *self.params, *self.tables, *self.script, *words).decode()
+
+    def reasons(self):
+        """Of each reason of P11: the step, the one before it, and the branch that leads on from there."""
+        words = [*self.params, *self.tables, *self.script, "--hints"]
+        return [it.groups() for it in REASON.finditer(ran("check", *words).stderr.decode())]
+
+    def fired(self, step, codes):
+        """The branch of a step that these codes fire, from 1; none for the default."""
+        for number, branch in enumerate(self.branches[step], 1):
+            if any(re.fullmatch(branch["on"].replace("*", "."), code) for code in codes):
+                return str(number)
+        return None
 
     def run(self, case):
         """The messages of a run: number, step, bytes."""
@@ -121,9 +146,8 @@ class Script:
     def judged_run(self, case):
         """The messages of a run, each with what it breaks: by itself, and behind the one before it
         and the answer between them."""
-        answers = [line.split()[1:] for line in case.splitlines() if line.startswith("answer ")]
         submitted = False
-        for (number, step, message), codes in zip(self.run(case), [[], *answers]):
+        for (number, step, message), codes in zip(self.run(case), [[], *answers_of(case)]):
             broken = self.judge(message)
             submits, releases = told(message)
             if submitted and "0030" in codes and not releases:
@@ -170,6 +194,12 @@ def breaks(script, head, case):
     return last == step and (rule, name, int(segment)) in broken
 
 
+def left(script, case):
+    """What the reason of a finding of P11 should name, by the run of its case."""
+    *_, (_, before, _), (_, step, _) = script.run(case)
+    return step, before, script.fired(before, answers_of(case)[-1])
+
+
 def compared(script, seen, label):
     """Whether `check`, `verify` and `explain` say what was seen."""
     report = "".join(f"{line}\n" for line in seen.report())
@@ -185,6 +215,9 @@ def compared(script, seen, label):
     good = parts[0] == report and len(cases) == len(seen.findings) and all(breaks(script, *it) for it in cases)
     if not good:
         print(f"all-runs: {label}: explain prints a case that breaks another rule, or none", file=sys.stderr)
+    if script.reasons() != [left(script, case) for head, case in cases if " P11 " in head]:
+        print(f"all-runs: {label}: a reason of P11 names another step, or another branch, than its case", file=sys.stderr)
+        return False
     return good
 
 

@@ -17,6 +17,7 @@ pub mod Leaving
 pub mod Holding
 pub mod CaseLemmas
 pub mod LawLemmas
+pub mod Beside
 pub mod AskedFields
 pub mod AtSteps
 pub mod SentSteps

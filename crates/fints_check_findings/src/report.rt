@@ -1,11 +1,11 @@
 //! Reports: what the runs of a plan break, and the greatest figures of its steps.
-ghost use Rattle.std.specs.Prelude.{◌≡◌, ◌↔◌, ◌<◌, ◌≤◌, [], length, map, is_some, Some, AllPairs, Contains, IfOk, IsTrue};
+ghost use Rattle.std.specs.Prelude.{◌≡◌, ◌↔◌, ◌<◌, ◌≤◌, [], length, map, is_some, slice_get, Some, AllPairs, Contains, IfOk, IsTrue, MatchOption};
 ghost use Rattle.fints_check_reach.specs.Numbers.{all_visits, looked_at, reached_visits};
 ghost use Rattle.fints_script.specs.Numbered.{numbered};
 ghost use Rattle.fints_script.specs.Steps.{StepValue};
 ghost use Rattle.fints_check_findings.specs.Figures.{AreFigures, FiguresAre};
 ghost use Rattle.fints_check_findings.specs.Findings.{AreFindings, EachIsPermitted, IsBefore, IsReal, SentStepsAreClean, SentStepsAreReleased};
-ghost use Rattle.fints_check_findings.specs.Releases.{LeadsUnreleased};
+ghost use Rattle.fints_check_findings.specs.Releases.{IsUnreleased, LeadsUnreleased};
 ghost use Rattle.fints_check_findings.specs.Reports.{AreChosenOf, AreValuesOf, IsWayOf, ShowsFindingAt};
 ghost use Rattle.fints_check_findings.specs.Searching.{AreFiguresAt, IsFindingOf, IsGreatestAt};
 ghost use Rattle.fints_check_findings.specs.StepFacts.{AreFactsAt};
@@ -159,6 +159,22 @@ impl<'a> Report<'a> {
         let s = finding.step as usize;
         let t = holder_of(self.holders.as_slice(), s) as usize;
         way_behind(alloc, self.plan, &self.numbers, t, release_code(), s)
+    }
+
+    /// The step before, of which a finding of P11 leaves an order unreleased: its case sends it last but
+    /// one. None for another rule. Findings count from 0.
+    pub fn step_left(&self, i: usize) -> Option<u16>
+        requires { i < length self.now.findings }
+        ensures { (f : FindingValue) → slice_get self.now.findings i ≡ Some f
+            → MatchOption result (f.rule ≡ Release → ⊥)
+            (λ t. IsUnreleased self.now.plan.script t f.step) }
+    {
+        self.plan.keeps();
+        let finding = self.finding(i);
+        match finding.rule {
+            Rule::Release => Some(holder_of(self.holders.as_slice(), finding.step as usize)),
+            _ => None,
+        }
     }
 
     /// Answers after which a run ends with a message of a finding's step that has the step's greatest

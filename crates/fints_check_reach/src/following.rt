@@ -1,5 +1,5 @@
 //! Which step an answer with a code may have sent next behind a step's message, and answers that do.
-ghost use Rattle.std.specs.Prelude.{◌≡◌, ◌↔◌, ◌≤◌, ◌+◌, ◌++◌, ◌∷◌, [], ℕ, length, Some, IsTrue, MatchOption, IfOk};
+ghost use Rattle.std.specs.Prelude.{◌≡◌, ◌↔◌, ◌<◌, ◌≤◌, ◌+◌, ◌++◌, ◌∷◌, [], ℕ, length, Some, IsTrue, MatchOption, IfOk, IfSome};
 ghost use Rattle.fints_script_cases.specs.declared.answers.Target.{Target};
 ghost use Rattle.fints_script_cases.specs.Answers.{IsOpen};
 ghost use Rattle.fints_script.specs.Numbered.{numbered};
@@ -49,13 +49,15 @@ pub fn carried_step(step: &Step, n: usize, branch: usize, code: Code) -> Option<
     }
 }
 
-// The first branch of step t that carries the code and goes to step s, if one does: so a step may
-// follow itself only where it may be sent more than once in a row. Branches count from 1, and the
-// default counts as the last.
-fn branch_to(step: &Step, t: usize, code: Code, s: usize) -> Option<usize>
-    ensures { MatchOption result
+/// The first branch of step t that carries the code and goes to step s, if one does: so a step may
+/// follow itself only where it may be sent more than once in a row. Branches count from 1, and the
+/// default counts as the last.
+pub fn branch_to(step: &Step, t: usize, code: Code, s: usize) -> Option<usize>
+    ensures carried { MatchOption result
         (CarriesTo step.now t code s → ⊥)
         (λ branch. IsCarriedTo step.now t branch code s) }
+    ensures first { IfSome result (λ branch. (earlier : ℕ) → 1 ≤ earlier → earlier < branch
+        → IsCarriedTo step.now t earlier code s → ⊥) }
 {
     for branch in 1..step.branches().len() + 2 {
         if next_step(step, t, step.target(branch)) == Some(s) && step.carries(branch, code) {

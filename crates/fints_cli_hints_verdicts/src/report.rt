@@ -4,6 +4,7 @@ ghost use Rattle.std.specs.Prelude.{◌<◌, length};
 use crate::notes::add_notes;
 use crate::steps::figures_of;
 use fints_check::{Finding, Report, check};
+use fints_check_reach::branch_to;
 use fints_cli_hints_reasons::bank::Bank;
 use fints_cli_hints_reasons::branches::BranchOf;
 use fints_cli_hints_reasons::elements::{Elements, Filled};
@@ -14,34 +15,18 @@ use fints_cli_hints_reasons::tans::no_tan;
 use fints_cli_hints_reasons::whole::{Before, Whole, WholeWhy, is_of_whole};
 use fints_cli_hints_words::inputs::Inputs;
 use fints_params::{Code, Params};
-use fints_rules::{Figures, OrderTable, Permissions, Rule};
+use fints_rules::{Figures, OrderTable, Permissions, RELEASE, Rule};
 use fints_rules_causes::segment_cause;
-use fints_script::{Answer, Plan, Script, Step, Template, Values};
+use fints_script::{Plan, Script, Step, Template, Values};
 use fints_syntax::{Kind, Memory};
-use fints_wire::visits;
 use std::alloc::Global;
 
 // ---- the step before
 
-// The branch of a step that these codes fire.
-fn fired(step: &Step, codes: &[Code]) -> BranchOf {
-    let mut number: usize = 1;
-    for branch in step.branches() {
-        if branch.on.matches_any(codes) {
-            return BranchOf::at(step, number);
-        }
-        number = number.saturating_add(1);
-    }
-    BranchOf::at(step, number)
-}
-
-// The number of the step of the message before the last, where the answers lead.
-fn step_before(alloc: Global, plan: &Plan<'_>, answers: &[Answer]) -> Result<usize, Memory> {
-    let visits = visits(alloc, plan, answers)?;
-    match visits.as_slice() {
-        [.., before, _] => Ok(usize::from(before.step)),
-        _ => Ok(0),
-    }
+// The branch of step t that an answer with 0030 fires where step n comes next.
+fn branch_behind(step: &Step, t: usize, n: usize) -> Option<BranchOf> {
+    let branch = branch_to(step, t, Code::from_number(RELEASE)?, n)?;
+    Some(BranchOf::at(step, branch))
 }
 
 // ---- a finding
@@ -141,26 +126,25 @@ fn add_whole(
     add_why(text, alloc, place_of(name_of(&name), found.finding), why)
 }
 
-// Adds why an order is left unreleased behind these answers.
+// Adds why an order of step t is left unreleased.
 fn add_release(
     text: &mut String,
     alloc: Global,
     found: &Found<'_>,
     figures: Figures,
-    answers: &[Answer],
+    t: usize,
 ) -> Result<(), Memory> {
-    let n = step_before(alloc, found.plan, answers)?;
-    if n == 0 || n > found.plan.step_count() {
+    if t == 0 || t > found.plan.step_count() {
         return add_whole(text, alloc, found, figures, Before::Unsaid);
     }
-    let step = found.plan.step(n);
+    let step = found.plan.step(t);
     let name = step.name();
-    let before = match answers {
-        [.., answer] => Before::Step {
+    let before = match branch_behind(step, t, usize::from(found.finding.step)) {
+        Some(branch) => Before::Step {
             name: &name,
-            branch: fired(step, answer.codes()),
+            branch,
         },
-        [] => Before::Unsaid,
+        None => Before::Unsaid,
     };
     add_whole(text, alloc, found, figures, before)
 }
@@ -234,8 +218,8 @@ fn add_finding(
             add_segment(text, alloc, &found, template, &values)
         }
         (None, Rule::Release) => {
-            let answers = report.way(alloc, i)?;
-            add_release(text, alloc, &found, reached.figures(), answers.as_slice())
+            let t = report.step_left(i).map_or(0, usize::from);
+            add_release(text, alloc, &found, reached.figures(), t)
         }
         _ => add_whole(text, alloc, &found, reached.figures(), Before::Unsaid),
     }

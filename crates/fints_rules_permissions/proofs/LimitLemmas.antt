@@ -1,9 +1,10 @@
 -- The limits and the demands that the least ranks tell.
 use Rattle.std.proofs.Common.{◌≡◌, ◌≢◌, ℕ, ◌+◌, ◌-◌, ◌^◌, ◌<◌, ◌≤◌, Bool, true, false, List, [], ◌∷◌, ◌++◌, length, get_or, map, take, Some, None, if◌then◌else◌, refl, ap, ◌∙◌, sym, subst, arith}
-use Rattle.std.specs.Prelude.{All, Contains}
+use Rattle.std.specs.Prelude.{◌&&◌, ◌==◌, All, Contains}
 use Rattle.std.specs.Bool.{Decides}
 use Rattle.std.specs.Cmp.{IsTotalOrder, then_total, on_total, nat_cmp_total, unsigned_Decides}
 use Rattle.std.specs.Cmp.Lexicographic.{on_texts}
+use Rattle.std.specs.Str.{bytes_eq}
 use Rattle.std.specs.List.Sorted.{IsPermutation}
 use Rattle.std.specs.declared.cmp.Ordering.TheVariants.{Equal}
 use Rattle.std.proofs.lemmas.Bool.Decides.{Decides-and, nat_tests}
@@ -17,7 +18,6 @@ use Rattle.fints_rules_permissions.specs.declared.limits.DemandTable.{DemandTabl
 use Rattle.fints_rules_permissions.specs.declared.limits.LimitTable.{LimitTable}
 use Rattle.fints_rules_permissions.specs.declared.ranks.OrderKey.{OrderKey}
 use Rattle.fints_rules_permissions.specs.declared.ranks.Ranked.{Ranked}
-use Rattle.fints_rules_permissions.specs.FormMaps.{key_eq}
 use Rattle.fints_rules_permissions.specs.Limits.{limit_back, limit_rank, row_key, limit_ranked, need_ranked, kind_key, pin_ranked, IsSmall, HoldsLimits, HoldsPins}
 use Rattle.fints_rules_permissions.specs.Permits.{is_param_of, params_of, IsLeastLimit, IsGreatestNeed, IsListedKind, IsListedWithTan}
 use Rattle.fints_rules_permissions.specs.Ranks.{order_key_cmp, IsLeastRank}
@@ -25,6 +25,10 @@ use Rattle.fints_rules_permissions.proofs.Members.{all_in, any_in, from_filter, 
 use Rattle.fints_rules_permissions.proofs.RankLemmas.{numbers_equal, texts_equal, then_equal}
 
 -- ---- keys
+
+-- of the same kind and version
+abbrev pub key_eq : OrderKey → OrderKey → Bool
+key_eq a b = bytes_eq a.kind b.kind && (a.version == b.version)
 
 pub key_decides : (a b : OrderKey) → Decides (key_eq a b) (a ≡ b)
 key_decides a b =

@@ -1,14 +1,9 @@
 -- The map of forms, by kind and version. Private contracts and the invariant of `OrderTable` alone cite these words.
-use Rattle.std.specs.Prelude.{◌≡◌, Bool, ◌&&◌, ◌==◌, List, Option}
-use Rattle.std.specs.Str.{bytes_eq}
+use Rattle.std.specs.Prelude.{◌≡◌, List, Option}
 use Rattle.fints_rules_permissions.specs.declared.ranks.OrderKey.{OrderKey}
 use Rattle.fints_rules_permissions.specs.Orders.{form_of}
 use Rattle.fints_rules_permissions.specs.declared.orders.AccountForm.{AccountForm}
 use Rattle.fints_rules_permissions.specs.declared.orders.OrderRow.{OrderRow}
-
--- of the same kind and version
-abbrev pub key_eq : OrderKey → OrderKey → Bool
-key_eq a b = bytes_eq a.kind b.kind && (a.version == b.version)
 
 -- the kind and version of a row
 abbrev pub order_key : OrderRow → OrderKey

@@ -14,8 +14,8 @@ use crate::ranks::OrderKey;
 use fints_syntax::{Kind, Memory};
 use fints_syntax_toml::document;
 use fints_syntax_toml::document::Unread;
-use indexmap::IndexMap;
 use std::alloc::{AllocFailed, Global};
+use std::collections::BTreeMap;
 use std::marker::Model;
 use thiserror::Error;
 use toml::{Table, Value};
@@ -77,9 +77,8 @@ impl<T: Drop> From<AllocFailed<T>> for TableFault {
     }
 }
 
-/// The forms of a table by kind and version. A table has few rows, so that chosen keys cost little under
-/// any hasher.
-type FormMap = IndexMap<OrderKey, AccountForm>;
+/// The forms of a table by kind and version.
+type FormMap = BTreeMap<OrderKey, AccountForm>;
 
 /// Which orders name an account, and how; a contract sees the rows.
 #[derive(Drop)]
@@ -94,12 +93,13 @@ impl Model for OrderTable {
 
     ghost Value = { List OrderRow };
 
-    ghost use Rattle.indexmap.specs.IndexMap.{get};
-    ghost use Rattle.fints_rules_permissions.specs.FormMaps.{key_eq, HoldsForms};
+    ghost use Rattle.std.specs.BTreeMap.{get};
+    ghost use Rattle.fints_rules_permissions.specs.FormMaps.{HoldsForms};
+    ghost use Rattle.fints_rules_permissions.specs.Ranks.{order_key_cmp};
 
     ghost view = { λ t. t.rows.items };
 
-    ghost invariant = { λ t. HoldsForms t.rows.items (get key_eq t.forms) };
+    ghost invariant = { λ t. HoldsForms t.rows.items (get order_key_cmp t.forms) };
 }
 
 impl OrderTable {
@@ -167,7 +167,7 @@ fn no_rows(alloc: Global) -> OrderTable
 {
     OrderTable {
         rows: Vec::new(alloc),
-        forms: IndexMap::new(alloc),
+        forms: BTreeMap::new(alloc),
     }
 }
 
@@ -178,7 +178,7 @@ fn rows_of(alloc: Global, entries: &[Value]) -> Result<OrderTable, TableFault>
     ensures fault { IfErr result (λ f. IsEntryFault (map view entries.now) f) }
 {
     let mut rows = Vec::new(alloc);
-    let mut forms = IndexMap::new(alloc);
+    let mut forms = BTreeMap::new(alloc);
     let mut number = 0;
     for entry in entries {
         number += 1;

@@ -8,8 +8,8 @@ ghost use Rattle.fints_script_rows.specs.Places.{first_place, HoldsPlaces, place
 
 use fints_syntax_segments::Memory;
 use fints_syntax_toml::entries::text_at;
-use indexmap::IndexMap;
 use std::alloc::Global;
+use std::collections::BTreeMap;
 use std::marker::Model;
 use toml::Value;
 
@@ -18,7 +18,7 @@ use toml::Value;
 #[derive(Drop)]
 pub struct NamedRows<'a> {
     rows: &'a [Value],
-    places: IndexMap<&'a str, usize>,
+    places: BTreeMap<&'a str, usize>,
 }
 
 impl<'a> Model for NamedRows<'a> {
@@ -50,7 +50,7 @@ fn name_in<'a>(row: &'a Value) -> Option<&'a str>
 
 // Notes the place of a name, unless one is there.
 fn note<'a>(
-    places: &mut IndexMap<&'a str, usize>,
+    places: &mut BTreeMap<&'a str, usize>,
     name: &'a str,
     place: usize,
 ) -> Result<(), Memory>
@@ -63,10 +63,10 @@ fn note<'a>(
     Ok(())
 }
 
-fn places_of<'a>(alloc: Global, rows: &'a [Value]) -> Result<IndexMap<&'a str, usize>, Memory>
+fn places_of<'a>(alloc: Global, rows: &'a [Value]) -> Result<BTreeMap<&'a str, usize>, Memory>
     ensures { IfOk result (λ m. HoldsPlaces is_called (map view rows.now) (place_in m)) }
 {
-    let mut places = IndexMap::new(alloc);
+    let mut places = BTreeMap::new(alloc);
     for i in 0..rows.len() {
         if let Some(name) = name_in(&rows[i]) {
             note(&mut places, name, i)?;

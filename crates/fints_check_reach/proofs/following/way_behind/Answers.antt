@@ -12,7 +12,7 @@ returns c =
     let carried =
     MatchOption-at_some (CarriesTo step c.args.t c.args.code c.args.s → ⊥)
     (λ b. IsCarriedTo step c.args.t b c.args.code c.args.s) branch c.unwrap-branch.ensures
-    c.branch_to.ensures in
+    c.branch_to.ensures.carried in
     let way = c.in_ok-answers.ensures in
     let target : c.target.result ≡ target_of step.branches step.otherwise branch = c.target.ensures in
     let on =

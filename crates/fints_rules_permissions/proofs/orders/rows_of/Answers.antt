@@ -1,8 +1,10 @@
 use Rattle.std.proofs.Common.{ap, cond, ◌∙◌, ◌≡◌, ◌<◌, ◌+◌, arith, sym, Some, None, get_or, length, true, false}
 use Rattle.std.specs.Prelude.{Any, is_some}
-use Rattle.indexmap.specs.IndexMap.{get}
-use Rattle.fints_rules_permissions.specs.FormMaps.{key_eq, order_key}
+use Rattle.std.specs.BTreeMap.{get}
+use Rattle.std.specs.Ordering.{is_eq}
+use Rattle.fints_rules_permissions.specs.FormMaps.{order_key}
 use Rattle.toml.specs.View.{view}
+use Rattle.fints_rules_permissions.specs.Ranks.{order_key_cmp}
 use Rattle.fints_rules_permissions.specs.Orders.{form_of, row_of, IsSameOrder, IsNoRow, IsSecondRow}
 use Rattle.fints_rules_permissions.proofs.FormLemmas.{forms_more, stands, stands_not}
 use Rattle.fints_rules_permissions.proofs.OrderLemmas.{rows_more, first_bad}
@@ -24,7 +26,7 @@ returns-then-contains_key-clause-fault c =
     rw (← c.entry-item.is) (sym c.in-Some.ensures) in
     let held : is_some (form_of c.loop-entry.rows.items c.in-Some.row.kind c.in-Some.row.version) ≡ true =
     ap is_some (sym (c.loop-entry.invariant.forms (order_key c.in-Some.row)))
-    ∙ ap (λ k. is_some (get key_eq c.loop-entry.forms k)) (sym c.order_key-key.ensures)
+    ∙ ap (λ k. is_some (get order_key_cmp c.loop-entry.forms k)) (sym c.order_key-key.ensures)
     ∙ sym c.contains_key.ensures ∙ c.if-contains_key.true in
     let two : Any (IsSameOrder c.in-Some.row) c.loop-entry.rows.items = stands c.loop-entry.rows.items c.in-Some.row held in
     first_bad c.args.entries.now c.loop-entry.entry-index (c.loop-entry.number + 1) c.entry-item.result
@@ -37,8 +39,8 @@ loop-entry-preserved c =
     let read : row_of (view (get_or c.args.entries.now c.loop-entry.entry-index c.entry-item.result)) ≡ Some
     c.in-Some.row =
     rw (← c.entry-item.is) (sym c.in-Some.ensures) in
-    let fresh : is_some (get key_eq c.loop-entry.forms (order_key c.in-Some.row)) ≡ false =
-    ap (λ k. is_some (get key_eq c.loop-entry.forms k)) (sym c.order_key-key.ensures)
+    let fresh : is_some (get order_key_cmp c.loop-entry.forms (order_key c.in-Some.row)) ≡ false =
+    ap (λ k. is_some (get order_key_cmp c.loop-entry.forms k)) (sym c.order_key-key.ensures)
     ∙ sym c.contains_key.ensures ∙ c.if-contains_key.false in
     let one : Any (IsSameOrder c.in-Some.row) c.loop-entry.rows.items → ⊥ =
     stands_not c.loop-entry.rows.items c.in-Some.row
@@ -47,11 +49,11 @@ loop-entry-preserved c =
       counted = omega arith;
       forms =
           rw c.in_ok-push.ensures.items
-          (forms_more c.loop-entry.rows.items c.in-Some.row (get key_eq c.loop-entry.forms)
-          (get key_eq c.insert.new.self) c.loop-entry.invariant.forms fresh
+          (forms_more c.loop-entry.rows.items c.in-Some.row (get order_key_cmp c.loop-entry.forms)
+          (get order_key_cmp c.insert.new.self) c.loop-entry.invariant.forms fresh
           (λ q.
           c.in_ok-insert.ensures.updates.0 q
-          ∙ ap (λ k. cond (key_eq k q) (Some c.in-Some.row.form) (get key_eq c.loop-entry.forms q))
+          ∙ ap (λ k. cond (is_eq (order_key_cmp k q)) (Some c.in-Some.row.form) (get order_key_cmp c.loop-entry.forms q))
           c.order_key-key.ensures));
       rows =
           rw c.in_ok-push.ensures.items

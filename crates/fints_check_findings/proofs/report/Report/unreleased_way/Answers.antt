@@ -1,47 +1,18 @@
-use Rattle.std.proofs.Common.{ℕ, ◌≡◌, List, Option, Some, IfOk, refl, sym, subst, ◌∙◌}
+use Rattle.std.proofs.Common.{ℕ, ◌≡◌, List, Option, Some, IfOk, sym, subst, ◌∙◌}
 use Rattle.std.proofs.lemmas.Option.{same_Some}
 use Rattle.fints_check_reach.specs.Following.{CarriesTo, LeadsBehind}
-use Rattle.fints_check_reach.specs.Numbers.{AreGreatest, Has}
+use Rattle.fints_check_reach.specs.Numbers.{Has}
 use Rattle.fints_script.specs.Numbered.{numbered_within}
-use Rattle.fints_script.specs.Plans.{IsClosed}
-use Rattle.fints_script.specs.Scripts.{ScriptValue}
-use Rattle.fints_script.specs.Sound.{IsSound}
 use Rattle.fints_script.specs.Steps.{StepValue}
 use Rattle.fints_check_findings.specs.Findings.{IsReal}
-use Rattle.fints_check_findings.specs.Laws.{release_of}
-use Rattle.fints_check_findings.specs.Releases.{AreHolders, IsHeld, LeadsUnreleased}
+use Rattle.fints_check_findings.specs.Releases.{LeadsUnreleased}
 use Rattle.fints_check_findings.specs.Reports.{ReportValue}
-use Rattle.fints_check_findings.specs.declared.finding.Finding.{Finding}
-use Rattle.fints_rules_permissions.specs.Permits.{Granted}
-use Rattle.fints_rules_permissions.specs.declared.orders.OrderRow.{OrderRow}
-use Rattle.fints_rules.specs.declared.rule.Rule.TheVariants.{Release}
-use Rattle.fints_check_findings.proofs.CaseLemmas.{as_release, if_ok}
-use Rattle.fints_check_findings.proofs.Holding.{has_holder}
+use Rattle.fints_check_findings.proofs.Beside.{held_beside, kept_beside}
+use Rattle.fints_check_findings.proofs.CaseLemmas.{if_ok}
 use Rattle.fints_rules.specs.declared.release.TheConstants.{RELEASE}
-use Rattle.fints_check_findings.proofs.LawLemmas.{held_is_unreleased, release_is_left}
+use Rattle.fints_check_findings.proofs.LawLemmas.{held_is_unreleased}
 use Rattle.fints_script.proofs.LawLemmas.{sound_of}
 use Rattle.fints_check_findings.proofs.report.Report.unreleased_way.Goals as goal
-
--- a step is kept beside that of a real finding of P11
-kept_beside : (granted : Granted) (script : ScriptValue) (orders : List OrderRow)
-    (numbers holders : List (Option ℕ))
-    (f : Finding) → IsSound script → granted.orders ≡ orders → IsClosed script orders
-    → AreGreatest script.steps numbers
-    → AreHolders script.steps numbers holders → f.rule ≡ Release → IsReal granted script f
-    → (t : ℕ) × Has holders f.step t
-kept_beside granted script orders numbers holders f sound same closed greatest are release real =
-    let left = λ (s : ℕ) (r : IsReal granted script (release_of s)). (release_is_left granted script (release_of s) sound refl r).1 in
-    let whole = (release_is_left granted script f sound release real).0 in
-    has_holder granted script numbers holders greatest are left
-    (λ t s. held_is_unreleased script orders t s sound closed) f.step
-    (subst (IsReal granted script) (sym (as_release f release whole)) real)
-
--- what is known of a step that is kept beside another
-held_beside : (steps : List StepValue) (numbers holders cells : List (Option ℕ)) (s t : ℕ)
-    → AreHolders steps numbers holders
-    → cells ≡ holders → Has cells s t → ((number : ℕ) × Has numbers t number) × IsHeld steps t s
-held_beside steps numbers holders cells s t are same noted =
-    are.each s t (subst (λ (xs : List (Option ℕ)). Has xs s t) same noted)
 
 pub holder_of-t-requires-clause-noted : goal.holder_of-t-requires-clause-noted
 holder_of-t-requires-clause-noted c =
