@@ -225,6 +225,11 @@ hostile = branching(LATE, ENDS)
 unreleased = branching([f"{j:02}**" for j in range(1, 21)], 'segments = [{kind = "HKTAN", version = 6, elements = ["4"]}]')
 
 
+def unsent(count):
+    """Steps of which runs send the first alone; the others lead to one another."""
+    return f'[[step]]\nname = "s0"\n{ENDS}\n' + hostile(count - 1)
+
+
 def in_a_row(segments, count):
     """So many steps of these segments, each behind the one before."""
     ends = [f'default = "s{i + 1}"\n' for i in range(count - 1)] + [""]
@@ -403,6 +408,7 @@ def measured(room):
         ("check, steps that submit orders, 20 branches each", "steps", 500, on("check", unreleased)),
         ("explain, steps that submit orders, 20 branches each", "steps", 500, on("explain", unreleased)),
         ("check --hints, steps that submit orders, 20 branches each", "steps", 500, hinted(on("check", unreleased))),
+        ("check --hints, steps that no run sends, 20 branches each", "steps", 500, hinted(on("check", unsent))),
         ("check, orders over 100 listed accounts, 202 at the bank", "orders", 10 * k, of_few(of_listed)),
         ("explain, orders that no bank takes, 100 kinds a step", "orders", 10 * k, on("explain", unknown)),
         ("explain --finding 1, orders that no bank takes", "orders", 10 * k, lambda n: [*on("explain", unknown)(n), "--finding", "1"]),

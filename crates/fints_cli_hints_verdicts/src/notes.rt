@@ -1,6 +1,4 @@
 //! What is clean and may still be wrong: notes on a script, which are no findings.
-ghost use Rattle.std.specs.Prelude.{◌≤◌, ◌+◌, length, IfSome};
-
 use crate::steps::{figures_of, is_open};
 use fints_check::Report;
 use fints_cli_hints_reasons::branches::BranchOf;
@@ -161,34 +159,51 @@ fn add_closed(text: &mut String, alloc: Global, step: &Step) -> Result<(), Memor
     Ok(())
 }
 
-// The branch of the step that leads to step n, if there is one: the default counts as the last.
-fn branch_to(step: &Step, n: usize) -> Option<usize>
-    ensures { IfSome result (λ branch. (1 ≤ branch) × (branch ≤ length step.now.branches + 1)) }
-{
-    for branch in 1..step.branches().len() + 2 {
-        if let Target::Step(to) = step.target(branch)
-            && usize::from(to) == n
-        {
-            return Some(branch);
-        }
-    }
-    None
+// The first way to a step: the place of the first step that has a branch there, and its first such branch.
+// Branches count from 1, and the default counts as the last.
+#[derive(Clone, Copy)]
+struct Lead {
+    from: usize,
+    branch: usize,
 }
 
-// Why no run sends step n.
-fn why_unsent(report: &Report<'_>, steps: &[Step], n: usize) -> Unsent {
-    for (i, step) in steps.iter().enumerate() {
-        let Some(branch) = branch_to(step, n) else {
+// Keeps the branches of a step that are the first way to another.
+fn add_leads(leads: &mut [Option<Lead>], step: &Step, from: usize) {
+    for branch in 1..step.branches().len() + 2 {
+        let Target::Step(to) = step.target(branch) else {
             continue;
         };
-        if figures_of(report, i + 1).is_none() {
-            return Unsent::Behind(step.name());
-        }
-        if !is_open(step, branch) {
-            return Unsent::Closed(BranchOf::at(step, branch), step.name());
+        if let Some(place) = usize::from(to).checked_sub(1)
+            && let Some(lead) = leads.get_mut(place)
+            && lead.is_none()
+        {
+            *lead = Some(Lead { from, branch });
         }
     }
-    Unsent::Apart
+}
+
+// The first way to each step, where there is one.
+fn leads_of(alloc: Global, steps: &[Step]) -> Result<Vec<Option<Lead>>, Memory> {
+    let mut leads: Vec<Option<Lead>> = vec![in alloc; None; steps.len()]?;
+    for (from, step) in steps.iter().enumerate() {
+        add_leads(leads.as_mut_slice(), step, from);
+    }
+    Ok(leads)
+}
+
+// Why no run sends a step, by the first way to it.
+fn why_unsent(report: &Report<'_>, steps: &[Step], lead: Option<Lead>) -> Unsent {
+    let Some(Lead { from, branch }) = lead else {
+        return Unsent::Apart;
+    };
+    let Some(step) = steps.get(from) else {
+        return Unsent::Apart;
+    };
+    if figures_of(report, from.saturating_add(1)).is_none() {
+        Unsent::Behind(step.name())
+    } else {
+        Unsent::Closed(BranchOf::at(step, branch), step.name())
+    }
 }
 
 // ---- whether the dialogue is ended
@@ -279,11 +294,12 @@ fn add_steps(
     endless: Option<usize>,
 ) -> Result<(), Memory> {
     let has_seal = report.plan().seal().is_some();
+    let leads = leads_of(alloc, steps)?;
     for (i, step) in steps.iter().enumerate() {
         add_sent(text, alloc, step, has_seal)?;
         add_closed(text, alloc, step)?;
         if figures_of(report, i + 1).is_none() {
-            let why = why_unsent(report, steps, i + 1);
+            let why = why_unsent(report, steps, leads.get(i).copied().flatten());
             add_note(text, alloc, Note::NotSent(step.name(), why))?;
         }
         if endless == Some(i) {
