@@ -350,6 +350,7 @@ def measured(room):
     unlike, their_table = room.file(orders_of(others)), room.file(table(others, "national"))
     show = lambda make: lambda n: ["show", "--params", room.file(make(n))]
     judge = lambda make, file, of=ORDERS: lambda n: ["judge", "--params", room.file(make(n)), "--orders", of, "--message", file]
+    judged = lambda make: lambda n: ["judge", "--params", C1, "--orders", ORDERS, "--message", room.file(make(n))]
     run = lambda script, case: ["run", "--orders", ORDERS, "--script", script, "--case", case]
     hinted = lambda make: lambda n: [*make(n), "--hints"]
     case, end = f"{INPUTS}/no-answer.case", f"{INPUTS}/end.toml"
@@ -392,6 +393,8 @@ def measured(room):
         ("judge, rows of HITANS, 990 HKTAN", "bytes", half, judge(procedures, room.file(message(DEMANDING + [SUBMITS] * 990)))),
         ("check, HKTAN at a bank with rows of HITANS", "segments", 9_800, of_procedures(submitting)),
         ("judge, a message of orders", "orders", 498, lambda n: judge(lambda _: HEAD, room.file(orders(n)))(0)),
+        ("judge, a message of elements of one byte", "bytes", half, judged(filler("+a"))),
+        ("show --message, a message of elements of one byte", "bytes", half, lambda n: ["show", "--message", room.file(filler("+a")(n))]),
         ("audit, messages of 1 order", "bytes", half, audit(one)),
         ("audit, messages of 996 orders", "bytes", half, audit(all_in_one)),
         ("audit, messages of 1 order, the last answer tells parameters", "bytes", half, audit_own(told_last(orders(1)))),
@@ -413,6 +416,8 @@ def measured(room):
         ("explain, orders that no bank takes, 100 kinds a step", "orders", 10 * k, on("explain", unknown)),
         ("explain --finding 1, orders that no bank takes", "orders", 10 * k, lambda n: [*on("explain", unknown)(n), "--finding", "1"]),
         ("check --hints, orders of none of 42,000 accounts", "orders", 10 * k, hinted(of_accounts(naming))),
+        ("draw, steps with 20 hostile branches each", "steps", 500, on("draw", hostile)),
+        ("draw, steps that submit orders, 20 branches each", "steps", 500, on("draw", unreleased)),
         ("certify, steps with 20 hostile branches each", "steps", 500, on("certify", hostile)),
         ("verify, steps with 20 hostile branches each", "steps", 500, verify),
         ("run, messages of 980 kB", "messages", 198, lambda n: run(room.file(heavy(n // 99)), room.file(heavy_case(n // 99)))),

@@ -1,7 +1,7 @@
 //! The checker: findings and their cases, figures and certificates.
 ghost use Rattle.std.specs.Prelude.{◌≡◌};
 
-use crate::samples::{C, C1, FORK, SECOND_ACCOUNT, SHOWN, T};
+use crate::samples::{C, C1, FORK, SECOND_ACCOUNT, SHOWN, T, UNRELEASED};
 use fints_check::{
     CertFault, Certificate, Certified, Finding, Memory, Reached, Report, check, confirm,
     greatest_figures, verify,
@@ -25,6 +25,8 @@ enum Row<'a> {
     SecondAccount,
     /// Whether this case shows what is found there.
     Confirmed(&'a [u8]),
+    /// Whether the report is that of row `order-without-its-release`.
+    Unreleased,
 }
 
 const FIRST: Option<Reached> = Some(Reached {
@@ -110,7 +112,7 @@ fn is_shown(alloc: Global, report: &Report<'_>) -> Result<bool, Memory> {
     }
     let case = report.case(alloc, 0)?;
     let text = case.write(alloc)?;
-    Ok(text.as_slice() == SHOWN)
+    Ok(text.as_slice() == SHOWN && report.step_left(0) == None)
 }
 
 fn is_second_account(
@@ -122,6 +124,27 @@ fn is_second_account(
 {
     let report = check(alloc, permissions, plan)?;
     Ok(!report.is_clean() && is_shown(alloc, &report)?)
+}
+
+const LEFT: Finding = Finding {
+    step: 2,
+    rule: Rule::Release,
+    segment: 0,
+};
+
+// Whether the report is that of the row, and tells that the order is of the first step.
+fn is_unreleased(
+    alloc: Global,
+    permissions: &Permissions<'_>,
+    plan: &Plan<'_>,
+) -> Result<bool, Memory>
+    requires { permissions.now.orders ≡ plan.now.orders }
+{
+    let report = check(alloc, permissions, plan)?;
+    if report.findings() != [LEFT].as_slice() {
+        return Ok(false);
+    }
+    Ok(report.step_left(0) == Some(1))
 }
 
 const FIRST_ACCOUNT: &[u8] =
@@ -151,6 +174,7 @@ fn is_row(
         Row::Verified(text) => Ok(is_verified(alloc, permissions, plan, text)?),
         Row::SecondAccount => Ok(is_second_account(alloc, permissions, plan)?),
         Row::Confirmed(text) => is_confirmed(alloc, permissions, plan, text),
+        Row::Unreleased => Ok(is_unreleased(alloc, permissions, plan)?),
     }
 }
 
@@ -173,6 +197,7 @@ fn reports(rt: HostRuntime) -> Result<(), Fail> {
     let alloc = rt.alloc();
     assert!(rt; is_row_of(alloc, C1, FORK, Row::Fork)?);
     assert!(rt; is_row_of(alloc, C, SECOND_ACCOUNT, Row::SecondAccount)?);
+    assert!(rt; is_row_of(alloc, C, UNRELEASED, Row::Unreleased)?);
     Ok(())
 }
 

@@ -95,6 +95,33 @@ signers = ["me"]
 segments = [{kind = "HKCCS", version = 1, elements = ["$acct"]}, {kind = "HKTAN", version = 6, elements = ["4", "HKCCS"]}]
 "#;
 
+/// Script of row `order-without-its-release`: a transfer, and behind it a message that doesn't send its TAN.
+pub const UNRELEASED: &[u8] = br#"[[field]]
+name = "pin"
+class = "digits"
+min = 5
+max = 6
+[[field]]
+name = "tan"
+class = "digits"
+min = 0
+max = 6
+[[signer]]
+name = "me"
+head = [["PIN","1"], "999", "1", "1", "1", ["1","","0"], "1",
+  ["1","20260101","120000"], ["1","999","1"], ["6","10","16"],
+  ["280","10020030","user","S","0","0"]]
+end = ["1", "", ["$pin", "$tan"]]
+[[step]]
+name = "pay"
+signers = ["me"]
+segments = [{kind = "HKCCS", version = 1, elements = [["DE111"]]}, {kind = "HKTAN", version = 6, elements = ["4", "HKCCS"]}]
+default = "next"
+[[step]]
+name = "next"
+segments = [{kind = "HKIDN", version = 2, elements = ["280"]}]
+"#;
+
 /// The case of row `second-account`.
 pub const SHOWN: &[u8] =
     b"fints-case 1\nfield dialog 41\nfield pin 3030303030\nfield tan -\nfield acct 4445323232\n";
