@@ -528,6 +528,7 @@ def marked(room):
     judge = lambda make: lambda n: ["judge", "--params", room.file(make(n)), "--orders", ORDERS, "--message", small]
     judged = lambda make: lambda n: ["judge", "--params", C1, "--orders", ORDERS, "--message", room.file(make(n))]
     check = lambda make: lambda n: ["check", "--params", C1, "--orders", ORDERS, "--script", room.file(make(n))]
+    told = lambda make: lambda n: ["show", "--message", room.file(make(n))]
     tabled = lambda make: lambda n: ["judge", "--params", C1, "--orders", room.file(make(n)), "--message", small]
     unread = lambda make: lambda n: "unread = 1\n" + make(n)
     of_toml = lambda label, words, make: (label, MOST_TEXT // 2 - 2_000, words(make), 30, words(unread(make)))
@@ -547,6 +548,8 @@ def marked(room):
         ("judge, a message of + alone", half, judged(filler("+")), 12, None),
         ("judge, a message of : alone", half, judged(filler(":")), 12, None),
         ("judge, a message of elements of one byte", half, judged(filler("+a")), 12, None),
+        ("show --message, a message of + alone", half, told(filler("+")), 12, None),
+        ("show --message, a message of elements of one byte", half, told(filler("+a")), 12, None),
         of_toml("check, a script of empty texts", check, texts('""', 990)),
         of_toml("check, a script of texts of one letter", check, texts('"a"', 990)),
         of_toml("check, a script of segments without elements", check, texts('""', 0)),

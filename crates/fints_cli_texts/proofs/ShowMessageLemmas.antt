@@ -1,24 +1,23 @@
 -- The segments of a message, and their lines.
-use Rattle.std.proofs.Common.{codes, ◌≡◌, ℕ, zero, suc, ◌<◌, ◌≤◌, Bool, true, false, List, [], ◌∷◌, ◌++◌, length, get_or, drop, take, refl, ap, ◌∙◌, sym, subst, arith, inl, inr, append_assoc, None, ◌&&◌, Result, Ok, Err, IfErr}
+use Rattle.std.proofs.Common.{codes, ◌≡◌, ℕ, ◌<◌, Bool, true, false, List, [], ◌∷◌, ◌++◌, length, drop, take, refl, ap, ◌∙◌, sym, subst, arith, inl, inr, append_assoc, None, ◌&&◌, Result, Ok, Err, IfErr}
 use Rattle.std.specs.Prelude.{IsTrue, ◌==◌, ◌⊎◌}
 use Rattle.std.specs.Result.{IsErrAnd}
 use Rattle.std.specs.List.{flat_map, AllByRecursion}
 use Rattle.std.specs.Str.{bytes_eq}
 use Rattle.std.proofs.lemmas.Bool.{and_parts}
-use Rattle.std.proofs.lemmas.List.{append-nil, length-drop, length-take-le, map-append, take-append-drop}
+use Rattle.std.proofs.lemmas.List.{append-nil, length-append, map-append, take-append-drop}
 use Rattle.std.proofs.lemmas.List.Concat.{flat_map-append}
 use Rattle.std.proofs.lemmas.Slice.Eq.{bytes_eq-Decides}
 use Rattle.fints_syntax_segments.specs.Spelling.{Spelled}
-use Rattle.fints_syntax_segments.specs.Segment.{segment_bytes, values_of, IsSegment}
+use Rattle.fints_syntax_segments.specs.Segment.{segment_bytes, IsSegment}
 use Rattle.fints_syntax_segments.specs.Values.{is_named}
-use Rattle.fints_syntax_segments.specs.declared.item.OwnedItem.{OwnedItem}
 use Rattle.fints_syntax_segments.specs.declared.item.OwnedSegment.{OwnedSegment}
 use Rattle.fints_syntax.specs.Owned.{segment_of, segments_of}
 use Rattle.fints_syntax.specs.Faults.{BeginsWithSegment, window_of}
 use Rattle.fints_syntax.proofs.LawLemmas.{one_segment_text, segment_is_read}
 use Rattle.fints_params.specs.Sealed.{is_sealed}
 use Rattle.fints_rules_messages.specs.Segments.{texts_of, IsText}
-use Rattle.fints_rules_messages.specs.Messages.{MessageView, IsForm, IsInner, IsFirst, IsLast, IsSealHead, IsEnvelope, Seals, IsMessage}
+use Rattle.fints_rules_messages.specs.Messages.{MessageView, IsForm, IsInner, IsFirst, IsLast, IsSealHead, Seals, IsMessage}
 use Rattle.fints_rules_messages.specs.Parts.{part_of}
 use Rattle.fints_rules_messages.specs.declared.part.Part.{Part}
 use Rattle.fints_rules_messages.specs.declared.part.Part.TheVariants.{Opener, Body, Ender, Other}
@@ -29,13 +28,7 @@ use Rattle.fints_rules_messages.specs.declared.message.JudgeFault.TheVariants as
 use Rattle.fints_cli_texts.specs.declared.fault.Fault.{Fault}
 use Rattle.fints_cli_texts.specs.declared.fault.Fault.TheVariants.{Memory}
 use Rattle.fints_cli_texts.specs.Fault.{message_fault_of}
-use Rattle.fints_cli_texts.specs.ShowMessage.{Opened, IsOpened, opened_lines, HasSegments, IsShowable, IsShownIn, AreShownIn, IsShownMessage}
-
-pub all_at : {X : Type 0} (P : X → Type 0) (xs : List X) (i : ℕ) (d : X) → AllByRecursion P xs → i < length xs
-    → P (get_or xs i d)
-all_at P [] i d h lt = absurd (omega arith)
-all_at P (x ∷ xs) zero d h lt = h.0
-all_at P (x ∷ xs) (suc i) d h lt = all_at P xs i d h.1 (omega arith)
+use Rattle.fints_cli_texts.specs.ShowMessage.{Opened, IsOpened, opened_lines, segment_line, HasSegments, HasShowable, IsBefore, IsShowable, IsShownIn, AreShownIn, AreLinesIn, IsTextShownIn, IsShownMessage}
 
 -- ---- which segments of a message are HNVSD
 
@@ -94,18 +87,16 @@ form_opens ss m h =
     (inl (last_opens m.number t.last t.is_last), tt)) in
     subst (AllByRecursion IsShowable) (sym h.together) (inl (first_opens m.size m.number h.first h.is_first), tail)
 
--- the segments that the bytes of a message are read as can be shown
-pub message_showable : (bytes : List ℕ) (m : MessageView) (ss : List OwnedSegment) → IsMessage bytes m
-    → IsText bytes ss → AllByRecursion IsShowable ss
-message_showable bytes m ss is text =
-    subst (AllByRecursion IsShowable) (text_one one_segment_text bytes is.segments ss is.text text) (form_opens is.segments m is.form)
+-- a message has segments, each of which can be shown
+pub message_showable : (bytes : List ℕ) (m : MessageView) → IsMessage bytes m → HasShowable bytes
+message_showable bytes m is = (is.segments, is.text, form_opens is.segments m is.form)
 
 -- ---- lines
 
-pub none_shown : (before : List ℕ) → AreShownIn [] before before
+none_shown : (before : List ℕ) → AreShownIn [] before before
 none_shown before = record { opened = []; segments_are = refl; each = tt; text = sym (append-nil before) }
 
-pub one_more_shown : (ss : List OwnedSegment) (s : OwnedSegment) (before middle after : List ℕ)
+one_more_shown : (ss : List OwnedSegment) (s : OwnedSegment) (before middle after : List ℕ)
     → AreShownIn ss before middle → IsShownIn s middle after → AreShownIn (ss ++ s ∷ []) before after
 one_more_shown ss s before middle after h g =
     let o : Opened = record { segment = s; inside = g.inside } in
@@ -128,81 +119,44 @@ pub memory_told : {T : Type 0} (r : Result T Fault) (e : JudgeFault)
 memory_told (Ok v) e is memory = tt
 memory_told (Err f) e is memory = is ∙ ap message_fault_of memory
 
-pub shown_message : (bytes text : List ℕ) (m : MessageView) (ss : List OwnedSegment) → IsMessage bytes m
-    → IsText bytes ss → AreShownIn ss [] text → IsShownMessage bytes text
-shown_message bytes text m ss is read h = record {
+pub shown_message : (bytes text : List ℕ) (m : MessageView) → IsMessage bytes m
+    → IsTextShownIn bytes [] text → IsShownMessage bytes text
+shown_message bytes text m is h = record {
   held = m;
   is = is;
-  opened = h.opened;
-  segments_are = h.segments_are ∙ text_one one_segment_text bytes ss is.segments read is.text;
-  each = h.each;
-  text_is = h.text;
+  opened = h.shown.opened;
+  segments_are = h.shown.segments_are ∙ text_one one_segment_text bytes h.segments is.segments h.read is.text;
+  each = h.shown.each;
+  text_is = h.shown.text;
 }
 
 -- ---- the segments of bytes, as they are read
 
--- the bytes are the texts of the segments so far and of those that are left
+-- the bytes are the texts of the segments so far, and what is left
 pub record IsReadSoFar (bytes rest : List ℕ) (found : List OwnedSegment) : Type 0 where
   pub done : List (List (List Spelled))
-  pub left : List (List (List Spelled))
   pub each : AllByRecursion IsSegment done
-  pub each_left : AllByRecursion IsSegment left
   pub text : bytes ≡ texts_of done ++ rest
-  pub rest_is : rest ≡ texts_of left
   pub found_are : segments_of done ≡ found
 
-pub none_read : (bytes : List ℕ) → HasSegments bytes → IsReadSoFar bytes bytes []
-none_read bytes h = record {
-  done = [];
-  left = h.1.trees;
-  each = tt;
-  each_left = h.1.each;
-  text = refl;
-  rest_is = h.1.text;
-  found_are = refl;
+none_read : (bytes : List ℕ) → IsReadSoFar bytes bytes []
+none_read bytes = record { done = []; each = tt; text = refl; found_are = refl }
+
+one_more_read : (bytes rest more : List ℕ) (found : List OwnedSegment) (s : OwnedSegment)
+    → IsReadSoFar bytes rest found → IsBefore rest s more → IsReadSoFar bytes more (found ++ s ∷ [])
+one_more_read bytes rest more found s h b = record {
+  done = h.done ++ b.tree ∷ [];
+  each = all_append IsSegment h.done (b.tree ∷ []) h.each (b.is, tt);
+  text =
+      h.text ∙ ap (λ xs. texts_of h.done ++ xs) b.text
+      ∙ sym (append_assoc (texts_of h.done) (segment_bytes b.tree) more)
+      ∙ ap (λ xs. xs ++ more) (sym (text-snoc h.done b.tree));
+  found_are =
+      segments-snoc h.done b.tree ∙ ap (λ xs. xs ++ segment_of b.tree ∷ []) h.found_are
+      ∙ ap (λ x. found ++ x ∷ []) (sym b.value);
 }
 
-pub one_more_read : (bytes rest : List ℕ) (found new : List OwnedSegment) (t : List (List Spelled))
-    (s : OwnedSegment) (len : ℕ)
-    → IsReadSoFar bytes rest found → IsSegment t → take len rest ≡ segment_bytes t → s ≡ segment_of t
-    → new ≡ found ++ s ∷ [] → IsReadSoFar bytes (drop len rest) new
-one_more_read bytes rest found new t s len h is text same more =
-    let rest_is : rest ≡ segment_bytes t ++ drop len rest = sym (take-append-drop len rest) ∙ ap (λ xs. xs ++ drop len rest) text in
-    let one : texts_of (t ∷ []) ++ drop len rest ≡ texts_of h.left =
-    ap (λ xs. xs ++ drop len rest) (append-nil (segment_bytes t)) ∙ sym rest_is ∙ h.rest_is in
-    let r = rest_of one_segment_text (t ∷ []) h.left (drop len rest) (is, tt) h.each_left one in
-    record {
-      done = h.done ++ t ∷ [];
-      left = r.more;
-      each = all_append IsSegment h.done (t ∷ []) h.each (is, tt);
-      each_left = r.each;
-      text =
-          h.text ∙ ap (λ xs. texts_of h.done ++ xs) rest_is
-          ∙ sym (append_assoc (texts_of h.done) (segment_bytes t) (drop len rest))
-          ∙ ap (λ xs. xs ++ drop len rest) (sym (text-snoc h.done t));
-      rest_is = r.text;
-      found_are =
-          segments-snoc h.done t ∙ ap (λ xs. xs ++ segment_of t ∷ []) h.found_are
-          ∙ ap (λ x. found ++ x ∷ []) (sym same) ∙ sym more;
-    }
-
--- fewer bytes are left behind it
-pub fewer_left : (rest : List ℕ) (t : List (List Spelled)) (len : ℕ) → IsSegment t
-    → take len rest ≡ segment_bytes t → len ≤ length rest → length (drop len rest) < length rest
-fewer_left rest t len is text within =
-    omega (arith, segment_positive t is, ap length text, length-take-le len rest within, length-drop len rest)
-
--- a segment stands where bytes are left
-pub one_is_left : (bytes rest : List ℕ) (found : List OwnedSegment) → IsReadSoFar bytes rest found
-    → 0 < length rest → (BeginsWithSegment (window_of rest) → ⊥) → ⊥
-one_is_left bytes rest found h some none = elim h.left as (λ ts. h.left ≡ ts → ⊥) [
-  | [] ↦ λ e. omega (arith, ap length (h.rest_is ∙ ap texts_of e))
-  | t ∷ ts ↦ λ e.
-      no_segment segment_is_read rest none t (texts_of ts) (subst (AllByRecursion IsSegment) e h.each_left).0
-      (h.rest_is ∙ ap texts_of e)
-] refl
-
-pub all_read : (bytes rest : List ℕ) (found : List OwnedSegment) → IsReadSoFar bytes rest found
+all_read : (bytes rest : List ℕ) (found : List OwnedSegment) → IsReadSoFar bytes rest found
     → length rest ≡ 0 → IsText bytes found
 all_read bytes [] found h e = record {
   trees = h.done;
@@ -211,3 +165,111 @@ all_read bytes [] found h e = record {
   values = h.found_are;
 }
 all_read bytes (b ∷ bs) found h e = absurd (omega arith)
+
+-- ---- the first of them
+
+-- a segment stands where bytes are left
+pub one_is_left : (bytes : List ℕ) → HasSegments bytes → 0 < length bytes
+    → (BeginsWithSegment (window_of bytes) → ⊥) → ⊥
+one_is_left bytes h some none = elim h.1.trees as (λ ts. h.1.trees ≡ ts → ⊥) [
+  | [] ↦ λ e. omega (arith, ap length (h.1.text ∙ ap texts_of e))
+  | t ∷ ts ↦ λ e.
+      no_segment segment_is_read bytes none t (texts_of ts) (subst (AllByRecursion IsSegment) e h.1.each).0
+      (h.1.text ∙ ap texts_of e)
+] refl
+
+pub first_before : (bytes : List ℕ) (t : List (List Spelled)) (s : OwnedSegment) (len : ℕ) → IsSegment t
+    → take len bytes ≡ segment_bytes t → s ≡ segment_of t → IsBefore bytes s (drop len bytes)
+first_before bytes t s len is text value = record {
+  tree = t;
+  is = is;
+  text = sym (take-append-drop len bytes) ∙ ap (λ xs. xs ++ drop len bytes) text;
+  value = value;
+}
+
+-- fewer bytes are left behind it
+pub fewer_left : (bytes : List ℕ) (s : OwnedSegment) (more : List ℕ) → IsBefore bytes s more
+    → length more < length bytes
+fewer_left bytes s more b =
+    omega (arith, segment_positive b.tree b.is, ap length b.text, length-append (segment_bytes b.tree) more)
+
+-- it is the first of the segments that the bytes are the texts of, and the others are those of what is left
+left_behind : (bytes : List ℕ) (s : OwnedSegment) (more : List ℕ) (ss : List OwnedSegment) → IsText bytes ss
+    → IsBefore bytes s more → (left : List OwnedSegment) × IsText more left × (ss ≡ s ∷ left)
+left_behind bytes s more ss text b =
+    let one : texts_of (b.tree ∷ []) ++ more ≡ texts_of text.trees =
+    ap (λ xs. xs ++ more) (append-nil (segment_bytes b.tree)) ∙ sym b.text ∙ text.text in
+    let r = rest_of one_segment_text (b.tree ∷ []) text.trees more (b.is, tt) text.each one in (
+      segments_of r.more,
+      record { trees = r.more; each = r.each; text = r.text; values = refl },
+      sym text.values ∙ ap segments_of r.together ∙ ap (λ x. x ∷ segments_of r.more) (sym b.value),
+    )
+
+segments_left : (bytes : List ℕ) (s : OwnedSegment) (more : List ℕ) → HasSegments bytes
+    → IsBefore bytes s more → HasSegments more
+segments_left bytes s more h b = let l = left_behind bytes s more h.0 h.1 b in (l.0, l.1)
+
+pub showable_left : (bytes : List ℕ) (s : OwnedSegment) (more : List ℕ) → HasShowable bytes
+    → IsBefore bytes s more → IsShowable s × HasShowable more
+showable_left bytes s more h b =
+    let l = left_behind bytes s more h.0 h.1 b in
+    let each = subst (AllByRecursion IsShowable) l.2 h.2 in
+    (each.0, (l.0, l.1, each.1))
+
+-- ---- the lines of those in the data of HNVSD
+
+-- the indented lines of the segments so far were added
+pub record AreLinesSoFar (bytes rest before now : List ℕ) : Type 0 where
+  pub found : List OwnedSegment
+  pub read : IsReadSoFar bytes rest found
+  pub left : HasSegments rest
+  pub text : now ≡ before ++ flat_map (segment_line (codes "  ")) found
+
+pub no_lines : (bytes before : List ℕ) → HasSegments bytes → AreLinesSoFar bytes bytes before before
+no_lines bytes before h = record { found = []; read = none_read bytes; left = h; text = sym (append-nil before) }
+
+pub one_more_line : (bytes rest more before now later : List ℕ) (s : OwnedSegment)
+    → AreLinesSoFar bytes rest before now → IsBefore rest s more
+    → later ≡ now ++ segment_line (codes "  ") s → AreLinesSoFar bytes more before later
+one_more_line bytes rest more before now later s h b added =
+    let line = segment_line (codes "  ") in
+    record {
+      found = h.found ++ s ∷ [];
+      read = one_more_read bytes rest more h.found s h.read b;
+      left = segments_left rest s more h.left b;
+      text =
+          added ∙ ap (λ xs. xs ++ line s) h.text ∙ append_assoc before (flat_map line h.found) (line s)
+          ∙ ap (λ xs. before ++ xs)
+          (ap (λ xs. flat_map line h.found ++ xs) (sym (append-nil (line s)))
+          ∙ sym (flat_map-append line h.found (s ∷ [])));
+    }
+
+pub all_lines : (bytes rest before after : List ℕ) → AreLinesSoFar bytes rest before after → length rest ≡ 0
+    → AreLinesIn bytes before after
+all_lines bytes rest before after h e = record { segments = h.found; read = all_read bytes rest h.found h.read e; text = h.text }
+
+-- ---- the lines of all
+
+-- the lines of the segments so far were added
+pub record IsShownSoFar (bytes rest before now : List ℕ) : Type 0 where
+  pub found : List OwnedSegment
+  pub read : IsReadSoFar bytes rest found
+  pub left : HasShowable rest
+  pub shown : AreShownIn found before now
+
+pub none_shown_yet : (bytes before : List ℕ) → HasShowable bytes → IsShownSoFar bytes bytes before before
+none_shown_yet bytes before h = record { found = []; read = none_read bytes; left = h; shown = none_shown before }
+
+pub one_shown_more : (bytes rest more before now later : List ℕ) (s : OwnedSegment)
+    → IsShownSoFar bytes rest before now → IsBefore rest s more → IsShownIn s now later
+    → IsShownSoFar bytes more before later
+one_shown_more bytes rest more before now later s h b one = record {
+  found = h.found ++ s ∷ [];
+  read = one_more_read bytes rest more h.found s h.read b;
+  left = (showable_left rest s more h.left b).1;
+  shown = one_more_shown h.found s before now later h.shown one;
+}
+
+pub all_shown : (bytes rest before after : List ℕ) → IsShownSoFar bytes rest before after → length rest ≡ 0
+    → IsTextShownIn bytes before after
+all_shown bytes rest before after h e = record { segments = h.found; read = all_read bytes rest h.found h.read e; shown = h.shown }

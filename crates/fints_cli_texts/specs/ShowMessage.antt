@@ -3,8 +3,11 @@
 use Rattle.std.specs.Prelude.{◌≡◌, ◌⊎◌, ℕ, ◌<◌, Bool, false, ◌||◌, ◌&&◌, nat_le, nat_lt, if◌then◌else◌, List, [], ◌∷◌, ◌++◌, length, map, codes}
 use Rattle.std.specs.List.{flat_map, AllByRecursion}
 use Rattle.hex.specs.Hex.{encode_lower}
+use Rattle.fints_syntax_segments.specs.Segment.{segment_bytes, IsSegment}
+use Rattle.fints_syntax_segments.specs.Spelling.{Spelled}
 use Rattle.fints_syntax_segments.specs.Written.{written_segment}
 use Rattle.fints_syntax_segments.specs.declared.item.OwnedSegment.{OwnedSegment}
+use Rattle.fints_syntax.specs.Owned.{segment_of}
 use Rattle.fints_params.specs.Sealed.{is_sealed}
 use Rattle.fints_rules_messages.specs.Segments.{IsText}
 use Rattle.fints_rules_messages.specs.Messages.{MessageView, IsMessage, IsEnvelope}
@@ -54,6 +57,17 @@ HasSegments bytes = (segments : List OwnedSegment) × IsText bytes segments
 abbrev pub IsShowable : OwnedSegment → Type 0
 IsShowable s = (is_sealed s ≡ false) ⊎ ((inside : List OwnedSegment) × IsEnvelope inside s)
 
+-- the bytes are the texts of some segments, each of which is so
+abbrev pub HasShowable : List ℕ → Type 0
+HasShowable bytes = (segments : List OwnedSegment) × IsText bytes segments × AllByRecursion IsShowable segments
+
+-- the bytes are a text of the segment, and more
+pub record IsBefore (bytes : List ℕ) (s : OwnedSegment) (more : List ℕ) : Type 0 where
+  pub tree : List (List Spelled)
+  pub is : IsSegment tree
+  pub text : bytes ≡ segment_bytes tree ++ more
+  pub value : s ≡ segment_of tree
+
 -- the lines of a segment were added to a text
 pub record IsShownIn (s : OwnedSegment) (before after : List ℕ) : Type 0 where
   pub inside : List OwnedSegment
@@ -66,3 +80,15 @@ pub record AreShownIn (segments : List OwnedSegment) (before after : List ℕ) :
   pub segments_are : map (λ o. o.segment) opened ≡ segments
   pub each : AllByRecursion IsOpened opened
   pub text : after ≡ before ++ flat_map opened_lines opened
+
+-- the lines of the segments that the bytes are the texts of were added to a text
+pub record IsTextShownIn (bytes before after : List ℕ) : Type 0 where
+  pub segments : List OwnedSegment
+  pub read : IsText bytes segments
+  pub shown : AreShownIn segments before after
+
+-- the indented lines of the segments that the bytes are the texts of were added to a text
+pub record AreLinesIn (bytes before after : List ℕ) : Type 0 where
+  pub segments : List OwnedSegment
+  pub read : IsText bytes segments
+  pub text : after ≡ before ++ flat_map (segment_line (codes "  ")) segments

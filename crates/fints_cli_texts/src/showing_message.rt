@@ -1,13 +1,12 @@
 //! The text of `show --message`: a message without its secrets.
 ghost use Rattle.std.specs.Prelude.{◌≡◌, ◌<◌, ◌++◌, length, drop, OnOk, IfOk, IfErr};
-ghost use Rattle.std.specs.List.{flat_map, AllByRecursion};
+ghost use Rattle.std.specs.List.{flat_map};
 ghost use Rattle.fints_syntax_segments.specs.Written.{written_segment};
-ghost use Rattle.fints_rules_messages.specs.Segments.{IsText};
 ghost use Rattle.fints_rules_messages.specs.Messages.{MessageView, IsMessage};
 ghost use Rattle.fints_cli_texts.specs.declared.fault.Fault.TheVariants as fault;
 ghost use Rattle.fints_cli_texts.specs.Judge.{IsMessageRefusal};
 ghost use Rattle.fints_cli_texts.specs.Masked.{masked};
-ghost use Rattle.fints_cli_texts.specs.ShowMessage.{is_control, shown_byte, segment_line, IsOpened, IsShownMessage, HasSegments, IsShowable, IsShownIn, AreShownIn};
+ghost use Rattle.fints_cli_texts.specs.ShowMessage.{is_control, shown_byte, segment_line, IsShownMessage, HasSegments, HasShowable, IsBefore, IsShowable, IsShownIn, IsTextShownIn, AreLinesIn};
 
 use crate::fault::Fault;
 use crate::masking::{emptied_at, masked_at};
@@ -77,68 +76,66 @@ fn write_line(
     Ok(())
 }
 
-fn write_lines(
-    alloc: Global,
-    text: &mut Vec<u8>,
-    blanks: &[u8],
-    segments: &[OwnedSegment],
-) -> Result<(), Memory>
-    ensures { OnOk result (text.new.items
-        ≡ text.old.items ++ flat_map (segment_line blanks.now) segments.now) }
+// The segment that bytes begin with, and the bytes behind it.
+#[derive(Drop)]
+struct First<'a> {
+    segment: OwnedSegment,
+    rest: &'a [u8],
+}
+
+fn first_of<'a>(alloc: Global, bytes: &'a [u8]) -> Result<First<'a>, Memory>
+    requires some { 0 < length bytes.now }
+    requires segments { HasSegments bytes.now }
+    ensures { IfOk result (λ first. IsBefore bytes.now first.segment first.rest.now) }
 {
-    for segment in segments {
-        write_line(alloc, text, blanks, segment)?;
+    let Ok((view, len)) = parse_segment(bytes) else {
+        unreachable!()
+    };
+    let segment = view.to_owned(alloc)?;
+    let (_, rest) = bytes.split_at(len);
+    Ok(First { segment, rest })
+}
+
+// Writes the segments that the bytes are the texts of, each behind two blanks.
+fn write_inside(alloc: Global, text: &mut Vec<u8>, bytes: &[u8]) -> Result<(), Memory>
+    requires { HasSegments bytes.now }
+    ensures { OnOk result (AreLinesIn bytes.now text.old.items text.new.items) }
+{
+    let mut rest = bytes;
+    while !rest.is_empty() {
+        let first = first_of(alloc, rest)?;
+        write_line(alloc, text, b"  ", &first.segment)?;
+        rest = first.rest;
     }
     Ok(())
 }
 
-// The segments that the bytes are the texts of.
-fn segments_in(alloc: Global, bytes: &[u8]) -> Result<Vec<OwnedSegment>, Memory>
-    requires { HasSegments bytes.now }
-    ensures { IfOk result (λ segments. IsText bytes.now segments.items) }
-{
-    let mut segments = Vec::new(alloc);
-    let mut rest = bytes;
-    while !rest.is_empty() {
-        let Ok((view, len)) = parse_segment(rest) else {
-            unreachable!()
-        };
-        segments.push(view.to_owned(alloc)?)?;
-        let (_, more) = rest.split_at(len);
-        rest = more;
-    }
-    Ok(segments)
-}
-
-// The segments in the data of an HNVSD; none of any other segment.
-fn inside(alloc: Global, segment: &OwnedSegment) -> Result<Vec<OwnedSegment>, Memory>
-    requires { IsShowable segment.now }
-    ensures { IfOk result (λ inside. IsOpened (record { segment = segment.now; inside = inside.items })) }
-{
-    if !is_sealed(segment) {
-        return Ok(Vec::new(alloc));
-    }
-    let Some(bytes) = sealed_data(segment) else {
-        unreachable!()
-    };
-    segments_in(alloc, bytes)
-}
-
+// Writes the segment, and those in its data where it is an HNVSD.
 fn write_opened(alloc: Global, text: &mut Vec<u8>, segment: &OwnedSegment) -> Result<(), Memory>
     requires { IsShowable segment.now }
     ensures { OnOk result (IsShownIn segment.now text.old.items text.new.items) }
 {
-    let inside = inside(alloc, segment)?;
     write_line(alloc, text, b"", segment)?;
-    write_lines(alloc, text, b"  ", inside.as_slice())
+    if !is_sealed(segment) {
+        return Ok(());
+    }
+    let Some(bytes) = sealed_data(segment) else {
+        unreachable!()
+    };
+    write_inside(alloc, text, bytes)
 }
 
-fn write_all(alloc: Global, text: &mut Vec<u8>, segments: &[OwnedSegment]) -> Result<(), Memory>
-    requires { AllByRecursion IsShowable segments.now }
-    ensures { OnOk result (AreShownIn segments.now text.old.items text.new.items) }
+// Writes the segments that the bytes are the texts of: one is held at a time, since its items take much
+// more than its text.
+fn write_all(alloc: Global, text: &mut Vec<u8>, bytes: &[u8]) -> Result<(), Memory>
+    requires { HasShowable bytes.now }
+    ensures { OnOk result (IsTextShownIn bytes.now text.old.items text.new.items) }
 {
-    for segment in segments {
-        write_opened(alloc, text, segment)?;
+    let mut rest = bytes;
+    while !rest.is_empty() {
+        let first = first_of(alloc, rest)?;
+        write_opened(alloc, text, &first.segment)?;
+        rest = first.rest;
     }
     Ok(())
 }
@@ -152,8 +149,7 @@ pub fn show_message(alloc: Global, message: &[u8]) -> Result<Vec<u8>, Fault>
         → IfErr result (λ f. f ≡ fault.Memory) }
 {
     read_message(alloc, message)?;
-    let segments = segments_in(alloc, message)?;
     let mut text = Vec::new(alloc);
-    write_all(alloc, &mut text, segments.as_slice())?;
+    write_all(alloc, &mut text, message)?;
     Ok(text)
 }

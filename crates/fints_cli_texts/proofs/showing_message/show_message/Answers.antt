@@ -1,6 +1,5 @@
-use Rattle.std.proofs.Common.{sym, subst}
-use Rattle.std.specs.List.{AllByRecursion}
-use Rattle.fints_cli_texts.specs.ShowMessage.{AreShownIn, IsShowable}
+use Rattle.std.proofs.Common.{subst}
+use Rattle.fints_cli_texts.specs.ShowMessage.{IsTextShownIn}
 use Rattle.fints_cli_texts.proofs.ShowMessageLemmas.{memory_told, message_showable, shown_message}
 use Rattle.fints_cli_texts.proofs.showing_message.show_message.Goals as goal
 
@@ -11,15 +10,10 @@ returns-in_err-read_message-clause-memory_alone c =
 
 pub write_all-requires : goal.write_all-requires
 write_all-requires c =
-    subst (AllByRecursion IsShowable) (sym c.as_slice.ensures.value)
-    (message_showable c.args.message.now c.in_ok-read_message.field-0 c.in_ok-segments.segments.items
-    c.in_ok-read_message.ensures.message c.in_ok-segments.ensures)
+    message_showable c.args.message.now c.in_ok-read_message.field-0 c.in_ok-read_message.ensures.message
 
 pub returns-clause-shown : goal.returns-clause-shown
 returns-clause-shown c =
-    let segments = c.in_ok-segments.segments.items in
     let text = c.write_all.new.text.items in
-    shown_message c.args.message.now text c.in_ok-read_message.field-0 segments
-    c.in_ok-read_message.ensures.message c.in_ok-segments.ensures
-    (subst (λ before. AreShownIn segments before text) c.new-text.ensures.items
-    (subst (λ ss. AreShownIn ss c.new-text.result.items text) c.as_slice.ensures.value c.in_ok-write_all.ensures))
+    shown_message c.args.message.now text c.in_ok-read_message.field-0 c.in_ok-read_message.ensures.message
+    (subst (λ before. IsTextShownIn c.args.message.now before text) c.new-text.ensures.items c.in_ok-write_all.ensures)

@@ -1,25 +1,32 @@
-use Rattle.std.proofs.Common.{◌∷◌, [], ◌++◌, take, sym, subst, ap, ◌∙◌}
-use Rattle.std.proofs.lemmas.List.{take_more}
-use Rattle.fints_cli_texts.specs.ShowMessage.{AreShownIn, IsShowable}
-use Rattle.fints_cli_texts.proofs.ShowMessageLemmas.{all_at, none_shown, one_more_shown}
+use Rattle.std.proofs.Common.{◌<◌, arith, length}
+use Rattle.std.proofs.lemmas.Bool.Decides.{nat_tests}
+use Rattle.fints_cli_texts.proofs.ShowMessageLemmas.{all_shown, fewer_left, none_shown_yet, one_shown_more, showable_left}
 use Rattle.fints_cli_texts.proofs.showing_message.write_all.Goals as goal
 
-pub loop-segment-init : goal.loop-segment-init
-loop-segment-init c = none_shown c.args.text.now.items
+pub loop-rest-init : goal.loop-rest-init
+loop-rest-init c = none_shown_yet c.args.bytes.now c.args.text.now.items c.requires
+
+pub first_of-requires-clause-some : goal.first_of-requires-clause-some
+first_of-requires-clause-some c =
+    let empty = c.loop-rest-test.ensures in
+    grind (arith, nat_tests, empty)
+
+pub first_of-requires-clause-segments : goal.first_of-requires-clause-segments
+first_of-requires-clause-segments c = let h = c.loop-rest.invariant.left in (h.0, h.1)
 
 pub write_opened-requires : goal.write_opened-requires
 write_opened-requires c =
-    subst IsShowable (sym c.segment-item.is)
-    (all_at IsShowable c.args.segments.now c.loop-segment.segment-index c.segment-item.result c.requires
-    c.loop-segment-test.true)
+    (showable_left c.loop-rest.rest.now c.in_ok-first.first.segment c.in_ok-first.first.rest.now c.loop-rest.invariant.left
+    c.in_ok-first.ensures).0
 
-pub loop-segment-preserved : goal.loop-segment-preserved
-loop-segment-preserved c =
-    let segments = c.args.segments.now in
-    let i = c.loop-segment.segment-index in
-    let s = c.segment-item.result in
-    let more =
-    take_more segments i s c.loop-segment-test.true ∙ ap (λ x. take i segments ++ x ∷ []) (sym c.segment-item.is) in
-    subst (λ ss. AreShownIn ss c.args.text.now.items c.write_opened.new.text.items) (sym more)
-    (one_more_shown (take i segments) s c.args.text.now.items c.loop-segment.text.items
-    c.write_opened.new.text.items c.loop-segment.invariant c.in_ok-write_opened.ensures)
+pub loop-rest-smaller : goal.loop-rest-smaller
+loop-rest-smaller c = fewer_left c.loop-rest.rest.now c.in_ok-first.first.segment c.in_ok-first.first.rest.now c.in_ok-first.ensures
+
+pub loop-rest-preserved : goal.loop-rest-preserved
+loop-rest-preserved c =
+    one_shown_more c.args.bytes.now c.loop-rest.rest.now c.in_ok-first.first.rest.now c.args.text.now.items
+    c.loop-rest.text.items c.write_opened.new.text.items c.in_ok-first.first.segment c.loop-rest.invariant
+    c.in_ok-first.ensures c.in_ok-write_opened.ensures
+
+pub returns : goal.returns
+returns c = all_shown c.args.bytes.now c.loop-rest.rest.now c.args.text.now.items c.loop-rest.text.items c.loop-rest.invariant (grind (arith, nat_tests, c.loop-rest-test.ensures))

@@ -1,8 +1,0 @@
-use Rattle.std.proofs.Common.{◌≡◌, ◌++◌, take}
-use Rattle.std.specs.List.{flat_map}
-use Rattle.fints_cli_texts.specs.ShowMessage.{segment_line}
-use Rattle.fints_cli_texts.proofs.showing_message.write_lines.Given as goal
-
-abbrev pub invariant-loop-segment : goal.invariant-loop-segment
-invariant-loop-segment l =
-    l.text.items ≡ l.initial.text.items ++ flat_map (segment_line l.blanks) (take l.segment-index l.segments)
