@@ -7,8 +7,10 @@ use Rattle.fints_script.specs.Sound.{IsSound}
 use Rattle.fints_script.specs.Steps.{StepValue}
 use Rattle.fints_check_findings.specs.Findings.{IsReal}
 use Rattle.fints_check_findings.specs.Laws.{release_of}
-use Rattle.fints_check_findings.specs.Releases.{AreHolders, IsHeld}
+use Rattle.fints_check_findings.specs.Releases.{AreHolders, IsFirstLeft, IsHeld, IsUnreleased}
 use Rattle.fints_check_findings.specs.declared.finding.Finding.{Finding}
+use Rattle.fints_wire.specs.Runs.{Arrives}
+use Rattle.fints_wire.specs.declared.dialogue.Visit.{Visit}
 use Rattle.fints_rules_permissions.specs.Permits.{Granted}
 use Rattle.fints_rules_permissions.specs.declared.orders.OrderRow.{OrderRow}
 use Rattle.fints_rules.specs.declared.rule.Rule.TheVariants.{Release}
@@ -36,3 +38,21 @@ pub held_beside : (steps : List StepValue) (numbers holders cells : List (Option
     → cells ≡ holders → Has cells s t → ((number : ℕ) × Has numbers t number) × IsHeld steps t s
 held_beside steps numbers holders cells s t are same noted =
     are.each s t (subst (λ (xs : List (Option ℕ)). Has xs s t) same noted)
+
+-- it is the first that runs send and of which that one leaves an order unreleased
+pub first_beside : (script : ScriptValue) (orders : List OrderRow) (numbers holders cells : List (Option ℕ))
+    (s t : ℕ) → IsSound script → IsClosed script orders → AreGreatest script.steps numbers
+    → AreHolders script.steps numbers holders → cells ≡ holders → Has cells s t → IsFirstLeft script t s
+first_beside script orders numbers holders cells s t sound closed greatest are same noted =
+    let has = subst (λ (xs : List (Option ℕ)). Has xs s t) same noted in
+    let held = are.each s t has in
+    let sent = greatest.attained t held.0.0 held.0.1 in
+    record {
+      unreleased = (held_is_unreleased script orders t s sound closed).0 held.1;
+      visit = sent.0;
+      arrives = sent.1;
+      of = sent.2;
+      first = λ (v : Visit) (arrives : Arrives script.steps v) (left : IsUnreleased script v.step s).
+          let most = greatest.most v arrives in
+          are.first s t v.step most.0 has most.1 ((held_is_unreleased script orders v.step s sound closed).1 left);
+    }

@@ -11,7 +11,7 @@ use Rattle.fints_script_cases.specs.Answers.{target_of}
 use Rattle.fints_script_cases.specs.declared.answers.Branch.{Branch}
 use Rattle.fints_script_cases.specs.declared.answers.Target.{Target}
 use Rattle.fints_script_cases.specs.declared.answers.Target.TheVariants as targets
-use Rattle.fints_check_reach.specs.Following.{AreBehind, GoesTo}
+use Rattle.fints_check_reach.specs.Following.{AreBehind, GoesTo, IsAsked}
 use Rattle.fints_check_reach.specs.Numbers.{AreGreatest, Has}
 use Rattle.fints_check_reach.proofs.Lookups.{numbered_push_cases, numbered_push_here, numbered_push_old}
 use Rattle.fints_rules_permissions.specs.Permits.{Granted}
@@ -93,6 +93,21 @@ from_more steps behind i kept cell to holders at here is h = record {
   ];
 }
 
+-- whose order is left unreleased was asked about in the pass
+asked_of : (steps : List StepValue) (numbers : List (Option ℕ)) (marks : List Bool)
+    → AreSubmittingTo steps (length steps) marks → (t s number : ℕ) → Has numbers t number → IsHeld steps t s
+    → IsAsked steps numbers marks RELEASE t s
+asked_of steps numbers marks m t s number has held =
+    let told = m.each t held.step (numbered_within steps t held.step held.at).1 held.at in
+    record {
+      step = held.step;
+      at = held.at;
+      number = number;
+      has = has;
+      marked = told ∙ ap (λ (x : Bool). Some x) held.submitted;
+      carries = (held.branch, held.is.carried);
+    }
+
 pub holders_from : (steps : List StepValue) (numbers : List (Option ℕ)) (marks : List Bool)
     (behind holders : List (Option ℕ)) → AreSubmittingTo steps (length steps) marks
     → AreBehind steps numbers marks RELEASE behind → HoldersFrom steps behind (length steps) holders
@@ -113,18 +128,9 @@ holders_from steps numbers marks behind holders m b h = record {
         },
       );
   all = λ s t number has held.
-      let told = m.each t held.step (numbered_within steps t held.step held.at).1 held.at in
-      let u =
-      b.some t s
-      (record {
-        step = held.step;
-        at = held.at;
-        number = number;
-        has = has;
-        marked = told ∙ ap (λ (x : Bool). Some x) held.submitted;
-        carries = (held.branch, held.is.carried);
-      }) in
+      let u = b.some t s (asked_of steps numbers marks m t s number has held) in
       (u.0, h.all s u.0 held.is.to (numbered_within steps s held.is.to held.is.there).1 u.1 held.is.there held.is.unreleased);
+  first = λ s t u number kept has held. b.first t s u (h.each s t kept).0 (asked_of steps numbers marks m u s number has held);
 }
 
 -- ---- where branches lead

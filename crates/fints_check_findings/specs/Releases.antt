@@ -12,7 +12,9 @@ use Rattle.fints_script.specs.Numbered.{numbered}
 use Rattle.fints_script.specs.Plans.{Admits}
 use Rattle.fints_script.specs.Scripts.{ScriptValue}
 use Rattle.fints_script.specs.Steps.{StepValue}
+use Rattle.fints_wire.specs.Runs.{Arrives}
 use Rattle.fints_wire.specs.Views.{message_view}
+use Rattle.fints_wire.specs.declared.dialogue.Visit.{Visit}
 use Rattle.fints_check_findings.specs.Elements.{has_process}
 use Rattle.fints_rules.specs.declared.release.TheConstants.{RELEASE}
 use Rattle.fints_check_findings.specs.Kinds.{is_end}
@@ -38,6 +40,20 @@ pub record IsUnreleased (script : ScriptValue) (t s : ℕ) : Type 0 where
 pub record LeadsUnreleased (script : ScriptValue) (s : ℕ) (answers : List (List ℕ)) : Type 0 where
   pub before : ℕ
   pub unreleased : IsUnreleased script before s
+  pub leads : LeadsBehind script.steps before RELEASE s answers
+
+-- step t is the first that some run sends and of which step s leaves an order unreleased
+pub record IsFirstLeft (script : ScriptValue) (t s : ℕ) : Type 0 where
+  pub unreleased : IsUnreleased script t s
+  pub visit : Visit
+  pub arrives : Arrives script.steps visit
+  pub of : visit.step ≡ t
+  pub first : (v : Visit) → Arrives script.steps v → IsUnreleased script v.step s → t ≤ v.step
+
+-- the answers lead to a message of step s behind one of that first step, and behind an answer with 0030
+pub record LeadsFromFirst (script : ScriptValue) (s : ℕ) (answers : List (List ℕ)) : Type 0 where
+  pub before : ℕ
+  pub first : IsFirstLeft script before s
   pub leads : LeadsBehind script.steps before RELEASE s answers
 
 -- ---- of private contracts, proofs and the invariant of Report alone
@@ -70,8 +86,9 @@ pub record AreSubmittingTo (steps : List StepValue) (count : ℕ) (marks : List 
   pub long : length marks ≡ count
   pub each : (t : ℕ) (step : StepValue) → t ≤ count → numbered steps t ≡ Some step → numbered marks t ≡ Some (submits step)
 
--- beside each step stands a step that has a number and an order that it leaves unreleased, if there is one
+-- beside each step stands the first step that has a number and an order that it leaves unreleased, if there is one
 pub record AreHolders (steps : List StepValue) (numbers holders : List (Option ℕ)) : Type 0 where
   pub long : length holders ≡ length steps
   pub each : (s t : ℕ) → Has holders s t → ((number : ℕ) × Has numbers t number) × IsHeld steps t s
   pub all : (s t number : ℕ) → Has numbers t number → IsHeld steps t s → (u : ℕ) × Has holders s u
+  pub first : (s t u number : ℕ) → Has holders s t → Has numbers u number → IsHeld steps u s → t ≤ u

@@ -5,8 +5,8 @@ ghost use Rattle.fints_script.specs.Numbered.{numbered};
 ghost use Rattle.fints_script.specs.Steps.{StepValue};
 ghost use Rattle.fints_check_findings.specs.Figures.{AreFigures, FiguresAre};
 ghost use Rattle.fints_check_findings.specs.Findings.{AreFindings, EachIsPermitted, IsBefore, IsReal, SentStepsAreClean, SentStepsAreReleased};
-ghost use Rattle.fints_check_findings.specs.Releases.{IsUnreleased, LeadsUnreleased};
-ghost use Rattle.fints_check_findings.specs.Reports.{AreChosenOf, AreValuesOf, IsWayOf, ShowsFindingAt};
+ghost use Rattle.fints_check_findings.specs.Releases.{IsFirstLeft, LeadsFromFirst};
+ghost use Rattle.fints_check_findings.specs.Reports.{AreChosenOf, AreValuesOf, IsFirstWayOf, IsWayOf, ShowsFindingAt};
 ghost use Rattle.fints_check_findings.specs.Searching.{AreFiguresAt, IsFindingOf, IsGreatestAt};
 ghost use Rattle.fints_check_findings.specs.StepFacts.{AreFactsAt};
 ghost use Rattle.fints_check_findings.specs.declared.finding.Finding.{Finding as FindingValue};
@@ -149,11 +149,11 @@ impl<'a> Report<'a> {
     }
 
     // Answers after which a run ends with a message of the finding's step that leaves an order
-    // unreleased.
+    // unreleased, of the first step that it can be.
     fn unreleased_way(&self, alloc: Global, finding: Finding) -> Result<Vec<Answer>, Memory>
         requires release { finding.rule ≡ Release }
         requires real { IsReal self.now.granted self.now.plan.script finding }
-        ensures { IfOk result (λ answers. LeadsUnreleased self.now.plan.script finding.step answers.items) }
+        ensures { IfOk result (λ answers. LeadsFromFirst self.now.plan.script finding.step answers.items) }
     {
         self.plan.keeps();
         let s = finding.step as usize;
@@ -161,13 +161,13 @@ impl<'a> Report<'a> {
         way_behind(alloc, self.plan, &self.numbers, t, release_code(), s)
     }
 
-    /// The step before, of which a finding of P11 leaves an order unreleased: its case sends it last but
-    /// one. None for another rule. Findings count from 0.
+    /// The step of which a finding of P11 leaves an order unreleased, the first that runs send: its case
+    /// sends it last but one. None for another rule. Findings count from 0.
     pub fn step_left(&self, i: usize) -> Option<u16>
         requires { i < length self.now.findings }
         ensures { (f : FindingValue) → slice_get self.now.findings i ≡ Some f
             → MatchOption result (f.rule ≡ Release → ⊥)
-            (λ t. IsUnreleased self.now.plan.script t f.step) }
+            (λ t. IsFirstLeft self.now.plan.script t f.step) }
     {
         self.plan.keeps();
         let finding = self.finding(i);
@@ -178,11 +178,12 @@ impl<'a> Report<'a> {
     }
 
     /// Answers after which a run ends with a message of a finding's step that has the step's greatest
-    /// number; where P11 is found, with one that leaves an order unreleased. Findings count from 0. It
-    /// is the same for all findings of a step but that of P11.
+    /// number; where P11 is found, with one that leaves an order unreleased, that of `step_left`.
+    /// Findings count from 0. It is the same for all findings of a step but that of P11.
     pub fn way(&self, alloc: Global, i: usize) -> Result<Vec<Answer>, Memory>
         requires { i < length self.now.findings }
-        ensures { IfOk result (λ answers. IsWayOf self.now i answers.items) }
+        ensures way { IfOk result (λ answers. IsWayOf self.now i answers.items) }
+        ensures first { IfOk result (λ answers. IsFirstWayOf self.now i answers.items) }
     {
         self.plan.keeps();
         let finding = self.finding(i);
@@ -212,6 +213,7 @@ impl<'a> Report<'a> {
         requires { i < length self.now.findings }
         ensures shows { IfOk result (λ case. ShowsFindingAt self.now i case.values case.answers.items) }
         ensures way { IfOk result (λ case. IsWayOf self.now i case.answers.items) }
+        ensures first { IfOk result (λ case. IsFirstWayOf self.now i case.answers.items) }
         ensures chosen { IfOk result (λ case. AreChosenOf self.now i case.values) }
     {
         let answers = self.way(alloc, i)?;

@@ -12,7 +12,7 @@ use Rattle.fints_script_cases.specs.declared.answers.Target.TheVariants.{Step, A
 use Rattle.fints_script.specs.Numbered.{numbered, numbered_within}
 use Rattle.fints_script.specs.Sound.{IsOnward}
 use Rattle.fints_script.specs.Steps.{StepValue}
-use Rattle.fints_check_reach.specs.Following.{AreBehind, CarriesTo, GoesTo}
+use Rattle.fints_check_reach.specs.Following.{AreBehind, CarriesTo, GoesTo, IsAsked}
 use Rattle.fints_check_reach.specs.Numbers.{Has}
 use Rattle.fints_check_reach.specs.Passes.{AreKept, BranchAsks, IsOpenAt, PassAsks, StepAsks}
 use Rattle.fints_check_reach.proofs.Blanks.{none_in_blank, none_in_nil}
@@ -143,7 +143,14 @@ behind_none steps marks code count all = record {
   long = length-replicate count None ∙ all;
   some = λ t s a. absurd (none_in_nil t a.number a.has);
   each = λ t s h. absurd (none_in_blank count s t h);
+  first = λ t s u h a. absurd (none_in_nil u a.number a.has);
 }
+
+-- a step that is asked about in more numbers, and has one of the earlier
+asked_before : (steps : List StepValue) (numbers more : List (Option ℕ)) (marks : List Bool) (code t s : ℕ)
+    (a : IsAsked steps more marks code t s) → Has numbers t a.number → IsAsked steps numbers marks code t s
+asked_before steps numbers more marks code t s a has =
+    record { step = a.step; at = a.at; number = a.number; has = has; marked = a.marked; carries = a.carries }
 
 pub behind_more : (steps : List StepValue) (numbers : List (Option ℕ)) (marks : List Bool) (code n : ℕ)
     (cell : Option ℕ) (old new : List (Option ℕ)) (step : StepValue) → n ≡ length numbers + 1
@@ -153,7 +160,7 @@ behind_more steps numbers marks code n cell old new step next at k b = record {
   long = k.long ∙ b.long;
   some = λ t s a. elim (numbered_push_cases numbers cell t (Some a.number) a.has) [
     | inl earlier ↦
-        let u = b.some t s (record { step = a.step; at = a.at; number = a.number; has = earlier; marked = a.marked; carries = a.carries }) in
+        let u = b.some t s (asked_before steps numbers (numbers ++ cell ∷ []) marks code t s a earlier) in
         (u.0, k.kept s u.0 u.1)
     | inr here ↦
         let same : t ≡ n = here.0 ∙ sym next in
@@ -184,6 +191,20 @@ behind_more steps numbers marks code n cell old new step next at k b = record {
           marked = subst (λ j. numbered marks j ≡ Some true) same asks.0;
           carries = subst (λ j. CarriesTo step j code s) same asks.1;
         }
+  ];
+  first = λ t s u h a. elim (numbered_push_cases numbers cell u (Some a.number) a.has) [
+    | inl earlier ↦
+        let asked = asked_before steps numbers (numbers ++ cell ∷ []) marks code u s a earlier in
+        let w = b.some u s asked in
+        let same : w.0 ≡ t = same_Some w.0 t (same_Some (Some w.0) (Some t) (sym (k.kept s w.0 w.1) ∙ h)) in
+        subst (λ j. j ≤ u) same (b.first w.0 s u w.1 asked)
+    | inr here ↦ elim (k.each s t h) [
+      | inl before ↦
+          let old = b.each t s before in
+          let within = (numbered_within numbers t (Some old.number) old.has).1 in
+          omega (arith, within, here.0)
+      | inr now ↦ omega (arith, now.0, here.0, next)
+    ]
   ];
 }
 

@@ -63,8 +63,9 @@ pub record IsAsked (steps : List StepValue) (numbers : List (Option ℕ)) (marks
   pub marked : numbered marks t ≡ Some true
   pub carries : CarriesTo step t code s
 
--- each step that such a step goes to has one of these kept for it, and no other step has one
+-- each step that such steps go to has the first of them kept for it, and no other step has one
 pub record AreBehind (steps : List StepValue) (numbers : List (Option ℕ)) (marks : List Bool) (code : ℕ) (behind : List (Option ℕ)) : Type 0 where
   pub long : length behind ≡ length steps
   pub some : (t s : ℕ) → IsAsked steps numbers marks code t s → (u : ℕ) × Has behind s u
   pub each : (t s : ℕ) → Has behind s t → IsAsked steps numbers marks code t s
+  pub first : (t s u : ℕ) → Has behind s t → IsAsked steps numbers marks code u s → t ≤ u

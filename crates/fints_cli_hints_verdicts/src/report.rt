@@ -2,7 +2,7 @@
 ghost use Rattle.std.specs.Prelude.{◌<◌, length};
 
 use crate::notes::add_notes;
-use crate::steps::figures_of;
+use crate::steps::{figures_of, step_at};
 use fints_check::{Finding, Report, check};
 use fints_check_reach::branch_to;
 use fints_cli_hints_reasons::bank::Bank;
@@ -134,10 +134,9 @@ fn add_release(
     figures: Figures,
     t: usize,
 ) -> Result<(), Memory> {
-    if t == 0 || t > found.plan.step_count() {
+    let Some(step) = step_at(found.plan, t) else {
         return add_whole(text, alloc, found, figures, Before::Unsaid);
-    }
-    let step = found.plan.step(t);
+    };
     let name = step.name();
     let before = match branch_behind(step, t, usize::from(found.finding.step)) {
         Some(branch) => Before::Step {
@@ -174,10 +173,10 @@ fn kinds_at(
     n: usize,
 ) -> Result<Kinds, Memory> {
     let mut kinds: Vec<Kind> = Vec::new(alloc);
-    if n == 0 || n > plan.step_count() {
+    let Some(step) = step_at(plan, n) else {
         return Ok(Kinds::of(kinds, permissions));
-    }
-    for template in plan.step(n).templates() {
+    };
+    for template in step.templates() {
         kinds.push(template.kind)?;
     }
     Ok(Kinds::of(kinds, permissions))
@@ -201,10 +200,9 @@ fn add_finding(
         return Ok(());
     };
     let plan = report.plan();
-    if n == 0 || n > plan.step_count() {
+    let Some(step) = step_at(plan, n) else {
         return Ok(());
-    }
-    let step = plan.step(n);
+    };
     let found = Found {
         bank,
         plan,
@@ -212,16 +210,13 @@ fn add_finding(
         kinds,
         finding,
     };
-    match (template_of(step, finding), finding.rule) {
+    match (template_of(step, finding), report.step_left(i)) {
         (Some(template), _) => {
             let values = values_of(alloc, report, i)?;
             add_segment(text, alloc, &found, template, &values)
         }
-        (None, Rule::Release) => {
-            let t = report.step_left(i).map_or(0, usize::from);
-            add_release(text, alloc, &found, reached.figures(), t)
-        }
-        _ => add_whole(text, alloc, &found, reached.figures(), Before::Unsaid),
+        (None, Some(t)) => add_release(text, alloc, &found, reached.figures(), usize::from(t)),
+        (None, None) => add_whole(text, alloc, &found, reached.figures(), Before::Unsaid),
     }
 }
 

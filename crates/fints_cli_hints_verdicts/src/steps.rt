@@ -2,7 +2,15 @@
 ghost use Rattle.std.specs.Prelude.{◌≤◌, ◌+◌, length};
 
 use fints_check::{Reached, Report};
-use fints_script::Step;
+use fints_script::{Plan, Step};
+
+/// Step n of the plan, if it is one; steps count from 1.
+pub fn step_at<'a>(plan: &'a Plan<'_>, n: usize) -> Option<&'a Step> {
+    if n == 0 || n > plan.step_count() {
+        return None;
+    }
+    Some(plan.step(n))
+}
 
 /// The figures of step n, if it is one and some run sends it.
 pub fn figures_of(report: &Report<'_>, n: usize) -> Option<Reached> {

@@ -3,13 +3,12 @@ use Rattle.std.specs.Prelude.{ℕ, MatchOption, slice_get}
 use Rattle.std.proofs.lemmas.Option.{same_Some}
 use Rattle.fints_check_reach.specs.Numbers.{Has}
 use Rattle.fints_script.specs.Numbered.{numbered_within}
-use Rattle.fints_check_findings.specs.Releases.{IsUnreleased}
+use Rattle.fints_check_findings.specs.Releases.{IsFirstLeft}
 use Rattle.fints_check_findings.specs.Findings.{IsReal}
 use Rattle.fints_check_findings.specs.Reports.{ReportValue}
 use Rattle.fints_check_findings.specs.declared.finding.Finding.{Finding}
 use Rattle.fints_rules.specs.declared.rule.Rule.TheVariants.{Release}
-use Rattle.fints_check_findings.proofs.Beside.{held_beside, kept_beside}
-use Rattle.fints_check_findings.proofs.LawLemmas.{held_is_unreleased}
+use Rattle.fints_check_findings.proofs.Beside.{first_beside, kept_beside}
 use Rattle.fints_script.proofs.LawLemmas.{sound_of}
 use Rattle.fints_check_findings.proofs.report.Report.step_left.Goals as goal
 
@@ -37,16 +36,14 @@ holder_of-requires-clause-to c =
 pub returns-in-Release : goal.returns-in-Release
 returns-in-Release c f at =
     let inside = c.self.inside in
-    let script = inside.plan.now.script in
     let found = c.finding-finding.result in
-    let h =
-    (held_beside script.steps inside.numbers.greatest.items inside.holders.items c.as_slice.result.now found.step
-    c.holder_of.result c.self.invariant.6 c.as_slice.ensures.value c.holder_of.ensures).1 in
-    let u = (held_is_unreleased script inside.plan.now.orders c.holder_of.result found.step
-    (sound_of c.keeps.ensures.read) c.keeps.ensures.closed).0 h in
-    subst (λ (x : Finding). IsUnreleased c.args.self.now.plan.script c.holder_of.result x.step)
+    let first =
+    first_beside inside.plan.now.script inside.plan.now.orders inside.numbers.greatest.items
+    inside.holders.items c.as_slice.result.now found.step c.holder_of.result (sound_of c.keeps.ensures.read)
+    c.keeps.ensures.closed c.self.invariant.4 c.self.invariant.6 c.as_slice.ensures.value c.holder_of.ensures in
+    subst (λ (x : Finding). IsFirstLeft c.args.self.now.plan.script c.holder_of.result x.step)
     (same_Some found f (sym c.finding-finding.ensures.at ∙ at))
-    (subst (λ (r : ReportValue). IsUnreleased r.plan.script c.holder_of.result found.step) c.self.view_is u)
+    (subst (λ (r : ReportValue). IsFirstLeft r.plan.script c.holder_of.result found.step) c.self.view_is first)
 
 pub returns-in_default : goal.returns-in_default
 returns-in_default c f at is =

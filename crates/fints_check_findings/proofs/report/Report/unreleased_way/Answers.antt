@@ -5,12 +5,11 @@ use Rattle.fints_check_reach.specs.Numbers.{Has}
 use Rattle.fints_script.specs.Numbered.{numbered_within}
 use Rattle.fints_script.specs.Steps.{StepValue}
 use Rattle.fints_check_findings.specs.Findings.{IsReal}
-use Rattle.fints_check_findings.specs.Releases.{LeadsUnreleased}
+use Rattle.fints_check_findings.specs.Releases.{LeadsFromFirst}
 use Rattle.fints_check_findings.specs.Reports.{ReportValue}
-use Rattle.fints_check_findings.proofs.Beside.{held_beside, kept_beside}
+use Rattle.fints_check_findings.proofs.Beside.{first_beside, held_beside, kept_beside}
 use Rattle.fints_check_findings.proofs.CaseLemmas.{if_ok}
 use Rattle.fints_rules.specs.declared.release.TheConstants.{RELEASE}
-use Rattle.fints_check_findings.proofs.LawLemmas.{held_is_unreleased}
 use Rattle.fints_script.proofs.LawLemmas.{sound_of}
 use Rattle.fints_check_findings.proofs.report.Report.unreleased_way.Goals as goal
 
@@ -79,19 +78,18 @@ returns c =
     let inside = c.self.inside in
     let script = inside.plan.now.script in
     let f = c.args.finding in
-    let h =
-    (held_beside script.steps inside.numbers.greatest.items inside.holders.items c.as_slice.result.now f.step
-    c.holder_of-t.result c.self.invariant.6 c.as_slice.ensures.value c.holder_of-t.ensures).1 in
-    let u = (held_is_unreleased script inside.plan.now.orders c.holder_of-t.result f.step
-    (sound_of c.keeps.ensures.read) c.keeps.ensures.closed).0 h in
-    subst (λ (r : ReportValue). IfOk c.way_behind.result (λ answers. LeadsUnreleased r.plan.script f.step answers.items)) c.self.view_is
+    let first =
+    first_beside script inside.plan.now.orders inside.numbers.greatest.items inside.holders.items
+    c.as_slice.result.now f.step c.holder_of-t.result (sound_of c.keeps.ensures.read) c.keeps.ensures.closed
+    c.self.invariant.4 c.self.invariant.6 c.as_slice.ensures.value c.holder_of-t.ensures in
+    subst (λ (r : ReportValue). IfOk c.way_behind.result (λ answers. LeadsFromFirst r.plan.script f.step answers.items)) c.self.view_is
     (if_ok
     (λ answers. LeadsBehind script.steps c.holder_of-t.result c.release_code.result f.step answers.items)
-    (λ answers. LeadsUnreleased script f.step answers.items) c.way_behind.result
+    (λ answers. LeadsFromFirst script f.step answers.items) c.way_behind.result
     (λ answers way.
     record {
       before = c.holder_of-t.result;
-      unreleased = u;
+      first = first;
       leads =
           subst
           (λ (code : ℕ). LeadsBehind script.steps c.holder_of-t.result code f.step answers.items)
