@@ -1,7 +1,7 @@
 //! The checker: findings and their cases, figures and certificates.
 ghost use Rattle.std.specs.Prelude.{◌≡◌};
 
-use crate::samples::{C, C1, FORK, SECOND_ACCOUNT, SHOWN, T, UNRELEASED};
+use crate::samples::{C, C1, FORK, SECOND_ACCOUNT, SHOWN, T, UNRELEASED, signed};
 use fints_check::{
     CertFault, Certificate, Certified, Finding, Memory, Reached, Report, check, confirm,
     greatest_figures, verify,
@@ -196,8 +196,10 @@ fn is_row_of(alloc: Global, capture: &[u8], script: &[u8], row: Row<'_>) -> Resu
 fn reports(rt: HostRuntime) -> Result<(), Fail> {
     let alloc = rt.alloc();
     assert!(rt; is_row_of(alloc, C1, FORK, Row::Fork)?);
-    assert!(rt; is_row_of(alloc, C, SECOND_ACCOUNT, Row::SecondAccount)?);
-    assert!(rt; is_row_of(alloc, C, UNRELEASED, Row::Unreleased)?);
+    let second_account = signed(alloc, SECOND_ACCOUNT)?;
+    assert!(rt; is_row_of(alloc, C, second_account.as_slice(), Row::SecondAccount)?);
+    let unreleased = signed(alloc, UNRELEASED)?;
+    assert!(rt; is_row_of(alloc, C, unreleased.as_slice(), Row::Unreleased)?);
     Ok(())
 }
 
@@ -213,7 +215,8 @@ fn certificates(rt: HostRuntime) -> Result<(), Fail> {
 #[test]
 fn confirmed(rt: HostRuntime) -> Result<(), Fail> {
     let alloc = rt.alloc();
-    assert!(rt; is_row_of(alloc, C, SECOND_ACCOUNT, Row::Confirmed(SHOWN))?);
-    assert!(rt; !is_row_of(alloc, C, SECOND_ACCOUNT, Row::Confirmed(FIRST_ACCOUNT))?);
+    let script = signed(alloc, SECOND_ACCOUNT)?;
+    assert!(rt; is_row_of(alloc, C, script.as_slice(), Row::Confirmed(SHOWN))?);
+    assert!(rt; !is_row_of(alloc, C, script.as_slice(), Row::Confirmed(FIRST_ACCOUNT))?);
     Ok(())
 }

@@ -45,8 +45,8 @@ name = "done"
 segments = [{kind = "HKEND", version = 1, elements = ["$dialog"]}]
 "#;
 
-/// Script `bal(..)` of row `built-bytes`: a signed balance.
-pub const BALANCE: &[u8] = br#"[[field]]
+// The fields and the signer of a signed script.
+const SIGNER: &[u8] = br#"[[field]]
 name = "pin"
 class = "digits"
 min = 5
@@ -62,57 +62,29 @@ head = [["PIN","1"], "999", "1", "1", "1", ["1","","0"], "1",
   ["1","20260101","120000"], ["1","999","1"], ["6","10","16"],
   ["280","10020030","user","S","0","0"]]
 end = ["1", "", ["$pin", "$tan"]]
-[[step]]
+"#;
+
+/// The step of script `bal(..)` of row `built-bytes`: a signed balance.
+pub const BALANCE: &[u8] = br#"[[step]]
 name = "bal"
 signers = ["me"]
 segments = [{kind = "HKSAL", version = 5, elements = [["1234567","","280","10020030"], "N"]}]
 "#;
 
-/// Script `bal(..)` of row `second-account`: a signed transfer from one of two accounts.
+/// The step of script `bal(..)` of row `second-account`, a signed transfer from one of two accounts, and its field.
 pub const SECOND_ACCOUNT: &[u8] = br#"[[field]]
-name = "pin"
-class = "digits"
-min = 5
-max = 6
-[[field]]
-name = "tan"
-class = "digits"
-min = 0
-max = 6
-[[field]]
 name = "acct"
 class = "account"
 values = [["DE111"], ["DE222"]]
-[[signer]]
-name = "me"
-head = [["PIN","1"], "999", "1", "1", "1", ["1","","0"], "1",
-  ["1","20260101","120000"], ["1","999","1"], ["6","10","16"],
-  ["280","10020030","user","S","0","0"]]
-end = ["1", "", ["$pin", "$tan"]]
 [[step]]
 name = "bal"
 signers = ["me"]
 segments = [{kind = "HKCCS", version = 1, elements = ["$acct"]}, {kind = "HKTAN", version = 6, elements = ["4", "HKCCS"]}]
 "#;
 
-/// Script of row `order-without-its-release`: a transfer, and behind it a message that doesn't send its TAN.
-pub const UNRELEASED: &[u8] = br#"[[field]]
-name = "pin"
-class = "digits"
-min = 5
-max = 6
-[[field]]
-name = "tan"
-class = "digits"
-min = 0
-max = 6
-[[signer]]
-name = "me"
-head = [["PIN","1"], "999", "1", "1", "1", ["1","","0"], "1",
-  ["1","20260101","120000"], ["1","999","1"], ["6","10","16"],
-  ["280","10020030","user","S","0","0"]]
-end = ["1", "", ["$pin", "$tan"]]
-[[step]]
+/// The steps of the script of row `order-without-its-release`: a signed transfer, and behind it a message that
+/// doesn't send its TAN.
+pub const UNRELEASED: &[u8] = br#"[[step]]
 name = "pay"
 signers = ["me"]
 segments = [{kind = "HKCCS", version = 1, elements = [["DE111"]]}, {kind = "HKTAN", version = 6, elements = ["4", "HKCCS"]}]
@@ -121,6 +93,14 @@ default = "next"
 name = "next"
 segments = [{kind = "HKIDN", version = 2, elements = ["280"]}]
 "#;
+
+/// A signed script of these steps.
+pub fn signed(alloc: Global, steps: &[u8]) -> Result<Vec<u8>, Memory> {
+    let mut script = Vec::new(alloc);
+    script.extend_from_slice(SIGNER)?;
+    script.extend_from_slice(steps)?;
+    Ok(script)
+}
 
 /// The case of row `second-account`.
 pub const SHOWN: &[u8] =

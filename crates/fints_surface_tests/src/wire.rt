@@ -1,6 +1,7 @@
 //! Messages that are built and sent, and how long they can be.
 use crate::samples::{
-    BALANCE, BALANCE_MESSAGE, DIALOG, END_MESSAGE, FORK, Pairs, T, answer, are_values, values,
+    BALANCE, BALANCE_MESSAGE, DIALOG, END_MESSAGE, FORK, Pairs, T, answer, are_values, signed,
+    values,
 };
 use fints_rules::OrderTable;
 use fints_script::{Plan, Script, Values};
@@ -104,8 +105,9 @@ fn is_row(alloc: Global, script: &[u8], row: Row) -> Result<bool, Fail> {
 
 #[test]
 fn messages(rt: HostRuntime) -> Result<(), Fail> {
+    let balance = signed(rt.alloc(), BALANCE)?;
     let rows = [
-        (BALANCE, Row::BuiltBytes),
+        (balance.as_slice(), Row::BuiltBytes),
         (ESCAPED_PAD, Row::EscapedPad),
         (FORK, Row::Fork),
     ];
