@@ -1,6 +1,6 @@
 -- The line of a fault.
-use Rattle.std.proofs.Common.{◌≤◌, arith, ◌≡◌, ℕ, List, [], Option, refl, inl, inr}
-use Rattle.std.specs.Prelude.{codes, ◌⊎◌}
+use Rattle.std.proofs.Common.{◌≤◌, arith, ℕ, List, [], Option, refl}
+use Rattle.std.specs.Prelude.{codes}
 use Rattle.fints_cli_texts.specs.declared.fault.Fault.TheVariants.{Memory, NoFinding, NoMessage}
 use Rattle.fints_cli_commands.specs.Commands.{failure_status}
 use Rattle.fints_cli_commands.specs.declared.failing.Failure.{Failure}

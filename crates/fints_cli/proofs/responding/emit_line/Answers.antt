@@ -1,7 +1,5 @@
 use Rattle.std.proofs.Common.{◌∷◌, [], ◌++◌}
-use Rattle.std.specs.Prelude.{OnErr}
-use Rattle.fints_cli_files.specs.Streams.{GetsPrefix}
-use Rattle.fints_cli.proofs.Writes.{cut-of-more, gets-more, gets-then-cut, on_err_both, on_err_of}
+use Rattle.fints_cli.proofs.Writes.{cut-of-more, gets-then-cut, on_err_both, on_err_of}
 use Rattle.fints_cli.proofs.responding.emit_line.Goals as goal
 
 pub returns-in_err-emit-clause-cut : goal.returns-in_err-emit-clause-cut

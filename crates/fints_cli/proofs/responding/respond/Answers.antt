@@ -1,4 +1,4 @@
-use Rattle.std.proofs.Common.{◌≡◌, ◌≤◌, ℕ, subst, sym, refl, arith, inl, inr, ◌∙◌}
+use Rattle.std.proofs.Common.{subst, refl, arith, inl, inr}
 use Rattle.std.specs.Prelude.{string_bytes}
 use Rattle.fints_cli_files.specs.Streams.{GetsPrefix}
 use Rattle.fints_cli.proofs.CutAnswers.{cut_answer}

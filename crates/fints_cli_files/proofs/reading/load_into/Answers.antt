@@ -1,4 +1,4 @@
-use Rattle.std.proofs.Common.{rules, arith, min, ◌≡◌, ◌≤◌, ◌+◌, ◌-◌, ◌^◌, ◌++◌, List, ℕ, length, take, subst, Ok}
+use Rattle.std.proofs.Common.{rules, arith, min, ◌≤◌, ◌+◌, ◌-◌, ◌^◌, ◌++◌, List, ℕ, length, take, subst, Ok}
 use Rattle.fints_cli_files.specs.Streams.{ReadsFrom}
 use Rattle.fints_cli_files.proofs.StreamLemmas.{one_more_le, taken-next}
 use Rattle.fints_cli_files.proofs.reading.load_into.Goals as goal

@@ -1,4 +1,4 @@
-use Rattle.std.proofs.Common.{◌<◌, arith, length}
+use Rattle.std.proofs.Common.{arith}
 use Rattle.std.proofs.lemmas.Bool.Decides.{nat_tests}
 use Rattle.fints_cli_texts.proofs.ShowMessageLemmas.{all_shown, fewer_left, none_shown_yet, one_shown_more, showable_left}
 use Rattle.fints_cli_texts.proofs.showing_message.write_all.Goals as goal

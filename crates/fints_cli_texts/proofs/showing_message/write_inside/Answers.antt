@@ -1,4 +1,4 @@
-use Rattle.std.proofs.Common.{◌<◌, arith, length}
+use Rattle.std.proofs.Common.{arith}
 use Rattle.std.proofs.lemmas.Bool.Decides.{nat_tests}
 use Rattle.fints_cli_texts.proofs.ShowMessageLemmas.{all_lines, fewer_left, no_lines, one_more_line}
 use Rattle.fints_cli_texts.proofs.showing_message.write_inside.Goals as goal

@@ -1,5 +1,5 @@
 use Rattle.std.proofs.Common.{◌≡◌, List, Option, Some, sym, subst, ◌∙◌}
-use Rattle.std.specs.Prelude.{ℕ, MatchOption, slice_get}
+use Rattle.std.specs.Prelude.{ℕ}
 use Rattle.std.proofs.lemmas.Option.{same_Some}
 use Rattle.fints_check_reach.specs.Numbers.{Has}
 use Rattle.fints_script.specs.Numbered.{numbered_within}

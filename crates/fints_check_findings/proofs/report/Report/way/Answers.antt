@@ -1,4 +1,4 @@
-use Rattle.std.proofs.Common.{◌∙◌, ◌≤◌, IfOk, length, sym, subst}
+use Rattle.std.proofs.Common.{◌≡◌, ◌∙◌, ◌≤◌, IfOk, length, sym, subst}
 use Rattle.std.proofs.lemmas.Option.{same_Some}
 use Rattle.fints_check_reach.specs.Ways.{LeadsTo}
 use Rattle.fints_check_findings.specs.Findings.{IsReal}
