@@ -105,25 +105,14 @@ const FOUND: Finding = Finding {
     segment: 3,
 };
 
-// Whether the case of the one finding is that of the row.
-fn is_shown(alloc: Global, report: &Report<'_>) -> Result<bool, Memory> {
-    if report.findings() != [FOUND].as_slice() {
+// Whether the report is that of the row, and the case of its one finding too.
+fn is_second_account(alloc: Global, report: &Report<'_>) -> Result<bool, Memory> {
+    if report.is_clean() || report.findings() != [FOUND].as_slice() {
         return Ok(false);
     }
     let case = report.case(alloc, 0)?;
     let text = case.write(alloc)?;
     Ok(text.as_slice() == SHOWN && report.step_left(0) == None)
-}
-
-fn is_second_account(
-    alloc: Global,
-    permissions: &Permissions<'_>,
-    plan: &Plan<'_>,
-) -> Result<bool, Memory>
-    requires { permissions.now.orders ≡ plan.now.orders }
-{
-    let report = check(alloc, permissions, plan)?;
-    Ok(!report.is_clean() && is_shown(alloc, &report)?)
 }
 
 const LEFT: Finding = Finding {
@@ -133,18 +122,11 @@ const LEFT: Finding = Finding {
 };
 
 // Whether the report is that of the row, and tells that the order is of the first step.
-fn is_unreleased(
-    alloc: Global,
-    permissions: &Permissions<'_>,
-    plan: &Plan<'_>,
-) -> Result<bool, Memory>
-    requires { permissions.now.orders ≡ plan.now.orders }
-{
-    let report = check(alloc, permissions, plan)?;
+fn is_unreleased(report: &Report<'_>) -> bool {
     if report.findings() != [LEFT].as_slice() {
-        return Ok(false);
+        return false;
     }
-    Ok(report.step_left(0) == Some(1))
+    report.step_left(0) == Some(1)
 }
 
 const FIRST_ACCOUNT: &[u8] =
@@ -172,9 +154,15 @@ fn is_row(
         Row::Fork => Ok(is_fork(alloc, permissions, plan)?),
         Row::Certified => Ok(is_certified(alloc, permissions, plan)?),
         Row::Verified(text) => Ok(is_verified(alloc, permissions, plan, text)?),
-        Row::SecondAccount => Ok(is_second_account(alloc, permissions, plan)?),
+        Row::SecondAccount => {
+            let report = check(alloc, permissions, plan)?;
+            Ok(is_second_account(alloc, &report)?)
+        }
         Row::Confirmed(text) => is_confirmed(alloc, permissions, plan, text),
-        Row::Unreleased => Ok(is_unreleased(alloc, permissions, plan)?),
+        Row::Unreleased => {
+            let report = check(alloc, permissions, plan)?;
+            Ok(is_unreleased(&report))
+        }
     }
 }
 
