@@ -6,6 +6,7 @@ ghost use Rattle.std.specs.Prelude.{◌≡◌, ◌≤◌, ◌+◌, ◌-◌, ◌^
 use crate::streams::{Files, ReadFault};
 use fints_syntax::Memory;
 use std::alloc::Global;
+use thiserror::Error;
 
 /// A file is read with at most this many calls.
 pub const MAX_CALLS: u32 = 5_000_000;
@@ -14,15 +15,19 @@ pub const MAX_CALLS: u32 = 5_000_000;
 const PIECE: usize = 4096;
 
 /// Why a file was not loaded.
-#[derive(Clone, Copy, Debug, PartialEq, Eq)]
+#[derive(Clone, Copy, Debug, PartialEq, Eq, Error)]
 pub enum LoadFault {
     /// A read failed.
+    #[error("{0}")]
     Unreadable(ReadFault),
     /// The file goes past its limit.
+    #[error("it is longer than its limit")]
     TooLong,
     /// The file doesn't come to its end within the calls.
+    #[error("it comes in too many pieces")]
     TooManyCalls,
     /// A growth was refused.
+    #[error("memory")]
     Memory,
 }
 

@@ -18,7 +18,8 @@ pub enum ReadFault {
 }
 
 /// The output failed.
-#[derive(Clone, Copy, Debug, PartialEq, Eq)]
+#[derive(Clone, Copy, Debug, PartialEq, Eq, Error)]
+#[error("the output failed")]
 pub struct WriteFault;
 
 /// Files by their paths.

@@ -7,10 +7,10 @@ ghost use Rattle.fints_syntax_segments.specs.declared.item.OwnedItem.TheVariants
 ghost use Rattle.fints_cli_texts.specs.Masked.{emptied_at, mask, masked_at, with_items};
 
 use fints_syntax::{Bytes, ElementRef, Elements, ItemRef, Memory, OwnedItem, OwnedSegment};
-use std::alloc::{AllocError, Global};
+use std::alloc::Global;
 
 // A secret, masked.
-fn mask(alloc: Global, value: &[u8]) -> Result<OwnedItem, AllocError>
+fn mask(alloc: Global, value: &[u8]) -> Result<OwnedItem, Memory>
     ensures { IfOk result (λ item. item ≡ mask value.now) }
 {
     match value {
@@ -20,7 +20,7 @@ fn mask(alloc: Global, value: &[u8]) -> Result<OwnedItem, AllocError>
 }
 
 // The items of an element, each masked.
-fn masked_items(alloc: Global, items: &ElementRef<'_>) -> Result<Vec<OwnedItem>, AllocError>
+fn masked_items(alloc: Global, items: &ElementRef<'_>) -> Result<Vec<OwnedItem>, Memory>
     ensures { IfOk result (λ masked. masked.items ≡ map mask (map item_value items.now)) }
 {
     let mut masked = Vec::new(alloc);
@@ -30,7 +30,7 @@ fn masked_items(alloc: Global, items: &ElementRef<'_>) -> Result<Vec<OwnedItem>,
     Ok(masked)
 }
 
-fn copied(alloc: Global, item: &ItemRef<'_>) -> Result<OwnedItem, AllocError>
+fn copied(alloc: Global, item: &ItemRef<'_>) -> Result<OwnedItem, Memory>
     ensures { IfOk result (λ copy. copy ≡ item_of_ref item.now) }
 {
     match item {
@@ -45,7 +45,7 @@ fn copy_items(
     out: &mut Vec<OwnedItem>,
     items: &ElementRef<'_>,
     skipped: usize,
-) -> Result<(), AllocError>
+) -> Result<(), Memory>
     ensures { OnOk result (out.new.items ≡ out.old.items ++ drop skipped items.now) }
 {
     for i in skipped..items.len() {

@@ -1,7 +1,7 @@
 //! A client's outbox: what it hands on, the bank's parameters permit.
 ghost use Rattle.std.specs.Prelude.{◌≡◌, [], OnOk, OnErr, IfOk, IfErr};
 ghost use Rattle.fints_rules.specs.Permits.{Granted};
-ghost use Rattle.fints_rules_messages.specs.declared.message.JudgeFault.TheVariants as faults;
+ghost use Rattle.fints_rules.specs.JudgeFaults as faults;
 ghost use Rattle.fints_example_outbox.specs.Outboxes.{nothing_sent, with_sent, after_sending, EachWasPermitted, IsNextIn};
 ghost use Rattle.fints_example_outbox.specs.declared.outbox.Held.TheVariants as held;
 

@@ -7,7 +7,9 @@ ghost use Rattle.fints_params.specs.Faults.{IsBad};
 use crate::fault::{ParamFault, bad_element};
 use crate::national::National;
 use crate::rows::{AccountRow, Entries, Entry};
-use fints_syntax::{Bytes, ElementRef, Elements, ItemRef, Kind, OwnedSegment, parse_number};
+use fints_syntax::{
+    Bytes, ElementRef, Elements, ItemRef, Kind, Memory, OwnedSegment, parse_number,
+};
 use std::alloc::{AllocError, Global};
 
 // Entries stand in the elements from 11 on, and elements after the head are counted from 0 here.
@@ -93,7 +95,7 @@ fn entries_of(alloc: Global, elements: &Elements) -> Result<(Vec<Entry>, usize),
 }
 
 // The account by its number.
-fn read_national(alloc: Global, segment: &OwnedSegment) -> Result<National, AllocError>
+fn read_national(alloc: Global, segment: &OwnedSegment) -> Result<National, Memory>
     ensures { IfOk result (λ n. n ≡ (account_row segment.now).national) }
 {
     National::copied(
@@ -109,7 +111,7 @@ fn read_national(alloc: Global, segment: &OwnedSegment) -> Result<National, Allo
 pub fn read_account(
     alloc: Global,
     segment: &OwnedSegment,
-) -> Result<(AccountRow, usize), AllocError>
+) -> Result<(AccountRow, usize), Memory>
     ensures row { IfOk result (λ r. r.0 ≡ account_row segment.now) }
     ensures skipped { IfOk result (λ r. r.1 ≡ count_by is_odd_element (entry_elements segment.now)) }
 {

@@ -1,7 +1,8 @@
 //! An account as it is named within its country.
 ghost use Rattle.std.specs.Prelude.{◌≡◌, IfOk};
 
-use std::alloc::{AllocError, Global};
+use fints_syntax::Memory;
+use std::alloc::Global;
 use std::marker::Model;
 
 /// An account as it is named within its country, by four texts that stand in one list of bytes; what
@@ -34,7 +35,7 @@ impl National {
         subaccount: &[u8],
         country: &[u8],
         bank: &[u8],
-    ) -> Result<National, AllocError>
+    ) -> Result<National, Memory>
         ensures { IfOk result (λ n. n ≡ record {
           number = number.now;
           subaccount = subaccount.now;
