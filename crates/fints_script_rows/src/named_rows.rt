@@ -6,19 +6,22 @@ ghost use Rattle.toml.specs.View.{view};
 ghost use Rattle.fints_syntax_toml.specs.Entries.{is_called, name_in};
 ghost use Rattle.fints_script_rows.specs.Places.{first_place, HoldsPlaces, place_in};
 
+use fints_syntax_hashing::{KeyDigest, KeyedHashing};
 use fints_syntax_segments::Memory;
 use fints_syntax_toml::entries::text_at;
+use indexmap::IndexMap;
 use std::alloc::Global;
-use std::collections::BTreeMap;
 use std::marker::Model;
 use toml::Value;
+
+type NamePlaces<'a> = IndexMap<&'a str, usize, KeyedHashing>;
 
 /// Rows in order, with a map from each name to the place of the first row that has it; a contract
 /// sees the rows.
 #[derive(Drop)]
 pub struct NamedRows<'a> {
     rows: &'a [Value],
-    places: BTreeMap<&'a str, usize>,
+    places: NamePlaces<'a>,
 }
 
 impl<'a> Model for NamedRows<'a> {
@@ -49,11 +52,7 @@ fn name_in<'a>(row: &'a Value) -> Option<&'a str>
 }
 
 // Notes the place of a name, unless one is there.
-fn note<'a>(
-    places: &mut BTreeMap<&'a str, usize>,
-    name: &'a str,
-    place: usize,
-) -> Result<(), Memory>
+fn note<'a>(places: &mut NamePlaces<'a>, name: &'a str, place: usize) -> Result<(), Memory>
     ensures { OnOk result ((q : List ℕ)
         → place_in places.new q ≡ first_place (place_in places.old q) (bytes_eq q name.now) place) }
 {
@@ -63,10 +62,19 @@ fn note<'a>(
     Ok(())
 }
 
-fn places_of<'a>(alloc: Global, rows: &'a [Value]) -> Result<BTreeMap<&'a str, usize>, Memory>
+// The hashing by the names of the rows.
+fn name_hashing(rows: &[Value]) -> KeyedHashing {
+    let mut names = KeyDigest::new();
+    for name in rows.iter().filter_map(|row| name_in(row)) {
+        names.add_text(name.as_bytes());
+    }
+    KeyedHashing::by(names)
+}
+
+fn places_of<'a>(alloc: Global, rows: &'a [Value]) -> Result<NamePlaces<'a>, Memory>
     ensures { IfOk result (λ m. HoldsPlaces is_called (map view rows.now) (place_in m)) }
 {
-    let mut places = BTreeMap::new(alloc);
+    let mut places = IndexMap::with_hasher(alloc, name_hashing(rows));
     for i in 0..rows.len() {
         if let Some(name) = name_in(&rows[i]) {
             note(&mut places, name, i)?;
