@@ -3,6 +3,7 @@ use crate::elements::{Written, write_elements};
 use crate::place::{Place, Undrafted};
 use crate::recorded::Recorded;
 use crate::secrets::Secrets;
+use crate::texts::write_number;
 use fints_script::limits::{MAX_SIGNATURES, MAX_SIGNERS};
 use std::alloc::{AllocError, Global};
 
@@ -98,7 +99,9 @@ impl Signers {
             if place > 0 {
                 text.push_str(", ")?;
             }
-            write!(text, "\"signer{number}\"")?;
+            text.push_str("\"signer")?;
+            write_number(text, number)?;
+            text.push('"')?;
         }
         Ok(())
     }
@@ -106,9 +109,10 @@ impl Signers {
     /// Writes the rows of the signers.
     pub fn write_rows(&self, text: &mut String) -> Result<(), AllocError> {
         for (i, signer) in self.rows.iter().enumerate() {
-            let number = i + 1;
-            let row = signer.row.as_str();
-            write!(text, "\n[[signer]]\nname = \"signer{number}\"\n{row}")?;
+            text.push_str("\n[[signer]]\nname = \"signer")?;
+            write_number(text, i + 1)?;
+            text.push_str("\"\n")?;
+            text.push_str(signer.row.as_str())?;
         }
         Ok(())
     }

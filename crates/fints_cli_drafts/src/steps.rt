@@ -5,6 +5,7 @@ use crate::place::Undrafted;
 use crate::recorded::{Recorded, is_of_body};
 use crate::secrets::Secrets;
 use crate::signers::Signers;
+use crate::texts::write_number;
 use crate::turns::{Ways, write_ways};
 use fints_rules::OrderTable;
 use fints_syntax::OwnedSegment;
@@ -24,8 +25,8 @@ fn write_segment(
     for b in head.id.as_bytes() {
         text.push(char::from(*b))?;
     }
-    let version = head.version;
-    write!(text, "\", version = {version}")?;
+    text.push_str("\", version = ")?;
+    write_number(text, usize::from(head.version))?;
     if !elements.is_empty() {
         text.push_str(", elements = ")?;
         write_elements(alloc, text, secrets, written)?;
@@ -74,7 +75,9 @@ pub fn write_step(
     ways: &Ways,
 ) -> Result<(), Undrafted> {
     let Common { secrets, signers } = common;
-    write!(text, "\n[[step]]\nname = \"m{message}\"\n")?;
+    text.push_str("\n[[step]]\nname = \"m")?;
+    write_number(text, message)?;
+    text.push_str("\"\n")?;
     if recorded.seal().is_some() {
         text.push_str("sealed = true\n")?;
     }

@@ -1,8 +1,19 @@
-//! The strings of a script: items as they are written in TOML.
+//! The strings of a script: items as they are written in TOML; and its numbers.
+ghost use Rattle.std.specs.Prelude.{◌≡◌, ◌++◌, OnOk, decimal, string_bytes};
+
 use crate::place::{Place, Undrafted};
 use fints_script_fields::Alphabet;
 use fints_syntax::ItemRef;
+use itoa::Buffer;
 use std::alloc::{AllocError, Global};
+
+/// Writes a number in decimal digits.
+pub fn write_number(text: &mut String, number: usize) -> Result<(), AllocError>
+    ensures { OnOk result (string_bytes text.new ≡ string_bytes text.old ++ decimal number) }
+{
+    let mut digits = Buffer::new();
+    text.push_str(digits.format(number))
+}
 
 // Writes a text, whose bytes are characters of ISO 8859-1, without what TOML would read otherwise.
 fn write_characters(text: &mut String, value: &[u8]) -> Result<(), AllocError> {

@@ -1,5 +1,6 @@
 //! The ways of a draft: which step an answer of the bank has sent next.
 use crate::recorded::{Recorded, has_process};
+use crate::texts::write_number;
 use fints_params::Code;
 use fints_rules_dialogues::Exchange;
 use fints_script_cases::digits_of;
@@ -103,10 +104,12 @@ pub fn ways_of(turns: &[Turn], exchange: &Exchange<'_>, number: usize) -> Ways {
 }
 
 fn write_target(text: &mut String, target: Option<usize>) -> Result<(), AllocError> {
-    match target {
-        Some(message) => write!(text, "\"m{message}\""),
-        None => write!(text, "\"stop\""),
-    }
+    let Some(message) = target else {
+        return text.push_str("\"stop\"");
+    };
+    text.push_str("\"m")?;
+    write_number(text, message)?;
+    text.push_str("\"")
 }
 
 fn write_code(text: &mut String, code: Code) -> Result<(), AllocError> {

@@ -13,12 +13,13 @@ use fints_cli_texts::{Fault, Reply, verdict_status, write_broken, write_last};
 use fints_params::{ParamFault, Params};
 use fints_rules::{Broken, OrderTable, Permissions};
 use fints_rules_dialogues::{Audited, Exchange, audit, own_params, read_dialogue};
+use itoa::Buffer;
 use std::alloc::{AllocError, Global};
 
 fn write_told(text: &mut String, broken: &Broken) -> Result<(), AllocError>
     ensures { OnOk result (string_bytes text.new ≡ string_bytes text.old ++ broken_told broken.now) }
 {
-    write!(text, "broken ")?;
+    text.push_str("broken ")?;
     write_broken(text, broken)
 }
 
@@ -38,7 +39,12 @@ fn write_message(text: &mut String, number: usize, audited: &Audited<'_>) -> Res
         ≡ string_bytes text.old ++ message_lines number audited.now) }
 {
     let size = audited.message.bytes.len();
-    writeln!(text, "message {number} size {size}")?;
+    let mut digits = Buffer::new();
+    text.push_str("message ")?;
+    text.push_str(digits.format(number))?;
+    text.push_str(" size ")?;
+    text.push_str(digits.format(size))?;
+    text.push_str("\n")?;
     write_all_told(text, audited.broken.as_slice())
 }
 

@@ -10,14 +10,18 @@ use crate::fault::Fault;
 use crate::reply::Reply;
 use fints_params::{ParamFault, Params};
 use fints_rules::{Broken, OrderTable, Permissions, judge};
+use itoa::Buffer;
 use std::alloc::{AllocError, Global};
 
 /// Writes the line of a rule that is broken.
 pub fn write_broken(text: &mut String, broken: &Broken) -> Result<(), AllocError>
     ensures { OnOk result (string_bytes text.new ≡ string_bytes text.old ++ broken_line broken.now) }
 {
-    let Broken { rule, segment } = broken;
-    writeln!(text, "{rule} segment {segment}")
+    let mut segment = Buffer::new();
+    text.push_str(broken.rule.name())?;
+    text.push_str(" segment ")?;
+    text.push_str(segment.format(broken.segment))?;
+    text.push_str("\n")
 }
 
 fn write_all(text: &mut String, broken: &[Broken]) -> Result<(), AllocError>
@@ -35,11 +39,12 @@ pub fn write_last(text: &mut String, broken: &[Broken]) -> Result<(), AllocError
     ensures { OnOk result (string_bytes text.new ≡ string_bytes text.old ++ last_line broken.now) }
 {
     if broken.is_empty() {
-        writeln!(text, "permitted")
-    } else {
-        let count = broken.len();
-        writeln!(text, "broken {count}")
+        return text.push_str("permitted\n");
     }
+    let mut count = Buffer::new();
+    text.push_str("broken ")?;
+    text.push_str(count.format(broken.len()))?;
+    text.push_str("\n")
 }
 
 /// The status: 0 where nothing is broken, else 1.

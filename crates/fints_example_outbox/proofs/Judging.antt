@@ -8,8 +8,8 @@ use Rattle.std.proofs.Math.Seq.{get_or-append_seam, take-append_seam}
 use Rattle.std.specs.Prelude.{Contains, slice_get}
 use Rattle.fints_example_outbox.specs.Outboxes.{EachWasPermitted, IsPermittedAfter, IsPermittedNext, SentValue}
 use Rattle.fints_rules.specs.Breaks.{Breaks, IsJudged, IsJudgedAfter, Permitted, PermittedAfter}
-use Rattle.fints_rules_messages.proofs.LawLemmas.{one_message}
-use Rattle.fints_rules_messages.specs.Messages.{IsMessage, MessageView}
+use Rattle.fints_rules.proofs.{one_message}
+use Rattle.fints_rules.specs.Messages.{IsMessage, MessageView}
 use Rattle.fints_rules.specs.declared.rule.Broken.{Broken}
 use Rattle.fints_rules.specs.Permits.{Granted}
 use Rattle.fints_rules.specs.declared.rule.Rule.TheVariants.{Release}

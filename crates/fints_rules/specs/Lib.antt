@@ -1,4 +1,5 @@
 pub use Rattle.fints_rules_permissions.specs.Permits
+pub use Rattle.fints_rules_messages.specs.Messages
 pub use Rattle.fints_rules_messages.specs.declared.message.JudgeFault.TheVariants as JudgeFaults
 pub mod SegmentFacts
 pub mod Rules

@@ -1,8 +1,8 @@
 use Rattle.std.proofs.Common.{◌≡◌, ◌∙◌, ◌-◌, ℕ, List, [], Option, Some, None, IfErr, IfOk, slice_get, take, length, ap, sym, subst}
 use Rattle.std.proofs.lemmas.Result.{IfOk-weaker}
 use Rattle.fints_rules.specs.Breaks.{IsJudged, IsJudgedAfter, PermittedAfter}
-use Rattle.fints_rules_messages.specs.Messages.{IsMessage}
-use Rattle.fints_rules_messages.specs.declared.message.JudgeFault.TheVariants.{Memory}
+use Rattle.fints_rules.specs.Messages.{IsMessage}
+use Rattle.fints_rules.specs.JudgeFaults.{Memory}
 use Rattle.fints_example_outbox.specs.Inside.{outbox_of}
 use Rattle.fints_example_outbox.specs.Outboxes.{IsNextIn, IsPermittedAfter, OutboxValue, SentValue}
 use Rattle.fints_example_outbox.proofs.Judging.{is_message, nothing_broken, nothing_broken_after, permitted, permitted_after}
