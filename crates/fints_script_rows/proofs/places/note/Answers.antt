@@ -2,7 +2,7 @@ use Rattle.std.proofs.Common.{◌∙◌, Some, sym}
 use Rattle.std.proofs.lemmas.Map.Text.{hash_map_updates_str}
 use Rattle.fints_script_rows.specs.Places.{place_in}
 use Rattle.fints_script_rows.proofs.FirstPlaces.{noted}
-use Rattle.fints_script_rows.proofs.named_rows.note.Goals as goal
+use Rattle.fints_script_rows.proofs.places.note.Goals as goal
 
 pub returns-in_ok-insert : goal.returns-in_ok-insert
 returns-in_ok-insert c =
