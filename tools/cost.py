@@ -3,8 +3,8 @@
 and at 2n, the least of three runs or of as many as are asked for (of one, where it takes over two
 seconds), and how many times as long 2n takes. No part of the gate.
 
-A run is given 150 seconds of processor time and 4 GiB of addresses. The second table is of maps whose
-keys collide. The third tells how much memory a further byte of an input takes, beside the mark that it
+A run is given 150 seconds of processor time and 4 GiB of addresses. The second table is of maps with
+many keys. The third tells how much memory a further byte of an input takes, beside the mark that it
 should keep. The last two tell how a run ends that can't have the memory it asks for, and which stack deep
 texts of TOML need.
 
@@ -36,12 +36,8 @@ class Room:
 
     def __init__(self, program, folder):
         self.program, self.folder, self.made = program, folder, 0
-        self.used, self.collide = map(self.built, ("used", "collide"))
-
-    def built(self, name):
-        path = f"{self.folder}/{name}"
-        subprocess.run([os.environ.get("CC", "cc"), "-O2", "-o", path, f"{TOP}/tools/{name}.c"], check=True)
-        return path
+        self.used = f"{folder}/used"
+        subprocess.run([os.environ.get("CC", "cc"), "-O2", "-o", self.used, f"{TOP}/tools/used.c"], check=True)
 
     def file(self, text):
         self.made += 1
@@ -66,11 +62,6 @@ class Room:
         said = subprocess.run(command, capture_output=True, check=False).stderr.decode(errors="replace")
         return int(re.search(r"Collected : (\d+)", said)[1]) / 1e6
 
-    def colliding(self, *what):
-        """Keys that collide (tools/collide.c)."""
-        ran = subprocess.run([self.collide, *map(str, what)], capture_output=True, check=True, text=True)
-        return ran.stdout.splitlines()
-
 
 # Captures. Each gives about so many bytes.
 
@@ -79,8 +70,16 @@ def capture(segment, size):
     return HEAD + segment * ((size - len(HEAD)) // len(segment))
 
 
+ROW = "HIKAZS:6:%d+20+1+360:J:N:a:further:item:or:two'\n"
+
+
 def ordinary(size):
-    return capture("HIKAZS:6:5+20+1+360:J:N:a:further:item:or:two'\n", size)
+    return capture(ROW % 5, size)
+
+
+def in_turn(size):
+    """The same row in the versions 1 to 9, over and over."""
+    return capture("".join(ROW % it for it in range(1, 10)), size)
 
 
 def full(part, most=19_990):
@@ -375,6 +374,7 @@ def measured(room):
         ("show, an ordinary capture", "bytes", m, show(ordinary)),
         ("judge, an ordinary capture and a message of 1 order", "bytes", m, judge(ordinary, small)),
         ("judge, an ordinary capture and a message of 996 orders", "bytes", m, judge(ordinary, many)),
+        ("judge, an ordinary row in 9 versions, over and over", "bytes", m, judge(in_turn, small)),
         ("show, segments of + alone", "bytes", half, show(full("+"))),
         ("show, segments of elements of one byte", "bytes", half, show(full("+a"))),
         ("show, segments of items of one byte", "bytes", half, show(full(":a"))),
@@ -424,9 +424,9 @@ def measured(room):
     ]
 
 
-def keyed(room, which, rows, names, fields):
-    """The same for maps, with keys of one sort: the last three give so many of them."""
-    k = 1_000
+def keyed(room):
+    """The same for maps, with keys that are drawn by lot."""
+    k, rows, names = 1_000, any_rows, any_names
     check = lambda text, orders=ORDERS: ["check", "--params", C1, "--orders", orders, "--script", room.file(text)]
     steps = lambda on: lambda n: check(branching(on, ENDS, names)(n))
 
@@ -436,14 +436,14 @@ def keyed(room, which, rows, names, fields):
         return ["judge", "--params", files[0], "--orders", files[1], "--message", files[2]]
 
     return [
-        (f"judge, an order table of {which} rows, 1 order", "rows", 500, lambda n: judge(n, orders=table, asked=lambda _: orders(1))),
-        (f"judge, an order table of {which} rows, 996 orders", "rows", 500, lambda n: judge(n, orders=table)),
-        (f"check, orders of the last of 1,000 {which} rows", "orders", 18 * k, lambda n: check(ordering(rows(k)[-1])(n), room.file(table(rows(k))))),
-        (f"check, steps of {which} names, no branches", "steps", 500, steps([])),
-        (f"check, steps of {which} names, 20 branches each", "steps", 500, steps(LATE)),
-        (f"check, places for the last of 100 {which} fields", "places", 60 * k, lambda n: check(filled(fields(100))(n))),
-        (f"check --hints, too many fields of {which} names", "fields", 30 * k, lambda n: [*check(too_many(names(n))), "--hints"]),
-        (f"judge, limits of {which} kinds and versions, 996 orders", "rows", 120 * k, lambda n: judge(n, capture=limits)),
+        ("judge, an order table of random rows, 1 order", "rows", 500, lambda n: judge(n, orders=table, asked=lambda _: orders(1))),
+        ("judge, an order table of random rows, 996 orders", "rows", 500, lambda n: judge(n, orders=table)),
+        ("check, orders of the last of 1,000 random rows", "orders", 18 * k, lambda n: check(ordering(rows(k)[-1])(n), room.file(table(rows(k))))),
+        ("check, steps of random names, no branches", "steps", 500, steps([])),
+        ("check, steps of random names, 20 branches each", "steps", 500, steps(LATE)),
+        ("check, places for the last of 100 random fields", "places", 60 * k, lambda n: check(filled(names(100, 4))(n))),
+        ("check --hints, too many fields of random names", "fields", 30 * k, lambda n: [*check(too_many(names(n))), "--hints"]),
+        ("judge, limits of random kinds and versions, 996 orders", "rows", 120 * k, lambda n: judge(n, capture=limits)),
     ]
 
 
@@ -459,23 +459,14 @@ def listing(room, which, most, kinds):
 
 
 def measured_keys(room):
-    """The same for maps, with keys that are drawn by lot and with such as collide."""
-    rows = lambda count: [tuple(it.split()) for it in room.colliding("rows", count)]
-    names, fields = (lambda count, of=of: room.colliding(of, count) for of in ("names", "fields"))
-    both = zip(
-        keyed(room, "random", any_rows, any_names, lambda count: any_names(count, 4)),
-        keyed(room, "colliding", rows, names, fields),
-    )
+    """The same for maps, and for HIPINS with kinds in several orders."""
     most = 460_000
-    return [it for pair in both for it in pair] + [
+    return keyed(room) + [
         listing(room, "random kinds", most, any_kinds),
         listing(room, "sorted kinds", most, lambda count: sorted(any_kinds(count))),
         listing(room, "kinds in reverse order", most, lambda count: sorted(any_kinds(count), reverse=True)),
         listing(room, "kinds alike but for one place", most, alike),
         listing(room, "kinds of 4 characters", 596_000, lambda count: [name(it) for it in range(count)]),
-        listing(room, "colliding kinds", most, lambda count: room.colliding("kinds", count)),
-        listing(room, "kinds that SipHash 0 0 joins", most, lambda count: room.colliding("kinds", count, 0, 0)),
-        listing(room, "kinds that SipHash 1 2 joins", most, lambda count: room.colliding("kinds", count, 1, 2)),
     ]
 
 

@@ -1,38 +1,20 @@
 -- One more row of an order table, in the map of forms.
-use Rattle.std.proofs.Common.{◌≡◌, ◌&&◌, ◌||◌, ℕ, Bool, true, false, cond, List, [], ◌∷◌, ◌++◌, Option, Some, None, refl, ap, ◌∙◌, sym, subst}
-use Rattle.std.specs.Prelude.{◌==◌, Any, find, is_some, option_map}
+use Rattle.std.proofs.Common.{◌≡◌, ◌||◌, ℕ, Bool, true, false, cond, List, [], ◌∷◌, ◌++◌, Option, Some, None, refl, ap, ◌∙◌, sym, subst}
+use Rattle.std.specs.Prelude.{Any, find, is_some, option_map}
 use Rattle.std.specs.List.{list_any}
 use Rattle.std.specs.Bool.{Decides}
-use Rattle.std.specs.declared.cmp.Ordering.{Ordering}
-use Rattle.std.specs.declared.cmp.Ordering.TheVariants.{Less, Equal, Greater}
-use Rattle.std.specs.Ordering.{is_eq, nat_cmp, ordering_then}
-use Rattle.std.specs.Cmp.{unsigned_Decides, unsigned_ties}
-use Rattle.std.specs.Cmp.Lexicographic.{slice_cmp, texts_ties}
-use Rattle.std.specs.Str.{bytes_eq}
+use Rattle.std.specs.Cmp.{unsigned_Decides}
 use Rattle.std.proofs.lemmas.Bool.{false≢true}
 use Rattle.std.proofs.lemmas.Bool.Decides.{Decides-and}
 use Rattle.std.proofs.lemmas.List.Folds.{Any-from_list_any, list_any-from_Any}
 use Rattle.std.proofs.lemmas.Slice.Eq.{bytes_eq-Decides}
-use Rattle.fints_rules_permissions.specs.FormMaps.{HoldsForms, order_key}
+use Rattle.fints_rules_permissions.specs.FormMaps.{HoldsForms}
+use Rattle.fints_rules_permissions.specs.OrderKeys.{key_eq, row_key}
 use Rattle.fints_rules_permissions.specs.Orders.{IsSameOrder, form_of, is_order_of}
-use Rattle.fints_rules_permissions.specs.declared.ranks.OrderKey.{OrderKey}
+use Rattle.fints_rules_permissions.specs.declared.keys.OrderKey.{OrderKey}
 use Rattle.fints_rules_permissions.specs.declared.orders.AccountForm.{AccountForm}
 use Rattle.fints_rules_permissions.specs.declared.orders.OrderRow.{OrderRow}
-use Rattle.fints_rules_permissions.specs.Ranks.{order_key_cmp}
-use Rattle.fints_rules_permissions.proofs.LimitLemmas.{key_decides, key_eq}
-
--- ---- keys that are the same in their order
-
-both_equal : (o p : Ordering) → is_eq (ordering_then o p) ≡ (is_eq o && is_eq p)
-both_equal Less p = refl
-both_equal Equal p = refl
-both_equal Greater p = refl
-
-key_ties : (a b : OrderKey) → is_eq (order_key_cmp a b) ≡ key_eq a b
-key_ties a b =
-    both_equal (slice_cmp nat_cmp a.kind b.kind) (nat_cmp a.version b.version)
-    ∙ ap (λ t. t && is_eq (nat_cmp a.version b.version)) (sym (texts_ties a.kind b.kind))
-    ∙ ap (λ t. bytes_eq a.kind b.kind && t) (sym (unsigned_ties a.version b.version))
+use Rattle.fints_rules_permissions.proofs.LimitLemmas.{key_decides}
 
 -- ---- what is found in a list with one row more
 
@@ -60,16 +42,15 @@ no_form (Some r) h = absurd cc
 
 -- the map has one form more, of a kind and version that no row had
 pub forms_more : (rows : List OrderRow) (row : OrderRow) (forms more : OrderKey → Option AccountForm)
-    → HoldsForms rows forms → is_some (forms (order_key row)) ≡ false
-    → ((q : OrderKey) → more q ≡ cond (is_eq (order_key_cmp (order_key row) q)) (Some row.form) (forms q))
+    → HoldsForms rows forms → is_some (forms (row_key row)) ≡ false
+    → ((q : OrderKey) → more q ≡ cond (key_eq (row_key row) q) (Some row.form) (forms q))
     → HoldsForms (rows ++ row ∷ []) more
 forms_more rows row forms more holds fresh updates q =
     let p : OrderRow → Bool = is_order_of q.kind q.version in
     let none : p row ≡ true → find p rows ≡ None = λ h.
-    let same : order_key row ≡ q = (key_decides (order_key row) q).0 h in
-    no_form (find p rows) (sym (holds q) ∙ subst (λ k. forms k ≡ None) same (is_none (forms (order_key row)) fresh)) in
-    updates q ∙ ap (λ t. cond t (Some row.form) (forms q)) (key_ties (order_key row) q)
-    ∙ ap (λ o. cond (p row) (Some row.form) o) (holds q)
+    let same : row_key row ≡ q = (key_decides (row_key row) q).0 h in
+    no_form (find p rows) (sym (holds q) ∙ subst (λ k. forms k ≡ None) same (is_none (forms (row_key row)) fresh)) in
+    updates q ∙ ap (λ o. cond (p row) (Some row.form) o) (holds q)
     ∙ sym (ap (option_map (λ (r : OrderRow). r.form)) (pushed p rows row none)
     ∙ form_chosen (p row) row (find p rows))
   where

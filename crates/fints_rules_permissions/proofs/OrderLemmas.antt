@@ -1,10 +1,10 @@
 -- The rows of the entries, one by one.
-use Rattle.std.proofs.Common.{◌≡◌, ℕ, ◌+◌, ◌<◌, ◌≤◌, List, [], ◌∷◌, ◌++◌, length, get_or, take, drop, map, Some, Result, Ok, Err, refl, ap, ◌∙◌, sym, arith, inr}
+use Rattle.std.proofs.Common.{◌≡◌, ℕ, ◌+◌, ◌<◌, ◌≤◌, List, [], ◌∷◌, ◌++◌, length, get_or, take, drop, map, Option, Some, Result, Ok, Err, refl, ap, ◌∙◌, sym, arith, inr}
 use Rattle.std.specs.Prelude.{IfOk, IfErr, Any}
-use Rattle.std.proofs.lemmas.List.{take_more, drop_more, take-append-drop, map_push, map-append, length-map, length-take-le, get_or_default}
+use Rattle.std.proofs.lemmas.List.{take_more, drop_more, take-append-drop, map_push, get_or-map, length-map, length-take-le, get_or_default}
 use Rattle.std.proofs.lemmas.List.Quantifiers.{all_pairs_push}
 use Rattle.toml.specs.declared.value.Value.{Value}
-use Rattle.toml.specs.Data.{Data, array}
+use Rattle.toml.specs.Data.{Data, array, string}
 use Rattle.toml.specs.View.{view, items_view}
 use Rattle.fints_syntax_toml.specs.Document.{item_list}
 use Rattle.fints_rules_permissions.specs.declared.orders.OrderRow.{OrderRow}
@@ -18,15 +18,27 @@ pub item_list-view : (vs : List Value) → item_list (items_view vs) ≡ map vie
 item_list-view [] = refl
 item_list-view (v ∷ vs) = ap (λ ds. view v ∷ ds) (item_list-view vs)
 
+-- what stands past a list of entries
+pub no_data : Data
+no_data = string []
+
+-- what was read of the entry at i
+pub read_within : (ds : List Data) (read : List (Option OrderRow)) (i : ℕ) → read ≡ map row_of ds → i < length read
+    → i < length ds
+read_within ds read i is lt = omega (arith, length-map ds row_of, ap length is, lt)
+
+pub read_at : (ds : List Data) (read : List (Option OrderRow)) (i : ℕ) (row : Option OrderRow) → read ≡ map row_of ds
+    → i < length ds → row ≡ get_or read i row → row_of (get_or ds i no_data) ≡ row
+read_at ds read i row is lt at =
+    sym (get_or-map row_of ds i no_data row lt) ∙ ap (λ os. get_or os i row) (sym is) ∙ sym at
+
 -- one more row
-pub rows_more : (vs : List Value) (i : ℕ) (d : Value) (rows : List OrderRow) (row : OrderRow) → i < length vs
-    → AreRows (map view (take i vs)) rows → row_of (view (get_or vs i d)) ≡ Some row
-    → (Any (IsSameOrder row) rows → ⊥) → AreRows (map view (take (i + 1) vs)) (rows ++ row ∷ [])
-rows_more vs i d rows row lt are is none =
-    let entries : map view (take (i + 1) vs) ≡ map view (take i vs) ++ view (get_or vs i d) ∷ [] =
-    ap (map view) (take_more vs i d lt) ∙ map_push view (take i vs) (get_or vs i d) in
-    let each : map row_of (map view (take (i + 1) vs)) ≡ map Some (rows ++ row ∷ []) =
-    ap (map row_of) entries ∙ map_push row_of (map view (take i vs)) (view (get_or vs i d)) ∙ ap (λ os. os ++ row_of (view (get_or vs i d)) ∷ []) are.each
+pub rows_more : (ds : List Data) (i : ℕ) (d : Data) (rows : List OrderRow) (row : OrderRow) → i < length ds
+    → AreRows (take i ds) rows → row_of (get_or ds i d) ≡ Some row
+    → (Any (IsSameOrder row) rows → ⊥) → AreRows (take (i + 1) ds) (rows ++ row ∷ [])
+rows_more ds i d rows row lt are is none =
+    let each : map row_of (take (i + 1) ds) ≡ map Some (rows ++ row ∷ []) =
+    ap (map row_of) (take_more ds i d lt) ∙ map_push row_of (take i ds) (get_or ds i d) ∙ ap (λ os. os ++ row_of (get_or ds i d) ∷ []) are.each
     ∙ ap (λ o. map Some rows ++ o ∷ []) is ∙ sym (map_push Some rows row) in
     record {
       each = each;
@@ -42,19 +54,17 @@ rows_more vs i d rows row lt are is none =
           ));
     }
 
--- the entry at i, behind good rows, is bad
-pub first_bad : (vs : List Value) (i n : ℕ) (d : Value) (rows : List OrderRow)
+-- the entry at i, after good rows, is bad
+pub first_bad : (ds : List Data) (i n : ℕ) (d : Data) (rows : List OrderRow)
     (Bad : List OrderRow → Data → Type 0)
-    → i < length vs → n ≡ i + 1 → AreRows (map view (take i vs)) rows → Bad rows (view (get_or vs i d))
-    → IsFirstBad (map view vs) n Bad
-first_bad vs i n d rows Bad lt is are bad = record {
-  earlier = map view (take i vs);
-  entry = view (get_or vs i d);
-  later = map view (drop (i + 1) vs);
-  entries_are =
-      ap (map view) (sym (take-append-drop i vs) ∙ ap (λ ws. take i vs ++ ws) (drop_more vs i d lt))
-      ∙ map-append view (take i vs) (get_or vs i d ∷ drop (i + 1) vs);
-  number = omega (arith, length-map (take i vs) view, length-take-le i vs (omega arith));
+    → i < length ds → n ≡ i + 1 → AreRows (take i ds) rows → Bad rows (get_or ds i d)
+    → IsFirstBad ds n Bad
+first_bad ds i n d rows Bad lt is are bad = record {
+  earlier = take i ds;
+  entry = get_or ds i d;
+  later = drop (i + 1) ds;
+  entries_are = sym (take-append-drop i ds) ∙ ap (λ es. take i ds ++ es) (drop_more ds i d lt);
+  number = omega (arith, length-take-le i ds (omega arith));
   rows = rows;
   rows_are = are;
   bad = bad;

@@ -1,13 +1,9 @@
 -- The map of forms, by kind and version. Private contracts and the invariant of `OrderTable` alone cite these words.
 use Rattle.std.specs.Prelude.{◌≡◌, List, Option}
-use Rattle.fints_rules_permissions.specs.declared.ranks.OrderKey.{OrderKey}
+use Rattle.fints_rules_permissions.specs.declared.keys.OrderKey.{OrderKey}
 use Rattle.fints_rules_permissions.specs.Orders.{form_of}
 use Rattle.fints_rules_permissions.specs.declared.orders.AccountForm.{AccountForm}
 use Rattle.fints_rules_permissions.specs.declared.orders.OrderRow.{OrderRow}
-
--- the kind and version of a row
-abbrev pub order_key : OrderRow → OrderKey
-order_key row = record { kind = row.kind; version = row.version }
 
 -- the map has the form of each kind and version
 abbrev pub HoldsForms : List OrderRow → (OrderKey → Option AccountForm) → Type 0

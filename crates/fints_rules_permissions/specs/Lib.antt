@@ -6,8 +6,9 @@ pub mod Orders
 pub mod OrderFaults
 pub mod Laws
 pub mod Permits
+pub mod OrderKeys
 pub mod FormMaps
 pub mod Ranks
-pub mod Limits
+pub mod LimitMaps
 pub mod Needs
 pub mod Tans

@@ -4,8 +4,6 @@ use Rattle.std.specs.Prelude.{◌≡◌, ◌≤◌, ℕ, true, false, List, Opti
 use Rattle.std.specs.List.Sorted.{IsPartitionPoint}
 use Rattle.std.specs.declared.cmp.Ordering.{Ordering}
 use Rattle.std.specs.Ordering.{is_lt, nat_cmp, ordering_then}
-use Rattle.std.specs.Cmp.Lexicographic.{slice_cmp}
-use Rattle.fints_rules_permissions.specs.declared.ranks.OrderKey.{OrderKey}
 
 -- by their keys, then by their ranks
 abbrev pub ranked_cmp : {X K : Type 0} → (K → K → Ordering) → (X → K) → (X → ℕ) → X → X → Ordering
@@ -21,7 +19,3 @@ abbrev pub IsLeastRank : {X K : Type 0} → (X → K) → (X → ℕ) → K → 
 IsLeastRank {X} key rank q xs None = (x : X) → Contains xs x → key x ≡ q → ⊥
 IsLeastRank {X} key rank q xs (Some n) =
     ((x : X) × Contains xs x × (key x ≡ q) × (rank x ≡ n)) × ((x : X) → Contains xs x → key x ≡ q → n ≤ rank x)
-
--- by kind, then by version
-abbrev pub order_key_cmp : OrderKey → OrderKey → Ordering
-order_key_cmp a b = ordering_then (slice_cmp nat_cmp a.kind b.kind) (nat_cmp a.version b.version)

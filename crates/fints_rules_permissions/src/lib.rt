@@ -3,18 +3,18 @@
 #![tactic(auto)]
 
 mod account;
+mod keys;
 pub mod kinds;
 pub mod laws;
 mod limits;
 mod needs;
 mod orders;
 mod permissions;
-mod ranks;
 mod tans;
 
 pub use account::AccountKey;
 pub use fints_syntax::Memory;
+pub use keys::OrderKey;
 pub use limits::{Demand, Limits};
 pub use orders::{AccountForm, MAX_ROWS, OrderRow, OrderTable, TableFault};
 pub use permissions::{Permissions, Permit};
-pub use ranks::OrderKey;

@@ -1,13 +1,16 @@
 //! The limits of each kind and version of orders, and whether a kind demands a TAN.
-ghost use Rattle.std.specs.Prelude.{◌≡◌, ◌<◌, ◌^◌, List, IfOk};
-ghost use Rattle.fints_params.specs.declared.rows.OrderParam.{OrderParam as OrderParamValue};
-ghost use Rattle.fints_params.specs.declared.rows.PinRow.{PinRow as PinRowValue};
-ghost use Rattle.fints_rules_permissions.specs.Permits.{params_of, DemandIs, LimitsAre};
-ghost use Rattle.fints_rules_permissions.specs.Limits.{limit_back, row_key, limit_ranked, need_ranked, kind_key, pin_ranked, HoldsLimits, HoldsPins};
+ghost use Rattle.std.specs.Prelude.{◌≡◌, ◌↔◌, if◌then◌else◌, ℕ, List, IfOk, OnOk, IsTrue, Some};
+ghost use Rattle.std.specs.Str.{bytes_eq};
+ghost use Rattle.indexmap.specs.IndexMap.{get};
+ghost use Rattle.fints_rules_permissions.specs.declared.keys.OrderKey.{OrderKey as Key};
+ghost use Rattle.fints_rules_permissions.specs.OrderKeys.{key_eq, param_key};
+ghost use Rattle.fints_rules_permissions.specs.LimitMaps.{lower, joined, limits_of, with_limits, with_pin, HoldsLimits, HoldsPins};
 
-use crate::ranks::{OrderKey, Ranked, Ranks};
+use crate::keys::{OrderKey, param_hashing, param_key, pin_hashing};
 use fints_params::{OrderParam, PinRow};
 use fints_syntax::{Kind, Memory};
+use fints_syntax_hashing::KeyedHashing;
+use indexmap::IndexMap;
 use std::alloc::Global;
 
 /// How many orders of a kind a message may have, with 0 for no limit, and how many signatures it
@@ -29,131 +32,119 @@ pub enum Demand {
     Tan,
 }
 
-fn row_key(row: &OrderParam) -> OrderKey
-    ensures { result ≡ row_key row.now }
-{
-    OrderKey {
-        kind: row.kind,
-        version: row.version,
-    }
-}
+/// Limits by kind and version.
+pub type LimitMap = IndexMap<OrderKey, Limits, KeyedHashing>;
 
-// By its limit: a lower one stands first, and no limit last.
-fn limit_ranked(row: &OrderParam) -> Ranked
-    ensures ranked { result ≡ limit_ranked row.now }
-    ensures small { row.now.orders < 2 ^ 32 }
+/// Whether a TAN is demanded, by kind.
+pub type PinMap = IndexMap<Kind, bool, KeyedHashing>;
+
+// The lower of two limits, of which 0 is none.
+fn lower(m: u32, n: u32) -> u32
+    ensures { result ≡ lower m n }
 {
-    let rank = if row.orders == 0 {
-        u32::MAX
+    if m == 0 {
+        n
+    } else if n == 0 {
+        m
+    } else if n < m {
+        n
     } else {
-        row.orders - 1
-    };
-    Ranked {
-        key: row_key(row),
-        rank,
+        m
     }
 }
 
-// The limit of a rank.
-fn limit_of(rank: u32) -> u32
-    ensures { result ≡ limit_back rank }
-{
-    if rank == u32::MAX { 0 } else { rank + 1 }
-}
-
-// By its signatures: more stand first.
-fn need_ranked(row: &OrderParam) -> Ranked
-    ensures ranked { result ≡ need_ranked row.now }
-    ensures small { row.now.signatures < 2 ^ 32 }
-{
-    Ranked {
-        key: row_key(row),
-        rank: u32::MAX - row.signatures,
-    }
-}
-
-// By the demand: J stands before N.
-fn pin_ranked(pin: &PinRow) -> Ranked
-    ensures { result ≡ pin_ranked pin.now }
-{
-    Ranked {
-        key: kind_key(pin.kind),
-        rank: if pin.tan { 0 } else { 1 },
-    }
-}
-
-// A pair speaks of all versions of its kind, for which 0 stands.
-fn kind_key(kind: Kind) -> OrderKey
-    ensures { result ≡ kind_key kind }
-{
-    OrderKey { kind, version: 0 }
-}
-
-/// The rows of parameter segments, by the ranks of their limits and of their signatures.
-#[derive(Drop)]
-pub struct LimitTable {
-    pub orders: Ranks,
-    pub signatures: Ranks,
-}
-
-impl LimitTable {
-    /// The table of the rows.
-    pub fn of(alloc: Global, rows: &[OrderParam]) -> Result<LimitTable, Memory>
-        ensures { IfOk result (λ table. HoldsLimits rows.now table) }
+impl Limits {
+    // What a row says.
+    fn of(row: &OrderParam) -> Limits
+        ensures { result ≡ limits_of row.now }
     {
-        let mut orders = Vec::new(alloc);
-        let mut signatures = Vec::new(alloc);
-        for row in rows {
-            orders.push(limit_ranked(row))?;
-            signatures.push(need_ranked(row))?;
-        }
-        Ok(LimitTable {
-            orders: Ranks::of(orders),
-            signatures: Ranks::of(signatures),
-        })
-    }
-
-    /// The limits of a kind and version, where a row has them.
-    pub fn limits(&self, key: &OrderKey) -> Option<Limits>
-        ensures { (rows : List OrderParamValue) → HoldsLimits rows self.now
-            → LimitsAre (params_of key.now.kind key.now.version rows) result }
-    {
-        let limit = self.orders.least(key)?;
-        let need = self.signatures.least(key)?;
-        Some(Limits {
-            orders: limit_of(limit),
-            signatures: u32::MAX - need,
-        })
-    }
-}
-
-/// The pairs of HIPINS, by the ranks of their demands.
-#[derive(Drop)]
-pub struct DemandTable {
-    pub ranks: Ranks,
-}
-
-impl DemandTable {
-    /// The table of the pairs.
-    pub fn of(alloc: Global, pins: &[PinRow]) -> Result<DemandTable, Memory>
-        ensures { IfOk result (λ table. HoldsPins pins.now table) }
-    {
-        let mut ranked = Vec::new(alloc);
-        for pin in pins {
-            ranked.push(pin_ranked(pin))?;
-        }
-        let ranks = Ranks::of(ranked);
-        Ok(DemandTable { ranks })
-    }
-
-    /// Whether a kind is listed, and demands a TAN.
-    pub fn demand(&self, kind: Kind) -> Demand
-        ensures { (pins : List PinRowValue) → HoldsPins pins self.now → DemandIs pins kind result }
-    {
-        match self.ranks.least(&kind_key(kind)) {
-            None => Demand::Unlisted,
-            Some(0) => Demand::Tan,
-            Some(_) => Demand::No,
+        Limits {
+            orders: row.orders,
+            signatures: row.signatures,
         }
     }
+
+    // Both limits at once.
+    fn joined(self, other: Limits) -> Limits
+        ensures { result ≡ joined self other }
+    {
+        Limits {
+            orders: lower(self.orders, other.orders),
+            signatures: self.signatures.max(other.signatures),
+        }
+    }
+
+    // Whether the other limits change nothing in these.
+    fn includes(self, other: Limits) -> bool
+        ensures { IsTrue result ↔ (joined self other ≡ self) }
+    {
+        self.joined(other) == self
+    }
+}
+
+// Whether the entry at a place of the map is that of the row's kind and version, and the row changes
+// nothing in it.
+fn has_at(map: &LimitMap, place: usize, row: &OrderParam) -> bool
+    ensures { IsTrue result
+        → get key_eq map.now (param_key row.now) ≡ Some (with_limits (get key_eq map.now (param_key row.now)) row.now) }
+{
+    match map.get_index(place) {
+        Some((key, limits)) => *key == param_key(row) && limits.includes(Limits::of(row)),
+        None => false,
+    }
+}
+
+// Adds a row to the limits of its kind and version, and answers their place. It is looked for at the
+// place of the row before it first, since captures repeat rows.
+fn add_limits(map: &mut LimitMap, before: usize, row: &OrderParam) -> Result<usize, Memory>
+    ensures { OnOk result ((q : Key) → get key_eq map.new q
+        ≡ if key_eq (param_key row.now) q then Some (with_limits (get key_eq map.old (param_key row.now)) row.now)
+        else get key_eq map.old q) }
+{
+    if has_at(&*map, before, row) {
+        return Ok(before);
+    }
+    let limits = Limits::of(row);
+    let (place, earlier) = map.insert_full(param_key(row), limits)?;
+    if let Some(earlier) = earlier {
+        if !limits.includes(earlier) {
+            map.insert(param_key(row), limits.joined(earlier))?;
+        }
+    }
+    Ok(place)
+}
+
+/// The limits of each kind and version of the rows.
+pub fn limit_map(alloc: Global, rows: &[OrderParam]) -> Result<LimitMap, Memory>
+    ensures { IfOk result (λ m. HoldsLimits rows.now (get key_eq m)) }
+{
+    let mut map = IndexMap::with_hasher(alloc, param_hashing(rows));
+    let mut place = 0;
+    for row in rows {
+        place = add_limits(&mut map, place, row)?;
+    }
+    Ok(map)
+}
+
+// Adds a pair to the demands of its kind.
+fn add_pin(map: &mut PinMap, pin: &PinRow) -> Result<(), Memory>
+    ensures { OnOk result ((kind : List ℕ) → get bytes_eq map.new kind
+        ≡ if bytes_eq pin.now.kind kind then Some (with_pin (get bytes_eq map.old pin.now.kind) pin.now)
+        else get bytes_eq map.old kind) }
+{
+    if let Some(true) = map.insert(pin.kind, pin.tan)? {
+        map.insert(pin.kind, true)?;
+    }
+    Ok(())
+}
+
+/// Whether each kind of the pairs demands a TAN.
+pub fn pin_map(alloc: Global, pins: &[PinRow]) -> Result<PinMap, Memory>
+    ensures { IfOk result (λ m. HoldsPins pins.now (get bytes_eq m)) }
+{
+    let mut map = IndexMap::with_hasher(alloc, pin_hashing(pins));
+    for pin in pins {
+        add_pin(&mut map, pin)?;
+    }
+    Ok(map)
 }

@@ -6,16 +6,16 @@ ghost use Rattle.toml.specs.Data.{array};
 ghost use Rattle.toml.specs.View.{view, table_view, items_view};
 ghost use Rattle.fints_rules_permissions.specs.declared.orders.TableFault.TheVariants.{Memory};
 ghost use Rattle.fints_rules_permissions.specs.Orders.{row_of, row_kind, account_form, AreRows, IsTableAt, DenotesTable, IsTableFault, form_of};
-ghost use Rattle.fints_rules_permissions.specs.FormMaps.{order_key};
 ghost use Rattle.fints_rules_permissions.specs.OrderFaults.{IsEntryFault, IsFaultAt, IsTableIn, IsFaultIn};
 
+use crate::keys::{OrderKey, row_hashing, row_key};
 use crate::kinds::is_table_kind;
-use crate::ranks::OrderKey;
 use fints_syntax::{Kind, Memory};
+use fints_syntax_hashing::KeyedHashing;
 use fints_syntax_toml::document;
 use fints_syntax_toml::document::Unread;
+use indexmap::IndexMap;
 use std::alloc::{AllocFailed, Global};
-use std::collections::BTreeMap;
 use std::marker::Model;
 use thiserror::Error;
 use toml::{Table, Value};
@@ -78,7 +78,7 @@ impl<T: Drop> From<AllocFailed<T>> for TableFault {
 }
 
 /// The forms of a table by kind and version.
-type FormMap = BTreeMap<OrderKey, AccountForm>;
+type FormMap = IndexMap<OrderKey, AccountForm, KeyedHashing>;
 
 /// Which orders name an account, and how; a contract sees the rows.
 #[derive(Drop)]
@@ -93,13 +93,13 @@ impl Model for OrderTable {
 
     ghost Value = { List OrderRow };
 
-    ghost use Rattle.std.specs.BTreeMap.{get};
+    ghost use Rattle.indexmap.specs.IndexMap.{get};
     ghost use Rattle.fints_rules_permissions.specs.FormMaps.{HoldsForms};
-    ghost use Rattle.fints_rules_permissions.specs.Ranks.{order_key_cmp};
+    ghost use Rattle.fints_rules_permissions.specs.OrderKeys.{key_eq};
 
     ghost view = { λ t. t.rows.items };
 
-    ghost invariant = { λ t. HoldsForms t.rows.items (get order_key_cmp t.forms) };
+    ghost invariant = { λ t. HoldsForms t.rows.items (get key_eq t.forms) };
 }
 
 impl OrderTable {
@@ -167,8 +167,19 @@ fn no_rows(alloc: Global) -> OrderTable
 {
     OrderTable {
         rows: Vec::new(alloc),
-        forms: BTreeMap::new(alloc),
+        forms: IndexMap::with_hasher(alloc, row_hashing(&[])),
     }
+}
+
+// What each entry is as a row.
+fn read_rows(alloc: Global, entries: &[Value]) -> Result<Vec<Option<OrderRow>>, Memory>
+    ensures { IfOk result (λ read. read.items ≡ map row_of (map view entries.now)) }
+{
+    let mut read = Vec::new(alloc);
+    for entry in entries {
+        read.push(row_of(entry))?;
+    }
+    Ok(read)
 }
 
 // The rows of the entries, each good and of another kind or version than those before it.
@@ -177,15 +188,16 @@ fn rows_of(alloc: Global, entries: &[Value]) -> Result<OrderTable, TableFault>
     ensures rows { IfOk result (λ t. AreRows (map view entries.now) t) }
     ensures fault { IfErr result (λ f. IsEntryFault (map view entries.now) f) }
 {
+    let read = read_rows(alloc, entries)?;
     let mut rows = Vec::new(alloc);
-    let mut forms = BTreeMap::new(alloc);
+    let mut forms = IndexMap::with_hasher(alloc, row_hashing(read.as_slice()));
     let mut number = 0;
-    for entry in entries {
+    for entry in read.as_slice() {
         number += 1;
-        let Some(row) = row_of(entry) else {
+        let Some(row) = *entry else {
             return Err(TableFault::BadRow { row: number });
         };
-        let key = order_key(&row);
+        let key = row_key(&row);
         if forms.contains_key(&key) {
             return Err(TableFault::TwoRows { row: number });
         }
@@ -193,16 +205,6 @@ fn rows_of(alloc: Global, entries: &[Value]) -> Result<OrderTable, TableFault>
         rows.push(row)?;
     }
     Ok(OrderTable { rows, forms })
-}
-
-// The kind and version of a row.
-fn order_key(row: &OrderRow) -> OrderKey
-    ensures { result ≡ order_key row.now }
-{
-    OrderKey {
-        kind: row.kind,
-        version: row.version,
-    }
 }
 
 // The row that an entry is.

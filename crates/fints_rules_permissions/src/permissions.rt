@@ -4,11 +4,11 @@ ghost use Rattle.fints_rules_permissions.specs.Orders.{form_of};
 ghost use Rattle.fints_rules_permissions.specs.Permits.{LimitsAre, params_of, DemandIs, IsLeastNeed, PermitIs, is_demanding, is_listed_with_tan};
 
 use crate::account::AccountKey;
+use crate::keys::OrderKey;
 use crate::kinds::is_plain_order;
-use crate::limits::{Demand, DemandTable, LimitTable, Limits};
+use crate::limits::{Demand, LimitMap, Limits, PinMap, limit_map, pin_map};
 use crate::needs::Needs;
 use crate::orders::{AccountForm, OrderTable};
-use crate::ranks::OrderKey;
 use crate::tans::TanTable;
 use fints_params::{BankRow, Params, TanRow, Usage};
 use fints_syntax::{Kind, Memory};
@@ -31,8 +31,8 @@ pub enum Permit {
 pub struct Permissions<'a> {
     params: &'a Params,
     orders: &'a OrderTable,
-    limits: LimitTable,
-    pins: DemandTable,
+    limits: LimitMap,
+    pins: PinMap,
     needs: Needs<'a>,
     tans: TanTable,
 }
@@ -42,15 +42,18 @@ impl<'a> Model for Permissions<'a> {
 
     ghost Value = { Granted };
 
+    ghost use Rattle.indexmap.specs.IndexMap.{get};
     ghost use Rattle.std.specs.List.Sorted.{IsPermutation};
-    ghost use Rattle.fints_rules_permissions.specs.Limits.{HoldsLimits, HoldsPins};
+    ghost use Rattle.std.specs.Str.{bytes_eq};
+    ghost use Rattle.fints_rules_permissions.specs.LimitMaps.{HoldsLimits, HoldsPins};
+    ghost use Rattle.fints_rules_permissions.specs.OrderKeys.{key_eq};
     ghost use Rattle.fints_rules_permissions.specs.Needs.{seen_in};
     ghost use Rattle.fints_rules_permissions.specs.Tans.{HoldsTans};
 
     ghost view = { λ p. record { rows = p.params.now; orders = p.orders.now } };
 
-    ghost invariant = { λ p. HoldsLimits p.params.now.orders p.limits
-        × HoldsPins p.params.now.pins p.pins
+    ghost invariant = { λ p. HoldsLimits p.params.now.orders (get key_eq p.limits)
+        × HoldsPins p.params.now.pins (get bytes_eq p.pins)
         × IsPermutation (seen_in p.params.now.accounts) p.needs
         × HoldsTans p.params.now.tans p.tans };
 }
@@ -65,8 +68,8 @@ impl<'a> Permissions<'a> {
         ensures rows { IfOk result (λ p. p.rows ≡ params.now) }
         ensures orders { IfOk result (λ p. p.orders ≡ orders.now) }
     {
-        let limits = LimitTable::of(alloc, params.orders())?;
-        let pins = DemandTable::of(alloc, params.pins())?;
+        let limits = limit_map(alloc, params.orders())?;
+        let pins = pin_map(alloc, params.pins())?;
         let needs = Needs::of(alloc, params.accounts())?;
         let tans = TanTable::of(alloc, params.tans())?;
         Ok(Permissions {
@@ -121,7 +124,7 @@ impl<'a> Permissions<'a> {
     pub fn limits(&self, kind: Kind, version: u16) -> Option<Limits>
         ensures { LimitsAre (params_of kind version self.now.rows.orders) result }
     {
-        self.limits.limits(&OrderKey { kind, version })
+        self.limits.get(&OrderKey { kind, version }).copied()
     }
 
     /// Whether some row of a kind and version needs more signatures.
@@ -139,7 +142,11 @@ impl<'a> Permissions<'a> {
     pub fn demand(&self, kind: Kind) -> Demand
         ensures { DemandIs self.now.rows.pins kind result }
     {
-        self.pins.demand(kind)
+        match self.pins.get(&kind) {
+            None => Demand::Unlisted,
+            Some(false) => Demand::No,
+            Some(true) => Demand::Tan,
+        }
     }
 
     fn is_listed_with_tan(&self, kind: Kind) -> bool

@@ -28,7 +28,7 @@ use Rattle.fints_script_templates.specs.declared.template.Signer.{Signer}
 use Rattle.fints_script_templates.specs.declared.template.Template.{Template}
 use Rattle.fints_script.specs.Scripts.{ScriptValue, surroundings}
 use Rattle.fints_script.specs.Sound.{IsBodyElement, IsOnward, IsSoundStep, IsSoundTemplate, LeadsOnward}
-use Rattle.fints_script.specs.Steps.{StepValue, Surroundings, branch_in, branches_in, has_large_segment, is_taken_step, is_too_large, is_word, place_of_signer, sealed_in, segments_in, signature_in, signatures_in, sized_step, step_in, step_keys, step_value, step_weight, table_step, target_in, with_seal}
+use Rattle.fints_script.specs.Steps.{StepValue, Surroundings, branch_in, branches_in, has_large_segment, is_signer_named, is_taken_step, is_too_large, is_word, place_of_signer, sealed_in, segments_in, signature_in, signatures_in, sized_step, step_in, step_keys, step_value, step_weight, table_step, target_in, with_seal}
 use Rattle.fints_script.proofs.ReadParts.{at_most_ok, failed, integer_ok, list_ok, not_empty_ok, not_past, optional_ok, passed, same_ok}
 use Rattle.fints_script.proofs.SoundElements.{IsBehindFirst, body_elements, place_within}
 use Rattle.fints_script_rows.specs.declared.limits.TheConstants.{MAX_REPEAT, MAX_TEMPLATE_ITEMS, MAX_WEIGHT}
@@ -129,7 +129,7 @@ module _ (fields : List NamedField) (behind : IsBehindFirst fields) where
 signature_within : (signers : List Signer) (d : Data) (place : ℕ) → signature_in signers d ≡ Ok place
     → place < length signers
 signature_within signers (string name) place e =
-    place_within (λ (s : Signer). bytes_eq s.name name) signers place
+    place_within (is_signer_named name) signers place
     (or_ok (place_of_signer signers name) kinds.NoSuchName place e)
 signature_within signers _ place e = absurd cc
 

@@ -88,9 +88,13 @@ branches_in rows i d = entries_of d >>= each (branch_in rows i) >>= at_most MAX_
 
 -- ---- what a step sends
 
+-- the signer has the name
+abbrev pub is_signer_named : List ℕ → Signer → Bool
+is_signer_named name signer = bytes_eq name signer.name
+
 -- the place, from 0 on, of the first signer of the name
 abbrev pub place_of_signer : List Signer → List ℕ → Option ℕ
-place_of_signer signers name = position (λ (s : Signer). bytes_eq s.name name) signers
+place_of_signer signers name = position (is_signer_named name) signers
 
 -- an entry of `signers` is the name of one
 abbrev pub signature_in : List Signer → Data → Part ℕ

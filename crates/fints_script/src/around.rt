@@ -1,7 +1,8 @@
 //! What a step rests on.
+use crate::signers::Signers;
 use fints_script_rows::{Fields, NamedRows};
+use fints_script_templates::TemplateElements;
 use fints_script_templates::weights::Figures;
-use fints_script_templates::{Signer, TemplateElements};
 
 /// What a step rests on: the fields of the script with their figures, its signers, its seal if any,
 /// and all rows of `step`.
@@ -9,7 +10,7 @@ use fints_script_templates::{Signer, TemplateElements};
 pub struct Around<'a, 'r> {
     pub fields: &'a Fields,
     pub figures: &'a [Figures],
-    pub signers: &'a [Signer],
+    pub signers: &'a Signers<'a>,
     pub seal: Option<&'a TemplateElements>,
     pub rows: &'a NamedRows<'r>,
 }

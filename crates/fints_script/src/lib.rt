@@ -9,6 +9,7 @@ mod opens;
 mod plan;
 mod rows;
 mod script;
+mod signers;
 mod step_reading;
 mod steps;
 mod top;

@@ -1,17 +1,17 @@
 //! Steps, read from the rows of `step`.
 ghost use Rattle.std.specs.Prelude.{◌≡◌, ◌<◌, false, [], codes, length, map};
-ghost use Rattle.std.specs.Str.{bytes_eq};
 ghost use Rattle.toml.specs.View.{view, table_view};
 ghost use Rattle.fints_syntax_toml.specs.Document.{only_keys};
 ghost use Rattle.fints_script_rows.specs.Parts.{Gives, each, integer_in, may, must};
 ghost use Rattle.fints_script_rows.specs.RowNames.{row_name};
 ghost use Rattle.fints_script_templates.specs.Segments.{segment_in};
-ghost use Rattle.fints_script.specs.Steps.{branches_in, is_taken_step, place_of_signer, sealed_in, segments_in, signature_in, signatures_in, step_in, step_keys, table_step, target_in, with_seal};
+ghost use Rattle.fints_script.specs.Steps.{branches_in, is_taken_step, sealed_in, segments_in, signature_in, signatures_in, step_in, step_keys, table_step, target_in, with_seal};
 ghost use Rattle.fints_script_cases.specs.declared.answers.Target.TheVariants as targets;
 ghost use Rattle.fints_script.specs.Around.{seen_parts, surroundings_of};
 
 use crate::around::Around;
 use crate::branches::{branches_in, is_word, target_in};
+use crate::signers::Signers;
 use crate::steps::{Parts, Step, sized_step, whole_step};
 use fints_script_cases::{Branch, Target};
 use fints_script_fields::Name;
@@ -22,8 +22,8 @@ use fints_script_rows::parts::{
     at_most, both, entries_of, flag_in, integer_in, more, not_empty, required,
 };
 use fints_script_rows::{FaultKind, Fields, NamedRows};
+use fints_script_templates::Template;
 use fints_script_templates::segments::segment_in;
-use fints_script_templates::{Signer, Template};
 use fints_syntax_toml::document::{member, only_keys};
 use std::alloc::Global;
 use toml::{Table, Value};
@@ -78,33 +78,18 @@ fn sealed_at(has_seal: bool, table: &Table) -> Result<bool, FaultKind>
     }
 }
 
-fn is_signer(signer: &Signer, name: &str) -> bool
-    ensures { result ≡ bytes_eq signer.now.name name.now }
-{
-    signer.name.as_bytes() == name.as_bytes()
-}
-
-// The place of the first signer of this name, counted from 0.
-fn place_of_signer(signers: &[Signer], name: &str) -> Option<usize>
-    ensures { result ≡ place_of_signer signers.now name.now }
-{
-    signers.iter().position(|signer| is_signer(signer, name))
-}
-
-fn signature_in(signers: &[Signer], entry: &Value) -> Result<usize, FaultKind>
+fn signature_in(signers: &Signers<'_>, entry: &Value) -> Result<usize, FaultKind>
     ensures { result ≡ signature_in signers.now (view entry.now) }
 {
     match entry {
-        Value::String(name) => {
-            place_of_signer(signers, name.as_str()).ok_or(FaultKind::NoSuchName)
-        }
+        Value::String(name) => { signers.place_of(name.as_str()).ok_or(FaultKind::NoSuchName) }
         _ => Err(FaultKind::WrongKind),
     }
 }
 
 fn each_signature(
     alloc: Global,
-    signers: &[Signer],
+    signers: &Signers<'_>,
     entries: &[Value],
 ) -> Result<Vec<usize>, FaultKind>
     ensures { Gives (λ v. v.items) result (each (signature_in signers.now) (map view entries.now)) }
@@ -116,7 +101,11 @@ fn each_signature(
     places
 }
 
-fn signatures_in(alloc: Global, signers: &[Signer], value: &Value) -> Result<Vec<usize>, FaultKind>
+fn signatures_in(
+    alloc: Global,
+    signers: &Signers<'_>,
+    value: &Value,
+) -> Result<Vec<usize>, FaultKind>
     ensures { Gives (λ v. v.items) result (signatures_in signers.now (view value.now)) }
 {
     at_most(
@@ -125,7 +114,11 @@ fn signatures_in(alloc: Global, signers: &[Signer], value: &Value) -> Result<Vec
     )
 }
 
-fn signatures_at(alloc: Global, signers: &[Signer], table: &Table) -> Result<Vec<usize>, FaultKind>
+fn signatures_at(
+    alloc: Global,
+    signers: &Signers<'_>,
+    table: &Table,
+) -> Result<Vec<usize>, FaultKind>
     ensures { Gives (λ v. v.items) result
         (may (table_view table.now) (codes "signers") [] (signatures_in signers.now)) }
 {

@@ -182,7 +182,7 @@ fn spend_templates(allowance: u64, figures: &[Figures], templates: &[Template]) 
 fn spend_signature(left: u64, around: &Around<'_, '_>, place: usize) -> Option<u64>
     ensures { Spends left (signature_weight around.now.figures.now around.now.signers.now place) result }
 {
-    match around.signers.get(place) {
+    match around.signers.as_slice().get(place) {
         Some(signer) => spend_signer(left, around.figures, signer),
         None => Some(left),
     }

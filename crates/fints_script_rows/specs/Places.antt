@@ -1,13 +1,13 @@
 -- Where the items of a list that have a name stand. Words of private contracts and proofs alone stand last, under a heading.
 use Rattle.std.specs.Prelude.{◌≡◌, ℕ, Bool, List, position, Option, Some, None, is_some, if◌then◌else◌}
 use Rattle.std.specs.Borrow.{Bor}
-use Rattle.std.specs.BTreeMap.{BTreeMap, get_by}
-use Rattle.std.specs.Cmp.Lexicographic.{slice_cmp}
-use Rattle.std.specs.Ordering.{nat_cmp}
+use Rattle.std.specs.HashMap.{HashMap}
+use Rattle.std.specs.Str.{bytes_eq}
+use Rattle.indexmap.specs.IndexMap.{get_by}
 
 -- the place under a name, in a map whose names are borrowed
-abbrev pub place_in : BTreeMap (Bor (List ℕ)) ℕ → List ℕ → Option ℕ
-place_in places name = get_by (λ k. slice_cmp nat_cmp name k.now) places
+abbrev pub place_in : {S : Type 0} → HashMap (Bor (List ℕ)) ℕ S → List ℕ → Option ℕ
+place_in places name = get_by (λ k. bytes_eq name k.now) places
 
 -- under each name stands the place, from 0 on, of the first item that has it
 abbrev pub HoldsPlaces : {X : Type 0} → (List ℕ → X → Bool) → List X → (List ℕ → Option ℕ) → Type 0

@@ -1,16 +1,15 @@
 //! The fields of a script by their names.
 ghost use Rattle.std.specs.Prelude.{◌≡◌, ℕ, List, IfOk, OnOk};
-ghost use Rattle.std.specs.BTreeMap.{get};
-ghost use Rattle.std.specs.Cmp.Lexicographic.{slice_cmp};
-ghost use Rattle.std.specs.Ordering.{nat_cmp};
+ghost use Rattle.indexmap.specs.IndexMap.{get};
 ghost use Rattle.std.specs.Str.{bytes_eq};
 ghost use Rattle.fints_script_rows.specs.NamedFields.{place_of_field, is_field_named, is_account_named, has_accounts, AreNamed};
 ghost use Rattle.fints_script_rows.specs.Places.{first_place, HoldsPlaces};
 
 use fints_script_fields::{Field, Name};
+use fints_syntax_hashing::{KeyDigest, KeyedHashing};
 use fints_syntax_segments::Memory;
+use indexmap::IndexMap;
 use std::alloc::Global;
-use std::collections::BTreeMap;
 use std::marker::Model;
 
 /// A field with its name.
@@ -27,19 +26,20 @@ pub fn is_account(class: &Field) -> bool
     matches!(class, Field::Account(_))
 }
 
+type FieldPlaces = IndexMap<Name, usize, KeyedHashing>;
+
 /// Fields in order, with a map from each name to the place of the first field that has it; a
 /// contract sees the fields.
 #[derive(Drop)]
 pub struct Fields {
     list: Vec<NamedField>,
-    places: BTreeMap<Name, usize>,
+    places: FieldPlaces,
 }
 
 impl Model for Fields {
     ghost use Rattle.std.specs.Prelude.{List};
-    ghost use Rattle.std.specs.BTreeMap.{get};
-    ghost use Rattle.std.specs.Cmp.Lexicographic.{slice_cmp};
-    ghost use Rattle.std.specs.Ordering.{nat_cmp};
+    ghost use Rattle.std.specs.Str.{bytes_eq};
+    ghost use Rattle.indexmap.specs.IndexMap.{get};
     ghost use Rattle.fints_script_rows.specs.NamedFields.{is_field_named, AreNamed};
     ghost use Rattle.fints_script_rows.specs.Places.{HoldsPlaces};
     ghost use Rattle.fints_script_rows.specs.declared.fields.NamedField.{NamedField};
@@ -48,15 +48,14 @@ impl Model for Fields {
 
     ghost view = { λ f. f.list.items };
 
-    ghost invariant = { λ f. HoldsPlaces is_field_named f.list.items (get (slice_cmp nat_cmp) f.places)
+    ghost invariant = { λ f. HoldsPlaces is_field_named f.list.items (get bytes_eq f.places)
         × AreNamed f.list.items };
 }
 
 // Notes the place of a name, unless one is there.
-fn note(places: &mut BTreeMap<Name, usize>, name: Name, place: usize) -> Result<(), Memory>
+fn note(places: &mut FieldPlaces, name: Name, place: usize) -> Result<(), Memory>
     ensures { OnOk result ((q : List ℕ)
-        → get (slice_cmp nat_cmp) places.new q
-        ≡ first_place (get (slice_cmp nat_cmp) places.old q) (bytes_eq q name) place) }
+        → get bytes_eq places.new q ≡ first_place (get bytes_eq places.old q) (bytes_eq q name) place) }
 {
     if !places.contains_key(&name) {
         places.insert(name, place)?;
@@ -64,12 +63,21 @@ fn note(places: &mut BTreeMap<Name, usize>, name: Name, place: usize) -> Result<
     Ok(())
 }
 
+// The hashing by the names of the fields.
+fn name_hashing(fields: &[NamedField]) -> KeyedHashing {
+    let mut names = KeyDigest::new();
+    for field in fields {
+        names.add_text(field.name.as_bytes());
+    }
+    KeyedHashing::by(names)
+}
+
 // The place of each name. The name of each field is a `Name`, so that a text which can't be a name names no field.
-fn places_of(alloc: Global, fields: &[NamedField]) -> Result<BTreeMap<Name, usize>, Memory>
-    ensures places { IfOk result (λ m. HoldsPlaces is_field_named fields.now (get (slice_cmp nat_cmp) m)) }
+fn places_of(alloc: Global, fields: &[NamedField]) -> Result<FieldPlaces, Memory>
+    ensures places { IfOk result (λ m. HoldsPlaces is_field_named fields.now (get bytes_eq m)) }
     ensures named { IfOk result (λ m. AreNamed fields.now) }
 {
-    let mut places = BTreeMap::new(alloc);
+    let mut places = IndexMap::with_hasher(alloc, name_hashing(fields));
     for i in 0..fields.len() {
         let name = fields[i].name;
         name.keeps();

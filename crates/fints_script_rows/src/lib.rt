@@ -12,6 +12,7 @@ pub mod limits;
 mod named_rows;
 pub mod names;
 pub mod parts;
+pub mod places;
 mod rows;
 pub mod text;
 

@@ -1,15 +1,16 @@
 //! The rows of the steps by their names.
-ghost use Rattle.std.specs.Prelude.{◌≡◌, ℕ, List, length, map, option_map, position, take, IfOk, OnOk};
+ghost use Rattle.std.specs.Prelude.{◌≡◌, ℕ, List, length, map, option_map, position, take, IfOk};
 ghost use Rattle.std.specs.List.{list_any};
-ghost use Rattle.std.specs.Str.{bytes_eq};
 ghost use Rattle.toml.specs.View.{view};
 ghost use Rattle.fints_syntax_toml.specs.Entries.{is_called, name_in};
-ghost use Rattle.fints_script_rows.specs.Places.{first_place, HoldsPlaces, place_in};
+ghost use Rattle.fints_script_rows.specs.Places.{HoldsPlaces, place_in};
 
+use crate::places::{NamePlaces, note};
+use fints_syntax_hashing::{KeyDigest, KeyedHashing};
 use fints_syntax_segments::Memory;
 use fints_syntax_toml::entries::text_at;
+use indexmap::IndexMap;
 use std::alloc::Global;
-use std::collections::BTreeMap;
 use std::marker::Model;
 use toml::Value;
 
@@ -18,7 +19,7 @@ use toml::Value;
 #[derive(Drop)]
 pub struct NamedRows<'a> {
     rows: &'a [Value],
-    places: BTreeMap<&'a str, usize>,
+    places: NamePlaces<'a>,
 }
 
 impl<'a> Model for NamedRows<'a> {
@@ -48,28 +49,22 @@ fn name_in<'a>(row: &'a Value) -> Option<&'a str>
     }
 }
 
-// Notes the place of a name, unless one is there.
-fn note<'a>(
-    places: &mut BTreeMap<&'a str, usize>,
-    name: &'a str,
-    place: usize,
-) -> Result<(), Memory>
-    ensures { OnOk result ((q : List ℕ)
-        → place_in places.new q ≡ first_place (place_in places.old q) (bytes_eq q name.now) place) }
-{
-    if !places.contains_key(name) {
-        places.insert(name, place)?;
+// The hashing by the names of the rows.
+fn name_hashing(rows: &[Value]) -> KeyedHashing {
+    let mut names = KeyDigest::new();
+    for name in rows.iter().filter_map(|row| name_in(row)) {
+        names.add_text(name.as_bytes());
     }
-    Ok(())
+    KeyedHashing::by(names)
 }
 
-fn places_of<'a>(alloc: Global, rows: &'a [Value]) -> Result<BTreeMap<&'a str, usize>, Memory>
+fn places_of<'a>(alloc: Global, rows: &'a [Value]) -> Result<NamePlaces<'a>, Memory>
     ensures { IfOk result (λ m. HoldsPlaces is_called (map view rows.now) (place_in m)) }
 {
-    let mut places = BTreeMap::new(alloc);
+    let mut places = IndexMap::with_hasher(alloc, name_hashing(rows));
     for i in 0..rows.len() {
         if let Some(name) = name_in(&rows[i]) {
-            note(&mut places, name, i)?;
+            note(&mut places, name.as_bytes(), i)?;
         }
     }
     Ok(places)
@@ -95,7 +90,7 @@ impl<'a> NamedRows<'a> {
     pub fn place_of(&self, name: &str) -> Option<usize>
         ensures { result ≡ position (is_called name.now) (map view self.now) }
     {
-        self.places.get(name).copied()
+        self.places.get(name.as_bytes()).copied()
     }
 
     /// Whether some row has this name.

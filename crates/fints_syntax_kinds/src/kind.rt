@@ -6,7 +6,7 @@ ghost use Rattle.std.specs.Cmp.Rules.{comparing, hashing};
 ghost use Rattle.std.specs.Ordering.{nat_cmp};
 ghost use Rattle.std.specs.Hash as fed;
 ghost use Rattle.std.specs.Str.{bytes_eq};
-ghost use Rattle.fints_syntax_kinds.specs.Kind.{kind_from, is_frame_kind};
+ghost use Rattle.fints_syntax_kinds.specs.Kind.{kind_from, kind_word, is_frame_kind};
 ghost use Rattle.fints_syntax_kinds.specs.KindLaws.{is_kind_byte};
 
 use std::cmp::Ordering;
@@ -76,12 +76,12 @@ impl Ord for Kind {
 }
 
 impl Hash for Kind {
-    ghost hash_input = { λ k. fed.slice fed.u8 k };
+    ghost hash_input = { λ k. fed.u64 (kind_word k) };
 
     ghost respects_eq = { Prim.search (hashing, rules) };
 
     fn hash<H: Hasher>(&self, state: &mut H) {
-        self.as_bytes().hash(state);
+        self.word().hash(state);
     }
 }
 
@@ -144,6 +144,14 @@ impl Kind {
         ensures { result ≡ bytes_eq self.now text.now }
     {
         self.as_bytes() == text
+    }
+
+    /// The characters as one number, for hashers: a kind of its own has a number of its own.
+    pub fn word(&self) -> u64
+        ensures { result ≡ kind_word self.now }
+    {
+        let [a, b, c, d, e, f] = self.bytes;
+        u64::from_le_bytes([a, b, c, d, e, f, 0, 0])
     }
 
     /// The characters of the identifier.

@@ -1,13 +1,12 @@
 use Rattle.std.proofs.Common.{take}
-use Rattle.std.specs.BTreeMap.{get}
-use Rattle.std.specs.Cmp.Lexicographic.{slice_cmp}
-use Rattle.std.specs.Ordering.{nat_cmp}
+use Rattle.std.specs.Str.{bytes_eq}
+use Rattle.indexmap.specs.IndexMap.{get}
 use Rattle.fints_script_rows.specs.NamedFields.{AreNamed, is_field_named}
 use Rattle.fints_script_rows.specs.Places.{HoldsPlaces}
 use Rattle.fints_script_rows.proofs.fields.places_of.Given as goal
 
 abbrev pub invariant-loop-i : goal.invariant-loop-i
 invariant-loop-i l = record {
-  places : HoldsPlaces is_field_named (take l.i l.fields) (get (slice_cmp nat_cmp) l.places);
+  places : HoldsPlaces is_field_named (take l.i l.fields) (get bytes_eq l.places);
   named : AreNamed (take l.i l.fields);
 }

@@ -1,7 +1,8 @@
 use Rattle.std.proofs.Common.{◌∙◌, ◌<◌, sym, ap, length, arith, false, get_or}
 use Rattle.toml.specs.View.{view}
 use Rattle.fints_syntax_toml.specs.Entries.{name_in}
-use Rattle.fints_script_rows.specs.Places.{place_in}
+use Rattle.std.specs.Str.{bytes_eq}
+use Rattle.fints_script_rows.specs.Places.{first_place, place_in}
 use Rattle.fints_script_rows.proofs.FirstPlaces.{named_as, not_named, row_more, nameless}
 use Rattle.fints_script_rows.proofs.named_rows.places_of.Goals as goal
 use Rattle.fints_script_rows.proofs.named_rows.places_of.Goals.{in-Some+in_ok-note, in_default}
@@ -12,6 +13,7 @@ loop-i-preserved c name =
     elim c.match-name_in.branch [
       | in-Some+in_ok-note w ↦
           ap (λ m. place_in m name) w.places-is ∙ w.in_ok-note.ensures name
+          ∙ ap (λ text. first_place (place_in c.loop-i.places name) (bytes_eq name text) c.loop-i.i) w.as_bytes.ensures.value
           ∙ row_more c.args.rows.now c.loop-i.i c.index-rows-i.result name _ _ here
           (named_as name w.in-Some.name.now
           (view (get_or c.args.rows.now c.loop-i.i c.index-rows-i.result))

@@ -1,4 +1,5 @@
+use Rattle.std.proofs.Common.{rules}
 use Rattle.fints_rules_permissions.proofs.permissions.Permissions.demand.Goals as goal
 
-pub returns : goal.returns
-returns c = rw (← c.self.view_is) (c.demand.ensures _ c.self.invariant.1)
+pub returns-in-None : goal.returns-in-None
+returns-in-None c = search rules
