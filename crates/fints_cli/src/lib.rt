@@ -12,5 +12,6 @@ pub use fints_cli_files::{Files, LoadFault, MAX_CALLS, Out, ReadFault, WriteFaul
 pub use fints_cli_reports::{Wanted, run_case, tell_script, verify_script};
 pub use fints_cli_texts::{Fault, Reply, judge_message, show, show_message};
 pub use fints_cli_words::{Asked, Request, RunFiles, ScriptFiles, read_words};
+pub use fints_syntax::Memory;
 pub use reporting::{check_text, report_text};
 pub use responding::{execute, respond};

@@ -1,6 +1,7 @@
 //! The checker: findings and their cases, figures and certificates.
 ghost use Rattle.std.specs.Prelude.{◌≡◌};
 
+use crate::families::{branching, chain};
 use crate::samples::{C, C1, FORK, SECOND_ACCOUNT, SHOWN, T, UNRELEASED, signed};
 use fints_check::{
     CertFault, Certificate, Certified, Finding, Memory, Reached, Report, check, confirm,
@@ -27,6 +28,8 @@ enum Row<'a> {
     Confirmed(&'a [u8]),
     /// Whether the report is that of row `order-without-its-release`.
     Unreleased,
+    /// Whether this many steps and branches are looked at.
+    Visits(u64),
 }
 
 const FIRST: Option<Reached> = Some(Reached {
@@ -163,6 +166,10 @@ fn is_row(
             let report = check(alloc, permissions, plan)?;
             Ok(is_unreleased(&report))
         }
+        Row::Visits(wanted) => {
+            let report = check(alloc, permissions, plan)?;
+            Ok(report.visits() == wanted)
+        }
     }
 }
 
@@ -188,6 +195,18 @@ fn reports(rt: HostRuntime) -> Result<(), Fail> {
     assert!(rt; is_row_of(alloc, C, second_account.as_slice(), Row::SecondAccount)?);
     let unreleased = signed(alloc, UNRELEASED)?;
     assert!(rt; is_row_of(alloc, C, unreleased.as_slice(), Row::Unreleased)?);
+    Ok(())
+}
+
+// Of 40 steps each has a default, 39 a branch to the next step and 38 one to the step after it; of 1,000 steps
+// each has only a default.
+#[test]
+fn visits(rt: HostRuntime) -> Result<(), Fail> {
+    let alloc = rt.alloc();
+    let short = branching(alloc, 40)?;
+    assert!(rt; is_row_of(alloc, C1, short.as_bytes(), Row::Visits(157))?);
+    let long = chain(alloc, 1000)?;
+    assert!(rt; is_row_of(alloc, C1, long.as_bytes(), Row::Visits(2000))?);
     Ok(())
 }
 

@@ -115,6 +115,47 @@ fn written(rt: HostRuntime) -> Result<(), Fail> {
     Ok(())
 }
 
+const BEFORE: &[u8] = b"HKIDN:1:2'";
+
+// Whether the bytes are `?+`, this many times.
+fn are_escaped(bytes: &[u8], count: usize) -> bool {
+    bytes.chunks(2).all(|two| two == b"?+".as_slice()) && bytes.len() / 2 == count
+}
+
+// Whether the output keeps what it had, with the item after it, or with nothing where memory ran out.
+fn keeps_before_item(alloc: Global, item: &OwnedItem, count: usize) -> Result<bool, Memory> {
+    let mut out = Vec::from_slice(alloc, BEFORE)?;
+    match write_item(&mut out, item) {
+        Ok(()) => match out.as_slice().strip_prefix(BEFORE) {
+            Some(rest) => Ok(are_escaped(rest, count)),
+            None => Ok(false),
+        },
+        Err(_) => Ok(out.as_slice() == BEFORE),
+    }
+}
+
+fn keeps_before_segment(alloc: Global, segment: &OwnedSegment) -> Result<bool, Memory> {
+    let mut out = Vec::from_slice(alloc, BEFORE)?;
+    match write_segment(&mut out, segment) {
+        Ok(()) => Ok(out.as_slice() == b"HKIDN:1:2'HKEND:2:1+0123456789'".as_slice()),
+        Err(_) => Ok(out.as_slice() == BEFORE),
+    }
+}
+
+// The output grows while it is written to. tools/faults.py runs this test with each growth refused in turn.
+#[test]
+fn kept(rt: HostRuntime) -> Result<(), Fail> {
+    let alloc = rt.alloc();
+    let pluses = OwnedItem::Text(Bytes::copied(alloc, &[b'+'; 100])?);
+    assert!(rt; keeps_before_item(alloc, &pluses, 100)?);
+    let segment = end(
+        Kind::parse(b"HKEND").ok_or("a kind")?,
+        element(alloc, b"0123456789")?,
+    );
+    assert!(rt; keeps_before_segment(alloc, &segment)?);
+    Ok(())
+}
+
 // A piece, the number of the segment that is whole by it, if any, and its place.
 type Piece = (&'static [u8], &'static [u16], &'static [usize]);
 
