@@ -1,6 +1,6 @@
 -- What a draft of a recorded dialogue is: the text of a script, and that of a case that has it send the client's
 -- messages once more.
-use Rattle.std.specs.Prelude.{codes, ◌≡◌, ◌⊎◌, ℕ, List, [], ◌∷◌, ◌++◌, length, get_or, Option, Some, None}
+use Rattle.std.specs.Prelude.{codes, ◌≡◌, ◌≤◌, ◌+◌, ◌⊎◌, ℕ, List, [], ◌∷◌, ◌++◌, length, get_or, Option, Some, None}
 use Rattle.std.specs.List.{All, AllZip, flat_map}
 use Rattle.fints_syntax_segments.specs.Spelling.{Spelled}
 use Rattle.fints_syntax_segments.specs.Segment.{item_value, segment_bytes, IsSegment}
@@ -83,20 +83,25 @@ IsBlank (Literal item) = item_value item ≡ []
 IsBlank Dialog = ⊥
 IsBlank (Field place) = Unit {0}
 
+-- the items of an element, by its place from 0 on, are so, and no element comes after it
+pub record IsLastBlank (elements : List (List TemplateItem)) (place : ℕ) : Type 0 where
+  pub blank : All IsBlank (get_or elements place [])
+  pub last : length elements ≤ place + 1
+
 -- a signer's PIN and TAN: element 4 of its HNSHA
 abbrev pub HasBlankPin : Signer → Type 0
-HasBlankPin signer = All IsBlank (get_or signer.end 2 [])
+HasBlankPin signer = IsLastBlank signer.end 2
 
 -- the new PIN of an HKPAE: its element 2
 abbrev pub HasBlankNewPin : Template → Type 0
-HasBlankNewPin t = t.kind ≡ codes "HKPAE" → All IsBlank (get_or t.elements 0 [])
+HasBlankNewPin t = t.kind ≡ codes "HKPAE" → IsLastBlank t.elements 0
 
 -- a field that lists none of its values
 abbrev pub IsUnlisted : NamedField → Type 0
 IsUnlisted f =
     elim f.class [ classes.Text c ↦ Unit {0} | classes.Bin c ↦ Unit {0} | classes.OneOf c ↦ ⊥ | classes.Account c ↦ ⊥ ]
 
--- PIN, TAN and new PIN are values of fields, and no field lists its values
+-- PIN, TAN and new PIN are values of fields, and the last elements of their segments; and no field lists its values
 pub record KeepsSecrets (script : ScriptValue) : Type 0 where
   pub fields : All IsUnlisted script.fields
   pub signers : All HasBlankPin script.signers

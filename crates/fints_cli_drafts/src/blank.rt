@@ -1,7 +1,7 @@
 //! Whether a script keeps PIN and TAN out of its text.
-ghost use Rattle.std.specs.Prelude.{IsTrue, [], get_or};
+ghost use Rattle.std.specs.Prelude.{IsTrue};
 ghost use Rattle.std.specs.List.{All};
-ghost use Rattle.fints_cli_drafts.specs.Drafts.{HasBlankNewPin, HasBlankPin, IsBlank, IsUnlisted, KeepsSecrets};
+ghost use Rattle.fints_cli_drafts.specs.Drafts.{HasBlankNewPin, HasBlankPin, IsBlank, IsLastBlank, IsUnlisted, KeepsSecrets};
 
 use fints_script::{Field, NamedField, Script, Signer, Template, TemplateElements, TemplateItem};
 
@@ -16,26 +16,28 @@ fn is_blank(item: &TemplateItem) -> bool
     }
 }
 
-// Whether the items of an element are so, by its place, which counts from 0.
-fn is_blank_at(elements: &TemplateElements, place: usize) -> bool
-    ensures { IsTrue result → All IsBlank (get_or elements.now place []) }
+// Whether the items of an element are so, by its place, which counts from 0, and it is the last one; or there
+// is no such element.
+fn is_last_blank(elements: &TemplateElements, place: usize) -> bool
+    ensures { IsTrue result → IsLastBlank elements.now place }
 {
-    match elements.as_slice().get(place) {
+    let elements = elements.as_slice();
+    match elements.get(place) {
         None => true,
-        Some(items) => items.iter().all(is_blank),
+        Some(items) => elements.len() == place + 1 && items.iter().all(is_blank),
     }
 }
 
 fn has_blank_pin(signer: &Signer) -> bool
     ensures { IsTrue result → HasBlankPin signer.now }
 {
-    is_blank_at(&signer.end, 2)
+    is_last_blank(&signer.end, 2)
 }
 
 fn has_blank_new_pin(template: &Template) -> bool
     ensures { IsTrue result → HasBlankNewPin template.now }
 {
-    !template.kind.is(b"HKPAE") || is_blank_at(&template.elements, 0)
+    !template.kind.is(b"HKPAE") || is_last_blank(&template.elements, 0)
 }
 
 fn are_blank_new_pins(templates: &[Template]) -> bool
@@ -50,7 +52,7 @@ fn is_unlisted(field: &NamedField) -> bool
     matches!(field.class, Field::Text(_) | Field::Bin(_))
 }
 
-/// Whether PIN, TAN and new PIN are values of fields alone.
+/// Whether PIN, TAN and new PIN are values of fields, and the last elements of their segments.
 pub fn keeps_secrets(script: &Script) -> bool
     ensures { IsTrue result → KeepsSecrets script.now }
 {

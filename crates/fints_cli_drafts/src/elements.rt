@@ -107,6 +107,9 @@ pub fn write_elements(
     secrets: &mut Secrets,
     written: &Written<'_>,
 ) -> Result<(), Undrafted> {
+    if Secret::has_rest(written.segment) {
+        return Err(written.place().refused());
+    }
     text.push('[')?;
     for i in 0..written.segment.elements.len() {
         if i > 0 {

@@ -31,6 +31,14 @@ impl Secret {
         None
     }
 
+    /// Whether a segment has more elements after the one with its secrets: they may be the rest of a secret
+    /// in which a + isn't escaped.
+    pub fn has_rest(segment: &OwnedSegment) -> bool {
+        let kind = segment.head.id;
+        let count = segment.elements.len();
+        kind.is(b"HNSHA") && count > 3 || kind.is(b"HKPAE") && count > 1
+    }
+
     fn word(self) -> &'static str {
         match self {
             Secret::Pin => "pin",

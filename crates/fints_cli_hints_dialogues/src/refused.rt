@@ -1,6 +1,6 @@
 //! What the refusal of a recorded dialogue is about. Where a file can't be cut into messages nothing is shown
 //! of what stands there, since it may be a PIN or a TAN, but the head of a message.
-use fints_cli_hints_segments::{message_hint, params_hint};
+use fints_cli_hints_segments::{head_of, message_hint, params_hint};
 use fints_cli_hints_words::places::{Told, line_at, told, told_at};
 use fints_cli_hints_words::quoting::Sample;
 use fints_params::ParamFault;
@@ -54,26 +54,24 @@ fn front_hint(alloc: Global, bytes: &[u8]) -> Told {
     message_hint(alloc, &JudgeFault::NotAMessage { offset: 0 }, bytes)
 }
 
-// What ends at the first element.
-fn head_of(bytes: &[u8]) -> &[u8] {
-    match bytes.iter().position(|b| *b == b'+' || *b == b'\'') {
-        Some(end) => bytes.get(..end).unwrap_or(&[]),
-        None => bytes,
-    }
-}
+// What a message of a dialogue begins with.
+const BEGIN: &str = "in a dialogue a message begins with HNHBK:1:3, and then its size in 12 digits";
 
 // Why the bytes, which begin with an HNHBK, can't be cut off as a message.
 fn head_hint(alloc: Global, turn: Turn, bytes: &[u8]) -> Told {
     if bytes.starts_with(FRONT) {
         return told_at(alloc, format_args!("{turn}: "), front_hint(alloc, bytes)?);
     }
-    let head = Sample(head_of(bytes));
-    told(
-        alloc,
-        format_args!(
-            "{turn}: it begins with {head}; in a dialogue a message begins with HNHBK:1:3, and then its size in 12 digits"
-        ),
-    )
+    match head_of(bytes) {
+        Some(head) => {
+            let head = Sample(head);
+            told(
+                alloc,
+                format_args!("{turn}: it begins with {head}; {BEGIN}"),
+            )
+        }
+        None => told(alloc, format_args!("{turn}: {BEGIN}")),
+    }
 }
 
 // Where the next message begins behind the front of one.

@@ -1,5 +1,5 @@
 //! Segments that can't stand at their place in a message.
-use crate::syntax::{Numbered, front_of, trouble};
+use crate::syntax::{begin_of, named, trouble};
 use fints_cli_hints_words::places::{Told, told, written};
 use fints_cli_hints_words::quoting::Sample;
 use fints_syntax::{
@@ -99,14 +99,6 @@ pub fn walk_from(bytes: &[u8], from: usize) -> Walk {
         }
     }
     walk
-}
-
-/// The segment by its number and identifier.
-pub fn named(view: &SegmentView<'_>) -> Numbered {
-    Numbered {
-        number: u32::from(view.number()),
-        id: view.id(),
-    }
 }
 
 fn number_text(alloc: Global, view: &SegmentView<'_>, wanted: usize) -> Result<String, Memory> {
@@ -221,10 +213,10 @@ pub fn unread_text(alloc: Global, rest: &[u8], what: &str) -> Result<String, Mem
         );
     }
     let text = trouble(alloc, rest)?;
-    let front = Sample(front_of(rest));
+    let begin = begin_of(rest);
     written(
         alloc,
-        format_args!("there must stand {what}; what begins with {front}{text}"),
+        format_args!("there must stand {what}; {begin} there{text}"),
     )
 }
 

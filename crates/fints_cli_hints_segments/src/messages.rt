@@ -1,9 +1,7 @@
 //! Why bytes are no message.
 use crate::forms::form_text;
-use crate::frames::{
-    Walk, is_named, last_slip, named, order_slip, slip_at, unread_text, walk_from,
-};
-use crate::syntax::{front_of, is_break, trouble, wrapped};
+use crate::frames::{Walk, is_named, last_slip, order_slip, slip_at, unread_text, walk_from};
+use crate::syntax::{Begin, begin_of, is_break, named, trouble, wrapped};
 use fints_cli_hints_words::places::{Told, told, written};
 use fints_cli_hints_words::quoting::Sample;
 use fints_rules_messages::JudgeFault;
@@ -100,10 +98,10 @@ fn no_segment(alloc: Global, bytes: &[u8]) -> Result<String, Memory> {
         return written(alloc, "there are no bytes");
     }
     let text = trouble(alloc, bytes)?;
-    let front = Sample(front_of(bytes));
+    let begin = begin_of(bytes);
     written(
         alloc,
-        format_args!("a message begins with HNHBK; what begins with {front}{text}"),
+        format_args!("a message begins with HNHBK; {begin} there{text}"),
     )
 }
 
@@ -117,13 +115,18 @@ fn start_text(alloc: Global, bytes: &[u8]) -> Result<String, Memory> {
 fn left_text(alloc: Global, bytes: &[u8], at: usize) -> Result<String, Memory> {
     let rest = bytes.get(at..).unwrap_or(&[]);
     let count = rest.len();
-    let front = Sample(front_of(rest));
-    written(
-        alloc,
-        format_args!(
-            "behind HNHBS, the last segment, stand {count} more bytes, which begin with {front}"
+    match begin_of(rest) {
+        Begin::Hidden => written(
+            alloc,
+            format_args!("behind HNHBS, the last segment, stand {count} more bytes"),
         ),
-    )
+        begin => written(
+            alloc,
+            format_args!(
+                "behind HNHBS, the last segment, stand {count} more bytes, which begin with {begin}"
+            ),
+        ),
+    }
 }
 
 // Why no inner segment stands behind the walk over data.

@@ -2,7 +2,7 @@
 use crate::scanning::{Stop, binary_of, stop_of};
 use fints_cli_hints_words::places::{Told, line_at, told, written};
 use fints_cli_hints_words::quoting::Sample;
-use fints_syntax::{Kind, Memory, SyntaxKind, parse_number, parse_segment};
+use fints_syntax::{Kind, Memory, SegmentView, SyntaxKind, parse_number, parse_segment};
 use fints_syntax_segments::MAX_BYTES;
 use std::alloc::Global;
 use std::fmt;
@@ -116,25 +116,85 @@ impl Display for Numbered {
     }
 }
 
-/// A segment by what its bytes begin with.
-#[derive(Clone, Copy)]
-enum Begin<'a> {
-    Numbered(Numbered),
-    /// The identifier alone can be read.
-    Id(&'a [u8]),
-    Bytes(&'a [u8]),
-}
-
-fn begin_of(bytes: &[u8]) -> Begin<'_> {
-    let (id, rest) = first_word(bytes);
-    let (number, _) = first_word(rest);
-    match (Kind::parse(id), parse_number(number)) {
-        (Some(id), Some(number)) => Begin::Numbered(Numbered { number, id }),
-        (Some(_), None) => Begin::Id(id),
-        _ => Begin::Bytes(front_of(bytes)),
+/// The segment by its number and identifier.
+pub fn named(view: &SegmentView<'_>) -> Numbered {
+    Numbered {
+        number: u32::from(view.number()),
+        id: view.id(),
     }
 }
 
+// The bytes of a head: all before the second element.
+fn head_bytes(bytes: &[u8]) -> &[u8] {
+    match bytes.iter().position(|b| *b == b'+' || *b == b'\'') {
+        Some(end) => bytes.get(..end).unwrap_or(&[]),
+        None => bytes,
+    }
+}
+
+// The bytes of the longest head, and of an apostrophe behind it.
+const LONGEST_HEAD: usize = 19;
+
+// The segment of a head, where it is one as soon as the lines that end in it are joined.
+fn joined_name(head: &[u8]) -> Option<Numbered> {
+    let mut joined = [b'\''; LONGEST_HEAD];
+    let mut len: usize = 0;
+    for byte in head.iter().filter(|b| !is_break(**b)) {
+        match joined.get_mut(len) {
+            Some(place) => *place = *byte,
+            None => return None,
+        }
+        len = len.saturating_add(1);
+    }
+    let end = len.saturating_add(1);
+    match parse_segment(joined.get(..end).unwrap_or(&[])) {
+        Ok((view, _)) => Some(named(&view)),
+        Err(_) => None,
+    }
+}
+
+// The segment that bytes begin with, where its head stands there whole and can be read.
+fn name_of(bytes: &[u8]) -> Option<Numbered> {
+    let head = head_bytes(bytes);
+    if head.len() == bytes.len() || head.iter().any(|b| is_break(*b)) {
+        return None;
+    }
+    joined_name(head)
+}
+
+/// The head that bytes begin with, where it can be read.
+pub fn head_of(bytes: &[u8]) -> Option<&[u8]> {
+    match name_of(bytes) {
+        Some(_) => Some(head_bytes(bytes)),
+        None => None,
+    }
+}
+
+/// A segment by what may be told of its bytes. Where its head can't be read they may be the rest of a PIN or
+/// a TAN, in which an apostrophe isn't escaped: then nothing is told of them but an identifier.
+#[derive(Clone, Copy)]
+pub enum Begin<'a> {
+    Numbered(Numbered),
+    /// An identifier of 2 to 6 capitals, before a colon.
+    Id(&'a [u8]),
+    Hidden,
+}
+
+fn is_identifier(word: &[u8]) -> bool {
+    (2..=6).contains(&word.len()) && word.iter().all(|b| b.is_ascii_uppercase())
+}
+
+/// What may be told of the segment that bytes begin with.
+pub fn begin_of(bytes: &[u8]) -> Begin<'_> {
+    let (id, _) = first_word(bytes);
+    match name_of(bytes) {
+        Some(name) => Begin::Numbered(name),
+        None if is_identifier(id) && bytes.get(id.len()) == Some(&b':') => Begin::Id(id),
+        None => Begin::Hidden,
+    }
+}
+
+// The place follows: ` in line 2`, or ` there`.
 impl Display for Begin<'_> {
     fn fmt<W: Write>(&self, f: &mut Formatter<W>) -> fmt::Result {
         match *self {
@@ -143,18 +203,24 @@ impl Display for Begin<'_> {
                 let id = Sample(id);
                 write!(f, "a segment {id}")
             }
-            Begin::Bytes(front) => {
-                let front = Sample(front);
-                write!(f, "what begins with {front}")
-            }
+            Begin::Hidden => f.write_str("what stands"),
         }
     }
 }
 
-// What stands in an item where the bytes end.
-fn cut_text(alloc: Global, stop: &Stop<'_>) -> Result<String, Memory> {
+// The length of a binary item that bytes begin with, and what stands behind its second @, where that may be
+// told of the segment: a PIN or a TAN may begin so.
+fn data_told<'a>(segment: &[u8], bytes: &'a [u8]) -> Option<(usize, &'a [u8])> {
+    match name_of(segment) {
+        Some(name) if !name.id.is(b"HNSHA") && !name.id.is(b"HKPAE") => binary_of(bytes),
+        _ => None,
+    }
+}
+
+// What stands in an item where the bytes of a segment end.
+fn cut_text(alloc: Global, bytes: &[u8], stop: &Stop<'_>) -> Result<String, Memory> {
     let (element, item) = (stop.element, stop.item);
-    match binary_of(stop.rest) {
+    match data_told(bytes, stop.rest) {
         Some((len, data)) => {
             let there = data.len();
             written(
@@ -182,20 +248,13 @@ fn wrapped_before_stop(bytes: &[u8], stop: &Stop<'_>) -> &'static str {
 fn binary_text(alloc: Global, bytes: &[u8], stop: &Stop<'_>) -> Result<String, Memory> {
     let (element, item) = (stop.element, stop.item);
     let wrapped = wrapped_before_stop(bytes, stop);
-    match binary_of(stop.rest) {
-        Some((len, data)) => {
-            let after = Sample(
-                data.get(len..)
-                    .and_then(|rest| rest.get(..1))
-                    .unwrap_or(&[]),
-            );
-            written(
-                alloc,
-                format_args!(
-                    ", element {element}, item {item}: behind the {len} bytes of a binary item stands {after}, and none of + : '; the length is wrong, or the bytes were changed{wrapped}"
-                ),
-            )
-        }
+    match data_told(bytes, stop.rest) {
+        Some((len, _)) => written(
+            alloc,
+            format_args!(
+                ", element {element}, item {item}: behind the {len} bytes of a binary item stands none of + : '; the length is wrong, or the bytes were changed{wrapped}"
+            ),
+        ),
         None => written(
             alloc,
             format_args!(
@@ -211,20 +270,6 @@ fn long_text(alloc: Global, stop: &Stop<'_>) -> Result<String, Memory> {
     } else {
         written(alloc, format_args!(" has no end within {MAX_BYTES} bytes"))
     }
-}
-
-// The bytes of a head: all before the second element.
-fn head_bytes(bytes: &[u8]) -> &[u8] {
-    match bytes.iter().position(|b| *b == b'+' || *b == b'\'') {
-        Some(end) => bytes.get(..end).unwrap_or(&[]),
-        None => bytes,
-    }
-}
-
-/// The first bytes, at most 20 and none behind a head: what follows may be a PIN or a TAN.
-pub fn front_of(bytes: &[u8]) -> &[u8] {
-    let head = head_bytes(bytes);
-    head.get(..20).unwrap_or(head)
 }
 
 fn is_number(text: &[u8]) -> bool {
@@ -258,33 +303,19 @@ fn head_cause(head: &[u8]) -> &'static str {
     parts_cause(id, number, version)
 }
 
-// The bytes of the longest head, and of an apostrophe behind it.
-const LONGEST_HEAD: usize = 18;
-
-// Whether the bytes are a head as soon as the lines that end in them are joined.
-fn is_head_joined(head: &[u8]) -> bool {
-    let mut joined = [b'\''; LONGEST_HEAD];
-    let mut len: usize = 0;
-    for byte in head.iter().filter(|b| !is_break(**b)) {
-        match joined.get_mut(len) {
-            Some(place) => *place = *byte,
-            None => return false,
-        }
-        len = len.saturating_add(1);
+// That the bytes, which are no head, are one as soon as the lines that end in them are joined.
+fn wrapped_head(head: &[u8]) -> &'static str {
+    match joined_name(head) {
+        Some(_) => WRAPPED,
+        None => "",
     }
-    let end = len.saturating_add(1);
-    len < head.len() && parse_segment(joined.get(..end).unwrap_or(&[])).is_ok()
 }
 
 fn head_text(alloc: Global, bytes: &[u8]) -> Result<String, Memory> {
     let head = head_bytes(bytes);
     let cause = head_cause(head);
-    let wrapped = if is_head_joined(head) { WRAPPED } else { "" };
-    let head = Sample(front_of(head));
-    written(
-        alloc,
-        format_args!(" has the head {head}: {cause}{wrapped}"),
-    )
+    let wrapped = wrapped_head(head);
+    written(alloc, format_args!(" has a bad head: {cause}{wrapped}"))
 }
 
 /// Why no segment can be read at the front of the bytes, behind what names it.
@@ -297,7 +328,7 @@ pub fn trouble(alloc: Global, bytes: &[u8]) -> Result<String, Memory> {
             SyntaxKind::BadBinary => binary_text(alloc, window, &stop),
             SyntaxKind::TooLong => long_text(alloc, &stop),
             SyntaxKind::BadHead => head_text(alloc, window),
-            _ => cut_text(alloc, &stop),
+            _ => cut_text(alloc, window, &stop),
         },
     }
 }

@@ -25,16 +25,26 @@ fn not_utf8(alloc: Global, text: &[u8], offset: usize) -> Told {
 }
 
 // What stands at an offset, to the end of its line.
-fn rest_of_line(text: &str, offset: usize) -> Option<&str> {
-    let rest = text.get(offset..)?;
-    let line = rest.lines().next()?;
-    if line.is_empty() { None } else { Some(line) }
+fn rest_of_line(text: &str, offset: usize) -> &str {
+    let rest = text.get(offset..).unwrap_or("");
+    rest.lines().next().unwrap_or("")
 }
 
 // What stands before an offset, from the start of its line.
 fn before(text: &str, offset: usize) -> &str {
     let front = text.get(..offset).unwrap_or("");
     front.rsplit('\n').next().unwrap_or("")
+}
+
+// The line of an offset.
+fn line_of(text: &str, offset: usize) -> &str {
+    let start = offset.saturating_sub(before(text, offset).len());
+    rest_of_line(text, start)
+}
+
+// Whether a PIN or a TAN may stand in a text: a message of FinTS begins with HN, and these segments hold them.
+fn may_hold_secret(text: &str) -> bool {
+    text.starts_with("HN") || text.contains("HNSHA") || text.contains("HKPAE")
 }
 
 /// What stands at an offset: words, and a text behind them, if any.
@@ -45,18 +55,25 @@ struct There<'a> {
 }
 
 fn there_at(text: &str, offset: usize) -> There<'_> {
-    match (rest_of_line(text, offset), before(text, offset)) {
-        (Some(rest), _) => There {
-            words: "there stands",
-            text: rest,
-        },
-        (None, "") => There {
+    let rest = rest_of_line(text, offset);
+    if may_hold_secret(rest) || may_hold_secret(line_of(text, offset)) {
+        return There {
+            words: "there stands what may hold a PIN or a TAN, as a message does",
+            text: "",
+        };
+    }
+    match (rest, before(text, offset)) {
+        ("", "") => There {
             words: "there the line ends",
             text: "",
         },
-        (None, line) => There {
+        ("", line) => There {
             words: "there ends the line",
             text: line,
+        },
+        (rest, _) => There {
+            words: "there stands",
+            text: rest,
         },
     }
 }
@@ -75,8 +92,7 @@ impl Display for There<'_> {
 // What to write where the line of an offset is the head of a row in one pair of brackets: rows of scripts
 // and order tables have two.
 fn advice(text: &str, offset: usize) -> &'static str {
-    let start = offset.saturating_sub(before(text, offset).len());
-    let line = text.get(start..).unwrap_or("");
+    let line = line_of(text, offset);
     if line.starts_with("[step]") {
         return "; a row has two pairs of brackets: write [[step]]";
     }

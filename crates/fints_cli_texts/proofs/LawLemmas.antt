@@ -1,22 +1,22 @@
 -- The laws, each with its proof, for the proofs of the crates above.
-use Rattle.std.proofs.Common.{◌≡◌, ℕ, ◌-◌, Bool, true, false, List, [], ◌∷◌, ◌++◌, length, map, set, get_or, refl, ap, ◌∙◌, sym, subst, inl, inr, codes}
+use Rattle.std.proofs.Common.{◌≡◌, ℕ, ◌-◌, ◌≤◌, Bool, true, false, List, [], ◌∷◌, ◌++◌, length, map, take, drop, refl, ap, ◌∙◌, sym, subst, arith, inl, inr, codes}
 use Rattle.std.specs.Prelude.{IsTrue, if◌then◌else◌}
 use Rattle.std.specs.List.{AllByRecursion, flat_map}
 use Rattle.std.specs.Str.{bytes_eq}
 use Rattle.std.proofs.lemmas.Bool.{cases_lt}
 use Rattle.std.proofs.lemmas.Slice.Eq.{bytes_eq-Decides}
-use Rattle.std.proofs.lemmas.List.{get_or-set_same, set-set, set_past}
+use Rattle.std.proofs.lemmas.List.{append-nil, drop_all, drop_at, length-take-le, take_all, take_at}
 use Rattle.fints_syntax_segments.specs.Segment.{item_value}
-use Rattle.fints_syntax_segments.specs.Values.{values_at}
 use Rattle.fints_syntax_segments.specs.Written.{written_segment}
 use Rattle.fints_syntax_segments.specs.declared.item.OwnedItem.{OwnedItem}
 use Rattle.fints_syntax_segments.specs.declared.item.OwnedItem.TheVariants.{Text}
 use Rattle.fints_syntax_segments.specs.declared.item.OwnedSegment.{OwnedSegment}
 use Rattle.fints_syntax.proofs.LawLemmas.{one_segment_text}
 use Rattle.fints_rules_messages.proofs.Seals.{envelope_text, text_one}
-use Rattle.fints_cli_texts.specs.Masked.{emptied_at, mask, masked, masked_at, with_items}
+use Rattle.fints_cli_texts.specs.Masked.{emptied_at, mask, masked, masked_from, masked_items, with_elements}
+use Rattle.fints_cli_texts.proofs.MaskLemmas.{masked_after}
 use Rattle.fints_cli_texts.specs.ShowMessage.{Opened, IsOpened, opened_lines, shown_byte}
-use Rattle.fints_cli_texts.specs.Laws.{OneShownMessage, HasSecretsIn, is_absent, SecretsAreUnshown}
+use Rattle.fints_cli_texts.specs.Laws.{OneShownMessage, HasSecretsFrom, absences, is_absent, SecretsAreUnshown}
 
 -- ---- a segment with other secrets
 
@@ -32,44 +32,65 @@ mask-where ((b ∷ bs) ∷ vs) = ap (λ items. Text (codes "***") ∷ items) (ma
 same_masks : (vs ws : List (List ℕ)) → map is_absent vs ≡ map is_absent ws → map mask vs ≡ map mask ws
 same_masks vs ws e = mask-where vs ∙ ap (map mask_where) e ∙ sym (mask-where ws)
 
-same_elements : (es : List (List OwnedItem)) (i : ℕ) (secrets : List OwnedItem)
-    → map is_absent (map item_value secrets) ≡ map is_absent (map item_value (get_or es i []))
-    → set (set es i secrets) i (map mask (map item_value (get_or (set es i secrets) i [])))
-    ≡ set es i (map mask (map item_value (get_or es i [])))
-same_elements es i secrets e = elim (cases_lt i (length es)) [
+same_cons_items : (x y : List OwnedItem) (xs ys : List (List OwnedItem)) → x ≡ y → xs ≡ ys → x ∷ xs ≡ y ∷ ys
+same_cons_items x y xs ys e f = rw (e, f) refl
+
+same_elements : (xs ys : List (List OwnedItem)) → map absences xs ≡ map absences ys
+    → map masked_items xs ≡ map masked_items ys
+same_elements [] [] e = refl
+same_elements [] (y ∷ ys) e = absurd (cc)
+same_elements (x ∷ xs) [] e = absurd (cc)
+same_elements (x ∷ xs) (y ∷ ys) e =
+    let head : absences x ≡ absences y = cc in
+    let tail : map absences xs ≡ map absences ys = cc in
+    same_cons_items (masked_items x) (masked_items y) (map masked_items xs) (map masked_items ys)
+    (same_masks (map item_value x) (map item_value y) head) (same_elements xs ys tail)
+
+-- no element is masked where there are none to be
+masked_short : (es secrets : List (List OwnedItem)) (k : ℕ) → length es ≤ k → map absences secrets ≡ []
+    → masked_after k (take k es ++ secrets) ≡ masked_after k es
+masked_short es [] k le e =
+    ap (masked_after k) (append-nil (take k es) ∙ take_all k es le)
+masked_short es (x ∷ xs) k le e = absurd (cc)
+
+-- the elements that are masked, and those before them, where others are put in their place
+masked_again : (es secrets : List (List OwnedItem)) (k : ℕ) → map absences secrets ≡ map absences (drop k es)
+    → masked_after k (take k es ++ secrets) ≡ masked_after k es
+masked_again es secrets k e = elim (cases_lt k (length es)) [
   | inl lt ↦
-      set-set es i secrets (map mask (map item_value (get_or (set es i secrets) i [])))
-      ∙ ap (λ items. set es i (map mask (map item_value items))) (get_or-set_same es i secrets [] lt)
-      ∙ ap (set es i) (same_masks (map item_value secrets) (map item_value (get_or es i [])) e)
-  | inr le ↦ ap (λ xs. set xs i (map mask (map item_value (get_or xs i [])))) (set_past es i secrets le)
+      let front : length (take k es) ≡ k = length-take-le k es (omega (arith, lt)) in
+      ap (λ xs. xs ++ map masked_items (drop k (take k es ++ secrets))) (take_at (take k es) secrets k front)
+      ∙ ap (λ xs. take k es ++ map masked_items xs) (drop_at (take k es) secrets k front)
+      ∙ ap (λ xs. take k es ++ xs) (same_elements secrets (drop k es) e)
+  | inr le ↦ masked_short es secrets k le (e ∙ ap (map absences) (drop_all k es le))
 ]
 
-masked_same : (s : OwnedSegment) (element : ℕ) (secrets : List OwnedItem)
-    → map is_absent (map item_value secrets) ≡ map is_absent (values_at s element)
-    → masked_at (with_items s element secrets) element ≡ masked_at s element
-masked_same s element secrets e =
-    ap (λ es. record s { elements = es }) (same_elements s.elements (element - 2) secrets e)
+masked_same : (s : OwnedSegment) (from : ℕ) (secrets : List (List OwnedItem))
+    → map absences secrets ≡ map absences (drop (from - 2) s.elements)
+    → masked_from (with_elements s from secrets) from ≡ masked_from s from
+masked_same s from secrets e =
+    ap (λ es. record s { elements = es }) (masked_again s.elements secrets (from - 2) e)
 
 kind_is : (s : OwnedSegment) (kind : List ℕ) → IsTrue (bytes_eq s.head.id kind) → s.head.id ≡ kind
 kind_is s kind h = (bytes_eq-Decides s.head.id kind).0 h
 
 abbrev masked_by : List ℕ → OwnedSegment → OwnedSegment
 masked_by kind s =
-    if bytes_eq kind (codes "HNSHA") then masked_at s 4
-    else if bytes_eq kind (codes "HKPAE") then masked_at s 2
+    if bytes_eq kind (codes "HNSHA") then masked_from s 4
+    else if bytes_eq kind (codes "HKPAE") then masked_from s 2
     else if bytes_eq kind (codes "HNVSD") then emptied_at s 2
     else s
 
-masked_in : (s : OwnedSegment) (element : ℕ) → HasSecretsIn s element → masked s ≡ masked_at s element
-masked_in s element (inl h) =
-    ap (λ kind. masked_by kind s) (kind_is s (codes "HNSHA") h.0) ∙ ap (masked_at s) (sym h.1)
-masked_in s element (inr h) =
-    ap (λ kind. masked_by kind s) (kind_is s (codes "HKPAE") h.0) ∙ ap (masked_at s) (sym h.1)
+masked_in : (s : OwnedSegment) (from : ℕ) → HasSecretsFrom s from → masked s ≡ masked_from s from
+masked_in s from (inl h) =
+    ap (λ kind. masked_by kind s) (kind_is s (codes "HNSHA") h.0) ∙ ap (masked_from s) (sym h.1)
+masked_in s from (inr h) =
+    ap (λ kind. masked_by kind s) (kind_is s (codes "HKPAE") h.0) ∙ ap (masked_from s) (sym h.1)
 
 pub secrets_are_unshown : SecretsAreUnshown
-secrets_are_unshown blanks s element secrets has e =
+secrets_are_unshown blanks s from secrets has e =
     ap (λ (t : OwnedSegment). blanks ++ flat_map shown_byte (written_segment t) ++ codes "\n")
-    (masked_in (with_items s element secrets) element has ∙ masked_same s element secrets e ∙ sym (masked_in s element has))
+    (masked_in (with_elements s from secrets) from has ∙ masked_same s from secrets e ∙ sym (masked_in s from has))
 
 -- ---- one text
 

@@ -6,7 +6,8 @@ pub fn one_shown_message()
     ensures { OneShownMessage }
 {}
 
-/// A segment with another PIN, TAN or new PIN has the same line, where the same of them are empty.
+/// A segment with other elements from its PIN, TAN or new PIN on has the same line, where there are as many
+/// elements and items, and the same of them are empty.
 pub fn secrets_are_unshown()
     ensures { SecretsAreUnshown }
 {}

@@ -1,10 +1,9 @@
 //! Segments without their secrets (FinTS 3.0, Security, PIN/TAN: HNSHA, the user defined signature; HKPAE).
-ghost use Rattle.std.specs.Prelude.{◌≡◌, ◌-◌, ◌<◌, ◌≤◌, ◌++◌, ◌∷◌, [], length, map, drop, OnOk, IfOk};
+ghost use Rattle.std.specs.Prelude.{◌≡◌, ◌-◌, ◌<◌, ◌≤◌, ◌++◌, ◌∷◌, [], length, drop, OnOk, IfOk};
 ghost use Rattle.std.specs.List.{AllByRecursion};
 ghost use Rattle.fints_syntax_segments.specs.Lent.{item_of_ref};
-ghost use Rattle.fints_syntax_segments.specs.Segment.{item_value};
 ghost use Rattle.fints_syntax_segments.specs.declared.item.OwnedItem.TheVariants.{Text};
-ghost use Rattle.fints_cli_texts.specs.Masked.{emptied_at, mask, masked_at, with_items};
+ghost use Rattle.fints_cli_texts.specs.Masked.{emptied_at, mask, masked_from, masked_items, with_items};
 
 use fints_syntax::{Bytes, ElementRef, Elements, ItemRef, Memory, OwnedItem, OwnedSegment};
 use std::alloc::Global;
@@ -21,7 +20,7 @@ fn mask(alloc: Global, value: &[u8]) -> Result<OwnedItem, Memory>
 
 // The items of an element, each masked.
 fn masked_items(alloc: Global, items: &ElementRef<'_>) -> Result<Vec<OwnedItem>, Memory>
-    ensures { IfOk result (λ masked. masked.items ≡ map mask (map item_value items.now)) }
+    ensures { IfOk result (λ masked. masked.items ≡ masked_items items.now) }
 {
     let mut masked = Vec::new(alloc);
     for i in 0..items.len() {
@@ -71,6 +70,43 @@ fn copy_element(
     elements.push(copies.as_slice())
 }
 
+// Adds an element with its items masked.
+fn mask_element(
+    alloc: Global,
+    elements: &mut Elements,
+    items: &ElementRef<'_>,
+) -> Result<(), Memory>
+    requires { 0 < length items.now }
+    ensures { OnOk result (elements.new ≡ elements.old ++ masked_items items.now ∷ []) }
+{
+    let masked = masked_items(alloc, items)?;
+    elements.push(masked.as_slice())
+}
+
+/// A copy of the segment, with each item masked of the elements from this one on.
+pub fn masked_from(
+    alloc: Global,
+    segment: &OwnedSegment,
+    from: usize,
+) -> Result<OwnedSegment, Memory>
+    requires { 2 ≤ from }
+    ensures { IfOk result (λ copy. copy ≡ masked_from segment.now from) }
+{
+    let mut elements = Elements::new(alloc);
+    for i in 0..segment.elements.len() {
+        let items = segment.elements.items(i);
+        if i < from - 2 {
+            copy_element(alloc, &mut elements, &items)?;
+        } else {
+            mask_element(alloc, &mut elements, &items)?;
+        }
+    }
+    Ok(OwnedSegment {
+        head: segment.head,
+        elements,
+    })
+}
+
 // A copy of the segment, with these items in an element.
 fn with_items(
     alloc: Global,
@@ -94,19 +130,6 @@ fn with_items(
         head: segment.head,
         elements,
     })
-}
-
-/// A copy of the segment, with each item of an element masked.
-pub fn masked_at(
-    alloc: Global,
-    segment: &OwnedSegment,
-    element: usize,
-) -> Result<OwnedSegment, Memory>
-    requires { 2 ≤ element }
-    ensures { IfOk result (λ copy. copy ≡ masked_at segment.now element) }
-{
-    let items = masked_items(alloc, &segment.items(element))?;
-    with_items(alloc, segment, element, items.as_slice())
 }
 
 /// A copy of the segment, with item 1 of an element empty.

@@ -9,7 +9,7 @@ ghost use Rattle.fints_cli_texts.specs.Masked.{masked};
 ghost use Rattle.fints_cli_texts.specs.ShowMessage.{is_control, shown_byte, segment_line, IsShownMessage, HasSegments, HasShowable, IsBefore, IsShowable, IsShownIn, IsTextShownIn, AreLinesIn};
 
 use crate::fault::Fault;
-use crate::masking::{emptied_at, masked_at};
+use crate::masking::{emptied_at, masked_from};
 use fints_params::{is_sealed, sealed_data};
 use fints_rules::read_message;
 use fints_syntax::{Memory, OwnedSegment, parse_segment, write_segment};
@@ -50,9 +50,9 @@ fn write_masked(alloc: Global, out: &mut Vec<u8>, segment: &OwnedSegment) -> Res
 {
     let kind = segment.head.id;
     if kind.is(b"HNSHA") {
-        write_segment(out, &masked_at(alloc, segment, 4)?)
+        write_segment(out, &masked_from(alloc, segment, 4)?)
     } else if kind.is(b"HKPAE") {
-        write_segment(out, &masked_at(alloc, segment, 2)?)
+        write_segment(out, &masked_from(alloc, segment, 2)?)
     } else if kind.is(b"HNVSD") {
         write_segment(out, &emptied_at(alloc, segment, 2)?)
     } else {
@@ -141,7 +141,7 @@ fn write_all(alloc: Global, text: &mut Vec<u8>, bytes: &[u8]) -> Result<(), Memo
 }
 
 /// The segments of a message, a line each, those of sealed data indented behind HNVSD. PIN, TAN and new
-/// PIN are masked, so that the text may be handed on.
+/// PIN are masked, and what stands in their segments after them, so that the text may be handed on.
 pub fn show_message(alloc: Global, message: &[u8]) -> Result<Vec<u8>, Fault>
     ensures shown { IfOk result (λ text. IsShownMessage message.now text.items) }
     ensures refused { IfErr result (λ f. IsMessageRefusal message.now f) }

@@ -8,6 +8,8 @@ mod dialogues;
 #[cfg(test)]
 mod feeding;
 #[cfg(test)]
+mod hashing;
+#[cfg(test)]
 mod permissions;
 #[cfg(test)]
 mod reading;
