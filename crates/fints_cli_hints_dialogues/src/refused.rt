@@ -14,6 +14,9 @@ use std::fmt::{Display, Formatter, Write};
 // What a message of a dialogue begins with; its size follows.
 const FRONT: &[u8] = b"HNHBK:1:3+";
 
+// The same in words, as a hint says it.
+const BEGIN: &str = "in a dialogue a message begins with HNHBK:1:3, and then its size in 12 digits";
+
 // A byte order mark.
 const MARK: &[u8] = b"\xef\xbb\xbf";
 
@@ -53,9 +56,6 @@ fn cut_file(alloc: Global, file: &[u8]) -> Result<Option<Vec<Sent<'_>>>, Memory>
 fn front_hint(alloc: Global, bytes: &[u8]) -> Told {
     message_hint(alloc, &JudgeFault::NotAMessage { offset: 0 }, bytes)
 }
-
-// What a message of a dialogue begins with.
-const BEGIN: &str = "in a dialogue a message begins with HNHBK:1:3, and then its size in 12 digits";
 
 // Why the bytes, which begin with an HNHBK, can't be cut off as a message.
 fn head_hint(alloc: Global, turn: Turn, bytes: &[u8]) -> Told {
