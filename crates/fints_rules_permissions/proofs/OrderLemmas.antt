@@ -23,12 +23,12 @@ pub no_data : Data
 no_data = string []
 
 -- what was read of the entry at i
-pub read_within : (ds : List Data) (read : List (Option OrderRow)) (i : ℕ) → read ≡ map row_of ds → i < length read
-    → i < length ds
+pub read_within : (ds : List Data) (read : List (Option OrderRow)) (i : ℕ) → read ≡ map row_of ds
+    → i < length read → i < length ds
 read_within ds read i is lt = omega (arith, length-map ds row_of, ap length is, lt)
 
-pub read_at : (ds : List Data) (read : List (Option OrderRow)) (i : ℕ) (row : Option OrderRow) → read ≡ map row_of ds
-    → i < length ds → row ≡ get_or read i row → row_of (get_or ds i no_data) ≡ row
+pub read_at : (ds : List Data) (read : List (Option OrderRow)) (i : ℕ) (row : Option OrderRow)
+    → read ≡ map row_of ds → i < length ds → row ≡ get_or read i row → row_of (get_or ds i no_data) ≡ row
 read_at ds read i row is lt at =
     sym (get_or-map row_of ds i no_data row lt) ∙ ap (λ os. get_or os i row) (sym is) ∙ sym at
 

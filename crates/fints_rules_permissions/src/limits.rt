@@ -85,8 +85,8 @@ impl Limits {
 // Whether the entry at a place of the map is that of the row's kind and version, and the row changes
 // nothing in it.
 fn has_at(map: &LimitMap, place: usize, row: &OrderParam) -> bool
-    ensures { IsTrue result
-        → get key_eq map.now (param_key row.now) ≡ Some (with_limits (get key_eq map.now (param_key row.now)) row.now) }
+    ensures { IsTrue result → get key_eq map.now (param_key row.now)
+        ≡ Some (with_limits (get key_eq map.now (param_key row.now)) row.now) }
 {
     match map.get_index(place) {
         Some((key, limits)) => *key == param_key(row) && limits.includes(Limits::of(row)),
@@ -98,7 +98,8 @@ fn has_at(map: &LimitMap, place: usize, row: &OrderParam) -> bool
 // place of the row before it first, since captures repeat rows.
 fn add_limits(map: &mut LimitMap, before: usize, row: &OrderParam) -> Result<usize, Memory>
     ensures { OnOk result ((q : Key) → get key_eq map.new q
-        ≡ if key_eq (param_key row.now) q then Some (with_limits (get key_eq map.old (param_key row.now)) row.now)
+        ≡ if key_eq (param_key row.now) q
+        then Some (with_limits (get key_eq map.old (param_key row.now)) row.now)
         else get key_eq map.old q) }
 {
     if has_at(&*map, before, row) {

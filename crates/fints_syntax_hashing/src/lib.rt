@@ -33,7 +33,8 @@ impl KeyDigest {
 
     /// Adds a key that is a number.
     pub fn add_number(&mut self, key: u64)
-        ensures { (bytes : List ℕ) → IsDigestOf self.old bytes → IsDigestOf self.new (bytes ++ to_le_bytes w64 key) }
+        ensures { (bytes : List ℕ) → IsDigestOf self.old bytes
+            → IsDigestOf self.new (bytes ++ to_le_bytes w64 key) }
     {
         self.keys.update(&key.to_le_bytes());
     }

@@ -38,8 +38,8 @@ returns-clause-told c =
 
 -- ---- the case of one finding
 
-unfound : (granted : Granted) (script : ScriptValue) (number : ℕ) (f : Fault) → IsUnfound granted script number f
-    → IsTellRefusalBy (OneCase number) granted script f
+unfound : (granted : Granted) (script : ScriptValue) (number : ℕ) (f : Fault)
+    → IsUnfound granted script number f → IsTellRefusalBy (OneCase number) granted script f
 unfound granted script number faults.Memory h = h
 unfound granted script number (faults.NoFinding n) h =
     (ap OneCase (sym h.0), subst (HasNoFinding granted script) (sym h.0) h.1)

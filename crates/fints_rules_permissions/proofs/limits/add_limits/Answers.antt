@@ -6,7 +6,8 @@ use Rattle.fints_rules_permissions.specs.LimitMaps.{joined, with_limits}
 use Rattle.fints_rules_permissions.proofs.limits.add_limits.Goals as goal
 
 -- what is written last counts
-twice : (b : Bool) (x y : Limits) (o : Option Limits) → cond b (Some x) (cond b (Some y) o) ≡ cond b (Some x) o
+twice : (b : Bool) (x y : Limits) (o : Option Limits)
+    → cond b (Some x) (cond b (Some y) o) ≡ cond b (Some x) o
 twice true x y o = refl
 twice false x y o = refl
 
