@@ -108,10 +108,7 @@ fn read_national(alloc: Global, segment: &OwnedSegment) -> Result<National, Memo
 }
 
 /// What HIUPD says, and how many of its elements are skipped and counted.
-pub fn read_account(
-    alloc: Global,
-    segment: &OwnedSegment,
-) -> Result<(AccountRow, usize), Memory>
+pub fn read_account(alloc: Global, segment: &OwnedSegment) -> Result<(AccountRow, usize), Memory>
     ensures row { IfOk result (λ r. r.0 ≡ account_row segment.now) }
     ensures skipped { IfOk result (λ r. r.1 ≡ count_by is_odd_element (entry_elements segment.now)) }
 {
