@@ -57,7 +57,7 @@ IsSentAgain recorded sent =
 
 -- the client's messages are sent so, in order, and nothing else is
 abbrev pub AreSentAgain : List Exchange → List Sent → Type 0
-AreSentAgain exchanges sent = AllZip (λ e m. IsSentAgain e.message.bytes.now m.bytes) exchanges sent
+AreSentAgain exchanges sent = AllZip (λ e m. IsSentAgain e.sent.bytes.now m.bytes) exchanges sent
 
 -- the codes of the answer, if there is one
 abbrev pub answer_in : Option Answer → List (List ℕ)

@@ -68,7 +68,7 @@ fn first_other(exchanges: &[Exchange<'_>], sent: &[Sent]) -> Option<usize>
     ensures within { IfSome result (λ i. i < length exchanges.now) }
 {
     for i in 0..exchanges.len() {
-        if !is_sent_again(exchanges[i].message.bytes, sent[i].bytes.as_slice()) {
+        if !is_sent_again(exchanges[i].sent.bytes, sent[i].bytes.as_slice()) {
             return Some(i);
         }
     }
@@ -89,7 +89,7 @@ fn other_sent(
     let Some(i) = first_other(exchanges, sent) else {
         return Ok(None);
     };
-    let recorded = exchanges[i].message.bytes;
+    let recorded = exchanges[i].sent.bytes;
     let place = other_place(alloc, recorded, sent[i].bytes.as_slice(), i + 1)?;
     Ok(Some(place))
 }

@@ -11,7 +11,6 @@ use fints_cli_hints_scripts::script_hint;
 use fints_cli_hints_segments::{message_hint, params_hint};
 use fints_cli_hints_words::inputs::Inputs;
 use fints_cli_texts::Fault;
-use fints_rules::JudgeFault;
 use fints_script_cases::CaseFault;
 use fints_syntax::Memory;
 use std::alloc::Global;
@@ -31,12 +30,9 @@ pub fn hint(alloc: Global, fault: &Fault, inputs: &Inputs<'_>) -> Result<Option<
         Fault::NoMessage { number } => run_hint(alloc, *number, inputs.script, inputs.case),
         Fault::NoFinding { number } => finding_hint(alloc, *number),
         Fault::Certificate { line } => cert_hint(alloc, *line, inputs.certificate),
-        Fault::Before { offset } => {
-            let fault = JudgeFault::NotAMessage { offset: *offset };
-            message_hint(alloc, &fault, inputs.before)
-        }
+        Fault::Before { offset: _ } => message_hint(alloc, inputs.before),
         Fault::Answer(fault) => params_hint(alloc, fault, inputs.answer),
-        Fault::Message(fault) => message_hint(alloc, fault, inputs.message),
+        Fault::Message(_) => message_hint(alloc, inputs.message),
         Fault::Dialogue(fault) => dialogue_hint(alloc, fault, inputs.dialogue),
         Fault::NotDraftable { message, segment } => {
             draft_hint(alloc, *message, *segment, inputs.dialogue)

@@ -1,7 +1,7 @@
 //! What no rule forbids and is still wrong in a recorded dialogue: notes on its messages and answers.
 use fints_cli_hints_words::places::written;
 use fints_cli_hints_words::quoting::Sample;
-use fints_rules::{Message, read_message};
+use fints_rules::Message;
 use fints_rules_dialogues::{Answer, Exchange};
 use fints_syntax::{Memory, OwnedSegment, parse_number, parse_segment};
 use std::alloc::Global;
@@ -80,31 +80,20 @@ fn add_note(text: &mut String, alloc: Global, place: usize, note: Note<'_>) -> R
 
 // ---- what is there, and what is due
 
-// The HNHBK of a message, and whether an HNVSK stands behind it.
-#[derive(Drop)]
-struct Front {
-    head: OwnedSegment,
-    sealed: bool,
+// The HNHBK of an answer.
+fn head_of(alloc: Global, answer: &Answer<'_>) -> Result<Option<OwnedSegment>, Memory> {
+    match parse_segment(answer.sent.bytes) {
+        Ok((first, _)) => Ok(Some(first.to_owned(alloc)?)),
+        Err(_) => Ok(None),
+    }
 }
 
-fn front_of(alloc: Global, bytes: &[u8]) -> Result<Option<Front>, Memory> {
-    let Ok((first, len)) = parse_segment(bytes) else {
-        return Ok(None);
-    };
-    let sealed = match parse_segment(bytes.get(len..).unwrap_or(&[])) {
-        Ok((second, _)) => second.id().is(b"HNVSK"),
-        Err(_) => false,
-    };
-    let head = first.to_owned(alloc)?;
-    Ok(Some(Front { head, sealed }))
-}
-
-fn first_answer(alloc: Global, exchanges: &[Exchange<'_>]) -> Result<Option<Front>, Memory> {
+fn first_answer(alloc: Global, exchanges: &[Exchange<'_>]) -> Result<Option<OwnedSegment>, Memory> {
     let [first, ..] = exchanges else {
         return Ok(None);
     };
     match &first.answer {
-        Some(answer) => front_of(alloc, answer.sent.bytes),
+        Some(answer) => head_of(alloc, answer),
         None => Ok(None),
     }
 }
@@ -152,26 +141,21 @@ fn add_message(
     text: &mut String,
     alloc: Global,
     due: &Due<'_>,
-    bytes: &[u8],
+    message: &Message<'_>,
 ) -> Result<u64, Memory> {
-    let Ok(message) = read_message(alloc, bytes) else {
-        return Ok(due.number);
-    };
-    let Some(front) = front_of(alloc, bytes)? else {
-        return Ok(due.number);
-    };
     let (place, number) = (due.place, message.number());
-    let id = front.head.value(4, 1);
+    let head = message.first().to_owned(alloc)?;
+    let id = head.value(4, 1);
     if number != due.number {
         add_note(text, alloc, place, Note::OtherNumber(number, due.number))?;
     }
     if let Some(note) = dialogue_note(id, due.given) {
         add_note(text, alloc, place, note)?;
     }
-    if let Some(end) = other_end(alloc, &message, id)? {
+    if let Some(end) = other_end(alloc, message, id)? {
         add_note(text, alloc, place, Note::OtherEnd(end.value(2, 1), id))?;
     }
-    if !front.sealed && !message.ends().is_empty() {
+    if message.seal().is_none() && !message.ends().is_empty() {
         add_note(text, alloc, place, Note::NotSealed)?;
     }
     if due.ended {
@@ -192,10 +176,10 @@ fn add_answer(
     number: u64,
     answer: &Answer<'_>,
 ) -> Result<(), Memory> {
-    let Some(front) = front_of(alloc, answer.sent.bytes)? else {
+    let Some(head) = head_of(alloc, answer)? else {
         return Ok(());
     };
-    let (id, named) = (front.head.value(6, 1), front.head.value(6, 2));
+    let (id, named) = (head.value(6, 1), head.value(6, 2));
     let has_reference = !id.is_empty() || !named.is_empty();
     if has_reference && !spells(named, number) {
         add_note(text, alloc, place, Note::OtherReference(named, number))?;
@@ -219,7 +203,7 @@ pub fn add_notes(
     exchanges: &[Exchange<'_>],
 ) -> Result<(), Memory> {
     let first = first_answer(alloc, exchanges)?;
-    let given = first.as_ref().map(|it| it.head.value(4, 1));
+    let given = first.as_ref().map(|it| it.value(4, 1));
     let mut due = Due {
         place: 1,
         number: 1,
@@ -227,7 +211,7 @@ pub fn add_notes(
         ended: false,
     };
     for exchange in exchanges {
-        let number = add_message(text, alloc, &due, exchange.message.bytes)?;
+        let number = add_message(text, alloc, &due, &exchange.message)?;
         if let Some(answer) = &exchange.answer {
             add_answer(text, alloc, due.place, number, answer)?;
             due.ended = due.ended || ends(answer);

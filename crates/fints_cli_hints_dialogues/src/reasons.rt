@@ -5,7 +5,7 @@ use fints_cli_hints_reasons::{Judged, add_reasons};
 use fints_cli_hints_words::inputs::Inputs;
 use fints_cli_hints_words::places::written;
 use fints_params::Params;
-use fints_rules::{OrderTable, Permissions, read_message};
+use fints_rules::{Broken, Message, OrderTable, Permissions};
 use fints_rules_dialogues::{Audited, Exchange, audit, read_dialogue};
 use fints_syntax::Memory;
 use std::alloc::Global;
@@ -54,31 +54,31 @@ fn add_broken(
     alloc: Global,
     bank: &Bank<'_>,
     number: usize,
-    audited: &Audited<'_>,
+    message: &Message<'_>,
+    broken: &[Broken],
 ) -> Result<(), Memory> {
-    if audited.broken.is_empty() {
+    if broken.is_empty() {
         return Ok(());
     }
-    let Ok(message) = read_message(alloc, audited.message.bytes) else {
-        return Ok(());
-    };
     let called = written(alloc, format_args!("message {number}"))?;
     let judged = Judged {
         bank,
         called: called.as_str(),
-        message: &message,
+        message,
     };
-    add_reasons(text, alloc, &judged, audited.broken.as_slice())
+    add_reasons(text, alloc, &judged, broken)
 }
 
 fn add_all_broken(
     text: &mut String,
     alloc: Global,
     bank: &Bank<'_>,
+    exchanges: &[Exchange<'_>],
     audited: &[Audited<'_>],
 ) -> Result<(), Memory> {
-    for (i, one) in audited.iter().enumerate() {
-        add_broken(text, alloc, bank, i.saturating_add(1), one)?;
+    for (i, (exchange, one)) in exchanges.iter().zip(audited.iter()).enumerate() {
+        let (number, broken) = (i.saturating_add(1), one.broken.as_slice());
+        add_broken(text, alloc, bank, number, &exchange.message, broken)?;
     }
     Ok(())
 }
@@ -100,7 +100,13 @@ pub fn audited_reasons(alloc: Global, inputs: &Inputs<'_>) -> Result<Option<Stri
     let bank = Bank::of(alloc, source.capture, &source.params, &orders, &permissions)?;
     let audited = audit(alloc, &permissions, exchanges.as_slice())?;
     let mut text = String::new(alloc);
-    add_all_broken(&mut text, alloc, &bank, audited.as_slice())?;
+    add_all_broken(
+        &mut text,
+        alloc,
+        &bank,
+        exchanges.as_slice(),
+        audited.as_slice(),
+    )?;
     add_notes(&mut text, alloc, exchanges.as_slice())?;
     Ok(Some(text))
 }

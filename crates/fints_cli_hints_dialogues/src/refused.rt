@@ -1,10 +1,9 @@
 //! What the refusal of a recorded dialogue is about. Where a file can't be cut into messages nothing is shown
 //! of what stands there, since it may be a PIN or a TAN, but the head of a message.
-use fints_cli_hints_segments::{head_of, message_hint, params_hint};
+use fints_cli_hints_segments::{front_hint, head_of, message_hint, params_hint};
 use fints_cli_hints_words::places::{Told, line_at, told, told_at};
 use fints_cli_hints_words::quoting::Sample;
 use fints_params::ParamFault;
-use fints_rules::JudgeFault;
 use fints_rules_dialogues::{DialogueFault, Sent, cut};
 use fints_syntax::Memory;
 use std::alloc::Global;
@@ -52,9 +51,6 @@ fn cut_file(alloc: Global, file: &[u8]) -> Result<Option<Vec<Sent<'_>>>, Memory>
 
 // ---- what is no message
 
-// That these bytes are no message from their front on.
-fn front_hint(alloc: Global, bytes: &[u8]) -> Told {
-    message_hint(alloc, &JudgeFault::NotAMessage { offset: 0 }, bytes)
 }
 
 // Why the bytes, which begin with an HNHBK, can't be cut off as a message.
@@ -135,13 +131,10 @@ fn client_hint(alloc: Global, messages: &[Sent<'_>], offset: usize) -> Told {
         return Ok(None);
     };
     let turn = Turn(place);
-    let fault = JudgeFault::NotAMessage {
-        offset: offset.saturating_sub(sent.start),
-    };
     told_at(
         alloc,
         format_args!("{turn}: "),
-        message_hint(alloc, &fault, sent.bytes)?,
+        message_hint(alloc, sent.bytes)?,
     )
 }
 

@@ -9,30 +9,26 @@ use crate::whole::{Before, Whole, WholeWhy, is_of_whole};
 use fints_cli_hints_words::inputs::Inputs;
 use fints_params::{Params, feedback_codes};
 use fints_rules::{
-    Broken, JudgeFault, Message, OrderTable, Permissions, judge, judge_after, read_message,
+    Broken, Message, OrderTable, Permissions, judge_message, judge_message_after, read_message,
 };
 use fints_rules_causes::segment_cause;
 use fints_syntax::{Kind, Memory, SegmentView};
 use std::alloc::Global;
 
-// The rules that the message breaks.
+// The rules that the message breaks, behind the one before where there is one.
 fn broken_by(
     alloc: Global,
     permissions: &Permissions<'_>,
     inputs: &Inputs<'_>,
-) -> Result<Vec<Broken>, JudgeFault> {
-    if inputs.before.is_empty() {
-        return judge(alloc, permissions, inputs.message);
-    }
-    match feedback_codes(alloc, inputs.answer) {
-        Ok(codes) => judge_after(
-            alloc,
-            permissions,
-            inputs.before,
-            codes.as_slice(),
-            inputs.message,
-        ),
-        Err(_) => judge(alloc, permissions, inputs.message),
+    message: &Message<'_>,
+) -> Result<Vec<Broken>, Memory> {
+    let before = read_message(alloc, inputs.before);
+    let codes = feedback_codes(alloc, inputs.answer);
+    match (before, codes) {
+        (Ok(before), Ok(codes)) => {
+            judge_message_after(alloc, permissions, &before, codes.as_slice(), message)
+        }
+        _ => judge_message(alloc, permissions, message),
     }
 }
 
@@ -181,9 +177,7 @@ fn judged_lines(
     let Ok(message) = read_message(alloc, inputs.message) else {
         return Ok(None);
     };
-    let Ok(broken) = broken_by(alloc, bank.permissions, inputs) else {
-        return Ok(None);
-    };
+    let broken = broken_by(alloc, bank.permissions, inputs, &message)?;
     if !broken.is_empty() && is_answer(&message) {
         return Ok(Some(answer_line(alloc)?));
     }

@@ -1,19 +1,15 @@
 //! Why bytes are no message.
 use crate::forms::form_text;
-use crate::frames::{Walk, is_named, last_slip, order_slip, slip_at, unread_text, walk_from};
+use crate::frames::{next_slip, order_slip, unread_text};
 use crate::syntax::{Begin, begin_of, is_break, named, trouble, wrapped};
 use fints_cli_hints_words::places::{Told, told, written};
 use fints_cli_hints_words::quoting::Sample;
-use fints_rules_messages::JudgeFault;
+use fints_rules_messages::{Inner, Slip, Unread, read_or_slip};
 use fints_syntax::{
-    HNHBK_NUMBER, HNHBK_VERSION, HNHBS_VERSION, HNVSD_NUMBER, HNVSD_VERSION, HNVSK_NUMBER,
-    HNVSK_VERSION, Item, Memory, OwnedSegment, SegmentView, parse_number, parse_segment,
+    HNHBK_NUMBER, HNHBK_VERSION, HNVSD_NUMBER, HNVSD_VERSION, Memory, OwnedSegment, SegmentView,
+    parse_segment,
 };
 use std::alloc::Global;
-
-fn is_seal_head(view: &SegmentView<'_>) -> bool {
-    is_named(view, b"HNVSK", HNVSK_VERSION) && view.number() == HNVSK_NUMBER
-}
 
 // The number that digits spell; more than twelve spell none.
 fn size_of(text: &[u8]) -> Option<u64> {
@@ -78,7 +74,7 @@ fn head_slip(alloc: Global, segment: &OwnedSegment, bytes: &[u8]) -> Result<Stri
 fn first_slip(alloc: Global, view: &SegmentView<'_>, bytes: &[u8]) -> Result<String, Memory> {
     let name = named(view);
     let version = view.version();
-    if !is_named(view, b"HNHBK", HNHBK_VERSION) {
+    if !view.is_named(b"HNHBK", HNHBK_VERSION) {
         return written(
             alloc,
             format_args!(
@@ -105,6 +101,7 @@ fn no_segment(alloc: Global, bytes: &[u8]) -> Result<String, Memory> {
     )
 }
 
+// Why bytes begin with no HNHBK of theirs.
 fn start_text(alloc: Global, bytes: &[u8]) -> Result<String, Memory> {
     match parse_segment(bytes) {
         Ok((view, _)) => first_slip(alloc, &view, bytes),
@@ -112,8 +109,7 @@ fn start_text(alloc: Global, bytes: &[u8]) -> Result<String, Memory> {
     }
 }
 
-fn left_text(alloc: Global, bytes: &[u8], at: usize) -> Result<String, Memory> {
-    let rest = bytes.get(at..).unwrap_or(&[]);
+fn left_text(alloc: Global, rest: &[u8]) -> Result<String, Memory> {
     let count = rest.len();
     match begin_of(rest) {
         Begin::Hidden => written(
@@ -129,25 +125,20 @@ fn left_text(alloc: Global, bytes: &[u8], at: usize) -> Result<String, Memory> {
     }
 }
 
-// Why no inner segment stands behind the walk over data.
-fn inner_slip(alloc: Global, data: &[u8], walk: &Walk) -> Result<String, Memory> {
-    let rest = data.get(walk.at..).unwrap_or(&[]);
+// Why what is left of the data of HNVSD goes on with no inner segment.
+fn inner_slip(alloc: Global, rest: &[u8], inner: &Inner<'_>) -> Result<String, Memory> {
     match parse_segment(rest) {
-        Ok((view, _)) => order_slip(alloc, &view, walk),
+        Ok((view, _)) => order_slip(alloc, &view, inner),
         Err(_) => unread_text(alloc, rest, "a segment"),
     }
 }
 
 // Why the data of an HNVSD are no inner segments.
-fn data_slip(alloc: Global, data: &[u8]) -> Result<String, Memory> {
-    let walk = walk_from(data, 0);
-    let Walk {
-        at,
-        openers,
-        ends,
-        ..
-    } = walk;
-    if at >= data.len() {
+fn data_slip(alloc: Global, data: &[u8], inner: &Inner<'_>) -> Result<String, Memory> {
+    let at = inner.at;
+    let rest = data.get(at..).unwrap_or(&[]);
+    if rest.is_empty() {
+        let (openers, ends) = (inner.openers.len(), inner.ends.len());
         return written(
             alloc,
             format_args!(
@@ -155,18 +146,18 @@ fn data_slip(alloc: Global, data: &[u8]) -> Result<String, Memory> {
             ),
         );
     }
-    let text = inner_slip(alloc, data, &walk)?;
+    let text = inner_slip(alloc, rest, inner)?;
     written(
         alloc,
         format_args!("in the data of HNVSD, at offset {at} of them, {text}"),
     )
 }
 
-// Why a segment behind HNVSK is no HNVSD with inner segments.
+// Why a segment behind HNVSK is no HNVSD with data.
 fn envelope_slip(alloc: Global, view: &SegmentView<'_>) -> Result<String, Memory> {
     let name = named(view);
     let version = view.version();
-    if !is_named(view, b"HNVSD", HNVSD_VERSION) {
+    if !view.is_named(b"HNVSD", HNVSD_VERSION) {
         return written(
             alloc,
             format_args!(
@@ -177,106 +168,46 @@ fn envelope_slip(alloc: Global, view: &SegmentView<'_>) -> Result<String, Memory
     if view.number() != HNVSD_NUMBER {
         return written(alloc, format_args!("{name} must have the number 999"));
     }
-    match view.item(2, 1) {
-        Some(Item::Bin(data)) => data_slip(alloc, data),
-        _ => written(
-            alloc,
-            "element 2 of HNVSD must be a binary item: @length@ and the inner segments",
-        ),
-    }
+    written(
+        alloc,
+        "element 2 of HNVSD must be a binary item: @length@ and the inner segments",
+    )
 }
 
-// The walk over the inner segments that an envelope holds, put behind it.
-fn inner_walk(view: &SegmentView<'_>) -> Walk {
-    match view.item(2, 1) {
-        Some(Item::Bin(data)) => walk_from(data, 0),
-        _ => walk_from(&[], 0),
-    }
-}
-
-// Why the message stops behind an envelope.
-fn behind_envelope(
-    alloc: Global,
-    view: &SegmentView<'_>,
-    rest: &[u8],
-    number: u32,
-) -> Result<String, Memory> {
+fn no_envelope(alloc: Global, rest: &[u8]) -> Result<String, Memory> {
     match parse_segment(rest) {
-        Ok((last, _)) if is_named(&last, b"HNHBS", HNHBS_VERSION) => {
-            last_slip(alloc, &last, &inner_walk(view), number)
-        }
-        Ok((other, _)) => {
-            let name = named(&other);
-            written(
-                alloc,
-                format_args!("behind HNVSD must stand HNHBS version 1, and there stands {name}"),
-            )
-        }
-        Err(_) => unread_text(alloc, rest, "HNHBS"),
+        Ok((view, _)) => envelope_slip(alloc, &view),
+        Err(_) => unread_text(alloc, rest, "HNVSD"),
     }
 }
 
-// Why a sealed message stops at an offset, where its HNVSD should begin at another or this one.
-fn sealed_text(
-    alloc: Global,
-    bytes: &[u8],
-    start: usize,
-    at: usize,
-    number: u32,
-) -> Result<String, Memory> {
-    match parse_segment(bytes.get(start..).unwrap_or(&[])) {
-        Ok((view, len)) => {
-            let end = start.saturating_add(len);
-            if at == start {
-                return envelope_slip(alloc, &view);
-            }
-            if at == end {
-                return behind_envelope(alloc, &view, bytes.get(at..).unwrap_or(&[]), number);
-            }
-            left_text(alloc, bytes, at)
-        }
-        Err(_) => unread_text(alloc, bytes.get(start..).unwrap_or(&[]), "HNVSD"),
+// What doesn't stand where the bytes cease to be a message.
+fn slip_text(alloc: Global, unread: &Unread<'_>, bytes: &[u8]) -> Result<String, Memory> {
+    let rest = bytes.get(unread.offset..).unwrap_or(&[]);
+    match &unread.slip {
+        Slip::First => start_text(alloc, bytes),
+        Slip::Envelope => no_envelope(alloc, rest),
+        Slip::Inside { data, inner } => data_slip(alloc, data, inner),
+        Slip::Next { inner, number } => next_slip(alloc, rest, inner, *number),
+        Slip::End => left_text(alloc, rest),
     }
 }
 
-// Why a message stops at an offset behind its HNHBK.
-fn rest_text(
-    alloc: Global,
-    bytes: &[u8],
-    first: usize,
-    at: usize,
-    number: u32,
-) -> Result<String, Memory> {
-    let walk = walk_from(bytes, first);
-    let rest = bytes.get(walk.at..).unwrap_or(&[]);
-    match parse_segment(rest) {
-        Ok((view, len)) if walk.at == first && is_seal_head(&view) => {
-            sealed_text(alloc, bytes, first.saturating_add(len), at, number)
-        }
-        _ if at == walk.at => slip_at(alloc, rest, &walk, number),
-        _ => left_text(alloc, bytes, at),
+/// Why bytes begin with no HNHBK of theirs.
+pub fn front_hint(alloc: Global, bytes: &[u8]) -> Told {
+    match form_text(bytes) {
+        Some(text) => told(alloc, text),
+        None => Ok(Some(start_text(alloc, bytes)?)),
     }
 }
 
-fn text_at(alloc: Global, bytes: &[u8], at: usize) -> Result<String, Memory> {
-    match parse_segment(bytes) {
-        Ok((view, len)) if at != 0 => {
-            let segment = view.to_owned(alloc)?;
-            let number = parse_number(segment.value(5, 1)).unwrap_or(0);
-            rest_text(alloc, bytes, len, at, number)
-        }
-        _ => start_text(alloc, bytes),
+/// Why bytes are no message: what stands where they cease to be one. None where they are one.
+pub fn message_hint(alloc: Global, bytes: &[u8]) -> Told {
+    if let Some(text) = form_text(bytes) {
+        return told(alloc, text);
     }
-}
-
-/// Why bytes are no message: what stands where they cease to be one.
-pub fn message_hint(alloc: Global, fault: &JudgeFault, bytes: &[u8]) -> Told {
-    match fault {
-        JudgeFault::Memory => Ok(None),
-        JudgeFault::NotAMessage { offset } => match form_text(bytes) {
-            Some(text) => told(alloc, text),
-            None => Ok(Some(text_at(alloc, bytes, *offset)?)),
-        },
-        JudgeFault::NotAMessageBefore { offset: _ } => Ok(None),
+    match read_or_slip(alloc, bytes)? {
+        Ok(_) => Ok(None),
+        Err(unread) => Ok(Some(slip_text(alloc, &unread, bytes)?)),
     }
 }

@@ -23,7 +23,7 @@ broken_told b = codes "broken " ++ broken_line b
 -- the lines of the message of a number, which counts the client's from 1
 abbrev pub message_lines : ℕ → Audited → List ℕ
 message_lines n a =
-    codes "message " ++ decimal n ++ codes " size " ++ decimal (length a.message.bytes.now) ++ codes "\n"
+    codes "message " ++ decimal n ++ codes " size " ++ decimal (length a.sent.bytes.now) ++ codes "\n"
     ++ flat_map broken_told a.broken.items
 
 abbrev pub lines_from : ℕ → List Audited → List ℕ

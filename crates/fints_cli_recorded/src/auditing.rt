@@ -38,7 +38,7 @@ fn write_message(text: &mut String, number: usize, audited: &Audited<'_>) -> Res
     ensures { OnOk result (string_bytes text.new
         ≡ string_bytes text.old ++ message_lines number audited.now) }
 {
-    let size = audited.message.bytes.len();
+    let size = audited.sent.bytes.len();
     let mut digits = Buffer::new();
     text.push_str("message ")?;
     text.push_str(digits.format(number))?;

@@ -16,7 +16,7 @@ use Rattle.fints_cli_texts.specs.Fault.{answer_fault_of, fault_of, order_fault_o
 use Rattle.fints_cli_texts.specs.Judge.{IsFirstRefusal}
 use Rattle.fints_cli_texts.specs.JudgeAfter.{IsAnswerRefusal, IsRefusalOfThree}
 use Rattle.fints_rules_messages.specs.Messages.{IsMessage, MessageView}
-use Rattle.fints_rules.specs.Breaks.{IsJudgeFaultAfter}
+use Rattle.fints_rules_messages.specs.Read.{IsJudgeFault}
 
 -- what a call answers is what is read of the capture
 pub read_of : (capture : List ℕ) (r : Result Rows ParamFault) → IfOk r (IsParamsOf capture)
@@ -69,8 +69,8 @@ codes_refused answer params.NoPinParameters (inl e) = absurd (cc)
 codes_refused answer params.NoPinParameters (inr p) = p
 
 pub judged_refused : (before answer bytes numbers : List ℕ) (m : MessageView) (f : JudgeFault)
-    → IsMessage before m → IsCodesOf answer numbers → IsJudgeFaultAfter before bytes f
+    → IsMessage before m → IsCodesOf answer numbers → IsJudgeFault bytes f
     → IsRefusalOfThree before answer bytes (message_fault_of f)
 judged_refused before answer bytes numbers m message.Memory is of h = tt
-judged_refused before answer bytes numbers m (message.NotAMessage offset) is of h = (((m, is), (numbers, of)), h.1)
-judged_refused before answer bytes numbers m (message.NotAMessageBefore offset) is of h = h
+judged_refused before answer bytes numbers m (message.NotAMessage offset) is of h = (((m, is), (numbers, of)), h)
+judged_refused before answer bytes numbers m (message.NotAMessageBefore offset) is of h = absurd h

@@ -10,7 +10,7 @@ use crate::fault::{Fault, answer_fault};
 use crate::judging::verdict;
 use crate::reply::Reply;
 use fints_params::{Code, ParamFault, Params, feedback_codes};
-use fints_rules::{OrderTable, Permissions, judge_after};
+use fints_rules::{OrderTable, Permissions, judge_message_after};
 use fints_rules_messages::{JudgeFault, Message, read_message};
 use std::alloc::Global;
 
@@ -53,9 +53,10 @@ fn judge_behind(
         reply.status reply.text.items) }
     ensures refused { IfErr result (λ f. IsRefusalOfThree before.now answer.now message.now f) }
 {
-    let _earlier = read_before(alloc, before)?;
+    let earlier = read_before(alloc, before)?;
     let codes = read_answer(alloc, answer)?;
-    let broken = judge_after(alloc, permissions, before, codes.as_slice(), message)?;
+    let read = read_message(alloc, message)?;
+    let broken = judge_message_after(alloc, permissions, &earlier, codes.as_slice(), &read)?;
     let reply = verdict(alloc, broken.as_slice())?;
     Ok(reply)
 }

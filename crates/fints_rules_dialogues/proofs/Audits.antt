@@ -15,7 +15,7 @@ AreAuditedSoFar granted exchanges before left audited =
 pub one_audited : (granted : Granted) (es : List Exchange) (before : Option Exchange) (i : ℕ) (e : Exchange)
     (audited new : List Audited) (a : Audited)
     → AreAuditedSoFar granted es before (drop i es) audited → i < length es → e ≡ get_or es i e
-    → a.message ≡ e.message → IsJudgedBehind granted before e.message.bytes.now a.broken.items
+    → a.sent ≡ e.sent → IsJudgedBehind granted before e.sent.bytes.now a.broken.items
     → new ≡ audited ++ a ∷ [] → AreAuditedSoFar granted es (Some e) (drop (i + 1) es) new
 one_audited granted es before i e audited new a h lt is same judged more = λ left g.
     let next : drop i es ≡ e ∷ drop (i + 1) es = drop_more es i e lt ∙ ap (λ x. x ∷ drop (i + 1) es) (sym is) in

@@ -16,14 +16,14 @@ codes_told (Some a) = a.codes.items
 abbrev pub IsJudgedBehind : Granted → Option Exchange → List ℕ → List Broken → Type 0
 IsJudgedBehind granted None bytes broken = IsJudged granted bytes broken
 IsJudgedBehind granted (Some e) bytes broken =
-    IsJudgedAfter granted e.message.bytes.now (codes_told e.answer) bytes broken
+    IsJudgedAfter granted e.sent.bytes.now (codes_told e.answer) bytes broken
 
 -- the same of the message of each exchange, of which the first stands behind that one
 abbrev pub AreJudgedBehind : Granted → Option Exchange → List Exchange → List Audited → Type 0
 AreJudgedBehind granted before [] audited = audited ≡ []
 AreJudgedBehind granted before (e ∷ es) [] = ⊥
 AreJudgedBehind granted before (e ∷ es) (a ∷ more) =
-    (a.message ≡ e.message) × IsJudgedBehind granted before e.message.bytes.now a.broken.items
+    (a.sent ≡ e.sent) × IsJudgedBehind granted before e.sent.bytes.now a.broken.items
     × AreJudgedBehind granted (Some e) es more
 
 -- the messages of a recorded dialogue, each with the rules that it breaks

@@ -80,7 +80,7 @@ IsBankAnswer (Some a) = IsFromBank a.sent.bytes.now a.codes.items
 
 -- a message of the client, and the bank's answer to it, if there is one
 abbrev pub IsExchange : Exchange → Type 0
-IsExchange e = IsFromClient e.message.bytes.now × IsBankAnswer e.answer
+IsExchange e = IsFromClient e.sent.bytes.now × IsMessage e.sent.bytes.now e.message × IsBankAnswer e.answer
 
 -- ---- in turn
 
@@ -90,7 +90,7 @@ sent_in (Some a) = a.sent ∷ []
 
 -- the messages of an exchange
 abbrev pub sents_in : Exchange → List Sent
-sents_in e = e.message ∷ sent_in e.answer
+sents_in e = e.sent ∷ sent_in e.answer
 
 -- the messages begin with this exchange, and then there is the rest, but nothing behind one without an answer
 pub record BeginsWith (messages : List Sent) (e : Exchange) (rest : List Sent) : Type 0 where

@@ -1,22 +1,20 @@
 //! The rules that the messages of a recorded dialogue break.
-ghost use Rattle.std.specs.Prelude.{◌≡◌, IfOk, IfErr, IfSome, option_copied};
+ghost use Rattle.std.specs.Prelude.{◌≡◌, IfOk, IfSome, option_copied};
 ghost use Rattle.std.specs.List.{AllByRecursion};
-ghost use Rattle.fints_rules_messages.specs.declared.message.JudgeFault.TheVariants as fault;
-ghost use Rattle.fints_rules_dialogues.specs.Dialogues.{IsExchange, IsFromClient};
+ghost use Rattle.fints_rules_dialogues.specs.Dialogues.{IsExchange};
 ghost use Rattle.fints_rules_dialogues.specs.Auditing.{codes_told, IsJudgedBehind, AreAudited};
 
 use crate::cutting::Sent;
 use crate::reading::Exchange;
 use fints_params::Code;
-use fints_rules::{Broken, Permissions, judge, judge_after};
-use fints_rules_messages::JudgeFault;
+use fints_rules::{Broken, Permissions, judge_message, judge_message_after};
 use fints_syntax::Memory;
 use std::alloc::Global;
 
 /// A message of the client, and the rules that it breaks, in order of rule, then of segment.
 #[derive(Drop)]
 pub struct Audited<'a> {
-    pub message: Sent<'a>,
+    pub sent: Sent<'a>,
     pub broken: Vec<Broken>,
 }
 
@@ -30,35 +28,24 @@ fn codes_told<'e>(exchange: &'e Exchange<'_>) -> &'e [Code]
     }
 }
 
-// What was judged of good messages, of which only want of memory is refused.
-fn judged(found: Result<Vec<Broken>, JudgeFault>) -> Result<Vec<Broken>, Memory>
-    requires { IfErr found (λ f. f ≡ fault.Memory) }
-    ensures { IfOk result (λ broken. found ≡ Ok broken) }
-{
-    match found {
-        Ok(broken) => Ok(broken),
-        Err(JudgeFault::Memory) => Err(Memory),
-        Err(_) => unreachable!(),
-    }
-}
-
-// The rules that a message breaks behind the exchange before it.
+// The rules that the message of an exchange breaks behind the exchange before it.
 fn judge_behind(
     alloc: Global,
     permissions: &Permissions<'_>,
     before: Option<&Exchange<'_>>,
-    message: &[u8],
+    exchange: &Exchange<'_>,
 ) -> Result<Vec<Broken>, Memory>
     requires before { IfSome before (λ e. IsExchange e.now) }
-    requires message { IsFromClient message.now }
-    ensures { IfOk result (λ broken.
-        IsJudgedBehind permissions.now (option_copied before.entry) message.now broken.items) }
+    requires exchange { IsExchange exchange.now }
+    ensures { IfOk result (λ broken. IsJudgedBehind permissions.now (option_copied before.entry)
+        exchange.now.sent.bytes.now broken.items) }
 {
+    let message = &exchange.message;
     match before {
-        None => judged(judge(alloc, permissions, message)),
+        None => judge_message(alloc, permissions, message),
         Some(earlier) => {
             let codes = codes_told(earlier);
-            judged(judge_after(alloc, permissions, earlier.message.bytes, codes, message))
+            judge_message_after(alloc, permissions, &earlier.message, codes, message)
         }
     }
 }
@@ -76,9 +63,9 @@ pub fn audit<'a>(
     let mut audited = Vec::new(alloc);
     let mut before: Option<&Exchange<'a>> = None;
     for exchange in exchanges {
-        let message = exchange.message;
-        let broken = judge_behind(alloc, permissions, before, message.bytes)?;
-        audited.push(Audited { message, broken })?;
+        let broken = judge_behind(alloc, permissions, before, exchange)?;
+        let sent = exchange.sent;
+        audited.push(Audited { sent, broken })?;
         before = Some(exchange);
     }
     Ok(audited)

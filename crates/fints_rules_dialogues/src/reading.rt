@@ -20,10 +20,12 @@ pub struct Answer<'a> {
     pub codes: Vec<Code>,
 }
 
-/// A message of the client and the bank's answer to it. Only the last message may have none.
+/// A message of the client, as it was sent and as it is read, and the bank's answer to it. Only the last
+/// message may have none.
 #[derive(Drop)]
 pub struct Exchange<'a> {
-    pub message: Sent<'a>,
+    pub sent: Sent<'a>,
+    pub message: Message<'a>,
     pub answer: Option<Answer<'a>>,
 }
 
@@ -45,10 +47,11 @@ fn has_hirmg(message: &Message<'_>) -> bool
     some_hirmg(message.body())
 }
 
-// Whether the message is one of the client.
-fn check_client(alloc: Global, sent: &Sent<'_>) -> Result<(), DialogueFault>
+// The message of the client that the sent one is.
+fn read_client<'a>(alloc: Global, sent: &Sent<'a>) -> Result<Message<'a>, DialogueFault>
     requires { sent.now.start + length sent.now.bytes.now < 2 ^ 64 }
-    ensures fine { IfOk result (λ _. IsFromClient sent.now.bytes.now) }
+    ensures message { IfOk result (λ m. IsMessage sent.now.bytes.now m) }
+    ensures client { IfOk result (λ _. IsFromClient sent.now.bytes.now) }
     ensures refused { IfErr result (λ f. IsMemoryOrRefusal (IsClientFault sent.now) f) }
 {
     let offset = sent.start;
@@ -57,7 +60,7 @@ fn check_client(alloc: Global, sent: &Sent<'_>) -> Result<(), DialogueFault>
             if has_hirmg(&message) {
                 return Err(DialogueFault::NotInTurn { offset });
             }
-            Ok(())
+            Ok(message)
         }
         Err(fault) => match fault {
             JudgeFault::NotAMessage { offset: at } => Err(DialogueFault::NotAMessage {
@@ -98,16 +101,18 @@ fn read_exchange<'a>(alloc: Global, messages: &[Sent<'a>]) -> Result<Exchange<'a
     ensures exchange { IfOk result (λ e. BeginsWithOne messages.now e) }
     ensures refused { IfErr result (λ f. IsMemoryOrRefusal (IsExchangeFault messages.now) f) }
 {
-    let message = messages[0];
-    check_client(alloc, &message)?;
+    let sent = messages[0];
+    let message = read_client(alloc, &sent)?;
     if messages.len() == 1 {
         return Ok(Exchange {
+            sent,
             message,
             answer: None,
         });
     }
     let answer = read_answer(alloc, &messages[1])?;
     Ok(Exchange {
+        sent,
         message,
         answer: Some(answer),
     })

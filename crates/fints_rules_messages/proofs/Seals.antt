@@ -367,12 +367,12 @@ stop_other law rest n m k number body ends t u v h o g not_end = stop_envelope l
 pub closed_rest : OneSegmentText
     → (rest : List ℕ) (n m number : ℕ) (i : Inner) (t u : List (List Spelled)) (r : Tail)
     → IsNumber number → IsNextSegment rest t n
-    → IsOpened (segment_of t) i.openers (segments_of i.body.items) (segments_of i.ends.items)
+    → IsOpened (segment_of t) (length i.openers.items) (segments_of i.body.items) (segments_of i.ends.items)
     → IsNextSegment (drop n rest) u m → ClosesAs number (segment_of u) i n m (length rest) r
     → TailIs (IsSealedRest number) rest r
-closed_rest law rest n m number i t u (Whole body ends) v h o g (end, le, b, e) =
-    rw (b, e) (whole_rest rest n m i.openers number i.body.items i.ends.items t u h o g end le)
-closed_rest law rest n m number i t u (Stop _) v h o g (inl (at, not_end)) =
-    rw at (stop_other law rest n m i.openers number i.body.items i.ends.items t u v h o g not_end)
-closed_rest law rest n m number i t u (Stop _) v h o g (inr (at, end, lt)) =
-    rw at (stop_last law rest n m i.openers number i.body.items i.ends.items t u h o g end lt)
+closed_rest law rest n m number i t u (Whole _) v h o g (end, le, b, e) =
+    rw (b, e) (whole_rest rest n m (length i.openers.items) number i.body.items i.ends.items t u h o g end le)
+closed_rest law rest n m number i t u (Stop _ _) v h o g (inl (at, not_end)) =
+    rw at (stop_other law rest n m (length i.openers.items) number i.body.items i.ends.items t u v h o g not_end)
+closed_rest law rest n m number i t u (Stop _ _) v h o g (inr (at, end, lt)) =
+    rw at (stop_last law rest n m (length i.openers.items) number i.body.items i.ends.items t u h o g end lt)

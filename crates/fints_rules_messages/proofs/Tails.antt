@@ -157,13 +157,14 @@ whole tail at k n number body ends t f is_next is_end le = record {
 -- ---- as the code meets it
 
 pub closed : (tail : List ℕ) (number n : ℕ) (i : Inner) (t : List (List Spelled)) (r : Tail) → IsNumber number
-    → IsFront tail i.at i.openers i.body.items i.ends.items → IsNextSegment (drop i.at tail) t n
-    → NoneStands (drop i.at tail) i.openers (length i.body.items) (length i.ends.items)
+    → IsFront tail i.at (length i.openers.items) i.body.items i.ends.items
+    → IsNextSegment (drop i.at tail) t n
+    → NoneStands (drop i.at tail) (length i.openers.items) (length i.body.items) (length i.ends.items)
     → (i.at ≡ 0 → IsSealHead (segment_of t) → ⊥)
     → ClosesAs number (segment_of t) i i.at n (length tail) r → TailIs (IsTail number) tail r
-closed tail number n i t (Whole body ends) v f is_next none not_seal_head (is_end, le, b, e) =
-    rw (b, e) (whole tail i.at i.openers n number i.body.items i.ends.items t f is_next is_end le)
-closed tail number n i t (Stop _) v f is_next none not_seal_head (inl (at, not_end)) =
-    rw at (stop_here tail i.at i.openers n number i.body.items i.ends.items t v f is_next none not_seal_head not_end)
-closed tail number n i t (Stop _) v f is_next none not_seal_head (inr (at, is_end, lt)) =
-    rw at (stop_after tail i.at i.openers n number i.body.items i.ends.items t v f is_next is_end lt)
+closed tail number n i t (Whole _) v f is_next none not_seal_head (is_end, le, b, e) =
+    rw (b, e) (whole tail i.at (length i.openers.items) n number i.body.items i.ends.items t f is_next is_end le)
+closed tail number n i t (Stop _ _) v f is_next none not_seal_head (inl (at, not_end)) =
+    rw at (stop_here tail i.at (length i.openers.items) n number i.body.items i.ends.items t v f is_next none not_seal_head not_end)
+closed tail number n i t (Stop _ _) v f is_next none not_seal_head (inr (at, is_end, lt)) =
+    rw at (stop_after tail i.at (length i.openers.items) n number i.body.items i.ends.items t v f is_next is_end lt)

@@ -1,5 +1,5 @@
 -- What a look at the segments between HNHBK and HNHBS finds. Private contracts alone cite these words.
-use Rattle.std.specs.Prelude.{◌≡◌, ◌⊎◌, ℕ, ◌+◌, ◌<◌, ◌≤◌, List, [], ◌∷◌, ◌++◌, length, drop, Option, Some, None}
+use Rattle.std.specs.Prelude.{◌≡◌, ◌⊎◌, ℕ, ◌+◌, ◌<◌, ◌≤◌, List, [], ◌∷◌, ◌++◌, length, drop, Some, Result, Ok, Err}
 use Rattle.std.specs.List.{AllByRecursion}
 use Rattle.fints_syntax_segments.specs.Spelling.{Spelled}
 use Rattle.fints_syntax_segments.specs.Segment.{segment_bytes, IsSegment}
@@ -10,6 +10,7 @@ use Rattle.fints_rules_messages.specs.Segments.{texts_of}
 use Rattle.fints_rules_messages.specs.Parts.{part_of}
 use Rattle.fints_rules_messages.specs.Messages.{IsNumbered, IsInner, IsEnvelope, IsSealHead, IsLast, Stops}
 use Rattle.fints_rules_messages.specs.declared.front.Inner.{Inner}
+use Rattle.fints_rules_messages.specs.declared.slip.Slip.{Slip}
 use Rattle.fints_rules_messages.specs.declared.tail.Tail.{Tail}
 use Rattle.fints_rules_messages.specs.declared.tail.Tail.TheVariants.{Whole, Stop}
 use Rattle.fints_rules_messages.specs.declared.part.Part.{Part}
@@ -67,10 +68,10 @@ NoneStands bytes openers body ends =
 
 -- the same behind these inner segments
 abbrev pub CanStandBehind : Inner → OwnedSegment → Type 0
-CanStandBehind inner s = CanStand s inner.openers (length inner.body.items) (length inner.ends.items)
+CanStandBehind inner s = CanStand s (length inner.openers.items) (length inner.body.items) (length inner.ends.items)
 
 abbrev pub NoneStandsBehind : Inner → List ℕ → Type 0
-NoneStandsBehind inner bytes = NoneStands bytes inner.openers (length inner.body.items) (length inner.ends.items)
+NoneStandsBehind inner bytes = NoneStands bytes (length inner.openers.items) (length inner.body.items) (length inner.ends.items)
 
 -- a form: which segments are one, with this body and these HNSHA
 abbrev pub Form : Type 1
@@ -107,8 +108,8 @@ pub record IsNumber (number : ℕ) : Type 0 where
   pub is : number_of value ≡ Some number
 
 abbrev pub TailIs : Form → List ℕ → Tail → Type 0
-TailIs form bytes (Whole body ends) = IsReadBy form bytes body.items ends.items
-TailIs form bytes (Stop at) = Stops (BeginsBy form) (IsWholeBy form) bytes at
+TailIs form bytes (Whole i) = IsReadBy form bytes i.body.items i.ends.items
+TailIs form bytes (Stop at slip) = Stops (BeginsBy form) (IsWholeBy form) bytes at
 
 -- HNHBS stands there, and the HNSHA are all there
 pub record IsEndOf (number : ℕ) (s : OwnedSegment) (openers body ends : ℕ) : Type 0 where
@@ -118,15 +119,15 @@ pub record IsEndOf (number : ℕ) (s : OwnedSegment) (openers body ends : ℕ) :
 
 -- the same behind these inner segments
 abbrev pub IsEndBehind : ℕ → OwnedSegment → Inner → Type 0
-IsEndBehind number s inner = IsEndOf number s inner.openers (length inner.body.items) (length inner.ends.items)
+IsEndBehind number s inner = IsEndOf number s (length inner.openers.items) (length inner.body.items) (length inner.ends.items)
 
 -- how bytes close where this segment, of so many bytes, stands at a place in them behind the inner segments: they
 -- stop at it where it isn't HNHBS, and behind it where more bytes follow
 abbrev pub ClosesAs : ℕ → OwnedSegment → Inner → ℕ → ℕ → ℕ → Tail → Type 0
-ClosesAs number s inner at len size (Whole body ends) =
-    IsEndBehind number s inner × (size ≤ at + len) × (body.items ≡ inner.body.items)
-    × (ends.items ≡ inner.ends.items)
-ClosesAs number s inner at len size (Stop stop) =
+ClosesAs number s inner at len size (Whole i) =
+    IsEndBehind number s inner × (size ≤ at + len) × (i.body.items ≡ inner.body.items)
+    × (i.ends.items ≡ inner.ends.items)
+ClosesAs number s inner at len size (Stop stop slip) =
     ((stop ≡ at) × (IsEndBehind number s inner → ⊥))
     ⊎ ((stop ≡ at + len) × IsEndBehind number s inner × (at + len < size))
 
@@ -145,13 +146,13 @@ pub record IsOpened (s : OwnedSegment) (openers : ℕ) (body ends : List OwnedSe
   pub count : length inner ≡ openers + (length body + length ends)
   pub as_many : length ends ≡ openers
 
-abbrev pub EnvelopeIs : Option Inner → OwnedSegment → Type 0
-EnvelopeIs None s =
+abbrev pub EnvelopeIs : Result Inner Slip → OwnedSegment → Type 0
+EnvelopeIs (Err slip) s =
     (inner body ends : List OwnedSegment) → IsEnvelope inner s → IsInner inner body ends → IsNumbered 2 inner
     → ⊥
-EnvelopeIs (Some i) s = IsOpened s i.openers (segments_of i.body.items) (segments_of i.ends.items)
+EnvelopeIs (Ok i) s = IsOpened s (length i.openers.items) (segments_of i.body.items) (segments_of i.ends.items)
 
 -- a stop within the bytes
 abbrev pub StopsWithin : Tail → ℕ → Type 0
-StopsWithin (Whole body ends) n = Unit {0}
-StopsWithin (Stop at) n = at ≤ n
+StopsWithin (Whole i) n = Unit {0}
+StopsWithin (Stop at slip) n = at ≤ n

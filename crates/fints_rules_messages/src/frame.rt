@@ -5,7 +5,7 @@ ghost use Rattle.fints_rules_messages.specs.Messages.{IsLast, IsSealHead};
 ghost use Rattle.fints_rules_messages.specs.Front.{IsEndBehind, ClosesAs};
 
 use crate::front::Inner;
-use crate::part::is_named;
+use crate::slip::Slip;
 use crate::tail::Tail;
 use crate::values::number_at;
 use fints_syntax::SegmentView;
@@ -15,7 +15,7 @@ use fints_syntax_segments::{HNHBS_VERSION, HNVSK_NUMBER, HNVSK_VERSION};
 pub fn is_last(view: &SegmentView<'_>, number: u64) -> bool
     ensures { IsTrue result ↔ IsLast number (segment_of view.now) }
 {
-    if !is_named(view, b"HNHBS", HNHBS_VERSION) {
+    if !view.is_named(b"HNHBS", HNHBS_VERSION) {
         return false;
     }
     match number_at(view, 2, 1, 1, 9) {
@@ -28,7 +28,7 @@ pub fn is_last(view: &SegmentView<'_>, number: u64) -> bool
 pub fn is_seal_head(view: &SegmentView<'_>) -> bool
     ensures { IsTrue result ↔ IsSealHead (segment_of view.now) }
 {
-    is_named(view, b"HNVSK", HNVSK_VERSION) && view.number() == HNVSK_NUMBER
+    view.is_named(b"HNVSK", HNVSK_VERSION) && view.number() == HNVSK_NUMBER
 }
 
 // Whether it is HNHBS behind the inner segments.
@@ -38,11 +38,10 @@ fn is_end(view: &SegmentView<'_>, number: u64, inner: &Inner<'_>) -> bool
     if !is_last(view, number) {
         return false;
     }
-    let (openers, ends) = (inner.openers, inner.ends.len());
-    if usize::from(view.number()) != 2 + (openers + (inner.body.len() + ends)) {
+    if usize::from(view.number()) != inner.next_number() {
         return false;
     }
-    ends == openers
+    inner.ends.len() == inner.openers.len()
 }
 
 /// What closes the bytes of a message: the segment of `len` bytes at this offset, behind the inner segments.
@@ -58,10 +57,10 @@ pub fn close<'a>(
     ensures { ClosesAs number (segment_of last.now) inner.entry at len (length bytes.now) result }
 {
     if !is_end(last, number, &inner) {
-        return Tail::Stop(at);
+        return Tail::Stop(at, Slip::Next { inner, number });
     }
     if at + len < bytes.len() {
-        return Tail::Stop(at + len);
+        return Tail::Stop(at + len, Slip::End);
     }
-    Tail::Whole(inner.body, inner.ends)
+    Tail::Whole(inner)
 }

@@ -3,7 +3,7 @@ ghost use Rattle.std.specs.Prelude.{◌↔◌, ◌^◌, ◌<◌, ◌≤◌, IsTr
 ghost use Rattle.fints_syntax.specs.Owned.{segment_of};
 ghost use Rattle.fints_rules_messages.specs.Front.{IsNextSegment, HasNoNext, IsFront, CanStandBehind, NoneStandsBehind};
 
-use crate::front::Inner;
+use crate::front::{Inner, Seal};
 use crate::part::{Part, part_of};
 use fints_syntax::{SegmentView, parse_segment};
 use std::alloc::{AllocError, Global};
@@ -24,10 +24,10 @@ pub fn can_stand(view: &SegmentView<'_>, inner: &Inner<'_>) -> bool
     ensures few { IsTrue result → (segment_of view.now).head.number < 2 ^ 16 }
     ensures stands { IsTrue result ↔ CanStandBehind inner.now (segment_of view.now) }
 {
-    let (openers, body, ends) = (inner.openers, inner.body.len(), inner.ends.len());
-    if usize::from(view.number()) != 2 + (openers + (body + ends)) {
+    if usize::from(view.number()) != inner.next_number() {
         return false;
     }
+    let (openers, body, ends) = (inner.openers.len(), inner.body.len(), inner.ends.len());
     match part_of(view) {
         Part::Opener => body == 0 && ends == 0,
         Part::Body => ends == 0,
@@ -49,17 +49,24 @@ fn next_inner<'b>(bytes: &'b [u8], inner: &Inner<'_>) -> Option<(SegmentView<'b>
     }
 }
 
-/// Reads segments as long as they can stand between the first and the last of a message.
-pub fn read_inner<'a>(alloc: Global, bytes: &'a [u8]) -> Result<Inner<'a>, AllocError>
-    ensures front { IfOk result (λ r. IsFront bytes.now r.at r.openers r.body.items r.ends.items) }
+/// Reads segments as long as they can stand between the first and the last of a message, in the data of
+/// a seal or as they are.
+pub fn read_inner<'a>(
+    alloc: Global,
+    bytes: &'a [u8],
+    seal: Option<Seal<'a>>,
+) -> Result<Inner<'a>, AllocError>
+    ensures front { IfOk result
+        (λ r. IsFront bytes.now r.at (length r.openers.items) r.body.items r.ends.items) }
     ensures within { IfOk result (λ r. r.at ≤ length bytes.now) }
     ensures stopped { IfOk result (λ r. NoneStandsBehind r (drop r.at bytes.now)) }
 {
     let mut inner = Inner {
         at: 0,
-        openers: 0,
+        openers: Vec::new(alloc),
         body: Vec::new(alloc),
         ends: Vec::new(alloc),
+        seal,
     };
     loop {
         let (_, rest) = bytes.split_at(inner.at);
@@ -68,7 +75,7 @@ pub fn read_inner<'a>(alloc: Global, bytes: &'a [u8]) -> Result<Inner<'a>, Alloc
         };
         inner.at += len;
         match part_of(&view) {
-            Part::Opener => inner.openers += 1,
+            Part::Opener => inner.openers.push(view)?,
             Part::Ender => inner.ends.push(view)?,
             _ => inner.body.push(view)?,
         }

@@ -9,7 +9,11 @@ mod message;
 mod part;
 mod plain;
 mod sealed;
+mod slip;
 mod tail;
 mod values;
 
-pub use message::{JudgeFault, Message, read_message};
+pub use front::{Inner, Seal};
+pub use message::{JudgeFault, Message, read_message, read_or_slip};
+pub use part::{Part, part_of};
+pub use slip::{Slip, Unread};

@@ -1,13 +1,14 @@
 //! Messages, as they are read.
-ghost use Rattle.std.specs.Prelude.{◌≡◌, ◌<◌, ℕ, Option, Some, IfOk, IfErr, IfSome, IfNone};
+ghost use Rattle.std.specs.Prelude.{◌≡◌, ◌+◌, ◌<◌, ℕ, length, Option, Some, IfOk, IfErr, IfSome, IfNone};
 ghost use Rattle.fints_syntax.specs.Owned.{segment_of, segments_of};
-ghost use Rattle.fints_rules_messages.specs.Messages.{MessageView, IsMessage, IsFirst};
+ghost use Rattle.fints_rules_messages.specs.Messages.{MessageView, IsMessage, IsFirst, IsNumbered, CeasesAt};
 ghost use Rattle.fints_rules_messages.specs.Read.{IsJudgeFault};
 ghost use Rattle.fints_rules_messages.specs.declared.message.JudgeFault.TheVariants as fault;
 
+use crate::front::{Inner, Seal};
 use crate::inner::next_segment;
-use crate::part::is_named;
 use crate::plain::read_tail;
+use crate::slip::{Slip, Unread};
 use crate::tail::Tail;
 use crate::values::number_at;
 use fints_syntax::{Memory, SegmentView};
@@ -22,13 +23,14 @@ pub struct Message<'a> {
     size: usize,
     protocol: Option<u64>,
     number: u64,
-    body: Vec<SegmentView<'a>>,
-    ends: Vec<SegmentView<'a>>,
+    first: SegmentView<'a>,
+    inner: Inner<'a>,
 }
 
 impl<'a> Model for Message<'a> {
-    ghost use Rattle.fints_syntax.specs.Owned.{segments_of};
-    ghost use Rattle.fints_rules_messages.specs.Messages.{MessageView};
+    ghost use Rattle.std.specs.Prelude.{◌+◌, length};
+    ghost use Rattle.fints_syntax.specs.Owned.{segment_of, segments_of};
+    ghost use Rattle.fints_rules_messages.specs.Messages.{MessageView, IsFirst, IsNumbered};
 
     ghost Value = { MessageView };
 
@@ -36,9 +38,12 @@ impl<'a> Model for Message<'a> {
       size = m.size;
       protocol = m.protocol;
       number = m.number;
-      body = segments_of m.body.items;
-      ends = segments_of m.ends.items;
+      body = segments_of m.inner.body.items;
+      ends = segments_of m.inner.ends.items;
     } };
+
+    ghost invariant = { λ m. IsFirst m.size m.number (segment_of m.first)
+        × IsNumbered (2 + length (segments_of m.inner.ends.items)) (segments_of m.inner.body.items) };
 }
 
 impl<'a> Message<'a> {
@@ -63,18 +68,36 @@ impl<'a> Message<'a> {
         self.number
     }
 
-    /// The segments of the body, in order.
-    pub fn body(&self) -> &[SegmentView<'a>]
-        ensures { segments_of result.now ≡ self.now.body }
+    /// HNHBK.
+    pub fn first(&self) -> &SegmentView<'a>
+        ensures { IsFirst self.now.size self.now.number (segment_of result.now) }
     {
-        self.body.as_slice()
+        &self.first
+    }
+
+    /// What the segments between HNHBK and HNHBS stand in, where they are sealed.
+    pub fn seal(&self) -> Option<&Seal<'a>> {
+        self.inner.seal.as_ref()
+    }
+
+    /// The HNSHK.
+    pub fn openers(&self) -> &[SegmentView<'a>] {
+        self.inner.openers.as_slice()
+    }
+
+    /// The segments of the body, in order; they are numbered on from the one behind the HNSHK.
+    pub fn body(&self) -> &[SegmentView<'a>]
+        ensures segments { segments_of result.now ≡ self.now.body }
+        ensures numbered { IsNumbered (2 + length self.now.ends) self.now.body }
+    {
+        self.inner.body.as_slice()
     }
 
     /// The HNSHA, one for each signature.
     pub fn ends(&self) -> &[SegmentView<'a>]
         ensures { segments_of result.now ≡ self.now.ends }
     {
-        self.ends.as_slice()
+        self.inner.ends.as_slice()
     }
 }
 
@@ -117,7 +140,7 @@ fn read_first(view: &SegmentView<'_>, size: usize) -> Option<u64>
     ensures some { IfSome result (λ n. IsFirst size n (segment_of view.now)) }
     ensures none { IfNone result ((n : ℕ) → IsFirst size n (segment_of view.now) → ⊥) }
 {
-    if !is_named(view, b"HNHBK", HNHBK_VERSION) {
+    if !view.is_named(b"HNHBK", HNHBK_VERSION) {
         return None;
     }
     if view.number() != HNHBK_NUMBER {
@@ -132,30 +155,55 @@ fn read_first(view: &SegmentView<'_>, size: usize) -> Option<u64>
     number_at(view, 5, 1, 1, 9)
 }
 
+/// The message that the bytes are, or where they cease to be one and what of it doesn't stand there.
+pub fn read_or_slip(
+    alloc: Global,
+    bytes: &[u8],
+) -> Result<Result<Message<'_>, Unread<'_>>, AllocError>
+    ensures message { IfOk result (λ r. IfOk r (λ m. IsMessage bytes.now m)) }
+    ensures refusal { IfOk result (λ r. IfErr r (λ u. CeasesAt bytes.now u.offset)) }
+{
+    let Some((first, len)) = next_segment(bytes) else {
+        return Ok(Err(Unread {
+            offset: 0,
+            slip: Slip::First,
+        }));
+    };
+    let Some(number) = read_first(&first, bytes.len()) else {
+        return Ok(Err(Unread {
+            offset: 0,
+            slip: Slip::First,
+        }));
+    };
+    let (_, rest) = bytes.split_at(len);
+    match read_tail(alloc, rest, number)? {
+        Tail::Stop(at, slip) => Ok(Err(Unread {
+            offset: len + at,
+            slip,
+        })),
+        Tail::Whole(inner) => {
+            let protocol = number_at(&first, 3, 1, 1, 9);
+            Ok(Ok(Message {
+                size: bytes.len(),
+                protocol,
+                number,
+                first,
+                inner,
+            }))
+        }
+    }
+}
+
 /// The message that the bytes are.
 pub fn read_message(alloc: Global, bytes: &[u8]) -> Result<Message<'_>, JudgeFault>
     ensures message { IfOk result (λ m. IsMessage bytes.now m) }
     ensures refusal { IfErr result (λ f. IsJudgeFault bytes.now f) }
     ensures memory_alone { (m : MessageView) → IsMessage bytes.now m → IfErr result (λ f. f ≡ fault.Memory) }
 {
-    let Some((first, len)) = next_segment(bytes) else {
-        return Err(JudgeFault::NotAMessage { offset: 0 });
-    };
-    let Some(number) = read_first(&first, bytes.len()) else {
-        return Err(JudgeFault::NotAMessage { offset: 0 });
-    };
-    let (_, rest) = bytes.split_at(len);
-    match read_tail(alloc, rest, number)? {
-        Tail::Stop(at) => Err(JudgeFault::NotAMessage { offset: len + at }),
-        Tail::Whole(body, ends) => {
-            let protocol = number_at(&first, 3, 1, 1, 9);
-            Ok(Message {
-                size: bytes.len(),
-                protocol,
-                number,
-                body,
-                ends,
-            })
-        }
+    match read_or_slip(alloc, bytes)? {
+        Ok(message) => Ok(message),
+        Err(unread) => Err(JudgeFault::NotAMessage {
+            offset: unread.offset,
+        }),
     }
 }

@@ -22,21 +22,13 @@ pub enum Part {
     Other,
 }
 
-/// Whether the segment has this kind and version.
-pub fn is_named(view: &SegmentView<'_>, kind: &[u8], version: u16) -> bool
-    ensures { result ≡ is_named (segment_of view.now) kind.now version }
-{
-    let head = view.head();
-    head.id.is(kind) && head.version == version
-}
-
 /// What the segment is.
 pub fn part_of(view: &SegmentView<'_>) -> Part
     ensures { result ≡ part_of (segment_of view.now) }
 {
-    if is_named(view, b"HNSHK", HNSHK_VERSION) {
+    if view.is_named(b"HNSHK", HNSHK_VERSION) {
         Part::Opener
-    } else if is_named(view, b"HNSHA", HNSHA_VERSION) {
+    } else if view.is_named(b"HNSHA", HNSHA_VERSION) {
         Part::Ender
     } else if is_frame_kind(view.id().as_bytes()) {
         Part::Other

@@ -17,7 +17,7 @@ fn audited(rt: HostRuntime) -> Result<(), Fail> {
     let audited = audit(rt.alloc(), &permissions, exchanges.as_slice())?;
     assert!(rt; audited.len() == 1);
     for one in audited.iter() {
-        assert!(rt; (one.message.start, one.message.bytes.len()) == (0, 55));
+        assert!(rt; (one.sent.start, one.sent.bytes.len()) == (0, 55));
         assert!(rt; one.broken.is_empty());
     }
     Ok(())

@@ -13,7 +13,9 @@ returns-clause-judged c = record {
       (λ (numbers : List ℕ).
       IsJudgedAfter c.args.permissions.now c.args.before.now numbers c.args.message.now
       c.in_ok-broken.broken.items)
-      c.as_slice.ensures.value c.in_ok-broken.ensures.judged;
+      c.as_slice.ensures.value
+      (c.in_ok-broken.ensures c.args.before.now c.args.message.now c.in_ok-earlier.ensures.message
+      c.in_ok-read.ensures.message);
   text_is = c.in_ok-reply.ensures.text ∙ ap verdict_text c.as_slice-2.ensures.value;
   status_is = c.in_ok-reply.ensures.status ∙ ap verdict_status c.as_slice-2.ensures.value;
 }

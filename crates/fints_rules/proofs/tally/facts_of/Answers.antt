@@ -12,13 +12,13 @@ returns c =
     let ends = c.ends-ends.result.now in
     let signatures = length_in ends m.ends c.ends-ends.ensures in
     let submits =
-    c.some_has_tan_process.ensures ∙ any_in (has_tan_process (codes "4")) body m.body c.body-body.ensures in
+    c.some_has_tan_process.ensures ∙ any_in (has_tan_process (codes "4")) body m.body c.body-body.ensures.segments in
     let sends =
-    c.some_has_tan_process-2.ensures ∙ any_in (has_tan_process (codes "2")) body m.body c.body-body.ensures in
-    let end = c.some_ends.ensures ∙ any_in ends_dialogue body m.body c.body-body.ensures in
+    c.some_has_tan_process-2.ensures ∙ any_in (has_tan_process (codes "2")) body m.body c.body-body.ensures.segments in
+    let end = c.some_ends.ensures ∙ any_in ends_dialogue body m.body c.body-body.ensures.segments in
     let tan = c.some_has_tan.ensures ∙ any_in has_tan ends m.ends c.ends-ends.ensures in
     let order =
-    c.some_tan_order.ensures ∙ any_in (λ s. is_tan_order s.head.id) body m.body c.body-body.ensures in
+    c.some_tan_order.ensures ∙ any_in (λ s. is_tan_order s.head.id) body m.body c.body-body.ensures.segments in
     let demanding =
-    c.count_demanding.ensures ∙ ap (demanding_of c.args.permissions.now.rows.pins) c.body-body.ensures in
+    c.count_demanding.ensures ∙ ap (demanding_of c.args.permissions.now.rows.pins) c.body-body.ensures.segments in
     cc

@@ -1,10 +1,25 @@
+use Rattle.std.proofs.Common.{ℕ, List, subst}
+use Rattle.std.proofs.lemmas.Result.{IfOk-weaker}
+use Rattle.fints_rules.specs.Breaks.{IsJudgedAfter}
 use Rattle.fints_rules_dialogues.specs.Dialogues.{IsExchange}
 use Rattle.fints_rules_dialogues.proofs.auditing.judge_behind.Goals as goal
 
-pub judged-requires : goal.judged-requires
-judged-requires c = c.judge.ensures.memory_alone c.requires.message.0 c.requires.message.1
+pub returns-in-None : goal.returns-in-None
+returns-in-None c =
+    rw c.in-None.is
+    (IfOk-weaker c.judge_message.result _ _
+    (λ broken judged. judged c.args.exchange.now.sent.bytes.now c.requires.exchange.1)
+    c.judge_message.ensures)
 
-pub judged-requires-in-Some : goal.judged-requires-in-Some
-judged-requires-in-Some c =
+pub returns-in-Some : goal.returns-in-Some
+returns-in-Some c =
+    let granted = c.args.permissions.now in
+    let before = c.in-Some.earlier.now.sent.bytes.now in
+    let bytes = c.args.exchange.now.sent.bytes.now in
     let earlier : IsExchange c.in-Some.earlier.now = rw c.in-Some.is at c.requires.before in
-    c.judge_after.ensures.memory_alone earlier.0.0 c.requires.message.0 earlier.0.1 c.requires.message.1
+    rw c.in-Some.is
+    (IfOk-weaker c.judge_message_after.result _ _
+    (λ broken judged.
+    subst (λ (codes : List ℕ). IsJudgedAfter granted before codes bytes broken.items)
+    c.codes_told-codes.ensures (judged before bytes earlier.1 c.requires.exchange.1))
+    c.judge_message_after.ensures)

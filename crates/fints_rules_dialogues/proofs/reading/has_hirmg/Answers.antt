@@ -4,4 +4,4 @@ use Rattle.fints_rules_dialogues.specs.Dialogues.{is_hirmg}
 use Rattle.fints_rules_dialogues.proofs.reading.has_hirmg.Goals as goal
 
 pub returns : goal.returns
-returns c = c.some_hirmg.ensures ∙ any_in is_hirmg c.body.result.now c.args.message.now.body c.body.ensures
+returns c = c.some_hirmg.ensures ∙ any_in is_hirmg c.body.result.now c.args.message.now.body c.body.ensures.segments

@@ -1,45 +1,11 @@
-use Rattle.std.proofs.Common.{subst}
-use Rattle.fints_rules_messages.specs.Messages.{IsTail, Stops}
-use Rattle.fints_rules_messages.specs.Front.{BeginsBy, IsWholeBy, IsReadBy, TailIs}
-use Rattle.fints_rules_messages.proofs.Wholes.{refused_first, refused_head, refused_tail, is_message}
+use Rattle.std.proofs.Common.{subst, IfErr}
+use Rattle.fints_rules_messages.specs.Messages.{CeasesAt}
 use Rattle.fints_rules_messages.proofs.OneStop.{no_stop}
 use Rattle.fints_syntax.proofs.LawLemmas.{one_segment_text}
 use Rattle.fints_rules_messages.proofs.message.read_message.Goals as goal
 
-pub returns-in_default-clause-refusal : goal.returns-in_default-clause-refusal
-returns-in_default-clause-refusal c = refused_first c.args.bytes.now c.in_default.ensures.none
-
-pub returns-in_default-read_first-clause-refusal : goal.returns-in_default-read_first-clause-refusal
-returns-in_default-read_first-clause-refusal c =
-    refused_head c.args.bytes.now c.in-Some.first c.in-Some.len c.in-Some.ensures.some
-    c.in_default-read_first.ensures.none
-
-pub returns-in-Stop-clause-refusal : goal.returns-in-Stop-clause-refusal
-returns-in-Stop-clause-refusal c =
-    let n = c.in-Some-read_first.number in
-    refused_tail c.args.bytes.now c.in-Some.len c.in-Stop.at n c.in-Some.first c.in-Some.ensures.some c.in-Some-read_first.ensures.some
-    (subst (λ z. Stops (BeginsBy (IsTail n)) (IsWholeBy (IsTail n)) z c.in-Stop.at) c.split_at.ensures.back
-    (subst (TailIs (IsTail n) c.split_at.result.1.now) c.in-Stop.is c.in_ok-at.ensures.tail))
-
-pub returns-in-Whole-clause-message : goal.returns-in-Whole-clause-message
-returns-in-Whole-clause-message c =
-    let n = c.in-Some-read_first.number in
-    is_message c.args.bytes.now c.in-Some.len n c.number_at-protocol.result c.in-Whole.body.items
-    c.in-Whole.ends.items c.in-Some.first c.in-Some.ensures.some c.in-Some-read_first.ensures.some
-    c.number_at-protocol.ensures
-    (subst (λ z. IsReadBy (IsTail n) z c.in-Whole.body.items c.in-Whole.ends.items) c.split_at.ensures.back
-    (subst (TailIs (IsTail n) c.split_at.result.1.now) c.in-Whole.is c.in_ok-at.ensures.tail))
-
 -- a message has no other refusal than want of memory
-
-pub returns-in_default-clause-memory_alone : goal.returns-in_default-clause-memory_alone
-returns-in_default-clause-memory_alone c =
-    λ m is. absurd (no_stop one_segment_text _ _ m (returns-in_default-clause-refusal c) is)
-
-pub returns-in_default-read_first-clause-memory_alone : goal.returns-in_default-read_first-clause-memory_alone
-returns-in_default-read_first-clause-memory_alone c =
-    λ m is. absurd (no_stop one_segment_text _ _ m (returns-in_default-read_first-clause-refusal c) is)
-
-pub returns-in-Stop-clause-memory_alone : goal.returns-in-Stop-clause-memory_alone
-returns-in-Stop-clause-memory_alone c =
-    λ m is. absurd (no_stop one_segment_text _ _ m (returns-in-Stop-clause-refusal c) is)
+pub returns-in-Err-clause-memory_alone : goal.returns-in-Err-clause-memory_alone
+returns-in-Err-clause-memory_alone c =
+    λ m is. absurd (no_stop one_segment_text _ _ m
+    (subst (λ r. IfErr r (λ u. CeasesAt c.args.bytes.now u.offset)) c.in-Err.is c.in_ok-message.ensures.refusal) is)

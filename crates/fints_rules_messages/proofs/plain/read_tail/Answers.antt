@@ -1,4 +1,4 @@
-use Rattle.std.proofs.Common.{◌≡◌, drop, subst, false, true}
+use Rattle.std.proofs.Common.{◌≡◌, drop, length, subst, false, true}
 use Rattle.fints_rules_messages.specs.Front.{IsNextSegment, HasNoNext}
 use Rattle.fints_rules_messages.proofs.Tails.{stop_none, closed}
 use Rattle.fints_rules_messages.proofs.plain.read_tail.Goals as goal
@@ -6,7 +6,7 @@ use Rattle.fints_rules_messages.proofs.plain.read_tail.Goals as goal
 pub returns-in_default-clause-tail : goal.returns-in_default-clause-tail
 returns-in_default-clause-tail c =
     let i = c.in_ok-inner.inner in
-    stop_none c.args.tail.now i.at i.openers c.args.number i.body.items i.ends.items c.requires
+    stop_none c.args.tail.now i.at (length i.openers.items) c.args.number i.body.items i.ends.items c.requires
     c.in_ok-inner.ensures.front (subst HasNoNext c.split_at.ensures.back c.in_default.ensures.none)
 
 pub returns-clause-tail : goal.returns-clause-tail

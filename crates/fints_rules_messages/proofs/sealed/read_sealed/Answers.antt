@@ -6,10 +6,10 @@ use Rattle.fints_rules_messages.proofs.sealed.read_sealed.Goals as goal
 
 pub returns-in-Whole-clause-tail : goal.returns-in-Whole-clause-tail
 returns-in-Whole-clause-tail c = whole_seal_head c.args.tail.now c.args.len c.args.number _ _ c.requires.seal_head.tree c.requires.seal_head.is_next c.requires.seal_head.is_seal_head
-    (subst (λ z. IsReadBy (IsSealedRest c.args.number) z c.in-Whole.body.items c.in-Whole.ends.items)
+    (subst (λ z. IsReadBy (IsSealedRest c.args.number) z c.in-Whole.inner.body.items c.in-Whole.inner.ends.items)
     c.split_at.ensures.back
     (subst (TailIs (IsSealedRest c.args.number) c.split_at.result.1.now) c.in-Whole.is
-    c.in_ok-body.ensures.rest))
+    c.in_ok-inner.ensures.rest))
 
 pub returns-in-Stop-clause-tail : goal.returns-in-Stop-clause-tail
 returns-in-Stop-clause-tail c = stops_seal_head c.args.tail.now c.args.len c.in-Stop.at c.args.number c.requires.seal_head.tree c.requires.seal_head.is_next c.requires.seal_head.is_seal_head
@@ -19,4 +19,4 @@ returns-in-Stop-clause-tail c = stops_seal_head c.args.tail.now c.args.len c.in-
     c.in-Stop.at)
     c.split_at.ensures.back
     (subst (TailIs (IsSealedRest c.args.number) c.split_at.result.1.now) c.in-Stop.is
-    c.in_ok-body.ensures.rest))
+    c.in_ok-inner.ensures.rest))

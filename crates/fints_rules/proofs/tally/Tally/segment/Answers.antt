@@ -9,7 +9,7 @@ pub returns : goal.returns
 returns c s at =
     let message : c.self.inside.message.now ≡ c.args.self.now.message =
     ap (λ (t : TallyValue). t.message) c.self.view_is in
-    let body = c.body.ensures ∙ ap (λ (m : MessageView). m.body) message in
+    let body = c.body.ensures.segments ∙ ap (λ (m : MessageView). m.body) message in
     let leading = c.self.invariant.2 ∙ ap (λ (m : MessageView). map six_items m.body) message in
     let made = rw c.values-items.ensures at c.new.ensures in
     made
