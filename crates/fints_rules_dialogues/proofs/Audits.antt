@@ -1,32 +1,74 @@
--- The messages of exchanges, as far as they are judged.
-use Rattle.std.proofs.Common.{◌≡◌, ℕ, ◌+◌, ◌<◌, ◌≤◌, List, [], ◌∷◌, ◌++◌, length, get_or, drop, refl, ap, ◌∙◌, sym, subst, append_assoc, Option, Some}
-use Rattle.std.proofs.lemmas.List.{append-nil, drop_all, drop_more}
+-- The messages of exchanges, as far as they are read and judged.
+use Rattle.std.proofs.Common.{◌≡◌, ℕ, ◌+◌, ◌≤◌, List, [], ◌∷◌, ◌++◌, length, drop, refl, ap, ◌∙◌, sym, subst, Option, Some, None}
+use Rattle.std.specs.Borrow.{Bor}
+use Rattle.std.specs.Prelude.{IfSome, option_copied}
 use Rattle.fints_rules_permissions.specs.Permits.{Granted}
 use Rattle.fints_rules_dialogues.specs.declared.auditing.Audited.{Audited}
+use Rattle.fints_rules_dialogues.specs.declared.cutting.Sent.{Sent}
+use Rattle.fints_rules_dialogues.specs.declared.fault.DialogueFault.{DialogueFault}
 use Rattle.fints_rules_dialogues.specs.declared.reading.Exchange.{Exchange}
-use Rattle.fints_rules_dialogues.specs.Auditing.{IsJudgedBehind, AreJudgedBehind, AreAudited}
+use Rattle.fints_rules_dialogues.specs.Dialogues.{sents_in, IsExchange, IsExchangeFault, IsMemoryOrRefusal, IsTurnFault, BeginsWithOne}
+use Rattle.fints_rules_dialogues.specs.Auditing.{IsJudgedBehind, AreJudgedBehind, AreAudited, AreAuditedInTurn}
+use Rattle.fints_rules_dialogues.proofs.Turns.{AreReadSoFar, all_read, one_read, turn_refused}
 
--- whatever is found of the exchanges that are left, behind that one, goes on with what was found so far
-abbrev pub AreAuditedSoFar : Granted → List Exchange → Option Exchange → List Exchange → List Audited → Type 0
-AreAuditedSoFar granted exchanges before left audited =
-    (more : List Audited) → AreJudgedBehind granted before left more
-    → AreAudited granted exchanges (audited ++ more)
+-- the last of the exchanges, or the one before them
+abbrev pub last_of : Option Exchange → List Exchange → Option Exchange
+last_of before [] = before
+last_of before (e ∷ es) = last_of (Some e) es
 
-pub one_audited : (granted : Granted) (es : List Exchange) (before : Option Exchange) (i : ℕ) (e : Exchange)
-    (audited new : List Audited) (a : Audited)
-    → AreAuditedSoFar granted es before (drop i es) audited → i < length es → e ≡ get_or es i e
+last_of-more : (before : Option Exchange) (es : List Exchange) (e : Exchange)
+    → last_of before (es ++ e ∷ []) ≡ Some e
+last_of-more before [] e = refl
+last_of-more before (x ∷ es) e = last_of-more (Some x) es e
+
+judged_more : (granted : Granted) (before : Option Exchange) (es : List Exchange) (audited : List Audited)
+    (e : Exchange) (a : Audited)
+    → AreJudgedBehind granted before es audited → a.sent ≡ e.sent
+    → IsJudgedBehind granted (last_of before es) e.sent.bytes.now a.broken.items
+    → AreJudgedBehind granted before (es ++ e ∷ []) (audited ++ a ∷ [])
+judged_more granted before [] audited e a h same judged =
+    subst (λ xs. AreJudgedBehind granted before (e ∷ []) (xs ++ a ∷ [])) (sym h) (same, judged, refl)
+judged_more granted before (x ∷ es) [] e a h same judged = absurd h
+judged_more granted before (x ∷ es) (b ∷ more) e a (s, j, h) same judged =
+    (s, j, judged_more granted (Some x) es more e a h same judged)
+
+-- the exchanges so far, whose messages are judged, and the last of them
+pub record AreAuditedSoFar
+    (granted : Granted) (messages : List Sent) (at : ℕ) (before : Option Exchange) (audited : List Audited)
+    : Type 0 where
+  pub exchanges : List Exchange
+  pub read : AreReadSoFar messages at exchanges
+  pub judged : AreAudited granted exchanges audited
+  pub before_is : before ≡ last_of None exchanges
+  pub last : IfSome before IsExchange
+
+pub one_audited : (granted : Granted) (messages : List Sent) (at : ℕ) (before : Option Exchange)
+    (audited : List Audited) (e : Exchange) (a : Audited)
+    → AreAuditedSoFar granted messages at before audited → BeginsWithOne (drop at messages) e
     → a.sent ≡ e.sent → IsJudgedBehind granted before e.sent.bytes.now a.broken.items
-    → new ≡ audited ++ a ∷ [] → AreAuditedSoFar granted es (Some e) (drop (i + 1) es) new
-one_audited granted es before i e audited new a h lt is same judged more = λ left g.
-    let next : drop i es ≡ e ∷ drop (i + 1) es = drop_more es i e lt ∙ ap (λ x. x ∷ drop (i + 1) es) (sym is) in
-    let all : AreAudited granted es (audited ++ a ∷ left) =
-    h (a ∷ left) (subst (λ xs. AreJudgedBehind granted before xs (a ∷ left)) (sym next) (same, judged, g)) in
-    subst (AreAudited granted es)
-    (sym (append_assoc audited (a ∷ []) left) ∙ ap (λ xs. xs ++ left) (sym more)) all
+    → AreAuditedSoFar granted messages (at + length (sents_in e)) (Some e) (audited ++ a ∷ [])
+one_audited granted messages at before audited e a h begins same judged = record {
+  exchanges = h.exchanges ++ e ∷ [];
+  read = one_read messages at h.exchanges e h.read begins;
+  judged = judged_more granted None h.exchanges audited e a h.judged same
+      (subst (λ (b : Option Exchange). IsJudgedBehind granted b e.sent.bytes.now a.broken.items) h.before_is judged);
+  before_is = sym (last_of-more None h.exchanges e);
+  last = begins.1.exchange;
+}
 
-pub all_audited : (granted : Granted) (es : List Exchange) (before : Option Exchange) (i : ℕ)
-    (audited : List Audited) → AreAuditedSoFar granted es before (drop i es) audited → length es ≤ i
-    → AreAudited granted es audited
-all_audited granted es before i audited h le =
-    subst (AreAudited granted es) (append-nil audited)
-    (h [] (subst (λ xs. AreJudgedBehind granted before xs []) (sym (drop_all i es le)) refl))
+pub all_audited : (granted : Granted) (messages : List Sent) (at : ℕ) (before : Option Exchange)
+    (audited : List Audited) → AreAuditedSoFar granted messages at before audited → length messages ≤ at
+    → AreAuditedInTurn granted messages audited
+all_audited granted messages at before audited h le =
+    (h.exchanges, all_read messages at h.exchanges h.read le, h.judged)
+
+pub audit_refused : (granted : Granted) (messages : List Sent) (at : ℕ) (before : Option Exchange)
+    (audited : List Audited) (f : DialogueFault) → AreAuditedSoFar granted messages at before audited
+    → IsMemoryOrRefusal (IsExchangeFault (drop at messages)) f → IsMemoryOrRefusal (IsTurnFault messages) f
+audit_refused granted messages at before audited f h refused = turn_refused messages at h.exchanges f h.read refused
+
+-- the exchange before, by a reference
+pub before_lent : (lent : Option (Bor Exchange)) (before : Option Exchange) → option_copied lent ≡ before
+    → IfSome before IsExchange → IfSome lent (λ e. IsExchange e.now)
+before_lent None before is h = tt
+before_lent (Some e) before is h = subst (λ b. IfSome b IsExchange) (sym is) h

@@ -7,9 +7,10 @@ use Rattle.fints_params.specs.declared.fault.ParamFault.TheVariants as params
 use Rattle.fints_params.specs.Captures.{IsCodeFault}
 use Rattle.fints_params.specs.Faults.{IsMemoryOr as IsReadFault}
 use Rattle.fints_rules_dialogues.specs.declared.cutting.Sent.{Sent}
+use Rattle.fints_rules_dialogues.specs.declared.fault.DialogueFault.{DialogueFault}
 use Rattle.fints_rules_dialogues.specs.declared.fault.DialogueFault.TheVariants.{Answer}
 use Rattle.fints_rules_dialogues.specs.declared.reading.Exchange.{Exchange}
-use Rattle.fints_rules_dialogues.specs.Dialogues.{CutsInto, IsCutFile, sents_in, AreInTurn, IsExchange, IsAnswerFault, IsMemoryOrRefusal, EndsBelow, BeginsWith, BeginsWithOne}
+use Rattle.fints_rules_dialogues.specs.Dialogues.{CutsInto, IsCutFile, sents_in, AreInTurn, IsExchange, IsAnswerFault, IsExchangeFault, IsTurnFault, IsMemoryOrRefusal, EndsBelow, BeginsWith, BeginsWithOne}
 
 pub all_drop : {X : Type 0} (P : X → Type 0) (n : ℕ) (xs : List X) → AllByRecursion P xs
     → AllByRecursion P (drop n xs)
@@ -58,12 +59,12 @@ pub cut_ends : (file : List ℕ) (messages : List Sent) → IsCutFile file messa
     → EndsBelow messages
 cut_ends file messages (tail, breaks, h) lt = ends_within 0 file messages tail h (omega (arith, lt))
 
-pub exchange_at : (es : List Exchange) (i : ℕ) (e : Exchange) → i < length es → e ≡ get_or es i e
-    → AllByRecursion IsExchange es → IsExchange e
-exchange_at es i e lt is all =
-    let there : AllByRecursion IsExchange (get_or es i e ∷ drop (i + 1) es) =
-    subst (AllByRecursion IsExchange) (drop_more es i e lt) (all_drop IsExchange i es all) in
-    subst IsExchange (sym is) there.0
+-- what refuses the exchange where the rest of the messages begins
+pub turn_refused : (messages : List Sent) (at : ℕ) (es : List Exchange) (f : DialogueFault)
+    → AreReadSoFar messages at es → IsMemoryOrRefusal (IsExchangeFault (drop at messages)) f
+    → IsMemoryOrRefusal (IsTurnFault messages) f
+turn_refused messages at es f h (inl memory) = inl memory
+turn_refused messages at es f h (inr refused) = inr (es, drop at messages, h.in_turn, refused)
 
 -- the exchanges of a dialogue are such
 pub each_exchange : (messages : List Sent) (es : List Exchange) (rest : List Sent)

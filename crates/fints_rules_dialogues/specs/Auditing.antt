@@ -1,10 +1,11 @@
--- Which rules each message of the client breaks, behind the message before it and the bank's answer to that.
--- Words of private contracts and proofs alone stand last, under a heading.
+-- Which rules each message of the client breaks, after the message before it and the bank's answer to that.
 use Rattle.std.specs.Prelude.{◌≡◌, ℕ, List, [], ◌∷◌, Option, Some, None}
 use Rattle.fints_rules.specs.declared.rule.Broken.{Broken}
 use Rattle.fints_rules.specs.Breaks.{IsJudged, IsJudgedAfter}
 use Rattle.fints_rules_permissions.specs.Permits.{Granted}
 use Rattle.fints_rules_dialogues.specs.declared.auditing.Audited.{Audited}
+use Rattle.fints_rules_dialogues.specs.Dialogues.{AreInTurn}
+use Rattle.fints_rules_dialogues.specs.declared.cutting.Sent.{Sent}
 use Rattle.fints_rules_dialogues.specs.declared.reading.Answer.{Answer}
 use Rattle.fints_rules_dialogues.specs.declared.reading.Exchange.{Exchange}
 
@@ -29,3 +30,8 @@ AreJudgedBehind granted before (e ∷ es) (a ∷ more) =
 -- the messages of a recorded dialogue, each with the rules that it breaks
 abbrev pub AreAudited : Granted → List Exchange → List Audited → Type 0
 AreAudited granted exchanges audited = AreJudgedBehind granted None exchanges audited
+
+-- the messages are those of a recorded dialogue, each of the client's with the rules that it breaks
+abbrev pub AreAuditedInTurn : Granted → List Sent → List Audited → Type 0
+AreAuditedInTurn granted messages audited =
+    (exchanges : List Exchange) × AreInTurn messages exchanges [] × AreAudited granted exchanges audited

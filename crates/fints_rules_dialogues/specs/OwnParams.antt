@@ -5,6 +5,7 @@ use Rattle.std.specs.List.{AllByRecursion}
 use Rattle.fints_params.specs.declared.fault.ParamFault.TheVariants.{NoBankParameters, NoPinParameters}
 use Rattle.fints_params.specs.Parameters.{Rows}
 use Rattle.fints_params.specs.Captures.{IsParamsOf, IsParamFault}
+use Rattle.fints_rules_dialogues.specs.declared.cutting.Sent.{Sent}
 use Rattle.fints_rules_dialogues.specs.declared.fault.DialogueFault.{DialogueFault}
 use Rattle.fints_rules_dialogues.specs.declared.fault.DialogueFault.TheVariants as fault
 use Rattle.fints_rules_dialogues.specs.declared.reading.Answer.{Answer}
@@ -35,12 +36,16 @@ pub record TellsParams (exchanges : List Exchange) (rows : Rows) : Type 0 where
   pub before : AllByRecursion TellsNone front
   pub tells : AnswerTells rows at.answer
 
+-- why the message is refused as a capture, other than for what is missing
+abbrev pub IsCaptureFault : Sent → DialogueFault → Type 0
+IsCaptureFault m (fault.Answer start f) =
+    IsParamFault m.bytes.now f × (f ≢ NoBankParameters) × (f ≢ NoPinParameters) × (start ≡ m.start)
+IsCaptureFault m _ = ⊥
+
 -- why the answer is refused as a capture, other than for what is missing
 abbrev pub IsTellingFault : Option Answer → DialogueFault → Type 0
-IsTellingFault (Some a) (fault.Answer start f) =
-    IsParamFault a.sent.bytes.now f × (f ≢ NoBankParameters) × (f ≢ NoPinParameters)
-    × (start ≡ a.sent.start)
-IsTellingFault _ _ = ⊥
+IsTellingFault None f = ⊥
+IsTellingFault (Some a) f = IsCaptureFault a.sent f
 
 -- before any answer tells parameters one is refused
 pub record IsRefusedBefore (exchanges : List Exchange) (f : DialogueFault) : Type 0 where
@@ -58,7 +63,12 @@ IsOwnParamsFault exchanges f =
 
 -- ---- of private contracts and proofs alone
 
--- what a look for parameters in an answer finds
+-- what a look for parameters in bytes finds
+abbrev pub IsFoundIn : List ℕ → Option Rows → Type 0
+IsFoundIn bytes None = LacksParams bytes
+IsFoundIn bytes (Some rows) = IsParamsOf bytes rows
+
+-- the same in an answer
 abbrev pub IsFound : Option Answer → Option Rows → Type 0
 IsFound answer None = AnswerTellsNone answer
 IsFound answer (Some rows) = AnswerTells rows answer

@@ -1,11 +1,12 @@
 //! The rules that the messages of a recorded dialogue break.
-ghost use Rattle.std.specs.Prelude.{◌≡◌, IfOk, IfSome, option_copied};
-ghost use Rattle.std.specs.List.{AllByRecursion};
-ghost use Rattle.fints_rules_dialogues.specs.Dialogues.{IsExchange};
-ghost use Rattle.fints_rules_dialogues.specs.Auditing.{codes_told, IsJudgedBehind, AreAudited};
+ghost use Rattle.std.specs.Prelude.{◌≡◌, IfOk, IfErr, IfSome, option_copied};
+ghost use Rattle.fints_rules_dialogues.specs.Dialogues.{IsExchange, IsMemoryOrRefusal, IsTurnFault};
+ghost use Rattle.fints_rules_dialogues.specs.Auditing.{codes_told, IsJudgedBehind, AreAuditedInTurn};
 
 use crate::cutting::Sent;
-use crate::reading::Exchange;
+use crate::fault::DialogueFault;
+use crate::reading::{Exchange, message_count, read_exchange};
+use crate::recording::Recording;
 use fints_params::Code;
 use fints_rules::{Broken, Permissions, judge_message, judge_message_after};
 use fints_syntax::Memory;
@@ -18,17 +19,31 @@ pub struct Audited<'a> {
     pub broken: Vec<Broken>,
 }
 
-// The codes of the answer of an exchange.
+/// What looks on while a dialogue is audited. No contract says what it makes of it.
+pub trait Observer {
+    /// Looks at the next exchange and the rules that its message breaks.
+    fn observe(&mut self, exchange: &Exchange<'_>, broken: &[Broken]);
+}
+
+/// Nobody looks on.
+#[derive(Clone, Copy)]
+pub struct Unobserved;
+
+impl Observer for Unobserved {
+    fn observe(&mut self, _exchange: &Exchange<'_>, _broken: &[Broken]) {}
+}
+
+// The codes of the answer of an exchange; none without an answer.
 fn codes_told<'e>(exchange: &'e Exchange<'_>) -> &'e [Code]
     ensures { result.now ≡ codes_told exchange.now.answer }
 {
     match &exchange.answer {
-        None => &[],
         Some(answer) => answer.codes.as_slice(),
+        None => &[],
     }
 }
 
-// The rules that the message of an exchange breaks behind the exchange before it.
+// The rules that the message of an exchange breaks after the exchange before it.
 fn judge_behind(
     alloc: Global,
     permissions: &Permissions<'_>,
@@ -50,22 +65,31 @@ fn judge_behind(
     }
 }
 
-/// The rules that each message of the client breaks, P11 by the message before and the bank's answer
-/// to that. The only error is want of memory.
-pub fn audit<'a>(
+/// The rules that each message of the client breaks after the one before it and the bank's answer to
+/// that, in the order of the messages; P11 is judged within the dialogue. Each message is read once, and
+/// let go when the next one is judged. The refusal is that of `Recording::exchanges`.
+pub fn audit<'a, O: Observer>(
     alloc: Global,
     permissions: &Permissions<'_>,
-    exchanges: &[Exchange<'a>],
-) -> Result<Vec<Audited<'a>>, Memory>
-    requires { AllByRecursion IsExchange exchanges.now }
-    ensures { IfOk result (λ audited. AreAudited permissions.now exchanges.now audited.items) }
+    recording: &Recording<'a>,
+    observer: &mut O,
+) -> Result<Vec<Audited<'a>>, DialogueFault>
+    ensures audited { IfOk result (λ audited.
+        AreAuditedInTurn permissions.now recording.now audited.items) }
+    ensures refused { IfErr result (λ f. IsMemoryOrRefusal (IsTurnFault recording.now) f) }
 {
+    let messages = recording.messages();
     let mut audited = Vec::new(alloc);
-    let mut before: Option<&Exchange<'a>> = None;
-    for exchange in exchanges {
-        let broken = judge_behind(alloc, permissions, before, exchange)?;
+    let mut before: Option<Exchange<'a>> = None;
+    let mut at = 0;
+    while at < messages.len() {
+        let (_, rest) = messages.split_at(at);
+        let exchange = read_exchange(alloc, rest)?;
+        let broken = judge_behind(alloc, permissions, before.as_ref(), &exchange)?;
+        observer.observe(&exchange, broken.as_slice());
         let sent = exchange.sent;
         audited.push(Audited { sent, broken })?;
+        at += message_count(&exchange);
         before = Some(exchange);
     }
     Ok(audited)

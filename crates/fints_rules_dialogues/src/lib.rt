@@ -6,10 +6,12 @@ mod cutting;
 mod fault;
 pub mod laws;
 mod reading;
+mod recording;
 mod telling;
 
-pub use auditing::{Audited, audit};
+pub use auditing::{Audited, Observer, Unobserved, audit};
 pub use cutting::{Sent, cut};
 pub use fault::DialogueFault;
-pub use reading::{Answer, Exchange, read_dialogue};
+pub use reading::{Answer, Exchange};
+pub use recording::{Recording, read_dialogue};
 pub use telling::own_params;

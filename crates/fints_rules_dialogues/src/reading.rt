@@ -1,12 +1,11 @@
-//! The exchanges of a recorded dialogue: each message of the client with the bank's answer to it.
-ghost use Rattle.std.specs.Prelude.{◌≡◌, ◌≢◌, ◌<◌, ◌≤◌, ◌+◌, ◌^◌, ℕ, [], length, IfOk, IfErr};
-ghost use Rattle.std.specs.List.{AllByRecursion, list_any};
+//! Exchanges: a message of the client with the bank's answer to it.
+ghost use Rattle.std.specs.Prelude.{◌≡◌, ◌<◌, ◌+◌, ◌^◌, length, IfOk, IfErr};
+ghost use Rattle.std.specs.List.{list_any};
 ghost use Rattle.fints_syntax.specs.Owned.{segment_of};
-ghost use Rattle.fints_params.specs.Captures.{IsCodesOf};
-ghost use Rattle.fints_rules_messages.specs.Messages.{MessageView, IsMessage};
-ghost use Rattle.fints_rules_dialogues.specs.Dialogues.{is_hirmg, sents_in, IsExchange, IsFromClient, IsFromBank, IsClientFault, IsAnswerFault, IsExchangeFault, IsTurnFault, AreInTurn, IsDialogue, IsDialogueFault, IsMemoryOrRefusal, EndsBelow, BeginsWithOne};
+ghost use Rattle.fints_rules_messages.specs.Messages.{IsMessage};
+ghost use Rattle.fints_rules_dialogues.specs.Dialogues.{is_hirmg, sents_in, IsFromClient, IsFromBank, IsClientFault, IsAnswerFault, IsExchangeFault, IsMemoryOrRefusal, EndsBelow, BeginsWithOne};
 
-use crate::cutting::{Sent, cut};
+use crate::cutting::Sent;
 use crate::fault::DialogueFault;
 use fints_params::{Code, ParamFault, feedback_codes};
 use fints_rules_messages::{JudgeFault, Message, read_message};
@@ -94,8 +93,8 @@ fn read_answer<'a>(alloc: Global, sent: &Sent<'a>) -> Result<Answer<'a>, Dialogu
     }
 }
 
-// The exchange at the front of the messages.
-fn read_exchange<'a>(alloc: Global, messages: &[Sent<'a>]) -> Result<Exchange<'a>, DialogueFault>
+/// The exchange at the front of the messages.
+pub fn read_exchange<'a>(alloc: Global, messages: &[Sent<'a>]) -> Result<Exchange<'a>, DialogueFault>
     requires some { 0 < length messages.now }
     requires below { EndsBelow messages.now }
     ensures exchange { IfOk result (λ e. BeginsWithOne messages.now e) }
@@ -118,48 +117,12 @@ fn read_exchange<'a>(alloc: Global, messages: &[Sent<'a>]) -> Result<Exchange<'a
     })
 }
 
-// How many messages an exchange is.
-fn message_count(exchange: &Exchange<'_>) -> usize
+/// How many messages an exchange is.
+pub fn message_count(exchange: &Exchange<'_>) -> usize
     ensures { result ≡ length (sents_in exchange.now) }
 {
     match exchange.answer {
         None => 1,
         Some(_) => 2,
     }
-}
-
-// The exchanges that the messages are.
-fn read_exchanges<'a>(
-    alloc: Global,
-    messages: &[Sent<'a>],
-) -> Result<Vec<Exchange<'a>>, DialogueFault>
-    requires { EndsBelow messages.now }
-    ensures exchanges { IfOk result (λ v. AreInTurn messages.now v.items []) }
-    ensures refused { IfErr result (λ f. IsMemoryOrRefusal (IsTurnFault messages.now) f) }
-{
-    let mut exchanges = Vec::new(alloc);
-    let mut at = 0;
-    while at < messages.len() {
-        let (_, rest) = messages.split_at(at);
-        let exchange = read_exchange(alloc, rest)?;
-        at += message_count(&exchange);
-        exchanges.push(exchange)?;
-    }
-    Ok(exchanges)
-}
-
-/// The exchanges of a recorded dialogue: the 1st, 3rd, .. message is the client's, and the 2nd, 4th, ..
-/// the bank's. The answer is the first refusal, in this order: where the file can't be cut, then that
-/// there is no message, then message by message: one of the client that is none or has a HIRMG, one of
-/// the bank whose feedback is refused or has no code (FinTS 3.0, Formals, messages and feedback).
-pub fn read_dialogue(alloc: Global, file: &[u8]) -> Result<Vec<Exchange<'_>>, DialogueFault>
-    ensures dialogue { IfOk result (λ v. IsDialogue file.now v.items) }
-    ensures each { IfOk result (λ v. AllByRecursion IsExchange v.items) }
-    ensures refused { IfErr result (λ f. IsMemoryOrRefusal (IsDialogueFault file.now) f) }
-{
-    let messages = cut(alloc, file)?;
-    if messages.is_empty() {
-        return Err(DialogueFault::NoMessage);
-    }
-    read_exchanges(alloc, messages.as_slice())
 }

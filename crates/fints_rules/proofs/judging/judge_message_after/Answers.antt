@@ -1,7 +1,7 @@
 use Rattle.std.proofs.Common.{length, subst}
 use Rattle.std.specs.Prelude.{◌↔◌, IsTrue}
 use Rattle.std.proofs.lemmas.Result.{IfOk-weaker}
-use Rattle.fints_rules.specs.Facts.{facts_of}
+use Rattle.fints_rules.specs.Facts.{facts_alone, facts_of}
 use Rattle.fints_rules.specs.Judging.{CoversRules}
 use Rattle.fints_rules.specs.Rules.{BreaksRelease}
 use Rattle.fints_rules.specs.Tallies.{TallyValue}
@@ -20,26 +20,14 @@ returns c =
     let earlier = c.args.before.now in
     let message = c.args.message.now in
     let codes = c.args.codes.now in
-    let unreleased = c.breaks_release-unreleased.result in
-    let past : IsTrue unreleased ↔ BreaksRelease (facts_of granted.rows.pins earlier) codes c.facts-2.result.now =
+    let unreleased = c.is_unreleased-unreleased.result in
+    let left : IsTrue unreleased ↔ BreaksRelease (facts_alone earlier) codes (facts_of granted.rows.pins message) =
     subst
     (λ (t : TallyValue).
-    IsTrue unreleased
-    ↔ BreaksRelease (facts_of t.granted.rows.pins t.message) codes c.facts-2.result.now)
-    c.in_ok-past.ensures.tally
-    (subst (λ (f : MessageFacts). IsTrue unreleased ↔ BreaksRelease f codes c.facts-2.result.now)
-    c.facts.ensures c.breaks_release-unreleased.ensures) in
-    let left : IsTrue unreleased ↔ BreaksRelease (facts_of granted.rows.pins earlier) codes (facts_of granted.rows.pins message) =
-    subst
-    (λ (t : TallyValue).
-    IsTrue unreleased
-    ↔ BreaksRelease (facts_of granted.rows.pins earlier) codes
-    (facts_of t.granted.rows.pins t.message))
+    IsTrue unreleased ↔ BreaksRelease (facts_alone earlier) codes (facts_of t.granted.rows.pins t.message))
     c.in_ok-tally.ensures.tally
-    (subst
-    (λ (f : MessageFacts).
-    IsTrue unreleased ↔ BreaksRelease (facts_of granted.rows.pins earlier) codes f)
-    c.facts-2.ensures past) in
+    (subst (λ (f : MessageFacts). IsTrue unreleased ↔ BreaksRelease (facts_alone earlier) codes f)
+    c.facts.ensures c.is_unreleased-unreleased.ensures) in
     IfOk-weaker c.broken_rules.result _ _
     (λ broken found was_bytes bytes was is.
     judged_after one_message granted was_bytes codes bytes earlier message was is unreleased broken.items

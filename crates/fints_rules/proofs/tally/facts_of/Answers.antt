@@ -11,10 +11,8 @@ returns c =
     let body = c.body-body.result.now in
     let ends = c.ends-ends.result.now in
     let signatures = length_in ends m.ends c.ends-ends.ensures in
-    let submits =
-    c.some_has_tan_process.ensures ∙ any_in (has_tan_process (codes "4")) body m.body c.body-body.ensures.segments in
     let sends =
-    c.some_has_tan_process-2.ensures ∙ any_in (has_tan_process (codes "2")) body m.body c.body-body.ensures.segments in
+    c.some_has_tan_process.ensures ∙ any_in (has_tan_process (codes "2")) body m.body c.body-body.ensures.segments in
     let end = c.some_ends.ensures ∙ any_in ends_dialogue body m.body c.body-body.ensures.segments in
     let tan = c.some_has_tan.ensures ∙ any_in has_tan ends m.ends c.ends-ends.ensures in
     let order =

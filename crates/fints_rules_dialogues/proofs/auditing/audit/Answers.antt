@@ -1,31 +1,17 @@
-use Rattle.std.proofs.Common.{refl}
-use Rattle.std.specs.Prelude.{option_copied}
+use Rattle.std.proofs.Common.{refl, subst}
 use Rattle.fints_rules_dialogues.specs.declared.auditing.Audited.{Audited}
-use Rattle.fints_rules_dialogues.proofs.Audits.{all_audited, one_audited}
-use Rattle.fints_rules_dialogues.proofs.Turns.{exchange_at}
+use Rattle.fints_rules_dialogues.specs.Dialogues.{BeginsWithOne}
+use Rattle.fints_rules_dialogues.specs.Auditing.{IsJudgedBehind}
+use Rattle.fints_rules_dialogues.proofs.Audits.{one_audited}
 use Rattle.fints_rules_dialogues.proofs.auditing.audit.Goals as goal
 
-pub judge_behind-requires-clause-exchange : goal.judge_behind-requires-clause-exchange
-judge_behind-requires-clause-exchange c =
-    exchange_at c.args.exchanges.now c.loop-exchange.exchange-index c.exchange-item.result
-    c.loop-exchange-test.true c.exchange-item.is c.requires
-
-pub loop-exchange-preserved : goal.loop-exchange-preserved
-loop-exchange-preserved c =
-    let e = c.exchange-item.result in
+pub loop-at-preserved : goal.loop-at-preserved
+loop-at-preserved g c =
+    let e = c.in_ok-exchange.exchange in
     let a : Audited = record { sent = e.sent; broken = c.in_ok-broken.broken } in
-    record {
-      audited =
-          one_audited c.args.permissions.now c.args.exchanges.now (option_copied c.loop-exchange.before)
-          c.loop-exchange.exchange-index e c.loop-exchange.audited.items c.push.new.self.items a
-          c.loop-exchange.invariant.audited c.loop-exchange-test.true c.exchange-item.is refl c.in_ok-broken.ensures
-          c.in_ok-push.ensures.items;
-      before = exchange_at c.args.exchanges.now c.loop-exchange.exchange-index e c.loop-exchange-test.true
-          c.exchange-item.is c.requires;
-    }
-
-pub returns : goal.returns
-returns c =
-    all_audited c.args.permissions.now c.args.exchanges.now (option_copied c.loop-exchange.before)
-    c.loop-exchange.exchange-index c.loop-exchange.audited.items c.loop-exchange.invariant.audited
-    c.loop-exchange-test.false
+    rw (c.in_ok-push.ensures.items, c.message_count-at.ensures)
+    (one_audited c.args.permissions.now _ c.loop-at.at c.loop-at.before c.loop-at.audited.items e a
+    c.loop-at.invariant (subst (λ xs. BeginsWithOne xs e) c.split_at.ensures.back c.in_ok-exchange.ensures.exchange)
+    refl
+    (subst (λ b. IsJudgedBehind c.args.permissions.now b e.sent.bytes.now c.in_ok-broken.broken.items)
+    c.as_ref.ensures.value c.in_ok-broken.ensures))

@@ -1,13 +1,9 @@
-use Rattle.std.proofs.Common.{drop}
-use Rattle.std.specs.Prelude.{IfSome, option_copied}
-use Rattle.fints_rules_dialogues.specs.Dialogues.{IsExchange}
+use Rattle.std.proofs.Common.{◌-◌, length}
 use Rattle.fints_rules_dialogues.proofs.Audits.{AreAuditedSoFar}
 use Rattle.fints_rules_dialogues.proofs.auditing.audit.Given as goal
 
-abbrev pub invariant-loop-exchange : goal.invariant-loop-exchange
-invariant-loop-exchange l = record {
-  audited :
-      AreAuditedSoFar l.permissions l.exchanges (option_copied l.before) (drop l.exchange-index l.exchanges)
-      l.audited.items;
-  before : IfSome l.before (λ e. IsExchange e.now);
-}
+abbrev pub invariant-loop-at : goal.invariant-loop-at
+invariant-loop-at g l = AreAuditedSoFar l.permissions l.messages l.at l.before l.audited.items
+
+abbrev pub decreases-loop-at : goal.decreases-loop-at
+decreases-loop-at g l = length l.messages - l.at

@@ -1,6 +1,6 @@
 use Rattle.std.proofs.Common.{◌-◌, length}
 use Rattle.fints_rules_dialogues.proofs.Turns.{AreReadSoFar}
-use Rattle.fints_rules_dialogues.proofs.reading.read_exchanges.Given as goal
+use Rattle.fints_rules_dialogues.proofs.recording.Recording.exchanges.Given as goal
 
 abbrev pub invariant-loop-at : goal.invariant-loop-at
 invariant-loop-at l = AreReadSoFar l.messages l.at l.exchanges.items

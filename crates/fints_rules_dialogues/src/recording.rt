@@ -1,0 +1,81 @@
+//! Recorded dialogues: files that are cut into the messages of both sides.
+ghost use Rattle.std.specs.Prelude.{◌≡◌, ◌≢◌, ◌<◌, ℕ, List, [], length, IfOk, IfErr};
+ghost use Rattle.std.specs.List.{AllByRecursion};
+ghost use Rattle.fints_rules_dialogues.specs.Dialogues.{IsExchange, IsFileFault, IsTurnFault, AreInTurn, IsCutFile, IsDialogue, IsDialogueFault, IsMemoryOrRefusal, EndsBelow};
+
+use crate::cutting::{Sent, cut};
+use crate::fault::DialogueFault;
+use crate::reading::{Exchange, message_count, read_exchange};
+use std::alloc::Global;
+use std::marker::Model;
+
+/// A file that is cut into messages, one at least; a contract sees them.
+#[derive(Drop)]
+pub struct Recording<'a> {
+    messages: Vec<Sent<'a>>,
+}
+
+impl<'a> Model for Recording<'a> {
+    ghost use Rattle.std.specs.Prelude.{◌≢◌, List, []};
+    ghost use Rattle.fints_rules_dialogues.specs.Dialogues.{EndsBelow};
+    ghost use Rattle.fints_rules_dialogues.specs.declared.cutting.Sent.{Sent as SentValue};
+
+    ghost Value = { List SentValue };
+
+    ghost view = { λ r. r.messages.items };
+
+    ghost invariant = { λ r. EndsBelow r.messages.items × (r.messages.items ≢ []) };
+}
+
+impl<'a> Recording<'a> {
+    /// The messages of a file. The refusal is where it can't be cut, or that it has no message.
+    pub fn cut(alloc: Global, file: &'a [u8]) -> Result<Recording<'a>, DialogueFault>
+        ensures cut { IfOk result (λ messages. IsCutFile file.now messages) }
+        ensures refused { IfErr result (λ f. IsMemoryOrRefusal (IsFileFault file.now) f) }
+    {
+        let messages = cut(alloc, file)?;
+        if messages.is_empty() {
+            return Err(DialogueFault::NoMessage);
+        }
+        Ok(Recording { messages })
+    }
+
+    /// The messages of both sides, in order; there is one at least.
+    pub fn messages(&self) -> &[Sent<'a>]
+        ensures messages { result.now ≡ self.now }
+        ensures some { result.now ≢ [] }
+        ensures below { EndsBelow result.now }
+    {
+        self.messages.as_slice()
+    }
+
+    /// The exchanges: the 1st, 3rd, .. message is the client's, and the 2nd, 4th, .. the bank's. The
+    /// refusal is the first, message by message: one of the client that is none or has a HIRMG, one of
+    /// the bank whose feedback is refused or has no code (FinTS 3.0, Formals, messages and feedback).
+    pub fn exchanges(&self, alloc: Global) -> Result<Vec<Exchange<'a>>, DialogueFault>
+        ensures exchanges { IfOk result (λ v. AreInTurn self.now v.items []) }
+        ensures refused { IfErr result (λ f. IsMemoryOrRefusal (IsTurnFault self.now) f) }
+    {
+        let messages = self.messages();
+        let mut exchanges = Vec::new(alloc);
+        let mut at = 0;
+        while at < messages.len() {
+            let (_, rest) = messages.split_at(at);
+            let exchange = read_exchange(alloc, rest)?;
+            at += message_count(&exchange);
+            exchanges.push(exchange)?;
+        }
+        Ok(exchanges)
+    }
+}
+
+/// The exchanges of a recorded dialogue. The refusal is the first, in this order: of the file as a whole,
+/// then message by message.
+pub fn read_dialogue(alloc: Global, file: &[u8]) -> Result<Vec<Exchange<'_>>, DialogueFault>
+    ensures dialogue { IfOk result (λ v. IsDialogue file.now v.items) }
+    ensures each { IfOk result (λ v. AllByRecursion IsExchange v.items) }
+    ensures refused { IfErr result (λ f. IsMemoryOrRefusal (IsDialogueFault file.now) f) }
+{
+    let recording = Recording::cut(alloc, file)?;
+    recording.exchanges(alloc)
+}
