@@ -9,10 +9,11 @@ use Rattle.fints_rules_permissions.specs.declared.orders.TableFault.{TableFault}
 use Rattle.fints_rules_permissions.specs.declared.orders.TableFault.TheVariants as orders
 use Rattle.fints_rules_permissions.specs.Orders.{DenotesTable, IsTableFault}
 use Rattle.fints_rules_dialogues.specs.declared.auditing.Audited.{Audited}
+use Rattle.fints_rules_dialogues.specs.declared.cutting.Sent.{Sent}
 use Rattle.fints_rules_dialogues.specs.declared.fault.DialogueFault.{DialogueFault}
 use Rattle.fints_rules_dialogues.specs.declared.fault.DialogueFault.TheVariants as dialogues
 use Rattle.fints_rules_dialogues.specs.declared.reading.Exchange.{Exchange}
-use Rattle.fints_rules_dialogues.specs.Dialogues.{IsDialogue, IsDialogueFault, IsMemoryOrRefusal}
+use Rattle.fints_rules_dialogues.specs.Dialogues.{IsCutFile, IsDialogue, IsDialogueFault, IsFileFault, IsMemoryOrRefusal, IsTurnFault}
 use Rattle.fints_rules_dialogues.specs.OwnParams.{IsOwnParamsFault}
 use Rattle.fints_cli_texts.proofs.JudgeLemmas.{orders_refused}
 use Rattle.fints_cli_texts.specs.declared.fault.Fault.{Fault}
@@ -75,7 +76,7 @@ pub refused_later : (capture table dialogue : List ℕ) (rows : Rows)
 refused_later capture table dialogue rows orders f h i p =
     later_refused capture table dialogue rows orders (dialogue_fault_of f) h i (dialogue_refused dialogue f p)
 
-own_refused : (table dialogue : List ℕ) (orders : List OrderRow) (f : DialogueFault)
+pub own_refused : (table dialogue : List ℕ) (orders : List OrderRow) (f : DialogueFault)
     → DenotesTable table orders → IsMemoryOrRefusal (IsOwnFault dialogue) f
     → IsOwnAuditRefusal table dialogue (dialogue_fault_of f)
 own_refused table dialogue orders dialogues.Memory h p = tt
@@ -90,16 +91,25 @@ own_refused table dialogue orders (dialogues.Answer start f) h (inr p) = ((order
 own_refused table dialogue orders dialogues.NoParameters h (inl e) = absurd (cc)
 own_refused table dialogue orders dialogues.NoParameters h (inr p) = ((orders, h), p)
 
-pub own_dialogue_refused : (table dialogue : List ℕ) (orders : List OrderRow) (f : DialogueFault)
-    → DenotesTable table orders → IsMemoryOrRefusal (IsDialogueFault dialogue) f
-    → IsOwnAuditRefusal table dialogue (dialogue_fault_of f)
-own_dialogue_refused table dialogue orders f h (inl e) = own_refused table dialogue orders f h (inl e)
-own_dialogue_refused table dialogue orders f h (inr p) = own_refused table dialogue orders f h (inr (inl p))
+-- what refuses the dialogue, and what refuses its parameters where it is one
+pub dialogue_first : (dialogue : List ℕ) (f : DialogueFault) → IsMemoryOrRefusal (IsDialogueFault dialogue) f
+    → IsMemoryOrRefusal (IsOwnFault dialogue) f
+dialogue_first dialogue f (inl e) = inl e
+dialogue_first dialogue f (inr p) = inr (inl p)
 
-pub own_params_refused : (table dialogue : List ℕ) (orders : List OrderRow) (exchanges : List Exchange)
-    (f : DialogueFault) → DenotesTable table orders → IsDialogue dialogue exchanges
-    → IsMemoryOrRefusal (IsOwnParamsFault exchanges) f
-    → IsOwnAuditRefusal table dialogue (dialogue_fault_of f)
-own_params_refused table dialogue orders exchanges f h i (inl e) = own_refused table dialogue orders f h (inl e)
-own_params_refused table dialogue orders exchanges f h i (inr p) =
-    own_refused table dialogue orders f h (inr (inr (exchanges, i, p)))
+pub params_last : (dialogue : List ℕ) (exchanges : List Exchange) (f : DialogueFault)
+    → IsDialogue dialogue exchanges → IsMemoryOrRefusal (IsOwnParamsFault exchanges) f
+    → IsMemoryOrRefusal (IsOwnFault dialogue) f
+params_last dialogue exchanges f is (inl e) = inl e
+params_last dialogue exchanges f is (inr p) = inr (inr (exchanges, is, p))
+
+-- what refuses the file, and what refuses its messages
+pub file_first : (dialogue : List ℕ) (f : DialogueFault) → IsMemoryOrRefusal (IsFileFault dialogue) f
+    → IsMemoryOrRefusal (IsDialogueFault dialogue) f
+file_first dialogue f (inl e) = inl e
+file_first dialogue f (inr p) = inr (inl p)
+
+pub turns_last : (dialogue : List ℕ) (messages : List Sent) (f : DialogueFault) → IsCutFile dialogue messages
+    → IsMemoryOrRefusal (IsTurnFault messages) f → IsMemoryOrRefusal (IsDialogueFault dialogue) f
+turns_last dialogue messages f cut (inl e) = inl e
+turns_last dialogue messages f cut (inr p) = inr (inr (messages, cut, p))

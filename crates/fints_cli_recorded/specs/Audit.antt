@@ -1,4 +1,5 @@
--- The text of `audit`: for each message of the client its number and its size, and then the rules that it breaks; in lines with LF at their ends.
+-- The text of `audit`: for each message of the client its number and its size, and then the rules that it
+-- breaks; in lines with LF at their ends. Words of private contracts come last, under a heading.
 use Rattle.std.specs.Prelude.{◌≡◌, ◌⊎◌, ℕ, ◌+◌, List, [], ◌∷◌, ◌++◌, length, codes}
 use Rattle.std.specs.List.{flat_map}
 use Rattle.std.specs.Fmt.{decimal}
@@ -8,9 +9,10 @@ use Rattle.fints_rules_permissions.specs.declared.orders.OrderRow.{OrderRow}
 use Rattle.fints_rules_permissions.specs.Orders.{DenotesTable}
 use Rattle.fints_rules.specs.declared.rule.Broken.{Broken}
 use Rattle.fints_rules_dialogues.specs.declared.auditing.Audited.{Audited}
+use Rattle.fints_rules_dialogues.specs.declared.cutting.Sent.{Sent}
 use Rattle.fints_rules_dialogues.specs.declared.fault.DialogueFault.{DialogueFault}
 use Rattle.fints_rules_dialogues.specs.declared.reading.Exchange.{Exchange}
-use Rattle.fints_rules_dialogues.specs.Dialogues.{IsDialogue, IsDialogueFault}
+use Rattle.fints_rules_dialogues.specs.Dialogues.{AreInTurn, IsDialogue, IsDialogueFault}
 use Rattle.fints_rules_dialogues.specs.OwnParams.{TellsParams, IsOwnParamsFault}
 use Rattle.fints_rules_dialogues.specs.Auditing.{AreAudited}
 use Rattle.fints_cli_texts.specs.Judge.{broken_line, last_line, verdict_status, IsFirstRefusal, IsTableRefusal}
@@ -88,3 +90,21 @@ IsOwnAuditRefusal orders dialogue (Orders f) = IsTableRefusal orders f
 IsOwnAuditRefusal orders dialogue (Dialogue f) =
     ((table : List OrderRow) × DenotesTable orders table) × IsOwnFault dialogue f
 IsOwnAuditRefusal orders dialogue _ = ⊥
+
+-- ---- of private contracts alone
+
+-- they tell the rules that the messages of a recording break
+abbrev pub IsRecordingAudit : Rows → List OrderRow → List Sent → ℕ → List ℕ → Type 0
+IsRecordingAudit rows table messages status text =
+    (exchanges : List Exchange) × AreInTurn messages exchanges [] × IsAuditBy rows table exchanges status text
+
+-- they tell those that the messages of the dialogue in a file break
+abbrev pub IsFileAudit : Rows → List OrderRow → List ℕ → ℕ → List ℕ → Type 0
+IsFileAudit rows table file status text =
+    (exchanges : List Exchange) × IsDialogue file exchanges × IsAuditBy rows table exchanges status text
+
+-- the same by the parameters of the dialogue's own answers
+abbrev pub IsOwnFileAudit : List OrderRow → List ℕ → ℕ → List ℕ → Type 0
+IsOwnFileAudit table file status text =
+    (exchanges : List Exchange) × (rows : Rows) × IsDialogue file exchanges × TellsParams exchanges rows
+    × IsAuditBy rows table exchanges status text

@@ -1,18 +1,17 @@
 //! The text of `audit`: the rules that the messages of a recorded dialogue break.
 ghost use Rattle.std.specs.Prelude.{◌≡◌, ◌≤◌, ◌<◌, ◌+◌, ◌++◌, ◌^◌, ℕ, List, OnOk, IfOk, IfErr, string_bytes};
-ghost use Rattle.std.specs.List.{AllByRecursion, flat_map};
+ghost use Rattle.std.specs.List.{flat_map};
 ghost use Rattle.fints_params.specs.declared.fault.ParamFault.{ParamFault as ParamFaultValue};
 ghost use Rattle.fints_params.specs.Captures.{IsReadOf};
-ghost use Rattle.fints_rules_dialogues.specs.Dialogues.{IsExchange};
+ghost use Rattle.fints_rules_dialogues.specs.Dialogues.{IsDialogueFault, IsMemoryOrRefusal, IsTurnFault};
 ghost use Rattle.fints_cli_texts.specs.Fault.{fault_of};
 ghost use Rattle.fints_cli_texts.specs.Judge.{verdict_status};
-ghost use Rattle.fints_cli_texts.specs.declared.fault.Fault.TheVariants as fault;
-ghost use Rattle.fints_cli_recorded.specs.Audit.{broken_told, message_lines, lines_from, all_broken, audit_text, IsAuditBy, IsAuditOf, IsOwnAuditOf, IsAuditRefusal, IsOwnAuditRefusal};
+ghost use Rattle.fints_cli_recorded.specs.Audit.{broken_told, message_lines, lines_from, all_broken, audit_text, IsAuditOf, IsOwnAuditOf, IsAuditRefusal, IsOwnAuditRefusal, IsOwnFault, IsRecordingAudit, IsFileAudit, IsOwnFileAudit};
 
 use fints_cli_texts::{Fault, Reply, verdict_status, write_broken, write_last};
 use fints_params::{ParamFault, Params};
 use fints_rules::{Broken, OrderTable, Permissions};
-use fints_rules_dialogues::{Audited, Exchange, audit, own_params, read_dialogue};
+use fints_rules_dialogues::{Audited, DialogueFault, Recording, Unobserved, audit, own_params};
 use itoa::Buffer;
 use std::alloc::{AllocError, Global};
 
@@ -83,22 +82,57 @@ fn audit_reply(alloc: Global, audited: &[Audited<'_>]) -> Result<Reply, AllocErr
     })
 }
 
-// The text of a dialogue's exchanges, by good parameters and a good order table.
-fn audit_with(
+// The text of a recording, by good parameters and a good order table.
+fn audit_recording(
     alloc: Global,
     params: &Params,
     orders: &OrderTable,
-    exchanges: &[Exchange<'_>],
-) -> Result<Reply, Fault>
-    requires { AllByRecursion IsExchange exchanges.now }
+    recording: &Recording<'_>,
+) -> Result<Reply, DialogueFault>
     ensures audited { IfOk result (λ reply.
-        IsAuditBy params.now orders.now exchanges.now reply.status reply.text.items) }
-    ensures memory_alone { IfErr result (λ f. f ≡ fault.Memory) }
+        IsRecordingAudit params.now orders.now recording.now reply.status reply.text.items) }
+    ensures refused { IfErr result (λ f. IsMemoryOrRefusal (IsTurnFault recording.now) f) }
 {
     let permissions = Permissions::build(alloc, params, orders)?;
-    let audited = audit(alloc, &permissions, exchanges)?;
+    let audited = audit(alloc, &permissions, recording, &mut Unobserved)?;
     let reply = audit_reply(alloc, audited.as_slice())?;
     Ok(reply)
+}
+
+// The text of the dialogue in a file, by good parameters and a good order table.
+fn audit_file(
+    alloc: Global,
+    params: &Params,
+    orders: &OrderTable,
+    file: &[u8],
+) -> Result<Reply, DialogueFault>
+    ensures audited { IfOk result (λ reply.
+        IsFileAudit params.now orders.now file.now reply.status reply.text.items) }
+    ensures refused { IfErr result (λ f. IsMemoryOrRefusal (IsDialogueFault file.now) f) }
+{
+    let recording = Recording::cut(alloc, file)?;
+    audit_recording(alloc, params, orders, &recording)
+}
+
+// The same by the dialogue's own parameters. These are looked for before its messages are read; so where
+// they are refused, the messages are still read for a refusal of theirs, which comes first.
+fn audit_file_own(
+    alloc: Global,
+    orders: &OrderTable,
+    file: &[u8],
+) -> Result<Reply, DialogueFault>
+    ensures audited { IfOk result (λ reply.
+        IsOwnFileAudit orders.now file.now reply.status reply.text.items) }
+    ensures refused { IfErr result (λ f. IsMemoryOrRefusal (IsOwnFault file.now) f) }
+{
+    let recording = Recording::cut(alloc, file)?;
+    match own_params(alloc, &recording) {
+        Ok(params) => audit_recording(alloc, &params, orders, &recording),
+        Err(fault) => {
+            recording.exchanges(alloc)?;
+            Err(fault)
+        }
+    }
 }
 
 /// The rules that the client's messages of a recorded dialogue break, by what was read of a capture and
@@ -122,8 +156,7 @@ pub fn audit_read(
         Err(fault) => return Err(Fault::from(fault)),
     };
     let orders = OrderTable::read(alloc, orders)?;
-    let exchanges = read_dialogue(alloc, dialogue)?;
-    let reply = audit_with(alloc, &params, &orders, exchanges.as_slice())?;
+    let reply = audit_file(alloc, &params, &orders, dialogue)?;
     Ok(reply)
 }
 
@@ -136,8 +169,6 @@ pub fn audit_own(alloc: Global, orders: &[u8], dialogue: &[u8]) -> Result<Reply,
     ensures refused { IfErr result (λ f. IsOwnAuditRefusal orders.now dialogue.now f) }
 {
     let orders = OrderTable::read(alloc, orders)?;
-    let exchanges = read_dialogue(alloc, dialogue)?;
-    let params = own_params(alloc, exchanges.as_slice())?;
-    let reply = audit_with(alloc, &params, &orders, exchanges.as_slice())?;
+    let reply = audit_file_own(alloc, &orders, dialogue)?;
     Ok(reply)
 }

@@ -1,8 +1,5 @@
-use Rattle.std.proofs.Common.{ℕ, List, [], sym, subst}
-use Rattle.std.specs.List.{AllByRecursion}
+use Rattle.std.proofs.Common.{ℕ, List, sym, subst}
 use Rattle.fints_params.specs.Captures.{IsReadOf}
-use Rattle.fints_rules_dialogues.specs.Dialogues.{IsExchange}
-use Rattle.fints_rules_dialogues.proofs.Turns.{each_exchange}
 use Rattle.fints_cli_texts.proofs.JudgeLemmas.{params_refused}
 use Rattle.fints_cli_texts.specs.Fault.{dialogue_fault_of}
 use Rattle.fints_cli_recorded.proofs.AuditLemmas.{exit_refused, refused_later}
@@ -15,20 +12,14 @@ returns-in-Err-clause-refused c =
     (params_refused capture c.args.orders.now (IsDialogueRefusal c.args.dialogue.now) c.in-Err.fault
     (subst (IsReadOf capture) c.in-Err.is read))
 
-pub audit_with-requires : goal.audit_with-requires
-audit_with-requires c =
-    let dialogue = c.in_ok-exchanges.ensures.dialogue in
-    subst (AllByRecursion IsExchange) (sym c.as_slice.ensures.value)
-    (each_exchange dialogue.messages c.in_ok-exchanges.exchanges.items [] dialogue.in_turn)
-
-pub returns-in_err-exchanges-clause-refused : goal.returns-in_err-exchanges-clause-refused
-returns-in_err-exchanges-clause-refused c =
+pub returns-in_err-reply-clause-refused : goal.returns-in_err-reply-clause-refused
+returns-in_err-reply-clause-refused c =
     let orders = c.args.orders.now in
     let dialogue = c.args.dialogue.now in
-    let fault = c.in_err-exchanges.field-0.0 in
-    exit_refused c.from_residual-in_err-exchanges.result (dialogue_fault_of fault)
+    let fault = c.in_err-reply.field-0.0 in
+    exit_refused c.from_residual-in_err-reply.result (dialogue_fault_of fault)
     (λ f. (capture : List ℕ) → IsReadOf capture c.args.params → IsAuditRefusal capture orders dialogue f)
-    c.from_residual-in_err-exchanges.ensures.1
+    c.from_residual-in_err-reply.ensures.1
     (λ capture read.
     refused_later capture orders dialogue c.in-Ok.params c.in_ok-orders.orders fault
-    (subst (IsReadOf capture) c.in-Ok.is read) c.in_ok-orders.ensures.table c.in_err-exchanges.ensures.refused)
+    (subst (IsReadOf capture) c.in-Ok.is read) c.in_ok-orders.ensures.table c.in_err-reply.ensures.refused)
