@@ -88,16 +88,6 @@ fn head_of(alloc: Global, answer: &Answer<'_>) -> Result<Option<OwnedSegment>, M
     }
 }
 
-fn first_answer(alloc: Global, exchanges: &[Exchange<'_>]) -> Result<Option<OwnedSegment>, Memory> {
-    let [first, ..] = exchanges else {
-        return Ok(None);
-    };
-    match &first.answer {
-        Some(answer) => head_of(alloc, answer),
-        None => Ok(None),
-    }
-}
-
 // What is due of the message at a place, from 1, by what stands before it.
 #[derive(Clone, Copy)]
 struct Due<'a> {
@@ -196,29 +186,57 @@ fn ends(answer: &Answer<'_>) -> bool {
     answer.codes.iter().any(|code| code.number() == ENDED)
 }
 
-/// Adds the notes on a dialogue, message by message.
-pub fn add_notes(
-    text: &mut String,
-    alloc: Global,
-    exchanges: &[Exchange<'_>],
-) -> Result<(), Memory> {
-    let first = first_answer(alloc, exchanges)?;
-    let given = first.as_ref().map(|it| it.value(4, 1));
-    let mut due = Due {
-        place: 1,
-        number: 1,
-        given: None,
-        ended: false,
-    };
-    for exchange in exchanges {
-        let number = add_message(text, alloc, &due, &exchange.message)?;
-        if let Some(answer) = &exchange.answer {
-            add_answer(text, alloc, due.place, number, answer)?;
-            due.ended = due.ended || ends(answer);
+/// The notes on a dialogue, exchange by exchange.
+#[derive(Drop)]
+pub struct Notes {
+    text: String,
+    place: usize,
+    // The number that is due.
+    number: u64,
+    // HNHBK of the first answer, which gives the dialogue id.
+    first: Option<OwnedSegment>,
+    // Whether an answer has ended the dialogue.
+    ended: bool,
+}
+
+impl Notes {
+    pub fn new(alloc: Global) -> Notes {
+        Notes {
+            text: String::new(alloc),
+            place: 1,
+            number: 1,
+            first: None,
+            ended: false,
         }
-        due.place = due.place.saturating_add(1);
-        due.number = number.saturating_add(1);
-        due.given = given;
     }
-    Ok(())
+
+    /// The place of the next message of the client, from 1.
+    pub fn place(&self) -> usize {
+        self.place
+    }
+
+    pub fn text(&self) -> &str {
+        self.text.as_str()
+    }
+
+    /// Adds the notes on the next exchange.
+    pub fn add(&mut self, alloc: Global, exchange: &Exchange<'_>) -> Result<(), Memory> {
+        let due = Due {
+            place: self.place,
+            number: self.number,
+            given: self.first.as_ref().map(|it| it.value(4, 1)),
+            ended: self.ended,
+        };
+        let number = add_message(&mut self.text, alloc, &due, &exchange.message)?;
+        if let Some(answer) = &exchange.answer {
+            add_answer(&mut self.text, alloc, self.place, number, answer)?;
+            self.ended = self.ended || ends(answer);
+            if self.place == 1 {
+                self.first = head_of(alloc, answer)?;
+            }
+        }
+        self.place = self.place.saturating_add(1);
+        self.number = number.saturating_add(1);
+        Ok(())
+    }
 }

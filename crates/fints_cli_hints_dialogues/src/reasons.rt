@@ -1,12 +1,12 @@
 //! Why the messages of a recorded dialogue break the rules that `audit` names.
-use crate::notes::add_notes;
+use crate::notes::Notes;
 use fints_cli_hints_reasons::bank::Bank;
 use fints_cli_hints_reasons::{Judged, add_reasons};
 use fints_cli_hints_words::inputs::Inputs;
 use fints_cli_hints_words::places::written;
 use fints_params::Params;
 use fints_rules::{Broken, Message, OrderTable, Permissions};
-use fints_rules_dialogues::{Audited, Exchange, audit, read_dialogue};
+use fints_rules_dialogues::{Exchange, Observer, Recording, Sent, audit};
 use fints_syntax::Memory;
 use std::alloc::Global;
 
@@ -25,24 +25,18 @@ fn source_in<'a>(alloc: Global, capture: &'a [u8]) -> Option<Source<'a>> {
 }
 
 // The first answer that tells parameters, and these.
-fn own_source<'a>(alloc: Global, exchanges: &[Exchange<'a>]) -> Option<Source<'a>> {
-    for exchange in exchanges {
-        if let Some(answer) = &exchange.answer
-            && let Some(source) = source_in(alloc, answer.sent.bytes)
-        {
+fn own_source<'a>(alloc: Global, messages: &[Sent<'a>]) -> Option<Source<'a>> {
+    for answer in messages.iter().skip(1).step_by(2) {
+        if let Some(source) = source_in(alloc, answer.bytes) {
             return Some(source);
         }
     }
     None
 }
 
-fn source_of<'a>(
-    alloc: Global,
-    capture: &'a [u8],
-    exchanges: &[Exchange<'a>],
-) -> Option<Source<'a>> {
+fn source_of<'a>(alloc: Global, capture: &'a [u8], messages: &[Sent<'a>]) -> Option<Source<'a>> {
     if capture.is_empty() {
-        own_source(alloc, exchanges)
+        own_source(alloc, messages)
     } else {
         source_in(alloc, capture)
     }
@@ -69,18 +63,38 @@ fn add_broken(
     add_reasons(text, alloc, &judged, broken)
 }
 
-fn add_all_broken(
-    text: &mut String,
+// What is said of a dialogue while it is audited.
+#[derive(Drop)]
+struct Remarks<'b> {
     alloc: Global,
-    bank: &Bank<'_>,
-    exchanges: &[Exchange<'_>],
-    audited: &[Audited<'_>],
-) -> Result<(), Memory> {
-    for (i, (exchange, one)) in exchanges.iter().zip(audited.iter()).enumerate() {
-        let (number, broken) = (i.saturating_add(1), one.broken.as_slice());
-        add_broken(text, alloc, bank, number, &exchange.message, broken)?;
+    bank: &'b Bank<'b>,
+    reasons: String,
+    notes: Notes,
+    // Whether memory ran out.
+    failed: bool,
+}
+
+impl Remarks<'_> {
+    fn add(&mut self, exchange: &Exchange<'_>, broken: &[Broken]) -> Result<(), Memory> {
+        let number = self.notes.place();
+        add_broken(
+            &mut self.reasons,
+            self.alloc,
+            self.bank,
+            number,
+            &exchange.message,
+            broken,
+        )?;
+        self.notes.add(self.alloc, exchange)
     }
-    Ok(())
+}
+
+impl Observer for Remarks<'_> {
+    fn observe(&mut self, exchange: &Exchange<'_>, broken: &[Broken]) {
+        if !self.failed {
+            self.failed = self.add(exchange, broken).is_err();
+        }
+    }
 }
 
 /// A line for each rule that the client's messages of a dialogue break, in the order in which `audit` names
@@ -90,23 +104,29 @@ pub fn audited_reasons(alloc: Global, inputs: &Inputs<'_>) -> Result<Option<Stri
     let Ok(orders) = OrderTable::read(alloc, inputs.orders) else {
         return Ok(None);
     };
-    let Ok(exchanges) = read_dialogue(alloc, inputs.dialogue) else {
+    let Ok(recording) = Recording::cut(alloc, inputs.dialogue) else {
         return Ok(None);
     };
-    let Some(source) = source_of(alloc, inputs.params, exchanges.as_slice()) else {
+    let Some(source) = source_of(alloc, inputs.params, recording.messages()) else {
         return Ok(None);
     };
     let permissions = Permissions::build(alloc, &source.params, &orders)?;
     let bank = Bank::of(alloc, source.capture, &source.params, &orders, &permissions)?;
-    let audited = audit(alloc, &permissions, exchanges.as_slice())?;
-    let mut text = String::new(alloc);
-    add_all_broken(
-        &mut text,
+    let mut remarks = Remarks {
         alloc,
-        &bank,
-        exchanges.as_slice(),
-        audited.as_slice(),
-    )?;
-    add_notes(&mut text, alloc, exchanges.as_slice())?;
+        bank: &bank,
+        reasons: String::new(alloc),
+        notes: Notes::new(alloc),
+        failed: false,
+    };
+    if audit(alloc, &permissions, &recording, &mut remarks).is_err() || remarks.failed {
+        return Ok(None);
+    }
+    let Remarks {
+        reasons: mut text,
+        notes,
+        ..
+    } = remarks;
+    text.push_str(notes.text())?;
     Ok(Some(text))
 }

@@ -1,6 +1,8 @@
 //! Recorded dialogues.
-use fints_rules::{OrderTable, Permissions};
-use fints_rules_dialogues::{DialogueFault, audit, own_params, read_dialogue};
+use fints_rules::{Broken, OrderTable, Permissions};
+use fints_rules_dialogues::{
+    DialogueFault, Exchange, Observer, Recording, audit, own_params, read_dialogue,
+};
 use fints_samples::T;
 use std::test::Fail;
 
@@ -8,17 +10,40 @@ use std::test::Fail;
 const DIALOGUE: &[u8] =
     b"HNHBK:1:3+000000000055+300+0+1'HKEND:2:1+0'HNHBS:3:1+1'\r\nHNHBK:1:3+000000000137+300+0+1'HIRMG:2:2+0010::OK'HIBPA:3:3+12+280:10020030+Bank+1+1+300+0'HIPINS:4:1+1+1+0+5:38:6:::HKSAL:N'HNHBS:5:1+1'";
 
+// Counts the exchanges that it looks at.
+#[derive(Drop)]
+struct Counter(usize);
+
+impl Observer for Counter {
+    fn observe(&mut self, _exchange: &Exchange<'_>, _broken: &[Broken]) {
+        self.0 = self.0.saturating_add(1);
+    }
+}
+
 #[test]
 fn audited(rt: HostRuntime) -> Result<(), Fail> {
-    let exchanges = read_dialogue(rt.alloc(), DIALOGUE)?;
-    let params = own_params(rt.alloc(), exchanges.as_slice())?;
+    let recording = Recording::cut(rt.alloc(), DIALOGUE)?;
+    let params = own_params(rt.alloc(), &recording)?;
     let orders = OrderTable::read(rt.alloc(), T)?;
     let permissions = Permissions::build(rt.alloc(), &params, &orders)?;
-    let audited = audit(rt.alloc(), &permissions, exchanges.as_slice())?;
-    assert!(rt; audited.len() == 1);
+    let mut seen = Counter(0);
+    let audited = audit(rt.alloc(), &permissions, &recording, &mut seen)?;
+    assert_eq!(rt; audited.len(), 1);
     for one in audited.iter() {
         assert!(rt; (one.sent.start, one.sent.bytes.len()) == (0, 55));
         assert!(rt; one.broken.is_empty());
+    }
+    assert_eq!(rt; seen.0, 1);
+    Ok(())
+}
+
+#[test]
+fn exchanges(rt: HostRuntime) -> Result<(), Fail> {
+    let exchanges = read_dialogue(rt.alloc(), DIALOGUE)?;
+    assert_eq!(rt; exchanges.len(), 1);
+    for exchange in exchanges.iter() {
+        assert_eq!(rt; exchange.message.number(), 1);
+        assert!(rt; exchange.answer.is_some());
     }
     Ok(())
 }
