@@ -23,6 +23,7 @@ import tempfile
 import tomllib
 from collections.abc import Callable
 from concurrent.futures import ThreadPoolExecutor
+from functools import partial
 from typing import NamedTuple
 
 TOP = pathlib.Path(__file__).resolve().parent.parent
@@ -119,7 +120,7 @@ def block_of(ran):
 
 def differing(want, got):
     """How two lists of lines differ."""
-    return "\n".join(list(difflib.unified_diff(want, got, "wanted", "printed", lineterm="", n=1)))
+    return "\n".join(difflib.unified_diff(want, got, "wanted", "printed", lineterm="", n=1))
 
 
 # ---- The rows.
@@ -183,7 +184,7 @@ def rows_part(program, room):
         ran = run([program, *row.words], folder)
         return "" if ran == row.want else differing(block_of(row.want), block_of(ran))
 
-    return [Job(name, lambda name=name, row=row: check(row, room / "rows" / name)) for name, row in rows.items()]
+    return [Job(name, partial(check, row, room / "rows" / name)) for name, row in rows.items()]
 
 
 # ---- The tables.
@@ -247,7 +248,7 @@ def tables_part(program, room):
     for path in sorted(TABLES.glob("*.toml")):
         before = len(jobs)
         for words, text, wanted, row in read_table(path):
-            call = lambda it=(len(jobs), words, text, wanted): check(*it)
+            call = partial(check, len(jobs), words, text, wanted)
             jobs.append(Job(f"tables/{path.name}: {row[:200]}", call))
         if len(jobs) == before:
             sys.exit(f"tables: {path} holds no row")
@@ -275,8 +276,7 @@ def readme_part(program, room):
         first, _, shown = block[1].removesuffix("\n").partition("\n")
         if re.match(r"\$ fints( |$)|\$ \(cd crates/fints && rt try ", first):
             line = text.count("\n", 0, block.start()) + 2
-            call = lambda command=first[2:], shown=shown: check(command, shown)
-            jobs.append(Job(f"README.md, line {line}: {first}", call))
+            jobs.append(Job(f"README.md, line {line}: {first}", partial(check, first[2:], shown)))
     return jobs
 
 
@@ -288,12 +288,10 @@ def listings_part(program, room):
     def check(path, how, shown):
         file = (TOP / path).read_text(encoding="utf-8").rstrip("\n")
         good = shown and (shown == file if how == "whole" else shown in file)
-        return "" if good else "the file is otherwise than it is shown"
+        return "" if good else "the file is not what is shown"
 
-    return [
-        Job(f"docs/library.md: {path}", lambda it=(path, how, body.removesuffix("\n")): check(*it))
-        for path, how, body in re.findall(listing, text, re.M)
-    ]
+    found = re.findall(listing, text, re.M)
+    return [Job(f"docs/library.md: {path}", partial(check, path, how, body.removesuffix("\n"))) for path, how, body in found]
 
 
 PARTS = {"rows": rows_part, "tables": tables_part, "readme": readme_part, "listings": listings_part}
