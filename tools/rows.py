@@ -90,9 +90,10 @@ def stream_of(lines):
 
 def ran_of(block):
     """What the lines of a block say must come of its command."""
-    lines, status = block.split("\n")[:-1], 0
-    if lines and STATUS.fullmatch(lines[-1]):
-        status = int(lines.pop()[1:-1])
+    lines = block.split("\n")[:-1]
+    last = STATUS.fullmatch(lines[-1]) if lines else None
+    status = int(last[1]) if last else 0
+    lines = lines[:-1] if last else lines
     is_error = lambda line: line == "!" or line.startswith("! ")
     out = stream_of(it for it in lines if not is_error(it))
     return Ran(status, out, stream_of(it[2:] for it in lines if is_error(it)))
@@ -181,6 +182,7 @@ def rows_part(program, room):
     lay_out(room, rows)
 
     def check(row, folder):
+        """Runs a row in its folder."""
         ran = run([program, *row.words], folder)
         return "" if ran == row.want else differing(block_of(row.want), block_of(ran))
 
@@ -239,6 +241,7 @@ def tables_part(program, room):
     jobs = []
 
     def check(number, words, text, wanted):
+        """Runs the program on a row's text."""
         file = room / f"text-{number}"
         file.write_text(text, encoding="utf-8", newline="")
         ran = run([program, *(str(file) if it == "TEXT" else it for it in words)], TABLES)
@@ -264,6 +267,7 @@ def readme_part(program, room):
     text = (TOP / "README.md").read_text(encoding="utf-8")
 
     def check(command, shown):
+        """Runs an example as a shell does, with both streams in one."""
         tries = command.startswith("(cd ")
         call = ["bash", "-c", f'fints() {{ "$FINTS" "$@"; }}\n{command}']
         errors = subprocess.DEVNULL if tries else subprocess.STDOUT
@@ -286,6 +290,7 @@ def listings_part(program, room):
     listing = r"^`(crates/[^`]+)`, (whole|of it):.*\n(?:(?!```).*\n)*?```.*\n((?:.*\n)*?)```\n"
 
     def check(path, how, shown):
+        """Compares a file with what is shown of it."""
         file = (TOP / path).read_text(encoding="utf-8").rstrip("\n")
         good = shown and (shown == file if how == "whole" else shown in file)
         return "" if good else "the file is not what is shown"
@@ -323,6 +328,7 @@ def run_part(name, program, lanes, only):
 
 
 def main():
+    """Runs the parts that are named, or all."""
     words = argparse.ArgumentParser(description=__doc__, formatter_class=argparse.RawDescriptionHelpFormatter)
     words.add_argument("--program", default=TOP / "crates" / "fints" / "out" / "fints", metavar="PATH")
     words.add_argument("--threads", type=int, default=os.cpu_count(), metavar="N")
