@@ -1,17 +1,20 @@
 #!/usr/bin/env python3
-"""Tries the must-fail edits of crates several at once: edits of different functions stand in one
-check, and each of these functions has to be refused for itself, not for what it calls. What a
-function must meet is its own contract, and it rests on the contracts of others alone, so an edit of
-another function neither helps nor harms. An edit that isn't refused so is tried alone, by
-`rt must-fail`, which says what it came to.
+"""Tries the must-fail edits of crates, several in one check. A function is proved by its own contract and the
+contracts of what it calls, so an edit of another function neither helps nor harms. So edits of different
+functions are checked together, and each of these functions has to be refused for itself, not for what it calls.
+An edit that isn't refused so is tried by itself, by `rt must-fail`, whose verdict counts.
 
 A refusal that comes only because a proof file names what the edit took away, or answers a goal that is
 no longer one, says nothing of the contract: it counts as NOT REFUSED.
 
-The crates are to be checked before (`rt check`). It works in a copy, which it removes.
+The further edits of a crate are in must-fail/CRATE.edits. Each begins with a line `edit: NAME`, and its other
+lines are those of an .edit file. An empty line comes before the next one.
+
+The crates must be checked before (`rt check`). The tool works in a copy, which it removes.
 
 Usage: tools/edits-together.py [--gate] [--at-once N] [--only WORD] [CRATE..]
-       none: all that stand in must-fail/; --gate: those of crates/CRATE/must-fail in place of must-fail/CRATE
+       no crate: all that have edits; --gate: the edits of the gate, crates/CRATE/must-fail/NAME.edit, instead;
+       --at-once 1: each by `rt must-fail`
 """
 import argparse
 import glob
@@ -31,13 +34,23 @@ LOST_NAME = re.compile(r"has no field|is not in scope|has no `|was not admitted|
 SAYS_LITTLE = "only because a proof file names"
 
 
+def read(path):
+    with open(path, encoding="utf-8", newline="") as it:
+        return it.read()
+
+
+def write(path, text):
+    with open(path, "w", encoding="utf-8", newline="") as it:
+        it.write(text)
+
+
 class Edit:
     """One must-fail edit: pairs of a file, an old and a new text, each a line."""
 
-    def __init__(self, path, folder):
-        self.path, self.name, self.folder = path, os.path.basename(path), folder
+    def __init__(self, name, text, folder):
+        self.name, self.text, self.folder = name, text, folder
         self.pairs, file, old = [], None, None
-        for line in open(path, encoding="utf-8").read().split("\n"):
+        for line in text.split("\n"):
             if line.startswith("file: "):
                 file = line[len("file: ") :].strip()
             elif line.startswith("old: "):
@@ -52,7 +65,7 @@ class Edit:
         texts = dict(texts)
         for file, old, new in self.pairs:
             if file not in texts:
-                texts[file] = open(f"{self.folder}/{file}", encoding="utf-8").read()
+                texts[file] = read(f"{self.folder}/{file}")
             if texts[file].count(old) != 1:
                 return None
             texts[file] = texts[file].replace(old, new)
@@ -62,7 +75,7 @@ class Edit:
         """The functions that the edit changes, as module and name; None where it changes more."""
         found, texts = set(), {}
         for file, old, new in self.pairs:
-            text = texts.get(file) or open(f"{self.folder}/{file}", encoding="utf-8").read()
+            text = texts.get(file) or read(f"{self.folder}/{file}")
             if text.count(old) != 1 or not file.startswith("src/"):
                 return None
             at = text.index(old)
@@ -137,13 +150,13 @@ def check(room, crate, texts):
     """What a check of the crate says with these texts in place of its own."""
     folder, were = f"{room}/crates/{crate}", {}
     for file, text in texts.items():
-        were[file] = open(f"{folder}/{file}", encoding="utf-8").read()
-        open(f"{folder}/{file}", "w", encoding="utf-8").write(text)
+        were[file] = read(f"{folder}/{file}")
+        write(f"{folder}/{file}", text)
     try:
         ran = subprocess.run(["rt", "check", "--jobs", "1"], cwd=folder, capture_output=True, text=True, errors="replace", stdin=subprocess.DEVNULL)
     finally:
         for file, text in were.items():
-            open(f"{folder}/{file}", "w", encoding="utf-8").write(text)
+            write(f"{folder}/{file}", text)
     return ran.stdout + ran.stderr
 
 
@@ -152,7 +165,7 @@ def tried_alone(room, crate, edits):
     into = f"{room}/crates/{crate}/must-fail"
     os.makedirs(into)
     for edit in edits:
-        shutil.copy(edit.path, into)
+        write(f"{into}/{edit.name}.edit", edit.text)
     ran = subprocess.run(["rt", "must-fail", crate], cwd=room, stdout=subprocess.PIPE, text=True, errors="replace", stdin=subprocess.DEVNULL)
     shutil.rmtree(into)
     told = [it.removeprefix("rt: ") for it in ran.stdout.split("\n") if it.removeprefix("rt: ").startswith("must-fail ")]
@@ -161,11 +174,11 @@ def tried_alone(room, crate, edits):
     return len(good) - sum(good) + max(0, len(edits) - len(told))
 
 
-def try_crate(room, crate, paths, most):
+def try_crate(room, crate, named, most):
     """Tries a crate's edits; how many were refused, and how many were not."""
-    edits = [Edit(it, f"{room}/crates/{crate}") for it in paths]
-    alone, passed, lost = [it for it in edits if not it.places], 0, 0
-    for taken, texts in batches(edits, most):
+    edits = [Edit(name, text, f"{room}/crates/{crate}") for name, text in named]
+    alone, passed, lost = [it for it in edits if most == 1 or not it.places], 0, 0
+    for taken, texts in batches([it for it in edits if it not in alone], most):
         said = check(room, crate, texts)
         found = refusals(crate, said)
         for edit in taken:
@@ -179,6 +192,21 @@ def try_crate(room, crate, paths, most):
                 print(f"{crate}/{edit.name}: refused, with {len(taken) - 1} others", flush=True)
     failed = tried_alone(room, crate, alone) if alone else 0
     return passed + len(alone) - failed, failed + lost
+
+
+def read_edits(gate):
+    """The edits of the gate or the further ones, as a crate, a name and a text each."""
+    if gate:
+        for path in sorted(glob.glob(f"{TOP}/crates/*/must-fail/*.edit")):
+            yield path.split("/")[-3], os.path.basename(path).removesuffix(".edit"), read(path)
+        return
+    for path in sorted(glob.glob(f"{TOP}/must-fail/*.edits")):
+        first, *rest = re.split(r"^edit: (.+)\n", read(path), flags=re.M)
+        names, texts = rest[::2], rest[1::2]
+        if first or len(set(names)) < len(names):
+            sys.exit(f"{path}: it must begin with `edit: NAME`, and no name may come twice")
+        for name, text in zip(names, texts):
+            yield os.path.basename(path).removesuffix(".edits"), name, text.rstrip("\n") + "\n"
 
 
 def copy_to(room, crates):
@@ -201,15 +229,16 @@ def main():
     words.add_argument("--only", default="", metavar="WORD")
     words.add_argument("crates", nargs="*", metavar="CRATE")
     given = words.parse_args()
-    where = f"{TOP}/crates/*/must-fail" if given.gate else f"{TOP}/must-fail/*"
-    crate_of = lambda path: path.split("/")[-3 if given.gate else -2]
-    paths = sorted(it for it in glob.glob(f"{where}/*.edit") if given.only in it)
-    crates = given.crates or sorted({crate_of(it) for it in paths})
+    edits = [it for it in read_edits(given.gate) if given.only in f"{it[0]}/{it[1]}"]
+    crates = given.crates or sorted({it[0] for it in edits})
+    unknown = set(crates) - {it[0] for it in edits}
+    if unknown or not crates:
+        sys.exit(f"there is no such edit{' of ' if unknown else ''}{', '.join(sorted(unknown))}")
     passed = failed = 0
     with tempfile.TemporaryDirectory(prefix="edits-") as room:
         copy_to(room, crates)
         for crate in crates:
-            good, bad = try_crate(room, crate, [it for it in paths if crate_of(it) == crate], given.at_once)
+            good, bad = try_crate(room, crate, [it[1:] for it in edits if it[0] == crate], given.at_once)
             passed, failed = passed + good, failed + bad
     print(f"{passed} passed, {failed} failed")
     return 1 if failed else 0

@@ -34,22 +34,17 @@ import threading
 import time
 import tomllib
 from concurrent.futures import ThreadPoolExecutor
+from pathlib import Path
 from typing import NamedTuple
 
+from rows import Ran, lay_out, read_rows
+
 TOP = os.path.dirname(os.path.dirname(os.path.abspath(__file__)))
-ROWS, INPUTS = f"{TOP}/rows", f"{TOP}/rows/inputs"
+INPUTS = f"{TOP}/rows/inputs"
 MOST_CAPTURE, MOST_TEXT = 4_194_304, 1_048_576
 SECONDS = 60  # no run takes so long
 MOST_TOLD = 40  # failures that are told whole
 MEMORY = b"error: memory\n"
-
-
-class Ran(NamedTuple):
-    """What came of a run: its status and both streams."""
-
-    status: int
-    out: bytes
-    err: bytes
 
 
 WANT = Ran(4, b"", MEMORY)
@@ -74,12 +69,13 @@ def write(path, text):
     return path
 
 
+# The runs of rows/GROUP.md, by their names GROUP/ROW.
+RUNS = {}
+
+
 def row(name):
-    """The run of a row of rows/."""
-    folder = f"{ROWS}/{name}"
-    optional = lambda file: content(f"{folder}/{file}") if os.path.exists(f"{folder}/{file}") else b""
-    words = content(f"{folder}/words").decode().splitlines()
-    return Run(words, folder, Ran(int(optional("status") or 0), optional("stdout"), optional("stderr")))
+    """The run of a row."""
+    return RUNS[name]
 
 
 class Lab:
@@ -510,10 +506,9 @@ def other_names(lab, name):
 
 
 def families(lab):
-    names = [f"check/{it}" for it in sorted(os.listdir(f"{ROWS}/check"))]
-    names += [f"dialogue/{it}" for it in sorted(os.listdir(f"{ROWS}/dialogue")) if it.startswith("check")]
+    names = [it for it in RUNS if it.startswith(("check/", "dialogue/check"))]
     told = [it for it in names if row(it).want.status <= 1]
-    lab.note(len(told) >= 30, f"only {len(told)} rows of check have a report", ROWS, ["ls", "check", "dialogue"])
+    lab.note(len(told) >= 30, f"only {len(told)} rows of check have a report", f"{TOP}/rows", ["cat", "check.md", "dialogue.md"])
     jobs = [later(padded, lab, m) for m in range(1201)] + [later(many_ways, lab, n) for n in (*range(1, 201), 500, 999, 1000)]
     jobs += [later(drawn_ways, lab, n) for n in (1, 2, 3, 40, 1000)]
     lab.each(jobs + [later(other_names, lab, it) for it in told])
@@ -576,6 +571,9 @@ def main():
         if it not in PARTS:
             sys.exit(f"faults: there is no part {it}")
     room = tempfile.mkdtemp(prefix="faults-")
+    rows = read_rows()
+    lay_out(Path(room), rows)
+    RUNS.update({name: Run(it.words, f"{room}/rows/{name}", it.want) for name, it in rows.items()})
     lab = Lab(program, os.path.abspath(asked.tests), room, asked.threads, asked.only)
     for name in asked.part or PARTS:
         before, since = lab.passed + lab.failed, time.monotonic()

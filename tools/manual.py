@@ -1,7 +1,7 @@
 #!/usr/bin/env python3
 """Makes the manual page docs/fints.1 and the completion of the shell docs/fints.bash from the helps of
-the program, as they stand in rows/help/. The gate runs the program on these rows, so that all four say
-the same.
+the program, as they stand in rows/help.md. The gate runs the program on these rows, so that all say the
+same.
 
 Usage: tools/manual.py            writes both
        tools/manual.py --check    says whether they are as they would be written
@@ -10,8 +10,11 @@ import pathlib
 import re
 import sys
 
+from rows import read_group
+
 TOP = pathlib.Path(__file__).resolve().parent.parent
-HELPS = TOP / "rows" / "help"
+HELPS = {name: row.want.out.decode() for name, row in read_group(TOP / "rows" / "help.md").items()}
+WHOLE = HELPS["help/by-its-name"]
 MADE = ".\\\" Made by tools/manual.py from the helps of the program.\n"
 
 
@@ -23,10 +26,9 @@ def rows_of(text, head):
 
 def commands():
     """Each command with what its help says of it, its line of usage, and its options."""
-    whole = (HELPS / "by-its-name" / "stdout").read_text(encoding="utf-8")
-    for name, about in rows_of(whole, "Commands:"):
+    for name, about in rows_of(WHOLE, "Commands:"):
         if name != "help":
-            text = (HELPS / name / "stdout").read_text(encoding="utf-8")
+            text = HELPS[f"help/{name}"]
             yield name, about, re.search(r"^Usage: (.*)$", text, re.M)[1], rows_of(text, "Options:")
 
 
@@ -37,15 +39,14 @@ def escaped(text):
 
 
 def manual():
-    whole = (HELPS / "by-its-name" / "stdout").read_text(encoding="utf-8")
-    lines = [MADE.rstrip(), ".TH FINTS 1", ".SH NAME", "fints \\- " + escaped(whole.splitlines()[0]), ".SH SYNOPSIS", ".B fints", "[options] command", ".SH COMMANDS"]
+    lines = [MADE.rstrip(), ".TH FINTS 1", ".SH NAME", "fints \\- " + escaped(WHOLE.splitlines()[0]), ".SH SYNOPSIS", ".B fints", "[options] command", ".SH COMMANDS"]
     for name, about, usage, options in commands():
         lines += [".SS " + escaped(usage), escaped(about) + "."]
         for option, words in options:
             lines += [".TP", ".B " + escaped(option), escaped(words)]
     for head in ("Statuses", "Files"):
         lines += [f".SH {head.upper()}"]
-        for left, right in rows_of(whole, head):
+        for left, right in rows_of(WHOLE, head):
             lines += [".TP", ".B " + escaped(left), escaped(right)]
     lines += [".PP", "A file that is \\- is standard input, for one option of a command."]
     return "\n".join(lines) + "\n"

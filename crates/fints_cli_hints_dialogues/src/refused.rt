@@ -51,8 +51,6 @@ fn cut_file(alloc: Global, file: &[u8]) -> Result<Option<Vec<Sent<'_>>>, Memory>
 
 // ---- what is no message
 
-}
-
 // Why the bytes, which begin with an HNHBK, can't be cut off as a message.
 fn head_hint(alloc: Global, turn: Turn, bytes: &[u8]) -> Told {
     if bytes.starts_with(FRONT) {
