@@ -6,8 +6,7 @@ ghost use Rattle.fints_rules_messages.specs.Messages.{IsSealHead};
 ghost use Rattle.fints_cli_drafts.specs.Drafts.{HasSizeBefore, IsSealedIn, IsSentAgain};
 
 use crate::place::Place;
-use crate::recorded::Recorded;
-use fints_syntax::{Memory, SegmentView, SyntaxFault, SyntaxKind, parse_all, parse_segment};
+use fints_syntax::{Item, Memory, SegmentView, SyntaxFault, SyntaxKind, parse_all, parse_segment};
 use fints_syntax_segments::{HNVSK_NUMBER, HNVSK_VERSION};
 use std::alloc::Global;
 
@@ -106,16 +105,23 @@ fn views_of(alloc: Global, bytes: &[u8]) -> Result<Vec<SegmentView<'_>>, Memory>
 }
 
 // The number of the first recorded segment that isn't sent so; 0 where more is sent.
-fn other_segment(alloc: Global, recorded: &[u8], sent: &[u8]) -> Result<Option<usize>, Memory> {
-    let own = views_of(alloc, recorded)?;
-    let others = views_of(alloc, sent)?;
+fn other_segment(own: &[SegmentView<'_>], sent: &[SegmentView<'_>]) -> Option<usize> {
     for (i, segment) in own.iter().enumerate() {
-        match others.get(i) {
+        match sent.get(i) {
             Some(other) if is_alike(segment, other) => {}
-            _ => return Ok(Some(usize::from(segment.number()))),
+            _ => return Some(usize::from(segment.number())),
         }
     }
-    Ok((own.len() < others.len()).then_some(0))
+    (own.len() < sent.len()).then_some(0)
+}
+
+// The data of the HNVSD among the segments of a message.
+fn sealed_in<'a>(segments: &[SegmentView<'a>]) -> Option<&'a [u8]> {
+    let envelope = segments.iter().find(|own| own.id().is(b"HNVSD"))?;
+    match envelope.item(2, 1) {
+        Some(Item::Bin(data)) => Some(data),
+        _ => None,
+    }
 }
 
 /// The place of the first segment that isn't sent as it was recorded, in the message of a number.
@@ -125,16 +131,14 @@ pub fn other_place(
     sent: &[u8],
     message: usize,
 ) -> Result<Place, Memory> {
-    if let Some(segment) = other_segment(alloc, recorded, sent)? {
+    let (own, other) = (views_of(alloc, recorded)?, views_of(alloc, sent)?);
+    if let Some(segment) = other_segment(own.as_slice(), other.as_slice()) {
         return Ok(Place { message, segment });
     }
-    let own = Recorded::read(alloc, recorded)?;
-    let other = Recorded::read(alloc, sent)?;
-    match (own.data(), other.data()) {
-        (Some(inner), Some(sent)) => Ok(Place {
-            message,
-            segment: other_segment(alloc, inner, sent)?.unwrap_or(0),
-        }),
-        _ => Ok(Place::whole(message)),
-    }
+    let (Some(data), Some(sent)) = (sealed_in(own.as_slice()), sealed_in(other.as_slice())) else {
+        return Ok(Place::whole(message));
+    };
+    let (own, other) = (views_of(alloc, data)?, views_of(alloc, sent)?);
+    let segment = other_segment(own.as_slice(), other.as_slice()).unwrap_or(0);
+    Ok(Place { message, segment })
 }

@@ -28,10 +28,7 @@ fn row_of(
     message: usize,
     place: usize,
 ) -> Result<Option<SignerRow>, Undrafted> {
-    let Some(head) = recorded.signature(b"HNSHK", place) else {
-        return Ok(None);
-    };
-    let Some(end) = recorded.signature(b"HNSHA", place) else {
+    let Some((head, end)) = recorded.signature(place) else {
         return Ok(None);
     };
     let dialogue_id = recorded.dialogue_id();

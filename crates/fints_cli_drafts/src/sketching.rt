@@ -103,7 +103,7 @@ impl Sketch {
 fn turns_of(alloc: Global, exchanges: &[Exchange<'_>]) -> Result<Vec<Turn>, Memory> {
     let mut turns = Vec::new(alloc);
     for exchange in exchanges {
-        let recorded = Recorded::read(alloc, exchange.sent.bytes)?;
+        let recorded = Recorded::of(alloc, &exchange.message)?;
         turns.push(Turn::of(&recorded))?;
     }
     Ok(turns)
@@ -121,7 +121,7 @@ fn write_steps(
     let turns = turns_of(alloc, exchanges)?;
     for (i, exchange) in exchanges.iter().enumerate() {
         let message = i + 1;
-        let recorded = Recorded::read(alloc, exchange.sent.bytes)?;
+        let recorded = Recorded::of(alloc, &exchange.message)?;
         let ways = ways_of(turns.get(i..).unwrap_or(&[]), exchange, message);
         write_step(alloc, text, common, orders, &recorded, message, &ways)?;
         seal.meet(alloc, &mut common.secrets, recorded, message)?;
@@ -143,8 +143,8 @@ fn values_of(
     match exchanges.get(1) {
         None => values.push(dialog, b"0")?,
         Some(exchange) => {
-            let recorded = Recorded::read(alloc, exchange.sent.bytes)?;
-            values.push(dialog, recorded.dialogue_id())?;
+            let first = exchange.message.first().to_owned(alloc)?;
+            values.push(dialog, first.value(4, 1))?;
         }
     }
     secrets.add_values(alloc, &mut values)?;

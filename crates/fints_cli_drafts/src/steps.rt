@@ -2,7 +2,7 @@
 use crate::elements::{Written, write_elements};
 use crate::notes::write_segment_note;
 use crate::place::Undrafted;
-use crate::recorded::{Recorded, is_of_body};
+use crate::recorded::Recorded;
 use crate::secrets::Secrets;
 use crate::signers::Signers;
 use crate::texts::write_number;
@@ -45,7 +45,7 @@ fn write_body(
     message: usize,
 ) -> Result<(), Undrafted> {
     text.push_str("segments = [\n")?;
-    for segment in recorded.segments.iter().filter(|own| is_of_body(own)) {
+    for segment in recorded.body.iter() {
         let written = Written {
             segment,
             dialogue_id: recorded.dialogue_id(),
@@ -81,7 +81,7 @@ pub fn write_step(
     if recorded.seal().is_some() {
         text.push_str("sealed = true\n")?;
     }
-    if recorded.signature(b"HNSHK", 0).is_some() {
+    if recorded.signature(0).is_some() {
         text.push_str("signers = [")?;
         signers.write_names(alloc, text, secrets, recorded, message)?;
         text.push_str("]\n")?;

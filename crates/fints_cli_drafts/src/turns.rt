@@ -21,13 +21,13 @@ pub struct Turn {
 
 impl Turn {
     pub fn of(recorded: &Recorded) -> Turn {
-        let segments = &recorded.segments;
+        let body = &recorded.body;
         Turn {
-            submits: segments.iter().any(|own| has_process(own, b"4")),
-            releases: segments
+            submits: body.iter().any(|own| has_process(own, b"4")),
+            releases: body
                 .iter()
                 .any(|own| has_process(own, b"2") || has_process(own, b"S")),
-            ends: segments.iter().any(|own| own.head.id.is(b"HKEND")),
+            ends: body.iter().any(|own| own.head.id.is(b"HKEND")),
         }
     }
 }
