@@ -1,5 +1,5 @@
 -- What `verify` knows on its way. Private contracts alone cite these words.
-use Rattle.std.specs.Prelude.{ℕ, ◌≡◌, ◌↔◌, ◌≤◌, Bool, true, Option, Some, List, length, IsNone}
+use Rattle.std.specs.Prelude.{ℕ, ◌≡◌, ◌↔◌, ◌≤◌, Bool, true, Option, Some, List, length, IfSome, IsNone}
 use Rattle.fints_script_cases.specs.Answers.{IsOpenTo}
 use Rattle.fints_script_cases.specs.declared.answers.Target.TheVariants as targets
 use Rattle.fints_rules.specs.Rules.{FiguresBreak}
@@ -11,8 +11,8 @@ use Rattle.fints_script.specs.Steps.{StepValue}
 use Rattle.fints_check_reach.specs.Closed.{IsEnough}
 use Rattle.fints_check_findings.specs.Figures.{reached_figures}
 use Rattle.fints_check_findings.specs.declared.finding.Reached.{Reached}
-use Rattle.fints_check_findings.specs.Releases.{IsUnreleased}
-use Rattle.fints_check.specs.Certificates.{worst_len, BranchGoesOn, IsEntered, LineHolds, Names}
+use Rattle.fints_check.specs.Certificates.{worst_len, BranchGoesOn, IsEntered, Names}
+use Rattle.fints_check.specs.Unclosed.{found_at, IsLineClosed}
 use Rattle.fints_check.specs.declared.certificate.Line.{Line}
 use Rattle.fints_check.specs.declared.unclosed.Open.{Open}
 
@@ -49,19 +49,14 @@ abbrev pub TellsFigures : ClaimsValue → ℕ → Reached → Option Open → Ty
 TellsFigures c n figures found =
     (step : StepValue) → numbered c.script.steps n ≡ Some step → (IsNone found ↔ AreFiguresClosed c step figures)
 
--- what is named of step n holds, and no step leaves an order of it unreleased
-pub record IsLineClosed (c : ClaimsValue) (n : ℕ) (step : StepValue) (figures : Reached) : Type 0 where
-  pub holds : LineHolds c.granted c.script c.lines step figures
-  pub released : (s : ℕ) → IsUnreleased c.script n s → ⊥
-
 -- none is found exactly where step n is closed with these figures
 abbrev pub TellsLine : ClaimsValue → ℕ → Reached → Option Open → Type 0
 TellsLine c n figures found =
-    (step : StepValue) → numbered c.script.steps n ≡ Some step → (IsNone found ↔ IsLineClosed c n step figures)
+    (step : StepValue) → numbered c.script.steps n ≡ Some step → (IsNone found ↔ IsLineClosed c.granted c.script c.lines n step figures)
 
 -- step n is named as unreached, or closed with its figures
 abbrev pub IsStepClosed : ClaimsValue → ℕ → StepValue → Type 0
-IsStepClosed c n step = (figures : Reached) → Names c.lines n figures → IsLineClosed c n step figures
+IsStepClosed c n step = (figures : Reached) → Names c.lines n figures → IsLineClosed c.granted c.script c.lines n step figures
 
 -- none is found exactly where step n is named as unreached, or closed
 abbrev pub TellsStep : ClaimsValue → ℕ → Option Open → Type 0
@@ -76,3 +71,7 @@ AreStepsClosed c = (n : ℕ) (step : StepValue) → numbered c.script.steps n �
 pub record AreClaimsClosed (c : ClaimsValue) : Type 0 where
   pub first : IsEntered c.script.steps c.lines 1 1
   pub each : AreStepsClosed c
+
+-- what is found is found at step n
+abbrev pub IsFoundAt : ℕ → Option Open → Type 0
+IsFoundAt n found = IfSome found (λ o. found_at o ≡ n)

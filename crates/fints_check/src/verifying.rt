@@ -1,10 +1,11 @@
 //! Whether a certificate is closed, whoever wrote it, and what is open of it first.
-ghost use Rattle.std.specs.Prelude.{◌≡◌, ◌↔◌, ◌≤◌, ◌^◌, Some, true, length, IsTrue, IsNone, IfSome, OkIff};
+ghost use Rattle.std.specs.Prelude.{◌≡◌, ◌↔◌, ◌≤◌, ◌^◌, Some, true, length, IsTrue, IsNone, IfErr, IfSome, OkIff};
 ghost use Rattle.fints_script_cases.specs.Answers.{IsOpenTo};
 ghost use Rattle.fints_check_findings.specs.Findings.{EachIsPermitted};
 ghost use Rattle.fints_script.specs.Numbered.{numbered};
 ghost use Rattle.fints_check.specs.Certificates.{figures_at, line_names, step_names, GoesOn, IsClosedCertificate, IsEntered, KeepsPromise};
-ghost use Rattle.fints_check.specs.Verifying.{AreClaimsClosed, AreRepeats, AreStepsClosed, IsLeast, TellsFigures, TellsLine, TellsOnward, TellsStep};
+ghost use Rattle.fints_check.specs.Unclosed.{found_at, source_of, AreClosedBefore};
+ghost use Rattle.fints_check.specs.Verifying.{AreClaimsClosed, AreRepeats, AreStepsClosed, IsFoundAt, IsLeast, TellsFigures, TellsLine, TellsOnward, TellsStep};
 
 use crate::certificate::{Certificate, Line};
 use crate::unclosed::{Open, Way};
@@ -57,7 +58,8 @@ fn is_named(line: &Line, step: &Step) -> bool
 
 // Where first there isn't one line for each step, in order, with its name.
 fn other_name(plan: &Plan<'_>, lines: &[Line]) -> Option<Open>
-    ensures { IsNone result ↔ (line_names lines.now ≡ step_names plan.now.script.steps) }
+    ensures at { IsFoundAt 0 result }
+    ensures none { IsNone result ↔ (line_names lines.now ≡ step_names plan.now.script.steps) }
 {
     let count = plan.step_count();
     for i in 0..lines.len() {
@@ -112,7 +114,8 @@ impl<'a> Claims<'a> {
         lines: &'a [Line],
     ) -> Result<Claims<'a>, Open>
         requires { permissions.now.orders ≡ plan.now.orders }
-        ensures { OkIff result (line_names lines.now ≡ step_names plan.now.script.steps)
+        ensures at { IfErr result (λ found. found_at found ≡ 0) }
+        ensures claims { OkIff result (line_names lines.now ≡ step_names plan.now.script.steps)
             (record { granted = permissions.now; script = plan.now.script; lines = lines.now }) }
     {
         if let Some(found) = other_name(plan, lines) {
@@ -154,7 +157,8 @@ impl<'a> Claims<'a> {
     // `from` then.
     fn open_entry(&self, n: usize, way: Way, from: u64) -> Option<Open>
         requires { from ≤ 2 ^ 32 }
-        ensures { IsNone result ↔ IsEntered self.now.script.steps self.now.lines n from }
+        ensures at { IsFoundAt (source_of way) result }
+        ensures none { IsNone result ↔ IsEntered self.now.script.steps self.now.lines n from }
     {
         let Some(reached) = self.figures(n) else {
             return Some(Open::Unreached { step: n, way });
@@ -174,7 +178,8 @@ impl<'a> Claims<'a> {
 
     // What is open where this way, behind messages of at most this number, leads to the target.
     fn open_target(&self, target: Target, way: Way, number: u32) -> Option<Open>
-        ensures { IsNone result ↔ GoesOn self.now.script.steps self.now.lines number target }
+        ensures at { IsFoundAt (source_of way) result }
+        ensures none { IsNone result ↔ GoesOn self.now.script.steps self.now.lines number target }
     {
         match target {
             Target::Step(to) => self.open_entry(to as usize, way, u64::from(number) + 1),
@@ -187,7 +192,8 @@ impl<'a> Claims<'a> {
     fn open_branch(&self, n: usize, number: u32) -> Option<Open>
         requires first { 1 ≤ n }
         requires last { n ≤ length self.now.script.steps }
-        ensures { TellsOnward self.now n number result }
+        ensures at { IsFoundAt n result }
+        ensures none { TellsOnward self.now n number result }
     {
         let step = self.plan.step(n);
         for branch in 1..step.branches().len() + 2 {
@@ -208,7 +214,8 @@ impl<'a> Claims<'a> {
     fn open_figures(&self, n: usize, reached: Reached) -> Option<Open>
         requires first { 1 ≤ n }
         requires last { n ≤ length self.now.script.steps }
-        ensures { TellsFigures self.now n reached result }
+        ensures at { IsFoundAt n result }
+        ensures none { TellsFigures self.now n reached result }
     {
         let Reached { number, size } = reached;
         let bank = self.permissions.bank();
@@ -235,7 +242,8 @@ impl<'a> Claims<'a> {
     fn open_line(&self, n: usize, reached: Reached) -> Option<Open>
         requires first { 1 ≤ n }
         requires last { n ≤ length self.now.script.steps }
-        ensures { TellsLine self.now n reached result }
+        ensures at { IsFoundAt n result }
+        ensures none { TellsLine self.now n reached result }
     {
         if let Some(found) = self.open_figures(n, reached) {
             return Some(found);
@@ -253,7 +261,8 @@ impl<'a> Claims<'a> {
     fn open_step(&self, n: usize) -> Option<Open>
         requires first { 1 ≤ n }
         requires last { n ≤ length self.now.script.steps }
-        ensures { TellsStep self.now n result }
+        ensures at { IsFoundAt n result }
+        ensures none { TellsStep self.now n result }
     {
         match self.figures(n) {
             Some(reached) => self.open_line(n, reached),
@@ -263,7 +272,9 @@ impl<'a> Claims<'a> {
 
     // What is open of the first step of which something is.
     fn open_steps(&self) -> Option<Open>
-        ensures { IsNone result ↔ AreStepsClosed self.now }
+        ensures before { IfSome result (λ found.
+            AreClosedBefore self.now.granted self.now.script self.now.lines (found_at found)) }
+        ensures none { IsNone result ↔ AreStepsClosed self.now }
     {
         for n in 1..self.plan.step_count() + 1 {
             if let Some(found) = self.open_step(n) {
@@ -275,7 +286,9 @@ impl<'a> Claims<'a> {
 
     // What is open first where the lines have the steps' names.
     fn first_open(&self) -> Option<Open>
-        ensures { IsNone result ↔ AreClaimsClosed self.now }
+        ensures before { IfSome result (λ found.
+            AreClosedBefore self.now.granted self.now.script self.now.lines (found_at found)) }
+        ensures none { IsNone result ↔ AreClaimsClosed self.now }
     {
         if let Some(found) = self.open_entry(1, Way::Begin, 1) {
             return Some(found);
@@ -294,7 +307,9 @@ pub fn first_open(
     certificate: &Certificate,
 ) -> Option<Open>
     requires { permissions.now.orders ≡ plan.now.orders }
-    ensures { IsNone result ↔ IsClosedCertificate permissions.now plan.now.script certificate.now }
+    ensures first { IfSome result (λ found.
+        AreClosedBefore permissions.now plan.now.script certificate.now (found_at found)) }
+    ensures none { IsNone result ↔ IsClosedCertificate permissions.now plan.now.script certificate.now }
 {
     match Claims::of(permissions, plan, certificate.lines()) {
         Ok(claims) => claims.first_open(),

@@ -52,21 +52,21 @@ impl Display for LineName<'_> {
 
 // What is open of a plan's certificate with these lines.
 #[derive(Clone, Copy)]
-struct Why<'a> {
-    plan: &'a Plan<'a>,
-    lines: &'a [Line],
+struct Why<'p, 'l> {
+    plan: &'p Plan<'p>,
+    lines: &'l [Line],
     open: Open,
 }
 
-impl<'a> Why<'a> {
-    fn step(&self, step: usize) -> StepName<'a> {
+impl<'p, 'l> Why<'p, 'l> {
+    fn step(&self, step: usize) -> StepName<'p> {
         StepName {
             plan: self.plan,
             step,
         }
     }
 
-    fn line(&self, line: usize) -> LineName<'a> {
+    fn line(&self, line: usize) -> LineName<'l> {
         LineName {
             lines: self.lines,
             line,
@@ -81,7 +81,7 @@ impl<'a> Why<'a> {
     }
 }
 
-fn write_name<W: Write>(f: &mut Formatter<W>, why: &Why<'_>) -> fmt::Result {
+fn write_name<W: Write>(f: &mut Formatter<W>, why: &Why<'_, '_>) -> fmt::Result {
     match why.open {
         Open::OtherName { step } => {
             let (line, named, name) = (step.saturating_add(1), why.line(step), why.step(step));
@@ -105,7 +105,7 @@ fn write_name<W: Write>(f: &mut Formatter<W>, why: &Why<'_>) -> fmt::Result {
     }
 }
 
-fn write_way<W: Write>(f: &mut Formatter<W>, why: &Why<'_>, step: usize, way: Way) -> fmt::Result {
+fn write_way<W: Write>(f: &mut Formatter<W>, why: &Why<'_, '_>, step: usize, way: Way) -> fmt::Result {
     let name = why.step(step);
     match way {
         Way::Begin => write!(f, "each run begins with step {name}"),
@@ -116,7 +116,7 @@ fn write_way<W: Write>(f: &mut Formatter<W>, why: &Why<'_>, step: usize, way: Wa
     }
 }
 
-fn write_need<W: Write>(f: &mut Formatter<W>, why: &Why<'_>, step: usize, way: Way) -> fmt::Result {
+fn write_need<W: Write>(f: &mut Formatter<W>, why: &Why<'_, '_>, step: usize, way: Way) -> fmt::Result {
     let name = why.step(step);
     match way {
         Way::Begin => write!(f, "step {name}, the first,"),
@@ -127,7 +127,7 @@ fn write_need<W: Write>(f: &mut Formatter<W>, why: &Why<'_>, step: usize, way: W
     }
 }
 
-fn write_entry<W: Write>(f: &mut Formatter<W>, why: &Why<'_>) -> fmt::Result {
+fn write_entry<W: Write>(f: &mut Formatter<W>, why: &Why<'_, '_>) -> fmt::Result {
     match why.open {
         Open::Unreached { step, way } => {
             write_way(f, why, step, way)?;
@@ -149,7 +149,7 @@ fn write_entry<W: Write>(f: &mut Formatter<W>, why: &Why<'_>) -> fmt::Result {
     }
 }
 
-fn write_figures<W: Write>(f: &mut Formatter<W>, why: &Why<'_>) -> fmt::Result {
+fn write_figures<W: Write>(f: &mut Formatter<W>, why: &Why<'_, '_>) -> fmt::Result {
     match why.open {
         Open::BreaksNumber { step, number } => {
             let name = why.step(step);
@@ -181,7 +181,7 @@ fn write_figures<W: Write>(f: &mut Formatter<W>, why: &Why<'_>) -> fmt::Result {
     }
 }
 
-impl Display for Why<'_> {
+impl Display for Why<'_, '_> {
     fn fmt<W: Write>(&self, f: &mut Formatter<W>) -> fmt::Result {
         match self.open {
             Open::BreaksRule { step } => {

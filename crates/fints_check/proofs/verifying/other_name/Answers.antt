@@ -8,8 +8,8 @@ use Rattle.fints_check.specs.declared.certificate.Line.{Line}
 use Rattle.fints_check.proofs.Numbered.{same_length, same_more, same_at}
 use Rattle.fints_check.proofs.verifying.other_name.Goals as goal
 
-pub returns-then-i-count : goal.returns-then-i-count
-returns-then-i-count c = (
+pub returns-then-i-count-clause-none : goal.returns-then-i-count-clause-none
+returns-then-i-count-clause-none c = (
   λ h. absurd cc,
   λ e.
       let same = same_length (λ (x : Line). x.name) (λ (x : StepValue). x.name) c.args.lines.now c.args.plan.now.script.steps e in
@@ -17,8 +17,8 @@ returns-then-i-count c = (
       absurd (omega arith),
 )
 
-pub returns-then-lines-count : goal.returns-then-lines-count
-returns-then-lines-count c = (
+pub returns-then-lines-count-clause-none : goal.returns-then-lines-count-clause-none
+returns-then-lines-count-clause-none c = (
   λ h. absurd cc,
   λ e.
       let same = same_length (λ (x : Line). x.name) (λ (x : StepValue). x.name) c.args.lines.now c.args.plan.now.script.steps e in
@@ -26,8 +26,8 @@ returns-then-lines-count c = (
       absurd (omega arith),
 )
 
-pub returns-then-not-is_named : goal.returns-then-not-is_named
-returns-then-not-is_named c =
+pub returns-then-not-is_named-clause-none : goal.returns-then-not-is_named-clause-none
+returns-then-not-is_named-clause-none c =
     let lines = c.args.lines.now in
     let steps = c.args.plan.now.script.steps in
     let i : ℕ = c.loop-i.i in
@@ -65,8 +65,8 @@ loop-i-preserved c =
           (c.is_named.ensures.0 c.if-not-is_named.false) c.loop-i.invariant.1,
     )
 
-pub returns : goal.returns
-returns c =
+pub returns-clause-none : goal.returns-clause-none
+returns-clause-none c =
     let lines = c.args.lines.now in
     let steps = c.args.plan.now.script.steps in
     let i : ℕ = c.loop-i.i in

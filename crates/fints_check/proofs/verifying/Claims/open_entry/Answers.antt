@@ -4,11 +4,11 @@ use Rattle.fints_script.specs.Numbered.{numbered_at}
 use Rattle.fints_check_reach.specs.Closed.{IsEnough}
 use Rattle.fints_check.proofs.verifying.Claims.open_entry.Goals as goal
 
-pub returns-in_default : goal.returns-in_default
-returns-in_default c = let named = sym c.figures.ensures.figures ∙ c.in_default.is in (λ h. absurd cc, λ e. let both = sym named ∙ e.named in absurd cc)
+pub returns-in_default-clause-none : goal.returns-in_default-clause-none
+returns-in_default-clause-none c = let named = sym c.figures.ensures.figures ∙ c.in_default.is in (λ h. absurd cc, λ e. let both = sym named ∙ e.named in absurd cc)
 
-pub returns-then-from-least : goal.returns-then-from-least
-returns-then-from-least c =
+pub returns-then-from-least-clause-none : goal.returns-then-from-least-clause-none
+returns-then-from-least-clause-none c =
     let named = sym c.figures.ensures.figures ∙ c.in-Some.is in (
       λ h. absurd cc,
       λ e.
@@ -19,8 +19,8 @@ returns-then-from-least c =
           absurd (omega arith),
     )
 
-pub returns : goal.returns
-returns c =
+pub returns-clause-none : goal.returns-clause-none
+returns-clause-none c =
     let named = sym c.figures.ensures.figures ∙ c.in-Some.is in
     let within = c.in-Some.ensures.within in
     let step = numbered_at c.args.self.now.script.steps c.args.n within.0 within.1 in

@@ -25,8 +25,8 @@ worst_size-longest-requires-clause-last c =
 pub worst_size-longest-requires-clause-to : goal.worst_size-longest-requires-clause-to
 worst_size-longest-requires-clause-to c = subst (λ (v : ClaimsValue). c.args.n ≤ length v.script.steps) (sym c.self.view_is) c.requires.last
 
-pub returns-then-figures_break : goal.returns-then-figures_break
-returns-then-figures_break c step at = (
+pub returns-then-figures_break-clause-none : goal.returns-then-figures_break-clause-none
+returns-then-figures_break-clause-none c step at = (
   λ h. absurd cc,
   λ closed.
       absurd
@@ -34,8 +34,8 @@ returns-then-figures_break c step at = (
       (subst (λ (f : Figures). BreaksNumber f) c.figures-figures.ensures (c.figures_break.ensures.0 c.if-figures_break.true))),
 )
 
-pub returns-then-figures_break-2 : goal.returns-then-figures_break-2
-returns-then-figures_break-2 c =
+pub returns-then-figures_break-2-clause-none : goal.returns-then-figures_break-2-clause-none
+returns-then-figures_break-2-clause-none c =
     let granted = c.self.inside.permissions.now in
     subst (λ (v : ClaimsValue). TellsFigures v c.args.n c.args.reached (Some (Open.BreaksSize c.args.n c.args.reached.size))) c.self.view_is
     (λ step at. (
@@ -48,8 +48,8 @@ returns-then-figures_break-2 c =
           (c.figures_break-2.ensures.0 c.if-figures_break-2.true)))),
     ))
 
-pub returns-then-size-longest : goal.returns-then-size-longest
-returns-then-size-longest c =
+pub returns-then-size-longest-clause-none : goal.returns-then-size-longest-clause-none
+returns-then-size-longest-clause-none c =
     let script = c.self.inside.plan.now.script in
     subst (λ (v : ClaimsValue). TellsFigures v c.args.n c.args.reached
     (Some (Open.LowSize c.args.n c.args.reached.number c.worst_size-longest.result c.args.reached.size))) c.self.view_is
@@ -61,8 +61,8 @@ returns-then-size-longest c =
           absurd (omega arith),
     ))
 
-pub returns : goal.returns
-returns c =
+pub returns-clause-none : goal.returns-clause-none
+returns-clause-none c =
     let inside = c.self.inside in
     let granted = inside.permissions.now in
     let script = inside.plan.now.script in

@@ -19,16 +19,16 @@ new-requires-clause-orders c = c.self.invariant.0
 pub is_released_step-requires-clause-to : goal.is_released_step-requires-clause-to
 is_released_step-requires-clause-to c = subst (λ (v : ClaimsValue). c.args.n ≤ length v.script.steps) (sym c.self.view_is) c.requires.last
 
-pub returns-in-Some : goal.returns-in-Some
-returns-in-Some c step at = (
+pub returns-in-Some-clause-none : goal.returns-in-Some-clause-none
+returns-in-Some-clause-none c step at = (
   λ h. absurd cc,
   λ closed.
-      let told = (c.in-Some.ensures step at).1 (record { permitted = closed.holds.permitted; size = closed.holds.size }) in
+      let told = (c.in-Some.ensures.none step at).1 (record { permitted = closed.holds.permitted; size = closed.holds.size }) in
       absurd cc,
 )
 
-pub returns-then-not-is_clean : goal.returns-then-not-is_clean
-returns-then-not-is_clean c =
+pub returns-then-not-is_clean-clause-none : goal.returns-then-not-is_clean-clause-none
+returns-then-not-is_clean-clause-none c =
     let inside = c.self.inside in
     let granted = inside.permissions.now in
     let script = inside.plan.now.script in
@@ -42,21 +42,21 @@ returns-then-not-is_clean c =
       λ closed. absurd (both_ways _ c.if-not-is_clean.true (clean.1 closed.holds.clean)),
     ))
 
-pub returns-then-not-is_released_step : goal.returns-then-not-is_released_step
-returns-then-not-is_released_step c =
+pub returns-then-not-is_released_step-clause-none : goal.returns-then-not-is_released_step-clause-none
+returns-then-not-is_released_step-clause-none c =
     subst (λ (v : ClaimsValue). TellsLine v c.args.n c.args.reached (Some (Open.Unreleased c.args.n))) c.self.view_is
     (λ step at. (
       λ h. absurd cc,
       λ closed. absurd (both_ways _ c.if-not-is_released_step.true (c.is_released_step.ensures.1 closed.released)),
     ))
 
-pub returns : goal.returns
-returns c step at =
+pub returns-clause-none : goal.returns-clause-none
+returns-clause-none c step at =
     let inside = c.self.inside in
     let granted = inside.permissions.now in
     let script = inside.plan.now.script in
-    let figures = (c.in_default.ensures step at).0 refl in
-    let onward = c.open_branch.ensures step at in
+    let figures = (c.in_default.ensures.none step at).0 refl in
+    let onward = c.open_branch.ensures.none step at in
     let here = subst (λ (v : ClaimsValue). numbered v.script.steps c.args.n ≡ Some step) (sym c.self.view_is) at in
     let same : c.new.result.step ≡ step = same_Some c.new.result.step step (sym c.new.ensures.step ∙ here) in
     let clean =
