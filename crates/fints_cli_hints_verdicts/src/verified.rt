@@ -105,7 +105,12 @@ fn write_name<W: Write>(f: &mut Formatter<W>, why: &Why<'_, '_>) -> fmt::Result 
     }
 }
 
-fn write_way<W: Write>(f: &mut Formatter<W>, why: &Why<'_, '_>, step: usize, way: Way) -> fmt::Result {
+fn write_way<W: Write>(
+    f: &mut Formatter<W>,
+    why: &Why<'_, '_>,
+    step: usize,
+    way: Way,
+) -> fmt::Result {
     let name = why.step(step);
     match way {
         Way::Begin => write!(f, "each run begins with step {name}"),
@@ -116,7 +121,12 @@ fn write_way<W: Write>(f: &mut Formatter<W>, why: &Why<'_, '_>, step: usize, way
     }
 }
 
-fn write_need<W: Write>(f: &mut Formatter<W>, why: &Why<'_, '_>, step: usize, way: Way) -> fmt::Result {
+fn write_need<W: Write>(
+    f: &mut Formatter<W>,
+    why: &Why<'_, '_>,
+    step: usize,
+    way: Way,
+) -> fmt::Result {
     let name = why.step(step);
     match way {
         Way::Begin => write!(f, "step {name}, the first,"),
@@ -203,6 +213,11 @@ impl Display for Why<'_, '_> {
     }
 }
 
+fn why_text<'p>(alloc: Global, plan: &'p Plan<'p>, lines: &[Line], open: Open) -> Told {
+    let why = Why { plan, lines, open };
+    told(alloc, format_args!("why: {why}\n"))
+}
+
 fn verified_line(
     alloc: Global,
     params: &Params,
@@ -217,12 +232,7 @@ fn verified_line(
     let Some(open) = first_open(&permissions, &plan, certificate) else {
         return Ok(None);
     };
-    let why = Why {
-        plan: &plan,
-        lines: certificate.lines(),
-        open,
-    };
-    told(alloc, format_args!("why: {why}\n"))
+    why_text(alloc, &plan, certificate.lines(), open)
 }
 
 fn line_by(alloc: Global, params: &Params, orders: &OrderTable, inputs: &Inputs<'_>) -> Told {
