@@ -1,4 +1,4 @@
-use Rattle.std.proofs.Common.{◌≡◌, ◌∙◌, ◌≤◌, refl, sym, subst, arith}
+use Rattle.std.proofs.Common.{◌∙◌, ◌≤◌, refl, sym, subst, arith}
 use Rattle.std.proofs.lemmas.Option.{same_Some}
 use Rattle.fints_script.specs.Numbered.{numbered_at}
 use Rattle.fints_check_reach.specs.Closed.{IsEnough}

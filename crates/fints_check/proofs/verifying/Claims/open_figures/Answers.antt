@@ -6,7 +6,7 @@ use Rattle.fints_rules.specs.declared.rule.Rule.{Rule}
 use Rattle.fints_rules.specs.declared.rule.Rule.TheVariants as rule
 use Rattle.fints_check.specs.declared.unclosed.Open.TheVariants as Open
 use Rattle.fints_check.specs.Certificates.{worst_len}
-use Rattle.fints_check.specs.Verifying.{AreFiguresClosed, ClaimsValue, TellsFigures}
+use Rattle.fints_check.specs.Verifying.{ClaimsValue, TellsFigures}
 use Rattle.fints_check.proofs.Promising.{figures_permitted, number_asked}
 use Rattle.fints_check.proofs.verifying.Claims.open_figures.Goals as goal
 
