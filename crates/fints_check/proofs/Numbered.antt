@@ -1,6 +1,6 @@
 -- Lists that count from 1, and lists of names.
 use Rattle.std.proofs.Common.{ℕ, suc, zero, ◌+◌, ◌-◌, ◌<◌, ◌≤◌, ◌≡◌, Some, List, [], ◌∷◌, ◌++◌, length, map, take, get_or, slice_get, ap, sym, ◌∙◌, arith}
-use Rattle.std.proofs.lemmas.List.{take_more, map-append}
+use Rattle.std.proofs.lemmas.List.{length-map, take_more, map-append}
 use Rattle.std.proofs.lemmas.Option.{slice_get-map, same_Some}
 use Rattle.std.specs.Option.{option_map}
 use Rattle.fints_script.specs.Numbered.{numbered}
@@ -46,3 +46,8 @@ same_at f g xs ys i x y hx hy e =
     let a : slice_get (map f xs) i ≡ Some (f x) = slice_get-map f xs i ∙ ap (option_map f) hx in
     let b : slice_get (map g ys) i ≡ Some (g y) = slice_get-map g ys i ∙ ap (option_map g) hy in
     same_Some (f x) (g y) (sym a ∙ (ap (λ (zs : List (List ℕ)). slice_get zs i) e ∙ b))
+
+-- two lists with the same names are of one length
+pub same_length : {X Y : Type 0} (f : X → List ℕ) (g : Y → List ℕ) (xs : List X) (ys : List Y)
+    → map f xs ≡ map g ys → length xs ≡ length ys
+same_length f g xs ys e = sym (length-map xs f) ∙ (ap length e ∙ length-map ys g)

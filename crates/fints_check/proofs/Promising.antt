@@ -9,7 +9,7 @@ use Rattle.fints_rules.specs.Breaks.{Breaks, BreaksByFigures, BytesBreakRelease,
 use Rattle.std.proofs.lemmas.Bool.{cases_lt}
 use Rattle.fints_rules.specs.declared.facts.Figures.{Figures}
 use Rattle.fints_rules.specs.declared.whole.TheConstants.{LAST_NUMBER}
-use Rattle.fints_rules.specs.Rules.{FiguresBreak}
+use Rattle.fints_rules.specs.Rules.{BreaksNumber, FiguresBreak}
 use Rattle.fints_check_findings.specs.Figures.{reached_figures}
 use Rattle.fints_rules_permissions.specs.Permits.{Granted}
 use Rattle.fints_rules.specs.declared.rule.Rule.{Rule}
@@ -31,13 +31,19 @@ use Rattle.fints_wire.proofs.LawLemmas.{messages_are_read, none_is_longer_most}
 use Rattle.fints_check_findings.proofs.Checking.{real_of}
 use Rattle.fints_check_findings.proofs.LawLemmas.{release_is_left}
 
--- figures that break neither P2 nor P3 have a number that can be asked for
-pub numbers_asked : (granted : Granted) (f : Figures) → ((r : Rule) → FiguresBreak granted.rows.bank f r → ⊥)
-    → (1 ≤ f.number) × (f.number ≤ LAST_NUMBER)
-numbers_asked granted f none = (
-  elim (cases_lt 0 f.number) [ inl above ↦ above | inr under ↦ absurd (none Number (inl (omega (arith, under)))) ],
-  elim (cases_lt LAST_NUMBER f.number) [ inl past ↦ absurd (none Number (inr past)) | inr under ↦ under ],
+-- a number that doesn't break P2 can be asked for
+pub number_asked : (f : Figures) → (BreaksNumber f → ⊥) → (1 ≤ f.number) × (f.number ≤ LAST_NUMBER)
+number_asked f none = (
+  elim (cases_lt 0 f.number) [ inl above ↦ above | inr under ↦ absurd (none (inl (omega (arith, under)))) ],
+  elim (cases_lt LAST_NUMBER f.number) [ inl past ↦ absurd (none (inr past)) | inr under ↦ under ],
 )
+
+-- figures that break neither P2 nor P3 break no rule
+pub figures_permitted : (granted : Granted) (f : Figures) → (FiguresBreak granted.rows.bank f Number → ⊥)
+    → (FiguresBreak granted.rows.bank f Size → ⊥) → (r : Rule) → FiguresBreak granted.rows.bank f r → ⊥
+figures_permitted granted f number size Number b = number b
+figures_permitted granted f number size Size b = size b
+figures_permitted granted f number size _ b = absurd b
 
 -- a message of a number and a size within a line's figures breaks no rule
 permitted_view : (granted : Granted) (script : ScriptValue) (lines : List Line) (step : StepValue)
@@ -67,7 +73,7 @@ module _ (granted : Granted) (script : ScriptValue) (lines : List Line) (sound :
       let holds = closed.each v.step is.at b.figures is.of b.named in
       let low = (visits_are_within script v sound way.1).first in
       let high = b.number in
-      let most = (numbers_asked granted (reached_figures b.figures) holds.permitted).1 in
+      let most = (number_asked (reached_figures b.figures) (holds.permitted Number)).1 in
       let worst =
       none_is_longer_most script is.at values v.number b.figures.number sound
       (numbered_holds (IsSoundStep script) script.steps v.step is.at sound.steps is.of) admits low

@@ -1,16 +1,20 @@
 -- What `verify` knows on its way. Private contracts alone cite these words.
-use Rattle.std.specs.Prelude.{ℕ, ◌≡◌, ◌↔◌, ◌≤◌, Bool, true, Some, List, length, IsTrue}
+use Rattle.std.specs.Prelude.{ℕ, ◌≡◌, ◌↔◌, ◌≤◌, Bool, true, Option, Some, List, length, IfSome, IsNone}
 use Rattle.fints_script_cases.specs.Answers.{IsOpenTo}
 use Rattle.fints_script_cases.specs.declared.answers.Target.TheVariants as targets
+use Rattle.fints_rules.specs.Rules.{FiguresBreak}
+use Rattle.fints_rules.specs.declared.rule.Rule.{Rule}
 use Rattle.fints_rules_permissions.specs.Permits.{Granted}
 use Rattle.fints_script.specs.Numbered.{numbered}
 use Rattle.fints_script.specs.Scripts.{ScriptValue}
 use Rattle.fints_script.specs.Steps.{StepValue}
 use Rattle.fints_check_reach.specs.Closed.{IsEnough}
+use Rattle.fints_check_findings.specs.Figures.{reached_figures}
 use Rattle.fints_check_findings.specs.declared.finding.Reached.{Reached}
-use Rattle.fints_check_findings.specs.Releases.{IsUnreleased}
-use Rattle.fints_check.specs.Certificates.{BranchGoesOn, LineHolds, Names}
+use Rattle.fints_check.specs.Certificates.{worst_len, BranchGoesOn, IsEntered, Names}
+use Rattle.fints_check.specs.Unclosed.{found_at, IsLineClosed}
 use Rattle.fints_check.specs.declared.certificate.Line.{Line}
+use Rattle.fints_check.specs.declared.unclosed.Open.{Open}
 
 -- the flag of a step tells whether an open branch leads back to it
 pub record AreRepeats (steps : List StepValue) (repeats : List Bool) : Type 0 where
@@ -23,26 +27,51 @@ pub record ClaimsValue : Type 0 where
   pub script : ScriptValue
   pub lines : List Line
 
--- it tells whether the number is enough for step n where its first message in a row has at most number `from`
-abbrev pub TellsEnough : ClaimsValue → ℕ → ℕ → ℕ → Bool → Type 0
-TellsEnough c n from number told =
-    (step : StepValue) → numbered c.script.steps n ≡ Some step → (IsTrue told ↔ IsEnough step from number)
-
--- it tells whether each open branch of step n goes on behind messages of at most this number
-abbrev pub TellsOnward : ClaimsValue → ℕ → ℕ → Bool → Type 0
-TellsOnward c n number told =
-    (step : StepValue) → numbered c.script.steps n ≡ Some step → (IsTrue told ↔ ((branch : ℕ) → BranchGoesOn c.script.steps c.lines number step branch))
-
--- it tells whether these figures hold of step n
-abbrev pub TellsFigures : ClaimsValue → ℕ → Reached → Bool → Type 0
-TellsFigures c n figures told = (step : StepValue) → numbered c.script.steps n ≡ Some step → (IsTrue told ↔ LineHolds c.granted c.script c.lines step figures)
-
--- it tells whether step n is named as unreached, or what is named of it holds
-abbrev pub TellsLine : ClaimsValue → ℕ → Bool → Type 0
-TellsLine c n told =
+-- the least number that is enough for step n where its first message in a row has at most number `from`
+abbrev pub IsLeast : ClaimsValue → ℕ → ℕ → ℕ → Type 0
+IsLeast c n from least =
     (step : StepValue) → numbered c.script.steps n ≡ Some step
-    → (IsTrue told ↔ ((figures : Reached) → Names c.lines n figures → LineHolds c.granted c.script c.lines step figures))
+    → (number : ℕ) → (least ≤ number) ↔ IsEnough step from number
 
--- it tells whether step t is named as unreached, or no step leaves an order of it unreleased
-abbrev pub TellsReleased : ClaimsValue → ℕ → Bool → Type 0
-TellsReleased c t told = IsTrue told ↔ ((s : ℕ) (figures : Reached) → Names c.lines t figures → IsUnreleased c.script t s → ⊥)
+-- none is found exactly where each open branch of step n goes on behind messages of at most this number
+abbrev pub TellsOnward : ClaimsValue → ℕ → ℕ → Option Open → Type 0
+TellsOnward c n number found =
+    (step : StepValue) → numbered c.script.steps n ≡ Some step
+    → (IsNone found ↔ ((branch : ℕ) → BranchGoesOn c.script.steps c.lines number step branch))
+
+-- the figures break neither P2 nor P3, and the size is enough for the step
+pub record AreFiguresClosed (c : ClaimsValue) (step : StepValue) (figures : Reached) : Type 0 where
+  pub permitted : (r : Rule) → FiguresBreak c.granted.rows.bank (reached_figures figures) r → ⊥
+  pub size : worst_len c.script step figures.number ≤ figures.size
+
+-- none is found exactly where these figures are closed for step n
+abbrev pub TellsFigures : ClaimsValue → ℕ → Reached → Option Open → Type 0
+TellsFigures c n figures found =
+    (step : StepValue) → numbered c.script.steps n ≡ Some step → (IsNone found ↔ AreFiguresClosed c step figures)
+
+-- none is found exactly where step n is closed with these figures
+abbrev pub TellsLine : ClaimsValue → ℕ → Reached → Option Open → Type 0
+TellsLine c n figures found =
+    (step : StepValue) → numbered c.script.steps n ≡ Some step → (IsNone found ↔ IsLineClosed c.granted c.script c.lines n step figures)
+
+-- step n is named as unreached, or closed with its figures
+abbrev pub IsStepClosed : ClaimsValue → ℕ → StepValue → Type 0
+IsStepClosed c n step = (figures : Reached) → Names c.lines n figures → IsLineClosed c.granted c.script c.lines n step figures
+
+-- none is found exactly where step n is named as unreached, or closed
+abbrev pub TellsStep : ClaimsValue → ℕ → Option Open → Type 0
+TellsStep c n found =
+    (step : StepValue) → numbered c.script.steps n ≡ Some step → (IsNone found ↔ IsStepClosed c n step)
+
+-- each step is named as unreached, or closed
+abbrev pub AreStepsClosed : ClaimsValue → Type 0
+AreStepsClosed c = (n : ℕ) (step : StepValue) → numbered c.script.steps n ≡ Some step → IsStepClosed c n step
+
+-- step 1 is reached, with a number that is enough, and each step is named as unreached, or closed
+pub record AreClaimsClosed (c : ClaimsValue) : Type 0 where
+  pub first : IsEntered c.script.steps c.lines 1 1
+  pub each : AreStepsClosed c
+
+-- what is found is found at step n
+abbrev pub IsFoundAt : ℕ → Option Open → Type 0
+IsFoundAt n found = IfSome found (λ o. found_at o ≡ n)

@@ -1,16 +1,16 @@
-//! Whether a certificate is closed, whoever wrote it.
-ghost use Rattle.std.specs.Prelude.{◌≡◌, ◌↔◌, ◌≤◌, Some, true, length, IsTrue, IfSome, SomeIff};
+//! Whether a certificate is closed, whoever wrote it, and what is open of it first.
+ghost use Rattle.std.specs.Prelude.{◌≡◌, ◌↔◌, ◌≤◌, ◌^◌, Some, true, length, IsTrue, IsNone, IfErr, IfSome, OkIff};
 ghost use Rattle.fints_script_cases.specs.Answers.{IsOpenTo};
 ghost use Rattle.fints_check_findings.specs.Findings.{EachIsPermitted};
 ghost use Rattle.fints_script.specs.Numbered.{numbered};
-ghost use Rattle.fints_rules.specs.Rules.{FiguresBreak};
-ghost use Rattle.fints_rules.specs.declared.rule.Rule.{Rule as RuleValue};
-ghost use Rattle.fints_check.specs.Certificates.{figures_at, line_names, step_names, AreLinesTrue, AreReleased, GoesOn, IsClosedCertificate, IsEntered, KeepsPromise};
-ghost use Rattle.fints_check.specs.Verifying.{AreRepeats, TellsEnough, TellsFigures, TellsLine, TellsOnward, TellsReleased};
+ghost use Rattle.fints_check.specs.Certificates.{figures_at, line_names, step_names, GoesOn, IsClosedCertificate, IsEntered, KeepsPromise};
+ghost use Rattle.fints_check.specs.Unclosed.{found_at, source_of, AreClosedBefore};
+ghost use Rattle.fints_check.specs.Verifying.{AreClaimsClosed, AreRepeats, AreStepsClosed, IsFoundAt, IsLeast, TellsFigures, TellsLine, TellsOnward, TellsStep};
 
 use crate::certificate::{Certificate, Line};
+use crate::unclosed::{Open, Way};
 use fints_check_findings::{AtStep, Reached, is_released_step};
-use fints_rules::{Figures, Permissions, Rule, figures_break};
+use fints_rules::{Permissions, Rule, figures_break};
 use fints_script::{MAX_STEPS, Plan, Step, Target};
 use fints_wire::worst_size;
 use std::marker::Model;
@@ -50,38 +50,32 @@ fn flag(flags: &[bool], n: usize) -> bool
     }
 }
 
-// Whether figures break neither P2 nor P3.
-fn are_permitted(permissions: &Permissions<'_>, figures: Figures) -> bool
-    ensures { IsTrue result ↔ ((r : RuleValue) → FiguresBreak permissions.now.rows.bank figures r → ⊥) }
-{
-    let bank = permissions.bank();
-    for rule in Rule::ALL {
-        if figures_break(bank, figures, rule) {
-            return false;
-        }
-    }
-    true
-}
-
 fn is_named(line: &Line, step: &Step) -> bool
     ensures { IsTrue result ↔ (line.now.name ≡ step.now.name) }
 {
     line.name == step.name()
 }
 
-// Whether there is one line for each step, in order, with its name.
-fn has_names(plan: &Plan<'_>, lines: &[Line]) -> bool
-    ensures { IsTrue result ↔ (line_names lines.now ≡ step_names plan.now.script.steps) }
+// Where first there isn't one line for each step, in order, with its name.
+fn other_name(plan: &Plan<'_>, lines: &[Line]) -> Option<Open>
+    ensures at { IsFoundAt 0 result }
+    ensures none { IsNone result ↔ (line_names lines.now ≡ step_names plan.now.script.steps) }
 {
-    if lines.len() != plan.step_count() {
-        return false;
-    }
+    let count = plan.step_count();
     for i in 0..lines.len() {
+        if i == count {
+            return Some(Open::NoStep { line: i + 1 });
+        }
         if !is_named(&lines[i], plan.step(i + 1)) {
-            return false;
+            return Some(Open::OtherName { step: i + 1 });
         }
     }
-    true
+    if lines.len() < count {
+        return Some(Open::NoLine {
+            step: lines.len() + 1,
+        });
+    }
+    None
 }
 
 // What a certificate names of the steps of a plan, one line for each, in order, with its name; and which
@@ -113,20 +107,21 @@ impl<'a> Model for Claims<'a> {
 }
 
 impl<'a> Claims<'a> {
-    // What the lines name of the steps, if they have the steps' names.
+    // What the lines name of the steps, or where they don't have the steps' names.
     fn of(
         permissions: &'a Permissions<'a>,
         plan: &'a Plan<'a>,
         lines: &'a [Line],
-    ) -> Option<Claims<'a>>
+    ) -> Result<Claims<'a>, Open>
         requires { permissions.now.orders ≡ plan.now.orders }
-        ensures { SomeIff result (line_names lines.now ≡ step_names plan.now.script.steps)
+        ensures at { IfErr result (λ found. found_at found ≡ 0) }
+        ensures claims { OkIff result (line_names lines.now ≡ step_names plan.now.script.steps)
             (record { granted = permissions.now; script = plan.now.script; lines = lines.now }) }
     {
-        if !has_names(plan, lines) {
-            return None;
+        if let Some(found) = other_name(plan, lines) {
+            return Err(found);
         }
-        Some(Claims {
+        Ok(Claims {
             permissions,
             plan,
             lines,
@@ -143,136 +138,183 @@ impl<'a> Claims<'a> {
         line.reached
     }
 
-    // Whether a number is enough for step n where its first message in a row has at most number `from`.
-    fn covers(&self, n: usize, from: u64, number: u32) -> bool
+    // The least number that is enough for step n where its first message in a row has at most number
+    // `from`.
+    fn least(&self, n: usize, from: u64) -> u64
         requires first { 1 ≤ n }
         requires last { n ≤ length self.now.script.steps }
-        ensures { TellsEnough self.now n from number result }
+        requires small { from ≤ 2 ^ 32 }
+        ensures { IsLeast self.now n from result }
     {
         if flag(&self.repeats, n) {
             let more = (self.plan.step(n).repeat() as u64).saturating_sub(1);
-            return from.saturating_add(more) <= u64::from(number);
+            return from + more;
         }
-        from <= u64::from(number)
+        from
     }
 
-    // Whether step n is reached, with a number that is enough where its first message in a row has at
-    // most number `from`.
-    fn is_entered(&self, n: usize, from: u64) -> bool
-        ensures { IsTrue result ↔ IsEntered self.now.script.steps self.now.lines n from }
+    // What is open where a run comes this way to step n, whose first message in a row has at most number
+    // `from` then.
+    fn open_entry(&self, n: usize, way: Way, from: u64) -> Option<Open>
+        requires { from ≤ 2 ^ 32 }
+        ensures at { IsFoundAt (source_of way) result }
+        ensures none { IsNone result ↔ IsEntered self.now.script.steps self.now.lines n from }
     {
-        match self.figures(n) {
-            Some(reached) => self.covers(n, from, reached.number),
-            None => false,
+        let Some(reached) = self.figures(n) else {
+            return Some(Open::Unreached { step: n, way });
+        };
+        let least = self.least(n, from);
+        let number = reached.number;
+        if u64::from(number) < least {
+            return Some(Open::LowNumber {
+                step: n,
+                way,
+                least,
+                number,
+            });
         }
+        None
     }
 
-    // Whether a target is as it must be behind messages of at most this number.
-    fn target_goes_on(&self, target: Target, number: u32) -> bool
-        ensures { IsTrue result ↔ GoesOn self.now.script.steps self.now.lines number target }
+    // What is open where this way, behind messages of at most this number, leads to the target.
+    fn open_target(&self, target: Target, way: Way, number: u32) -> Option<Open>
+        ensures at { IsFoundAt (source_of way) result }
+        ensures none { IsNone result ↔ GoesOn self.now.script.steps self.now.lines number target }
     {
         match target {
-            Target::Step(to) => self.is_entered(to as usize, u64::from(number) + 1),
-            _ => true,
+            Target::Step(to) => self.open_entry(to as usize, way, u64::from(number) + 1),
+            _ => None,
         }
     }
 
-    // Whether each open branch of step n goes on. A branch's opener is looked for last.
-    fn goes_on(&self, n: usize, number: u32) -> bool
+    // What is open where the first branch of step n leads that doesn't go on. A branch's opener is looked
+    // for last.
+    fn open_branch(&self, n: usize, number: u32) -> Option<Open>
         requires first { 1 ≤ n }
         requires last { n ≤ length self.now.script.steps }
-        ensures { TellsOnward self.now n number result }
+        ensures at { IsFoundAt n result }
+        ensures none { TellsOnward self.now n number result }
     {
         let step = self.plan.step(n);
         for branch in 1..step.branches().len() + 2 {
-            if !self.target_goes_on(step.target(branch), number) && step.opener(branch).is_some() {
-                return false;
+            let way = Way::Branch {
+                from: n,
+                branch,
+                number,
+            };
+            let found = self.open_target(step.target(branch), way, number);
+            if found.is_some() && step.opener(branch).is_some() {
+                return found;
             }
         }
-        true
+        None
     }
 
-    // Whether what is named of step n holds. The figures are looked at before a size is asked for at
-    // their number.
-    fn line_holds(&self, n: usize, reached: Reached) -> bool
+    // What is open of these figures of step n. The number is looked at before a size is asked for at it.
+    fn open_figures(&self, n: usize, reached: Reached) -> Option<Open>
         requires first { 1 ≤ n }
         requires last { n ≤ length self.now.script.steps }
-        ensures { TellsFigures self.now n reached result }
+        ensures at { IsFoundAt n result }
+        ensures none { TellsFigures self.now n reached result }
     {
-        if !are_permitted(self.permissions, reached.figures()) {
-            return false;
+        let Reached { number, size } = reached;
+        let bank = self.permissions.bank();
+        let figures = reached.figures();
+        if figures_break(bank, figures, Rule::Number) {
+            return Some(Open::BreaksNumber { step: n, number });
         }
-        if worst_size(self.plan, n, reached.number) > reached.size {
-            return false;
+        let longest = worst_size(self.plan, n, number);
+        if size < longest {
+            return Some(Open::LowSize {
+                step: n,
+                number,
+                longest,
+                size,
+            });
         }
-        if !self.goes_on(n, reached.number) {
-            return false;
+        if figures_break(bank, figures, Rule::Size) {
+            return Some(Open::BreaksSize { step: n, size });
         }
-        AtStep::new(self.permissions, self.plan, n).is_clean()
+        None
     }
 
-    // Whether step n is named as unreached, or what is named of it holds.
-    fn step_holds(&self, n: usize) -> bool
+    // What is open of step n, which is named as reached with these figures.
+    fn open_line(&self, n: usize, reached: Reached) -> Option<Open>
         requires first { 1 ≤ n }
         requires last { n ≤ length self.now.script.steps }
-        ensures { TellsLine self.now n result }
+        ensures at { IsFoundAt n result }
+        ensures none { TellsLine self.now n reached result }
+    {
+        if let Some(found) = self.open_figures(n, reached) {
+            return Some(found);
+        }
+        if !AtStep::new(self.permissions, self.plan, n).is_clean() {
+            return Some(Open::BreaksRule { step: n });
+        }
+        if !is_released_step(self.plan, n) {
+            return Some(Open::Unreleased { step: n });
+        }
+        self.open_branch(n, reached.number)
+    }
+
+    // What is open of step n, if it is named as reached.
+    fn open_step(&self, n: usize) -> Option<Open>
+        requires first { 1 ≤ n }
+        requires last { n ≤ length self.now.script.steps }
+        ensures at { IsFoundAt n result }
+        ensures none { TellsStep self.now n result }
     {
         match self.figures(n) {
-            Some(reached) => self.line_holds(n, reached),
-            None => true, // named as unreached
+            Some(reached) => self.open_line(n, reached),
+            None => None, // named as unreached
         }
     }
 
-    fn steps_hold(&self) -> bool
-        ensures { IsTrue result ↔ AreLinesTrue self.now.granted self.now.script self.now.lines }
+    // What is open of the first step of which something is.
+    fn open_steps(&self) -> Option<Open>
+        ensures before { IfSome result (λ found.
+            AreClosedBefore self.now.granted self.now.script self.now.lines (found_at found)) }
+        ensures none { IsNone result ↔ AreStepsClosed self.now }
     {
         for n in 1..self.plan.step_count() + 1 {
-            if !self.step_holds(n) {
-                return false;
+            if let Some(found) = self.open_step(n) {
+                return Some(found);
             }
         }
-        true
+        None
     }
 
-    // Whether step t is named as unreached, or no step leaves an order of it unreleased.
-    fn is_released(&self, t: usize) -> bool
-        requires first { 1 ≤ t }
-        requires last { t ≤ length self.now.script.steps }
-        ensures { TellsReleased self.now t result }
+    // What is open first where the lines have the steps' names.
+    fn first_open(&self) -> Option<Open>
+        ensures before { IfSome result (λ found.
+            AreClosedBefore self.now.granted self.now.script self.now.lines (found_at found)) }
+        ensures none { IsNone result ↔ AreClaimsClosed self.now }
     {
-        match self.figures(t) {
-            Some(_) => is_released_step(self.plan, t),
-            None => true,
+        if let Some(found) = self.open_entry(1, Way::Begin, 1) {
+            return Some(found);
         }
-    }
-
-    // Whether no step leaves an order unreleased of one that is named as reached.
-    fn are_released(&self) -> bool
-        ensures { IsTrue result ↔ AreReleased self.now.script self.now.lines }
-    {
-        for t in 1..self.plan.step_count() + 1 {
-            if !self.is_released(t) {
-                return false;
-            }
-        }
-        true
+        self.open_steps()
     }
 }
 
-fn is_closed(permissions: &Permissions<'_>, plan: &Plan<'_>, lines: &[Line]) -> bool
+/// What is open of the certificate, the first in this order: the names of its lines; that runs begin with
+/// step 1; and then step by step the figures, the rules that what the step's messages hold breaks, P11,
+/// and where its branches lead. None exactly where the certificate is closed. It takes no memory.
+/// Permissions and plan were made with order tables of the same rows.
+pub fn first_open(
+    permissions: &Permissions<'_>,
+    plan: &Plan<'_>,
+    certificate: &Certificate,
+) -> Option<Open>
     requires { permissions.now.orders ≡ plan.now.orders }
-    ensures { IsTrue result ↔ IsClosedCertificate permissions.now plan.now.script lines.now }
+    ensures first { IfSome result (λ found.
+        AreClosedBefore permissions.now plan.now.script certificate.now (found_at found)) }
+    ensures none { IsNone result ↔ IsClosedCertificate permissions.now plan.now.script certificate.now }
 {
-    let Some(claims) = Claims::of(permissions, plan, lines) else {
-        return false;
-    };
-    if !claims.is_entered(1, 1) {
-        return false;
+    match Claims::of(permissions, plan, certificate.lines()) {
+        Ok(claims) => claims.first_open(),
+        Err(found) => Some(found),
     }
-    if !claims.are_released() {
-        return false;
-    }
-    claims.steps_hold()
 }
 
 /// Whether the certificate is closed, whoever wrote it. It then keeps its promise, and every message
@@ -285,5 +327,5 @@ pub fn verify(permissions: &Permissions<'_>, plan: &Plan<'_>, certificate: &Cert
     ensures permitted { IsTrue result → EachIsPermitted permissions.now plan.now.script }
 {
     plan.keeps();
-    is_closed(permissions, plan, certificate.lines())
+    first_open(permissions, plan, certificate).is_none()
 }

@@ -1,190 +1,106 @@
-//! How many items the segments of a step have, and how much they weigh.
-ghost use Rattle.std.specs.Prelude.{◌<◌, ◌^◌};
+//! How many items the segments of a step have, and how much they weigh, by the reader's own measure.
 
 use fints_cli_hints_words::places::{Told, row_named, told};
-use fints_cli_hints_words::tables::rows_of;
-use fints_script_rows::NamedRows;
 use fints_script_rows::limits::{MAX_TEMPLATE_ITEMS, MAX_WEIGHT};
-use fints_syntax::{Memory, written_binary_len};
+use fints_script_rows::{FaultKind, Fields, NamedRows, field_in};
+use fints_script_templates::segments::segment_in;
+use fints_script_templates::signers::frame_in;
+use fints_script_templates::weights::{Figures, all_figures, spend_elements, spend_segment};
+use fints_script_templates::{Template, TemplateElements};
+use fints_syntax::Memory;
 use fints_syntax_toml::document::member;
-use fints_syntax_toml::entries::{is_named, text_at};
+use fints_syntax_toml::entries::is_named;
 use std::alloc::Global;
-use toml::{Table, Value};
+use toml::Value;
 
-/// How long the longest value of a field is written, and how many items it has at most.
+/// What a step with these segments stands among.
 #[derive(Clone, Copy)]
-pub struct Figures {
-    written: u64,
-    items: u64,
+pub struct Parts<'a, 'r> {
+    pub fields: &'a NamedRows<'r>,
+    pub signers: &'a [Value],
+    /// The elements of the seal, where the step is sealed.
+    pub seal: Option<&'a Value>,
+    /// The names of its signers.
+    pub names: &'a [Value],
+    pub segments: &'a [Value],
 }
 
-// How long a text is written: each character is a byte, and one more where it is escaped.
-fn written(text: &str) -> u64 {
-    let marks = text
-        .chars()
-        .filter(|ch| matches!(*ch, '+' | ':' | '\'' | '?' | '@'))
-        .count();
-    (text.chars().count() as u64).saturating_add(marks as u64)
-}
+// ---- what the reader makes of the parts
 
-// A length beyond a `u32` has been refused before.
-fn most_of(table: &Table) -> u64
-    ensures { result < 2 ^ 32 }
-{
-    match member(table, "max") {
-        Some(Value::Integer(max)) => u64::from(u32::try_from(*max).unwrap_or(0)),
-        _ => 0,
+// The fields of the rows. The built-in one has no figures, so it may be left out.
+fn fields_in(alloc: Global, rows: &[Value]) -> Result<Fields, FaultKind> {
+    let mut fields = Vec::new(alloc);
+    for (i, row) in rows.iter().enumerate() {
+        fields.push(field_in(alloc, &rows[..i], row)?)?;
     }
+    Ok(Fields::new(alloc, fields)?)
 }
 
-// How long an account is written: its texts, with a byte between.
-fn account_written(texts: &[Value]) -> u64 {
-    let mut len: u64 = 0;
-    for text in texts {
-        len = len
-            .saturating_add(written(text.as_str().unwrap_or("")))
-            .saturating_add(1);
+fn segments_in(alloc: Global, fields: &Fields, rows: &[Value]) -> Result<Vec<Template>, FaultKind> {
+    let mut segments = Vec::new(alloc);
+    for row in rows {
+        segments.push(segment_in(alloc, fields, row)?)?;
     }
-    len.saturating_sub(1)
+    Ok(segments)
 }
 
-fn value_figures(value: &Value) -> Figures {
-    match value {
-        Value::String(text) => Figures {
-            written: written(text.as_str()),
-            items: 1,
-        },
-        Value::Array(texts) => Figures {
-            written: account_written(texts.as_slice()),
-            items: texts.len() as u64,
-        },
-        _ => Figures {
-            written: 0,
-            items: 1,
-        },
+fn add_signer(
+    alloc: Global,
+    fields: &Fields,
+    row: &Value,
+    frames: &mut Vec<TemplateElements>,
+) -> Result<(), FaultKind> {
+    if let Value::Table(table) = row {
+        for key in ["head", "end"] {
+            if let Some(value) = member(table, key) {
+                frames.push(frame_in(alloc, fields, value)?)?;
+            }
+        }
     }
+    Ok(())
 }
 
-fn listed_figures(values: &[Value]) -> Figures {
-    let mut most = Figures {
-        written: 0,
-        items: 1,
-    };
-    for value in values {
-        let own = value_figures(value);
-        most = Figures {
-            written: most.written.max(own.written),
-            items: most.items.max(own.items),
-        };
+// The segments of the step's signers, and its seal.
+fn frames_in(
+    alloc: Global,
+    fields: &Fields,
+    parts: &Parts<'_, '_>,
+) -> Result<Vec<TemplateElements>, FaultKind> {
+    let mut frames = Vec::new(alloc);
+    for name in parts.names {
+        let name = name.as_str().unwrap_or("");
+        if let Some(row) = parts.signers.iter().find(|row| is_named(name, row)) {
+            add_signer(alloc, fields, row, &mut frames)?;
+        }
     }
-    most
-}
-
-fn table_figures(table: &Table) -> Figures {
-    let max = most_of(table);
-    let written = match text_at(table, "class") {
-        Some("text") => max.saturating_mul(2),
-        Some("bin") => written_binary_len(max),
-        Some("digits") | Some("plain") => max,
-        _ => return listed_figures(rows_of(member(table, "values"))),
-    };
-    Figures { written, items: 1 }
-}
-
-fn row_figures(row: &Value) -> Figures {
-    match row {
-        Value::Table(table) => table_figures(table),
-        _ => Figures {
-            written: 0,
-            items: 1,
-        },
+    if let Some(seal) = parts.seal {
+        frames.push(frame_in(alloc, fields, seal)?)?;
     }
+    Ok(frames)
 }
 
-fn all_figures(alloc: Global, rows: &[Value]) -> Result<Vec<Figures>, Memory> {
-    let figures = rows.iter().map(|row| row_figures(row)).collect(alloc)?;
-    Ok(figures)
+/// A step's segments, those of its frame, and the figures of the script's fields.
+#[derive(Drop)]
+struct Measured {
+    figures: Vec<Figures>,
+    segments: Vec<Template>,
+    frames: Vec<TemplateElements>,
 }
 
-/// The fields by their names, with their figures.
-#[derive(Clone, Copy)]
-struct Measured<'a, 'r> {
-    fields: &'a NamedRows<'r>,
-    figures: &'a [Figures],
+fn measured_in(alloc: Global, parts: &Parts<'_, '_>) -> Result<Measured, FaultKind> {
+    let fields = fields_in(alloc, parts.fields.as_slice())?;
+    Ok(Measured {
+        figures: all_figures(alloc, fields.as_slice())?,
+        segments: segments_in(alloc, &fields, parts.segments)?,
+        frames: frames_in(alloc, &fields, parts)?,
+    })
 }
 
-fn figures_of(measured: &Measured<'_, '_>, name: &str) -> Figures {
-    let dialog = Figures {
-        written: 60,
-        items: 1,
-    };
-    match measured.fields.place_of(name) {
-        Some(place) => measured.figures.get(place).copied().unwrap_or(dialog),
-        None => dialog,
-    }
-}
+// ---- what is too much
 
-// How much an item weighs, and for how many it counts.
-fn text_figures(measured: &Measured<'_, '_>, text: &str) -> Figures {
-    if let Some(name) = text.strip_prefix('$') {
-        let own = figures_of(measured, name);
-        return Figures {
-            written: own.written.saturating_add(1),
-            items: own.items,
-        };
-    }
-    let len = match text.strip_prefix('%') {
-        Some(digits) => written_binary_len(digits.len() as u64 / 2),
-        None => written(text.strip_prefix('=').unwrap_or(text)),
-    };
-    Figures {
-        written: len.saturating_add(1),
-        items: 1,
-    }
-}
-
-fn add(total: Figures, own: Figures) -> Figures {
-    Figures {
-        written: total.written.saturating_add(own.written),
-        items: total.items.saturating_add(own.items),
-    }
-}
-
-fn items_figures(measured: &Measured<'_, '_>, values: &[Value]) -> Figures {
-    let mut total = Figures {
-        written: 0,
-        items: 0,
-    };
-    for value in values {
-        total = add(total, text_figures(measured, value.as_str().unwrap_or("")));
-    }
-    total
-}
-
-fn element_figures(measured: &Measured<'_, '_>, value: &Value) -> Figures {
-    match value {
-        Value::Array(values) => items_figures(measured, values.as_slice()),
-        _ => text_figures(measured, value.as_str().unwrap_or("")),
-    }
-}
-
-// How much a segment weighs, and how many items its elements have.
-fn segment_figures(measured: &Measured<'_, '_>, elements: &[Value]) -> Figures {
-    let mut total = Figures {
-        written: 15,
-        items: 0,
-    };
-    for value in elements {
-        total = add(total, element_figures(measured, value));
-    }
-    total
-}
-
-fn elements_of<'a>(row: &'a Value, key: &str) -> &'a [Value] {
-    match row {
-        Value::Table(table) => rows_of(member(table, key)),
-        _ => &[],
-    }
+// What was spent of the greatest allowance, if this is left of it.
+fn spent(left: Option<u64>) -> u64 {
+    u64::MAX - left.unwrap_or(0)
 }
 
 fn many_text(alloc: Global, number: usize, row: &Value, count: u64) -> Told {
@@ -198,9 +114,10 @@ fn many_text(alloc: Global, number: usize, row: &Value, count: u64) -> Told {
 }
 
 // The first segment with too many items.
-fn many_items(alloc: Global, measured: &Measured<'_, '_>, rows: &[Value]) -> Told {
-    for (i, row) in rows.iter().enumerate() {
-        let count = segment_figures(measured, elements_of(row, "elements")).items;
+fn many_items(alloc: Global, measured: &Measured, rows: &[Value]) -> Told {
+    let figures = measured.figures.as_slice();
+    for (i, (row, segment)) in rows.iter().zip(&measured.segments).enumerate() {
+        let count = spent(spend_elements(u64::MAX, figures, &segment.elements));
         if count > MAX_TEMPLATE_ITEMS {
             return many_text(alloc, i.saturating_add(1), row, count);
         }
@@ -215,15 +132,19 @@ struct Weight {
     weight: u64,
 }
 
+fn weight_of(measured: &Measured, elements: &TemplateElements) -> u64 {
+    spent(spend_segment(u64::MAX, measured.figures.as_slice(), elements))
+}
+
 // The heaviest segment, and what all weigh.
-fn heaviest(measured: &Measured<'_, '_>, rows: &[Value]) -> (Weight, u64) {
+fn heaviest(measured: &Measured) -> (Weight, u64) {
     let mut most = Weight {
         place: 0,
         weight: 0,
     };
     let mut total: u64 = 0;
-    for (i, row) in rows.iter().enumerate() {
-        let weight = segment_figures(measured, elements_of(row, "elements")).written;
+    for (i, segment) in measured.segments.iter().enumerate() {
+        let weight = weight_of(measured, &segment.elements);
         total = total.saturating_add(weight);
         if weight > most.weight {
             most = Weight {
@@ -235,49 +156,17 @@ fn heaviest(measured: &Measured<'_, '_>, rows: &[Value]) -> (Weight, u64) {
     (most, total)
 }
 
-fn signer_weight(measured: &Measured<'_, '_>, signers: &[Value], name: &str) -> u64 {
-    for row in signers {
-        if is_named(name, row) {
-            let head = segment_figures(measured, elements_of(row, "head")).written;
-            let end = segment_figures(measured, elements_of(row, "end")).written;
-            return head.saturating_add(end);
-        }
-    }
-    0
-}
-
-fn signers_weight(measured: &Measured<'_, '_>, signers: &[Value], names: &[Value]) -> u64 {
+fn frames_weight(measured: &Measured) -> u64 {
     let mut total: u64 = 0;
-    for name in names {
-        total = total.saturating_add(signer_weight(measured, signers, name.as_str().unwrap_or("")));
+    for frame in &measured.frames {
+        total = total.saturating_add(weight_of(measured, frame));
     }
     total
 }
 
-/// What a step with these segments stands among.
-#[derive(Clone, Copy)]
-pub struct Parts<'a, 'r> {
-    pub fields: &'a NamedRows<'r>,
-    pub signers: &'a [Value],
-    /// The elements of the seal, where the step is sealed.
-    pub seal: Option<&'a Value>,
-    /// The names of its signers.
-    pub names: &'a [Value],
-    pub segments: &'a [Value],
-}
-
-fn seal_weight(measured: &Measured<'_, '_>, seal: Option<&Value>) -> u64 {
-    match seal {
-        Some(value) => segment_figures(measured, rows_of(Some(value))).written,
-        None => 0,
-    }
-}
-
-fn weight_text(alloc: Global, measured: &Measured<'_, '_>, parts: &Parts<'_, '_>) -> Told {
-    let (most, own) = heaviest(measured, parts.segments);
-    let total = own
-        .saturating_add(signers_weight(measured, parts.signers, parts.names))
-        .saturating_add(seal_weight(measured, parts.seal));
+fn weight_text(alloc: Global, measured: &Measured) -> Told {
+    let (most, own) = heaviest(measured);
+    let total = own.saturating_add(frames_weight(measured));
     let Weight { place, weight } = most;
     told(
         alloc,
@@ -289,13 +178,13 @@ fn weight_text(alloc: Global, measured: &Measured<'_, '_>, parts: &Parts<'_, '_>
 
 /// What makes a step too large, where nothing else is wrong with it.
 pub fn size_slip(alloc: Global, parts: &Parts<'_, '_>) -> Told {
-    let figures = all_figures(alloc, parts.fields.as_slice())?;
-    let measured = Measured {
-        fields: parts.fields,
-        figures: figures.as_slice(),
+    let measured = match measured_in(alloc, parts) {
+        Ok(measured) => measured,
+        Err(FaultKind::Memory) => return Err(Memory),
+        Err(_) => return Ok(None),
     };
     match many_items(alloc, &measured, parts.segments)? {
-        None => weight_text(alloc, &measured, parts),
+        None => weight_text(alloc, &measured),
         found => Ok(found),
     }
 }

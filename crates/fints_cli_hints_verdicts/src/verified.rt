@@ -1,105 +1,101 @@
-//! Why a certificate isn't closed: the first line, or the first branch, that isn't.
-ghost use Rattle.std.specs.Prelude.{◌≡◌, ◌≤◌, ◌+◌, length};
+//! Why a certificate isn't closed: what is open of it first, in words.
 
-use crate::steps::is_open;
-use fints_check::{AtStep, Certificate, Line, Reached, is_released_step};
+use crate::steps::step_at;
+use fints_check::{Certificate, Line, Open, Way, first_open};
 use fints_cli_hints_reasons::branches::BranchOf;
 use fints_cli_hints_reasons::lines::Called;
 use fints_cli_hints_words::inputs::Inputs;
 use fints_cli_hints_words::places::{Told, told};
 use fints_params::Params;
-use fints_rules::{Figures, LAST_NUMBER, OrderTable, Permissions, Rule, figures_break};
-use fints_script::{Name, Plan, Script, Step, Target};
-use fints_wire::worst_size;
+use fints_rules::{LAST_NUMBER, OrderTable, Permissions};
+use fints_script::{Plan, Script};
 use std::alloc::Global;
 use std::fmt;
 use std::fmt::{Display, Formatter, Write};
 
-// ---- what is said
-
-// Why a certificate isn't closed.
-#[derive(Clone, Copy)]
-enum Open {
-    /// A line is of another step than the one at its place.
-    OtherStep {
-        line: usize,
-        named: Name,
-        at: usize,
-        step: Name,
-    },
-    NoLine {
-        step: Name,
-    },
-    LineOfNoStep {
-        line: usize,
-        named: Name,
-    },
-    FirstUnreached {
-        step: Name,
-    },
-    FirstNumber {
-        step: Name,
-        most: u32,
-        number: u32,
-    },
-    /// A branch leads to a step that is named as unreached.
-    Unreached {
-        branch: BranchOf,
-        from: Name,
-        step: Name,
-    },
-    /// A branch leads to a step whose line has too small a number.
-    Number {
-        from: Name,
-        behind: u32,
-        step: Name,
-        most: u32,
-        number: u32,
-    },
-    BreaksNumber {
-        step: Name,
-        number: u32,
-    },
-    Longer {
-        step: Name,
-        number: u32,
-        worst: u64,
-        size: u64,
-    },
-    BreaksSize {
-        step: Name,
-        size: u64,
-    },
-    BreaksRule {
-        step: Name,
-    },
-    Unreleased {
-        step: Name,
-    },
-}
-
 const ANEW: &str = "make the certificate anew by certify";
 
-fn write_lines<W: Write>(f: &mut Formatter<W>, open: &Open) -> fmt::Result {
-    match open {
-        Open::OtherStep {
-            line,
-            named,
-            at,
+// A step by its name.
+#[derive(Clone, Copy)]
+struct StepName<'a> {
+    plan: &'a Plan<'a>,
+    step: usize,
+}
+
+impl Display for StepName<'_> {
+    fn fmt<W: Write>(&self, f: &mut Formatter<W>) -> fmt::Result {
+        match step_at(self.plan, self.step) {
+            Some(step) => {
+                let name = step.name();
+                Called(&name).fmt(f)
+            }
+            None => Ok(()),
+        }
+    }
+}
+
+// A line by its name.
+#[derive(Clone, Copy)]
+struct LineName<'a> {
+    lines: &'a [Line],
+    line: usize,
+}
+
+impl Display for LineName<'_> {
+    fn fmt<W: Write>(&self, f: &mut Formatter<W>) -> fmt::Result {
+        match self.lines.get(self.line.saturating_sub(1)) {
+            Some(line) => Called(&line.name).fmt(f),
+            None => Ok(()),
+        }
+    }
+}
+
+// What is open of a plan's certificate with these lines.
+#[derive(Clone, Copy)]
+struct Why<'p, 'l> {
+    plan: &'p Plan<'p>,
+    lines: &'l [Line],
+    open: Open,
+}
+
+impl<'p, 'l> Why<'p, 'l> {
+    fn step(&self, step: usize) -> StepName<'p> {
+        StepName {
+            plan: self.plan,
             step,
-        } => {
-            let (named, step) = (Called(named), Called(step));
+        }
+    }
+
+    fn line(&self, line: usize) -> LineName<'l> {
+        LineName {
+            lines: self.lines,
+            line,
+        }
+    }
+
+    fn branch(&self, step: usize, number: usize) -> BranchOf {
+        match step_at(self.plan, step) {
+            Some(step) => BranchOf::at(step, number),
+            None => BranchOf { number, count: 0 },
+        }
+    }
+}
+
+fn write_name<W: Write>(f: &mut Formatter<W>, why: &Why<'_, '_>) -> fmt::Result {
+    match why.open {
+        Open::OtherName { step } => {
+            let (line, named, name) = (step.saturating_add(1), why.line(step), why.step(step));
             write!(
                 f,
-                "line {line} is of step {named}, and step {at} of the script is {step}: {ANEW}"
+                "line {line} is of step {named}, and step {step} of the script is {name}: {ANEW}"
             )
         }
         Open::NoLine { step } => {
-            let step = Called(step);
-            write!(f, "no line is of step {step}: {ANEW}")
+            let name = why.step(step);
+            write!(f, "no line is of step {name}: {ANEW}")
         }
-        Open::LineOfNoStep { line, named } => {
-            let named = Called(named);
+        Open::NoStep { line } => {
+            let (named, line) = (why.line(line), line.saturating_add(1));
             write!(
                 f,
                 "line {line} is of step {named}, and the script has no further step: {ANEW}"
@@ -109,93 +105,107 @@ fn write_lines<W: Write>(f: &mut Formatter<W>, open: &Open) -> fmt::Result {
     }
 }
 
-fn write_entered<W: Write>(f: &mut Formatter<W>, open: &Open) -> fmt::Result {
-    match open {
-        Open::FirstUnreached { step } => {
-            let step = Called(step);
-            write!(
-                f,
-                "each run begins with step {step}, which is named as unreached: {ANEW}"
-            )
+fn write_way<W: Write>(
+    f: &mut Formatter<W>,
+    why: &Why<'_, '_>,
+    step: usize,
+    way: Way,
+) -> fmt::Result {
+    let name = why.step(step);
+    match way {
+        Way::Begin => write!(f, "each run begins with step {name}"),
+        Way::Branch { from, branch, .. } => {
+            let (branch, from) = (why.branch(from, branch), why.step(from));
+            write!(f, "{branch} of step {from} leads to step {name}")
         }
-        Open::FirstNumber { step, most, number } => {
-            let step = Called(step);
-            write!(
-                f,
-                "step {step}, the first, needs number {most}, and its line says {number}: {ANEW}"
-            )
-        }
-        Open::Unreached { branch, from, step } => {
-            let (from, step) = (Called(from), Called(step));
-            write!(
-                f,
-                "{branch} of step {from} leads to step {step}, which is named as unreached: {ANEW}"
-            )
-        }
-        Open::Number {
-            from,
-            behind,
-            step,
-            most,
-            number,
-        } => {
-            let (from, step) = (Called(from), Called(step));
-            write!(
-                f,
-                "behind number {behind} of step {from}, step {step} needs number {most}, and its line says {number}: {ANEW}"
-            )
-        }
-        _ => write_lines(f, open),
     }
 }
 
-fn write_figures<W: Write>(f: &mut Formatter<W>, open: &Open) -> fmt::Result {
-    match open {
-        Open::BreaksNumber { step, number } => {
-            let step = Called(step);
+fn write_need<W: Write>(
+    f: &mut Formatter<W>,
+    why: &Why<'_, '_>,
+    step: usize,
+    way: Way,
+) -> fmt::Result {
+    let name = why.step(step);
+    match way {
+        Way::Begin => write!(f, "step {name}, the first,"),
+        Way::Branch { from, number, .. } => {
+            let from = why.step(from);
+            write!(f, "behind number {number} of step {from}, step {name}")
+        }
+    }
+}
+
+fn write_entry<W: Write>(f: &mut Formatter<W>, why: &Why<'_, '_>) -> fmt::Result {
+    match why.open {
+        Open::Unreached { step, way } => {
+            write_way(f, why, step, way)?;
+            write!(f, ", which is named as unreached: {ANEW}")
+        }
+        Open::LowNumber {
+            step,
+            way,
+            least,
+            number,
+        } => {
+            write_need(f, why, step, way)?;
             write!(
                 f,
-                "step {step}: number {number} breaks P2 (1 to {LAST_NUMBER}): {ANEW}"
+                " needs number {least}, and its line says {number}: {ANEW}"
             )
         }
-        Open::Longer {
-            step,
-            number,
-            worst,
-            size,
-        } => {
-            let step = Called(step);
+        _ => write_name(f, why),
+    }
+}
+
+fn write_figures<W: Write>(f: &mut Formatter<W>, why: &Why<'_, '_>) -> fmt::Result {
+    match why.open {
+        Open::BreaksNumber { step, number } => {
+            let name = why.step(step);
             write!(
                 f,
-                "step {step}: its longest message of number {number} has {worst} bytes, and its line says {size}: {ANEW}"
+                "step {name}: number {number} breaks P2 (1 to {LAST_NUMBER}): {ANEW}"
+            )
+        }
+        Open::LowSize {
+            step,
+            number,
+            longest,
+            size,
+        } => {
+            let name = why.step(step);
+            write!(
+                f,
+                "step {name}: its longest message of number {number} has {longest} bytes, and its line says {size}: {ANEW}"
             )
         }
         Open::BreaksSize { step, size } => {
-            let step = Called(step);
+            let name = why.step(step);
             write!(
                 f,
-                "step {step}: a message of {size} bytes breaks P3 (HIBPA, element 8): {ANEW}"
+                "step {name}: a message of {size} bytes breaks P3 (HIBPA, element 8): {ANEW}"
             )
         }
-        _ => write_entered(f, open),
+        _ => write_entry(f, why),
     }
 }
 
-impl Display for Open {
+impl Display for Why<'_, '_> {
     fn fmt<W: Write>(&self, f: &mut Formatter<W>) -> fmt::Result {
-        match self {
+        match self.open {
             Open::BreaksRule { step } => {
-                let step = Called(step);
+                let name = self.step(step);
                 write!(
                     f,
-                    "step {step} is named as reached, and its messages break a rule: name it as unreached where no run sends it, or mend the script"
+                    "step {name} is named as reached, and its messages break a rule: name it as unreached where no run sends it, or mend the script"
                 )
             }
             Open::Unreleased { step } => {
-                let step = Called(step);
+                let name = self.step(step);
                 write!(
                     f,
-                    "step {step} is named as reached, and a message behind it leaves its order unreleased (P11): name it as unreached where no run sends it, or mend the branches of the script"
+                    "step {name} is named as reached, and a message behind it leaves its order unreleased (P11): name it as unreached where no run sends it, or mend the branches of the script"
                 )
             }
             _ => write_figures(f, self),
@@ -203,204 +213,9 @@ impl Display for Open {
     }
 }
 
-fn line_of(alloc: Global, open: Open) -> Told {
-    told(alloc, format_args!("why: {open}\n"))
-}
-
-// ---- what is looked at
-
-// Whether an open branch leads back to the step.
-fn is_repeated(step: &Step) -> bool {
-    for branch in 1..step.branches().len() + 2 {
-        if step.target(branch) == Target::Again && is_open(step, branch) {
-            return true;
-        }
-    }
-    false
-}
-
-// The number that the step may come to, where its first message in a row has number `from`.
-fn last_number(step: &Step, from: u32) -> u32 {
-    if is_repeated(step) {
-        from.saturating_add(u32::from(step.repeat()).saturating_sub(1))
-    } else {
-        from
-    }
-}
-
-fn reached(lines: &[Line], n: usize) -> Option<Reached> {
-    lines.get(n.checked_sub(1)?)?.reached
-}
-
-// Where the names of the lines are not those of the steps.
-fn other_name(lines: &[Line], steps: &[Step]) -> Option<Open> {
-    for (i, (line, step)) in lines.iter().zip(steps).enumerate() {
-        if line.name != step.name() {
-            return Some(Open::OtherStep {
-                line: i.saturating_add(2),
-                named: line.name,
-                at: i.saturating_add(1),
-                step: step.name(),
-            });
-        }
-    }
-    if let Some(step) = steps.get(lines.len()) {
-        return Some(Open::NoLine { step: step.name() });
-    }
-    let line = lines.get(steps.len())?;
-    Some(Open::LineOfNoStep {
-        line: steps.len().saturating_add(2),
-        named: line.name,
-    })
-}
-
-// Why the first step isn't entered.
-fn first_open(lines: &[Line], step: &Step) -> Option<Open> {
-    let most = last_number(step, 1);
-    match reached(lines, 1) {
-        None => Some(Open::FirstUnreached { step: step.name() }),
-        Some(figures) if figures.number < most => Some(Open::FirstNumber {
-            step: step.name(),
-            most,
-            number: figures.number,
-        }),
-        Some(_) => None,
-    }
-}
-
-// Why the step that a branch of a reached step leads on to isn't entered with a number that is enough.
-fn branch_open(
-    lines: &[Line],
-    steps: &[Step],
-    from: &Step,
-    figures: Reached,
-    branch: usize,
-) -> Option<Open>
-    requires first { 1 ≤ branch }
-    requires last { branch ≤ length from.now.branches + 1 }
-{
-    let Target::Step(to) = from.target(branch) else {
-        return None;
-    };
-    let n = usize::from(to);
-    let step = steps.get(n.checked_sub(1)?)?;
-    let most = last_number(step, figures.number.saturating_add(1));
-    match reached(lines, n) {
-        None => Some(Open::Unreached {
-            branch: BranchOf::at(from, branch),
-            from: from.name(),
-            step: step.name(),
-        }),
-        Some(figures_to) if figures_to.number < most => Some(Open::Number {
-            from: from.name(),
-            behind: figures.number,
-            step: step.name(),
-            most,
-            number: figures_to.number,
-        }),
-        Some(_) => None,
-    }
-}
-
-// The first branch of a reached step that leads on to a step that isn't entered so.
-fn bad_branch(lines: &[Line], steps: &[Step], step: &Step, figures: Reached) -> Option<Open> {
-    for branch in 1..step.branches().len() + 2 {
-        if !is_open(step, branch) {
-            continue;
-        }
-        let open = branch_open(lines, steps, step, figures, branch);
-        if open.is_some() {
-            return open;
-        }
-    }
-    None
-}
-
-// Why the figures of a reached step are none.
-fn bad_figures(
-    permissions: &Permissions<'_>,
-    plan: &Plan<'_>,
-    n: usize,
-    reached: Reached,
-) -> Option<Open>
-    requires from { 1 ≤ n }
-    requires to { n ≤ length plan.now.script.steps }
-{
-    let (number, size) = (reached.number, reached.size);
-    let step = plan.step(n).name();
-    if number == 0 || u64::from(number) > LAST_NUMBER {
-        return Some(Open::BreaksNumber { step, number });
-    }
-    let worst = worst_size(plan, n, number);
-    if size < worst {
-        return Some(Open::Longer {
-            step,
-            number,
-            worst,
-            size,
-        });
-    }
-    let figures = Figures {
-        number: u64::from(number),
-        size,
-    };
-    if figures_break(permissions.bank(), figures, Rule::Size) {
-        return Some(Open::BreaksSize { step, size });
-    }
-    None
-}
-
-// Why what the line of step n says, or where its branches lead, isn't closed.
-fn bad_step(
-    permissions: &Permissions<'_>,
-    plan: &Plan<'_>,
-    steps: &[Step],
-    lines: &[Line],
-    n: usize,
-) -> Option<Open>
-    requires from { 1 ≤ n }
-    requires to { n ≤ length plan.now.script.steps }
-    requires orders { permissions.now.orders ≡ plan.now.orders }
-{
-    let figures = reached(lines, n)?;
-    let open = bad_figures(permissions, plan, n, figures);
-    if open.is_some() {
-        return open;
-    }
-    let step = plan.step(n);
-    let name = step.name();
-    if !AtStep::new(permissions, plan, n).is_clean() {
-        return Some(Open::BreaksRule { step: name });
-    }
-    if !is_released_step(plan, n) {
-        return Some(Open::Unreleased { step: name });
-    }
-    bad_branch(lines, steps, step, figures)
-}
-
-fn open_of(
-    permissions: &Permissions<'_>,
-    plan: &Plan<'_>,
-    steps: &[Step],
-    lines: &[Line],
-) -> Option<Open>
-    requires { permissions.now.orders ≡ plan.now.orders }
-{
-    let open = other_name(lines, steps);
-    if open.is_some() {
-        return open;
-    }
-    let open = first_open(lines, steps.first()?);
-    if open.is_some() {
-        return open;
-    }
-    for i in 0..plan.step_count() {
-        let open = bad_step(permissions, plan, steps, lines, i + 1);
-        if open.is_some() {
-            return open;
-        }
-    }
-    None
+fn why_text<'p>(alloc: Global, plan: &'p Plan<'p>, lines: &[Line], open: Open) -> Told {
+    let why = Why { plan, lines, open };
+    told(alloc, format_args!("why: {why}\n"))
 }
 
 fn verified_line(
@@ -414,10 +229,10 @@ fn verified_line(
         return Ok(None);
     };
     let permissions = Permissions::build(alloc, params, orders)?;
-    match open_of(&permissions, &plan, script.steps(), certificate.lines()) {
-        Some(open) => line_of(alloc, open),
-        None => Ok(None),
-    }
+    let Some(open) = first_open(&permissions, &plan, certificate) else {
+        return Ok(None);
+    };
+    why_text(alloc, &plan, certificate.lines(), open)
 }
 
 fn line_by(alloc: Global, params: &Params, orders: &OrderTable, inputs: &Inputs<'_>) -> Told {
@@ -430,8 +245,8 @@ fn line_by(alloc: Global, params: &Params, orders: &OrderTable, inputs: &Inputs<
     }
 }
 
-/// A line that says which line or which branch keeps the certificate from being closed, the first in
-/// order. None where an input is refused, or it is closed.
+/// A line that says what is open of the certificate first. None where an input is refused, or the
+/// certificate is closed.
 pub fn verified_reason(alloc: Global, inputs: &Inputs<'_>) -> Told {
     let Ok(params) = Params::read(alloc, inputs.params) else {
         return Ok(None);

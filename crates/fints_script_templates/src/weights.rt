@@ -127,7 +127,13 @@ fn spend_items(allowance: u64, figures: &[Figures], items: &[TemplateItem]) -> O
     Some(left)
 }
 
-fn spend_elements(allowance: u64, figures: &[Figures], elements: &TemplateElements) -> Option<u64>
+/// What is left of an allowance after the items of the elements, a field counting as its value with the
+/// most items.
+pub fn spend_elements(
+    allowance: u64,
+    figures: &[Figures],
+    elements: &TemplateElements,
+) -> Option<u64>
     ensures { Spends allowance (most_items figures.now elements.now) result }
 {
     let mut left = allowance;

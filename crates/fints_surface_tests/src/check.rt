@@ -4,8 +4,8 @@ ghost use Rattle.std.specs.Prelude.{◌≡◌};
 use crate::families::{branching, chain};
 use crate::samples::{C, C1, FORK, SECOND_ACCOUNT, SHOWN, T, UNRELEASED, signed};
 use fints_check::{
-    CertFault, Certificate, Certified, Finding, Memory, Reached, Report, check, confirm,
-    greatest_figures, verify,
+    CertFault, Certificate, Certified, Finding, Memory, Open, Reached, Report, Way, check, confirm,
+    first_open, greatest_figures, verify,
 };
 use fints_params::Params;
 use fints_rules::{OrderTable, Permissions, Rule};
@@ -22,6 +22,8 @@ enum Row<'a> {
     Certified,
     /// Whether this certificate holds.
     Verified(&'a [u8]),
+    /// Whether this is open first of the certificate.
+    Open(&'a [u8], Open),
     /// Whether the report is that of row `second-account`.
     SecondAccount,
     /// Whether this case shows what is found there.
@@ -78,6 +80,39 @@ fn is_verified(
 {
     let certificate = Certificate::read(alloc, text)?;
     Ok(verify(permissions, plan, &certificate))
+}
+
+// What is open of it first.
+const SHORT: Open = Open::LowSize {
+    step: 3,
+    number: 9999,
+    longest: 179,
+    size: 178,
+};
+
+const UNREACHED: &[u8] = b"fints-cert 2\nstep one 1 55\nstep bad -\nstep done -\n";
+
+// A branch of step 1 leads to the third.
+const LED: Open = Open::Unreached {
+    step: 3,
+    way: Way::Branch {
+        from: 1,
+        branch: 1,
+        number: 1,
+    },
+};
+
+fn is_open(
+    alloc: Global,
+    permissions: &Permissions<'_>,
+    plan: &Plan<'_>,
+    text: &[u8],
+    open: Open,
+) -> Result<bool, CertFault>
+    requires { permissions.now.orders ≡ plan.now.orders }
+{
+    let certificate = Certificate::read(alloc, text)?;
+    Ok(first_open(permissions, plan, &certificate) == Some(open))
 }
 
 fn is_written(alloc: Global, certificate: &Certificate) -> Result<bool, Memory> {
@@ -157,6 +192,7 @@ fn is_row(
         Row::Fork => Ok(is_fork(alloc, permissions, plan)?),
         Row::Certified => Ok(is_certified(alloc, permissions, plan)?),
         Row::Verified(text) => Ok(is_verified(alloc, permissions, plan, text)?),
+        Row::Open(text, open) => Ok(is_open(alloc, permissions, plan, text, open)?),
         Row::SecondAccount => {
             let report = check(alloc, permissions, plan)?;
             Ok(is_second_account(alloc, &report)?)
@@ -216,6 +252,8 @@ fn certificates(rt: HostRuntime) -> Result<(), Fail> {
     assert!(rt; is_row_of(alloc, C1, FORK, Row::Certified)?);
     assert!(rt; is_row_of(alloc, C1, FORK, Row::Verified(LOOSER))?);
     assert!(rt; !is_row_of(alloc, C1, FORK, Row::Verified(TOO_SHORT))?);
+    assert!(rt; is_row_of(alloc, C1, FORK, Row::Open(TOO_SHORT, SHORT))?);
+    assert!(rt; is_row_of(alloc, C1, FORK, Row::Open(UNREACHED, LED))?);
     Ok(())
 }
 

@@ -1,7 +1,7 @@
 use Rattle.std.proofs.Common.{ℕ, ◌<◌, ◌≤◌}
 use Rattle.fints_script_cases.specs.Answers.{IsOpen, target_of}
 use Rattle.fints_check.specs.Certificates.{GoesOn}
-use Rattle.fints_check.proofs.verifying.Claims.goes_on.Given as goal
+use Rattle.fints_check.proofs.verifying.Claims.open_branch.Given as goal
 
 -- each open branch so far leads on
 abbrev pub invariant-loop-branch : goal.invariant-loop-branch

@@ -7,38 +7,36 @@ use Rattle.fints_script.specs.Numbered.{numbered}
 use Rattle.fints_script_cases.proofs.LawLemmas.{open_branches_lead}
 use Rattle.fints_script_cases.specs.declared.answers.Target.TheVariants.{Again}
 use Rattle.fints_check.specs.Verifying.{ClaimsValue}
-use Rattle.fints_check.proofs.verifying.Claims.covers.Goals as goal
+use Rattle.fints_check.proofs.verifying.Claims.least.Goals as goal
 
 pub returns : goal.returns
-returns c step at =
+returns c step at number =
     let here = subst (λ (v : ClaimsValue). numbered v.script.steps c.args.n ≡ Some step) (sym c.self.view_is)
     at in
     let again = c.self.invariant.1.each c.args.n step here in (
       λ told. record {
-        once = grind (arith, nat_tests, told, c.from-2.ensures);
+        once = told;
         often =
             λ fired. absurd (false≢true (sym c.if-flag.false ∙ c.flag.ensures.1
             (again.1 ((open_branches_lead step.branches step.otherwise Again).0 fired))));
       },
-      λ h. let once = h.once in grind (arith, nat_tests, once, c.from-2.ensures),
+      λ h. h.once,
     )
 
 pub returns-then-flag : goal.returns-then-flag
-returns-then-flag c step at =
+returns-then-flag c step at number =
     let here = subst (λ (v : ClaimsValue). numbered v.script.steps c.args.n ≡ Some step) (sym c.self.view_is)
     at in
     let again = c.self.invariant.1.each c.args.n step here in
     let same : c.step.result.now ≡ step = same_Some c.step.result.now step (sym c.step.ensures.numbered ∙ here) in
     let repeat : c.repeat.result ≡ step.repeat = c.repeat.ensures ∙ ap (λ (s : StepValue). s.repeat) same in
-    let more = c.saturating_sub-more.ensures in
-    let sum = c.saturating_add.ensures in
-    let number = c.from.ensures in (
+    let more = c.saturating_sub-more.ensures in (
       λ told. record {
-        once = grind (arith, nat_tests, told, repeat, more, sum, number);
-        often = λ leads. grind (arith, nat_tests, told, repeat, more, sum, number);
+        once = grind (arith, nat_tests, told, repeat, more);
+        often = λ leads. grind (arith, nat_tests, told, repeat, more);
       },
       λ h.
           let often = h.often ((open_branches_lead step.branches step.otherwise Again).1
           (again.0 (c.flag.ensures.0 c.if-flag.true))) in
-          grind (arith, nat_tests, often, repeat, more, sum, number),
+          grind (arith, nat_tests, often, repeat, more),
     )
