@@ -65,16 +65,16 @@ fn add_broken(
 
 // What is said of a dialogue while it is audited.
 #[derive(Drop)]
-struct Remarks<'b> {
+struct Remarks<'b, 'p> {
     alloc: Global,
-    bank: &'b Bank<'b>,
+    bank: &'b Bank<'p>,
     reasons: String,
     notes: Notes,
     // Whether memory ran out.
     failed: bool,
 }
 
-impl Remarks<'_> {
+impl Remarks<'_, '_> {
     fn add(&mut self, exchange: &Exchange<'_>, broken: &[Broken]) -> Result<(), Memory> {
         let number = self.notes.place();
         add_broken(
@@ -89,7 +89,7 @@ impl Remarks<'_> {
     }
 }
 
-impl Observer for Remarks<'_> {
+impl Observer for Remarks<'_, '_> {
     fn observe(&mut self, exchange: &Exchange<'_>, broken: &[Broken]) {
         if !self.failed {
             self.failed = self.add(exchange, broken).is_err();
@@ -97,9 +97,35 @@ impl Observer for Remarks<'_> {
     }
 }
 
+// The reasons of what the messages of a recording break, and then the notes on it.
+fn remarks_on(
+    alloc: Global,
+    bank: &Bank<'_>,
+    recording: &Recording<'_>,
+) -> Result<Option<String>, Memory> {
+    let mut remarks = Remarks {
+        alloc,
+        bank,
+        reasons: String::new(alloc),
+        notes: Notes::new(alloc),
+        failed: false,
+    };
+    let audited = audit(alloc, bank.permissions, recording, &mut remarks);
+    if audited.is_err() || remarks.failed {
+        return Ok(None);
+    }
+    let Remarks {
+        reasons: mut text,
+        notes,
+        ..
+    } = remarks;
+    text.push_str(notes.text())?;
+    Ok(Some(text))
+}
+
 /// A line for each rule that the client's messages of a dialogue break, in the order in which `audit` names
 /// them: why, and what to change; and then the notes on the dialogue. Without a capture the parameters are
-/// those of the first answer that tells some. None where an input is refused.
+/// those of the first answer that has some. None where an input is refused.
 pub fn audited_reasons(alloc: Global, inputs: &Inputs<'_>) -> Result<Option<String>, Memory> {
     let Ok(orders) = OrderTable::read(alloc, inputs.orders) else {
         return Ok(None);
@@ -112,21 +138,5 @@ pub fn audited_reasons(alloc: Global, inputs: &Inputs<'_>) -> Result<Option<Stri
     };
     let permissions = Permissions::build(alloc, &source.params, &orders)?;
     let bank = Bank::of(alloc, source.capture, &source.params, &orders, &permissions)?;
-    let mut remarks = Remarks {
-        alloc,
-        bank: &bank,
-        reasons: String::new(alloc),
-        notes: Notes::new(alloc),
-        failed: false,
-    };
-    if audit(alloc, &permissions, &recording, &mut remarks).is_err() || remarks.failed {
-        return Ok(None);
-    }
-    let Remarks {
-        reasons: mut text,
-        notes,
-        ..
-    } = remarks;
-    text.push_str(notes.text())?;
-    Ok(Some(text))
+    remarks_on(alloc, &bank, &recording)
 }

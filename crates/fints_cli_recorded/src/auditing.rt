@@ -116,11 +116,7 @@ fn audit_file(
 
 // The same by the dialogue's own parameters. These are looked for before its messages are read; so where
 // they are refused, the messages are still read for a refusal of theirs, which comes first.
-fn audit_file_own(
-    alloc: Global,
-    orders: &OrderTable,
-    file: &[u8],
-) -> Result<Reply, DialogueFault>
+fn audit_file_own(alloc: Global, orders: &OrderTable, file: &[u8]) -> Result<Reply, DialogueFault>
     ensures audited { IfOk result (λ reply.
         IsOwnFileAudit orders.now file.now reply.status reply.text.items) }
     ensures refused { IfErr result (λ f. IsMemoryOrRefusal (IsOwnFault file.now) f) }

@@ -45,8 +45,8 @@ found_here : (a : Answer) (s : Sent) (told : Option Rows) → a.sent ≡ s → I
 found_here a s None is h = subst (λ (m : Sent). LacksParams m.bytes.now) (sym is) h
 found_here a s (Some rows) is h = subst (λ (m : Sent). IsParamsOf m.bytes.now rows) (sym is) h
 
-refused_here : (a : Answer) (s : Sent) (f : DialogueFault) → a.sent ≡ s → IsMemoryOrRefusal (IsCaptureFault s) f
-    → IsMemoryOrRefusal (IsTellingFault (Some a)) f
+refused_here : (a : Answer) (s : Sent) (f : DialogueFault) → a.sent ≡ s
+    → IsMemoryOrRefusal (IsCaptureFault s) f → IsMemoryOrRefusal (IsTellingFault (Some a)) f
 refused_here a s f is h = subst (λ (m : Sent). IsMemoryOrRefusal (IsCaptureFault m) f) (sym is) h
 
 -- what is found in that message is found in the answer
@@ -144,7 +144,8 @@ one_told messages at exchanges lt h none =
 
 pub told_at : (messages : List Sent) (at : ℕ) (exchanges : List Exchange) (rows : Rows) → at < length messages
     → TellNoneSoFar messages at exchanges
-    → ((e : Exchange) (rest : List Sent) → BeginsWith (drop at messages) e rest → IsFound e.answer (Some rows))
+    → ((e : Exchange) (rest : List Sent) → BeginsWith (drop at messages) e rest
+    → IsFound e.answer (Some rows))
     → TellsParams exchanges rows
 told_at messages at exchanges rows lt h found =
     let n = next_of messages at exchanges lt h in

@@ -94,7 +94,10 @@ fn read_answer<'a>(alloc: Global, sent: &Sent<'a>) -> Result<Answer<'a>, Dialogu
 }
 
 /// The exchange at the front of the messages.
-pub fn read_exchange<'a>(alloc: Global, messages: &[Sent<'a>]) -> Result<Exchange<'a>, DialogueFault>
+pub fn read_exchange<'a>(
+    alloc: Global,
+    messages: &[Sent<'a>],
+) -> Result<Exchange<'a>, DialogueFault>
     requires some { 0 < length messages.now }
     requires below { EndsBelow messages.now }
     ensures exchange { IfOk result (λ e. BeginsWithOne messages.now e) }

@@ -68,10 +68,12 @@ NoneStands bytes openers body ends =
 
 -- the same behind these inner segments
 abbrev pub CanStandBehind : Inner → OwnedSegment → Type 0
-CanStandBehind inner s = CanStand s (length inner.openers.items) (length inner.body.items) (length inner.ends.items)
+CanStandBehind inner s =
+    CanStand s (length inner.openers.items) (length inner.body.items) (length inner.ends.items)
 
 abbrev pub NoneStandsBehind : Inner → List ℕ → Type 0
-NoneStandsBehind inner bytes = NoneStands bytes (length inner.openers.items) (length inner.body.items) (length inner.ends.items)
+NoneStandsBehind inner bytes =
+    NoneStands bytes (length inner.openers.items) (length inner.body.items) (length inner.ends.items)
 
 -- a form: which segments are one, with this body and these HNSHA
 abbrev pub Form : Type 1

@@ -57,6 +57,6 @@ returns-clause-refused c = λ exchanges is.
     inr (inr (
       refl,
       none_told _ c.loop-at.at exchanges c.loop-at-test.false
-      (c.loop-at.invariant.none exchanges
-      (subst (λ xs. AreInTurn xs exchanges []) (sym c.messages-messages.ensures.messages) is)),
+          (c.loop-at.invariant.none exchanges
+          (subst (λ xs. AreInTurn xs exchanges []) (sym c.messages-messages.ensures.messages) is)),
     ))
