@@ -47,16 +47,19 @@ pub record AreFiguresClosed (c : ClaimsValue) (step : StepValue) (figures : Reac
 -- none is found exactly where these figures are closed for step n
 abbrev pub TellsFigures : ClaimsValue → ℕ → Reached → Option Open → Type 0
 TellsFigures c n figures found =
-    (step : StepValue) → numbered c.script.steps n ≡ Some step → (IsNone found ↔ AreFiguresClosed c step figures)
+    (step : StepValue) → numbered c.script.steps n ≡ Some step
+    → (IsNone found ↔ AreFiguresClosed c step figures)
 
 -- none is found exactly where step n is closed with these figures
 abbrev pub TellsLine : ClaimsValue → ℕ → Reached → Option Open → Type 0
 TellsLine c n figures found =
-    (step : StepValue) → numbered c.script.steps n ≡ Some step → (IsNone found ↔ IsLineClosed c.granted c.script c.lines n step figures)
+    (step : StepValue) → numbered c.script.steps n ≡ Some step
+    → (IsNone found ↔ IsLineClosed c.granted c.script c.lines n step figures)
 
 -- step n is named as unreached, or closed with its figures
 abbrev pub IsStepClosed : ClaimsValue → ℕ → StepValue → Type 0
-IsStepClosed c n step = (figures : Reached) → Names c.lines n figures → IsLineClosed c.granted c.script c.lines n step figures
+IsStepClosed c n step =
+    (figures : Reached) → Names c.lines n figures → IsLineClosed c.granted c.script c.lines n step figures
 
 -- none is found exactly where step n is named as unreached, or closed
 abbrev pub TellsStep : ClaimsValue → ℕ → Option Open → Type 0
