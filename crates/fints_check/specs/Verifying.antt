@@ -47,7 +47,8 @@ pub record AreFiguresClosed (c : ClaimsValue) (step : StepValue) (figures : Reac
 -- none is found exactly where these figures are closed for step n
 abbrev pub TellsFigures : ClaimsValue → ℕ → Reached → Option Open → Type 0
 TellsFigures c n figures found =
-    (step : StepValue) → numbered c.script.steps n ≡ Some step → (IsNone found ↔ AreFiguresClosed c step figures)
+    (step : StepValue) → numbered c.script.steps n ≡ Some step
+    → (IsNone found ↔ AreFiguresClosed c step figures)
 
 -- none is found exactly where step n is closed with these figures
 abbrev pub TellsLine : ClaimsValue → ℕ → Reached → Option Open → Type 0

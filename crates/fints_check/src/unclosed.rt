@@ -14,9 +14,9 @@ pub enum Way {
     },
 }
 
-/// What is open of a certificate. Steps, lines and branches count from 1; the line of a step stands at
-/// the step's place, and the default counts as the last branch. Numbers and sizes are those of the
-/// step's line, where nothing else is said.
+/// What is open of a certificate. Steps, lines and branches count from 1, and the default is the last
+/// branch. The line of a step is the one at the step's place. Numbers and sizes are those of that line,
+/// where nothing else is said.
 #[derive(Clone, Copy, PartialEq, Eq)]
 pub enum Open {
     /// The line at the step's place has another name.
@@ -36,7 +36,7 @@ pub enum Open {
         step: usize,
         way: Way,
     },
-    /// A run comes to the step, whose number has to be at least this one then, and is less.
+    /// A run comes to the step. Its number has to be at least this one then, and is less.
     LowNumber {
         step: usize,
         way: Way,
@@ -48,7 +48,7 @@ pub enum Open {
         step: usize,
         number: u32,
     },
-    /// The step's longest message of this number has so many bytes, and the size is less.
+    /// The step's longest message of this number is longer than the size.
     LowSize {
         step: usize,
         number: u32,

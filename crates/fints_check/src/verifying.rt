@@ -176,7 +176,7 @@ impl<'a> Claims<'a> {
         None
     }
 
-    // What is open where this way, behind messages of at most this number, leads to the target.
+    // What is open where a branch leads this way to the target, after messages of at most this number.
     fn open_target(&self, target: Target, way: Way, number: u32) -> Option<Open>
         ensures at { IsFoundAt (source_of way) result }
         ensures none { IsNone result ↔ GoesOn self.now.script.steps self.now.lines number target }
@@ -187,8 +187,8 @@ impl<'a> Claims<'a> {
         }
     }
 
-    // What is open where the first branch of step n leads that doesn't go on. A branch's opener is looked
-    // for last.
+    // What is open of the first open branch of step n that doesn't go on. A branch's opener is looked for
+    // last.
     fn open_branch(&self, n: usize, number: u32) -> Option<Open>
         requires first { 1 ≤ n }
         requires last { n ≤ length self.now.script.steps }

@@ -125,7 +125,7 @@ fn many_items(alloc: Global, measured: &Measured, rows: &[Value]) -> Told {
     Ok(None)
 }
 
-/// A place among segments, and what stands there weighs.
+/// A place among segments, and how much the segment there weighs.
 #[derive(Clone, Copy)]
 struct Weight {
     place: usize,
