@@ -33,7 +33,7 @@ IsLeast c n from least =
     (step : StepValue) → numbered c.script.steps n ≡ Some step
     → (number : ℕ) → (least ≤ number) ↔ IsEnough step from number
 
--- none is found exactly where each open branch of step n goes on behind messages of at most this number
+-- none is found exactly where each open branch of step n goes on after messages of at most this number
 abbrev pub TellsOnward : ClaimsValue → ℕ → ℕ → Option Open → Type 0
 TellsOnward c n number found =
     (step : StepValue) → numbered c.script.steps n ≡ Some step

@@ -270,7 +270,7 @@ impl<'a> Claims<'a> {
         }
     }
 
-    // What is open of the first step of which something is.
+    // What is open of the first step that has something open.
     fn open_steps(&self) -> Option<Open>
         ensures before { IfSome result (λ found.
             AreClosedBefore self.now.granted self.now.script self.now.lines (found_at found)) }

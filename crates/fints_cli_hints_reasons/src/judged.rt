@@ -15,7 +15,7 @@ use fints_rules_causes::segment_cause;
 use fints_syntax::{Kind, Memory, SegmentView};
 use std::alloc::Global;
 
-// The rules that the message breaks, behind the one before where there is one.
+// The rules that the message breaks, after the one before where there is one.
 fn broken_by(
     alloc: Global,
     permissions: &Permissions<'_>,

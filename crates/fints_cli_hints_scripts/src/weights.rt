@@ -13,7 +13,7 @@ use fints_syntax_toml::entries::is_named;
 use std::alloc::Global;
 use toml::Value;
 
-/// What a step with these segments stands among.
+/// What surrounds a step with these segments.
 #[derive(Clone, Copy)]
 pub struct Parts<'a, 'r> {
     pub fields: &'a NamedRows<'r>,

@@ -58,7 +58,7 @@ fn frame_text(alloc: Global, view: &SegmentView<'_>) -> Result<String, Memory> {
     }
 }
 
-/// Why a segment can't stand behind inner segments.
+/// Why a segment can't follow inner segments.
 pub fn order_slip(
     alloc: Global,
     view: &SegmentView<'_>,
@@ -108,7 +108,7 @@ fn counts_text(alloc: Global, inner: &Inner<'_>) -> Result<String, Memory> {
     )
 }
 
-// Why a last segment, HNHBS version 1, can't stand there.
+// Why a last segment, HNHBS version 1, is not in its place there.
 fn last_slip(
     alloc: Global,
     view: &SegmentView<'_>,
@@ -139,7 +139,7 @@ pub fn unread_text(alloc: Global, rest: &[u8], what: &str) -> Result<String, Mem
     )
 }
 
-// Why no segment of a message can be read behind these inner segments.
+// Why no segment of a message can be read after these inner segments.
 fn unread_slip(alloc: Global, rest: &[u8], inner: &Inner<'_>) -> Result<String, Memory> {
     if rest.is_empty() || inner.seal.is_some() {
         return unread_text(alloc, rest, "HNHBS");
@@ -149,7 +149,7 @@ fn unread_slip(alloc: Global, rest: &[u8], inner: &Inner<'_>) -> Result<String, 
     unread_text(alloc, rest, what.as_str())
 }
 
-// Why a segment can't stand behind inner segments as they are, or behind those in the data of HNVSD.
+// Why a segment can't follow inner segments as they are, or the HNVSD that has them in its data.
 fn other_slip(alloc: Global, view: &SegmentView<'_>, inner: &Inner<'_>) -> Result<String, Memory> {
     if inner.seal.is_none() {
         return order_slip(alloc, view, inner);

@@ -153,7 +153,7 @@ fn data_slip(alloc: Global, data: &[u8], inner: &Inner<'_>) -> Result<String, Me
     )
 }
 
-// Why a segment behind HNVSK is no HNVSD with data.
+// Why a segment after HNVSK is no HNVSD with data.
 fn envelope_slip(alloc: Global, view: &SegmentView<'_>) -> Result<String, Memory> {
     let name = named(view);
     let version = view.version();
@@ -181,7 +181,7 @@ fn no_envelope(alloc: Global, rest: &[u8]) -> Result<String, Memory> {
     }
 }
 
-// What doesn't stand where the bytes cease to be a message.
+// Which part is missing where the bytes cease to be a message.
 fn slip_text(alloc: Global, unread: &Unread<'_>, bytes: &[u8]) -> Result<String, Memory> {
     let rest = bytes.get(unread.offset..).unwrap_or(&[]);
     match &unread.slip {
@@ -201,7 +201,7 @@ pub fn front_hint(alloc: Global, bytes: &[u8]) -> Told {
     }
 }
 
-/// Why bytes are no message: what stands where they cease to be one. None where they are one.
+/// Why bytes are no message: what is where they cease to be one. None where they are one.
 pub fn message_hint(alloc: Global, bytes: &[u8]) -> Told {
     if let Some(text) = form_text(bytes) {
         return told(alloc, text);

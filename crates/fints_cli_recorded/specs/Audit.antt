@@ -91,14 +91,14 @@ IsOwnAuditRefusal orders dialogue (Dialogue f) =
     ((table : List OrderRow) × DenotesTable orders table) × IsOwnFault dialogue f
 IsOwnAuditRefusal orders dialogue _ = ⊥
 
--- ---- of private contracts alone
+-- ---- of private contracts only
 
--- they tell the rules that the messages of a recording break
+-- the status and the text name the rules that the messages of a recording break
 abbrev pub IsRecordingAudit : Rows → List OrderRow → List Sent → ℕ → List ℕ → Type 0
 IsRecordingAudit rows table messages status text =
     (exchanges : List Exchange) × AreInTurn messages exchanges [] × IsAuditBy rows table exchanges status text
 
--- they tell those that the messages of the dialogue in a file break
+-- they name those that the messages of the dialogue in a file break
 abbrev pub IsFileAudit : Rows → List OrderRow → List ℕ → ℕ → List ℕ → Type 0
 IsFileAudit rows table file status text =
     (exchanges : List Exchange) × IsDialogue file exchanges × IsAuditBy rows table exchanges status text

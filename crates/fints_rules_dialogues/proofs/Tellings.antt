@@ -79,7 +79,7 @@ fault_found messages m f e rest is refused h =
 
 -- ---- the exchanges
 
--- of the exchanges those before a place in the messages tell no parameters
+-- the exchanges before a place in the messages have no parameters
 pub record TellNoneSoFar (messages : List Sent) (at : ℕ) (exchanges : List Exchange) : Type 0 where
   pub front : List Exchange
   pub back : List Exchange

@@ -49,8 +49,8 @@ fn next_inner<'b>(bytes: &'b [u8], inner: &Inner<'_>) -> Option<(SegmentView<'b>
     }
 }
 
-/// Reads segments as long as they can stand between the first and the last of a message, in the data of
-/// a seal or as they are.
+/// Reads segments as long as they can be between the first and the last of a message, in the data of a
+/// seal or as they are.
 pub fn read_inner<'a>(
     alloc: Global,
     bytes: &'a [u8],

@@ -75,7 +75,7 @@ impl<'a> Message<'a> {
         &self.first
     }
 
-    /// What the segments between HNHBK and HNHBS stand in, where they are sealed.
+    /// What seals the segments between HNHBK and HNHBS, if they are sealed.
     pub fn seal(&self) -> Option<&Seal<'a>> {
         self.inner.seal.as_ref()
     }
@@ -85,7 +85,7 @@ impl<'a> Message<'a> {
         self.inner.openers.as_slice()
     }
 
-    /// The segments of the body, in order; they are numbered on from the one behind the HNSHK.
+    /// The segments of the body, in order; they are numbered on from the last HNSHK.
     pub fn body(&self) -> &[SegmentView<'a>]
         ensures segments { segments_of result.now ≡ self.now.body }
         ensures numbered { IsNumbered (2 + length self.now.ends) self.now.body }
@@ -155,7 +155,7 @@ fn read_first(view: &SegmentView<'_>, size: usize) -> Option<u64>
     number_at(view, 5, 1, 1, 9)
 }
 
-/// The message that the bytes are, or where they cease to be one and what of it doesn't stand there.
+/// The message that the bytes are, or where they cease to be one and which part of it is missing there.
 pub fn read_or_slip(
     alloc: Global,
     bytes: &[u8],

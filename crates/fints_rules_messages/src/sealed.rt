@@ -14,7 +14,7 @@ use fints_syntax::SegmentView;
 use fints_syntax_segments::{HNVSD_NUMBER, HNVSD_VERSION};
 use std::alloc::{AllocError, Global};
 
-/// The inner segments that an envelope behind HNVSK holds, if it is one.
+/// The inner segments that an envelope after HNVSK holds, if it is one.
 fn open_envelope<'a>(
     alloc: Global,
     head: SegmentView<'a>,
