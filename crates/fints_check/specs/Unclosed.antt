@@ -1,4 +1,4 @@
--- Where what is open of a certificate is found, and what was looked at before. Steps count from 1.
+-- Where what is open of a certificate is found: at the first step of which something is. Steps count from 1.
 use Rattle.std.specs.Prelude.{ℕ, ◌≡◌, ◌<◌, Some, List}
 use Rattle.fints_rules_permissions.specs.Permits.{Granted}
 use Rattle.fints_script.specs.Numbered.{numbered}
@@ -6,7 +6,7 @@ use Rattle.fints_script.specs.Scripts.{ScriptValue}
 use Rattle.fints_script.specs.Steps.{StepValue}
 use Rattle.fints_check_findings.specs.declared.finding.Reached.{Reached}
 use Rattle.fints_check_findings.specs.Releases.{IsUnreleased}
-use Rattle.fints_check.specs.Certificates.{LineHolds, Names}
+use Rattle.fints_check.specs.Certificates.{line_names, step_names, IsEntered, LineHolds, Names}
 use Rattle.fints_check.specs.declared.certificate.Line.{Line}
 use Rattle.fints_check.specs.declared.unclosed.Way.{Way}
 use Rattle.fints_check.specs.declared.unclosed.Way.TheVariants.{Begin, Branch}
@@ -43,3 +43,16 @@ abbrev pub AreClosedBefore : Granted → ScriptValue → List Line → ℕ → T
 AreClosedBefore granted script lines n =
     (k : ℕ) (step : StepValue) (figures : Reached) → k < n → numbered script.steps k ≡ Some step
     → Names lines k figures → IsLineClosed granted script lines k step figures
+
+-- step n is named as reached, and something of it is open
+abbrev pub IsOpenStep : Granted → ScriptValue → List Line → ℕ → Type 0
+IsOpenStep granted script lines n =
+    (step : StepValue) → numbered script.steps n ≡ Some step
+    → ((figures : Reached) → Names lines n figures → IsLineClosed granted script lines n step figures) → ⊥
+
+-- step n is the first of which something is open; or n is 0, and the lines haven't the steps' names, or runs
+-- can't begin with step 1 as its line says
+pub record IsFirstOpen (granted : Granted) (script : ScriptValue) (lines : List Line) (n : ℕ) : Type 0 where
+  pub before : AreClosedBefore granted script lines n
+  pub here : IsOpenStep granted script lines n
+  pub begin : n ≡ 0 → line_names lines ≡ step_names script.steps → IsEntered script.steps lines 1 1 → ⊥

@@ -4,7 +4,7 @@ ghost use Rattle.fints_script_cases.specs.Answers.{IsOpenTo};
 ghost use Rattle.fints_check_findings.specs.Findings.{EachIsPermitted};
 ghost use Rattle.fints_script.specs.Numbered.{numbered};
 ghost use Rattle.fints_check.specs.Certificates.{figures_at, line_names, step_names, GoesOn, IsClosedCertificate, IsEntered, KeepsPromise};
-ghost use Rattle.fints_check.specs.Unclosed.{found_at, source_of, AreClosedBefore};
+ghost use Rattle.fints_check.specs.Unclosed.{found_at, source_of, IsFirstOpen};
 ghost use Rattle.fints_check.specs.Verifying.{AreClaimsClosed, AreRepeats, AreStepsClosed, IsFoundAt, IsLeast, TellsFigures, TellsLine, TellsOnward, TellsStep};
 
 use crate::certificate::{Certificate, Line};
@@ -272,8 +272,8 @@ impl<'a> Claims<'a> {
 
     // What is open of the first step that has something open.
     fn open_steps(&self) -> Option<Open>
-        ensures before { IfSome result (λ found.
-            AreClosedBefore self.now.granted self.now.script self.now.lines (found_at found)) }
+        ensures first { IfSome result (λ found.
+            IsFirstOpen self.now.granted self.now.script self.now.lines (found_at found)) }
         ensures none { IsNone result ↔ AreStepsClosed self.now }
     {
         for n in 1..self.plan.step_count() + 1 {
@@ -286,8 +286,8 @@ impl<'a> Claims<'a> {
 
     // What is open first where the lines have the steps' names.
     fn first_open(&self) -> Option<Open>
-        ensures before { IfSome result (λ found.
-            AreClosedBefore self.now.granted self.now.script self.now.lines (found_at found)) }
+        ensures first { IfSome result (λ found.
+            IsFirstOpen self.now.granted self.now.script self.now.lines (found_at found)) }
         ensures none { IsNone result ↔ AreClaimsClosed self.now }
     {
         if let Some(found) = self.open_entry(1, Way::Begin, 1) {
@@ -308,7 +308,7 @@ pub fn first_open(
 ) -> Option<Open>
     requires { permissions.now.orders ≡ plan.now.orders }
     ensures first { IfSome result (λ found.
-        AreClosedBefore permissions.now plan.now.script certificate.now (found_at found)) }
+        IsFirstOpen permissions.now plan.now.script certificate.now (found_at found)) }
     ensures none { IsNone result ↔ IsClosedCertificate permissions.now plan.now.script certificate.now }
 {
     match Claims::of(permissions, plan, certificate.lines()) {

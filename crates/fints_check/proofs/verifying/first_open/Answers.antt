@@ -1,8 +1,9 @@
-use Rattle.std.proofs.Common.{◌≡◌, List, subst, sym}
+use Rattle.std.proofs.Common.{ℕ, ◌≡◌, List, subst, sym, arith}
+use Rattle.fints_script.specs.Numbered.{numbered_within}
 use Rattle.std.specs.Prelude.{◌↔◌, IsNone, IfSome}
 use Rattle.fints_check.proofs.Claimed.{claims_by_closed, closed_by_claims}
 use Rattle.fints_check.specs.Certificates.{line_names, step_names}
-use Rattle.fints_check.specs.Unclosed.{found_at, AreClosedBefore}
+use Rattle.fints_check.specs.Unclosed.{found_at, IsFirstOpen}
 use Rattle.fints_check.specs.Verifying.{AreClaimsClosed, ClaimsValue}
 use Rattle.fints_check.specs.declared.certificate.Line.{Line}
 use Rattle.fints_check.proofs.verifying.first_open.Goals as goal
@@ -25,9 +26,9 @@ pub returns-in-Ok-clause-first : goal.returns-in-Ok-clause-first
 returns-in-Ok-clause-first c =
     let granted = c.args.permissions.now in
     let script = c.args.plan.now.script in
-    subst (λ (lines : List Line). IfSome c.first_open.result (λ found. AreClosedBefore granted script lines (found_at found))) c.lines.ensures
-    (subst (λ (v : ClaimsValue). IfSome c.first_open.result (λ found. AreClosedBefore v.granted v.script v.lines (found_at found)))
-    c.in-Ok.ensures.claims.1 c.first_open.ensures.before)
+    subst (λ (lines : List Line). IfSome c.first_open.result (λ found. IsFirstOpen granted script lines (found_at found))) c.lines.ensures
+    (subst (λ (v : ClaimsValue). IfSome c.first_open.result (λ found. IsFirstOpen v.granted v.script v.lines (found_at found)))
+    c.in-Ok.ensures.claims.1 c.first_open.ensures.first)
 
 pub returns-in-Err-clause-none : goal.returns-in-Err-clause-none
 returns-in-Err-clause-none c = (
@@ -38,3 +39,18 @@ returns-in-Err-clause-none c = (
       (subst (λ (lines : List Line). line_names lines ≡ step_names c.args.plan.now.script.steps) (sym c.lines.ensures)
       closed.names)),
 )
+
+pub returns-in-Err-clause-first : goal.returns-in-Err-clause-first
+returns-in-Err-clause-first c =
+    let granted = c.args.permissions.now in
+    let script = c.args.plan.now.script in
+    let lines = c.args.certificate.now in
+    subst (λ (n : ℕ). IsFirstOpen granted script lines n) (sym c.in-Err.ensures.at)
+    (record {
+      before = λ k step figures below at named. absurd (omega arith);
+      here = λ step at all. let low = (numbered_within script.steps 0 step at).0 in absurd (omega arith);
+      begin = λ none names entered.
+          absurd
+          (c.in-Err.ensures.claims
+          (subst (λ (l : List Line). line_names l ≡ step_names script.steps) (sym c.lines.ensures) names));
+    })

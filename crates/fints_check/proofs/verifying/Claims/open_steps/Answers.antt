@@ -1,6 +1,7 @@
 use Rattle.std.proofs.Common.{ℕ, ◌≡◌, ◌≤◌, ◌<◌, Some, length, refl, subst, sym, arith, inl, inr}
 use Rattle.std.proofs.lemmas.Bool.{cases_lt}
 use Rattle.fints_script.specs.Numbered.{numbered, numbered_at, numbered_within}
+use Rattle.fints_check.specs.Unclosed.{IsFirstOpen}
 use Rattle.fints_check.specs.Verifying.{ClaimsValue, IsStepClosed}
 use Rattle.fints_check.proofs.verifying.Claims.open_steps.Goals as goal
 
@@ -20,9 +21,15 @@ returns-in-Some-clause-none c =
       λ all. let told = (c.in-Some.ensures.none step.0 step.1).1 (all c.loop-n.n step.0 step.1) in absurd cc,
     )
 
-pub returns-in-Some-clause-before : goal.returns-in-Some-clause-before
-returns-in-Some-clause-before c k step figures below at named =
-    c.loop-n.invariant k step (subst (λ (n : ℕ). k < n) c.in-Some.ensures.at below) at figures named
+pub returns-in-Some-clause-first : goal.returns-in-Some-clause-first
+returns-in-Some-clause-first c =
+    let self = c.args.self.now in
+    subst (λ (n : ℕ). IsFirstOpen self.granted self.script self.lines n) (sym c.in-Some.ensures.at)
+    (record {
+      before = λ k step figures below at named. c.loop-n.invariant k step below at figures named;
+      here = λ step at all. let told = (c.in-Some.ensures.none step at).1 all in absurd cc;
+      begin = λ none names entered. let low = c.loop-n.auto.n in absurd (omega arith);
+    })
 
 pub loop-n-init : goal.loop-n-init
 loop-n-init c k step below at = let within = (numbered_within c.args.self.now.script.steps k step at).0 in absurd (omega arith)
