@@ -3,8 +3,8 @@ use Rattle.std.proofs.Common.{ℕ, suc, ◌+◌, ◌≡◌, ◌≢◌, Option, L
 use Rattle.std.specs.List.{All, AllPairs}
 use Rattle.std.proofs.lemmas.List.{append_assoc, length-append, get_or_append_left, get_or_at}
 use Rattle.std.proofs.lemmas.List.Elements.{All-cons, All-head, All-tail, All-map}
-use Rattle.fints_syntax_lines.specs.Lines.{NoFeed, BeginsText}
-use Rattle.fints_syntax_lines.specs.LineLaws.{plain}
+use Rattle.fints_syntax_texts.specs.Lines.{NoFeed, BeginsText}
+use Rattle.fints_syntax_texts.specs.LineLaws.{plain}
 use Rattle.fints_check_findings.specs.declared.finding.Reached.{Reached}
 use Rattle.fints_check.specs.CertTexts.{figures_text, step_text, cert_lines, IsStepLine, AreCertLines}
 use Rattle.fints_check.specs.CertReading.{IsNew, IsBegun}

@@ -3,12 +3,12 @@ use Rattle.std.proofs.Common.{ℕ, ◌<◌, ◌≤◌, ◌≡◌, ◌≢◌, Non
 use Rattle.std.proofs.lemmas.List.{append-nil, map-append}
 use Rattle.std.proofs.lemmas.List.Elements.{All-cons, All-nil, All-push}
 use Rattle.std.proofs.lemmas.List.Quantifiers.{all_pairs_push}
-use Rattle.fints_syntax_lines.specs.Lines.{text_of_lines, AreTexts, BeginsText, IsHeaded}
-use Rattle.fints_syntax_lines.specs.LineLaws.{same_lines, text_or_bad_line}
+use Rattle.fints_syntax_texts.specs.Lines.{text_of_lines, AreTexts, BeginsText, IsHeaded}
+use Rattle.fints_syntax_texts.specs.LineLaws.{same_lines, text_or_bad_line}
 use Rattle.fints_check.specs.CertTexts.{step_text, cert_lines, cert_text, IsStepLine, IsCertificate, OneCertificate, CertificateOrBadLine, AreCertLines}
 use Rattle.fints_check.specs.CertReading.{IsNew, IsBegun}
 use Rattle.fints_check.specs.declared.certificate.Line.{Line}
-use Rattle.fints_syntax_lines.specs.declared.lines.TheConstants.{MAX_TEXT}
+use Rattle.fints_syntax_texts.specs.declared.lines.TheConstants.{MAX_TEXT}
 use Rattle.fints_check.proofs.CertLines.{onward, line_once, cert_without, lines_once}
 
 -- ---- a line more

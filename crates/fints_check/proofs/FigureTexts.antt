@@ -10,8 +10,8 @@ use Rattle.std.specs.List.{All}
 use Rattle.std.specs.Str.{IsUtf8}
 use Rattle.std.specs.Str.Parse.{AllDigits, digits_value, ParsesUnsigned}
 use Rattle.std.proofs.lemmas.List.Elements.{All-cons, All-append}
-use Rattle.fints_syntax_lines.specs.Lines.{IsSplit}
-use Rattle.fints_syntax_lines.specs.LineLaws.{split_same, split_none, plain}
+use Rattle.fints_syntax_texts.specs.Lines.{IsSplit}
+use Rattle.fints_syntax_texts.specs.LineLaws.{split_same, split_none, plain}
 use Rattle.fints_check.specs.CertTexts.{figures_text, IsFigure, AreShown}
 use Rattle.fints_check_findings.specs.declared.finding.Reached.{Reached}
 

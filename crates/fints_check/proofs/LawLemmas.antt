@@ -2,7 +2,7 @@
 use Rattle.std.specs.Prelude.{◌≡◌, ℕ, List}
 use Rattle.fints_check.specs.CertTexts.{CertificateOrBadLine, OneCertificate, IsFirstBadCertLine, AreCertLines}
 use Rattle.fints_check.specs.Laws.{ClosedIsPermitted, ClosedKeepsPromise, GreatestIsClosed, GreatestIsReadable}
-use Rattle.fints_syntax_lines.specs.LineLaws as texts
+use Rattle.fints_syntax_texts.specs.LineLaws as texts
 use Rattle.fints_check.proofs.CertLines.{cert_without}
 use Rattle.fints_check.proofs.Promising as promising
 use Rattle.fints_check.proofs.Closing.{closes}

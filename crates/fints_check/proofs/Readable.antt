@@ -8,7 +8,7 @@ use Rattle.std.proofs.lemmas.Option.{get_or_from_slice_get, slice_get-get_or, sl
 use Rattle.fints_script_cases.specs.declared.values.NamedValue.{NamedValue}
 use Rattle.fints_script_fields.specs.Names.{IsName}
 use Rattle.fints_script_fields.proofs.NameLemmas.{name_is_short}
-use Rattle.fints_syntax_lines.specs.Lines.{text_of_lines}
+use Rattle.fints_syntax_texts.specs.Lines.{text_of_lines}
 use Rattle.fints_script.specs.Plans.{Admits}
 use Rattle.fints_script.specs.Scripts.{ScriptValue}
 use Rattle.fints_script.specs.Sound.{IsSound, IsSoundStep}
@@ -24,7 +24,7 @@ use Rattle.fints_check.specs.CertTexts.{cert_text, figures_text, step_text, AreS
 use Rattle.fints_check.specs.declared.certificate.Line.{Line}
 use Rattle.fints_script.specs.Numbered.{numbered_holds}
 use Rattle.fints_check.proofs.FigureTexts.{figure_short}
-use Rattle.fints_syntax_lines.specs.declared.lines.TheConstants.{MAX_TEXT}
+use Rattle.fints_syntax_texts.specs.declared.lines.TheConstants.{MAX_TEXT}
 use Rattle.fints_script_rows.specs.declared.limits.TheConstants.{MAX_STEPS}
 use Rattle.fints_wire.specs.declared.building.TheConstants.{MAX_NUMBER}
 use Rattle.fints_check.proofs.Numbered.{same_at}

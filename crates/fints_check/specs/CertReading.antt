@@ -4,7 +4,7 @@ use Rattle.std.specs.List.{All, AllPairs}
 use Rattle.fints_script_fields.specs.NameSets.{HoldsNames}
 use Rattle.fints_check.specs.Certificates.{line_names}
 use Rattle.fints_check.specs.CertTexts.{cert_text, IsStepLine}
-use Rattle.fints_syntax_lines.specs.declared.lines.TheConstants.{MAX_TEXT}
+use Rattle.fints_syntax_texts.specs.declared.lines.TheConstants.{MAX_TEXT}
 use Rattle.fints_check.specs.declared.certificate.Line.{Line}
 use Rattle.fints_check.specs.declared.reading.Taken.{Taken}
 

@@ -3,11 +3,11 @@ use Rattle.std.specs.Prelude.{ℕ, ◌≡◌, ◌≢◌, ◌<◌, ◌≤◌, Opt
 use Rattle.std.specs.List.{All, AllPairs}
 use Rattle.std.specs.Fmt.{decimal}
 use Rattle.fints_script_fields.specs.Names.{IsName}
-use Rattle.fints_syntax_lines.specs.Lines.{text_of_lines, IsFirstBadLineOf}
+use Rattle.fints_syntax_texts.specs.Lines.{text_of_lines, IsFirstBadLineOf}
 use Rattle.fints_check_findings.specs.declared.finding.Reached.{Reached}
 use Rattle.fints_check.specs.declared.certificate.Line.{Line}
 use Rattle.fints_check.specs.declared.cert_fault.CertFault.{CertFault}
-use Rattle.fints_syntax_lines.specs.declared.lines.TheConstants.{MAX_TEXT}
+use Rattle.fints_syntax_texts.specs.declared.lines.TheConstants.{MAX_TEXT}
 use Rattle.fints_check.specs.declared.cert_fault.CertFault.TheVariants.{Bad, Memory}
 
 -- ---- the text

@@ -3,7 +3,7 @@ ghost use Rattle.std.specs.Prelude.{◌≡◌, ◌≢◌, ◌≤◌, ◌<◌, �
 ghost use Rattle.std.specs.Fmt.{decimal};
 ghost use Rattle.fints_check_findings.specs.declared.finding.Reached.{Reached as ReachedValue};
 ghost use Rattle.fints_script_fields.specs.NameSets.{HoldsNames};
-ghost use Rattle.fints_syntax_lines.specs.Lines.{IsReadAs};
+ghost use Rattle.fints_syntax_texts.specs.Lines.{IsReadAs};
 ghost use Rattle.fints_check.specs.Certificates.{line_names};
 ghost use Rattle.fints_check.specs.CertTexts.{figures_text, step_text, IsFigure, AreShown, IsStepLine, IsCertificateOf, IsCertFault};
 ghost use Rattle.fints_check.specs.CertReading.{IsNew};
@@ -13,7 +13,7 @@ use crate::certificate::{Certificate, Line};
 use fints_check_findings::Reached;
 use fints_script_fields::Name;
 use fints_syntax::Memory;
-use fints_syntax_lines::{LineTaker, after, read_lines, split_once};
+use fints_syntax_texts::{LineTaker, after, read_lines, split_once};
 use std::alloc::Global;
 use std::collections::BTreeSet;
 

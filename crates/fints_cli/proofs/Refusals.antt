@@ -3,9 +3,9 @@ use Rattle.std.proofs.Common.{◌≡◌, ℕ, List}
 use Rattle.fints_params.specs.Parameters.{Rows}
 use Rattle.fints_cli_texts.specs.declared.fault.Fault.{Fault}
 use Rattle.fints_cli_texts.specs.declared.fault.Fault.TheVariants.{NoFinding}
-use Rattle.fints_cli_reports.specs.Plans.{IsPlanRefusal}
-use Rattle.fints_cli_reports.specs.Told.{IsRefused, IsTellRefusal, IsTellRefusalOn}
-use Rattle.fints_cli_reports.specs.declared.telling.Wanted.TheVariants.{OneCase, Report}
+use Rattle.fints_cli_scripts.specs.Plans.{IsPlanRefusal}
+use Rattle.fints_cli_scripts.specs.Told.{IsRefused, IsTellRefusal, IsTellRefusalOn}
+use Rattle.fints_cli_scripts.specs.declared.telling.Wanted.TheVariants.{OneCase, Report}
 
 no_number : (number : ℕ) → Report ≡ OneCase number → ⊥
 no_number number is = cc

@@ -1,10 +1,10 @@
 //! The report on a script, as a text alone.
 ghost use Rattle.std.specs.Prelude.{ℕ, IfOk, IfErr};
-ghost use Rattle.fints_cli_reports.specs.Plans.{IsPlanRefusal};
-ghost use Rattle.fints_cli_reports.specs.Told.{IsRefused, IsToldOf, IsToldOn};
-ghost use Rattle.fints_cli_reports.specs.declared.telling.Wanted.TheVariants as wanted_is;
+ghost use Rattle.fints_cli_scripts.specs.Plans.{IsPlanRefusal};
+ghost use Rattle.fints_cli_scripts.specs.Told.{IsRefused, IsToldOf, IsToldOn};
+ghost use Rattle.fints_cli_scripts.specs.declared.telling.Wanted.TheVariants as wanted_is;
 
-use fints_cli_reports::{Wanted, tell, tell_script};
+use fints_cli_scripts::{Wanted, tell, tell_script};
 use fints_cli_texts::Fault;
 use fints_params::Params;
 use std::alloc::Global;

@@ -3,13 +3,13 @@ use Rattle.std.proofs.Common.{ℕ, ◌≡◌, refl, subst, Bool, List, Option, N
 use Rattle.fints_params.specs.Captures.{IsReadOf}
 use Rattle.fints_params.specs.Parameters.{Rows}
 use Rattle.fints_params.specs.declared.fault.ParamFault.{ParamFault}
-use Rattle.fints_cli_reports.specs.RunText.{IsRunRefusal}
+use Rattle.fints_cli_scripts.specs.RunText.{IsRunRefusal}
 use Rattle.fints_cli_texts.specs.declared.fault.Fault.{Fault}
 use Rattle.fints_cli_texts.specs.Judge.{IsJudgeRefusal}
 use Rattle.fints_cli_texts.specs.JudgeAfter.{IsJudgeAfterRefusal}
 use Rattle.fints_cli_drafts.specs.Drafts.{IsDraftRefusal}
 use Rattle.fints_cli_drawings.specs.Drawn.{no_orders}
-use Rattle.fints_cli_recorded.specs.Audit.{IsAuditRefusal, IsOwnAuditRefusal}
+use Rattle.fints_cli_texts.specs.Audit.{IsAuditRefusal, IsOwnAuditRefusal}
 use Rattle.fints_cli_words.specs.declared.words.Request.TheVariants.{Judge, JudgeAfter, AuditOwn, Audit, Draft}
 use Rattle.fints_cli_words.specs.declared.words.Request.TheVariants as requests
 use Rattle.std.specs.Borrow.{Bor}

@@ -19,17 +19,17 @@ use Rattle.fints_cli_texts.specs.Show.{IsShowOf, IsMemoryOrShowFault}
 use Rattle.fints_cli_texts.specs.ShowMessage.{IsShownMessage}
 use Rattle.fints_cli_texts.specs.Judge.{IsVerdictOf, IsMessageRefusal, IsJudgeRefusal}
 use Rattle.fints_cli_texts.specs.JudgeAfter.{IsJudgeAfterRefusal, IsVerdictAfter}
-use Rattle.fints_cli_recorded.specs.Audit.{IsAuditOf, IsOwnAuditOf, IsAuditRefusal, IsOwnAuditRefusal}
+use Rattle.fints_cli_texts.specs.Audit.{IsAuditOf, IsOwnAuditOf, IsAuditRefusal, IsOwnAuditRefusal}
 use Rattle.fints_cli_drawings.specs.Drawn.{no_orders, IsDrawnOf, IsPictureOf}
 use Rattle.fints_cli_drafts.specs.Drafts.{IsDraftOf, IsDraftRefusal}
 use Rattle.fints_cli_drafts.specs.declared.drafting.Drafted.{Drafted}
 use Rattle.fints_cli_drafts.specs.declared.drafting.Drafted.TheVariants as drafts
-use Rattle.fints_cli_reports.specs.Plans.{IsPlanRefusal}
-use Rattle.fints_cli_reports.specs.Told.{IsRefused, IsToldOf, IsTellRefusal}
-use Rattle.fints_cli_reports.specs.declared.telling.Wanted.{Wanted}
-use Rattle.fints_cli_reports.specs.declared.telling.Wanted.TheVariants.{Report, Cases, OneCase, Certificate}
-use Rattle.fints_cli_reports.specs.RunText.{IsRunOf, IsRunRefusal}
-use Rattle.fints_cli_reports.specs.Verified.{IsUnverified, IsVerifiedOf}
+use Rattle.fints_cli_scripts.specs.Plans.{IsPlanRefusal}
+use Rattle.fints_cli_scripts.specs.Told.{IsRefused, IsToldOf, IsTellRefusal}
+use Rattle.fints_cli_scripts.specs.declared.telling.Wanted.{Wanted}
+use Rattle.fints_cli_scripts.specs.declared.telling.Wanted.TheVariants.{Report, Cases, OneCase, Certificate}
+use Rattle.fints_cli_scripts.specs.RunText.{IsRunOf, IsRunRefusal}
+use Rattle.fints_cli_scripts.specs.Verified.{IsUnverified, IsVerifiedOf}
 
 -- 2 for a message that a run doesn't reach or a finding that isn't there, 3 for a refused input,
 -- 4 for want of memory, 5 for a file that couldn't be read

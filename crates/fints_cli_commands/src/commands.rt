@@ -2,8 +2,8 @@
 ghost use Rattle.std.specs.Prelude.{◌≡◌, ◌≤◌, ◌+◌, ◌*◌, false, None, IfOk, IfErr, IfSome};
 ghost use Rattle.fints_cli_commands.specs.BuiltIn as texts;
 ghost use Rattle.fints_cli_drawings.specs.Drawn.{no_orders};
-ghost use Rattle.fints_cli_reports.specs.Told.{IsToldOf, IsTellRefusal};
-ghost use Rattle.fints_cli_reports.specs.declared.telling.Wanted.TheVariants as wants;
+ghost use Rattle.fints_cli_scripts.specs.Told.{IsToldOf, IsTellRefusal};
+ghost use Rattle.fints_cli_scripts.specs.declared.telling.Wanted.TheVariants as wants;
 ghost use Rattle.fints_cli_commands.specs.Loading.{files_of, paths_of as paths_named};
 ghost use Rattle.fints_cli_commands.specs.Loading.{AreWithin, FollowsReading, Held};
 ghost use Rattle.fints_cli_commands.specs.Loaded.{IsLoaded};
@@ -20,9 +20,10 @@ use fints_cli_hints_dialogues::audited_reasons;
 use fints_cli_hints_reasons::judged_reasons;
 use fints_cli_hints_segments::skipped_notes;
 use fints_cli_hints_verdicts::{report_reasons, verified_reason};
-use fints_cli_recorded::{audit_own, audit_read};
-use fints_cli_reports::{Wanted, run_case, tell_read, tell_script, verify_read};
-use fints_cli_texts::{Fault, Reply, judge_after_read, judge_read, show_message, show_read};
+use fints_cli_scripts::{Wanted, run_case, tell_read, tell_script, verify_read};
+use fints_cli_texts::{
+    Fault, Reply, audit_own, audit_read, judge_after_read, judge_read, show_message, show_read,
+};
 use fints_cli_words::Request;
 use fints_params::{ParamFault, Params};
 use std::alloc::Global;

@@ -12,7 +12,7 @@ use fints_cli_hints::Inputs;
 use fints_cli_words::{AuditFiles, JudgeFiles, Request, ScriptFiles};
 use fints_params::{ParamFault, Params, ParamsAndCodes};
 use fints_syntax::MAX_CAPTURE;
-use fints_syntax_lines::MAX_TEXT;
+use fints_syntax_texts::MAX_TEXT;
 use std::alloc::Global;
 
 /// The paths that a request names, by what their files are; none of a file that it doesn't need.

@@ -10,8 +10,8 @@ use Rattle.fints_check_findings.specs.Findings.{AreFindings}
 use Rattle.fints_check_findings.specs.Reports.{ReportValue}
 use Rattle.fints_check_findings.specs.declared.finding.Finding.{Finding}
 use Rattle.fints_check_findings.specs.declared.finding.Reached.{Reached}
-use Rattle.fints_cli_reports.specs.ReportText.{report_status}
-use Rattle.fints_cli_reports.proofs.ReportLemmas.{on_plan}
+use Rattle.fints_cli_scripts.specs.ReportText.{report_status}
+use Rattle.fints_cli_scripts.proofs.ReportLemmas.{on_plan}
 use Rattle.fints_cli_drawings.specs.Drawn.{no_orders, IsDrawnBy, IsDrawnOn, IsPictureOf}
 use Rattle.fints_cli_drawings.specs.Picture.{picture_text}
 

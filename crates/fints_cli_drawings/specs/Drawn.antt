@@ -8,8 +8,8 @@ use Rattle.fints_check_findings.specs.Figures.{AreFigures}
 use Rattle.fints_check_findings.specs.Findings.{AreFindings}
 use Rattle.fints_check_findings.specs.declared.finding.Finding.{Finding}
 use Rattle.fints_check_findings.specs.declared.finding.Reached.{Reached}
-use Rattle.fints_cli_reports.specs.Plans.{ArePlan}
-use Rattle.fints_cli_reports.specs.ReportText.{report_status}
+use Rattle.fints_cli_scripts.specs.Plans.{ArePlan}
+use Rattle.fints_cli_scripts.specs.ReportText.{report_status}
 use Rattle.fints_cli_drawings.specs.Picture.{picture_text}
 
 -- ---- a script alone

@@ -17,7 +17,7 @@ use Rattle.fints_script.specs.Numbered.{numbered}
 use Rattle.fints_script.specs.Steps.{StepValue}
 use Rattle.fints_check_findings.specs.declared.finding.Finding.{Finding}
 use Rattle.fints_check_findings.specs.declared.finding.Reached.{Reached}
-use Rattle.fints_cli_reports.specs.StepNames.{step_name}
+use Rattle.fints_cli_scripts.specs.StepNames.{step_name}
 use Rattle.fints_cli_drawings.specs.Openers.{opener_of}
 
 -- of what no run sends and no answer fires

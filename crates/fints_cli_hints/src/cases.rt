@@ -7,7 +7,7 @@ use fints_params::Code;
 use fints_script::Script;
 use fints_script_fields::Name;
 use fints_script_rows::NamedField;
-use fints_syntax_lines::{after, split_once};
+use fints_syntax_texts::{after, split_once};
 use std::alloc::Global;
 
 const OPENING: Opening = Opening {

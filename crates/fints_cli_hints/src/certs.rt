@@ -4,7 +4,7 @@ use fints_cli_hints_words::places::{Told, told};
 use fints_cli_hints_words::quoting::Sample;
 use fints_script_fields::Name;
 use fints_syntax::parse_number;
-use fints_syntax_lines::{after, split_once};
+use fints_syntax_texts::{after, split_once};
 use std::alloc::Global;
 
 const OPENING: Opening = Opening {

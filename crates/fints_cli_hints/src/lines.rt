@@ -1,6 +1,6 @@
 //! Lines of a text of lines: where one stands, how it ends, and which earlier ones there are.
 use fints_cli_hints_words::places::{Told, told};
-use fints_syntax_lines::{after, split_once};
+use fints_syntax_texts::{after, split_once};
 use std::alloc::Global;
 
 /// What is told where one of the first two lines of a text is missing.

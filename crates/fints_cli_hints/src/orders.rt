@@ -10,9 +10,9 @@ use fints_cli_hints_words::unread::why_no_toml;
 use fints_rules::kinds::{is_plain_order, is_table_kind};
 use fints_rules::{MAX_ROWS, TableFault};
 use fints_syntax::Kind;
-use fints_syntax_toml::document;
-use fints_syntax_toml::document::member;
-use fints_syntax_toml::entries::text_at;
+use fints_syntax_texts::document;
+use fints_syntax_texts::document::member;
+use fints_syntax_texts::entries::text_at;
 use std::alloc::Global;
 use toml::{Table, Value};
 

@@ -10,8 +10,8 @@ use fints_cli_hints_words::inputs::Inputs;
 use fints_params::{Params, feedback_codes};
 use fints_rules::{
     Broken, Message, OrderTable, Permissions, judge_message, judge_message_after, read_message,
+    segment_cause,
 };
-use fints_rules_causes::segment_cause;
 use fints_syntax::{Kind, Memory, SegmentView};
 use std::alloc::Global;
 

@@ -1,7 +1,7 @@
 //! Arrays with too many entries.
 use fints_cli_hints_words::places::{Told, told};
 use fints_cli_hints_words::tables::rows_of;
-use fints_syntax_toml::document::member;
+use fints_syntax_texts::document::member;
 use std::alloc::Global;
 use toml::Table;
 

@@ -8,8 +8,8 @@ use fints_cli_hints_words::places::{Told, row_at, row_named, told, told_at};
 use fints_script_fields::MAX_LEN;
 use fints_script_rows::keys::{BOUNDED_FIELD_KEYS, FIELD_KEYS, LISTED_FIELD_KEYS};
 use fints_script_rows::{FaultKind, NamedRows};
-use fints_syntax_toml::document::member;
-use fints_syntax_toml::entries::text_at;
+use fints_syntax_texts::document::member;
+use fints_syntax_texts::entries::text_at;
 use std::alloc::Global;
 use toml::{Table, Value};
 

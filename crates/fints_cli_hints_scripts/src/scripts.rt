@@ -11,8 +11,8 @@ use fints_script_rows::keys::SCRIPT_KEYS;
 use fints_script_rows::limits::{MAX_FIELDS, MAX_SIGNERS, MAX_STEPS};
 use fints_script_rows::{FaultKind, NamedRows, Place, ScriptFault};
 use fints_syntax::Memory;
-use fints_syntax_toml::document;
-use fints_syntax_toml::document::{MAX_TEXT, member};
+use fints_syntax_texts::document::member;
+use fints_syntax_texts::{MAX_TEXT, document};
 use std::alloc::Global;
 use toml::Table;
 

@@ -6,8 +6,8 @@ use fints_cli_hints_words::quoting::Quoted;
 use fints_script_rows::keys::SEGMENT_KEYS;
 use fints_script_rows::{FaultKind, NamedRows};
 use fints_syntax::{Kind, is_frame_kind};
-use fints_syntax_toml::document::member;
-use fints_syntax_toml::entries::text_at;
+use fints_syntax_texts::document::member;
+use fints_syntax_texts::entries::text_at;
 use std::alloc::Global;
 use toml::{Table, Value};
 

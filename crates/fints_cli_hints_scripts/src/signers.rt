@@ -7,8 +7,8 @@ use fints_cli_hints_words::places::{Told, row_at, row_named, told, told_at};
 use fints_script_rows::keys::SIGNER_KEYS;
 use fints_script_rows::limits::MAX_TEMPLATE_ITEMS;
 use fints_script_rows::{FaultKind, NamedRows};
-use fints_syntax_toml::document::member;
-use fints_syntax_toml::entries::{is_named, text_at};
+use fints_syntax_texts::document::member;
+use fints_syntax_texts::entries::{is_named, text_at};
 use std::alloc::Global;
 use toml::{Table, Value};
 

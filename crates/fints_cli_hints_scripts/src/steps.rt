@@ -13,8 +13,8 @@ use fints_cli_hints_words::tables::{is_set, rows_of};
 use fints_script_rows::keys::STEP_KEYS;
 use fints_script_rows::limits::{MAX_BRANCHES, MAX_REPEAT, MAX_SEGMENTS, MAX_SIGNATURES};
 use fints_script_rows::{FaultKind, NamedRows};
-use fints_syntax_toml::document::member;
-use fints_syntax_toml::entries::{some_is_named, text_at};
+use fints_syntax_texts::document::member;
+use fints_syntax_texts::entries::{some_is_named, text_at};
 use std::alloc::Global;
 use toml::{Table, Value};
 

@@ -8,8 +8,8 @@ use fints_script_templates::signers::frame_in;
 use fints_script_templates::weights::{Figures, all_figures, spend_elements, spend_segment};
 use fints_script_templates::{Template, TemplateElements};
 use fints_syntax::Memory;
-use fints_syntax_toml::document::member;
-use fints_syntax_toml::entries::is_named;
+use fints_syntax_texts::document::member;
+use fints_syntax_texts::entries::is_named;
 use std::alloc::Global;
 use toml::Value;
 

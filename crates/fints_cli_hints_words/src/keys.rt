@@ -5,7 +5,7 @@ use crate::places::{Told, told};
 use crate::quoting::{Quoted, Shown, misfit_of};
 use crate::tables::{is_no_array, is_no_flag, is_no_integer, is_no_list, is_no_text, is_outside};
 use fints_script_rows::names::parsed;
-use fints_syntax_toml::document::member;
+use fints_syntax_texts::document::member;
 use std::alloc::Global;
 use std::fmt::Display;
 use toml::{Table, Value};

@@ -1,7 +1,7 @@
 //! Where something stands in a text, and rows by their number and name.
 use crate::quoting::Bare;
 use fints_syntax::Memory;
-use fints_syntax_toml::entries::text_at;
+use fints_syntax_texts::entries::text_at;
 use std::alloc::Global;
 use std::fmt;
 use std::fmt::{Display, Formatter, Write};

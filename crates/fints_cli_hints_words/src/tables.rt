@@ -1,5 +1,5 @@
 //! Values at the keys of a table: which are of another form than they must be, and what the others hold.
-use fints_syntax_toml::document::number_between;
+use fints_syntax_texts::document::number_between;
 use toml::Value;
 
 /// Whether there is an integer outside of low to high.

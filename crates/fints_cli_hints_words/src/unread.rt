@@ -1,7 +1,7 @@
 //! Why bytes are no TOML.
 use crate::places::{Told, column_at, line_at, told};
 use crate::quoting::Quoted;
-use fints_syntax_toml::document::MAX_TEXT;
+use fints_syntax_texts::MAX_TEXT;
 use std::alloc::Global;
 use std::fmt;
 use std::fmt::{Display, Formatter, Write};

@@ -3,3 +3,4 @@ pub mod LawLemmas
 pub mod MaskLemmas
 pub mod ShowLemmas
 pub mod ShowMessageLemmas
+pub mod AuditLemmas

@@ -5,3 +5,4 @@ pub mod Laws
 pub mod Masked
 pub mod Show
 pub mod ShowMessage
+pub mod Audit

@@ -1,6 +1,7 @@
-//! What the program tells of captures and messages, and the refusals of inputs.
+//! What the program prints of captures, messages and recorded dialogues, and the refusals of inputs.
 #![tactic(auto)]
 
+mod auditing;
 mod fault;
 mod judging;
 mod judging_after;
@@ -10,6 +11,7 @@ mod reply;
 mod showing;
 mod showing_message;
 
+pub use auditing::{audit_own, audit_read};
 pub use fault::Fault;
 pub use judging::{judge_message, judge_read, verdict_status, write_broken, write_last};
 pub use judging_after::judge_after_read;

@@ -8,3 +8,5 @@ pub mod Breaks
 pub mod AccountTests
 pub mod Judging
 pub mod Tallies
+pub mod Causes
+pub mod Laws

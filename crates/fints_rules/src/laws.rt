@@ -5,6 +5,7 @@ ghost use Rattle.fints_syntax_segments.specs.declared.item.OwnedSegment.{OwnedSe
 ghost use Rattle.fints_rules_permissions.specs.Accounts.{account_named};
 ghost use Rattle.fints_rules.specs.Facts.{six_items};
 ghost use Rattle.fints_rules_permissions.specs.declared.orders.AccountForm.{AccountForm};
+ghost use Rattle.fints_rules.specs.Laws.{CausesBreak};
 
 pub use fints_rules_messages::laws::{numbered_bodies, one_message, one_stop};
 pub use fints_rules_permissions::laws::one_table;
@@ -14,4 +15,9 @@ pub use fints_rules_permissions::laws::one_table;
 pub fn six_items_name_an_account()
     ensures { (form : AccountForm) (s : OwnedSegment)
         → account_named form (six_items s) ≡ account_named form (values_at s 2) }
+{}
+
+/// Where a cause holds of a segment, the segment breaks the rule that the cause is one of.
+pub fn causes_break()
+    ensures { CausesBreak }
 {}

@@ -4,7 +4,7 @@ use Rattle.std.proofs.lemmas.List.{get_or_append_left}
 use Rattle.std.proofs.Math.Seq.{get_or-append_seam}
 use Rattle.std.specs.Prelude.{codes}
 use Rattle.toml.specs.Data.{Data, array, Members, get_member}
-use Rattle.fints_syntax_toml.specs.Document.{document, item_list, only_keys}
+use Rattle.fints_syntax_texts.specs.Document.{document, item_list, only_keys}
 use Rattle.fints_rules_permissions.specs.declared.orders.OrderRow.{OrderRow}
 use Rattle.fints_rules_permissions.specs.declared.orders.TableFault.{TableFault}
 use Rattle.fints_rules_permissions.specs.declared.orders.TableFault.TheVariants.{NotToml, UnknownKey, BadRow, TwoRows, Memory}

@@ -4,7 +4,7 @@ use Rattle.toml.specs.Data.{Data, Members, get_member}
 use Rattle.fints_rules_permissions.specs.declared.orders.OrderRow.{OrderRow}
 use Rattle.fints_rules_permissions.specs.declared.orders.TableFault.{TableFault}
 use Rattle.fints_rules_permissions.specs.declared.orders.TableFault.TheVariants as faults
-use Rattle.fints_syntax_toml.specs.Document.{only_keys}
+use Rattle.fints_syntax_texts.specs.Document.{only_keys}
 use Rattle.fints_rules_permissions.specs.Orders.{IsFirstBad, IsNoRow, IsSecondRow, IsTableAt, IsBadRowAt, IsTwoRowsAt, table_keys}
 
 -- of the entries

@@ -10,7 +10,7 @@ use Rattle.fints_rules_permissions.specs.declared.orders.OrderRow.{OrderRow}
 use Rattle.fints_rules_permissions.specs.declared.orders.TableFault.{TableFault}
 use Rattle.fints_rules_permissions.specs.declared.orders.TableFault.TheVariants as faults
 use Rattle.fints_rules_permissions.specs.Kinds.{is_table_kind}
-use Rattle.fints_syntax_toml.specs.Document.{document, item_list, only_keys, number_between}
+use Rattle.fints_syntax_texts.specs.Document.{document, item_list, only_keys, number_between}
 
 infixl 10 ◌>>=◌
 abbrev pub ◌>>=◌ : {A B : Type 0} → Option A → (A → Option B) → Option B

@@ -3,8 +3,8 @@ use Rattle.std.proofs.Common.{◌≡◌, ◌⊎◌, ℕ, zero, suc, ◌+◌, ◌
 use Rattle.std.specs.Prelude.{slice_get}
 use Rattle.std.proofs.lemmas.Option.{none-some, same_Some}
 use Rattle.toml.specs.Data.{Data, Members}
-use Rattle.fints_syntax_lines.specs.declared.lines.TheConstants.{MAX_TEXT}
-use Rattle.fints_syntax_toml.specs.Document.{document}
+use Rattle.fints_syntax_texts.specs.declared.lines.TheConstants.{MAX_TEXT}
+use Rattle.fints_syntax_texts.specs.Document.{document}
 use Rattle.fints_script_rows.specs.FaultOrder.{rank}
 use Rattle.fints_script_rows.specs.Fields.{field_in}
 use Rattle.fints_script_rows.specs.Laws.{OneField}

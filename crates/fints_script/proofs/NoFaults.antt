@@ -2,7 +2,7 @@
 use Rattle.std.proofs.Common.{◌≡◌, ◌⊎◌, ℕ, ◌+◌, ◌<◌, List, take, Option, Some, Ok, Err, refl, ap, subst, sym, ◌∙◌, inl, inr, arith}
 use Rattle.std.proofs.lemmas.Option.{none-some, same_Some}
 use Rattle.toml.specs.Data.{Data, Members}
-use Rattle.fints_syntax_toml.specs.Document.{document}
+use Rattle.fints_syntax_texts.specs.Document.{document}
 use Rattle.fints_script_rows.specs.Fields.{field_in}
 use Rattle.fints_script_rows.specs.Laws.{OneField}
 use Rattle.fints_script_rows.specs.PartLaws.{bind_ok, rows_at}

@@ -4,7 +4,7 @@ use Rattle.std.proofs.lemmas.Bool.{cases_Bool}
 use Rattle.std.proofs.lemmas.Bool.Decides.{nat_tests}
 use Rattle.std.proofs.lemmas.Option.{none-some, same_Some}
 use Rattle.toml.specs.Data.{Data, Members}
-use Rattle.fints_syntax_toml.specs.Document.{document}
+use Rattle.fints_syntax_texts.specs.Document.{document}
 use Rattle.fints_script_rows.specs.Fields.{field_value}
 use Rattle.fints_script_rows.specs.Laws.{OneField}
 use Rattle.fints_script_rows.specs.Rows.{part_at}
@@ -13,7 +13,7 @@ use Rattle.fints_script_rows.specs.declared.fault.Place.TheVariants as places
 use Rattle.fints_script_rows.specs.declared.fault.ScriptFault.{ScriptFault}
 use Rattle.fints_script_rows.specs.declared.fields.NamedField.{NamedField}
 use Rattle.fints_script.specs.Scripts.{DenoteFields, Denotes, IsFaultOf, IsFirstOf, IsScriptOf, ScriptValue, Top, at_top, dialog_value, fields_from, script_with, top_in}
-use Rattle.fints_syntax_lines.specs.declared.lines.TheConstants.{MAX_TEXT}
+use Rattle.fints_syntax_texts.specs.declared.lines.TheConstants.{MAX_TEXT}
 use Rattle.fints_script.proofs.ReadParts.{ok_err, same_err, same_ok}
 
 -- what a text comes to: a script or a fault

@@ -5,7 +5,7 @@ use Rattle.std.proofs.lemmas.Bool.{and_parts, cases_Bool}
 use Rattle.std.proofs.lemmas.Bool.Decides.{nat_tests}
 use Rattle.std.proofs.lemmas.Option.{none-some, same_Some, slice_get_within, slice_get-get_or}
 use Rattle.toml.specs.Data.{Data, integer}
-use Rattle.fints_syntax_toml.specs.Document.{number_between}
+use Rattle.fints_syntax_texts.specs.Document.{number_between}
 use Rattle.fints_script_rows.specs.PartLaws.{bind_ok, each_all, or_ok, rows_at, rows_length}
 use Rattle.fints_script_rows.specs.Parts.{Part, ◌>>=◌, at_most, each, entries_of, integer_in, not_empty, optional}
 use Rattle.fints_script_rows.specs.Rows.{part_at, rows_from}

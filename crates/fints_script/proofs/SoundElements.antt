@@ -8,7 +8,7 @@ use Rattle.std.proofs.lemmas.Bool.Decides.{nat_tests}
 use Rattle.std.proofs.lemmas.List.Elements.{All-cons, All-nil}
 use Rattle.toml.specs.Data.{Data, string, array}
 use Rattle.fints_syntax_segments.specs.declared.item.OwnedItem.TheVariants.{Text, Bin}
-use Rattle.fints_syntax_toml.specs.Document.{item_list}
+use Rattle.fints_syntax_texts.specs.Document.{item_list}
 use Rattle.fints_script_rows.specs.NamedFields.{is_account_at, is_field_named, place_of_field}
 use Rattle.fints_script_rows.specs.PartLaws.{bind_ok, choice_ok, each_all, each_length}
 use Rattle.fints_script_rows.specs.Parts.{each, entries_of, not_empty}

@@ -7,7 +7,7 @@ use Rattle.std.proofs.lemmas.List.Kept.{AllPairs-cons}
 use Rattle.std.proofs.lemmas.Option.{same_Some, slice_get-get_or, slice_get-map}
 use Rattle.std.proofs.lemmas.Slice.Eq.{bytes_eq-Decides}
 use Rattle.toml.specs.Data.{Data, string, table, get_member, as_str}
-use Rattle.fints_syntax_toml.specs.Entries.{holds_text, is_called, name_in}
+use Rattle.fints_syntax_texts.specs.Entries.{holds_text, is_called, name_in}
 use Rattle.fints_script_rows.specs.FieldParts.{is_field}
 use Rattle.fints_script_rows.specs.Fields.{ClassValue, class_value, field_in, field_value}
 use Rattle.fints_script_rows.specs.declared.fault.Place.TheVariants as places

@@ -6,7 +6,7 @@ use Rattle.std.proofs.lemmas.List.{get_or-map}
 use Rattle.std.proofs.lemmas.List.Elements.{All-head, All-tail}
 use Rattle.std.proofs.lemmas.Option.{slice_get-get_or}
 use Rattle.toml.specs.Data.{Data, table, Members}
-use Rattle.fints_syntax_toml.specs.Document.{only_keys}
+use Rattle.fints_syntax_texts.specs.Document.{only_keys}
 use Rattle.fints_script_fields.specs.Fields.{field_most_items}
 use Rattle.fints_script_fields.specs.declared.field.Field.{Field}
 use Rattle.fints_script_fields.specs.declared.field.Field.TheVariants as classes

@@ -10,8 +10,8 @@ use Rattle.std.proofs.lemmas.List.Elements.{All-cons, All-nil}
 use Rattle.toml.specs.Data.{Data, string, table, Members, get_member}
 use Rattle.fints_syntax.specs.Kind.{IsKindText, kind_from, frame_kinds, is_frame_kind}
 use Rattle.fints_syntax.specs.KindLaws.{kind_from-kind}
-use Rattle.fints_syntax_toml.specs.Document.{only_keys}
-use Rattle.fints_syntax_toml.specs.Entries.{is_called, name_in}
+use Rattle.fints_syntax_texts.specs.Document.{only_keys}
+use Rattle.fints_syntax_texts.specs.Entries.{is_called, name_in}
 use Rattle.fints_script_cases.specs.declared.answers.Branch.{Branch}
 use Rattle.fints_script_cases.specs.declared.answers.Target.TheVariants as targets
 use Rattle.fints_script_rows.specs.FieldParts.{row_named}

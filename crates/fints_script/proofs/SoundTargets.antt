@@ -7,8 +7,8 @@ use Rattle.toml.specs.Data.{Data, string, table, Members}
 use Rattle.fints_script_cases.specs.declared.answers.Branch.{Branch}
 use Rattle.fints_script_cases.specs.declared.answers.Target.{Target}
 use Rattle.fints_script_cases.specs.declared.answers.Target.TheVariants as targets
-use Rattle.fints_syntax_toml.specs.Document.{only_keys}
-use Rattle.fints_syntax_toml.specs.Entries.{is_called}
+use Rattle.fints_syntax_texts.specs.Document.{only_keys}
+use Rattle.fints_syntax_texts.specs.Entries.{is_called}
 use Rattle.fints_script_rows.specs.PartLaws.{bind_ok, choice_ok, next_ok}
 use Rattle.fints_script_rows.specs.Parts.{required}
 use Rattle.fints_script_rows.specs.declared.fault.FaultKind.TheVariants as kinds

@@ -6,8 +6,8 @@ use Rattle.std.specs.Str.{bytes_eq}
 use Rattle.hex.specs.Hex.{decode_of}
 use Rattle.toml.specs.Data.{Data, string, array, table}
 use Rattle.fints_syntax.specs.Kind.{kind_from, is_frame_kind}
-use Rattle.fints_syntax_toml.specs.Document.{item_list}
-use Rattle.fints_syntax_toml.specs.Entries.{is_called}
+use Rattle.fints_syntax_texts.specs.Document.{item_list}
+use Rattle.fints_syntax_texts.specs.Entries.{is_called}
 use Rattle.fints_script_rows.specs.NamedFields.{is_account_at, place_of_field}
 use Rattle.fints_script_rows.specs.PartLaws.{bind_ok, each_length, first_and_rest}
 use Rattle.fints_script_rows.specs.Parts.{Part, ◌>>=◌, each, integer_in, not_empty}

@@ -7,7 +7,7 @@ use Rattle.std.specs.Str.{bytes_eq}
 use Rattle.std.proofs.lemmas.Bool.{and_parts}
 use Rattle.std.proofs.lemmas.Bool.Decides.{nat_tests}
 use Rattle.toml.specs.Data.{Data, string, integer, array, table, Members, get_member}
-use Rattle.fints_syntax_toml.specs.Document.{item_list, number_between, only_keys}
+use Rattle.fints_syntax_texts.specs.Document.{item_list, number_between, only_keys}
 use Rattle.fints_script_fields.specs.Names.{is_name}
 use Rattle.fints_script_fields.specs.declared.counted.TheConstants.{MAX_LEN}
 use Rattle.fints_script_rows.specs.FaultOrder.{rank}

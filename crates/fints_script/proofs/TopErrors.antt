@@ -1,7 +1,7 @@
 -- A top with a fault.
 use Rattle.std.proofs.Common.{◌≡◌, ◌∙◌, List, [], codes, true, Err, Result, ap}
 use Rattle.toml.specs.Data.{Data, Members, get_member}
-use Rattle.fints_syntax_toml.specs.Document.{only_keys}
+use Rattle.fints_syntax_texts.specs.Document.{only_keys}
 use Rattle.fints_script_rows.specs.PartLaws.{seen_both, three_keys}
 use Rattle.fints_script_rows.specs.Parts.{both, may, must, seen}
 use Rattle.fints_script_rows.specs.declared.fault.FaultKind.{FaultKind}

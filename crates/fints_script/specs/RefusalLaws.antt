@@ -6,9 +6,9 @@ use Rattle.std.specs.Str.{bytes_eq}
 use Rattle.hex.specs.Hex.{decode_of}
 use Rattle.toml.specs.Data.{Data, string, integer, boolean, array, table, Members, get_member}
 use Rattle.fints_syntax.specs.Kind.{kind_from, is_frame_kind}
-use Rattle.fints_syntax_lines.specs.declared.lines.TheConstants.{MAX_TEXT}
-use Rattle.fints_syntax_toml.specs.Document.{document, item_list, number_between, only_keys}
-use Rattle.fints_syntax_toml.specs.Entries.{is_called}
+use Rattle.fints_syntax_texts.specs.declared.lines.TheConstants.{MAX_TEXT}
+use Rattle.fints_syntax_texts.specs.Document.{document, item_list, number_between, only_keys}
+use Rattle.fints_syntax_texts.specs.Entries.{is_called}
 use Rattle.fints_script_fields.specs.Names.{is_name}
 use Rattle.fints_script_fields.specs.declared.counted.TheConstants.{MAX_LEN}
 use Rattle.fints_script_cases.specs.Patterns.{pattern_in}

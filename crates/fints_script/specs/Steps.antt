@@ -5,8 +5,8 @@ use Rattle.std.specs.List.{list_any}
 use Rattle.std.specs.Option.{option_map_or}
 use Rattle.std.specs.Str.{bytes_eq}
 use Rattle.toml.specs.Data.{Data, string, table, Members}
-use Rattle.fints_syntax_toml.specs.Document.{only_keys}
-use Rattle.fints_syntax_toml.specs.Entries.{is_called}
+use Rattle.fints_syntax_texts.specs.Document.{only_keys}
+use Rattle.fints_syntax_texts.specs.Entries.{is_called}
 use Rattle.fints_script_cases.specs.Patterns.{pattern_in}
 use Rattle.fints_script_rows.specs.Parts.{Part, ◌>>=◌, ◌<*>◌, at_most, each, entries_of, flag_in, integer_in, may, must, not_empty}
 use Rattle.fints_script_rows.specs.RowNames.{row_name}

@@ -9,7 +9,7 @@ use fints_script_rows::keys::BRANCH_KEYS;
 use fints_script_rows::limits::MAX_BRANCHES;
 use fints_script_rows::parts::{at_most, both, entries_of, more, required};
 use fints_script_rows::{FaultKind, NamedRows};
-use fints_syntax_toml::document;
+use fints_syntax_texts::document;
 use std::alloc::Global;
 use toml::{Table, Value};
 

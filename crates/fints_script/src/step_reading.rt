@@ -1,7 +1,7 @@
 //! Steps, read from the rows of `step`.
 ghost use Rattle.std.specs.Prelude.{◌≡◌, ◌<◌, false, [], codes, length, map};
 ghost use Rattle.toml.specs.View.{view, table_view};
-ghost use Rattle.fints_syntax_toml.specs.Document.{only_keys};
+ghost use Rattle.fints_syntax_texts.specs.Document.{only_keys};
 ghost use Rattle.fints_script_rows.specs.Parts.{Gives, each, integer_in, may, must};
 ghost use Rattle.fints_script_rows.specs.RowNames.{row_name};
 ghost use Rattle.fints_script_templates.specs.Segments.{segment_in};
@@ -24,7 +24,7 @@ use fints_script_rows::parts::{
 use fints_script_rows::{FaultKind, Fields, NamedRows};
 use fints_script_templates::Template;
 use fints_script_templates::segments::segment_in;
-use fints_syntax_toml::document::{member, only_keys};
+use fints_syntax_texts::document::{member, only_keys};
 use std::alloc::Global;
 use toml::{Table, Value};
 

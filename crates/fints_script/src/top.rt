@@ -9,7 +9,7 @@ use fints_script_rows::FaultKind;
 use fints_script_rows::keys::SCRIPT_KEYS;
 use fints_script_rows::limits::{MAX_FIELDS, MAX_SIGNERS, MAX_STEPS};
 use fints_script_rows::parts::{both, entries_of, not_empty, required};
-use fints_syntax_toml::document::{member, only_keys};
+use fints_syntax_texts::document::{member, only_keys};
 use toml::{Table, Value};
 
 /// The rows of a script, and its seal's value if it has one.

@@ -3,8 +3,8 @@ use Rattle.std.proofs.Common.{ℕ, suc, ◌+◌, ◌<◌, ◌≡◌, ◌≢◌, 
 use Rattle.std.specs.List.{All, AllPairs}
 use Rattle.std.proofs.lemmas.List.{append_assoc, length-append, get_or_append_left, get_or_at}
 use Rattle.std.proofs.lemmas.List.Elements.{All-cons, All-head, All-tail, All-append, All-map}
-use Rattle.fints_syntax_lines.specs.Lines.{NoFeed, BeginsText}
-use Rattle.fints_syntax_lines.specs.LineLaws.{plain}
+use Rattle.fints_syntax_texts.specs.Lines.{NoFeed, BeginsText}
+use Rattle.fints_syntax_texts.specs.LineLaws.{plain}
 use Rattle.fints_script_cases.specs.Answers.{IsAnswer}
 use Rattle.fints_script_cases.specs.Cases.{field_text, answer_text, case_lines, AreFields, IsNamedValue, AreCaseLines}
 use Rattle.fints_script_cases.specs.CaseReading.{IsCaseLine, line_text, IsNext, IsBegun}

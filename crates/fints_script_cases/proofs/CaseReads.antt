@@ -6,8 +6,8 @@ use Rattle.std.specs.Option.{ForSome}
 use Rattle.std.proofs.lemmas.List.{append_assoc, append-nil, map-append}
 use Rattle.std.proofs.lemmas.List.Elements.{All-cons, All-nil, All-head, All-tail, All-push}
 use Rattle.std.proofs.lemmas.List.Quantifiers.{all_pairs_push}
-use Rattle.fints_syntax_lines.specs.Lines.{text_of_lines, AreTexts, BeginsText, IsHeaded}
-use Rattle.fints_syntax_lines.specs.LineLaws.{same_lines, text_or_bad_line}
+use Rattle.fints_syntax_texts.specs.Lines.{text_of_lines, AreTexts, BeginsText, IsHeaded}
+use Rattle.fints_syntax_texts.specs.LineLaws.{same_lines, text_or_bad_line}
 use Rattle.fints_script_cases.specs.Answers.{IsAnswer}
 use Rattle.fints_script_cases.specs.Cases.{field_text, answer_text, case_lines, case_text, AreFields, IsNamedValue, IsCase, IsCaseOf, OneCase, CaseOrBadLine, AreCaseLines}
 use Rattle.fints_script_cases.specs.CaseReading.{IsCaseLine, line_text, IsNext, values_with, answers_with, IsBegun}
@@ -15,7 +15,7 @@ use Rattle.fints_script_cases.specs.declared.values.NamedValue.{NamedValue}
 use Rattle.fints_script_cases.specs.declared.case_reading.CaseLine.{CaseLine}
 use Rattle.fints_script_cases.specs.declared.case_reading.CaseLine.TheVariants.{Field, Reply}
 use Rattle.fints_script_cases.proofs.CaseLines.{onward, line_once, lines_without, case_without, no_fields}
-use Rattle.fints_syntax_lines.specs.declared.lines.TheConstants.{MAX_TEXT}
+use Rattle.fints_syntax_texts.specs.declared.lines.TheConstants.{MAX_TEXT}
 use Rattle.fints_script_cases.proofs.CaseTexts.{field_once, answer_once, field_no_answer}
 
 -- ---- a line more

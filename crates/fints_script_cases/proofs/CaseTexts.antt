@@ -11,7 +11,7 @@ use Rattle.hex.specs.Hex.{encode_lower, decode_of, lower_digits, IsBytes, is_hex
 use Rattle.hex.specs.declared.error.FromHexError.{FromHexError}
 use Rattle.hex.proofs.HexLemmas.{decode_of-encode_lower, decode_of-ok, length-encode_with}
 use Rattle.fints_params.specs.Feedback.{code_in}
-use Rattle.fints_syntax_lines.specs.LineLaws.{plain}
+use Rattle.fints_syntax_texts.specs.LineLaws.{plain}
 use Rattle.fints_script_cases.specs.Patterns.{code_text}
 use Rattle.fints_script_cases.specs.Answers.{IsAnswer}
 use Rattle.fints_script_cases.specs.Cases.{value_text, field_text, codes_text, answer_text, IsNamedValue}

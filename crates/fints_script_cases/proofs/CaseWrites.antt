@@ -2,7 +2,7 @@
 use Rattle.std.proofs.Common.{ℕ, ◌+◌, ◌<◌, ◌≡◌, List, [], ◌∷◌, ◌++◌, length, get_or, take, ap, sym, ◌∙◌}
 use Rattle.std.proofs.lemmas.List.{append_assoc, append-nil}
 use Rattle.std.proofs.lemmas.Grind.{flat_map-append}
-use Rattle.fints_syntax_lines.specs.LineLaws.{taken_more}
+use Rattle.fints_syntax_texts.specs.LineLaws.{taken_more}
 use Rattle.fints_script_cases.specs.Patterns.{code_text}
 use Rattle.fints_script_cases.specs.Cases.{codes_text}
 

@@ -5,8 +5,8 @@ use Rattle.std.proofs.lemmas.List.{append_cancel_left}
 use Rattle.std.proofs.lemmas.List.Elements.{All-cons, All-append}
 use Rattle.fints_script_fields.specs.Names.{IsName}
 use Rattle.fints_script_fields.proofs.NameLemmas.{name_without}
-use Rattle.fints_syntax_lines.specs.Lines.{IsSplit, NoFeed}
-use Rattle.fints_syntax_lines.specs.LineLaws.{split_same, split_none}
+use Rattle.fints_syntax_texts.specs.Lines.{IsSplit, NoFeed}
+use Rattle.fints_syntax_texts.specs.LineLaws.{split_same, split_none}
 
 pub named_without : (word name tail : List ℕ) → NoFeed word → IsName name → NoFeed tail
     → NoFeed (word ++ (name ++ 32 ∷ tail))

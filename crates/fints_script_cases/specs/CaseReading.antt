@@ -8,7 +8,7 @@ use Rattle.fints_script_cases.specs.Cases.{field_text, answer_text, case_text, I
 use Rattle.fints_script_cases.specs.declared.values.NamedValue.{NamedValue}
 use Rattle.fints_script_cases.specs.declared.case_reading.CaseLine.{CaseLine}
 use Rattle.fints_script_cases.specs.declared.case_reading.Taken.{Taken}
-use Rattle.fints_syntax_lines.specs.declared.lines.TheConstants.{MAX_TEXT}
+use Rattle.fints_syntax_texts.specs.declared.lines.TheConstants.{MAX_TEXT}
 use Rattle.fints_script_cases.specs.declared.case_reading.CaseLine.TheVariants.{Field, Reply}
 
 -- A to Z

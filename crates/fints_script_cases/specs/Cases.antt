@@ -3,12 +3,12 @@ use Rattle.std.specs.Prelude.{ℕ, ◌≡◌, ◌≢◌, ◌<◌, ◌≤◌, Lis
 use Rattle.std.specs.List.{All, AllPairs, flat_map}
 use Rattle.hex.specs.Hex.{encode_lower}
 use Rattle.fints_script_fields.specs.Names.{IsName}
-use Rattle.fints_syntax_lines.specs.Lines.{text_of_lines, IsFirstBadLineOf}
+use Rattle.fints_syntax_texts.specs.Lines.{text_of_lines, IsFirstBadLineOf}
 use Rattle.fints_script_cases.specs.Patterns.{code_text}
 use Rattle.fints_script_cases.specs.Answers.{IsAnswer}
 use Rattle.fints_script_cases.specs.declared.values.NamedValue.{NamedValue}
 use Rattle.fints_script_cases.specs.declared.case_fault.CaseFault.{CaseFault}
-use Rattle.fints_syntax_lines.specs.declared.lines.TheConstants.{MAX_TEXT}
+use Rattle.fints_syntax_texts.specs.declared.lines.TheConstants.{MAX_TEXT}
 use Rattle.fints_script_cases.specs.declared.case_fault.CaseFault.TheVariants.{Bad, Memory}
 
 -- ---- the text

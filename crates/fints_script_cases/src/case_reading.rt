@@ -3,7 +3,7 @@ ghost use Rattle.std.specs.Prelude.{◌≡◌, ◌≢◌, ◌≤◌, ◌↔◌, 
 ghost use Rattle.std.specs.List.{All, Any};
 ghost use Rattle.fints_script_fields.specs.NameSets.{HoldsNames};
 ghost use Rattle.hex.specs.Hex.{encode_lower};
-ghost use Rattle.fints_syntax_lines.specs.Lines.{IsReadAs};
+ghost use Rattle.fints_syntax_texts.specs.Lines.{IsReadAs};
 ghost use Rattle.fints_script_cases.specs.Patterns.{code_text};
 ghost use Rattle.fints_script_cases.specs.Answers.{IsAnswer};
 ghost use Rattle.fints_script_cases.specs.Cases.{value_text, field_text, codes_text, answer_text, IsNamedValue, IsCaseOf, IsCaseFault};
@@ -15,7 +15,7 @@ use crate::values::{NamedValue, Values};
 use fints_params::Code;
 use fints_script_fields::Name;
 use fints_syntax::{Bytes, Memory};
-use fints_syntax_lines::{LineTaker, after, read_lines, split_once};
+use fints_syntax_texts::{LineTaker, after, read_lines, split_once};
 use hex::FromHexError;
 use std::alloc::Global;
 use std::collections::BTreeSet;

@@ -2,7 +2,7 @@
 ghost use Rattle.std.specs.Prelude.{◌≡◌, ◌≤◌, ◌<◌, [], ◌∷◌, ◌++◌, length, OnOk, IfOk};
 ghost use Rattle.std.specs.List.{All};
 ghost use Rattle.fints_script_cases.specs.Answers.{IsAnswer};
-ghost use Rattle.fints_syntax_lines.specs.declared.lines.TheConstants.{MAX_TEXT};
+ghost use Rattle.fints_syntax_texts.specs.declared.lines.TheConstants.{MAX_TEXT};
 ghost use Rattle.fints_script_cases.specs.Cases.{value_text, field_text, codes_text, answer_text, case_text, AreFields, IsNamedValue, IsCaseOf};
 
 use crate::case::{Answer, Case};

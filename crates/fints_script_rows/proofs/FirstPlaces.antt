@@ -16,7 +16,7 @@ use Rattle.toml.specs.View.{view}
 use Rattle.fints_script_fields.specs.Names.{IsName}
 use Rattle.fints_script_rows.specs.declared.fields.NamedField.{NamedField}
 use Rattle.fints_script_rows.specs.NamedFields.{AreNamed, is_field_named, place_of_field}
-use Rattle.fints_syntax_toml.specs.Entries.{holds_text, is_called, name_in}
+use Rattle.fints_syntax_texts.specs.Entries.{holds_text, is_called, name_in}
 use Rattle.fints_script_rows.specs.Places.{first_place}
 
 module _ {X : Type 0} (p : X → Bool) where

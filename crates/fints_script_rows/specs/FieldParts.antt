@@ -6,8 +6,8 @@ use Rattle.std.specs.Str.{bytes_eq}
 use Rattle.std.proofs.lemmas.Bool.{false≢true, or_parts}
 use Rattle.std.proofs.lemmas.Slice.Eq.{bytes_eq-Decides}
 use Rattle.toml.specs.Data.{Data, string, integer, float, boolean, datetime, array, table, Members, as_str, get_member}
-use Rattle.fints_syntax_toml.specs.Document.{only_keys}
-use Rattle.fints_syntax_toml.specs.Entries.{is_called, name_in}
+use Rattle.fints_syntax_texts.specs.Document.{only_keys}
+use Rattle.fints_syntax_texts.specs.Entries.{is_called, name_in}
 use Rattle.fints_script_fields.specs.Names.{is_name}
 use Rattle.fints_script_rows.specs.Fields.{ClassValue, class_in, class_of, field_in, field_keys, is_taken_field, table_field}
 use Rattle.fints_script_rows.specs.PartLaws.{bind_ok, both_ok, choice_ok, or_ok}

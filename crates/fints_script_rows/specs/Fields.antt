@@ -6,8 +6,8 @@ use Rattle.std.specs.Cmp.Lexicographic.{pointwise}
 use Rattle.std.specs.List.{list_all, list_any}
 use Rattle.std.specs.Str.{bytes_eq}
 use Rattle.toml.specs.Data.{Data, string, table, Members}
-use Rattle.fints_syntax_toml.specs.Document.{only_keys}
-use Rattle.fints_syntax_toml.specs.Entries.{is_called}
+use Rattle.fints_syntax_texts.specs.Document.{only_keys}
+use Rattle.fints_syntax_texts.specs.Entries.{is_called}
 use Rattle.fints_script_rows.specs.Parts.{Part, ◌>>=◌, both, each, entries_of, integer_in, required}
 use Rattle.fints_script_rows.specs.RowNames.{row_name}
 use Rattle.fints_script_rows.specs.Texts.{is_latin1, latin1}

@@ -1,7 +1,7 @@
 -- What a part of a row gives: its value, or the first kind of fault that stands in it.
 use Rattle.std.specs.Prelude.{◌≡◌, ◌⊎◌, ℕ, nat_lt, Bool, if◌then◌else◌, List, [], ◌∷◌, ◌++◌, length, Option, Some, None, Result, Ok, Err, ok_or}
 use Rattle.toml.specs.Data.{Data, integer, boolean, array, Members, get_member}
-use Rattle.fints_syntax_toml.specs.Document.{item_list, number_between}
+use Rattle.fints_syntax_texts.specs.Document.{item_list, number_between}
 use Rattle.fints_script_rows.specs.FaultOrder.{first_of}
 use Rattle.fints_script_rows.specs.declared.fault.FaultKind.{FaultKind}
 use Rattle.fints_script_rows.specs.declared.fault.FaultKind.TheVariants as kinds

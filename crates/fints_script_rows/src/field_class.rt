@@ -1,14 +1,14 @@
 //! The class that a field's table names.
 ghost use Rattle.std.specs.Prelude.{◌≡◌};
 ghost use Rattle.toml.specs.View.{table_view, view};
-ghost use Rattle.fints_syntax_toml.specs.Document.{only_keys};
+ghost use Rattle.fints_syntax_texts.specs.Document.{only_keys};
 ghost use Rattle.fints_script_rows.specs.Fields.{class_name_in, class_named, class_of, field_keys, is_sized};
 
 use crate::fault::FaultKind;
 use crate::keys::{BOUNDED_FIELD_KEYS, FIELD_KEYS, LISTED_FIELD_KEYS};
 use crate::parts::required;
 use fints_script_fields::Alphabet;
-use fints_syntax_toml::document::only_keys;
+use fints_syntax_texts::document::only_keys;
 use toml::{Table, Value};
 
 /// The name of a class.

@@ -14,7 +14,7 @@ use crate::fields::NamedField;
 use crate::names::{name_text, new_name};
 use crate::parts::both;
 use fints_script_fields::{Bin, Field, Name, Text};
-use fints_syntax_toml::entries::some_is_named;
+use fints_syntax_texts::entries::some_is_named;
 use std::alloc::Global;
 use toml::{Table, Value};
 

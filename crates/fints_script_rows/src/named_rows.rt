@@ -2,13 +2,13 @@
 ghost use Rattle.std.specs.Prelude.{◌≡◌, ℕ, List, length, map, option_map, position, take, IfOk};
 ghost use Rattle.std.specs.List.{list_any};
 ghost use Rattle.toml.specs.View.{view};
-ghost use Rattle.fints_syntax_toml.specs.Entries.{is_called, name_in};
+ghost use Rattle.fints_syntax_texts.specs.Entries.{is_called, name_in};
 ghost use Rattle.fints_script_rows.specs.Places.{HoldsPlaces, place_in};
 
 use crate::places::{NamePlaces, note};
 use fints_syntax_hashing::{KeyDigest, KeyedHashing};
 use fints_syntax_segments::Memory;
-use fints_syntax_toml::entries::text_at;
+use fints_syntax_texts::entries::text_at;
 use indexmap::IndexMap;
 use std::alloc::Global;
 use std::marker::Model;
@@ -26,7 +26,7 @@ impl<'a> Model for NamedRows<'a> {
     ghost use Rattle.std.specs.Prelude.{List, map};
     ghost use Rattle.toml.specs.declared.value.Value.{Value as Row};
     ghost use Rattle.toml.specs.View.{view as data_of};
-    ghost use Rattle.fints_syntax_toml.specs.Entries.{is_called};
+    ghost use Rattle.fints_syntax_texts.specs.Entries.{is_called};
     ghost use Rattle.fints_script_rows.specs.Places.{HoldsPlaces, place_in};
     ghost use Rattle.std.specs.Coded.{codes};
     ghost use Rattle.toml.specs.contracts.value.Value as value;

@@ -5,7 +5,7 @@ ghost use Rattle.fints_script_rows.specs.FaultOrder.{first_of, rank};
 ghost use Rattle.fints_script_rows.specs.Parts.{Gives, at_most, both, entries_of, flag_in, integer_in, more, not_empty, required, seen};
 
 use crate::fault::FaultKind;
-use fints_syntax_toml::document::{member, number_between};
+use fints_syntax_texts::document::{member, number_between};
 use toml::{Table, Value};
 
 fn rank(kind: FaultKind) -> u8

@@ -4,7 +4,7 @@ use Rattle.std.specs.Str.{bytes_eq}
 use Rattle.hex.specs.Hex.{decode_of}
 use Rattle.toml.specs.Data.{Data, string, array}
 use Rattle.fints_syntax_segments.specs.declared.item.OwnedItem.TheVariants.{Text, Bin}
-use Rattle.fints_syntax_toml.specs.Document.{item_list}
+use Rattle.fints_syntax_texts.specs.Document.{item_list}
 use Rattle.fints_script_rows.specs.NamedFields.{is_account_at, place_of_field}
 use Rattle.fints_script_rows.specs.Parts.{Part, ◌>>=◌, each, entries_of, not_empty}
 use Rattle.fints_script_rows.specs.Texts.{is_latin1, latin1}

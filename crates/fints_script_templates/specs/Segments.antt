@@ -1,8 +1,8 @@
 -- What a segment's table is: a template, or the first kind of fault in it.
 use Rattle.std.specs.Prelude.{codes, ℕ, true, if◌then◌else◌, List, [], ◌∷◌, Ok, Err, ok_or}
 use Rattle.toml.specs.Data.{Data, string, table, Members}
-use Rattle.fints_syntax_kinds.specs.Kind.{kind_from, is_frame_kind}
-use Rattle.fints_syntax_toml.specs.Document.{only_keys}
+use Rattle.fints_syntax_segments.specs.Kind.{kind_from, is_frame_kind}
+use Rattle.fints_syntax_texts.specs.Document.{only_keys}
 use Rattle.fints_script_rows.specs.Parts.{Part, ◌<*>◌, integer_in, may, must}
 use Rattle.fints_script_rows.specs.declared.fault.FaultKind.TheVariants as kinds
 use Rattle.fints_script_rows.specs.declared.fields.NamedField.{NamedField}

@@ -2,8 +2,8 @@
 use Rattle.std.specs.Prelude.{codes, ℕ, nat_lt, false, if◌then◌else◌, List, [], ◌∷◌, length, Ok, Err}
 use Rattle.std.specs.List.{list_any}
 use Rattle.toml.specs.Data.{Data, table, Members}
-use Rattle.fints_syntax_toml.specs.Document.{only_keys}
-use Rattle.fints_syntax_toml.specs.Entries.{is_called}
+use Rattle.fints_syntax_texts.specs.Document.{only_keys}
+use Rattle.fints_syntax_texts.specs.Entries.{is_called}
 use Rattle.fints_script_rows.specs.Parts.{Part, ◌>>=◌, ◌<*>◌, must}
 use Rattle.fints_script_rows.specs.RowNames.{row_name}
 use Rattle.fints_script_templates.specs.Elements.{elements_in}

@@ -10,8 +10,8 @@ use crate::template::{Template, TemplateElements};
 use fints_script_rows::keys::SEGMENT_KEYS;
 use fints_script_rows::parts::{both, integer_in, required};
 use fints_script_rows::{FaultKind, Fields};
-use fints_syntax_kinds::{Kind, is_frame_kind};
-use fints_syntax_toml::document;
+use fints_syntax_segments::{Kind, is_frame_kind};
+use fints_syntax_texts::document;
 use std::alloc::Global;
 use toml::{Table, Value};
 

@@ -2,7 +2,7 @@
 ghost use Rattle.std.specs.Prelude.{◌≡◌, map};
 ghost use Rattle.std.specs.List.{list_any};
 ghost use Rattle.toml.specs.View.{view, table_view};
-ghost use Rattle.fints_syntax_toml.specs.Entries.{is_called};
+ghost use Rattle.fints_syntax_texts.specs.Entries.{is_called};
 ghost use Rattle.fints_script_rows.specs.Parts.{Gives, must};
 ghost use Rattle.fints_script_rows.specs.RowNames.{row_name};
 ghost use Rattle.fints_script_templates.specs.Signers.{few_items, frame_in, signer_in, table_signer};
@@ -15,8 +15,8 @@ use fints_script_rows::keys::SIGNER_KEYS;
 use fints_script_rows::names::{name_text, new_name};
 use fints_script_rows::parts::{both, required};
 use fints_script_rows::{FaultKind, Fields};
-use fints_syntax_toml::document;
-use fints_syntax_toml::entries::some_is_named;
+use fints_syntax_texts::document;
+use fints_syntax_texts::entries::some_is_named;
 use std::alloc::Global;
 use toml::{Table, Value};
 

@@ -9,8 +9,8 @@ use Rattle.std.proofs.lemmas.Bool.{cases_Bool, and_parts, leb-true}
 use Rattle.std.proofs.lemmas.Bool.Decides.{nat_tests}
 use Rattle.std.proofs.lemmas.Int.Digits.{digits_value-lt}
 use Rattle.std.proofs.Math.Nat.{pow-le-pow_right}
-use Rattle.fints_syntax_kinds.specs.Kind.{IsKindText, kind_from}
-use Rattle.fints_syntax_kinds.specs.KindLaws.{is_kind_byte, spelled_kind}
+use Rattle.fints_syntax_segments.specs.Kind.{IsKindText, kind_from}
+use Rattle.fints_syntax_segments.specs.KindLaws.{is_kind_byte, spelled_kind}
 use Rattle.fints_syntax_segments.specs.Number.{number_in}
 use Rattle.fints_syntax_segments.specs.Spelling.{TextUnit, text_bytes, text_value}
 use Rattle.fints_syntax.specs.Items.{HasNoEscape}

@@ -8,8 +8,8 @@ use Rattle.std.proofs.lemmas.List.{take_all, append-nil, append_cancel_left}
 use Rattle.fints_syntax_segments.specs.Spelling.{Spelled, text, binary, escaped, plain, spelled_bytes, text_value}
 use Rattle.fints_syntax_segments.specs.Segment.{tokens_bytes, element_tokens, segment_tokens, segment_bytes, item_value, element_head, IsSegment}
 use Rattle.fints_syntax_segments.specs.Spelling.{item_of}
-use Rattle.fints_syntax_kinds.specs.Kind.{kind_from}
-use Rattle.fints_syntax_kinds.specs.KindLaws.{is_kind_byte, spelled_kind}
+use Rattle.fints_syntax_segments.specs.Kind.{kind_from}
+use Rattle.fints_syntax_segments.specs.KindLaws.{is_kind_byte, spelled_kind}
 use Rattle.fints_syntax_segments.specs.Head.{head_with}
 use Rattle.fints_syntax.specs.Faults.{KindAt, BeginsWithSegment, window_of}
 use Rattle.fints_syntax.specs.Capture.{IsBreak, IsClean, Piece, piece_bytes, IsPiece, IsCapture, FaultsAt, IsCaptureFault, CaptureFaultAt}

@@ -1,7 +1,7 @@
 -- The head of a segment, by the values of its items.
 use Rattle.std.specs.Prelude.{ℕ, List, [], ◌∷◌, Option, Some, None}
 use Rattle.std.specs.Option.{option_and_then}
-use Rattle.fints_syntax_kinds.specs.Kind.{kind_from}
+use Rattle.fints_syntax_segments.specs.Kind.{kind_from}
 use Rattle.fints_syntax_segments.specs.Number.{number_in}
 use Rattle.fints_syntax_segments.specs.declared.item.Head.{Head}
 

@@ -1,3 +1,6 @@
+pub mod Kind
+pub mod KindFields
+pub mod KindLaws
 pub mod Number
 pub mod Spelling
 pub mod Head

@@ -5,7 +5,7 @@ use crate::bytes::Bytes;
 use crate::element::ElementRef;
 use crate::fault::Memory;
 use crate::flat::Filling;
-use fints_syntax_kinds::Kind;
+use crate::kind::Kind;
 use std::alloc::Global;
 use std::marker::Model;
 

@@ -1,6 +1,6 @@
 use Rattle.std.proofs.lemmas.Result.{IfErr-weaker}
 use Rattle.fints_cli_drawings.specs.Drawn.{no_orders}
-use Rattle.fints_cli_reports.specs.Plans.{IsPlanRefusal}
+use Rattle.fints_cli_scripts.specs.Plans.{IsPlanRefusal}
 use Rattle.fints_cli_texts.specs.Judge.{IsMessageRefusal}
 use Rattle.fints_cli_texts.specs.Show.{IsMemoryOrShowFault}
 use Rattle.fints_cli_commands.proofs.Answering.{audit_own_refused, audit_refused, draft_refused, judge_refused, judge_after_refused, run_refused}

@@ -1,7 +1,7 @@
 use Rattle.std.proofs.Common.{sym, subst}
 use Rattle.fints_params.specs.Captures.{IsReadOf}
-use Rattle.fints_cli_reports.specs.Told.{IsRefused}
-use Rattle.fints_cli_reports.proofs.Refusals.{params_refused}
+use Rattle.fints_cli_scripts.specs.Told.{IsRefused}
+use Rattle.fints_cli_scripts.proofs.Refusals.{params_refused}
 use Rattle.fints_cli_drawings.proofs.DrawLemmas.{drawn_low}
 use Rattle.fints_cli_drawings.proofs.drawing.draw_read.Goals as goal
 

@@ -1,6 +1,6 @@
 use Rattle.std.proofs.Common.{length}
 use Rattle.fints_script.proofs.LawLemmas.{sound_of}
-use Rattle.fints_cli_reports.proofs.CaseLemmas.{on_ok}
+use Rattle.fints_cli_scripts.proofs.CaseLemmas.{on_ok}
 use Rattle.fints_cli_drawings.proofs.EdgeLemmas.{leads_any}
 use Rattle.fints_cli_drawings.proofs.StepTexts.{step_written}
 use Rattle.fints_cli_drawings.proofs.drawing.write_step.Goals as goal

@@ -1,6 +1,6 @@
 use Rattle.std.proofs.Common.{◌-◌, IsFalse, subst, sym, take, ◌∙◌}
 use Rattle.std.proofs.lemmas.List.{take_all}
-use Rattle.fints_syntax_lines.specs.LineLaws.{all_more}
+use Rattle.fints_syntax_texts.specs.LineLaws.{all_more}
 use Rattle.std.specs.List.{All}
 use Rattle.fints_script_cases.specs.Patterns.{matches}
 use Rattle.fints_script_cases.specs.declared.answers.Branch.{Branch}

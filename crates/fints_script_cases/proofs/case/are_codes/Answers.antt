@@ -1,5 +1,5 @@
 use Rattle.std.proofs.Common.{◌<◌}
-use Rattle.fints_syntax_lines.specs.LineLaws.{all_more}
+use Rattle.fints_syntax_texts.specs.LineLaws.{all_more}
 use Rattle.fints_script_cases.proofs.case.are_codes.Goals as goal
 
 pub loop-code-preserved : goal.loop-code-preserved

@@ -1,6 +1,6 @@
 use Rattle.std.proofs.Common.{◌≡◌, ◌<◌, ◌++◌, ◌∷◌, [], ap, ◌∙◌, List, ℕ}
 use Rattle.std.proofs.lemmas.List.{append_assoc}
-use Rattle.fints_syntax_lines.specs.LineLaws.{all_more}
+use Rattle.fints_syntax_texts.specs.LineLaws.{all_more}
 use Rattle.fints_script_cases.specs.Patterns.{code_text}
 use Rattle.fints_script_cases.proofs.CaseWrites.{codes_more}
 use Rattle.fints_script_cases.proofs.case_writing.write_codes.Goals as goal

@@ -1,6 +1,6 @@
 use Rattle.std.proofs.Common.{◌∙◌, ◌<◌, sym, ap, length, arith, false, get_or}
 use Rattle.toml.specs.View.{view}
-use Rattle.fints_syntax_toml.specs.Entries.{name_in}
+use Rattle.fints_syntax_texts.specs.Entries.{name_in}
 use Rattle.std.specs.Str.{bytes_eq}
 use Rattle.fints_script_rows.specs.Places.{first_place, place_in}
 use Rattle.fints_script_rows.proofs.FirstPlaces.{named_as, not_named, row_more, nameless}

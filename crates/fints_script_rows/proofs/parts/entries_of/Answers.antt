@@ -1,6 +1,6 @@
 use Rattle.std.proofs.Common.{◌∙◌, ap, refl, map, Ok}
 use Rattle.toml.specs.View.{view}
-use Rattle.fints_syntax_toml.specs.ItemLists.{of_array}
+use Rattle.fints_syntax_texts.specs.ItemLists.{of_array}
 use Rattle.fints_script_rows.specs.Parts.{entries_of}
 use Rattle.fints_script_rows.proofs.parts.entries_of.Goals as goal
 

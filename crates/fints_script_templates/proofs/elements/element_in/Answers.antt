@@ -1,6 +1,6 @@
 use Rattle.std.proofs.Common.{◌∙◌, List, ap, map, refl, subst}
 use Rattle.toml.specs.View.{view}
-use Rattle.fints_syntax_toml.specs.ItemLists.{of_array}
+use Rattle.fints_syntax_texts.specs.ItemLists.{of_array}
 use Rattle.fints_script_rows.specs.Parts.{Gives, Part}
 use Rattle.fints_script_templates.specs.Elements.{array_in, element_in}
 use Rattle.fints_script_templates.specs.declared.template.TemplateItem.{TemplateItem}

@@ -2,7 +2,7 @@ use Rattle.std.proofs.Common.{codes, map, sym, ◌∙◌}
 use Rattle.std.specs.List.{list_any}
 use Rattle.std.proofs.lemmas.Result.{err_from_is_err_and}
 use Rattle.toml.specs.View.{table_view, view}
-use Rattle.fints_syntax_toml.specs.Entries.{is_called}
+use Rattle.fints_syntax_texts.specs.Entries.{is_called}
 use Rattle.fints_script_rows.specs.PartLaws.{exact_gives, fault_gives, first_gives, next_gives}
 use Rattle.fints_script_rows.specs.Parts.{must}
 use Rattle.fints_script_rows.specs.RowNames.{row_name}

@@ -1,5 +1,5 @@
 use Rattle.std.proofs.Common.{[], sym, subst}
-use Rattle.fints_syntax_lines.specs.Lines.{BeginsText}
+use Rattle.fints_syntax_texts.specs.Lines.{BeginsText}
 use Rattle.fints_check.specs.CertTexts.{AreCertLines, cert_lines}
 use Rattle.fints_check.proofs.CertReads.{are_texts, begins, none_begun}
 use Rattle.fints_check.proofs.certificate.Certificate.read.Goals as goal

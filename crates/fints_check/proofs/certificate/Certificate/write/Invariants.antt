@@ -1,5 +1,5 @@
 use Rattle.std.proofs.Common.{◌≡◌, ◌∷◌, codes, map, take}
-use Rattle.fints_syntax_lines.specs.Lines.{text_of_lines}
+use Rattle.fints_syntax_texts.specs.Lines.{text_of_lines}
 use Rattle.fints_check.specs.CertTexts.{step_text}
 use Rattle.fints_check.proofs.certificate.Certificate.write.Given as goal
 

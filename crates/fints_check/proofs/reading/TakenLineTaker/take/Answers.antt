@@ -1,7 +1,7 @@
 use Rattle.std.proofs.Common.{◌≡◌, ◌∷◌, ◌++◌, [], IfOk, Result, Ok, Err}
 use Rattle.std.specs.Prelude.{◌↔◌, IsTrue, IsFalse}
 use Rattle.std.proofs.lemmas.Bool.{both_ways}
-use Rattle.fints_syntax_lines.specs.Lines.{BeginsText}
+use Rattle.fints_syntax_texts.specs.Lines.{BeginsText}
 use Rattle.fints_check.specs.CertTexts.{AreCertLines, cert_lines}
 use Rattle.fints_check.specs.CertReading.{IsNew}
 use Rattle.fints_check_findings.proofs.CaseLemmas.{if_ok}

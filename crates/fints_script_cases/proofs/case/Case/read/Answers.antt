@@ -1,5 +1,5 @@
 use Rattle.std.proofs.Common.{[], sym, subst}
-use Rattle.fints_syntax_lines.specs.Lines.{BeginsText}
+use Rattle.fints_syntax_texts.specs.Lines.{BeginsText}
 use Rattle.fints_script_cases.specs.Cases.{AreCaseLines, case_lines}
 use Rattle.fints_script_cases.proofs.CaseReads.{are_texts, begins, is_case, none_begun, some_fields}
 use Rattle.fints_script_cases.proofs.case.Case.read.Goals as goal

@@ -1,5 +1,5 @@
 use Rattle.std.proofs.Common.{rules, [], ◌∷◌, codes, map}
-use Rattle.fints_syntax_lines.specs.LineLaws.{lines_more, all_more}
+use Rattle.fints_syntax_texts.specs.LineLaws.{lines_more, all_more}
 use Rattle.fints_script_cases.specs.Answers.{IsAnswer}
 use Rattle.fints_script_cases.specs.Cases.{field_text, answer_text, IsNamedValue}
 use Rattle.fints_script_cases.proofs.case.Case.write.Goals as goal

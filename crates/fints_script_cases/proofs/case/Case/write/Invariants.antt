@@ -1,6 +1,6 @@
 use Rattle.std.proofs.Common.{◌≡◌, ◌++◌, ◌∷◌, codes, map, take}
 use Rattle.std.specs.List.{All}
-use Rattle.fints_syntax_lines.specs.Lines.{text_of_lines}
+use Rattle.fints_syntax_texts.specs.Lines.{text_of_lines}
 use Rattle.fints_script_cases.specs.Answers.{IsAnswer}
 use Rattle.fints_script_cases.specs.Cases.{field_text, answer_text, IsNamedValue}
 use Rattle.fints_script_cases.proofs.case.Case.write.Given as goal

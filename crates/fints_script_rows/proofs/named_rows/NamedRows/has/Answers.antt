@@ -1,7 +1,7 @@
 use Rattle.std.proofs.Common.{◌∙◌, ap, map, sym}
 use Rattle.std.specs.Prelude.{is_some}
 use Rattle.toml.specs.View.{view}
-use Rattle.fints_syntax_toml.specs.Entries.{is_called}
+use Rattle.fints_syntax_texts.specs.Entries.{is_called}
 use Rattle.fints_script_rows.proofs.FirstPlaces.{any_found}
 use Rattle.fints_script_rows.proofs.named_rows.NamedRows.has.Goals as goal
 

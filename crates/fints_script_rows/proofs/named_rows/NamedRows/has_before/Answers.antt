@@ -1,6 +1,6 @@
 use Rattle.std.proofs.Common.{◌∙◌, map, sym}
 use Rattle.toml.specs.View.{view}
-use Rattle.fints_syntax_toml.specs.Entries.{is_called}
+use Rattle.fints_syntax_texts.specs.Entries.{is_called}
 use Rattle.fints_script_rows.proofs.FirstPlaces.{before_some, before_none}
 use Rattle.fints_script_rows.proofs.named_rows.NamedRows.has_before.Goals as goal
 

@@ -1,7 +1,7 @@
 use Rattle.std.proofs.Common.{◌∙◌, ap, map}
 use Rattle.std.specs.Prelude.{position}
 use Rattle.toml.specs.View.{view}
-use Rattle.fints_syntax_toml.specs.Entries.{is_called}
+use Rattle.fints_syntax_texts.specs.Entries.{is_called}
 use Rattle.fints_script_rows.specs.Places.{place_in}
 use Rattle.fints_script_rows.proofs.named_rows.NamedRows.place_of.Goals as goal
 

@@ -1,6 +1,0 @@
-use Rattle.std.proofs.Common.{◌≡◌, take}
-use Rattle.fints_cli_recorded.specs.Audit.{all_broken}
-use Rattle.fints_cli_recorded.proofs.auditing.all_broken.Given as goal
-
-abbrev pub invariant-loop-one : goal.invariant-loop-one
-invariant-loop-one l = l.broken.items ≡ all_broken (take l.one-index l.audited)

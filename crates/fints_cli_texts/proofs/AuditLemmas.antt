@@ -1,0 +1,115 @@
+-- The lines of audited messages; and what refuses an input of `audit` is the refusal of the call.
+use Rattle.std.proofs.Common.{◌≡◌, ℕ, ◌+◌, ◌<◌, List, ◌∷◌, ◌++◌, length, get_or, drop, ap, ◌∙◌, sym, subst, append_assoc, inl, inr, Result, Ok, Err, IfErr}
+use Rattle.std.specs.Result.{IsErrAnd}
+use Rattle.std.proofs.lemmas.List.{drop_more}
+use Rattle.fints_params.specs.Parameters.{Rows}
+use Rattle.fints_params.specs.Captures.{IsParamsOf}
+use Rattle.fints_rules_permissions.specs.declared.orders.OrderRow.{OrderRow}
+use Rattle.fints_rules_permissions.specs.declared.orders.TableFault.{TableFault}
+use Rattle.fints_rules_permissions.specs.declared.orders.TableFault.TheVariants as orders
+use Rattle.fints_rules_permissions.specs.Orders.{DenotesTable, IsTableFault}
+use Rattle.fints_rules_dialogues.specs.declared.auditing.Audited.{Audited}
+use Rattle.fints_rules_dialogues.specs.declared.cutting.Sent.{Sent}
+use Rattle.fints_rules_dialogues.specs.declared.fault.DialogueFault.{DialogueFault}
+use Rattle.fints_rules_dialogues.specs.declared.fault.DialogueFault.TheVariants as dialogues
+use Rattle.fints_rules_dialogues.specs.declared.reading.Exchange.{Exchange}
+use Rattle.fints_rules_dialogues.specs.Dialogues.{IsCutFile, IsDialogue, IsDialogueFault, IsFileFault, IsMemoryOrRefusal, IsTurnFault}
+use Rattle.fints_rules_dialogues.specs.OwnParams.{IsOwnParamsFault}
+use Rattle.fints_cli_texts.proofs.JudgeLemmas.{orders_refused}
+use Rattle.fints_cli_texts.specs.declared.fault.Fault.{Fault}
+use Rattle.fints_cli_texts.specs.declared.fault.Fault.TheVariants.{Memory, Dialogue}
+use Rattle.fints_cli_texts.specs.Fault.{dialogue_fault_of, order_fault_of}
+use Rattle.fints_cli_texts.specs.Audit.{message_lines, lines_from, IsDialogueRefusal, IsAuditRefusal, IsOwnFault, IsOwnAuditRefusal}
+
+-- ---- lines
+
+-- the lines of a message, and those that are left behind it
+pub line_more : (xs : List Audited) (i : ℕ) (a : Audited) (text : List ℕ) → i < length xs
+    → a ≡ get_or xs i a
+    → (text ++ message_lines (i + 1) a) ++ lines_from (i + 1 + 1) (drop (i + 1) xs)
+    ≡ text ++ lines_from (i + 1) (drop i xs)
+line_more xs i a text lt is =
+    append_assoc text (message_lines (i + 1) a) (lines_from (i + 1 + 1) (drop (i + 1) xs))
+    ∙ ap (λ ys. text ++ lines_from (i + 1) ys)
+    (sym (drop_more xs i a lt ∙ ap (λ x. x ∷ drop (i + 1) xs) (sym is)))
+
+-- ---- refusals
+
+-- what the exit of a `?` returns
+pub exit_refused : {T : Type 0} (r : Result T Fault) (e : Fault) (P : Fault → Type 0)
+    → IsErrAnd r (λ f. f ≡ e) → P e → IfErr r P
+exit_refused (Ok v) e P is p = tt
+exit_refused (Err f) e P is p = subst P (sym is) p
+
+pub dialogue_refused : (dialogue : List ℕ) (f : DialogueFault)
+    → IsMemoryOrRefusal (IsDialogueFault dialogue) f
+    → IsDialogueRefusal dialogue (dialogue_fault_of f)
+dialogue_refused dialogue dialogues.Memory h = tt
+dialogue_refused dialogue dialogues.NoMessage (inl e) = absurd (cc)
+dialogue_refused dialogue dialogues.NoMessage (inr p) = p
+dialogue_refused dialogue (dialogues.NotAMessage offset) (inl e) = absurd (cc)
+dialogue_refused dialogue (dialogues.NotAMessage offset) (inr p) = p
+dialogue_refused dialogue (dialogues.NotInTurn offset) (inl e) = absurd (cc)
+dialogue_refused dialogue (dialogues.NotInTurn offset) (inr p) = p
+dialogue_refused dialogue (dialogues.Answer start f) (inl e) = absurd (cc)
+dialogue_refused dialogue (dialogues.Answer start f) (inr p) = p
+dialogue_refused dialogue dialogues.NoParameters (inl e) = absurd (cc)
+dialogue_refused dialogue dialogues.NoParameters (inr p) = p
+
+-- a refusal after a good capture
+pub table_refused : (capture table dialogue : List ℕ) (rows : Rows) (f : TableFault) → IsParamsOf capture rows
+    → IsTableFault table f → IsAuditRefusal capture table dialogue (order_fault_of f)
+table_refused capture table dialogue = orders_refused capture table (IsDialogueRefusal dialogue)
+
+-- a refusal after a good capture and a good order table
+later_refused : (capture table dialogue : List ℕ) (rows : Rows) (orders : List OrderRow) (f : Fault)
+    → IsParamsOf capture rows → DenotesTable table orders → IsDialogueRefusal dialogue f
+    → IsAuditRefusal capture table dialogue f
+later_refused capture table dialogue rows orders Memory h i p = tt
+later_refused capture table dialogue rows orders (Dialogue f) h i p = (record { rows = rows; table = orders; rows_are = h; table_is = i }, p)
+later_refused capture table dialogue rows orders _ h i p = absurd p
+
+pub refused_later : (capture table dialogue : List ℕ) (rows : Rows)
+    (orders : List OrderRow) (f : DialogueFault)
+    → IsParamsOf capture rows → DenotesTable table orders → IsMemoryOrRefusal (IsDialogueFault dialogue) f
+    → IsAuditRefusal capture table dialogue (dialogue_fault_of f)
+refused_later capture table dialogue rows orders f h i p =
+    later_refused capture table dialogue rows orders (dialogue_fault_of f) h i (dialogue_refused dialogue f p)
+
+pub own_refused : (table dialogue : List ℕ) (orders : List OrderRow) (f : DialogueFault)
+    → DenotesTable table orders → IsMemoryOrRefusal (IsOwnFault dialogue) f
+    → IsOwnAuditRefusal table dialogue (dialogue_fault_of f)
+own_refused table dialogue orders dialogues.Memory h p = tt
+own_refused table dialogue orders dialogues.NoMessage h (inl e) = absurd (cc)
+own_refused table dialogue orders dialogues.NoMessage h (inr p) = ((orders, h), p)
+own_refused table dialogue orders (dialogues.NotAMessage offset) h (inl e) = absurd (cc)
+own_refused table dialogue orders (dialogues.NotAMessage offset) h (inr p) = ((orders, h), p)
+own_refused table dialogue orders (dialogues.NotInTurn offset) h (inl e) = absurd (cc)
+own_refused table dialogue orders (dialogues.NotInTurn offset) h (inr p) = ((orders, h), p)
+own_refused table dialogue orders (dialogues.Answer start f) h (inl e) = absurd (cc)
+own_refused table dialogue orders (dialogues.Answer start f) h (inr p) = ((orders, h), p)
+own_refused table dialogue orders dialogues.NoParameters h (inl e) = absurd (cc)
+own_refused table dialogue orders dialogues.NoParameters h (inr p) = ((orders, h), p)
+
+-- what refuses the dialogue, and what refuses its parameters where it is one
+pub dialogue_first : (dialogue : List ℕ) (f : DialogueFault) → IsMemoryOrRefusal (IsDialogueFault dialogue) f
+    → IsMemoryOrRefusal (IsOwnFault dialogue) f
+dialogue_first dialogue f (inl e) = inl e
+dialogue_first dialogue f (inr p) = inr (inl p)
+
+pub params_last : (dialogue : List ℕ) (exchanges : List Exchange) (f : DialogueFault)
+    → IsDialogue dialogue exchanges → IsMemoryOrRefusal (IsOwnParamsFault exchanges) f
+    → IsMemoryOrRefusal (IsOwnFault dialogue) f
+params_last dialogue exchanges f is (inl e) = inl e
+params_last dialogue exchanges f is (inr p) = inr (inr (exchanges, is, p))
+
+-- what refuses the file, and what refuses its messages
+pub file_first : (dialogue : List ℕ) (f : DialogueFault) → IsMemoryOrRefusal (IsFileFault dialogue) f
+    → IsMemoryOrRefusal (IsDialogueFault dialogue) f
+file_first dialogue f (inl e) = inl e
+file_first dialogue f (inr p) = inr (inl p)
+
+pub turns_last : (dialogue : List ℕ) (messages : List Sent) (f : DialogueFault) → IsCutFile dialogue messages
+    → IsMemoryOrRefusal (IsTurnFault messages) f → IsMemoryOrRefusal (IsDialogueFault dialogue) f
+turns_last dialogue messages f cut (inl e) = inl e
+turns_last dialogue messages f cut (inr p) = inr (inr (messages, cut, p))

@@ -1,0 +1,172 @@
+//! The text of `audit`: the rules that the messages of a recorded dialogue break.
+ghost use Rattle.std.specs.Prelude.{◌≡◌, ◌≤◌, ◌<◌, ◌+◌, ◌++◌, ◌^◌, ℕ, List, OnOk, IfOk, IfErr, string_bytes};
+ghost use Rattle.std.specs.List.{flat_map};
+ghost use Rattle.fints_params.specs.declared.fault.ParamFault.{ParamFault as ParamFaultValue};
+ghost use Rattle.fints_params.specs.Captures.{IsReadOf};
+ghost use Rattle.fints_rules_dialogues.specs.Dialogues.{IsDialogueFault, IsMemoryOrRefusal, IsTurnFault};
+ghost use Rattle.fints_cli_texts.specs.Fault.{fault_of};
+ghost use Rattle.fints_cli_texts.specs.Judge.{verdict_status};
+ghost use Rattle.fints_cli_texts.specs.Audit.{broken_told, message_lines, lines_from, all_broken, audit_text, IsAuditOf, IsOwnAuditOf, IsAuditRefusal, IsOwnAuditRefusal, IsOwnFault, IsRecordingAudit, IsFileAudit, IsOwnFileAudit};
+
+use crate::fault::Fault;
+use crate::judging::{verdict_status, write_broken, write_last};
+use crate::reply::Reply;
+use fints_params::{ParamFault, Params};
+use fints_rules::{Broken, OrderTable, Permissions};
+use fints_rules_dialogues::{Audited, DialogueFault, Recording, Unobserved, audit, own_params};
+use itoa::Buffer;
+use std::alloc::{AllocError, Global};
+
+fn write_told(text: &mut String, broken: &Broken) -> Result<(), AllocError>
+    ensures { OnOk result (string_bytes text.new ≡ string_bytes text.old ++ broken_told broken.now) }
+{
+    text.push_str("broken ")?;
+    write_broken(text, broken)
+}
+
+fn write_all_told(text: &mut String, broken: &[Broken]) -> Result<(), AllocError>
+    ensures { OnOk result (string_bytes text.new
+        ≡ string_bytes text.old ++ flat_map broken_told broken.now) }
+{
+    for one in broken {
+        write_told(text, one)?;
+    }
+    Ok(())
+}
+
+// The lines of the message of a number.
+fn write_message(text: &mut String, number: usize, audited: &Audited<'_>) -> Result<(), AllocError>
+    ensures { OnOk result (string_bytes text.new
+        ≡ string_bytes text.old ++ message_lines number audited.now) }
+{
+    let size = audited.sent.bytes.len();
+    let mut digits = Buffer::new();
+    text.push_str("message ")?;
+    text.push_str(digits.format(number))?;
+    text.push_str(" size ")?;
+    text.push_str(digits.format(size))?;
+    text.push_str("\n")?;
+    write_all_told(text, audited.broken.as_slice())
+}
+
+fn write_messages(text: &mut String, audited: &[Audited<'_>]) -> Result<(), AllocError>
+    ensures { OnOk result (string_bytes text.new ≡ string_bytes text.old ++ lines_from 1 audited.now) }
+{
+    for (i, one) in audited.iter().enumerate() {
+        write_message(text, i + 1, one)?;
+    }
+    Ok(())
+}
+
+// What all messages break.
+fn all_broken(alloc: Global, audited: &[Audited<'_>]) -> Result<Vec<Broken>, AllocError>
+    ensures { IfOk result (λ broken. broken.items ≡ all_broken audited.now) }
+{
+    let mut broken = Vec::new(alloc);
+    for one in audited {
+        broken.extend_from_slice(one.broken.as_slice())?;
+    }
+    Ok(broken)
+}
+
+// The text of audited messages, and its status.
+fn audit_reply(alloc: Global, audited: &[Audited<'_>]) -> Result<Reply, AllocError>
+    ensures text { IfOk result (λ reply. reply.text.items ≡ audit_text audited.now) }
+    ensures status { IfOk result (λ reply. reply.status ≡ verdict_status (all_broken audited.now)) }
+{
+    let broken = all_broken(alloc, audited)?;
+    let mut text = String::new(alloc);
+    write_messages(&mut text, audited)?;
+    write_last(&mut text, broken.as_slice())?;
+    Ok(Reply {
+        status: verdict_status(broken.as_slice()),
+        text: text.into_bytes(),
+    })
+}
+
+// The text of a recording, by good parameters and a good order table.
+fn audit_recording(
+    alloc: Global,
+    params: &Params,
+    orders: &OrderTable,
+    recording: &Recording<'_>,
+) -> Result<Reply, DialogueFault>
+    ensures audited { IfOk result (λ reply.
+        IsRecordingAudit params.now orders.now recording.now reply.status reply.text.items) }
+    ensures refused { IfErr result (λ f. IsMemoryOrRefusal (IsTurnFault recording.now) f) }
+{
+    let permissions = Permissions::build(alloc, params, orders)?;
+    let audited = audit(alloc, &permissions, recording, &mut Unobserved)?;
+    let reply = audit_reply(alloc, audited.as_slice())?;
+    Ok(reply)
+}
+
+// The text of the dialogue in a file, by good parameters and a good order table.
+fn audit_file(
+    alloc: Global,
+    params: &Params,
+    orders: &OrderTable,
+    file: &[u8],
+) -> Result<Reply, DialogueFault>
+    ensures audited { IfOk result (λ reply.
+        IsFileAudit params.now orders.now file.now reply.status reply.text.items) }
+    ensures refused { IfErr result (λ f. IsMemoryOrRefusal (IsDialogueFault file.now) f) }
+{
+    let recording = Recording::cut(alloc, file)?;
+    audit_recording(alloc, params, orders, &recording)
+}
+
+// The same by the dialogue's own parameters. These are looked for before its messages are read; so where
+// they are refused, the messages are still read for a refusal of theirs, which comes first.
+fn audit_file_own(alloc: Global, orders: &OrderTable, file: &[u8]) -> Result<Reply, DialogueFault>
+    ensures audited { IfOk result (λ reply.
+        IsOwnFileAudit orders.now file.now reply.status reply.text.items) }
+    ensures refused { IfErr result (λ f. IsMemoryOrRefusal (IsOwnFault file.now) f) }
+{
+    let recording = Recording::cut(alloc, file)?;
+    match own_params(alloc, &recording) {
+        Ok(params) => audit_recording(alloc, &params, orders, &recording),
+        Err(fault) => {
+            recording.exchanges(alloc)?;
+            Err(fault)
+        }
+    }
+}
+
+/// The rules that the client's messages of a recorded dialogue break, by what was read of a capture and
+/// an order table. Of the refusals that of the capture comes first, then that of the order table, then
+/// that of the dialogue.
+pub fn audit_read(
+    alloc: Global,
+    params: Result<Params, ParamFault>,
+    orders: &[u8],
+    dialogue: &[u8],
+) -> Result<Reply, Fault>
+    ensures status { IfOk result (λ reply. reply.status ≤ 1) }
+    ensures audited { IfOk result (λ reply. (capture : List ℕ) → IsReadOf capture params
+        → IsAuditOf capture orders.now dialogue.now reply.status reply.text.items) }
+    ensures refused { IfErr result (λ f. (capture : List ℕ) → IsReadOf capture params
+        → IsAuditRefusal capture orders.now dialogue.now f) }
+    ensures params_first { (f : ParamFaultValue) → params ≡ Err f → result ≡ Err (fault_of f) }
+{
+    let params = match params {
+        Ok(params) => params,
+        Err(fault) => return Err(Fault::from(fault)),
+    };
+    let orders = OrderTable::read(alloc, orders)?;
+    let reply = audit_file(alloc, &params, &orders, dialogue)?;
+    Ok(reply)
+}
+
+/// The same, by the parameters that the dialogue's own answers tell. Of the refusals that of the order
+/// table comes first, then that of the dialogue, then that of its parameters.
+pub fn audit_own(alloc: Global, orders: &[u8], dialogue: &[u8]) -> Result<Reply, Fault>
+    ensures status { IfOk result (λ reply. reply.status ≤ 1) }
+    ensures audited { IfOk result (λ reply.
+        IsOwnAuditOf orders.now dialogue.now reply.status reply.text.items) }
+    ensures refused { IfErr result (λ f. IsOwnAuditRefusal orders.now dialogue.now f) }
+{
+    let orders = OrderTable::read(alloc, orders)?;
+    let reply = audit_file_own(alloc, &orders, dialogue)?;
+    Ok(reply)
+}

@@ -1,2 +1,0 @@
--- The law, with its proof, for the proofs of the crates above.
-pub mod LawLemmas

@@ -1,5 +1,0 @@
-use Rattle.fints_rules_causes.proofs.LawLemmas.{causes_break}
-use Rattle.fints_rules_causes.proofs.laws.causes_break.Goals as goal
-
-pub returns : goal.returns
-returns c = causes_break

@@ -1,3 +1,0 @@
-pub mod Kind
-pub mod KindFields
-pub mod KindLaws

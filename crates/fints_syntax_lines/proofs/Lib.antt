@@ -1,3 +1,0 @@
-pub mod NextLines
-pub mod Prefixes
-pub mod ReadLines

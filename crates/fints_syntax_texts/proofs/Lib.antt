@@ -1,0 +1,4 @@
+pub mod NextLines
+pub mod Prefixes
+pub mod ReadLines
+pub mod DocumentLemmas

@@ -1,6 +1,0 @@
-use Rattle.std.proofs.Common.{◌≡◌, drop, map}
-use Rattle.fints_syntax_toml.specs.Document.{is_among}
-use Rattle.fints_syntax_toml.proofs.document.is_among.Given as goal
-
-abbrev pub invariant-loop-n : goal.invariant-loop-n
-invariant-loop-n l = is_among (map (λ n. n.now) (drop l.n-index l.names)) l.name ≡ is_among (map (λ n. n.now) l.names) l.name

@@ -1,3 +1,0 @@
-pub mod Document
-pub mod Entries
-pub mod ItemLists
