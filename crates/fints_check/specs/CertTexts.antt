@@ -54,7 +54,8 @@ IsCertificateOf text lines = IsCertificate lines × (text ≡ cert_text lines)
 
 -- it stands for no two
 abbrev pub OneCertificate : List ℕ → Type 0
-OneCertificate text = (lines others : List Line) → IsCertificateOf text lines → IsCertificateOf text others → lines ≡ others
+OneCertificate text =
+    (lines others : List Line) → IsCertificateOf text lines → IsCertificateOf text others → lines ≡ others
 
 -- ---- which line is refused
 

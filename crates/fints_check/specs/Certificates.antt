@@ -62,7 +62,8 @@ GoesOn steps lines number targets.Stop = Unit {0}
 
 -- the branch of the step, if some answer fires it, goes on in this way
 abbrev pub BranchGoesOn : List StepValue → List Line → ℕ → StepValue → ℕ → Type 0
-BranchGoesOn steps lines number step branch = IsOpen step.branches branch → GoesOn steps lines number (target_of step.branches step.otherwise branch)
+BranchGoesOn steps lines number step branch =
+    IsOpen step.branches branch → GoesOn steps lines number (target_of step.branches step.otherwise branch)
 
 -- the length of the step's longest message of this number
 abbrev pub worst_len : ScriptValue → StepValue → ℕ → ℕ
@@ -70,7 +71,8 @@ worst_len script step number = length (message_bytes script step number (longest
 
 -- what holds of a step that is named as reached: its figures break neither P2 nor P3, the size is enough,
 -- what its messages hold breaks no rule, and each open branch goes on
-pub record LineHolds (granted : Granted) (script : ScriptValue) (lines : List Line) (step : StepValue) (figures : Reached) : Type 0 where
+pub record LineHolds (granted : Granted) (script : ScriptValue) (lines : List Line) (step : StepValue)
+    (figures : Reached) : Type 0 where
   pub permitted : (r : Rule) → FiguresBreak granted.rows.bank (reached_figures figures) r → ⊥
   pub size : worst_len script step figures.number ≤ figures.size
   pub clean : IsCleanStep granted script step

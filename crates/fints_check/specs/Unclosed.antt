@@ -33,7 +33,8 @@ found_at (opens.Unreleased step) = step
 
 -- what is named of a step holds, and no step leaves an order of it unreleased
 pub record IsLineClosed
-    (granted : Granted) (script : ScriptValue) (lines : List Line) (n : ℕ) (step : StepValue) (figures : Reached)
+    (granted : Granted) (script : ScriptValue) (lines : List Line) (n : ℕ) (step : StepValue)
+    (figures : Reached)
     : Type 0 where
   pub holds : LineHolds granted script lines step figures
   pub released : (s : ℕ) → IsUnreleased script n s → ⊥

@@ -19,7 +19,8 @@ use Rattle.fints_check.specs.declared.unclosed.Open.{Open}
 -- the flag of a step tells whether an open branch leads back to it
 pub record AreRepeats (steps : List StepValue) (repeats : List Bool) : Type 0 where
   pub long : length steps ≤ length repeats
-  pub each : (n : ℕ) (step : StepValue) → numbered steps n ≡ Some step → (numbered repeats n ≡ Some true) ↔ IsOpenTo step.branches step.otherwise targets.Again
+  pub each : (n : ℕ) (step : StepValue) → numbered steps n ≡ Some step
+      → (numbered repeats n ≡ Some true) ↔ IsOpenTo step.branches step.otherwise targets.Again
 
 -- the permissions, the script, and what a certificate names of its steps
 pub record ClaimsValue : Type 0 where

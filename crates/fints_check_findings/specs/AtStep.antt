@@ -32,11 +32,13 @@ pub record AtStepValue : Type 0 where
   pub step : StepValue
 
 -- the script's step of that number, no account and process of which is left open, and its facts
-pub record IsAtStep (granted : Granted) (script : ScriptValue) (n : ℕ) (step : StepValue) (facts : StepFacts) : Type 0 where
+pub record IsAtStep (granted : Granted) (script : ScriptValue) (n : ℕ) (step : StepValue) (facts : StepFacts)
+    : Type 0 where
   pub at : numbered script.steps n ≡ Some step
   pub sound : IsSound script
   pub sound_step : IsSoundStep script step
-  pub closed : (i : ℕ) (t : Template) → slice_get step.templates i ≡ Some t → IsClosedTemplate script.fields granted.orders t
+  pub closed : (i : ℕ) (t : Template) → slice_get step.templates i ≡ Some t
+      → IsClosedTemplate script.fields granted.orders t
   pub facts_are : AreStepFacts granted script step facts
 
 -- a step that runs send, its greatest figures, and whether it leaves an order unreleased
@@ -52,7 +54,8 @@ pub record IsSentStep (s : AtStepValue) (figures : Reached) (unreleased : Bool) 
 
 -- its figures break the rule, or it is P11 and an order is left unreleased
 abbrev pub BreaksAsSent : SentStepValue → Rule → Type 0
-BreaksAsSent s r = FiguresBreak s.at.granted.rows.bank (reached_figures s.figures) r ⊎ ((r ≡ Release) × IsTrue s.unreleased)
+BreaksAsSent s r =
+    FiguresBreak s.at.granted.rows.bank (reached_figures s.figures) r ⊎ ((r ≡ Release) × IsTrue s.unreleased)
 
 -- the values are admitted, and what the step's message holds with them breaks the rule at the place, at every
 -- number; they are the extreme ones of which the rule is asked, or, for P8 and P9, have the first account

@@ -22,7 +22,8 @@ IsCleanStep granted script step = (r : Rule) → NeverBreaks granted script step
 -- ---- of private contracts and proofs alone
 
 -- for some admitted values what the step's message holds breaks the rule at the place, at every number
-pub record CanBreak (granted : Granted) (script : ScriptValue) (step : StepValue) (r : Rule) (place : ℕ) : Type 0 where
+pub record CanBreak (granted : Granted) (script : ScriptValue) (step : StepValue) (r : Rule) (place : ℕ)
+    : Type 0 where
   pub values : List NamedValue
   pub admitted : Admits script.fields values
   pub breaks : (number : ℕ) → BreaksByContent granted (message_view script step number values) r place

@@ -20,10 +20,12 @@ use Rattle.fints_check_findings.specs.declared.finding.Finding.{Finding}
 
 -- the shortest values, but for the field at this place, which has this account
 abbrev pub with_account : List NamedField → ℕ → NamedField → List (List ℕ) → List NamedValue
-with_account fields place field account = with_value (shortest_choice fields) place field (account_text account)
+with_account fields place field account =
+    with_value (shortest_choice fields) place field (account_text account)
 
 -- P8 and P9 are asked of the accounts of a field: element 2 of the order at this segment is the field by itself
-pub record AsksField (script : ScriptValue) (step : StepValue) (r : Rule) (segment place : ℕ) (field : NamedField)
+pub record AsksField (script : ScriptValue) (step : StepValue) (r : Rule) (segment place : ℕ)
+    (field : NamedField)
     : Type 0 where
   pub asks : (r ≡ Signatures) ⊎ (r ≡ Account)
   pub i : ℕ
@@ -35,7 +37,8 @@ pub record AsksField (script : ScriptValue) (step : StepValue) (r : Rule) (segme
   pub accounts : field_accounts field.class ≢ []
 
 abbrev pub AsksNoField : ScriptValue → StepValue → Rule → ℕ → Type 0
-AsksNoField script step r segment = (place : ℕ) (field : NamedField) → AsksField script step r segment place field → ⊥
+AsksNoField script step r segment =
+    (place : ℕ) (field : NamedField) → AsksField script step r segment place field → ⊥
 
 -- the shortest values, but for that field, which has the first of its accounts with which the step's message
 -- breaks the rule at the segment
@@ -51,7 +54,8 @@ pub record HaveFirstAccount (granted : Granted) (script : ScriptValue) (step : S
   pub values_are : values ≡ with_account script.fields place field account
   pub first : (earlier number : ℕ) (other : List (List ℕ)) → earlier < row
       → slice_get (field_accounts field.class) earlier ≡ Some other
-      → BreaksByContent granted (message_view script step number (with_account script.fields place field other)) r
+      → BreaksByContent granted
+          (message_view script step number (with_account script.fields place field other)) r
       segment → ⊥
 
 -- the values are the shortest, and where accounts of a field are asked for, that field has the first that breaks the rule
@@ -62,6 +66,7 @@ AreShortestFor granted script f values =
     ⊎ HaveFirstAccount granted script step f.rule f.segment values
 
 -- they are the longest for P3 and P12, and for any other rule the shortest
-pub record AreChosenFor (granted : Granted) (script : ScriptValue) (f : Finding) (values : List NamedValue) : Type 0 where
+pub record AreChosenFor (granted : Granted) (script : ScriptValue) (f : Finding) (values : List NamedValue)
+    : Type 0 where
   pub longest : (f.rule ≡ Size) ⊎ (f.rule ≡ Procedure) → values ≡ longest_choice script.fields
   pub shortest : (f.rule ≡ Size → ⊥) → (f.rule ≡ Procedure → ⊥) → AreShortestFor granted script f values

@@ -35,7 +35,8 @@ value_with field (Some place) = account_or field (slice_get (field_accounts fiel
 -- the least values, with this account set
 abbrev pub IsChoiceWith : List NamedField → SetAccount → List NamedValue → Type 0
 IsChoiceWith fields s values =
-    (field : NamedField) (account : List (List ℕ)) → slice_get fields s.field ≡ Some field → slice_get (field_accounts field.class) s.account ≡ Some account
+    (field : NamedField) (account : List (List ℕ)) → slice_get fields s.field ≡ Some field
+    → slice_get (field_accounts field.class) s.account ≡ Some account
     → values ≡ with_value (shortest_choice fields) s.field field (account_text account)
 
 -- the longest values, or the shortest
@@ -61,7 +62,8 @@ chosen_sort false None = Least
 -- ---- rules
 
 -- with the account at this place the template's segment breaks the rule, and with none before it
-pub record HasBreaking (granted : Granted) (f : MessageFacts) (r : Rule) (t : Template) (count : ℕ) (accounts : List (List (List ℕ))) (place : ℕ) : Type 0 where
+pub record HasBreaking (granted : Granted) (f : MessageFacts) (r : Rule) (t : Template) (count : ℕ)
+    (accounts : List (List (List ℕ))) (place : ℕ) : Type 0 where
   pub account : List (List ℕ)
   pub listed : slice_get accounts place ≡ Some account
   pub breaks : SegmentBreaks granted f r (template_facts t count account)
@@ -69,12 +71,16 @@ pub record HasBreaking (granted : Granted) (f : MessageFacts) (r : Rule) (t : Te
       → SegmentBreaks granted f r (template_facts t count earlier) → ⊥
 
 -- at this place stands the first account with which the template's segment breaks the rule; none is told only where no account does
-abbrev pub IsBreakingPlace : Granted → MessageFacts → Rule → Template → ℕ → List (List (List ℕ)) → Option ℕ → Type 0
+abbrev pub IsBreakingPlace : Granted → MessageFacts → Rule → Template → ℕ → List (List (List ℕ)) → Option ℕ
+    → Type 0
 IsBreakingPlace granted f r t count accounts place =
-    MatchOption place (Any (λ account. SegmentBreaks granted f r (template_facts t count account)) accounts → ⊥) (HasBreaking granted f r t count accounts)
+    MatchOption place
+        (Any (λ account. SegmentBreaks granted f r (template_facts t count account)) accounts → ⊥)
+        (HasBreaking granted f r t count accounts)
 
 -- element 2 is the field that is set, and the account that it is set to is the first with which the template's segment breaks the rule
-pub record IsSetFor (granted : Granted) (fields : List NamedField) (f : MessageFacts) (r : Rule) (t : Template) (count : ℕ) (s : SetAccount) : Type 0 where
+pub record IsSetFor (granted : Granted) (fields : List NamedField) (f : MessageFacts) (r : Rule)
+    (t : Template) (count : ℕ) (s : SetAccount) : Type 0 where
   pub asks : asks_account r ≡ true
   pub items_are : element_two t ≡ Field s.field ∷ []
   pub field : NamedField
@@ -82,8 +88,10 @@ pub record IsSetFor (granted : Granted) (fields : List NamedField) (f : MessageF
   pub breaking : HasBreaking granted f r t count (field_accounts field.class) s.account
 
 -- the template's segment breaks the rule with this account set, or, where it is asked for none, with its literals
-abbrev pub TemplateBreaksWith : Granted → List NamedField → MessageFacts → Rule → Template → ℕ → Option SetAccount → Type 0
-TemplateBreaksWith granted fields f r t count None = (accounts_asked fields r t ≡ []) × SegmentBreaks granted f r (template_facts t count (literals t))
+abbrev pub TemplateBreaksWith : Granted → List NamedField → MessageFacts → Rule → Template → ℕ
+    → Option SetAccount → Type 0
+TemplateBreaksWith granted fields f r t count None =
+    (accounts_asked fields r t ≡ []) × SegmentBreaks granted f r (template_facts t count (literals t))
 TemplateBreaksWith granted fields f r t count (Some s) = IsSetFor granted fields f r t count s
 
 -- the segment of this number does
@@ -93,10 +101,12 @@ pub record BreaksWithAt (granted : Granted) (fields : List NamedField) (step : S
   pub template : Template
   pub there : slice_get step.templates i ≡ Some template
   pub number_is : number ≡ 2 + length step.signers + i
-  pub breaks : TemplateBreaksWith granted fields f r template (template_count template.kind step.templates) choice
+  pub breaks : TemplateBreaksWith granted fields f r template
+      (template_count template.kind step.templates) choice
 
 -- the step's facts break the rule at the place with this account set, or with none
-abbrev pub BreaksWith : Granted → List NamedField → StepValue → MessageFacts → Rule → ℕ → Option SetAccount → Type 0
+abbrev pub BreaksWith : Granted → List NamedField → StepValue → MessageFacts → Rule → ℕ → Option SetAccount
+    → Type 0
 BreaksWith granted fields step f r place choice =
     ((place ≡ 0) × MessageBreaks granted f r × (choice ≡ None))
     ⊎ BreaksWithAt granted fields step f r place choice

@@ -58,8 +58,10 @@ accounts_asked fields r t = if asks_account r then listed_in fields (element_two
 
 -- the first six; an absent one is empty
 abbrev pub six_of : List (List ℕ) → List (List ℕ)
-six_of xs = get_or xs 0 [] ∷ get_or xs 1 [] ∷ get_or xs 2 [] ∷ get_or xs 3 [] ∷ get_or xs 4 [] ∷ get_or xs 5 [] ∷ []
+six_of xs =
+    get_or xs 0 [] ∷ get_or xs 1 [] ∷ get_or xs 2 [] ∷ get_or xs 3 [] ∷ get_or xs 4 [] ∷ get_or xs 5 [] ∷ []
 
 -- the facts of the template's segment with these items in element 2, where so many segments have its kind
 abbrev pub template_facts : Template → ℕ → List (List ℕ) → SegmentFactsValue
-template_facts t count items = record { kind = t.kind; version = t.version; items = six_of items; count = count }
+template_facts t count items =
+    record { kind = t.kind; version = t.version; items = six_of items; count = count }

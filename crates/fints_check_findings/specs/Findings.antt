@@ -31,7 +31,8 @@ IsPermittedBehind granted (behind b codes) m = PermittedAfter granted b.bytes co
 -- the values are admitted, and with them the run of these answers ends with a message of the finding's step
 -- that, as bytes, breaks the finding's rule at its segment, by itself or behind the message before it and the
 -- answer between them
-pub record Shows (granted : Granted) (script : ScriptValue) (f : Finding) (values : List NamedValue) (answers : List (List ℕ)) : Type 0 where
+pub record Shows (granted : Granted) (script : ScriptValue) (f : Finding) (values : List NamedValue)
+    (answers : List (List ℕ)) : Type 0 where
   pub admitted : Admits script.fields values
   pub message : Sent
   pub ends : EndsIn script values answers message
@@ -46,7 +47,10 @@ pub record IsReal (granted : Granted) (script : ScriptValue) (f : Finding) : Typ
 
 -- by step, then by rule, then by segment
 abbrev pub IsBefore : Finding → Finding → Type 0
-IsBefore f g = (f.step < g.step) ⊎ ((f.step ≡ g.step) × ((rule_number f.rule < rule_number g.rule) ⊎ ((f.rule ≡ g.rule) × (f.segment < g.segment))))
+IsBefore f g =
+    (f.step < g.step)
+    ⊎ ((f.step ≡ g.step)
+        × ((rule_number f.rule < rule_number g.rule) ⊎ ((f.rule ≡ g.rule) × (f.segment < g.segment))))
 
 -- exactly the real findings, in order, each once
 pub record AreFindings (granted : Granted) (script : ScriptValue) (findings : List Finding) : Type 0 where

@@ -25,7 +25,8 @@ template_count kind ts = count_by (has_kind kind) ts
 -- beside each of them how many have its kind
 pub record AreCounts (ts : List Template) (counts : List ℕ) : Type 0 where
   pub enough : length ts ≤ length counts
-  pub each : (i : ℕ) (t : Template) → slice_get ts i ≡ Some t → slice_index counts i ≡ template_count t.kind ts
+  pub each : (i : ℕ) (t : Template) → slice_get ts i ≡ Some t
+      → slice_index counts i ≡ template_count t.kind ts
 
 -- how many of them are orders other than HKTAN that are listed with J
 abbrev pub demanding_count : List PinRow → List Template → ℕ

@@ -20,7 +20,8 @@ release_of s = record { step = s; rule = Release; segment = 0 }
 -- where a run breaks P11, its last step leaves an order unreleased of a step that some run sends
 abbrev pub ReleaseIsLeft : Type 0
 ReleaseIsLeft =
-    (granted : Granted) (script : ScriptValue) (f : Finding) → IsSound script → f.rule ≡ Release → IsReal granted script f
+    (granted : Granted) (script : ScriptValue) (f : Finding) → IsSound script → f.rule ≡ Release
+    → IsReal granted script f
     → (f.segment ≡ 0) × ((v : Visit) × Arrives script.steps v × IsUnreleased script v.step f.step)
 
 -- in a closed plan branches, heads and literals decide which orders are left unreleased

@@ -25,7 +25,8 @@ pub record StepLeavesOrder (script : ScriptValue) (from to : StepValue) : Type 0
   pub admitted : Admits script.fields values
   pub number : ℕ
   pub other : ℕ
-  pub leaves : LeavesOrder (facts_alone (message_view script from number values)) (facts_alone (message_view script to other values))
+  pub leaves : LeavesOrder (facts_alone (message_view script from number values))
+      (facts_alone (message_view script to other values))
 
 -- a branch of step t carries 0030 to step s, which leaves an order of step t unreleased
 pub record IsUnreleased (script : ScriptValue) (t s : ℕ) : Type 0 where
@@ -84,7 +85,8 @@ pub record IsHeld (steps : List StepValue) (t s : ℕ) : Type 0 where
 -- beside each of the first steps stands whether it submits an order
 pub record AreSubmittingTo (steps : List StepValue) (count : ℕ) (marks : List Bool) : Type 0 where
   pub long : length marks ≡ count
-  pub each : (t : ℕ) (step : StepValue) → t ≤ count → numbered steps t ≡ Some step → numbered marks t ≡ Some (submits step)
+  pub each : (t : ℕ) (step : StepValue) → t ≤ count → numbered steps t ≡ Some step
+      → numbered marks t ≡ Some (submits step)
 
 -- beside each step stands the first step that has a number and an order that it leaves unreleased, if there is one
 pub record AreHolders (steps : List StepValue) (numbers holders : List (Option ℕ)) : Type 0 where

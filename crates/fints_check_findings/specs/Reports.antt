@@ -25,35 +25,45 @@ pub record ReportValue : Type 0 where
 -- ---- findings, counted from 0
 
 -- the run of these answers, all of them used, ends with a message of step n that has the number of the step's figures
-pub record LeadsToGreatest (steps : List StepValue) (figures : List (Option Reached)) (n : ℕ) (answers : List (List ℕ)) : Type 0 where
+pub record LeadsToGreatest (steps : List StepValue) (figures : List (Option Reached)) (n : ℕ)
+    (answers : List (List ℕ)) : Type 0 where
   pub reached : Reached
   pub has : numbered figures n ≡ Some (Some reached)
   pub times : ℕ
   pub route : RouteTo steps answers (record { step = n; number = reached.number; times = times })
 
 -- the answers lead to the greatest number of the finding's step; for P11 to a message of it that leaves an order unreleased
-pub record LeadsFor (script : ScriptValue) (figures : List (Option Reached)) (f : Finding) (answers : List (List ℕ)) : Type 0 where
+pub record LeadsFor (script : ScriptValue) (figures : List (Option Reached)) (f : Finding)
+    (answers : List (List ℕ)) : Type 0 where
   pub longest : (f.rule ≡ Release → ⊥) → LeadsToGreatest script.steps figures f.step answers
   pub unreleased : f.rule ≡ Release → LeadsUnreleased script f.step answers
 
 abbrev pub IsWayOf : ReportValue → ℕ → List (List ℕ) → Type 0
-IsWayOf report i answers = (f : Finding) → slice_get report.findings i ≡ Some f → LeadsFor report.plan.script report.figures f answers
+IsWayOf report i answers =
+    (f : Finding) → slice_get report.findings i ≡ Some f
+    → LeadsFor report.plan.script report.figures f answers
 
 -- for a finding of P11 the step before is the first that it can be
 abbrev pub IsFirstWayOf : ReportValue → ℕ → List (List ℕ) → Type 0
 IsFirstWayOf report i answers =
-    (f : Finding) → slice_get report.findings i ≡ Some f → f.rule ≡ Release → LeadsFromFirst report.plan.script f.step answers
+    (f : Finding) → slice_get report.findings i ≡ Some f → f.rule ≡ Release
+    → LeadsFromFirst report.plan.script f.step answers
 
 -- the values show the finding with any answers that lead so
 abbrev pub AreValuesOf : ReportValue → ℕ → List NamedValue → Type 0
 AreValuesOf report i values =
-    (f : Finding) (answers : List (List ℕ)) → slice_get report.findings i ≡ Some f → LeadsFor report.plan.script report.figures f answers
+    (f : Finding) (answers : List (List ℕ)) → slice_get report.findings i ≡ Some f
+    → LeadsFor report.plan.script report.figures f answers
     → Shows report.granted report.plan.script f values answers
 
 -- they are the values that are chosen for the finding
 abbrev pub AreChosenOf : ReportValue → ℕ → List NamedValue → Type 0
-AreChosenOf report i values = (f : Finding) → slice_get report.findings i ≡ Some f → AreChosenFor report.granted report.plan.script f values
+AreChosenOf report i values =
+    (f : Finding) → slice_get report.findings i ≡ Some f
+    → AreChosenFor report.granted report.plan.script f values
 
 -- these values and answers show the finding
 abbrev pub ShowsFindingAt : ReportValue → ℕ → List NamedValue → List (List ℕ) → Type 0
-ShowsFindingAt report i values answers = (f : Finding) → slice_get report.findings i ≡ Some f → Shows report.granted report.plan.script f values answers
+ShowsFindingAt report i values answers =
+    (f : Finding) → slice_get report.findings i ≡ Some f
+    → Shows report.granted report.plan.script f values answers

@@ -24,10 +24,13 @@ use Rattle.fints_check_findings.specs.declared.finding.Reached.{Reached}
 
 -- before this place, counted from 0, of the rule of this number, from 1, of step n
 abbrev pub IsEarlier : ℕ → ℕ → ℕ → Finding → Type 0
-IsEarlier n r place f = (f.step < n) ⊎ ((f.step ≡ n) × ((rule_number f.rule < r) ⊎ ((rule_number f.rule ≡ r) × (f.segment < place))))
+IsEarlier n r place f =
+    (f.step < n)
+    ⊎ ((f.step ≡ n) × ((rule_number f.rule < r) ⊎ ((rule_number f.rule ≡ r) × (f.segment < place))))
 
 -- exactly the real findings before that, in order, each once
-pub record AreFoundTo (granted : Granted) (script : ScriptValue) (n r place : ℕ) (findings : List Finding) : Type 0 where
+pub record AreFoundTo (granted : Granted) (script : ScriptValue) (n r place : ℕ) (findings : List Finding)
+    : Type 0 where
   pub exactly : (f : Finding) → Contains findings f ↔ (IsEarlier n r place f × IsReal granted script f)
   pub in_order : AllPairs IsBefore findings
 
@@ -38,7 +41,8 @@ pub record AreFiguresAt (script : ScriptValue) (step : StepValue) (figures : Rea
   pub size : figures.size ≡ length (message_bytes script step figures.number (longest_choice script.fields))
 
 -- some admitted values make the step's message of this number break the rule at the place
-pub record BreaksUnder (granted : Granted) (script : ScriptValue) (step : StepValue) (number : ℕ) (rule : Rule) (place : ℕ) : Type 0 where
+pub record BreaksUnder (granted : Granted) (script : ScriptValue) (step : StepValue) (number : ℕ)
+    (rule : Rule) (place : ℕ) : Type 0 where
   pub values : List NamedValue
   pub admitted : Admits script.fields values
   pub breaks : Breaks granted (message_view script step number values) rule place
@@ -51,17 +55,20 @@ pub record IsGreatestAt (steps : List StepValue) (n number : ℕ) : Type 0 where
 -- if the finding is real, the values are admitted, and at the step's greatest number they make its message break the finding's rule at its segment
 abbrev pub BreaksAtGreatest : Granted → ScriptValue → Finding → List NamedValue → Type 0
 BreaksAtGreatest granted script f values =
-    (number : ℕ) (step : StepValue) → numbered script.steps f.step ≡ Some step → IsGreatestAt script.steps f.step number → IsReal granted script f
+    (number : ℕ) (step : StepValue) → numbered script.steps f.step ≡ Some step
+    → IsGreatestAt script.steps f.step number → IsReal granted script f
     → Admits script.fields values × Breaks granted (message_view script step number values) f.rule f.segment
 
 -- if the finding is real, the values are those that are chosen for it
 abbrev pub AreChosenAtGreatest : Granted → ScriptValue → Finding → List NamedValue → Type 0
 AreChosenAtGreatest granted script f values =
-    (number : ℕ) (step : StepValue) → numbered script.steps f.step ≡ Some step → IsGreatestAt script.steps f.step number → IsReal granted script f
+    (number : ℕ) (step : StepValue) → numbered script.steps f.step ≡ Some step
+    → IsGreatestAt script.steps f.step number → IsReal granted script f
     → AreChosenFor granted script f values
 
 -- for P11 the values are admitted; for any other they break it at the greatest number; and which they are
-pub record AreCaseValues (granted : Granted) (script : ScriptValue) (f : Finding) (values : List NamedValue) : Type 0 where
+pub record AreCaseValues (granted : Granted) (script : ScriptValue) (f : Finding) (values : List NamedValue)
+    : Type 0 where
   pub admitted : f.rule ≡ Release → Admits script.fields values
   pub greatest : (f.rule ≡ Release → ⊥) → BreaksAtGreatest granted script f values
   pub chosen : AreChosenAtGreatest granted script f values

@@ -29,7 +29,8 @@ use Rattle.fints_check_findings.specs.declared.step_facts.StepFacts.{StepFacts}
 -- ---- facts
 
 -- those of the whole message; a TAN is there where some choice fills it, or where no choice leaves it empty
-pub record AreMessageFacts (granted : Granted) (script : ScriptValue) (step : StepValue) (most : Bool) (f : MessageFacts) : Type 0 where
+pub record AreMessageFacts (granted : Granted) (script : ScriptValue) (step : StepValue) (most : Bool)
+    (f : MessageFacts) : Type 0 where
   pub protocol : f.protocol ≡ Some 300
   pub kinds : f.kinds ≡ distinct_count bytes_eq (template_kinds step.templates)
   pub signatures : f.signatures ≡ length step.signers
@@ -40,14 +41,16 @@ pub record AreMessageFacts (granted : Granted) (script : ScriptValue) (step : St
   pub has_tan_order : f.has_tan_order ≡ list_any is_tan_segment step.templates
   pub demanding : f.demanding ≡ demanding_count granted.rows.pins step.templates
 
-pub record AreStepFacts (granted : Granted) (script : ScriptValue) (step : StepValue) (f : StepFacts) : Type 0 where
+pub record AreStepFacts (granted : Granted) (script : ScriptValue) (step : StepValue) (f : StepFacts)
+    : Type 0 where
   pub least : AreMessageFacts granted script step false f.least
   pub most : AreMessageFacts granted script step true f.most
   pub counts : AreCounts step.templates f.counts
 
 -- those of the message of step n, with a TAN where no choice leaves it empty
 abbrev pub AreFactsAt : Granted → ScriptValue → ℕ → MessageFacts → Type 0
-AreFactsAt granted script n f = (step : StepValue) → numbered script.steps n ≡ Some step → AreMessageFacts granted script step false f
+AreFactsAt granted script n f =
+    (step : StepValue) → numbered script.steps n ≡ Some step → AreMessageFacts granted script step false f
 
 -- those of all steps, in order
 pub record AreFactsOf (granted : Granted) (script : ScriptValue) (facts : List MessageFacts) : Type 0 where
@@ -68,11 +71,14 @@ TemplateBreaks granted fields f r t count =
     ⊎ ((accounts_asked fields r t ≡ []) × SegmentBreaks granted f r (template_facts t count (literals t)))
 
 -- if the template's segment breaks the rule, it does with this account set, or, where none is, with its literals
-abbrev pub IsTemplateChoice : Granted → List NamedField → MessageFacts → Rule → Template → ℕ → Option SetAccount → Type 0
-IsTemplateChoice granted fields f r t count choice = TemplateBreaks granted fields f r t count → TemplateBreaksWith granted fields f r t count choice
+abbrev pub IsTemplateChoice : Granted → List NamedField → MessageFacts → Rule → Template → ℕ
+    → Option SetAccount → Type 0
+IsTemplateChoice granted fields f r t count choice =
+    TemplateBreaks granted fields f r t count → TemplateBreaksWith granted fields f r t count choice
 
 -- the segment of this number, behind HNHBK and the signers' HNSHK, breaks it
-pub record TemplateBreaksAt (granted : Granted) (fields : List NamedField) (step : StepValue) (f : MessageFacts) (r : Rule) (number : ℕ) : Type 0 where
+pub record TemplateBreaksAt (granted : Granted) (fields : List NamedField) (step : StepValue)
+    (f : MessageFacts) (r : Rule) (number : ℕ) : Type 0 where
   pub i : ℕ
   pub template : Template
   pub there : slice_get step.templates i ≡ Some template
@@ -80,32 +86,41 @@ pub record TemplateBreaksAt (granted : Granted) (fields : List NamedField) (step
   pub breaks : TemplateBreaks granted fields f r template (template_count template.kind step.templates)
 
 abbrev pub StepBreaks : Granted → List NamedField → StepValue → MessageFacts → Rule → ℕ → Type 0
-StepBreaks granted fields step f r place = ((place ≡ 0) × MessageBreaks granted f r) ⊎ TemplateBreaksAt granted fields step f r place
+StepBreaks granted fields step f r place =
+    ((place ≡ 0) × MessageBreaks granted f r) ⊎ TemplateBreaksAt granted fields step f r place
 
 -- if the step's facts break the rule at the place, they do with this account set, or with none
-abbrev pub IsStepChoice : Granted → List NamedField → StepValue → MessageFacts → Rule → ℕ → Option SetAccount → Type 0
-IsStepChoice granted fields step f r place choice = StepBreaks granted fields step f r place → BreaksWith granted fields step f r place choice
+abbrev pub IsStepChoice : Granted → List NamedField → StepValue → MessageFacts → Rule → ℕ → Option SetAccount
+    → Type 0
+IsStepChoice granted fields step f r place choice =
+    StepBreaks granted fields step f r place → BreaksWith granted fields step f r place choice
 
 -- ---- the law that joins the step's facts and its messages
 
 -- where the facts break the rule some choice makes the message break it at every number, in particular the
 -- one that sets the first account with which they do, where one is asked for; and what a choice at some number does the facts do
-pub record Decides (granted : Granted) (script : ScriptValue) (step : StepValue) (r : Rule) (f : MessageFacts) : Type 0 where
-  pub some : (place : ℕ) → StepBreaks granted script.fields step f r place → CanBreak granted script step r place
+pub record Decides (granted : Granted) (script : ScriptValue) (step : StepValue) (r : Rule) (f : MessageFacts)
+    : Type 0 where
+  pub some : (place : ℕ) → StepBreaks granted script.fields step f r place
+      → CanBreak granted script step r place
   pub chosen : (place : ℕ) (choice : Option SetAccount) (values : List NamedValue)
       → BreaksWith granted script.fields step f r place choice
       → IsChoice (wants_tan r) script.fields choice values
-      → Admits script.fields values × ((number : ℕ) → BreaksByContent granted (message_view script step number values) r place)
+      → Admits script.fields values
+      × ((number : ℕ) → BreaksByContent granted (message_view script step number values) r place)
   pub set : (place : ℕ) (s : SetAccount) (values : List NamedValue)
       → BreaksWith granted script.fields step f r place (Some s) → IsChoiceWith script.fields s values
       → HaveFirstAccount granted script step r place values
-  pub unset : (place : ℕ) → BreaksWith granted script.fields step f r place None → AsksNoField script step r place
+  pub unset : (place : ℕ) → BreaksWith granted script.fields step f r place None
+      → AsksNoField script step r place
   pub each : (number : ℕ) (values : List NamedValue) (place : ℕ) → Admits script.fields values
       → BreaksByContent granted (message_view script step number values) r place
       → StepBreaks granted script.fields step f r place
 
 abbrev pub TemplatesDecide : Type 0
 TemplatesDecide =
-    (script : ScriptValue) (granted : Granted) (step : StepValue) (r : Rule) (f : MessageFacts) → IsSound script → IsSoundStep script step
-    → ((i : ℕ) (t : Template) → slice_get step.templates i ≡ Some t → IsClosedTemplate script.fields granted.orders t)
+    (script : ScriptValue) (granted : Granted) (step : StepValue) (r : Rule) (f : MessageFacts)
+    → IsSound script → IsSoundStep script step
+    → ((i : ℕ) (t : Template) → slice_get step.templates i ≡ Some t
+        → IsClosedTemplate script.fields granted.orders t)
     → AreMessageFacts granted script step (wants_tan r) f → Decides granted script step r f

@@ -18,7 +18,8 @@ pub record IsEnough (step : StepValue) (from number : ℕ) : Type 0 where
 -- later one, that has a number too, which is enough from one more on
 pub record AreClosed (steps : List StepValue) (numbers : List (Option ℕ)) : Type 0 where
   pub long : length numbers ≡ length steps
-  pub first : (step : StepValue) → numbered steps 1 ≡ Some step → (f : ℕ) × Has numbers 1 f × IsEnough step 1 f
+  pub first : (step : StepValue) → numbered steps 1 ≡ Some step
+      → (f : ℕ) × Has numbers 1 f × IsEnough step 1 f
   pub onward : (n to f : ℕ) (step next : StepValue) → numbered steps n ≡ Some step
       → numbered steps to ≡ Some next → Has numbers n f → Leads step (Step to)
       → (g : ℕ) × Has numbers to g × IsEnough next (f + 1) g

@@ -27,7 +27,8 @@ abbrev pub CarriesTo : StepValue → ℕ → ℕ → ℕ → Type 0
 CarriesTo step t code s = (branch : ℕ) × IsCarriedTo step t branch code s
 
 -- a message of step t, an answer with the code, and the message of step s that it has sent next
-pub record StepsFollow (steps : List StepValue) (t code s : ℕ) (from : Visit) (codes : List ℕ) (to : Visit) : Type 0 where
+pub record StepsFollow (steps : List StepValue) (t code s : ℕ) (from : Visit) (codes : List ℕ) (to : Visit)
+    : Type 0 where
   pub of : from.step ≡ t
   pub answer : IsAnswer codes
   pub has : Contains codes code
@@ -55,7 +56,8 @@ pub record LeadsBehind (steps : List StepValue) (t code s : ℕ) (answers : List
 -- ---- found in the pass
 
 -- step t is marked and has a number, and a branch of it that carries the code goes to step s
-pub record IsAsked (steps : List StepValue) (numbers : List (Option ℕ)) (marks : List Bool) (code t s : ℕ) : Type 0 where
+pub record IsAsked (steps : List StepValue) (numbers : List (Option ℕ)) (marks : List Bool) (code t s : ℕ)
+    : Type 0 where
   pub step : StepValue
   pub at : numbered steps t ≡ Some step
   pub number : ℕ
@@ -64,7 +66,8 @@ pub record IsAsked (steps : List StepValue) (numbers : List (Option ℕ)) (marks
   pub carries : CarriesTo step t code s
 
 -- each step that such steps go to has the first of them kept for it, and no other step has one
-pub record AreBehind (steps : List StepValue) (numbers : List (Option ℕ)) (marks : List Bool) (code : ℕ) (behind : List (Option ℕ)) : Type 0 where
+pub record AreBehind (steps : List StepValue) (numbers : List (Option ℕ)) (marks : List Bool) (code : ℕ)
+    (behind : List (Option ℕ)) : Type 0 where
   pub long : length behind ≡ length steps
   pub some : (t s : ℕ) → IsAsked steps numbers marks code t s → (u : ℕ) × Has behind s u
   pub each : (t s : ℕ) → Has behind s t → IsAsked steps numbers marks code t s

@@ -18,19 +18,25 @@ ClosedNumbersBound =
 
 -- greatest numbers are closed
 abbrev pub GreatestAreClosed : Type 0
-GreatestAreClosed = (script : ScriptValue) (numbers : List (Option ℕ)) → IsSound script → AreGreatest script.steps numbers → AreClosed script.steps numbers
+GreatestAreClosed =
+    (script : ScriptValue) (numbers : List (Option ℕ)) → IsSound script → AreGreatest script.steps numbers
+    → AreClosed script.steps numbers
 
 -- no more is looked at than all steps and all branches
 abbrev pub AtMostAllAreLookedAt : Type 0
-AtMostAllAreLookedAt = (steps : List StepValue) (reached : List Bool) → looked_at steps reached ≤ all_visits steps
+AtMostAllAreLookedAt =
+    (steps : List StepValue) (reached : List Bool) → looked_at steps reached ≤ all_visits steps
 
 -- the steps that are reached are looked at, with their branches
 abbrev pub ReachedAreLookedAt : Type 0
-ReachedAreLookedAt = (steps : List StepValue) (reached : List Bool) → reached_visits steps reached ≤ looked_at steps reached
+ReachedAreLookedAt =
+    (steps : List StepValue) (reached : List Bool) → reached_visits steps reached ≤ looked_at steps reached
 
 -- a run sends a message of step s behind one of step t and an answer with a code exactly where runs send step
 -- t, and a branch of it that carries the code goes to step s
 abbrev pub FollowedWhereCarried : Type 0
 FollowedWhereCarried =
-    (script : ScriptValue) (t code s : ℕ) (step : StepValue) → IsSound script → numbered script.steps t ≡ Some step
-    → (IsFollowed script.steps t code s ↔ (((v : Visit) × Arrives script.steps v × (v.step ≡ t)) × CarriesTo step t code s))
+    (script : ScriptValue) (t code s : ℕ) (step : StepValue) → IsSound script
+    → numbered script.steps t ≡ Some step
+    → (IsFollowed script.steps t code s
+        ↔ (((v : Visit) × Arrives script.steps v × (v.step ≡ t)) × CarriesTo step t code s))

@@ -16,7 +16,8 @@ IsBounded numbers v = (number : ℕ) × Has numbers v.step number × (v.number �
 -- each number is that of a message that some run sends last, no run's last message exceeds it, and each step that a run sends has one
 pub record AreGreatest (steps : List StepValue) (numbers : List (Option ℕ)) : Type 0 where
   pub long : length numbers ≡ length steps
-  pub attained : (n number : ℕ) → Has numbers n number → (v : Visit) × Arrives steps v × (v.step ≡ n) × (v.number ≡ number)
+  pub attained : (n number : ℕ) → Has numbers n number
+      → (v : Visit) × Arrives steps v × (v.step ≡ n) × (v.number ≡ number)
   pub most : (v : Visit) → Arrives steps v → IsBounded numbers v
 
 -- ---- how much is looked at; beside each step stands whether it is reached

@@ -42,7 +42,8 @@ pub record AreRaised (step : StepValue) (old new before after : List (Option ℕ
   pub wide : length after ≡ length before
   pub up : (n e : ℕ) → Has old n e → (f : ℕ) × Has new n f × (e ≤ f)
   pub led : (to : ℕ) → Leads step (Step to) → (f : ℕ) × Has new to f × (m ≤ f)
-  pub each : (n : ℕ) → IsSameAt old new before after n ⊎ (Leads step (Step n) × Has new n m × Has after n source)
+  pub each : (n : ℕ)
+      → IsSameAt old new before after n ⊎ (Leads step (Step n) × Has new n m × Has after n source)
 
 -- how many more messages of the step than one may be sent in a row
 pub record IsSpare (step : StepValue) (more : ℕ) : Type 0 where
@@ -59,19 +60,25 @@ abbrev pub IsNoWay : StepValue → ℕ → Type 0
 IsNoWay step b = (to : ℕ) → IsWay step b to → ⊥
 
 -- a step's cell is the number of the last message of the row that begins with the one it was entered with, and its targets are raised above it
-pub record IsPassed (step : StepValue) (n : ℕ) (cell : Option ℕ) (old new before after : List (Option ℕ)) : Type 0 where
+pub record IsPassed (step : StepValue) (n : ℕ) (cell : Option ℕ) (old new before after : List (Option ℕ))
+    : Type 0 where
   pub long : length new ≡ length old
   pub wide : length after ≡ length before
   pub up : (k e : ℕ) → Has old k e → (f : ℕ) × Has new k f × (e ≤ f)
   pub covers : (e : ℕ) → Has old n e → (f : ℕ) × (cell ≡ Some f) × IsEnough step e f
   pub led : (f to : ℕ) → cell ≡ Some f → Leads step (Step to) → (g : ℕ) × Has new to g × (f + 1 ≤ g)
-  pub sent : (f : ℕ) → cell ≡ Some f → (e : ℕ) × Has old n e × ((f ≡ e) ⊎ (Leads step Again × (f ≡ e + (step.repeat - 1))))
+  pub sent : (f : ℕ) → cell ≡ Some f
+      → (e : ℕ) × Has old n e × ((f ≡ e) ⊎ (Leads step Again × (f ≡ e + (step.repeat - 1))))
   pub row : (f : ℕ) → cell ≡ Some f → (e : ℕ) × Has old n e × EndsRow step e f
-  pub each : (k : ℕ) → IsSameAt old new before after k ⊎ ((f : ℕ) × (cell ≡ Some f) × Leads step (Step k) × Has new k (f + 1) × Has after k n)
+  pub each : (k : ℕ)
+      → IsSameAt old new before after k
+      ⊎ ((f : ℕ) × (cell ≡ Some f) × Leads step (Step k) × Has new k (f + 1) × Has after k n)
 
 -- step n is passed so
-abbrev pub StepIsPassed : List StepValue → ℕ → Option ℕ → List (Option ℕ) → List (Option ℕ) → List (Option ℕ) → List (Option ℕ) → Type 0
-StepIsPassed steps n cell old new before after = (step : StepValue) → numbered steps n ≡ Some step → IsPassed step n cell old new before after
+abbrev pub StepIsPassed : List StepValue → ℕ → Option ℕ → List (Option ℕ) → List (Option ℕ) → List (Option ℕ)
+    → List (Option ℕ) → Type 0
+StepIsPassed steps n cell old new before after =
+    (step : StepValue) → numbered steps n ≡ Some step → IsPassed step n cell old new before after
 
 -- step n was kept for each of these steps, unless one is kept for it, and for no other
 pub record AreKept (n : ℕ) (Goes : ℕ → Type 0) (old new : List (Option ℕ)) : Type 0 where

@@ -29,6 +29,7 @@ pub record ComesFrom (steps : List StepValue) (numbers : List (Option ℕ)) (n s
 -- each step after the first that has a number has the source that is kept for it, and no other step has one; the row of step 1 begins with number 1
 pub record AreSources (steps : List StepValue) (numbers sources : List (Option ℕ)) : Type 0 where
   pub long : length sources ≡ length steps
-  pub first : (step : StepValue) (number : ℕ) → numbered steps 1 ≡ Some step → Has numbers 1 number → EndsRow step 1 number
+  pub first : (step : StepValue) (number : ℕ) → numbered steps 1 ≡ Some step → Has numbers 1 number
+      → EndsRow step 1 number
   pub some : (n number : ℕ) → 1 < n → Has numbers n number → (s : ℕ) × Has sources n s
   pub each : (n s : ℕ) → Has sources n s → ComesFrom steps numbers n s

@@ -16,7 +16,8 @@ pub record IsCodeTo (step : StepValue) (to : Target) (code : ℕ) : Type 0 where
   pub leads_there : answered step (code ∷ []) ≡ to
 
 -- the answers lead to the first message of a row of step n that ends with the step's number
-pub record EntersTo (steps : List StepValue) (numbers : List (Option ℕ)) (n : ℕ) (answers : List (List ℕ)) : Type 0 where
+pub record EntersTo (steps : List StepValue) (numbers : List (Option ℕ)) (n : ℕ) (answers : List (List ℕ))
+    : Type 0 where
   pub step : StepValue
   pub at : numbered steps n ≡ Some step
   pub from : ℕ
@@ -27,7 +28,8 @@ pub record EntersTo (steps : List StepValue) (numbers : List (Option ℕ)) (n : 
 
 -- where the old answers lead to the first message of such a row, the new ones lead to its last
 abbrev pub EndsTheRow : List StepValue → ℕ → List (List ℕ) → List (List ℕ) → Type 0
-EndsTheRow steps n old new = (numbers : List (Option ℕ)) → EntersTo steps numbers n old → LeadsTo steps numbers n new
+EndsTheRow steps n old new =
+    (numbers : List (Option ℕ)) → EntersTo steps numbers n old → LeadsTo steps numbers n new
 
 -- where the old answers lead to a message of step n, the new ones lead to one of step `to` after it, the first in a row
 abbrev pub LeadsOn : List StepValue → ℕ → ℕ → List (List ℕ) → List (List ℕ) → Type 0
@@ -50,7 +52,8 @@ IsWayBack sources n [] c = n ≡ c
 IsWayBack sources n (x ∷ xs) c = (n ≡ x) × ((s : ℕ) × Has sources n s × IsWayBack sources s xs c)
 
 -- the answers lead to a message of step t; it is the first in a row where this target, to which another answer leads from there, is the same step
-pub record LeadsToward (steps : List StepValue) (t : ℕ) (target : Target) (answers : List (List ℕ)) : Type 0 where
+pub record LeadsToward (steps : List StepValue) (t : ℕ) (target : Target) (answers : List (List ℕ))
+    : Type 0 where
   pub from : Visit
   pub route : RouteTo steps answers from
   pub of : from.step ≡ t

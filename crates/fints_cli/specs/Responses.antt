@@ -15,15 +15,18 @@ abbrev pub IsTextFor : Asked → (List ℕ → Option (List ℕ)) → ℕ → Li
 IsTextFor (Help help) holds status text = (status ≡ 0) × (text ≡ string_bytes help)
 IsTextFor (Usage fault) holds status text = ⊥
 IsTextFor NoMemory holds status text = ⊥
-IsTextFor (Run request hints) holds status text = AnswersTo request holds status text × AreWithin (files_of request) holds
+IsTextFor (Run request hints) holds status text =
+    AnswersTo request holds status text × AreWithin (files_of request) holds
 
 -- the output got the whole text
 abbrev pub IsAnswered : Asked → (List ℕ → Option (List ℕ)) → ℕ → Option (List ℕ) → Option (List ℕ) → Type 0
-IsAnswered asked holds status old new = (text : List ℕ) × IsTextFor asked holds status text × Gets old new text
+IsAnswered asked holds status old new =
+    (text : List ℕ) × IsTextFor asked holds status text × Gets old new text
 
 -- the output got a prefix of the text
 abbrev pub IsCutOff : Asked → (List ℕ → Option (List ℕ)) → Option (List ℕ) → Option (List ℕ) → Type 0
-IsCutOff asked holds old new = (status : ℕ) × (text : List ℕ) × IsTextFor asked holds status text × GetsPrefix old new text
+IsCutOff asked holds old new =
+    (status : ℕ) × (text : List ℕ) × IsTextFor asked holds status text × GetsPrefix old new text
 
 abbrev pub IsUsage : Asked → Type 0
 IsUsage (Help help) = ⊥
@@ -43,7 +46,8 @@ abbrev pub FailsWith : ℕ → Asked → (List ℕ → Option (List ℕ)) → Ty
 FailsWith status (Help help) holds = ⊥
 FailsWith status (Usage fault) holds = ⊥
 FailsWith status NoMemory holds = ⊥
-FailsWith status (Run request hints) holds = (f : Failure) × (failure_status f ≡ status) × FailsFor request holds f
+FailsWith status (Run request hints) holds =
+    (f : Failure) × (failure_status f ≡ status) × FailsFor request holds f
 
 -- none of the files that are named is longer than its limit, where their bytes are told
 abbrev pub FilesAreWithin : Asked → (List ℕ → Option (List ℕ)) → Type 0
@@ -74,7 +78,9 @@ pub record IsResponse (asked : Asked) (holds : List ℕ → Option (List ℕ)) (
   pub within : status ≤ 3 → FilesAreWithin asked holds
   pub silent : (status ≡ 2) ⊎ ((status ≡ 3) ⊎ (status ≡ 4)) → GetsNothing old new
   pub fine : status ≤ 4 → lost_after ≡ lost
-  pub failed : status ≡ 5 → (FailsToRead asked holds before after × GetsNothing old new) ⊎ (IsCutOff asked holds old new × (lost_after ≡ one_more lost))
+  pub failed : status ≡ 5
+      → (FailsToRead asked holds before after × GetsNothing old new)
+      ⊎ (IsCutOff asked holds old new × (lost_after ≡ one_more lost))
 
 -- ---- what the errors get
 
@@ -108,7 +114,8 @@ SaysText (b ∷ text) old new lost lost_after = Tells old new lost lost_after (b
 
 -- what was said beside what was asked for
 abbrev pub SaysBeside : Asked → (old new : Option (List ℕ)) (lost lost_after : ℕ) → Type 0
-SaysBeside (Run request hints) old new lost lost_after = SaysText (line_beside request) old new lost lost_after
+SaysBeside (Run request hints) old new lost lost_after =
+    SaysText (line_beside request) old new lost lost_after
 SaysBeside _ old new lost lost_after = IsUntold old new lost lost_after
 
 -- no hint is asked for
@@ -138,7 +145,8 @@ pub record TellsFault (alone : Type 0) (old new : Option (List ℕ)) (lost lost_
 
 -- What the errors got. Where no hint is asked for that is nothing up to status 1, but for what stands beside a drafted case. From 2 on it is the usage of a bad command
 -- line; else the line of a fault, alone where no hint is asked for. Want of memory has a line of its own, and so has an output that failed.
-pub record SaysWhy (asked : Asked) (status : ℕ) (old new : Option (List ℕ)) (lost lost_after : ℕ) : Type 0 where
+pub record SaysWhy (asked : Asked) (status : ℕ) (old new : Option (List ℕ)) (lost lost_after : ℕ)
+    : Type 0 where
   pub beside : status ≤ 1 → AsksNoHint asked → SaysBeside asked old new lost lost_after
   pub usage : TellsUsage asked old new lost lost_after
   pub line : 2 ≤ status → IsUsage asked ⊎ TellsFault (AsksNoHint asked) old new lost lost_after

@@ -2,7 +2,8 @@
 use Rattle.std.specs.Prelude.{ℕ, List, codes}
 
 unfoldable pub capture : List ℕ
-capture = codes "HIBPA:3:3+12+280:10020030+Bank+1+1+300+0'\nHIPINS:9:1+1+1+0+5:38:6:::HKSAL:N:HKKAZ:N:HKCCS:J'\n"
+capture =
+    codes "HIBPA:3:3+12+280:10020030+Bank+1+1+300+0'\nHIPINS:9:1+1+1+0+5:38:6:::HKSAL:N:HKKAZ:N:HKCCS:J'\n"
 
 unfoldable pub orders : List ℕ
 orders =
@@ -10,4 +11,5 @@ orders =
     "[[order]]\nkind = \"HKSAL\"\nversion = 5\naccount = \"national\"\n[[order]]\nkind = \"HKKAZ\"\nversion = 5\naccount = \"national\"\n[[order]]\nkind = \"HKSAL\"\nversion = 7\naccount = \"international\"\n[[order]]\nkind = \"HKKAZ\"\nversion = 7\naccount = \"international\"\n[[order]]\nkind = \"HKCCS\"\nversion = 1\naccount = \"international\"\n"
 
 unfoldable pub script : List ℕ
-script = codes "[[step]]\nname = \"end\"\nsegments = [{kind = \"HKEND\", version = 1, elements = [\"$dialog\"]}]\n"
+script =
+    codes "[[step]]\nname = \"end\"\nsegments = [{kind = \"HKEND\", version = 1, elements = [\"$dialog\"]}]\n"

@@ -63,7 +63,8 @@ OfDialogue holds files params P = IfTold (holds params) (holds files.orders.now)
 -- this holds of the order table and the recorded dialogue
 abbrev pub OfOwnDialogue : Held → AuditFiles → (List ℕ → List ℕ → Type 0) → Type 0
 OfOwnDialogue holds files P =
-    IfSome (holds files.orders.now) (λ table. IfSome (holds files.dialogue.now) (λ dialogue. P table dialogue))
+    IfSome (holds files.orders.now)
+        (λ table. IfSome (holds files.dialogue.now) (λ dialogue. P table dialogue))
 
 -- this holds of an order table; where none is named, of the empty one
 abbrev pub OfTable : Held → Option (Bor (List ℕ)) → (List ℕ → Type 0) → Type 0
@@ -125,8 +126,10 @@ AnswersTo (DrawFound files) holds status text =
 abbrev pub RefusesRequest : Request → Held → Fault → Type 0
 RefusesRequest BuiltIn holds fault =
     IsTellRefusal Report built_in.capture built_in.orders built_in.script fault
-RefusesRequest (Show params) holds fault = IfSome (holds params.now) (λ capture. IsMemoryOrShowFault capture fault)
-RefusesRequest (ShowMessage message) holds fault = IfSome (holds message.now) (λ bytes. IsMessageRefusal bytes fault)
+RefusesRequest (Show params) holds fault =
+    IfSome (holds params.now) (λ capture. IsMemoryOrShowFault capture fault)
+RefusesRequest (ShowMessage message) holds fault =
+    IfSome (holds message.now) (λ bytes. IsMessageRefusal bytes fault)
 RefusesRequest (Judge files) holds fault =
     OfMessage holds files (λ capture table message. IsJudgeRefusal capture table message fault)
 RefusesRequest (JudgeAfter files earlier) holds fault =

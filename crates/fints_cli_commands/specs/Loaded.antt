@@ -52,7 +52,8 @@ IsUnloaded (Unread option) = Unit {0}
 IsUnloaded (Input fault) = fault ≡ Memory
 
 -- one of these files wasn't loaded
-pub record IsOneUnread (files : List NamedFile) (holds kept : Held) (before after : ReadCounts) (failure : Failure)
+pub record IsOneUnread (files : List NamedFile) (holds kept : Held) (before after : ReadCounts)
+    (failure : Failure)
     : Type 0 where
   pub follows : FollowsReading files holds before after failure
   pub unloaded : IsUnloaded failure

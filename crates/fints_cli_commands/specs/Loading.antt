@@ -81,7 +81,8 @@ files_at paths =
     file_at (codes "params") paths.shown MAX_CAPTURE ++ (file_at (codes "params") paths.params MAX_CAPTURE
     ++ (file_at (codes "orders") paths.orders MAX_TEXT ++ (file_at (codes "script") paths.script MAX_TEXT
     ++ (file_at (codes "case") paths.case MAX_TEXT ++ (file_at (codes "cert") paths.certificate MAX_TEXT
-    ++ (file_at (codes "before") paths.before MAX_CAPTURE ++ (file_at (codes "answer") paths.answer MAX_CAPTURE
+    ++ (file_at (codes "before") paths.before MAX_CAPTURE
+        ++ (file_at (codes "answer") paths.answer MAX_CAPTURE
     ++ (file_at (codes "message") paths.message MAX_CAPTURE
     ++ file_at (codes "dialogue") paths.dialogue MAX_CAPTURE))))))))
 

@@ -69,7 +69,8 @@ abbrev pub answers_of : List Exchange → List (List ℕ)
 answers_of exchanges = flat_map (λ e. answer_in e.answer) exchanges
 
 -- under these values and the bank's answers, the script sends the client's messages once more
-pub record Replays (exchanges : List Exchange) (script : ScriptValue) (values : List NamedValue) : Type 0 where
+pub record Replays (exchanges : List Exchange) (script : ScriptValue) (values : List NamedValue)
+    : Type 0 where
   pub admits : Admits script.fields values
   pub sent : List Sent
   pub run : Run script values (answers_of exchanges) sent
@@ -99,7 +100,8 @@ HasBlankNewPin t = t.kind ≡ codes "HKPAE" → IsLastBlank t.elements 0
 -- a field that lists none of its values
 abbrev pub IsUnlisted : NamedField → Type 0
 IsUnlisted f =
-    elim f.class [ classes.Text c ↦ Unit {0} | classes.Bin c ↦ Unit {0} | classes.OneOf c ↦ ⊥ | classes.Account c ↦ ⊥ ]
+    elim f.class [ classes.Text c ↦ Unit {0} | classes.Bin c ↦ Unit {0} | classes.OneOf c ↦ ⊥
+        | classes.Account c ↦ ⊥ ]
 
 -- PIN, TAN and new PIN are values of fields, and the last elements of their segments; and no field lists its values
 pub record KeepsSecrets (script : ScriptValue) : Type 0 where

@@ -23,7 +23,8 @@ IsLonger held limit = IfSome held (λ bytes. limit < length bytes)
 
 -- a sink took the bytes of a file, at most so many
 abbrev pub IsTakenFrom : {S : Type 0} → (List ℕ → S → Type 0) → Option (List ℕ) → ℕ → S → Type 0
-IsTakenFrom Holds held limit sink = (bytes : List ℕ) × IsFile held bytes × (length bytes ≤ limit) × Holds bytes sink
+IsTakenFrom Holds held limit sink =
+    (bytes : List ℕ) × IsFile held bytes × (length bytes ≤ limit) × Holds bytes sink
 
 -- as many reads were asked for as one file may take
 abbrev pub AreUsedUp : ReadCounts → ReadCounts → Type 0

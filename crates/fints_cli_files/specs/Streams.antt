@@ -40,13 +40,16 @@ GetsPrefix (Some before) (Some after) bytes = (count : ℕ) × (after ≡ before
 
 -- a write took the bytes that it answered, or at a fault a prefix of the piece
 abbrev pub TakesPiece : Option (List ℕ) → Option (List ℕ) → List ℕ → Result ℕ WriteFault → Type 0
-TakesPiece old new piece result = MatchResult result (λ count. Gets old new (take count piece)) (λ _. GetsPrefix old new piece)
+TakesPiece old new piece result =
+    MatchResult result (λ count. Gets old new (take count piece)) (λ _. GetsPrefix old new piece)
 
 -- A read of a file whose bytes are told gave those at the place, and none only at the end. A claim past the buffer says nothing.
 abbrev pub ReadsFrom : Option (List ℕ) → ℕ → List ℕ → Result ℕ ReadFault → Type 0
 ReadsFrom held at buffer result =
     IfSome held (λ bytes. MatchResult result
-    (λ count. count ≤ length buffer → (take count buffer ≡ take count (drop at bytes)) × (count ≡ 0 → 0 < length buffer → length bytes ≤ at))
+    (λ count. count ≤ length buffer
+        → (take count buffer ≡ take count (drop at bytes))
+        × (count ≡ 0 → 0 < length buffer → length bytes ≤ at))
     (λ _. ⊤))
 
 -- what was loaded is what the file holds, where that is told

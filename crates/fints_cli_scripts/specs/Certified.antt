@@ -22,4 +22,5 @@ pub record IsCertificateBy (granted : Granted) (script : ScriptValue) (text : Li
 -- with status 0 the certificate, with status 1 the report and its findings
 abbrev pub IsCertifiedBy : Granted → ScriptValue → ℕ → List ℕ → Type 0
 IsCertifiedBy granted script status text =
-    ((status ≡ 0) × IsCertificateBy granted script text) ⊎ ((status ≡ 1) × IsReportBy granted script status text)
+    ((status ≡ 0) × IsCertificateBy granted script text)
+    ⊎ ((status ≡ 1) × IsReportBy granted script status text)

@@ -33,15 +33,19 @@ cases_text steps i _ _ = []
 
 -- which case of a finding it is: its answers lead to the greatest number of the finding's step, or for P11 to
 -- a message that leaves an order unreleased; and its values are those that are chosen for the finding
-pub record IsChosenCase (granted : Granted) (script : ScriptValue) (figures : List (Option Reached)) (f : Finding) (c : CaseValue) : Type 0 where
+pub record IsChosenCase (granted : Granted) (script : ScriptValue) (figures : List (Option Reached))
+    (f : Finding) (c : CaseValue) : Type 0 where
   pub way : LeadsFor script figures f c.answers
   pub values : AreChosenFor granted script f c.values
 
-abbrev pub AreCasesChosen : Granted → ScriptValue → List (Option Reached) → List Finding → List CaseValue → Type 0
-AreCasesChosen granted script figures findings cases = AllZip (IsChosenCase granted script figures) findings cases
+abbrev pub AreCasesChosen : Granted → ScriptValue → List (Option Reached) → List Finding → List CaseValue
+    → Type 0
+AreCasesChosen granted script figures findings cases =
+    AllZip (IsChosenCase granted script figures) findings cases
 
 -- the text and the status tell the greatest figures of the steps, what the runs break, and a case of each finding
-pub record IsExplainedBy (granted : Granted) (script : ScriptValue) (status : ℕ) (text : List ℕ) : Type 0 where
+pub record IsExplainedBy (granted : Granted) (script : ScriptValue) (status : ℕ) (text : List ℕ)
+    : Type 0 where
   pub figures : List (Option Reached)
   pub findings : List Finding
   pub cases : List CaseValue

@@ -15,12 +15,14 @@ pub record CaseValue : Type 0 where
 -- beside each finding stands a case: its values are admitted, and with them the run of its answers ends with
 -- a message of the finding's step that, as bytes, breaks the finding's rule at its segment
 abbrev pub AreCases : Granted → ScriptValue → List Finding → List CaseValue → Type 0
-AreCases granted script findings cases = AllZip (λ f c. Shows granted script f c.values c.answers) findings cases
+AreCases granted script findings cases =
+    AllZip (λ f c. Shows granted script f c.values c.answers) findings cases
 
 -- the findings are exactly the triples of step, rule and segment that some run breaks, for some admitted
 -- values and some answers, in order and each once; each has a case that is such a run; and without findings
 -- each message of each run, for all admitted values and all answers, is permitted
-pub record Headline (granted : Granted) (script : ScriptValue) (findings : List Finding) (cases : List CaseValue) : Type 0 where
+pub record Headline (granted : Granted) (script : ScriptValue) (findings : List Finding)
+    (cases : List CaseValue) : Type 0 where
   pub exactly : (f : Finding) → Contains findings f ↔ IsReal granted script f
   pub in_order : AllPairs IsBefore findings
   pub each : AreCases granted script findings cases

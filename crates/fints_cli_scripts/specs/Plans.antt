@@ -28,6 +28,7 @@ pub record IsLeftOpen (orders script : List ℕ) (f : PlanFault) : Type 0 where
 abbrev pub IsPlanRefusal : List ℕ → List ℕ → Fault → Type 0
 IsPlanRefusal orders script Memory = Unit {0}
 IsPlanRefusal orders script (Orders f) = IsTableRefusal orders f
-IsPlanRefusal orders script (Script f) = ((table : List OrderRow) × DenotesTable orders table) × IsFirstOf script f
+IsPlanRefusal orders script (Script f) =
+    ((table : List OrderRow) × DenotesTable orders table) × IsFirstOf script f
 IsPlanRefusal orders script (Plan f) = IsLeftOpen orders script f
 IsPlanRefusal orders script _ = ⊥

@@ -17,7 +17,8 @@ use Rattle.fints_cli_scripts.specs.StepNames.{step_name}
 -- the greatest number and size of a step's messages, or that no run sends it
 unfoldable pub reached_text : Option Reached → List ℕ
 reached_text None = codes " unreached"
-reached_text (Some reached) = codes " number " ++ decimal reached.number ++ codes " size " ++ decimal reached.size
+reached_text (Some reached) =
+    codes " number " ++ decimal reached.number ++ codes " size " ++ decimal reached.size
 
 -- the line of a step of this name
 unfoldable pub step_line : List ℕ → Option Reached → List ℕ
@@ -30,7 +31,8 @@ step_lines _ _ = []
 
 -- the step by its name, the rule and the segment of what was found
 unfoldable pub finding_text : List ℕ → Finding → List ℕ
-finding_text name f = name ++ codes " " ++ rule_name f.rule ++ codes " segment " ++ decimal f.segment ++ codes "\n"
+finding_text name f =
+    name ++ codes " " ++ rule_name f.rule ++ codes " segment " ++ decimal f.segment ++ codes "\n"
 
 -- the line of what was found of a step of this name
 unfoldable pub found_line : List ℕ → Finding → List ℕ
@@ -44,7 +46,8 @@ outcome_line [] = codes "clean\n"
 outcome_line (f ∷ fs) = codes "findings " ++ decimal (length (f ∷ fs)) ++ codes "\n"
 
 abbrev pub report_text : List StepValue → List (Option Reached) → List Finding → List ℕ
-report_text steps figures findings = step_lines steps figures ++ flat_map (finding_line steps) findings ++ outcome_line findings
+report_text steps figures findings =
+    step_lines steps figures ++ flat_map (finding_line steps) findings ++ outcome_line findings
 
 -- 0 for a clean report, else 1
 abbrev pub report_status : List Finding → ℕ

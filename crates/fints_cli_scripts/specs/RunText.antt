@@ -21,7 +21,9 @@ use Rattle.fints_cli_scripts.specs.StepNames.{step_name}
 
 -- the line of a message of a step of this name: its number, the name and its size
 unfoldable pub line_of : List ℕ → Sent → List ℕ
-line_of name m = codes "message " ++ decimal m.number ++ codes " step " ++ name ++ codes " size " ++ decimal (length m.bytes) ++ codes "\n"
+line_of name m =
+    codes "message " ++ decimal m.number ++ codes " step " ++ name ++ codes " size "
+    ++ decimal (length m.bytes) ++ codes "\n"
 
 -- the line, and then the bytes of the message
 unfoldable pub message_text : List StepValue → Sent → List ℕ
@@ -45,7 +47,8 @@ IsTextOf steps sent (Some number) text = IsMessageIn sent number text
 -- ---- what it tells
 
 -- the text tells the run of these values and answers, or one message of it
-pub record TellsRun (script : ScriptValue) (values : List NamedValue) (answers : List (List ℕ)) (only : Option ℕ) (text : List ℕ) : Type 0 where
+pub record TellsRun (script : ScriptValue) (values : List NamedValue) (answers : List (List ℕ))
+    (only : Option ℕ) (text : List ℕ) : Type 0 where
   pub sent : List Sent
   pub run : Run script values answers sent
   pub text_is : IsTextOf script.steps sent only text
@@ -83,7 +86,8 @@ abbrev pub IsUnsent : List Sent → ℕ → Type 0
 IsUnsent sent number = All (λ (m : Sent). m.number ≡ number → ⊥) sent
 
 -- the run of these values and answers has no message of this number
-pub record IsNotReached (script : ScriptValue) (values : List NamedValue) (answers : List (List ℕ)) (number : ℕ) : Type 0 where
+pub record IsNotReached (script : ScriptValue) (values : List NamedValue) (answers : List (List ℕ))
+    (number : ℕ) : Type 0 where
   pub sent : List Sent
   pub run : Run script values answers sent
   pub unsent : IsUnsent sent number
@@ -98,8 +102,10 @@ pub record IsCaseWithout (script : ScriptValue) (case : List ℕ) (number : ℕ)
 
 -- want of memory, or the first refusal: of the order table, of the script, of what it leaves open, of the case, or else of the number
 abbrev pub IsRunRefusal : List ℕ → List ℕ → List ℕ → Option ℕ → Fault → Type 0
-IsRunRefusal orders script case only (Case f) = ((value : ScriptValue) × ArePlan orders script value) × IsBadCase case f
-IsRunRefusal orders script case only NotAdmitted = (value : ScriptValue) × ArePlan orders script value × IsNotAdmitted value case
+IsRunRefusal orders script case only (Case f) =
+    ((value : ScriptValue) × ArePlan orders script value) × IsBadCase case f
+IsRunRefusal orders script case only NotAdmitted =
+    (value : ScriptValue) × ArePlan orders script value × IsNotAdmitted value case
 IsRunRefusal orders script case only (NoMessage number) =
     (only ≡ Some number)
     × ((value : ScriptValue) × ArePlan orders script value × IsCaseWithout value case number)
@@ -110,7 +116,8 @@ IsRunRefusal orders script case only f = IsPlanRefusal orders script f
 -- want of memory, or a number that was asked for and isn't reached
 abbrev pub IsAdmittedRefusal : ScriptValue → List NamedValue → List (List ℕ) → Option ℕ → Fault → Type 0
 IsAdmittedRefusal script values answers only Memory = Unit {0}
-IsAdmittedRefusal script values answers only (NoMessage number) = (only ≡ Some number) × IsNotReached script values answers number
+IsAdmittedRefusal script values answers only (NoMessage number) =
+    (only ≡ Some number) × IsNotReached script values answers number
 IsAdmittedRefusal script values answers only _ = ⊥
 
 -- want of memory, the refusal of the case, or that of the number

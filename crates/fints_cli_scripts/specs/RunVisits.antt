@@ -11,13 +11,15 @@ use Rattle.fints_cli_texts.specs.declared.fault.Fault.TheVariants.{Memory, NoMes
 use Rattle.fints_cli_scripts.specs.RunText.{run_text}
 
 -- the text holds the messages of these visits
-pub record TellsVisits (script : ScriptValue) (values : List NamedValue) (visits : List Visit) (text : List ℕ) : Type 0 where
+pub record TellsVisits (script : ScriptValue) (values : List NamedValue) (visits : List Visit) (text : List ℕ)
+    : Type 0 where
   pub sent : List Sent
   pub messages : AreSent script values visits sent
   pub text_is : text ≡ run_text script.steps sent
 
 -- the text is the message of one of them, with this number
-pub record TellsVisit (script : ScriptValue) (values : List NamedValue) (visits : List Visit) (number : ℕ) (text : List ℕ) : Type 0 where
+pub record TellsVisit (script : ScriptValue) (values : List NamedValue) (visits : List Visit) (number : ℕ)
+    (text : List ℕ) : Type 0 where
   pub visit : Visit
   pub among : Contains visits visit
   pub number_is : visit.number ≡ number

@@ -22,13 +22,15 @@ IsToldBy (OneCase number) granted script status text = IsExplainedAt granted scr
 IsToldBy Certificate granted script status text = IsCertifiedBy granted script status text
 
 -- they tell it by these rows of parameters and the texts of an order table and of a script
-pub record IsToldOn (wanted : Wanted) (rows : Rows) (orders script : List ℕ) (status : ℕ) (text : List ℕ) : Type 0 where
+pub record IsToldOn (wanted : Wanted) (rows : Rows) (orders script : List ℕ) (status : ℕ) (text : List ℕ)
+    : Type 0 where
   pub value : ScriptValue
   pub plan : ArePlan orders script value
   pub told : IsToldBy wanted (record { rows = rows; orders = plan.table }) value status text
 
 -- they tell it by a capture and these texts
-pub record IsToldOf (wanted : Wanted) (params orders script : List ℕ) (status : ℕ) (text : List ℕ) : Type 0 where
+pub record IsToldOf (wanted : Wanted) (params orders script : List ℕ) (status : ℕ) (text : List ℕ)
+    : Type 0 where
   pub rows : Rows
   pub rows_are : IsParamsOf params rows
   pub told : IsToldOn wanted rows orders script status text

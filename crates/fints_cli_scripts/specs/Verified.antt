@@ -22,7 +22,8 @@ TellsWhether false status text = (status ≡ 1) × (text ≡ codes "invalid\n")
 
 -- the text of a certificate is good, and the status and the text tell whether it is closed; where they say
 -- `valid` it keeps its promise, and each message of each run is permitted
-pub record IsVerifiedBy (granted : Granted) (script : ScriptValue) (certificate : List ℕ) (status : ℕ) (text : List ℕ) : Type 0 where
+pub record IsVerifiedBy (granted : Granted) (script : ScriptValue) (certificate : List ℕ) (status : ℕ)
+    (text : List ℕ) : Type 0 where
   pub lines : List Line
   pub certificate_is : IsCertificateOf certificate lines
   pub valid : Bool
@@ -32,13 +33,15 @@ pub record IsVerifiedBy (granted : Granted) (script : ScriptValue) (certificate 
   pub permitted : IsTrue valid → EachIsPermitted granted script
 
 -- they tell it by these rows of parameters and the texts of an order table and of a script
-pub record IsVerifiedOn (rows : Rows) (orders script certificate : List ℕ) (status : ℕ) (text : List ℕ) : Type 0 where
+pub record IsVerifiedOn (rows : Rows) (orders script certificate : List ℕ) (status : ℕ) (text : List ℕ)
+    : Type 0 where
   pub value : ScriptValue
   pub plan : ArePlan orders script value
   pub told : IsVerifiedBy (record { rows = rows; orders = plan.table }) value certificate status text
 
 -- they tell it by a capture and these texts
-pub record IsVerifiedOf (params orders script certificate : List ℕ) (status : ℕ) (text : List ℕ) : Type 0 where
+pub record IsVerifiedOf (params orders script certificate : List ℕ) (status : ℕ) (text : List ℕ)
+    : Type 0 where
   pub rows : Rows
   pub rows_are : IsParamsOf params rows
   pub told : IsVerifiedOn rows orders script certificate status text
@@ -47,7 +50,8 @@ pub record IsVerifiedOf (params orders script certificate : List ℕ) (status : 
 
 -- want of memory, or the first refusal: of the order table, of the script, of what it leaves open, or else of the certificate
 abbrev pub IsVerifyRefusal : List ℕ → List ℕ → List ℕ → Fault → Type 0
-IsVerifyRefusal orders script certificate (Certificate line) = ((value : ScriptValue) × ArePlan orders script value) × IsFirstBadCertLine certificate line
+IsVerifyRefusal orders script certificate (Certificate line) =
+    ((value : ScriptValue) × ArePlan orders script value) × IsFirstBadCertLine certificate line
 IsVerifyRefusal orders script certificate f = IsPlanRefusal orders script f
 
 -- want of memory, or the first refusal: of the capture, or else of the others

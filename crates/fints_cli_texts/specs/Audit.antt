@@ -40,7 +40,8 @@ abbrev pub audit_text : List Audited → List ℕ
 audit_text audited = lines_from 1 audited ++ last_line (all_broken audited)
 
 -- the status and the text tell the rules that the messages break, by these rows and this order table
-pub record IsAuditBy (rows : Rows) (table : List OrderRow) (exchanges : List Exchange) (status : ℕ) (text : List ℕ)
+pub record IsAuditBy (rows : Rows) (table : List OrderRow) (exchanges : List Exchange) (status : ℕ)
+    (text : List ℕ)
     : Type 0 where
   pub audited : List Audited
   pub are : AreAudited (record { rows = rows; orders = table }) exchanges audited

@@ -33,7 +33,8 @@ verdict_status [] = 0
 verdict_status (b ∷ bs) = 1
 
 -- the status and the text tell the rules that the message breaks, by these rows and this order table
-pub record IsVerdictBy (rows : Rows) (table : List OrderRow) (message : List ℕ) (status : ℕ) (text : List ℕ) : Type 0 where
+pub record IsVerdictBy (rows : Rows) (table : List OrderRow) (message : List ℕ) (status : ℕ) (text : List ℕ)
+    : Type 0 where
   pub broken : List Broken
   pub judged : IsJudged (record { rows = rows; orders = table }) message broken
   pub text_is : text ≡ verdict_text broken
@@ -69,7 +70,8 @@ IsStop message (message_faults.NotAMessageBefore offset) = ⊥
 abbrev pub IsFirstRefusal : List ℕ → List ℕ → (Fault → Type 0) → Fault → Type 0
 IsFirstRefusal params orders IsLater Memory = Unit {0}
 IsFirstRefusal params orders IsLater (Params f) = IsParamFault params f
-IsFirstRefusal params orders IsLater (Orders f) = ((rows : Rows) × IsParamsOf params rows) × IsTableRefusal orders f
+IsFirstRefusal params orders IsLater (Orders f) =
+    ((rows : Rows) × IsParamsOf params rows) × IsTableRefusal orders f
 IsFirstRefusal params orders IsLater f = AreGood params orders × IsLater f
 
 -- want of memory, or the refusal of the message

@@ -12,7 +12,8 @@ use Rattle.fints_cli_texts.specs.declared.fault.Fault.{Fault}
 use Rattle.fints_cli_texts.specs.declared.fault.Fault.TheVariants.{Memory, Before, Answer, Message}
 
 -- the status and the text tell the rules that the message breaks behind the one before and the answer to that, by these rows and this order table
-pub record IsVerdictAfterBy (rows : Rows) (table : List OrderRow) (before answer message : List ℕ) (status : ℕ) (text : List ℕ) : Type 0 where
+pub record IsVerdictAfterBy (rows : Rows) (table : List OrderRow) (before answer message : List ℕ)
+    (status : ℕ) (text : List ℕ) : Type 0 where
   pub numbers : List ℕ
   pub answered : IsCodesOf answer numbers
   pub broken : List Broken
@@ -21,7 +22,8 @@ pub record IsVerdictAfterBy (rows : Rows) (table : List OrderRow) (before answer
   pub status_is : status ≡ verdict_status broken
 
 -- they tell them by the capture and the text of an order table
-pub record IsVerdictAfter (params orders before answer message : List ℕ) (status : ℕ) (text : List ℕ) : Type 0 where
+pub record IsVerdictAfter (params orders before answer message : List ℕ) (status : ℕ) (text : List ℕ)
+    : Type 0 where
   pub rows : Rows
   pub table : List OrderRow
   pub rows_are : IsParamsOf params rows
@@ -37,12 +39,14 @@ abbrev pub IsRefusalOfThree : List ℕ → List ℕ → List ℕ → Fault → T
 IsRefusalOfThree before answer message Memory = Unit {0}
 IsRefusalOfThree before answer message (Before offset) = CeasesAt before offset
 IsRefusalOfThree before answer message (Answer f) = IsSomeMessage before × IsCodeFault answer f
-IsRefusalOfThree before answer message (Message f) = (IsSomeMessage before × ((numbers : List ℕ) × IsCodesOf answer numbers)) × IsStop message f
+IsRefusalOfThree before answer message (Message f) =
+    (IsSomeMessage before × ((numbers : List ℕ) × IsCodesOf answer numbers)) × IsStop message f
 IsRefusalOfThree before answer message _ = ⊥
 
 -- why a message is not judged behind these, by the capture and the text of an order table
 abbrev pub IsJudgeAfterRefusal : List ℕ → List ℕ → List ℕ → List ℕ → List ℕ → Fault → Type 0
-IsJudgeAfterRefusal params orders before answer message = IsFirstRefusal params orders (IsRefusalOfThree before answer message)
+IsJudgeAfterRefusal params orders before answer message =
+    IsFirstRefusal params orders (IsRefusalOfThree before answer message)
 
 -- ---- of private contracts and proofs alone
 

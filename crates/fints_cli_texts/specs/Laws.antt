@@ -9,7 +9,8 @@ use Rattle.fints_cli_texts.specs.ShowMessage.{segment_line, IsShownMessage}
 
 -- a message is shown in one way
 abbrev pub OneShownMessage : Type 0
-OneShownMessage = (message text told : List ℕ) → IsShownMessage message text → IsShownMessage message told → text ≡ told
+OneShownMessage =
+    (message text told : List ℕ) → IsShownMessage message text → IsShownMessage message told → text ≡ told
 
 -- PIN and TAN, or a new PIN, stand in the segment from this element on
 abbrev pub HasSecretsFrom : OwnedSegment → ℕ → Type 0

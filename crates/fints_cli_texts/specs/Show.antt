@@ -59,7 +59,8 @@ unfoldable pub pin_line : PinRow → List ℕ
 pin_line row = kind_text (codes "pin ") row.kind ++ flag_text row.tan ++ codes "\n"
 
 unfoldable pub tan_line : TanRow → List ℕ
-tan_line row = figure (codes "tan ") row.version ++ flag_text row.one_step ++ flag_text row.several ++ codes "\n"
+tan_line row =
+    figure (codes "tan ") row.version ++ flag_text row.one_step ++ flag_text row.several ++ codes "\n"
 
 -- as HIUPA tells it
 unfoldable pub usage_line : Usage → List ℕ
@@ -77,7 +78,8 @@ national_text account =
     ++ item_text account.country ++ codes ":" ++ item_text account.bank
 
 unfoldable pub account_line : AccountRow → List ℕ
-account_line account = codes "account " ++ national_text account.national ++ codes " iban " ++ shown account.iban ++ codes "\n"
+account_line account =
+    codes "account " ++ national_text account.national ++ codes " iban " ++ shown account.iban ++ codes "\n"
 
 unfoldable pub entry_line : Entry → List ℕ
 entry_line entry = kind_text (codes "entry ") entry.kind ++ after_space entry.signatures ++ codes "\n"
@@ -95,7 +97,8 @@ code_line code = codes "code " ++ drop (length (decimal code)) (codes "0000") ++
 unfoldable pub rows_text : Rows → List ℕ
 rows_text rows =
     bank_line rows.bank ++ flat_map order_line rows.orders ++ flat_map pin_line rows.pins
-    ++ flat_map tan_line rows.tans ++ usage_line rows.usage ++ flat_map account_lines rows.accounts ++ skipped_line rows.skipped
+    ++ flat_map tan_line rows.tans ++ usage_line rows.usage ++ flat_map account_lines rows.accounts
+    ++ skipped_line rows.skipped
 
 -- the text shows the capture: the rows of its parameters, and the codes of its feedback
 pub record IsShowOf (capture text : List ℕ) : Type 0 where

@@ -59,7 +59,8 @@ IsShowable s = (is_sealed s ≡ false) ⊎ ((inside : List OwnedSegment) × IsEn
 
 -- the bytes are the texts of some segments, each of which is so
 abbrev pub HasShowable : List ℕ → Type 0
-HasShowable bytes = (segments : List OwnedSegment) × IsText bytes segments × AllByRecursion IsShowable segments
+HasShowable bytes =
+    (segments : List OwnedSegment) × IsText bytes segments × AllByRecursion IsShowable segments
 
 -- the bytes are a text of the segment, and more
 pub record IsBefore (bytes : List ℕ) (s : OwnedSegment) (more : List ℕ) : Type 0 where

@@ -18,7 +18,8 @@ is_usage s = is_named s (codes "HIUPA") 4
 
 -- no usage 0 or 1
 abbrev pub usage_fault : OwnedSegment → Option ℕ
-usage_fault s = if option_map_or (λ n. n == 0 || n == 1) (number_of (value_at s 4 1)) false then None else Some 4
+usage_fault s =
+    if option_map_or (λ n. n == 0 || n == 1) (number_of (value_at s 4 1)) false then None else Some 4
 
 abbrev pub usage_of : OwnedSegment → ℕ
 usage_of s = number_or_zero (value_at s 4 1)
@@ -38,7 +39,9 @@ entry_kind bytes = if (length bytes == 5 || length bytes == 6) then kind_from by
 abbrev pub entry_of : List OwnedItem → Option Entry
 entry_of items =
     let values = map item_value items in
-    option_and_then (λ k. option_map (λ n. record { kind = k; signatures = n }) (number_of (get_or values 1 []))) (entry_kind (get_or values 0 []))
+    option_and_then
+        (λ k. option_map (λ n. record { kind = k; signatures = n }) (number_of (get_or values 1 [])))
+        (entry_kind (get_or values 0 []))
 
 -- the elements from 11 on
 abbrev pub entry_elements : OwnedSegment → List (List OwnedItem)
@@ -49,7 +52,9 @@ is_odd_element items = not (is_empty_element items) && not (is_some (entry_of it
 
 abbrev pub account_row : OwnedSegment → AccountRow
 account_row s = record {
-  national = record { number = value_at s 2 1; subaccount = value_at s 2 2; country = value_at s 2 3; bank = value_at s 2 4 };
+  national =
+      record { number = value_at s 2 1; subaccount = value_at s 2 2; country = value_at s 2 3;
+          bank = value_at s 2 4 };
   iban = value_at s 3 1;
   entries = filter_map entry_of (entry_elements s);
 }

@@ -32,7 +32,8 @@ pub record IsCodesOf (message numbers : List ℕ) : Type 0 where
 abbrev pub IsParamFault : List ℕ → ParamFault → Type 0
 IsParamFault capture f =
     IsRefusedOf fault_after capture f
-    ⊎ ((segments : List OwnedSegment) × AreSegmentsOf capture segments × NoneRefused fault_after segments × (end_fault segments ≡ Some f))
+    ⊎ ((segments : List OwnedSegment) × AreSegmentsOf capture segments × NoneRefused fault_after segments
+        × (end_fault segments ≡ Some f))
 
 -- what is answered where the parameters of a capture are read
 abbrev pub IsReadOf : List ℕ → Result Rows ParamFault → Type 0
@@ -45,7 +46,8 @@ IsCodeFault message f = IsRefusedOf feedback_fault message f
 
 -- the first refusal of a capture of which both are asked for: by its parameters, or where it has parameters by its codes
 abbrev pub IsEitherFault : List ℕ → ParamFault → Type 0
-IsEitherFault capture f = IsParamFault capture f ⊎ ((rows : Rows) × IsParamsOf capture rows × IsCodeFault capture f)
+IsEitherFault capture f =
+    IsParamFault capture f ⊎ ((rows : Rows) × IsParamsOf capture rows × IsCodeFault capture f)
 
 -- what is answered where both are read
 abbrev pub IsBothReadOf : List ℕ → Result ParamsAndCodes ParamFault → Type 0

@@ -9,7 +9,8 @@ use Rattle.fints_params.specs.Sealed.{is_sealed, data_of}
 
 -- the bytes are these segments, by their values
 abbrev pub ReadsAs : List ℕ → List OwnedSegment → Type 0
-ReadsAs bytes segments = (trees : List (List (List Spelled))) × IsCapture bytes trees × (segments ≡ segments_of trees)
+ReadsAs bytes segments =
+    (trees : List (List (List Spelled))) × IsCapture bytes trees × (segments ≡ segments_of trees)
 
 -- the data of a segment are these segments
 abbrev pub HasInside : OwnedSegment → List OwnedSegment → Type 0
@@ -22,7 +23,8 @@ OpensTo s mine = ((is_sealed s ≡ false) × (mine ≡ s ∷ [])) ⊎ ((is_seale
 -- what all of them stand for, in their order
 abbrev pub OpenTo : List OwnedSegment → List OwnedSegment → Type 0
 OpenTo [] segments = segments ≡ []
-OpenTo (s ∷ ss) segments = (mine more : List OwnedSegment) × OpensTo s mine × OpenTo ss more × (segments ≡ mine ++ more)
+OpenTo (s ∷ ss) segments =
+    (mine more : List OwnedSegment) × OpensTo s mine × OpenTo ss more × (segments ≡ mine ++ more)
 
 -- the segments of a capture, opened
 pub record AreSegmentsOf (capture : List ℕ) (segments : List OwnedSegment) : Type 0 where

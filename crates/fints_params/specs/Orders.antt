@@ -17,13 +17,16 @@ has_letter id place letter = get_or id place 0 == get_or letter 0 0
 -- HIabcS and DIabcS, but for HIPINS
 abbrev pub is_order_identifier : List ℕ → Bool
 is_order_identifier id =
-    length id == 6 && (has_letter id 0 (codes "H") || has_letter id 0 (codes "D")) && has_letter id 1 (codes "I") && has_letter id 5 (codes "S")
+    length id == 6 && (has_letter id 0 (codes "H") || has_letter id 0 (codes "D"))
+    && has_letter id 1 (codes "I") && has_letter id 5 (codes "S")
     && not (bytes_eq id (codes "HIPINS"))
 
 -- the kind of the orders that the identifier speaks of: HKabc or DKabc
 abbrev pub kind_of_orders : List ℕ → Option (List ℕ)
 kind_of_orders id =
-    if is_order_identifier id then kind_from (get_or id 0 0 ∷ get_or (codes "K") 0 0 ∷ get_or id 2 0 ∷ get_or id 3 0 ∷ get_or id 4 0 ∷ []) else None
+    if is_order_identifier id
+    then kind_from (get_or id 0 0 ∷ get_or (codes "K") 0 0 ∷ get_or id 2 0 ∷ get_or id 3 0 ∷ get_or id 4 0
+        ∷ []) else None
 
 -- what the segment says of the kind, if it has both numbers
 abbrev pub order_of : OwnedSegment → List ℕ → Option OrderParam

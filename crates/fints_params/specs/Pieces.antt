@@ -30,7 +30,8 @@ pub record IsReceived (old : Received) (piece : List ℕ) (new : Received) : Typ
 
 -- the fault of a stream so far, which no further byte mends
 abbrev pub IsPieceFault : List ℕ → ParamFault → Type 0
-IsPieceFault stream f = (fault : SyntaxFault) × PieceFaultAt MAX_CAPTURE fault.kind fault.offset stream × (f ≡ Syntax fault)
+IsPieceFault stream f =
+    (fault : SyntaxFault) × PieceFaultAt MAX_CAPTURE fault.kind fault.offset stream × (f ≡ Syntax fault)
 
 -- what is answered after a fault at this offset
 abbrev pub answer_after : ℕ → ParamFault

@@ -19,7 +19,9 @@ Rule = List OwnedSegment → OwnedSegment → Option ParamFault
 
 -- no segment is refused after those before it
 abbrev pub NoneRefused : Rule → List OwnedSegment → Type 0
-NoneRefused rule segments = (before after : List OwnedSegment) (at : OwnedSegment) → segments ≡ before ++ at ∷ after → rule before at ≡ None
+NoneRefused rule segments =
+    (before after : List OwnedSegment) (at : OwnedSegment) → segments ≡ before ++ at ∷ after
+    → rule before at ≡ None
 
 -- why the bytes are no segments
 abbrev pub AreNoSegments : List ℕ → SyntaxFault → Type 0
@@ -71,4 +73,5 @@ pub record IsRefusedIn (rule : Rule) (placed : List Placed) (f : ParamFault) : T
 abbrev pub IsRefusedOf : Rule → List ℕ → ParamFault → Type 0
 IsRefusedOf rule capture f =
     IsSyntaxFault capture f
-    ⊎ ((length capture ≤ MAX_CAPTURE) × (placed : List Placed) × IsPlacedCapture capture placed × IsRefusedIn rule placed f)
+    ⊎ ((length capture ≤ MAX_CAPTURE) × (placed : List Placed) × IsPlacedCapture capture placed
+        × IsRefusedIn rule placed f)

@@ -17,8 +17,10 @@ abbrev pub Continues : {S : Type 0} → (List OwnedSegment → S → Type 0) →
 Continues Good old new segments = (seen : List OwnedSegment) → Good seen old → Good (seen ++ segments) new
 
 -- the first refusal among these segments after what was seen
-abbrev pub StopsIn : {S : Type 0} → Rule → (List OwnedSegment → S → Type 0) → S → List OwnedSegment → ParamFault → Type 0
-StopsIn rule Good old segments f = (seen : List OwnedSegment) → Good seen old → IsFirstRefused rule seen segments f
+abbrev pub StopsIn : {S : Type 0} → Rule → (List OwnedSegment → S → Type 0) → S → List OwnedSegment
+    → ParamFault → Type 0
+StopsIn rule Good old segments f =
+    (seen : List OwnedSegment) → Good seen old → IsFirstRefused rule seen segments f
 
 -- a state that is right for what was seen is right after what a segment stands for too
 abbrev pub ContinuesOver : {S : Type 0} → (List OwnedSegment → S → Type 0) → S → S → OwnedSegment → Type 0
@@ -37,15 +39,18 @@ EndsWithin view = view.start + length (segment_bytes view.segment) ≤ MAX_CAPTU
 abbrev pub ReadsNext : {S : Type 0} → (List OwnedSegment → S → Type 0) → S → S → Placed → Type 0
 ReadsNext Good old new view = ContinuesOver Good old new (segment_of view.segment)
 
-abbrev pub StopsNext : {S : Type 0} → Rule → (List OwnedSegment → S → Type 0) → S → Placed → ParamFault → Type 0
+abbrev pub StopsNext : {S : Type 0} → Rule → (List OwnedSegment → S → Type 0) → S → Placed → ParamFault
+    → Type 0
 StopsNext rule Good old view f = StopsAt rule Good old (segment_of view.segment) (data_place view) f
 
 -- the state is right for all that the placed segments stand for
 abbrev pub ReadsViews : {S : Type 0} → (List OwnedSegment → S → Type 0) → List Placed → S → Type 0
-ReadsViews Good views new = (segments : List OwnedSegment) × OpenTo (values_in views) segments × Good segments new
+ReadsViews Good views new =
+    (segments : List OwnedSegment) × OpenTo (values_in views) segments × Good segments new
 
 -- none of them is refused and the state is right for them, or the first refusal among them is known
-abbrev pub HasRead : {S : Type 0} → Rule → (List OwnedSegment → S → Type 0) → List Placed → Option ParamFault → S → Type 0
+abbrev pub HasRead : {S : Type 0} → Rule → (List OwnedSegment → S → Type 0) → List Placed → Option ParamFault
+    → S → Type 0
 HasRead rule Good views None state = ReadsViews Good views state
 HasRead rule Good views (Some f) state = IsRefusedIn rule views f
 
@@ -58,9 +63,12 @@ pub record HasCome {S : Type 0} (rule : Rule) (Good : List OwnedSegment → S �
   pub segments : HasRead rule Good placed refused state
 
 -- the front of the bytes is read so far
-abbrev pub HasComeIn : {S : Type 0} → Rule → (List OwnedSegment → S → Type 0) → List ℕ → ReadTo → Option ParamFault → S → Type 0
-HasComeIn rule Good bytes to refused state = (front more : List ℕ) × (bytes ≡ front ++ more) × HasCome rule Good front to refused state
+abbrev pub HasComeIn : {S : Type 0} → Rule → (List OwnedSegment → S → Type 0) → List ℕ → ReadTo
+    → Option ParamFault → S → Type 0
+HasComeIn rule Good bytes to refused state =
+    (front more : List ℕ) × (bytes ≡ front ++ more) × HasCome rule Good front to refused state
 
 -- the same for the segments of a capture
 abbrev pub ReadsCapture : {S : Type 0} → (List OwnedSegment → S → Type 0) → List ℕ → S → Type 0
-ReadsCapture Good capture new = (segments : List OwnedSegment) × AreSegmentsOf capture segments × Good segments new
+ReadsCapture Good capture new =
+    (segments : List OwnedSegment) × AreSegmentsOf capture segments × Good segments new

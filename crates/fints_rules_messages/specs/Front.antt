@@ -121,7 +121,8 @@ pub record IsEndOf (number : ℕ) (s : OwnedSegment) (openers body ends : ℕ) :
 
 -- the same behind these inner segments
 abbrev pub IsEndBehind : ℕ → OwnedSegment → Inner → Type 0
-IsEndBehind number s inner = IsEndOf number s (length inner.openers.items) (length inner.body.items) (length inner.ends.items)
+IsEndBehind number s inner =
+    IsEndOf number s (length inner.openers.items) (length inner.body.items) (length inner.ends.items)
 
 -- how bytes close where this segment, of so many bytes, stands at a place in them behind the inner segments: they
 -- stop at it where it isn't HNHBS, and behind it where more bytes follow
@@ -152,7 +153,8 @@ abbrev pub EnvelopeIs : Result Inner Slip → OwnedSegment → Type 0
 EnvelopeIs (Err slip) s =
     (inner body ends : List OwnedSegment) → IsEnvelope inner s → IsInner inner body ends → IsNumbered 2 inner
     → ⊥
-EnvelopeIs (Ok i) s = IsOpened s (length i.openers.items) (segments_of i.body.items) (segments_of i.ends.items)
+EnvelopeIs (Ok i) s =
+    IsOpened s (length i.openers.items) (segments_of i.body.items) (segments_of i.ends.items)
 
 -- a stop within the bytes
 abbrev pub StopsWithin : Tail → ℕ → Type 0

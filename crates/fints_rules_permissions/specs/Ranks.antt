@@ -18,4 +18,5 @@ BeginsAt cmp key q xs i =
 abbrev pub IsLeastRank : {X K : Type 0} → (X → K) → (X → ℕ) → K → List X → Option ℕ → Type 0
 IsLeastRank {X} key rank q xs None = (x : X) → Contains xs x → key x ≡ q → ⊥
 IsLeastRank {X} key rank q xs (Some n) =
-    ((x : X) × Contains xs x × (key x ≡ q) × (rank x ≡ n)) × ((x : X) → Contains xs x → key x ≡ q → n ≤ rank x)
+    ((x : X) × Contains xs x × (key x ≡ q) × (rank x ≡ n))
+    × ((x : X) → Contains xs x → key x ≡ q → n ≤ rank x)

@@ -40,4 +40,5 @@ seen_top top =
 
 -- the script of these fields and this body
 abbrev pub seen_body : List NamedField → Body → ScriptValue
-seen_body fields body = record { fields = fields; signers = body.signers.items; seal = body.seal; steps = body.steps.items }
+seen_body fields body =
+    record { fields = fields; signers = body.signers.items; seal = body.seal; steps = body.steps.items }

@@ -59,7 +59,9 @@ is_open_process t = bytes_eq t.kind (codes "HKTAN") && not (list_all is_literal 
 
 -- what a segment leaves open
 abbrev pub open_of : List NamedField → List OrderRow → Template → Option Open
-open_of fields orders t = if is_open_account fields orders t then Some opens.Account else if is_open_process t then Some opens.Process else None
+open_of fields orders t =
+    if is_open_account fields orders t then Some opens.Account
+    else if is_open_process t then Some opens.Process else None
 
 -- the fault of what is left open; steps count from 1, and segments as they are numbered in the message
 abbrev pub open_fault : Open → ℕ → ℕ → PlanFault
@@ -69,15 +71,18 @@ open_fault opens.Process step segment = faults.OpenProcess step segment
 -- the faults of these segments of step n, in order; the first has this number in the message
 abbrev pub faults_in_segments : List NamedField → List OrderRow → ℕ → ℕ → List Template → List PlanFault
 faults_in_segments fields orders n first templates =
-    filter_map (λ (p : ℕ × Template). option_map (λ left. open_fault left n p.0) (open_of fields orders p.1)) (enumerate_from first templates)
+    filter_map (λ (p : ℕ × Template). option_map (λ left. open_fault left n p.0) (open_of fields orders p.1))
+        (enumerate_from first templates)
 
 -- the faults of step n: before its segments stand HNHBK and the signers' HNSHK
 abbrev pub faults_in_step : List NamedField → List OrderRow → ℕ → StepValue → List PlanFault
-faults_in_step fields orders n step = faults_in_segments fields orders n (length step.signers + 2) step.templates
+faults_in_step fields orders n step =
+    faults_in_segments fields orders n (length step.signers + 2) step.templates
 
 -- the faults of the steps, in order
 abbrev pub faults_in_steps : List NamedField → List OrderRow → List StepValue → List PlanFault
-faults_in_steps fields orders steps = flat_map (λ (p : ℕ × StepValue). faults_in_step fields orders p.0 p.1) (enumerate_from 1 steps)
+faults_in_steps fields orders steps =
+    flat_map (λ (p : ℕ × StepValue). faults_in_step fields orders p.0 p.1) (enumerate_from 1 steps)
 
 -- the first of a script's faults
 abbrev pub IsPlanFault : ScriptValue → List OrderRow → PlanFault → Type 0
@@ -95,7 +100,9 @@ IsChosen field value = (value.name ≡ field.name) × field_domain field.class v
 
 -- exactly the fields, in order, each with a value of its domain
 abbrev pub Admits : List NamedField → List NamedValue → Type 0
-Admits fields values = (length values ≡ length fields) × All (λ (p : NamedField × NamedValue). IsChosen p.0 p.1) (zip fields values)
+Admits fields values =
+    (length values ≡ length fields)
+    × All (λ (p : NamedField × NamedValue). IsChosen p.0 p.1) (zip fields values)
 
 -- ---- of private contracts and proofs alone
 

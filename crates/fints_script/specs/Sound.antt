@@ -111,4 +111,5 @@ pub record IsSound (s : ScriptValue) : Type 0 where
   pub few_steps : length s.steps ≤ MAX_STEPS
   pub steps_apart : StepsAreApart s.steps
   pub steps : All (IsSoundStep s) s.steps
-  pub onward : (n : ℕ) (step : StepValue) → numbered s.steps n ≡ Some step → LeadsOnward (length s.steps) n step
+  pub onward : (n : ℕ) (step : StepValue) → numbered s.steps n ≡ Some step
+      → LeadsOnward (length s.steps) n step

@@ -74,7 +74,8 @@ branch_value on to = record { on = on; to = to }
 -- the branch that a table gives, key by key, or its first kind of fault
 unfoldable pub table_branch : List Data → ℕ → Members → Part Branch
 table_branch rows i ms =
-    if only_keys branch_keys ms then Ok branch_value <*> must ms (codes "on") on_in <*> must ms (codes "to") (target_in rows i)
+    if only_keys branch_keys ms
+    then Ok branch_value <*> must ms (codes "on") on_in <*> must ms (codes "to") (target_in rows i)
     else Err kinds.UnknownKey
 
 -- a branch of the step in row i
@@ -130,20 +131,25 @@ seal_weight figures _ _ = 0
 abbrev pub step_weight : Surroundings → StepValue → ℕ
 step_weight around step =
     total (λ (t : Template). segment_weight around.figures t.elements) step.templates
-    + (total (signature_weight around.figures around.signers) step.signers + seal_weight around.figures step.sealed around.seal)
+    + (total (signature_weight around.figures around.signers) step.signers
+        + seal_weight around.figures step.sealed around.seal)
 
 -- some segment has more items than it may
 abbrev pub has_large_segment : List Figures → List Template → Bool
-has_large_segment figures templates = list_any (λ (t : Template). nat_lt MAX_TEMPLATE_ITEMS (most_items figures t.elements)) templates
+has_large_segment figures templates =
+    list_any (λ (t : Template). nat_lt MAX_TEMPLATE_ITEMS (most_items figures t.elements)) templates
 
 -- a segment has too many items, or the step is too heavy
 abbrev pub is_too_large : Surroundings → StepValue → Bool
-is_too_large around step = has_large_segment around.figures step.templates || nat_lt MAX_WEIGHT (step_weight around step)
+is_too_large around step =
+    has_large_segment around.figures step.templates || nat_lt MAX_WEIGHT (step_weight around step)
 
 -- ---- the whole step
 
 abbrev pub step_keys : List (List ℕ)
-step_keys = codes "name" ∷ codes "segments" ∷ codes "sealed" ∷ codes "signers" ∷ codes "repeat" ∷ codes "branches" ∷ codes "default" ∷ []
+step_keys =
+    codes "name" ∷ codes "segments" ∷ codes "sealed" ∷ codes "signers" ∷ codes "repeat" ∷ codes "branches"
+    ∷ codes "default" ∷ []
 
 -- a word, or the name of an earlier row
 abbrev pub is_taken_step : List Data → ℕ → List ℕ → Bool
@@ -151,7 +157,8 @@ is_taken_step rows i name = is_word name || list_any (is_called name) (take i ro
 
 abbrev pub step_value : List ℕ → List Template → Bool → List ℕ → ℕ → List Branch → Target → StepValue
 step_value name templates sealed signers repeat branches otherwise =
-    record { name = name; templates = templates; sealed = sealed; signers = signers; repeat = repeat; branches = branches; otherwise = otherwise }
+    record { name = name; templates = templates; sealed = sealed; signers = signers; repeat = repeat;
+        branches = branches; otherwise = otherwise }
 
 -- a step of a size that it may have
 abbrev pub sized_step : Surroundings → StepValue → Part StepValue

@@ -28,7 +28,8 @@ target_of branches otherwise b = option_map_or (λ branch. branch.to) (slice_get
 
 -- where an answer leads: the target of the first branch whose pattern matches some code of it, or else of the default
 abbrev pub leads : List Branch → Target → List ℕ → Target
-leads branches otherwise codes = option_map_or (λ branch. branch.to) (find (matches_some codes) branches) otherwise
+leads branches otherwise codes =
+    option_map_or (λ branch. branch.to) (find (matches_some codes) branches) otherwise
 
 -- some answer fires the branch
 pub record IsOpen (branches : List Branch) (b : ℕ) : Type 0 where
@@ -49,8 +50,10 @@ pub record IsLeastOpener (branches : List Branch) (b : ℕ) (code : ℕ) : Type 
 
 -- a code that matches a branch and no earlier one fires it by itself; where an answer fires a branch, one of its codes matches it and no earlier one
 pub record OneCodeFires (branches : List Branch) (b : ℕ) : Type 0 where
-  pub alone : (code : ℕ) → 1 ≤ b → b ≤ length branches + 1 → IsOpener branches b code → Fires branches (code ∷ []) b
-  pub among : (codes : List ℕ) → IsAnswer codes → Fires branches codes b → (code : ℕ) × Contains codes code × IsOpener branches b code
+  pub alone : (code : ℕ) → 1 ≤ b → b ≤ length branches + 1 → IsOpener branches b code
+      → Fires branches (code ∷ []) b
+  pub among : (codes : List ℕ) → IsAnswer codes → Fires branches codes b
+      → (code : ℕ) × Contains codes code × IsOpener branches b code
 
 -- of every list of codes exactly one branch fires, and the codes lead where it does
 pub record OneBranchFires (branches : List Branch) (otherwise : Target) (codes : List ℕ) : Type 0 where
@@ -62,7 +65,8 @@ pub record OneBranchFires (branches : List Branch) (otherwise : Target) (codes :
 -- a code that matches a branch and no earlier one leads, by itself, where the branch does
 abbrev pub OpenersLead : List Branch → Target → Type 0
 OpenersLead branches otherwise =
-    (b code : ℕ) → 1 ≤ b → b ≤ length branches + 1 → IsOpener branches b code → leads branches otherwise (code ∷ []) ≡ target_of branches otherwise b
+    (b code : ℕ) → 1 ≤ b → b ≤ length branches + 1 → IsOpener branches b code
+    → leads branches otherwise (code ∷ []) ≡ target_of branches otherwise b
 
 -- some answer leads to this target
 pub record CanLead (branches : List Branch) (otherwise target : Target) : Type 0 where

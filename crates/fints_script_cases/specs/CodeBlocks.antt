@@ -15,11 +15,14 @@ size_at (suc (suc (suc place))) = 1
 
 -- the pattern fits the digits before a place, and has this digit there
 abbrev pub tells : List ℕ → List ℕ → ℕ → ℕ → Bool
-tells pattern digits place digit = list_all (λ (p : ℕ × ℕ). fits p.0 p.1) (zip (take place pattern) (take place digits)) && (get_or pattern place 0 == digit)
+tells pattern digits place digit =
+    list_all (λ (p : ℕ × ℕ). fits p.0 p.1) (zip (take place pattern) (take place digits))
+    && (get_or pattern place 0 == digit)
 
 -- the pattern matches all codes of each block of this size, or none
 abbrev pub MatchesByBlocks : List ℕ → ℕ → Type 0
-MatchesByBlocks pattern size = (code other : ℕ) → code / size ≡ other / size → matches pattern code ≡ matches pattern other
+MatchesByBlocks pattern size =
+    (code other : ℕ) → code / size ≡ other / size → matches pattern code ≡ matches pattern other
 
 -- it matches no code of the block of this size about the code
 abbrev pub MissesBlock : List ℕ → ℕ → ℕ → Type 0

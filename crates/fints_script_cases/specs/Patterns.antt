@@ -16,7 +16,8 @@ pattern_in text = if is_pattern text then Some text else None
 
 -- the four digits of a code, as characters
 abbrev pub code_text : ℕ → List ℕ
-code_text code = (48 + code / 1000) ∷ (48 + (code / 100) % 10) ∷ (48 + (code / 10) % 10) ∷ (48 + code % 10) ∷ []
+code_text code =
+    (48 + code / 1000) ∷ (48 + (code / 100) % 10) ∷ (48 + (code / 10) % 10) ∷ (48 + code % 10) ∷ []
 
 -- a place is `*` or has that digit
 abbrev pub fits : ℕ → ℕ → Bool

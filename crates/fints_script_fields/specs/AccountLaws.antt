@@ -7,7 +7,9 @@ use Rattle.fints_script_fields.specs.declared.listing.Account.{Account}
 
 -- the text of a listed account tells its items
 abbrev pub TextIsOneAccount : Type 0
-TextIsOneAccount = (c : Account) (j : ℕ) (a : List (List ℕ)) → slice_get c.values j ≡ Some a → first_with account_text [] c.values (account_text a) ≡ a
+TextIsOneAccount =
+    (c : Account) (j : ℕ) (a : List (List ℕ)) → slice_get c.values j ≡ Some a
+    → first_with account_text [] c.values (account_text a) ≡ a
 
 -- some listed account has the value for its text
 abbrev pub IsListedSomewhere : Field → List ℕ → Type 0
@@ -22,4 +24,5 @@ ListedAreAdmitted =
 -- and stands as that account's items
 abbrev pub ListedStandAsItems : Type 0
 ListedStandAsItems =
-    (f : Field) (place : ℕ) (account : List (List ℕ)) → slice_get (field_accounts f) place ≡ Some account → IsListedAt f (account_text account) place account
+    (f : Field) (place : ℕ) (account : List (List ℕ)) → slice_get (field_accounts f) place ≡ Some account
+    → IsListedAt f (account_text account) place account

@@ -21,15 +21,18 @@ fill_len : (n fill : ℕ) → length (replicate n fill) ≡ n
 fill_len n fill = length-replicate n fill
 
 -- a value of any count within the limits is in the domain
-counted : (P : ℕ → Type 0) (min max n fill : ℕ) → P fill → min ≤ n → n ≤ max → Counts P min max (replicate n fill)
+counted : (P : ℕ → Type 0) (min max n fill : ℕ) → P fill → min ≤ n → n ≤ max
+    → Counts P min max (replicate n fill)
 counted P min max n fill p low high =
     let c : length (replicate n fill) ≡ n = length-replicate n fill in
     record { each = All-replicate P n fill p; least = omega arith; most = omega arith }
 
-pub counted_most : (P : ℕ → Type 0) (min max fill : ℕ) → P fill → min ≤ max → Counts P min max (replicate max fill)
+pub counted_most : (P : ℕ → Type 0) (min max fill : ℕ) → P fill → min ≤ max
+    → Counts P min max (replicate max fill)
 counted_most P min max fill p le = counted P min max max fill p le (omega arith)
 
-pub counted_least : (P : ℕ → Type 0) (min max fill : ℕ) → P fill → min ≤ max → Counts P min max (replicate min fill)
+pub counted_least : (P : ℕ → Type 0) (min max fill : ℕ) → P fill → min ≤ max
+    → Counts P min max (replicate min fill)
 counted_least P min max fill p le = counted P min max min fill p (omega arith) le
 
 -- ---- texts
@@ -46,11 +49,13 @@ text_len-cons b bs = length-append (unit_bytes (written_unit b)) (text_bytes (ma
 
 pub text_len-low : (v : List ℕ) → length v ≤ text_len v
 text_len-low [] = omega arith
-text_len-low (b ∷ bs) = let u = unit_len b in let e = text_len-cons b bs in let ih = text_len-low bs in omega arith
+text_len-low (b ∷ bs) =
+    let u = unit_len b in let e = text_len-cons b bs in let ih = text_len-low bs in omega arith
 
 text_len-high : (v : List ℕ) → text_len v ≤ 2 * length v
 text_len-high [] = omega arith
-text_len-high (b ∷ bs) = let u = unit_len b in let e = text_len-cons b bs in let ih = text_len-high bs in omega arith
+text_len-high (b ∷ bs) =
+    let u = unit_len b in let e = text_len-cons b bs in let ih = text_len-high bs in omega arith
 
 pub text_len_marks : (n : ℕ) → text_len (replicate n 63) ≡ 2 * n
 text_len_marks zero = refl
@@ -97,7 +102,8 @@ shortest_has Digits = (omega arith, omega arith)
 shortest_has Plain = inl (omega arith, omega arith)
 shortest_has Latin = inl (omega arith, omega arith)
 
-pub text_most : (a : Alphabet) (min max : ℕ) (v : List ℕ) → Counts (IsCharacter a) min max v → text_len v ≤ text_len (replicate max (longest_character a))
+pub text_most : (a : Alphabet) (min max : ℕ) (v : List ℕ) → Counts (IsCharacter a) min max v
+    → text_len v ≤ text_len (replicate max (longest_character a))
 text_most Digits min max v h =
     let same = text_len-bare v (λ k d lt. digit_bare _ (h.each k d lt)) in
     let most = text_len_nines max in
@@ -106,14 +112,16 @@ text_most Plain min max v h =
     let same = text_len-bare v (λ k d lt. plain_bare _ (h.each k d lt)) in
     let most = text_len_capitals max in
     omega (arith, h.most)
-text_most Latin min max v h = let high = text_len-high v in let most = text_len_marks max in omega (arith, h.most)
+text_most Latin min max v h =
+    let high = text_len-high v in let most = text_len_marks max in omega (arith, h.most)
 
 shortest_bare : (a : Alphabet) → IsBare (shortest_character a)
 shortest_bare Digits = refl
 shortest_bare Plain = refl
 shortest_bare Latin = refl
 
-pub text_least : (a : Alphabet) (min max : ℕ) (v : List ℕ) → Counts (IsCharacter a) min max v → text_len (replicate min (shortest_character a)) ≤ text_len v
+pub text_least : (a : Alphabet) (min max : ℕ) (v : List ℕ) → Counts (IsCharacter a) min max v
+    → text_len (replicate min (shortest_character a)) ≤ text_len v
 text_least a min max v h =
     let low = text_len-low v in
     let least = bare_fill min (shortest_character a) (shortest_bare a) in
@@ -129,14 +137,23 @@ decimal_len-mono : (a b : ℕ) → a ≤ b → b < 2 ^ 64 → length (decimal a)
 decimal_len-mono a b le small =
     let n = decimal_is_IsNumeral b small in
     let value : digits_value 10 (decimal b) ≡ b = n.1 in
-    let below : digits_value 10 (decimal b) < 10 ^ length (decimal b) = digits_value-lt 10 (decimal b) n.0.1 in
+    let below : digits_value 10 (decimal b) < 10 ^ length (decimal b) =
+        digits_value-lt 10 (decimal b) n.0.1 in
     length-decimal-le (length (decimal b)) a (decimal_nonempty b small) (omega arith) (omega arith)
 
 binary_mono : (v w : List ℕ) → length v ≤ length w → length w ≤ 10000 → binary_len v ≤ binary_len w
-binary_mono v w le short = let a = binary_length v in let b = binary_length w in let c = decimal_len-mono (length v) (length w) le (omega arith) in omega arith
+binary_mono v w le short =
+    let a = binary_length v in
+    let b = binary_length w in
+    let c = decimal_len-mono (length v) (length w) le (omega arith) in
+    omega arith
 
-pub binary_most : (min max : ℕ) (v : List ℕ) → max ≤ 10000 → Counts IsByte min max v → binary_len v ≤ binary_len (replicate max 255)
-binary_most min max v short h = let c = fill_len max 255 in binary_mono v (replicate max 255) (omega (arith, h.most)) (omega arith)
+pub binary_most : (min max : ℕ) (v : List ℕ) → max ≤ 10000 → Counts IsByte min max v
+    → binary_len v ≤ binary_len (replicate max 255)
+binary_most min max v short h =
+    let c = fill_len max 255 in binary_mono v (replicate max 255) (omega (arith, h.most)) (omega arith)
 
-pub binary_least : (min max : ℕ) (v : List ℕ) → max ≤ 10000 → Counts IsByte min max v → binary_len (replicate min 0) ≤ binary_len v
-binary_least min max v short h = let c = fill_len min 0 in binary_mono (replicate min 0) v (omega (arith, h.least)) (omega (arith, h.most))
+pub binary_least : (min max : ℕ) (v : List ℕ) → max ≤ 10000 → Counts IsByte min max v
+    → binary_len (replicate min 0) ≤ binary_len v
+binary_least min max v short h =
+    let c = fill_len min 0 in binary_mono (replicate min 0) v (omega (arith, h.least)) (omega (arith, h.most))

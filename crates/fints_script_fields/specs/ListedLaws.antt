@@ -21,7 +21,8 @@ listed_holds : {X : Type 0} (text : X → List ℕ) (P : List ℕ → Type 0) (x
     → All (λ x. P (text x)) xs → IsListed text xs v → P v
 listed_holds text P [] v each l = absurd l
 listed_holds text P (x ∷ xs) v each (inl e) = subst P e (All-head (λ y. P (text y)) x xs each)
-listed_holds text P (x ∷ xs) v each (inr l) = listed_holds text P xs v (All-tail (λ y. P (text y)) x xs each) l
+listed_holds text P (x ∷ xs) v each (inr l) =
+    listed_holds text P xs v (All-tail (λ y. P (text y)) x xs each) l
 
 listed_there : {X : Type 0} (text : X → List ℕ) (before after : List X) (x : X)
     → IsListed text (before ++ x ∷ after) (text x)
@@ -33,7 +34,8 @@ listed_there text (y ∷ before) after x = inr (listed_there text before after x
 -- the first best among `best` and what follows it, where a test says which of two sizes is better
 abbrev pub best_from : {X : Type 0} → (ℕ → ℕ → Bool) → (X → ℕ) → X → List X → X
 best_from better size best [] = best
-best_from better size best (x ∷ xs) = best_from better size (if better (size x) (size best) then x else best) xs
+best_from better size best (x ∷ xs) =
+    best_from better size (if better (size x) (size best) then x else best) xs
 
 -- a greater size is better
 abbrev longer : ℕ → ℕ → Bool
@@ -49,7 +51,8 @@ shortest_from size best xs = best_from nat_lt size best xs
 
 -- ---- the first that passes
 
-find_behind : {X : Type 0} (p : X → Bool) (before after : List X) (x : X) → All (λ y. p y ≡ false) before → p x ≡ true → find p (before ++ x ∷ after) ≡ Some x
+find_behind : {X : Type 0} (p : X → Bool) (before after : List X) (x : X) → All (λ y. p y ≡ false) before
+    → p x ≡ true → find p (before ++ x ∷ after) ≡ Some x
 find_behind p [] after x fails passes = rw passes refl
 find_behind p (y ∷ before) after x fails passes =
     let here : p y ≡ false = All-head (λ y. p y ≡ false) y before fails in
@@ -61,13 +64,16 @@ middle P (y ∷ before) after x each = middle P before after x (All-tail P y (be
 
 -- the first that passes is this, where a later test fails at it for all before it
 first_passes : {X : Type 0} (q : X → X → Bool) (before after : List X) (best : X)
-    → All (λ x. q x best ≡ false) before → All (λ y. q best y ≡ true) before → q best best ≡ true → All (λ y. q best y ≡ true) after
+    → All (λ x. q x best ≡ false) before → All (λ y. q best y ≡ true) before → q best best ≡ true
+    → All (λ y. q best y ≡ true) after
     → find (λ x. list_all (q x) (before ++ best ∷ after)) (before ++ best ∷ after) ≡ Some best
 first_passes {X} q before after best fails earlier here later =
     let xs : List X = before ++ best ∷ after in
     find_behind (λ x. list_all (q x) xs) before after best
-    (All-weaker (λ x. q x best ≡ false) (λ x. list_all (q x) xs ≡ false) (λ x no. elim (cases_Bool (list_all (q x) xs)) [
-      | inl all ↦ absurd (false≢true (sym no ∙ middle (λ y. q x y ≡ true) before after best (AllPass-from_list_all (q x) xs all)))
+    (All-weaker (λ x. q x best ≡ false) (λ x. list_all (q x) xs ≡ false)
+        (λ x no. elim (cases_Bool (list_all (q x) xs)) [
+      | inl all ↦ absurd (false≢true
+          (sym no ∙ middle (λ y. q x y ≡ true) before after best (AllPass-from_list_all (q x) xs all)))
       | inr not_all ↦ not_all
     ]) before fails)
     (list_all-from_AllPass (q best) xs
@@ -119,7 +125,8 @@ module _ (better within : ℕ → ℕ → Bool) (tests : AreTests better within)
                 | inl (e, all) ↦
                     subst P (sym e)
                     (inr
-                    (record { before = []; after = xs; place = refl; earlier = All-nil (IsWorse x); later = all }, h))
+                    (record { before = []; after = xs; place = refl; earlier = All-nil (IsWorse x);
+                        later = all }, h))
                 | inr (m, rise) ↦
                     inr (
                       record {
@@ -179,10 +186,12 @@ module _ (better within : ℕ → ℕ → Bool) (tests : AreTests better within)
         (All-append (IsNoBetter best) f.before (best ∷ f.after) (none_before f.before best f.earlier)
         (All-cons (IsNoBetter best) best f.after (tests.same (size best)) f.later))
 
-    found_best : (none : X) (xs : List X) (best : X) → IsFirstBest xs best → first_best within size none xs ≡ best
+    found_best : (none : X) (xs : List X) (best : X) → IsFirstBest xs best
+        → first_best within size none xs ≡ best
     found_best none xs best f =
         let at = first_passes (λ x y. within (size y) (size x)) f.before f.after best
-        (All-weaker (IsWorse best) (λ x. within (size best) (size x) ≡ false) (λ x h. tests.yes (size best) (size x) h)
+        (All-weaker (IsWorse best) (λ x. within (size best) (size x) ≡ false)
+            (λ x h. tests.yes (size best) (size x) h)
         f.before f.earlier)
         (none_before f.before best f.earlier) (tests.same (size best)) f.later in
         ap (first_best within size none) f.place ∙ ap (λ (o : Option X). unwrap_or o none) at
@@ -197,7 +206,8 @@ module _ (better within : ℕ → ℕ → Bool) (tests : AreTests better within)
     abbrev best_text : X → List X → List ℕ
     best_text none xs = text (first_best within (λ x. g (text x)) none xs)
 
-    best_most : (none : X) (xs : List X) (v : List ℕ) → IsListed text xs v → within (g v) (g (best_text none xs)) ≡ true
+    best_most : (none : X) (xs : List X) (v : List ℕ) → IsListed text xs v
+        → within (g v) (g (best_text none xs)) ≡ true
     best_most none [] v l = absurd l
     best_most none (x ∷ xs) v l =
         let size : X → ℕ = λ y. g (text y) in
@@ -213,7 +223,8 @@ module _ (better within : ℕ → ℕ → Bool) (tests : AreTests better within)
         let best = best_from better size x xs in
         let f = best_first size x xs in
         subst (λ y. IsListed text (x ∷ xs) (text y)) (sym (best_is size none x xs))
-        (subst (λ (l : List X). IsListed text l (text best)) (sym f.place) (listed_there text f.before f.after best))
+        (subst (λ (l : List X). IsListed text l (text best)) (sym f.place)
+            (listed_there text f.before f.after best))
 
 -- ---- the longest and the shortest
 
@@ -276,7 +287,8 @@ bytes_same a b h = let d = bytes_eq-Decides a b in grind (arith, nat_tests)
 bytes_other : (a b : List ℕ) → bytes_eq a b ≡ false → a ≡ b → ⊥
 bytes_other a b h e = let d = bytes_eq-Decides a b in grind (arith, nat_tests)
 
-pub account_found : (accounts : List (List (List ℕ))) (v : List ℕ) → IsListed account_text accounts v → account_text (first_with account_text [] accounts v) ≡ v
+pub account_found : (accounts : List (List (List ℕ))) (v : List ℕ) → IsListed account_text accounts v
+    → account_text (first_with account_text [] accounts v) ≡ v
 account_found [] v l = absurd l
 account_found (a ∷ more) v (inl e) =
     elim (cases_Bool (bytes_eq (account_text a) v)) [
@@ -296,7 +308,8 @@ found text P none [] v each l = absurd l
 found text P none (x ∷ xs) v each l =
     elim (cases_Bool (bytes_eq (text x) v)) [
       | inl h ↦ rw h (All-head P x xs each)
-      | inr h ↦ rw h (found text P none xs v (All-tail P x xs each) (elim l [ inl e ↦ absurd (bytes_other (text x) v h e) | inr m ↦ m ]))
+      | inr h ↦ rw h (found text P none xs v (All-tail P x xs each)
+          (elim l [ inl e ↦ absurd (bytes_other (text x) v h e) | inr m ↦ m ]))
     ]
 
 pub account_some : (accounts : List (List (List ℕ))) (v : List ℕ) → All IsAccountList accounts
@@ -319,5 +332,7 @@ below_greatest f (x ∷ xs) =
 pub account_most : (accounts : List (List (List ℕ))) (v : List ℕ) → IsListed account_text accounts v
     → length (account_items (first_with account_text [] accounts v)) ≤ greatest (map length accounts)
 account_most accounts v l =
-    let a = found account_text (λ a. length a ≤ greatest (map length accounts)) [] accounts v (below_greatest length accounts) l in
+    let a =
+        found account_text (λ a. length a ≤ greatest (map length accounts)) [] accounts v
+            (below_greatest length accounts) l in
     omega (arith, a, length-map (first_with account_text [] accounts v) Text)

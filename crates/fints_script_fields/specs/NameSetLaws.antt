@@ -34,7 +34,8 @@ names_more names name old new holds updates q =
 
 module _ {X : Type 0} (name_of : X → List ℕ) where
   -- a name that isn't among those of the values is new
-  unlisted_is_new : (xs : List X) (name : List ℕ) → (list_any (λ n. bytes_eq n name) (map name_of xs) ≡ false) ↔ All (λ x. name_of x ≢ name) xs
+  unlisted_is_new : (xs : List X) (name : List ℕ)
+      → (list_any (λ n. bytes_eq n name) (map name_of xs) ≡ false) ↔ All (λ x. name_of x ≢ name) xs
   unlisted_is_new [] name = (λ e. All-nil (λ x. name_of x ≢ name), λ h. refl)
   unlisted_is_new (x ∷ xs) name =
       let rest = unlisted_is_new xs name in
@@ -45,8 +46,11 @@ module _ {X : Type 0} (name_of : X → List ℕ) where
           λ h. absurd (All-head (λ x. name_of x ≢ name) x xs h ((bytes_eq-Decides (name_of x) name).0 same)),
         )
         | inr other ↦
-            let step : list_any (λ n. bytes_eq n name) (map name_of (x ∷ xs)) ≡ others = ap (λ (b : Bool). b || others) other in (
-              λ e. All-cons (λ x. name_of x ≢ name) x xs (λ is. false≢true (sym other ∙ (bytes_eq-Decides (name_of x) name).1 is)) (rest.0 (sym step ∙ e)),
+            let step : list_any (λ n. bytes_eq n name) (map name_of (x ∷ xs)) ≡ others =
+                ap (λ (b : Bool). b || others) other in (
+              λ e. All-cons (λ x. name_of x ≢ name) x xs
+                  (λ is. false≢true (sym other ∙ (bytes_eq-Decides (name_of x) name).1 is))
+                  (rest.0 (sym step ∙ e)),
               λ h. step ∙ rest.1 (All-tail (λ x. name_of x ≢ name) x xs h),
             )
       ]

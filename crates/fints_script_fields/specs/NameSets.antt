@@ -8,4 +8,5 @@ use Rattle.std.specs.Str.{bytes_eq}
 
 -- the set has these names and no others
 abbrev pub HoldsNames : List (List ℕ) → BTreeSet (List ℕ) → Type 0
-HoldsNames names set = (name : List ℕ) → contains (slice_cmp nat_cmp) set name ≡ list_any (λ n. bytes_eq n name) names
+HoldsNames names set =
+    (name : List ℕ) → contains (slice_cmp nat_cmp) set name ≡ list_any (λ n. bytes_eq n name) names

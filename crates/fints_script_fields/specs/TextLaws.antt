@@ -20,8 +20,10 @@ unit_cases b =
       | inl h ↦ inl (rw h refl)
       | inr h ↦ inr (
         rw h refl,
-        λ e. let no_match : true ≡ false = subst (λ (n : ℕ). (is_separator n || eqb n 63 || eqb n 64) ≡ false) e h in cc,
-        λ e. let no_match : true ≡ false = subst (λ (n : ℕ). (is_separator n || eqb n 63 || eqb n 64) ≡ false) e h in cc,
+        λ e. let no_match : true ≡ false =
+            subst (λ (n : ℕ). (is_separator n || eqb n 63 || eqb n 64) ≡ false) e h in cc,
+        λ e. let no_match : true ≡ false =
+            subst (λ (n : ℕ). (is_separator n || eqb n 63 || eqb n 64) ≡ false) e h in cc,
       )
     ]
 
@@ -43,7 +45,9 @@ one_unit c d p q e =
         | inl ed ↦
             let e' : c ∷ p ≡ 63 ∷ d ∷ q = sym (ap (λ (u : List ℕ). u ++ p) pc.0)
             ∙ (e ∙ ap (λ (u : List ℕ). u ++ q) ed) in absurd (pc.2 (heads c 63 p (d ∷ q) e').0)
-        | inr pd ↦ let e' : c ∷ p ≡ d ∷ q = sym (ap (λ (u : List ℕ). u ++ p) pc.0) ∙ (e ∙ ap (λ (u : List ℕ). u ++ q) pd.0) in heads c d p q e'
+        | inr pd ↦ let e' : c ∷ p ≡ d ∷ q =
+            sym (ap (λ (u : List ℕ). u ++ p) pc.0) ∙ (e ∙ ap (λ (u : List ℕ). u ++ q) pd.0) in
+            heads c d p q e'
       ]
     ]
 
@@ -60,8 +64,11 @@ ends_some d q r e other (inr (p, some)) = other (heads d 58 q p (e ∙ some)).0
 no_unit : (d : ℕ) (q r : List ℕ) → U d ++ q ≡ r → Ends r → ⊥
 no_unit d q r e end =
     elim (unit_cases d) [
-      | inl ed ↦ let e' : 63 ∷ d ∷ q ≡ r = sym (ap (λ (u : List ℕ). u ++ q) ed) ∙ e in ends_some 63 (d ∷ q) r e' (λ no. absurd (omega (arith, no))) end
-      | inr pd ↦ let e' : d ∷ q ≡ r = sym (ap (λ (u : List ℕ). u ++ q) pd.0) ∙ e in ends_some d q r e' pd.1 end
+      | inl ed ↦ let e' : 63 ∷ d ∷ q ≡ r =
+          sym (ap (λ (u : List ℕ). u ++ q) ed) ∙ e in
+          ends_some 63 (d ∷ q) r e' (λ no. absurd (omega (arith, no))) end
+      | inr pd ↦ let e' : d ∷ q ≡ r =
+          sym (ap (λ (u : List ℕ). u ++ q) pd.0) ∙ e in ends_some d q r e' pd.1 end
     ]
 
 tell : (x y r s : List ℕ) → Ends r → Ends s → W x ++ r ≡ W y ++ s → (x ≡ y) × (r ≡ s)
@@ -69,7 +76,9 @@ tell [] [] r s a b e = (refl, e)
 tell [] (d ∷ y) r s a b e = absurd (no_unit d (W y ++ s) r (sym (e ∙ append_assoc (U d) (W y) s)) a)
 tell (c ∷ x) [] r s a b e = absurd (no_unit c (W x ++ r) s (sym (append_assoc (U c) (W x) r) ∙ e) b)
 tell (c ∷ x) (d ∷ y) r s a b e =
-    let two = one_unit c d (W x ++ r) (W y ++ s) (sym (append_assoc (U c) (W x) r) ∙ (e ∙ append_assoc (U d) (W y) s)) in
+    let two =
+        one_unit c d (W x ++ r) (W y ++ s)
+            (sym (append_assoc (U c) (W x) r) ∙ (e ∙ append_assoc (U d) (W y) s)) in
     let rest = tell x y r s a b two.1 in
     (ap (λ (n : ℕ). n ∷ x) two.0 ∙ ap (λ (z : List ℕ). d ∷ z) rest.0, rest.1)
 
@@ -82,18 +91,27 @@ text_tells (x ∷ []) (y ∷ []) some_a some_b e =
     let t = tell x y [] [] (inl refl) (inl refl) (append-nil (W x) ∙ (e ∙ sym (append-nil (W y)))) in
     ap (λ (z : List ℕ). z ∷ []) t.0
 text_tells (x ∷ []) (y ∷ z ∷ b) some_a some_b e =
-    let t = tell x y [] (58 ∷ account_text (z ∷ b)) (inl refl) (inr (account_text (z ∷ b), refl)) (append-nil (W x) ∙ e) in
+    let t =
+        tell x y [] (58 ∷ account_text (z ∷ b)) (inl refl) (inr (account_text (z ∷ b), refl))
+            (append-nil (W x) ∙ e) in
     let no_match : [] ≡ 58 ∷ account_text (z ∷ b) = t.1 in cc
 text_tells (x ∷ w ∷ a) (y ∷ []) some_a some_b e =
-    let t = tell x y (58 ∷ account_text (w ∷ a)) [] (inr (account_text (w ∷ a), refl)) (inl refl) (e ∙ sym (append-nil (W y))) in
+    let t =
+        tell x y (58 ∷ account_text (w ∷ a)) [] (inr (account_text (w ∷ a), refl)) (inl refl)
+            (e ∙ sym (append-nil (W y))) in
     let no_match : 58 ∷ account_text (w ∷ a) ≡ [] = t.1 in cc
 text_tells (x ∷ w ∷ a) (y ∷ z ∷ b) some_a some_b e =
-    let t = tell x y (58 ∷ account_text (w ∷ a)) (58 ∷ account_text (z ∷ b)) (inr (account_text (w ∷ a), refl)) (inr (account_text (z ∷ b), refl)) e in
-    let rest = text_tells (w ∷ a) (z ∷ b) (omega arith) (omega arith) (heads 58 58 (account_text (w ∷ a)) (account_text (z ∷ b)) t.1).1 in
+    let t =
+        tell x y (58 ∷ account_text (w ∷ a)) (58 ∷ account_text (z ∷ b)) (inr (account_text (w ∷ a), refl))
+            (inr (account_text (z ∷ b), refl)) e in
+    let rest =
+        text_tells (w ∷ a) (z ∷ b) (omega arith) (omega arith)
+            (heads 58 58 (account_text (w ∷ a)) (account_text (z ∷ b)) t.1).1 in
     ap (λ (n : List ℕ). n ∷ w ∷ a) t.0 ∙ ap (λ (l : List (List ℕ)). y ∷ l) rest
 
 -- the text with the number of items tells the items, even where there are none
-pub text_and_count_tell : (a b : List (List ℕ)) → account_text a ≡ account_text b → length a ≡ length b → a ≡ b
+pub text_and_count_tell : (a b : List (List ℕ)) → account_text a ≡ account_text b → length a ≡ length b
+    → a ≡ b
 text_and_count_tell [] [] same count = refl
 text_and_count_tell [] (y ∷ b) same count = absurd (omega (arith, count))
 text_and_count_tell (x ∷ a) [] same count = absurd (omega (arith, count))

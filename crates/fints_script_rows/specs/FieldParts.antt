@@ -27,7 +27,9 @@ text_is (array ds) text e = absurd cc
 text_is (table ms) text e = absurd cc
 
 new_is : (taken : Bool) (text name : List ℕ) → new_name taken text ≡ Ok name → (text ≡ name) × (taken ≡ false)
-new_is taken text name e = elim (choice_ok (is_name text) (cond taken (Err kinds.Duplicate) (Ok text)) (Err kinds.WrongKind) name e) [
+new_is taken text name e =
+    elim (choice_ok (is_name text) (cond taken (Err kinds.Duplicate) (Ok text)) (Err kinds.WrongKind) name e)
+        [
   | inr f ↦ absurd (let h = f.1 in cc)
   | inl t ↦ elim (choice_ok taken (Err kinds.Duplicate) (Ok text) name t.1) [
     | inl u ↦ absurd (let h = u.1 in cc)
@@ -36,13 +38,15 @@ new_is taken text name e = elim (choice_ok (is_name text) (cond taken (Err kinds
 ]
 
 -- a row that has a name tells it, and it is not taken
-pub row_named : (taken : List ℕ → Bool) (ms : Members) (name : List ℕ) → row_name taken ms ≡ Ok name → (name_in (table ms) ≡ Some name) × (taken name ≡ false)
+pub row_named : (taken : List ℕ → Bool) (ms : Members) (name : List ℕ) → row_name taken ms ≡ Ok name
+    → (name_in (table ms) ≡ Some name) × (taken name ≡ false)
 row_named taken ms name e =
     let read = bind_ok (name_text ms) (λ text. new_name (taken text) text) name e in
     let value = bind_ok (required (codes "name") ms) text_of_name read.0 read.1 in
     let new = new_is (taken read.0) read.0 name read.2 in
     let there = or_ok (get_member (codes "name") ms) kinds.Missing value.0 value.1 in
-    (ap (option_and_then as_str) (there ∙ ap Some (text_is value.0 read.0 value.2)) ∙ ap Some new.0, ap taken (sym new.0) ∙ new.1)
+    (ap (option_and_then as_str) (there ∙ ap Some (text_is value.0 read.0 value.2)) ∙ ap Some new.0,
+        ap taken (sym new.0) ∙ new.1)
 
 -- ---- fields
 

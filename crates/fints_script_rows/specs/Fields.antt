@@ -48,7 +48,8 @@ lengths_in ms = both (length_at (codes "min") ms) (length_at (codes "max") ms)
 
 -- a class of these bounds, from a least one on
 abbrev pub sized : ℕ → (ℕ → ℕ → ClassValue) → ℕ × ℕ → Part ClassValue
-sized least class (min, max) = if nat_le least min && nat_le min max then Ok (class min max) else Err kinds.Limit
+sized least class (min, max) =
+    if nat_le least min && nat_le min max then Ok (class min max) else Err kinds.Limit
 
 -- ---- listed values
 
@@ -83,7 +84,8 @@ abbrev pub is_short : List ℕ → Bool
 is_short s = nat_le (length s) MAX_LEN
 
 -- a class of these values: no two are the same, there are neither none nor too many, and each fits
-abbrev pub listing : {X : Type 0} → (X → X → Bool) → (X → Bool) → (List X → ClassValue) → List X → Part ClassValue
+abbrev pub listing : {X : Type 0} → (X → X → Bool) → (X → Bool) → (List X → ClassValue) → List X
+    → Part ClassValue
 listing same fits class values =
     if some_are_same same values then Err kinds.Duplicate
     else if is_value_count (length values) && list_all fits values then Ok (class values)
@@ -144,7 +146,9 @@ abbrev pub is_taken_field : List Data → List ℕ → Bool
 is_taken_field earlier name = bytes_eq name (codes "dialog") || list_any (is_called name) earlier
 
 unfoldable pub table_field : List Data → Members → Part (List ℕ × ClassValue)
-table_field earlier ms = if only_keys (field_keys (class_of ms)) ms then both (row_name (is_taken_field earlier) ms) (class_in ms) else Err kinds.UnknownKey
+table_field earlier ms =
+    if only_keys (field_keys (class_of ms)) ms then both (row_name (is_taken_field earlier) ms) (class_in ms)
+    else Err kinds.UnknownKey
 
 -- the name and the class of an entry behind earlier ones
 abbrev pub field_in : List Data → Data → Part (List ℕ × ClassValue)

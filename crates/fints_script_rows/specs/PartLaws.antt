@@ -18,11 +18,13 @@ use Rattle.fints_script_rows.specs.declared.fault.ScriptFault.{ScriptFault}
 
 -- ---- parts that have a value
 
-pub bind_ok : {X Y F : Type 0} (p : Result X F) (of : X → Result Y F) (y : Y) → (p >>= of) ≡ Ok y → (x : X) × (p ≡ Ok x) × (of x ≡ Ok y)
+pub bind_ok : {X Y F : Type 0} (p : Result X F) (of : X → Result Y F) (y : Y) → (p >>= of) ≡ Ok y
+    → (x : X) × (p ≡ Ok x) × (of x ≡ Ok y)
 bind_ok (Ok x) of y e = (x, refl, e)
 bind_ok (Err k) of y e = absurd cc
 
-pub both_ok : {X Y : Type 0} (p : Part X) (q : Part Y) (z : X × Y) → both p q ≡ Ok z → (p ≡ Ok z.0) × (q ≡ Ok z.1)
+pub both_ok : {X Y : Type 0} (p : Part X) (q : Part Y) (z : X × Y) → both p q ≡ Ok z
+    → (p ≡ Ok z.0) × (q ≡ Ok z.1)
 both_ok (Ok x) (Ok y) z e = (cc, cc)
 both_ok (Ok x) (Err k) z e = absurd cc
 both_ok (Err j) (Ok y) z e = absurd cc
@@ -37,7 +39,8 @@ next_ok (Err j) (Ok x) y e = absurd cc
 next_ok (Err j) (Err k) y e = absurd cc
 
 -- a choice that has a value
-pub choice_ok : {X F : Type 0} (b : Bool) (p q : Result X F) (x : X) → cond b p q ≡ Ok x → (b ≡ true) × (p ≡ Ok x) ⊎ (b ≡ false) × (q ≡ Ok x)
+pub choice_ok : {X F : Type 0} (b : Bool) (p q : Result X F) (x : X) → cond b p q ≡ Ok x
+    → (b ≡ true) × (p ≡ Ok x) ⊎ (b ≡ false) × (q ≡ Ok x)
 choice_ok true p q x e = inl (refl, e)
 choice_ok false p q x e = inr (refl, e)
 
@@ -85,7 +88,8 @@ module _ {X Y : Type 0} where
   near see (Err k) part (inr e) = inr e
 
   -- what is near a part that was given is near what it is near to
-  gives_near : (see : X → Y) (r : Result X FaultKind) (p q : Part Y) → Gives see r p → Near p q → Gives see r q
+  gives_near : (see : X → Y) (r : Result X FaultKind) (p q : Part Y) → Gives see r p → Near p q
+      → Gives see r q
   gives_near see (Ok x) p q h (inl m) = absurd cc
   gives_near see (Ok x) p q h (inr e) = e ∙ h
   gives_near see (Err k) p q (inl m) n = inl m
@@ -128,7 +132,8 @@ pub exact_gives : {X : Type 0} → (r part : Part X) → r ≡ part → Gives (�
 exact_gives r part e = subst (Gives (λ x. x) r) e (itself r)
 
 -- a fault, handed on
-pub fault_gives : {X Y Z : Type 0} → (see : X → Y) (look : Z → Y) (r : Result X FaultKind) (kind : FaultKind) (part : Part Y)
+pub fault_gives : {X Y Z : Type 0}
+    → (see : X → Y) (look : Z → Y) (r : Result X FaultKind) (kind : FaultKind) (part : Part Y)
     → Gives see r part → r ≡ Err kind → Gives look (Err kind) part
 fault_gives see look (Ok x) kind part h e = absurd cc
 fault_gives {Y = Y} {Z = Z} see look (Err k) kind part h e =
@@ -136,12 +141,14 @@ fault_gives {Y = Y} {Z = Z} see look (Err k) kind part h e =
     subst (λ j. Gives {X = Z} look (Err j) part) same h
 
 -- what a call gives is given by what is seen of its value
-pub gives_seen : {X Y : Type 0} → (see : X → Y) (r : Result X FaultKind) (part : Part Y) → Gives see r part → Gives (λ y. y) (seen see r) part
+pub gives_seen : {X Y : Type 0} → (see : X → Y) (r : Result X FaultKind) (part : Part Y) → Gives see r part
+    → Gives (λ y. y) (seen see r) part
 gives_seen see (Ok x) part h = h
 gives_seen see (Err k) part h = h
 
 -- a call's result that is near a part gives it
-near_gives : {X Y : Type 0} → (see : X → Y) (r : Result X FaultKind) (part : Part Y) → Near (seen see r) part → Gives see r part
+near_gives : {X Y : Type 0} → (see : X → Y) (r : Result X FaultKind) (part : Part Y) → Near (seen see r) part
+    → Gives see r part
 near_gives see (Ok x) part (inl m) = absurd cc
 near_gives see (Ok x) part (inr e) = e
 near_gives see (Err k) part (inl m) = inl (cc)
@@ -162,7 +169,8 @@ pub both_gives : {X Y U V : Type 0}
     → Gives (λ (z : X × Y). (see z.0, look z.1)) (both a b) (both p q)
 both_gives see look a b p q h i =
     near_gives (λ z. (see z.0, look z.1)) (both a b) (both p q)
-    (subst (λ r. Near r (both p q)) (seen_both see look a b) (both_near (seen see a) p (seen look b) q (near see a p h) (near look b q i)))
+    (subst (λ r. Near r (both p q)) (seen_both see look a b)
+        (both_near (seen see a) p (seen look b) q (near see a p h) (near look b q i)))
 
 -- a table of three keys, by the first two together
 pub three_keys : {X Y Z V : Type 0} → (of : X → Y → Z → V) (p : Part X) (q : Part Y) (r : Part Z)
@@ -189,7 +197,8 @@ applied_gives : {Z V W : Type 0}
     → Gives (λ z. (see z).0 (see z).1) r (part >>= λ v. Ok (v.0 v.1))
 applied_gives {V = V} {W = W} see (Ok z) part e = ap (λ (p : Part ((V → W) × V)). p >>= λ v. Ok (v.0 v.1)) e
 applied_gives see (Err k) part (inl m) = inl m
-applied_gives {V = V} {W = W} see (Err k) part (inr e) = inr (ap (λ (p : Part ((V → W) × V)). p >>= λ v. Ok (v.0 v.1)) e)
+applied_gives {V = V} {W = W} see (Err k) part (inr e) =
+    inr (ap (λ (p : Part ((V → W) × V)). p >>= λ v. Ok (v.0 v.1)) e)
 
 -- what the calls for the keys so far give, and the one for the next key, together
 pub next_gives : {X Y V W : Type 0}
@@ -198,14 +207,17 @@ pub next_gives : {X Y V W : Type 0}
     → Gives see a p → Gives look b q → r ≡ both a b → Gives (λ (z : X × Y). see z.0 (look z.1)) r (p <*> q)
 next_gives {X = X} {Y = Y} see look a b r p q h i is =
     subst (λ (s : Result (X × Y) FaultKind). Gives (λ (z : X × Y). see z.0 (look z.1)) s (p <*> q)) (sym is)
-    (applied_gives (λ (z : X × Y). (see z.0, look z.1)) (both a b) (both p q) (both_gives see look a b p q h i))
+    (applied_gives (λ (z : X × Y). (see z.0, look z.1)) (both a b) (both p q)
+        (both_gives see look a b p q h i))
 
 -- what a call gives at a place
 pub placed_finds : {X Y : Type 0} → (see : X → Y) (place : Place) (r : Result X FaultKind) (part : Part Y)
     → Gives see r part → Finds see (placed place r) (part_at place part)
 placed_finds see place (Ok x) part h = ap (part_at place) h
-placed_finds see place (Err k) part (inl m) = subst (λ j. Finds see (placed place (Err j)) (part_at place part)) (sym m) (inl refl)
-placed_finds {Y = Y} see place (Err k) part (inr e) = subst (λ (q : Part Y). Finds see (placed place (Err k)) (part_at place q)) (sym e) (at_kind k)
+placed_finds see place (Err k) part (inl m) =
+    subst (λ j. Finds see (placed place (Err j)) (part_at place part)) (sym m) (inl refl)
+placed_finds {Y = Y} see place (Err k) part (inr e) =
+    subst (λ (q : Part Y). Finds see (placed place (Err k)) (part_at place q)) (sym e) (at_kind k)
   where
     at_kind : (j : FaultKind) → Finds see (placed place (Err j)) (Err (fault_at place j))
     at_kind kinds.Memory = inl refl
@@ -224,7 +236,8 @@ placed_finds {Y = Y} see place (Err k) part (inr e) = subst (λ (q : Part Y). Fi
 -- ---- lists
 
 module _ {X : Type 0} where
-  later_more : (a : Part X) (xs : Part (List X)) (b : Part X) → (both a (more xs b) >>= λ p. Ok (p.0 ∷ p.1)) ≡ more (both a xs >>= λ p. Ok (p.0 ∷ p.1)) b
+  later_more : (a : Part X) (xs : Part (List X)) (b : Part X)
+      → (both a (more xs b) >>= λ p. Ok (p.0 ∷ p.1)) ≡ more (both a xs >>= λ p. Ok (p.0 ∷ p.1)) b
   later_more (Ok x) (Ok xs) (Ok y) = refl
   later_more (Ok x) (Ok xs) (Err k) = refl
   later_more (Ok x) (Err j) (Ok y) = refl
@@ -248,20 +261,24 @@ module _ {X : Type 0} where
 
 module _ {X Y : Type 0} where
   -- the values of a list with one more element
-  pub each_more : (part : Y → Part X) (ys : List Y) (y : Y) → each part (ys ++ y ∷ []) ≡ more (each part ys) (part y)
+  pub each_more : (part : Y → Part X) (ys : List Y) (y : Y)
+      → each part (ys ++ y ∷ []) ≡ more (each part ys) (part y)
   each_more part [] y = one_more (part y)
   each_more part (z ∷ ys) y =
       ap (λ (p : Part (List X)). both (part z) p >>= λ p. Ok (p.0 ∷ p.1)) (each_more part ys y)
       ∙ later_more (part z) (each part ys) (part y)
 
   -- what holds of each value of the part holds of the values of a list
-  pub each_all : (part : Y → Part X) (P : X → Type 0) → ((y : Y) (x : X) → part y ≡ Ok x → P x) → (ys : List Y) (xs : List X) → each part ys ≡ Ok xs → All P xs
+  pub each_all : (part : Y → Part X) (P : X → Type 0) → ((y : Y) (x : X) → part y ≡ Ok x → P x)
+      → (ys : List Y) (xs : List X) → each part ys ≡ Ok xs → All P xs
   each_all part P has [] xs e = let none : xs ≡ [] = cc in subst (All P) (sym none) (All-nil P)
   each_all part P has (y ∷ ys) xs e =
       let parts = first_and_rest (part y) (each part ys) xs e in
-      subst (All P) (sym parts.4) (All-cons P parts.0 parts.1 (has y parts.0 parts.2) (each_all part P has ys parts.1 parts.3))
+      subst (All P) (sym parts.4)
+          (All-cons P parts.0 parts.1 (has y parts.0 parts.2) (each_all part P has ys parts.1 parts.3))
 
-  pub each_length : (part : Y → Part X) (ys : List Y) (xs : List X) → each part ys ≡ Ok xs → length xs ≡ length ys
+  pub each_length : (part : Y → Part X) (ys : List Y) (xs : List X) → each part ys ≡ Ok xs
+      → length xs ≡ length ys
   each_length part [] xs e = let none : xs ≡ [] = cc in ap length none
   each_length part (y ∷ ys) xs e =
       let parts = first_and_rest (part y) (each part ys) xs e in
@@ -285,7 +302,8 @@ each_step see part vs i v items r item h is so_far one step =
     (near see items (each part (map view (take i vs))) so_far)
     (near_same item (part (view v)) one)) in
     gives_near see r (more (seen see items) item) (each part (map view (take (i + 1) vs))) step
-    (subst (Near (more (seen see items) item)) (sym (each_more part (map view (take i vs)) (view v)) ∙ ap (each part) entries) near_more)
+    (subst (Near (more (seen see items) item))
+        (sym (each_more part (map view (take i vs)) (view v)) ∙ ap (each part) entries) near_more)
 
 -- ---- rows
 
@@ -308,7 +326,9 @@ module _ {X : Type 0} (place : ℕ → Place) (part : ℕ → Data → Part X) w
       → (x : X) × (rest : List X) × (part k d ≡ Ok x) × (rows_from place part (k + 1) ds ≡ Ok rest)
       × (xs ≡ x ∷ rest)
   rows_first k d ds xs e =
-      let one = bind_ok (part_at (place (k + 1)) (part k d)) (λ y. rows_from place part (k + 1) ds >>= λ ys. Ok (y ∷ ys)) xs e in
+      let one =
+          bind_ok (part_at (place (k + 1)) (part k d))
+              (λ y. rows_from place part (k + 1) ds >>= λ ys. Ok (y ∷ ys)) xs e in
       let two = bind_ok (rows_from place part (k + 1) ds) (λ ys. Ok (one.0 ∷ ys)) xs one.2 in
       (one.0, two.0, part_ok (place (k + 1)) (part k d) one.0 one.1, two.1, (let h = two.2 in cc))
 
@@ -321,7 +341,8 @@ module _ {X : Type 0} (place : ℕ → Place) (part : ℕ → Data → Part X) w
       let none : xs ≡ [] = cc in
       let at : k + 0 ≡ k = omega arith in
       let first : part k c ≡ Ok x = ap (part k) here ∙ (subst (λ n. part n d ≡ Ok x) at e) in
-      joined (place (k + 1)) (part k c) (Ok []) x [] first refl ∙ ap (λ (ys : List X). Ok (ys ++ x ∷ [])) (sym none)
+      joined (place (k + 1)) (part k c) (Ok []) x [] first refl
+          ∙ ap (λ (ys : List X). Ok (ys ++ x ∷ [])) (sym none)
   more_from (c ∷ ds) k (suc i) xs x d is h e =
       let parts = rows_first k c (take i ds) xs h in
       let at : k + suc i ≡ (k + 1) + i = omega arith in
@@ -347,7 +368,8 @@ module _ {X : Type 0} (place : ℕ → Place) (part : ℕ → Data → Part X) w
       let parts = rows_first k c (take i ds) xs h in
       let at : k + suc i ≡ (k + 1) + i = omega arith in
       let rest = stop_from ds (k + 1) i parts.1 kind d is parts.3 (subst (λ n. part n d ≡ Err kind) at e) in
-      ap (λ (q : Part X). part_at (place (k + 1)) q >>= λ y. rows_from place part (k + 1) ds >>= λ ys. Ok (y ∷ ys)) parts.2
+      ap (λ (q : Part X). part_at (place (k + 1)) q >>= λ y. rows_from place part (k + 1) ds
+          >>= λ ys. Ok (y ∷ ys)) parts.2
       ∙ ap (λ (r : Result (List X) ScriptFault). r >>= λ ys. Ok (parts.0 ∷ ys)) rest
       ∙ ap (λ n. Err (fault_at (place (n + 1)) kind)) (sym at)
 
@@ -368,9 +390,12 @@ module _ {X : Type 0} (place : ℕ → Place) (part : ℕ → Data → Part X) w
       stop_from ds 0 i xs kind d is h (subst (λ n. part n d ≡ Err kind) (from_zero i) e)
       ∙ ap (λ n. Err (fault_at (place (n + 1)) kind)) (sym (from_zero i))
 
-  length_from : (ds : List Data) (k : ℕ) (xs : List X) → rows_from place part k ds ≡ Ok xs → length xs ≡ length ds
+  length_from : (ds : List Data) (k : ℕ) (xs : List X) → rows_from place part k ds ≡ Ok xs
+      → length xs ≡ length ds
   length_from [] k xs h = let none : xs ≡ [] = cc in ap length none
-  length_from (d ∷ ds) k xs h = let parts = rows_first k d ds xs h in ap length parts.4 ∙ ap suc (length_from ds (k + 1) parts.1 parts.3)
+  length_from (d ∷ ds) k xs h =
+      let parts = rows_first k d ds xs h in
+      ap length parts.4 ∙ ap suc (length_from ds (k + 1) parts.1 parts.3)
 
   pub rows_length : (ds : List Data) (xs : List X) → rows_from place part 0 ds ≡ Ok xs → length xs ≡ length ds
   rows_length ds xs h = length_from ds 0 xs h
@@ -382,14 +407,18 @@ module _ {X : Type 0} (place : ℕ → Place) (part : ℕ → Data → Part X) w
       let parts = rows_first k c ds xs h in
       let here : c ≡ d = same_Some c d is in
       let at : k ≡ k + 0 = omega arith in
-      (parts.0, ap (λ (ys : List X). slice_get ys 0) parts.4, subst (λ n. part n d ≡ Ok parts.0) at (ap (part k) (sym here) ∙ parts.2))
+      (parts.0, ap (λ (ys : List X). slice_get ys 0) parts.4,
+          subst (λ n. part n d ≡ Ok parts.0) at (ap (part k) (sym here) ∙ parts.2))
   at_from (c ∷ ds) k xs (suc i) d h is =
       let parts = rows_first k c ds xs h in
       let rest = at_from ds (k + 1) parts.1 i d parts.3 is in
       let at : (k + 1) + i ≡ k + suc i = omega arith in
-      (rest.0, ap (λ (ys : List X). slice_get ys (suc i)) parts.4 ∙ rest.1, subst (λ n. part n d ≡ Ok rest.0) at rest.2)
+      (rest.0, ap (λ (ys : List X). slice_get ys (suc i)) parts.4 ∙ rest.1,
+          subst (λ n. part n d ≡ Ok rest.0) at rest.2)
 
   -- the value of the row at a place
   pub rows_at : (ds : List Data) (xs : List X) (i : ℕ) (d : Data) → rows_from place part 0 ds ≡ Ok xs
       → slice_get ds i ≡ Some d → (x : X) × (slice_get xs i ≡ Some x) × (part i d ≡ Ok x)
-  rows_at ds xs i d h is = let found = at_from ds 0 xs i d h is in (found.0, found.1, subst (λ n. part n d ≡ Ok found.0) (sym (from_zero i)) found.2)
+  rows_at ds xs i d h is =
+      let found = at_from ds 0 xs i d h is in
+      (found.0, found.1, subst (λ n. part n d ≡ Ok found.0) (sym (from_zero i)) found.2)

@@ -11,7 +11,8 @@ parsed text = if is_name text then Some text else None
 
 -- a text that is a name, and not one that is taken
 abbrev pub new_name : Bool → List ℕ → Part (List ℕ)
-new_name taken text = if is_name text then if taken then Err kinds.Duplicate else Ok text else Err kinds.WrongKind
+new_name taken text =
+    if is_name text then if taken then Err kinds.Duplicate else Ok text else Err kinds.WrongKind
 
 -- the text at `name`
 abbrev pub text_of_name : Data → Part (List ℕ)

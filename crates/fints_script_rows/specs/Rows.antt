@@ -26,9 +26,11 @@ part_at place (Ok x) = Ok x
 part_at place (Err kind) = Err (fault_at place kind)
 
 -- the values of rows, or the fault of the first row that has one; this list begins with row i, rows count from 0, and from 1 in their places
-abbrev pub rows_from : {X : Type 0} → (ℕ → Place) → (ℕ → Data → Part X) → ℕ → List Data → Result (List X) ScriptFault
+abbrev pub rows_from : {X : Type 0} → (ℕ → Place) → (ℕ → Data → Part X) → ℕ → List Data
+    → Result (List X) ScriptFault
 rows_from place part i [] = Ok []
-rows_from place part i (row ∷ rows) = part_at (place (i + 1)) (part i row) >>= λ x. rows_from place part (i + 1) rows >>= λ xs. Ok (x ∷ xs)
+rows_from place part i (row ∷ rows) =
+    part_at (place (i + 1)) (part i row) >>= λ x. rows_from place part (i + 1) rows >>= λ xs. Ok (x ∷ xs)
 
 -- want of memory has no place of its own
 abbrev pub no_memory : ScriptFault

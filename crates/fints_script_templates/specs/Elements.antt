@@ -19,11 +19,14 @@ use Rattle.fints_script_templates.specs.declared.template.TemplateItem.TheVarian
 -- the field at a place; one of listed accounts stands only where it may (free)
 abbrev pub field_at : List NamedField → Bool → Option ℕ → Part TemplateItem
 field_at fields free None = Err kinds.NoSuchName
-field_at fields free (Some place) = if not free && is_account_at (slice_get fields place) then Err kinds.WrongKind else Ok (items.Field place)
+field_at fields free (Some place) =
+    if not free && is_account_at (slice_get fields place) then Err kinds.WrongKind else Ok (items.Field place)
 
 -- `$dialog` is the dialogue id, and `$` with another name the field of that name
 abbrev pub reference_in : List NamedField → Bool → List ℕ → Part TemplateItem
-reference_in fields free name = if bytes_eq name (codes "dialog") then Ok items.Dialog else field_at fields free (place_of_field fields name)
+reference_in fields free name =
+    if bytes_eq name (codes "dialog") then Ok items.Dialog
+    else field_at fields free (place_of_field fields name)
 
 -- the binary item of bytes that were read
 abbrev pub bin_of : {E : Type 0} → Result (List ℕ) E → Part TemplateItem

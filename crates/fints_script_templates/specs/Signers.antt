@@ -16,7 +16,8 @@ use Rattle.fints_script_templates.specs.declared.template.Signer.{Signer}
 
 -- elements of not too many items; each counts once, since no account field stands there
 abbrev pub few_items : List (List TemplateItem) → Part (List (List TemplateItem))
-few_items elements = if nat_lt MAX_TEMPLATE_ITEMS (total length elements) then Err kinds.Limit else Ok elements
+few_items elements =
+    if nat_lt MAX_TEMPLATE_ITEMS (total length elements) then Err kinds.Limit else Ok elements
 
 -- the elements of a signer's segment or of the seal, where no account field may stand
 abbrev pub frame_in : List NamedField → Data → Part (List (List TemplateItem))

@@ -43,7 +43,9 @@ pub record IsFed (old : Buffered) (piece : List ℕ) (placed : List Placed) (new
   pub within : old.at + length (old.bytes ++ piece) ≤ MAX_CAPTURE
   pub read : ReadTo
   pub is_read : IsReadTo (rest_with old piece) placed read
-  pub new_is : new ≡ record { bytes = old.bytes ++ piece; at = old.at; to = record { whole = old.to.whole + read.whole; rest = read.rest }; failed = None }
+  pub new_is : new
+      ≡ record { bytes = old.bytes ++ piece; at = old.at;
+          to = record { whole = old.to.whole + read.whole; rest = read.rest }; failed = None }
 
 -- after a fault its offset alone is kept
 pub record IsHalted (old : Buffered) (offset : ℕ) (new : Buffered) : Type 0 where
@@ -60,7 +62,8 @@ failed_at offset = record { kind = Failed; offset = offset }
 abbrev pub IsFeedFault : Buffered → List ℕ → SyntaxFault → Buffered → Type 0
 IsFeedFault old piece f new =
     (IsMemory f × (new ≡ old))
-    ⊎ ((o : ℕ) × (f.offset ≡ rest_at old + o) × PieceFaultAt (MAX_CAPTURE - rest_at old) f.kind o (rest_with old piece) × IsHalted old f.offset new)
+    ⊎ ((o : ℕ) × (f.offset ≡ rest_at old + o)
+        × PieceFaultAt (MAX_CAPTURE - rest_at old) f.kind o (rest_with old piece) × IsHalted old f.offset new)
 
 -- why a piece is refused, and what is kept then
 abbrev pub IsUnfed : Option ℕ → Buffered → List ℕ → SyntaxFault → Buffered → Type 0
@@ -69,4 +72,6 @@ IsUnfed None old piece f new = IsFeedFault old piece f new
 
 -- the bytes that whole segments take are given up
 abbrev pub without_whole : Buffered → Buffered
-without_whole b = record { bytes = drop b.to.whole b.bytes; at = rest_at b; to = record { whole = 0; rest = b.to.rest }; failed = b.failed }
+without_whole b =
+    record { bytes = drop b.to.whole b.bytes; at = rest_at b; to = record { whole = 0; rest = b.to.rest };
+        failed = b.failed }

@@ -6,7 +6,8 @@ use Rattle.fints_syntax.specs.declared.capture.TheConstants.{MAX_CAPTURE}
 use Rattle.fints_syntax.specs.declared.feeder.Feeder.TheInside.{Inside}
 
 abbrev pub fed_of : Inside → Fed
-fed_of f = record { rest = f.buffer.bytes; at = f.buffer.at; failed = f.buffer.failed; places = f.places.items }
+fed_of f =
+    record { rest = f.buffer.bytes; at = f.buffer.at; failed = f.buffer.failed; places = f.places.items }
 
 -- what is kept is the rest alone, which holds no whole segment
 pub record IsFeeder (f : Inside) : Type 0 where

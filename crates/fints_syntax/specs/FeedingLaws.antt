@@ -44,4 +44,5 @@ FaultIsOfStream =
 abbrev pub EndedIsCapture : Type 0
 EndedIsCapture =
     (stream : List ℕ) (segments : List OwnedSegment) (fed : Fed) → HasGiven stream segments fed → IsEnded fed
-    → (placed : List Placed) × IsPlacedCapture stream placed × (segments ≡ map (λ p. segment_of p.segment) placed)
+    → (placed : List Placed) × IsPlacedCapture stream placed
+    × (segments ≡ map (λ p. segment_of p.segment) placed)

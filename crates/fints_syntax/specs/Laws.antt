@@ -19,11 +19,15 @@ use Rattle.fints_syntax_segments.specs.declared.item.OwnedSegment.{OwnedSegment}
 
 -- a byte list begins with at most one segment text, and that is the text of one segment
 abbrev pub OneSegmentText : Type 0
-OneSegmentText = (es fs : List (List Spelled)) (x y : List ℕ) → IsFramed es → IsFramed fs → segment_bytes es ++ x ≡ segment_bytes fs ++ y → es ≡ fs
+OneSegmentText =
+    (es fs : List (List Spelled)) (x y : List ℕ) → IsFramed es → IsFramed fs
+    → segment_bytes es ++ x ≡ segment_bytes fs ++ y → es ≡ fs
 
 -- whatever follows the text of a segment, a segment is read at the front
 abbrev pub SegmentIsRead : Type 0
-SegmentIsRead = (es : List (List Spelled)) (rest : List ℕ) → IsSegment es → BeginsWithSegment (window_of (segment_bytes es ++ rest))
+SegmentIsRead =
+    (es : List (List Spelled)) (rest : List ℕ) → IsSegment es
+    → BeginsWithSegment (window_of (segment_bytes es ++ rest))
 
 -- the written text of a segment is a text of that segment
 abbrev pub WrittenIsSpelled : Type 0
@@ -37,7 +41,9 @@ WrittenHasHead = (s : OwnedSegment) → IsWritable s → head_of (values_of (wri
 
 -- whatever follows the written text of a segment, that text is what is read at the front
 abbrev pub WrittenIsRead : Type 0
-WrittenIsRead = (s : OwnedSegment) (rest : List ℕ) → IsWritable s → BeginsWithSegment (window_of (written_segment s ++ rest))
+WrittenIsRead =
+    (s : OwnedSegment) (rest : List ℕ) → IsWritable s
+    → BeginsWithSegment (window_of (written_segment s ++ rest))
 
 abbrev pub NothingElseIsRead : Type 0
 NothingElseIsRead =
@@ -55,7 +61,9 @@ pub record BeginsWithText (bytes : List ℕ) (s : OwnedSegment) (len : ℕ) : Ty
 
 -- bytes begin with a text of one segment at most, and that text has one length
 abbrev pub OneReading : Type 0
-OneReading = (bytes : List ℕ) (s t : OwnedSegment) (len n : ℕ) → BeginsWithText bytes s len → BeginsWithText bytes t n → (s ≡ t) × (len ≡ n)
+OneReading =
+    (bytes : List ℕ) (s t : OwnedSegment) (len n : ℕ) → BeginsWithText bytes s len → BeginsWithText bytes t n
+    → (s ≡ t) × (len ≡ n)
 
 -- what is written for a segment within the limits is read back as that segment and as nothing else, whatever bytes follow it
 abbrev pub WrittenIsReadBack : Type 0
@@ -69,15 +77,20 @@ OneFault = (input : List ℕ) (f g : SyntaxFault) → IsFault input f → IsFaul
 
 -- bytes with such a fault begin with no segment
 abbrev pub NoSegmentAtFault : Type 0
-NoSegmentAtFault = (input : List ℕ) (f : SyntaxFault) → IsFault input f → BeginsWithSegment (window_of input) → ⊥
+NoSegmentAtFault =
+    (input : List ℕ) (f : SyntaxFault) → IsFault input f → BeginsWithSegment (window_of input) → ⊥
 
 -- how far bytes without a whole segment are looked at stays true where more bytes follow, of which at most `limit` are read
 abbrev pub BegunGoesOn : Type 0
-BegunGoesOn = (rest more : List ℕ) (limit : ℕ) (b : Begun) → IsReady rest b → length rest ≤ limit → IsReady (take limit (rest ++ more)) b
+BegunGoesOn =
+    (rest more : List ℕ) (limit : ℕ) (b : Begun) → IsReady rest b → length rest ≤ limit
+    → IsReady (take limit (rest ++ more)) b
 
 -- bytes that are read so far are split there
 abbrev pub ReadIsSplit : Type 0
-ReadIsSplit = (bytes : List ℕ) (placed : List Placed) (r : ReadTo) → IsReadTo bytes placed r → SplitsInto bytes placed (drop r.whole bytes)
+ReadIsSplit =
+    (bytes : List ℕ) (placed : List Placed) (r : ReadTo) → IsReadTo bytes placed r
+    → SplitsInto bytes placed (drop r.whole bytes)
 
 -- a stream that is cut in two: its segments are those of the first part, and then those of the first part's rest with the second part
 abbrev pub CutSegments : Type 0
@@ -95,7 +108,9 @@ CutFault =
 
 -- a fault of a stream stays what it is, and where it is, whatever bytes follow
 abbrev pub FaultLasts : Type 0
-FaultLasts = (bytes more : List ℕ) (limit o : ℕ) (kind : SyntaxKind) → PieceFaultAt limit kind o bytes → PieceFaultAt limit kind o (bytes ++ more)
+FaultLasts =
+    (bytes more : List ℕ) (limit o : ℕ) (kind : SyntaxKind) → PieceFaultAt limit kind o bytes
+    → PieceFaultAt limit kind o (bytes ++ more)
 
 -- what follows bytes without a whole segment ends no more segments than it has `'`
 abbrev pub FewSegments : Type 0
@@ -105,7 +120,9 @@ FewSegments =
 
 -- bytes have one list of whole segments, and one rest
 abbrev pub OneSplit : Type 0
-OneSplit = (bytes : List ℕ) (p q : List Placed) (x y : List ℕ) → SplitsInto bytes p x → SplitsInto bytes q y → (p ≡ q) × (x ≡ y)
+OneSplit =
+    (bytes : List ℕ) (p q : List Placed) (x y : List ℕ) → SplitsInto bytes p x → SplitsInto bytes q y
+    → (p ≡ q) × (x ≡ y)
 
 -- and no fault then, unless more bytes may mend it
 abbrev pub NoSplitAtFault : Type 0
@@ -121,7 +138,8 @@ PieceFaultIsCaptureFault =
 
 -- a capture is one list of segments
 abbrev pub OneCapture : Type 0
-OneCapture = (input : List ℕ) (s t : List (List (List Spelled))) → IsCapture input s → IsCapture input t → s ≡ t
+OneCapture =
+    (input : List ℕ) (s t : List (List (List Spelled))) → IsCapture input s → IsCapture input t → s ≡ t
 
 -- bytes with a fault, but for want of memory, are no capture where they are within the limit
 abbrev pub NoCaptureAtFault : Type 0
@@ -131,17 +149,22 @@ NoCaptureAtFault =
 
 -- the segments of a capture stand at one list of places
 abbrev pub OnePlacedCapture : Type 0
-OnePlacedCapture = (input : List ℕ) (p q : List Placed) → IsPlacedCapture input p → IsPlacedCapture input q → p ≡ q
+OnePlacedCapture =
+    (input : List ℕ) (p q : List Placed) → IsPlacedCapture input p → IsPlacedCapture input q → p ≡ q
 
 -- a capture has one fault at most, but for want of memory: one kind, and one offset
 abbrev pub OneCaptureFault : Type 0
-OneCaptureFault = (input : List ℕ) (f g : SyntaxFault) → IsCaptureFault input f → IsCaptureFault input g → f.kind ≢ Memory → g.kind ≢ Memory → f ≡ g
+OneCaptureFault =
+    (input : List ℕ) (f g : SyntaxFault) → IsCaptureFault input f → IsCaptureFault input g → f.kind ≢ Memory
+    → g.kind ≢ Memory → f ≡ g
 
 -- each list of bytes begins with a segment, or has the fault of one that doesn't
 abbrev pub SegmentOrFault : Type 0
-SegmentOrFault = (input : List ℕ) → BeginsWithSegment (window_of input) ⊎ ((f : SyntaxFault) × IsFault input f)
+SegmentOrFault =
+    (input : List ℕ) → BeginsWithSegment (window_of input) ⊎ ((f : SyntaxFault) × IsFault input f)
 
 -- each list of bytes is a capture within the limit, or has a fault that isn't want of memory
 abbrev pub CaptureOrFault : Type 0
 CaptureOrFault = (input : List ℕ)
-    → ((length input ≤ MAX_CAPTURE) × (placed : List Placed) × IsPlacedCapture input placed) ⊎ ((f : SyntaxFault) × IsCaptureFault input f × (f.kind ≢ Memory))
+    → ((length input ≤ MAX_CAPTURE) × (placed : List Placed) × IsPlacedCapture input placed)
+    ⊎ ((f : SyntaxFault) × IsCaptureFault input f × (f.kind ≢ Memory))

@@ -7,9 +7,11 @@ use Rattle.fints_syntax_segments.specs.Spelling.{Spelled, text, binary, spelled_
 use Rattle.fints_syntax_segments.specs.Segment.{token_bytes, tokens_bytes, element_tokens, segment_tokens, segment_bytes}
 use Rattle.fints_syntax.specs.Places.{item_size, items_size, elements_size, data_offset, start_of}
 
-element_size : (end : ℕ) (items : List Spelled) → length (tokens_bytes (element_tokens end items)) ≡ items_size items
+element_size : (end : ℕ) (items : List Spelled)
+    → length (tokens_bytes (element_tokens end items)) ≡ items_size items
 element_size end [] = refl
-element_size end (s ∷ []) = omega (arith, length-append (spelled_bytes s ++ end ∷ []) [], length-append (spelled_bytes s) (end ∷ []))
+element_size end (s ∷ []) =
+    omega (arith, length-append (spelled_bytes s ++ end ∷ []) [], length-append (spelled_bytes s) (end ∷ []))
 element_size end (s ∷ t ∷ ss) =
     omega (
       arith,
@@ -41,12 +43,14 @@ some_same : {A : Type 0} (x y : A) → Some x ≡ Some y → x ≡ y
 some_same x y e = cc
 
 -- item 1 of element 2 starts in the text
-pub start_within : (es : List (List Spelled)) (o : ℕ) → start_of es 2 1 ≡ Some o → o ≤ length (segment_bytes es)
+pub start_within : (es : List (List Spelled)) (o : ℕ) → start_of es 2 1 ≡ Some o
+    → o ≤ length (segment_bytes es)
 start_within [] o e = absurd cc
 start_within (h ∷ []) o e = absurd cc
 start_within (h ∷ [] ∷ rest) o e = absurd cc
 start_within (h ∷ (s ∷ ss) ∷ rest) o e =
-    let at : elements_size (h ∷ []) + 0 + data_offset s ≡ o = some_same (elements_size (h ∷ []) + 0 + data_offset s) o e in
+    let at : elements_size (h ∷ []) + 0 + data_offset s ≡ o =
+        some_same (elements_size (h ∷ []) + 0 + data_offset s) o e in
     omega (
       arith,
       at,

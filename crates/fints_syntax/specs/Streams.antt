@@ -76,10 +76,12 @@ IsMemory f = f ≡ record { kind = Memory; offset = 0 }
 
 -- want of memory, or the fault of a stream, of which these bytes stand from `at` on; its offset is counted in the stream
 abbrev pub IsStreamFault : ℕ → List ℕ → SyntaxFault → Type 0
-IsStreamFault at bytes f = IsMemory f ⊎ ((o : ℕ) × (f.offset ≡ at + o) × PieceFaultAt (MAX_CAPTURE - at) f.kind o bytes)
+IsStreamFault at bytes f =
+    IsMemory f ⊎ ((o : ℕ) × (f.offset ≡ at + o) × PieceFaultAt (MAX_CAPTURE - at) f.kind o bytes)
 
 -- ---- of private contracts and proofs alone
 
 -- want of memory, or a fault of the bytes that no further byte mends
 abbrev pub IsPieceStop : ℕ → List ℕ → SyntaxFault → Type 0
-IsPieceStop at bytes f = IsMemory f ⊎ ((o : ℕ) × (f.offset ≡ at + o) × (f.kind ≢ Incomplete) × FaultsAt bytes f.kind o)
+IsPieceStop at bytes f =
+    IsMemory f ⊎ ((o : ℕ) × (f.offset ≡ at + o) × (f.kind ≢ Incomplete) × FaultsAt bytes f.kind o)

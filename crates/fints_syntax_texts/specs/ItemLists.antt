@@ -18,4 +18,5 @@ pub of_array : {X : Type 0} (of : Data → X) (entries : List Data → X)
     → ((ds : Items) → of (array ds) ≡ entries (item_list ds)) → (v : Value) (vs : Vec Value Global)
     → v ≡ Array vs → entries (map view vs.items) ≡ of (view v)
 of_array of entries same v vs is =
-    ap entries (sym (item_list-view vs.items)) ∙ sym (same (items_view vs.items)) ∙ ap of (sym (view-Array vs) ∙ ap view (sym is))
+    ap entries (sym (item_list-view vs.items)) ∙ sym (same (items_view vs.items))
+    ∙ ap of (sym (view-Array vs) ∙ ap view (sym is))

@@ -11,14 +11,16 @@ use Rattle.fints_syntax_texts.specs.Lines.{text_of_lines, NoFeed, BeginsText, Is
 -- ---- parts round a byte
 
 -- one text has one part before the first such byte, and one after it
-pub split_same : (byte : ℕ) (a b c d : List ℕ) → All (λ x. x ≢ byte) a → All (λ x. x ≢ byte) c → a ++ byte ∷ b ≡ c ++ byte ∷ d → (a ≡ c) × (b ≡ d)
+pub split_same : (byte : ℕ) (a b c d : List ℕ) → All (λ x. x ≢ byte) a → All (λ x. x ≢ byte) c
+    → a ++ byte ∷ b ≡ c ++ byte ∷ d → (a ≡ c) × (b ≡ d)
 split_same byte [] b [] d ha hc e = (refl, cc)
 split_same byte [] b (y ∷ c) d ha hc e = absurd (All-head (λ x. x ≢ byte) y c hc cc)
 split_same byte (x ∷ a) b [] d ha hc e = absurd (All-head (λ x. x ≢ byte) x a ha cc)
 split_same byte (x ∷ a) b (y ∷ c) d ha hc e =
     let front : x ≡ y = cc in
     let back : a ++ byte ∷ b ≡ c ++ byte ∷ d = cc in
-    let rest = split_same byte a b c d (All-tail (λ x. x ≢ byte) x a ha) (All-tail (λ x. x ≢ byte) y c hc) back in
+    let rest =
+        split_same byte a b c d (All-tail (λ x. x ≢ byte) x a ha) (All-tail (λ x. x ≢ byte) y c hc) back in
     (cc (front, rest.0), rest.1)
 
 -- the byte between two parts is a byte of the whole
@@ -38,12 +40,14 @@ plain xs h =
 -- where no line has a line feed, none of the first ones has
 pub all_front : (ls ms : List (List ℕ)) → All NoFeed (ls ++ ms) → All NoFeed ls
 all_front [] ms h = All-nil NoFeed
-all_front (l ∷ ls) ms h = All-cons NoFeed l ls (All-head NoFeed l (ls ++ ms) h) (all_front ls ms (All-tail NoFeed l (ls ++ ms) h))
+all_front (l ∷ ls) ms h =
+    All-cons NoFeed l ls (All-head NoFeed l (ls ++ ms) h) (all_front ls ms (All-tail NoFeed l (ls ++ ms) h))
 
 -- ---- lines and their text
 
 pub line_front : (line text rest : List ℕ) → ((line ++ 10 ∷ []) ++ text) ++ rest ≡ line ++ 10 ∷ (text ++ rest)
-line_front line text rest = append_assoc (line ++ 10 ∷ []) text rest ∙ append_assoc line (10 ∷ []) (text ++ rest)
+line_front line text rest =
+    append_assoc (line ++ 10 ∷ []) text rest ∙ append_assoc line (10 ∷ []) (text ++ rest)
 
 pub not_empty : (a b : List ℕ) → a ++ 10 ∷ b ≡ [] → ⊥
 not_empty [] b e = cc
@@ -54,9 +58,11 @@ pub lines_after : (ls ms : List (List ℕ)) (rest : List ℕ) → All NoFeed ls 
     → text_of_lines ls ++ rest ≡ text_of_lines ms
     → (later : List (List ℕ)) × (ms ≡ ls ++ later) × (rest ≡ text_of_lines later)
 lines_after [] ms rest hl hm e = (ms, refl, e)
-lines_after (l ∷ ls) [] rest hl hm e = absurd (not_empty l (text_of_lines ls ++ rest) (sym (line_front l (text_of_lines ls) rest) ∙ e))
+lines_after (l ∷ ls) [] rest hl hm e =
+    absurd (not_empty l (text_of_lines ls ++ rest) (sym (line_front l (text_of_lines ls) rest) ∙ e))
 lines_after (l ∷ ls) (m ∷ ms) rest hl hm e =
-    let second : (m ++ 10 ∷ []) ++ text_of_lines ms ≡ m ++ 10 ∷ text_of_lines ms = append_assoc m (10 ∷ []) (text_of_lines ms) in
+    let second : (m ++ 10 ∷ []) ++ text_of_lines ms ≡ m ++ 10 ∷ text_of_lines ms =
+        append_assoc m (10 ∷ []) (text_of_lines ms) in
     let parts =
     split_same 10 l (text_of_lines ls ++ rest) m (text_of_lines ms) (All-head NoFeed l ls hl)
     (All-head NoFeed m ms hm) (sym (line_front l (text_of_lines ls) rest) ∙ (e ∙ second)) in
@@ -64,30 +70,37 @@ lines_after (l ∷ ls) (m ∷ ms) rest hl hm e =
     (more.0, ap (λ (x : List ℕ). x ∷ ms) (sym parts.0) ∙ ap (λ (xs : List (List ℕ)). l ∷ xs) more.1, more.2)
 
 -- a text has one list of lines
-pub same_lines : (ls ms : List (List ℕ)) → All NoFeed ls → All NoFeed ms → text_of_lines ls ≡ text_of_lines ms → ls ≡ ms
+pub same_lines : (ls ms : List (List ℕ)) → All NoFeed ls → All NoFeed ms → text_of_lines ls ≡ text_of_lines ms
+    → ls ≡ ms
 same_lines ls ms hl hm e =
     let after = lines_after ls ms [] hl hm (append-nil (text_of_lines ls) ∙ e) in
     go after.0 after.1 after.2
   where
     go : (later : List (List ℕ)) → ms ≡ ls ++ later → [] ≡ text_of_lines later → ls ≡ ms
     go [] whole r = sym (whole ∙ append-nil ls)
-    go (l ∷ later) whole r = absurd (not_empty l (text_of_lines later) (sym (append_assoc l (10 ∷ []) (text_of_lines later)) ∙ sym r))
+    go (l ∷ later) whole r =
+        absurd (not_empty l (text_of_lines later)
+            (sym (append_assoc l (10 ∷ []) (text_of_lines later)) ∙ sym r))
 
-pub lines-push : (ls : List (List ℕ)) (l : List ℕ) → text_of_lines (ls ++ l ∷ []) ≡ text_of_lines ls ++ (l ++ 10 ∷ [])
+pub lines-push : (ls : List (List ℕ)) (l : List ℕ)
+    → text_of_lines (ls ++ l ∷ []) ≡ text_of_lines ls ++ (l ++ 10 ∷ [])
 lines-push ls l =
-    flat_map-append (λ (line : List ℕ). line ++ 10 ∷ []) ls (l ∷ []) ∙ ap (λ (t : List ℕ). text_of_lines ls ++ t) (append-nil (l ++ 10 ∷ []))
+    flat_map-append (λ (line : List ℕ). line ++ 10 ∷ []) ls (l ∷ [])
+        ∙ ap (λ (t : List ℕ). text_of_lines ls ++ t) (append-nil (l ++ 10 ∷ []))
 
 -- a text is as long as it has lines, at least
 pub lines_long : (ls : List (List ℕ)) → length ls ≤ length (text_of_lines ls)
 lines_long [] = omega arith
 lines_long (l ∷ ls) =
     let rest = lines_long ls in
-    let a : length ((l ++ 10 ∷ []) ++ text_of_lines ls) ≡ length (l ++ 10 ∷ []) + length (text_of_lines ls) = length-append (l ++ 10 ∷ []) (text_of_lines ls) in
+    let a : length ((l ++ 10 ∷ []) ++ text_of_lines ls) ≡ length (l ++ 10 ∷ []) + length (text_of_lines ls) =
+        length-append (l ++ 10 ∷ []) (text_of_lines ls) in
     let b : length (l ++ 10 ∷ []) ≡ length l + 1 = length-append l (10 ∷ []) in
     omega arith
 
 -- the first lines of a short text are short
-pub text_short : (ls later : List (List ℕ)) (n : ℕ) → length (text_of_lines (ls ++ later)) ≤ n → length (text_of_lines ls) ≤ n
+pub text_short : (ls later : List (List ℕ)) (n : ℕ) → length (text_of_lines (ls ++ later)) ≤ n
+    → length (text_of_lines ls) ≤ n
 text_short ls later n h =
     let whole : length (text_of_lines (ls ++ later)) ≡ length (text_of_lines ls ++ text_of_lines later) =
     ap length (flat_map-append (λ (line : List ℕ). line ++ 10 ∷ []) ls later) in
@@ -109,18 +122,22 @@ text_taken text rest line more ls whole is =
     ∙ ap (λ (t : List ℕ). t ++ more) (sym (lines-push ls line))))
 
 -- so long are the lines that were read
-pub length_taken : (text more : List ℕ) (ls : List (List ℕ)) → text ≡ text_of_lines ls ++ more → length text - length more ≡ length (text_of_lines ls)
+pub length_taken : (text more : List ℕ) (ls : List (List ℕ)) → text ≡ text_of_lines ls ++ more
+    → length text - length more ≡ length (text_of_lines ls)
 length_taken text more ls whole =
     let long : length text ≡ length (text_of_lines ls ++ more) = ap length whole in
-    let parts : length (text_of_lines ls ++ more) ≡ length (text_of_lines ls) + length more = length-append (text_of_lines ls) more in
+    let parts : length (text_of_lines ls ++ more) ≡ length (text_of_lines ls) + length more =
+        length-append (text_of_lines ls) more in
     omega arith
 
 -- a line is written
 pub text_push : (front : List (List ℕ)) (line out new : List ℕ) → out ≡ text_of_lines front
     → new ≡ out ++ (line ++ 10 ∷ []) → new ≡ text_of_lines (front ++ line ∷ [])
-text_push front line out new h e = e ∙ (ap (λ (t : List ℕ). t ++ (line ++ 10 ∷ [])) h ∙ sym (lines-push front line))
+text_push front line out new h e =
+    e ∙ (ap (λ (t : List ℕ). t ++ (line ++ 10 ∷ [])) h ∙ sym (lines-push front line))
 
-pub taken_more : {X : Type 0} (xs : List X) (i : ℕ) (x : X) → i < length xs → x ≡ get_or xs i x → take (i + 1) xs ≡ take i xs ++ x ∷ []
+pub taken_more : {X : Type 0} (xs : List X) (i : ℕ) (x : X) → i < length xs → x ≡ get_or xs i x
+    → take (i + 1) xs ≡ take i xs ++ x ∷ []
 taken_more xs i x within is = take_more xs i x within ∙ ap (λ y. take i xs ++ y ∷ []) (sym is)
 
 -- a loop has written one line more
@@ -131,7 +148,8 @@ lines_more f front xs i x out new within is h e =
     let inner : map f (take i xs) ++ f x ∷ [] ≡ map f (take (i + 1) xs) =
     sym (map-append f (take i xs) (x ∷ [])) ∙ ap (map f) (sym (taken_more xs i x within is)) in
     text_push (front ++ map f (take i xs)) (f x) out new h e
-    ∙ ap text_of_lines (append_assoc front (map f (take i xs)) (f x ∷ []) ∙ ap (λ (ls : List (List ℕ)). front ++ ls) inner)
+    ∙ ap text_of_lines
+        (append_assoc front (map f (take i xs)) (f x ∷ []) ∙ ap (λ (ls : List (List ℕ)). front ++ ls) inner)
 
 -- a loop has passed one element more
 pub all_more : {X : Type 0} (P : X → Type 0) (xs : List X) (i : ℕ) (x : X) → i < length xs → x ≡ get_or xs i x
@@ -146,8 +164,10 @@ record GoesOn (shorter longer : List (List ℕ)) (left right : List ℕ) : Type 
   pub lines : longer ≡ shorter ++ later
   pub rest : left ≡ text_of_lines later ++ right
 
-goes_on_more : (l : List ℕ) (ls ms : List (List ℕ)) (r s : List ℕ) → GoesOn ls ms r s → GoesOn (l ∷ ls) (l ∷ ms) r s
-goes_on_more l ls ms r s g = record { later = g.later; lines = ap (λ (xs : List (List ℕ)). l ∷ xs) g.lines; rest = g.rest }
+goes_on_more : (l : List ℕ) (ls ms : List (List ℕ)) (r s : List ℕ) → GoesOn ls ms r s
+    → GoesOn (l ∷ ls) (l ∷ ms) r s
+goes_on_more l ls ms r s g =
+    record { later = g.later; lines = ap (λ (xs : List (List ℕ)). l ∷ xs) g.lines; rest = g.rest }
 
 -- of two fronts of one text one goes on with the other
 fronts : (ls ms : List (List ℕ)) (r s : List ℕ) → All NoFeed ls → All NoFeed ms
@@ -161,8 +181,10 @@ fronts (l ∷ ls) (m ∷ ms) r s hl hm e =
     (sym (line_front l (text_of_lines ls) r) ∙ (e ∙ line_front m (text_of_lines ms) s)) in
     let same : m ≡ l = sym parts.0 in
     elim (fronts ls ms r s (All-tail NoFeed l ls hl) (All-tail NoFeed m ms hm) parts.1) [
-      | inl g ↦ inl (subst (λ (x : List ℕ). GoesOn (l ∷ ls) (x ∷ ms) r s) (sym same) (goes_on_more l ls ms r s g))
-      | inr g ↦ inr (subst (λ (x : List ℕ). GoesOn (x ∷ ms) (l ∷ ls) s r) (sym same) (goes_on_more l ms ls s r g))
+      | inl g ↦ inl
+          (subst (λ (x : List ℕ). GoesOn (l ∷ ls) (x ∷ ms) r s) (sym same) (goes_on_more l ls ms r s g))
+      | inr g ↦ inr
+          (subst (λ (x : List ℕ). GoesOn (x ∷ ms) (l ∷ ls) s r) (sym same) (goes_on_more l ms ls s r g))
     ]
 
 module _ (Good : List (List ℕ) → Type 0) (without : (all : List (List ℕ)) → Good all → All NoFeed all) where
@@ -204,10 +226,12 @@ module _ (Good : List (List ℕ) → Type 0) (without : (all : List (List ℕ)) 
       }
 
   -- the shorter front is not refused where the longer one begins a text, so they are of one length
-  same_front : (text : List ℕ) (n m : ℕ) (f : IsFirstBadLineOf Good text n) (g : IsFirstBadLineOf Good text m) → GoesOn f.lines g.lines f.rest g.rest → n ≡ m
+  same_front : (text : List ℕ) (n m : ℕ) (f : IsFirstBadLineOf Good text n) (g : IsFirstBadLineOf Good text m)
+      → GoesOn f.lines g.lines f.rest g.rest → n ≡ m
   same_front text n m f g on = go on.later on.lines on.rest
     where
-      go : (later : List (List ℕ)) → g.lines ≡ f.lines ++ later → f.rest ≡ text_of_lines later ++ g.rest → n ≡ m
+      go : (later : List (List ℕ)) → g.lines ≡ f.lines ++ later → f.rest ≡ text_of_lines later ++ g.rest
+          → n ≡ m
       go [] lines rest =
           let same : length g.lines ≡ length f.lines = ap length (lines ∙ append-nil f.lines) in
           let a = f.number in
@@ -226,9 +250,11 @@ module _ (Good : List (List ℕ) → Type 0) (without : (all : List (List ℕ)) 
           (record { later = later ++ b.later; good = subst Good whole b.good }))
 
   -- a text has one first bad line at most
-  pub one_bad_line : (text : List ℕ) (n m : ℕ) → IsFirstBadLineOf Good text n → IsFirstBadLineOf Good text m → n ≡ m
+  pub one_bad_line : (text : List ℕ) (n m : ℕ) → IsFirstBadLineOf Good text n → IsFirstBadLineOf Good text m
+      → n ≡ m
   one_bad_line text n m f g =
-      elim (fronts f.lines g.lines f.rest g.rest (begins_without f.lines f.begins) (begins_without g.lines g.begins) (sym f.text_is ∙ g.text_is)) [
+      elim (fronts f.lines g.lines f.rest g.rest (begins_without f.lines f.begins)
+          (begins_without g.lines g.begins) (sym f.text_is ∙ g.text_is)) [
         | inl on ↦ same_front text n m f g on
         | inr on ↦ sym (same_front text m n g f on)
       ]
@@ -238,7 +264,8 @@ module _ (Good : List (List ℕ) → Type 0) (without : (all : List (List ℕ)) 
 -- a text with a line feed in it isn't empty
 shorter : (rest line more : List ℕ) → rest ≡ line ++ 10 ∷ more → length more < length rest
 shorter rest line more is =
-    let size : length rest ≡ length line + length (10 ∷ more) = ap length is ∙ length-append line (10 ∷ more) in
+    let size : length rest ≡ length line + length (10 ∷ more) =
+        ap length is ∙ length-append line (10 ∷ more) in
     omega (arith, size)
 
 -- Where some lines make a text of the kind, it can't be that a text is none of the kind and has no first bad
@@ -265,7 +292,8 @@ module _ (Good : List (List ℕ) → Type 0) (text : List ℕ)
   text_or_bad_line_from : (fuel : ℕ) (lines : List (List ℕ)) (rest : List ℕ) → length rest ≤ fuel
       → text ≡ text_of_lines lines ++ rest → BeginsText Good lines → ⊥
   text_or_bad_line_from zero lines rest few is begins =
-      goes_on_behind lines rest is begins (λ line more split b. omega (arith, few, shorter rest line more split))
+      goes_on_behind lines rest is begins
+          (λ line more split b. omega (arith, few, shorter rest line more split))
   text_or_bad_line_from (suc n) lines rest few is begins =
       goes_on_behind lines rest is begins (λ line more split b.
       text_or_bad_line_from n (lines ++ line ∷ []) more (omega (arith, few, shorter rest line more split))

@@ -33,7 +33,8 @@ longest_message script step number = message_bytes script step number (longest_c
 -- no message of step n, of this number or a lower one, has more bytes than this
 abbrev pub NoneIsLonger : ScriptValue → ℕ → ℕ → ℕ → Type 0
 NoneIsLonger script n number size =
-    (s : StepValue) (values : List NamedValue) (lower : ℕ) → numbered script.steps n ≡ Some s → Admits script.fields values → 1 ≤ lower → lower ≤ number
+    (s : StepValue) (values : List NamedValue) (lower : ℕ) → numbered script.steps n ≡ Some s
+    → Admits script.fields values → 1 ≤ lower → lower ≤ number
     → length (message_bytes script s lower values) ≤ size
 
 -- ---- of private contracts and proofs alone

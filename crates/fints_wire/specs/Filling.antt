@@ -30,7 +30,9 @@ dialog_items fields number = if number == 1 then Text (codes "0") ∷ [] else ge
 
 -- what stands in the message of a number under a choice
 abbrev pub filling_of : List NamedField → List NamedValue → ℕ → FillingValue
-filling_of fields values number = record { dialog = dialog_items (items_of_fields fields values) number; fields = items_of_fields fields values }
+filling_of fields values number =
+    record { dialog = dialog_items (items_of_fields fields values) number;
+        fields = items_of_fields fields values }
 
 abbrev pub filled_item : FillingValue → TemplateItem → List OwnedItem
 filled_item filling (Literal item) = item ∷ []
@@ -46,7 +48,9 @@ filled_elements filling elements = map (filled_element filling) elements
 
 -- a segment of this number, without a reference
 abbrev pub make_segment : List ℕ → ℕ → ℕ → List (List OwnedItem) → OwnedSegment
-make_segment kind n version elements = record { head = record { id = kind; number = n; version = version; reference = None }; elements = elements }
+make_segment kind n version elements =
+    record { head = record { id = kind; number = n; version = version; reference = None };
+        elements = elements }
 
 abbrev pub filled_segment : FillingValue → ℕ → Template → OwnedSegment
 filled_segment filling n t = make_segment t.kind n t.version (filled_elements filling t.elements)
@@ -59,7 +63,8 @@ filled_segments filling n (t ∷ ts) = filled_segment filling n t ∷ filled_seg
 -- ---- of private contracts and proofs alone
 
 -- what is chosen for the field at this place, counted from 0, and the items that stand in messages for it
-pub record IsPutIn (fields : List NamedField) (values : List NamedValue) (f : ℕ) (field : NamedField) : Type 0 where
+pub record IsPutIn (fields : List NamedField) (values : List NamedValue) (f : ℕ) (field : NamedField)
+    : Type 0 where
   pub value : NamedValue
   pub there : slice_get values f ≡ Some value
   pub chosen : IsChosen field value

@@ -36,7 +36,9 @@ longest_size field = 1 + field_written field.class (field_longest field.class)
 
 -- what the dialogue id, which is `0` in message 1, and each field count for at most
 abbrev pub longest_sizes : List NamedField → ℕ → Sizes
-longest_sizes fields number = record { dialog = if number == 1 then 2 else get_or (map longest_size fields) 0 0; fields = map longest_size fields }
+longest_sizes fields number =
+    record { dialog = if number == 1 then 2 else get_or (map longest_size fields) 0 0;
+        fields = map longest_size fields }
 
 abbrev pub item_len : Sizes → TemplateItem → ℕ
 item_len sizes (Literal item) = item_size item
@@ -74,7 +76,9 @@ middle_len true seal inner =
 
 -- what stands between the first segment and the last
 abbrev pub between_len : ScriptValue → StepValue → Sizes → ℕ
-between_len script step sizes = middle_len step.sealed (elements_len sizes (seal_of script)) (segments_len sizes 2 (templates_of script step))
+between_len script step sizes =
+    middle_len step.sealed (elements_len sizes (seal_of script))
+        (segments_len sizes 2 (templates_of script step))
 
 abbrev pub number_len : ℕ → ℕ
 number_len number = 1 + length (decimal number)

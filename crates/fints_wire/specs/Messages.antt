@@ -35,7 +35,9 @@ signers_of script step = map (signer_at script.signers) step.signers
 
 -- HNSHK of each signer, the step's segments, and HNSHA of each signer in the same order
 abbrev pub templates_of : ScriptValue → StepValue → List Template
-templates_of script step = map head_template (signers_of script step) ++ (step.templates ++ map end_template (signers_of script step))
+templates_of script step =
+    map head_template (signers_of script step)
+    ++ (step.templates ++ map end_template (signers_of script step))
 
 -- the segments between HNHBK and HNHBS of the plain form, numbered from 2
 abbrev pub inner_segments : ScriptValue → StepValue → FillingValue → List OwnedSegment
@@ -81,7 +83,9 @@ last_segment n number = make_segment (codes "HNHBS") n HNHBS_VERSION ((Text (dec
 
 -- what a step sends between the first segment and the last
 abbrev pub between_segments : ScriptValue → StepValue → FillingValue → List OwnedSegment
-between_segments script step filling = middle_segments step.sealed (filled_elements filling (seal_of script)) (inner_segments script step filling)
+between_segments script step filling =
+    middle_segments step.sealed (filled_elements filling (seal_of script))
+        (inner_segments script step filling)
 
 -- the segments behind HNHBK; the last has the number after the last inner one
 abbrev pub later_segments : ScriptValue → StepValue → FillingValue → ℕ → List OwnedSegment
@@ -91,7 +95,8 @@ later_segments script step filling number =
 
 -- the message with a size in its first segment
 abbrev pub message_with : ScriptValue → StepValue → FillingValue → ℕ → ℕ → List OwnedSegment
-message_with script step filling number size = first_segment size filling.dialog number ∷ later_segments script step filling number
+message_with script step filling number size =
+    first_segment size filling.dialog number ∷ later_segments script step filling number
 
 -- how long the message is; whatever the size, it has 12 digits, so that it is counted with 0 in its place
 abbrev pub message_size : ScriptValue → StepValue → FillingValue → ℕ → ℕ
@@ -99,7 +104,8 @@ message_size script step filling number = length (segments_text (message_with sc
 
 -- how long the message of a step, of this number, is under a choice
 abbrev pub size_under : ScriptValue → StepValue → ℕ → List NamedValue → ℕ
-size_under script step number values = message_size script step (filling_of script.fields values number) number
+size_under script step number values =
+    message_size script step (filling_of script.fields values number) number
 
 abbrev pub message_segments : ScriptValue → StepValue → ℕ → List NamedValue → List OwnedSegment
 message_segments script step number values =

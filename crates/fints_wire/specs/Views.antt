@@ -23,7 +23,9 @@ message_view script step number values =
       protocol = Some 300;
       number = number;
       body = filled_segments filling (2 + length step.signers) step.templates;
-      ends = filled_segments filling (2 + length step.signers + length step.templates) (map end_template (signers_of script step));
+      ends =
+          filled_segments filling (2 + length step.signers + length step.templates)
+              (map end_template (signers_of script step));
     }
 
 -- the bytes of a step's message are a message, and what is read in them is what the step says
