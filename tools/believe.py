@@ -125,7 +125,7 @@ def public_clauses(text, names, is_public):
 
 def roots(definitions):
     for path in sorted(glob.glob(f"{TOP}/crates/*/src/**/*.rt", recursive=True)):
-        crate, module = path.split("/crates/")[1].split("/")[0], os.path.basename(path)[:-3]
+        crate, module = os.path.relpath(path, f"{TOP}/crates").split("/")[0], os.path.basename(path)[:-3]
         if "law" in module or crate.endswith("_tests") or not os.path.exists(f"{TOP}/crates/{crate}/src/lib.rt"):
             continue
         with open(path, encoding="utf-8") as it:

@@ -1,10 +1,10 @@
 #!/usr/bin/env python3
-"""Counts the lines that are longer than 110 columns, by what they are: clauses of contracts, definitions,
-and types and terms of proofs. A clause or the type of a proof that long is hard to read: it is broken at
-an arrow or a cross, and the gate wants none.
+"""Names the lines of definitions (specs/) and of clauses that are longer than 110 columns; the gate wants none.
+Who believes what is proved reads these, and a line that long is hard to read: it is broken at an arrow or a
+cross. Proofs are left out, since nobody need read them, and so are lines with a long text in quotes, which
+can't be broken.
 
-Usage: tools/widths.py [CRATE..]
-       with crates: names their long lines too
+Usage: tools/widths.py
 """
 import collections
 import glob
@@ -14,57 +14,40 @@ import sys
 
 TOP = os.path.dirname(os.path.dirname(os.path.abspath(__file__)))
 MOST = 110
-KINDS = ("clauses", "definitions", "types of proofs", "terms of proofs")
-WANTED = ("clauses", "types of proofs")
 CLAUSE = re.compile(r"\s*(ensures|requires|ghost (?!use ))\b")
-NAMED = re.compile(r"\s*(?:(?:pub|abbrev|unfoldable|opaque|record|data) )*(?!let )[A-Za-z_][\w'-]* : ")
+# imports and comments are not broken
+UNBROKEN = ("use ", "ghost use ", "pub use ", "--", "//")
+QUOTED = re.compile(r'"(?:[^"\\]|\\.)*"')
 
 
-def kinds_in_code(lines):
-    """What each line of a file of code is: of a clause, from its first word to the end of its braces, or None."""
+def in_clauses(lines):
+    """Of each line of a file of code whether it is of a clause, from its first word to the end of its braces."""
     depth = 0
     for line in lines:
-        if depth or CLAUSE.match(line):
+        is_clause = bool(depth or CLAUSE.match(line))
+        if is_clause:
             depth = max(0, depth + line.count("{") - line.count("}"))
-            yield "clauses"
-        else:
-            yield None
+        yield is_clause
 
 
-def kinds_in_proof(lines):
-    """What each line of a file of proofs is: of a type, from its name to where its arguments end, or of a term."""
-    is_type = False
-    for line in lines:
-        is_type = bool(NAMED.match(line)) or (is_type and line.lstrip().startswith(("→", "×", "(", "{")))
-        yield "types of proofs" if is_type and " = " not in line else "terms of proofs"
-
-
-def kinds_of(folder, lines):
-    if folder == "src":
-        return kinds_in_code(lines)
-    if folder == "proofs":
-        return kinds_in_proof(lines)
-    return ("definitions" for _ in lines)
+def is_too_long(line):
+    has_long_text = any(len(it) > MOST - 10 for it in QUOTED.findall(line))
+    return len(line) > MOST and not line.lstrip().startswith(UNBROKEN) and not has_long_text
 
 
 def main():
     counts = collections.Counter()
-    for folder in ("src", "specs", "proofs"):
-        for path in sorted(glob.glob(f"{TOP}/crates/*/{folder}/**/*", recursive=True)):
-            crate = path.removeprefix(f"{TOP}/crates/").split("/")[0]
-            if not path.endswith((".rt", ".antt")):
-                continue
+    for folder, kind in (("src", "clauses"), ("specs", "definitions")):
+        for path in sorted(glob.glob(f"{TOP}/crates/*/{folder}/**/*.*t", recursive=True)):
             with open(path, encoding="utf-8") as it:
                 lines = it.read().split("\n")
-            for number, (line, kind) in enumerate(zip(lines, kinds_of(folder, lines)), 1):
-                # imports and comments are not broken
-                if len(line) <= MOST or line.lstrip().startswith(("use ", "ghost use ", "pub use ", "--", "//")):
-                    continue
-                counts[kind] += 1
-                if kind and (crate in sys.argv[1:] or kind in WANTED):
+            counted = in_clauses(lines) if folder == "src" else [True] * len(lines)
+            for number, (line, is_counted) in enumerate(zip(lines, counted), 1):
+                if is_counted and is_too_long(line):
+                    counts[kind] += 1
                     print(f"{os.path.relpath(path, TOP)}:{number}: {len(line)}")
-    print(f"longer than {MOST} columns: " + ", ".join(f"{counts[it]} {it}" for it in KINDS))
-    sys.exit(any(counts[it] for it in WANTED))
+    print(f"longer than {MOST} columns: {counts['clauses']} clauses, {counts['definitions']} definitions")
+    sys.exit(bool(counts))
 
 
 main()

@@ -1,88 +1,113 @@
-//! The checker: findings and their cases, figures and certificates.
+//! The checker: the greatest figures, what is open of a certificate first, and whose order is left unreleased.
 ghost use Rattle.std.specs.Prelude.{◌≡◌};
 
-use crate::families::{branching, chain};
-use crate::samples::{C, C1, FORK, SECOND_ACCOUNT, SHOWN, T, UNRELEASED, signed};
+use crate::samples::{C, C1, FORK, SECOND_ACCOUNT, T, UNRELEASED, signed};
 use fints_check::{
-    CertFault, Certificate, Certified, Finding, Memory, Open, Reached, Report, Way, check, confirm,
-    first_open, greatest_figures, verify,
+    CertFault, Certificate, Finding, Memory, Open, Reached, Way, check, first_open,
+    greatest_figures,
 };
 use fints_params::Params;
 use fints_rules::{OrderTable, Permissions, Rule};
-use fints_script::{Case, Plan, Script};
+use fints_script::{Plan, Script};
 use std::alloc::Global;
 use std::test::*;
 
 /// What is asked of a script by a capture.
 #[derive(Clone, Copy)]
 enum Row<'a> {
-    /// Whether the report is that of row `fork`.
-    Fork,
-    /// Whether it has the certificate of that row.
-    Certified,
-    /// Whether this certificate holds.
-    Verified(&'a [u8]),
+    /// Whether the greatest figures are those of row `fork`.
+    Figures,
     /// Whether this is open first of the certificate.
     Open(&'a [u8], Open),
-    /// Whether the report is that of row `second-account`.
-    SecondAccount,
-    /// Whether this case shows what is found there.
-    Confirmed(&'a [u8]),
-    /// Whether the report is that of row `order-without-its-release`.
-    Unreleased,
-    /// Whether this many steps and branches are looked at.
-    Visits(u64),
+    /// Whether this is the one finding, and which step leaves an order of it unreleased.
+    Left(Finding, Option<u16>),
 }
 
-const FIRST: Option<Reached> = Some(Reached {
-    number: 1,
-    size: 55,
-});
-
-const LAST: Option<Reached> = Some(Reached {
-    number: 2,
-    size: 173,
-});
-
-fn are_figures(report: &Report<'_>) -> bool {
-    report.plan().step_count() == 3
-        && (report.reached(1), report.reached(2), report.reached(3)) == (FIRST, None, LAST)
-        && matches!(report.visits(), 6..=8)
-}
+const FIGURES: [Option<Reached>; 3] = [
+    Some(Reached {
+        number: 1,
+        size: 55,
+    }),
+    None,
+    Some(Reached {
+        number: 2,
+        size: 173,
+    }),
+];
 
 fn are_greatest(alloc: Global, plan: &Plan<'_>) -> Result<bool, Memory> {
     let figures = greatest_figures(alloc, plan)?;
-    Ok(figures.as_slice() == [FIRST, None, LAST].as_slice())
+    Ok(figures.as_slice() == FIGURES.as_slice())
 }
 
-fn is_fork(alloc: Global, permissions: &Permissions<'_>, plan: &Plan<'_>) -> Result<bool, Memory>
-    requires { permissions.now.orders ≡ plan.now.orders }
-{
-    let report = check(alloc, permissions, plan)?;
-    let clean = report.is_clean() && report.findings().is_empty();
-    Ok(clean && are_figures(&report) && are_greatest(alloc, plan)?)
-}
-
-const CERTIFICATE: &[u8] = b"fints-cert 2\nstep one 1 55\nstep bad -\nstep done 2 173\n";
-
-// A looser one, and one that isn't closed.
-const LOOSER: &[u8] = b"fints-cert 2\nstep one 1 55\nstep bad -\nstep done 9999 179\n";
-
-const TOO_SHORT: &[u8] = b"fints-cert 2\nstep one 1 55\nstep bad -\nstep done 9999 178\n";
-
-fn is_verified(
+fn is_open(
     alloc: Global,
     permissions: &Permissions<'_>,
     plan: &Plan<'_>,
     text: &[u8],
+    open: Open,
 ) -> Result<bool, CertFault>
     requires { permissions.now.orders ≡ plan.now.orders }
 {
     let certificate = Certificate::read(alloc, text)?;
-    Ok(verify(permissions, plan, &certificate))
+    Ok(first_open(permissions, plan, &certificate) == Some(open))
 }
 
-// What is open of it first.
+// Whether the report is of the plan, and says that of its one finding.
+fn is_left(
+    alloc: Global,
+    permissions: &Permissions<'_>,
+    plan: &Plan<'_>,
+    finding: Finding,
+    left: Option<u16>,
+) -> Result<bool, Memory>
+    requires { permissions.now.orders ≡ plan.now.orders }
+{
+    let report = check(alloc, permissions, plan)?;
+    if report.findings() != [finding].as_slice() {
+        return Ok(false);
+    }
+    Ok(report.step_left(0) == left && report.plan().step_count() == plan.step_count())
+}
+
+fn is_row(
+    alloc: Global,
+    permissions: &Permissions<'_>,
+    plan: &Plan<'_>,
+    row: Row<'_>,
+) -> Result<bool, Fail>
+    requires { permissions.now.orders ≡ plan.now.orders }
+{
+    match row {
+        Row::Figures => Ok(are_greatest(alloc, plan)?),
+        Row::Open(text, open) => Ok(is_open(alloc, permissions, plan, text, open)?),
+        Row::Left(finding, left) => Ok(is_left(alloc, permissions, plan, finding, left)?),
+    }
+}
+
+fn is_row_by(alloc: Global, params: &Params, script: &Script, row: Row<'_>) -> Result<bool, Fail> {
+    let orders = OrderTable::read(alloc, T)?;
+    let permissions = Permissions::build(alloc, params, &orders)?;
+    let plan = script.plan(&orders)?;
+    is_row(alloc, &permissions, &plan, row)
+}
+
+// Whether the script by the capture does what stands in the row.
+fn is_row_of(alloc: Global, capture: &[u8], script: &[u8], row: Row<'_>) -> Result<bool, Fail> {
+    let params = Params::read(alloc, capture)?;
+    let script = Script::read(alloc, script)?;
+    is_row_by(alloc, &params, &script, row)
+}
+
+#[test]
+fn figures(rt: HostRuntime) -> Result<(), Fail> {
+    assert!(rt; is_row_of(rt.alloc(), C1, FORK, Row::Figures)?);
+    Ok(())
+}
+
+// One byte too few in the last line.
+const TOO_SHORT: &[u8] = b"fints-cert 2\nstep one 1 55\nstep bad -\nstep done 9999 178\n";
+
 const SHORT: Open = Open::LowSize {
     step: 3,
     number: 9999,
@@ -102,166 +127,36 @@ const LED: Open = Open::Unreached {
     },
 };
 
-fn is_open(
-    alloc: Global,
-    permissions: &Permissions<'_>,
-    plan: &Plan<'_>,
-    text: &[u8],
-    open: Open,
-) -> Result<bool, CertFault>
-    requires { permissions.now.orders ≡ plan.now.orders }
-{
-    let certificate = Certificate::read(alloc, text)?;
-    Ok(first_open(permissions, plan, &certificate) == Some(open))
-}
-
-fn is_written(alloc: Global, certificate: &Certificate) -> Result<bool, Memory> {
-    let text = certificate.write(alloc)?;
-    Ok(text.as_slice() == CERTIFICATE)
-}
-
-// Whether the report has the certificate of the row, which holds.
-fn is_certified(
-    alloc: Global,
-    permissions: &Permissions<'_>,
-    plan: &Plan<'_>,
-) -> Result<bool, Memory>
-    requires { permissions.now.orders ≡ plan.now.orders }
-{
-    let report = check(alloc, permissions, plan)?;
-    match report.certificate(alloc)? {
-        Some(certificate) => {
-            Ok(verify(permissions, plan, &certificate) && is_written(alloc, &certificate)?)
-        }
-        None => Ok(false),
+#[test]
+fn open_first(rt: HostRuntime) -> Result<(), Fail> {
+    for (text, open) in [(TOO_SHORT, SHORT), (UNREACHED, LED)] {
+        assert!(rt; is_row_of(rt.alloc(), C1, FORK, Row::Open(text, open))?);
     }
+    Ok(())
 }
 
-const FOUND: Finding = Finding {
+const SIGNATURES: Finding = Finding {
     step: 1,
     rule: Rule::Signatures,
     segment: 3,
 };
 
-// Whether the report is that of the row, and the case of its one finding too.
-fn is_second_account(alloc: Global, report: &Report<'_>) -> Result<bool, Memory> {
-    if report.is_clean() || report.findings() != [FOUND].as_slice() {
-        return Ok(false);
-    }
-    let case = report.case(alloc, 0)?;
-    let text = case.write(alloc)?;
-    Ok(text.as_slice() == SHOWN && report.step_left(0) == None)
-}
-
-const LEFT: Finding = Finding {
+const RELEASE: Finding = Finding {
     step: 2,
     rule: Rule::Release,
     segment: 0,
 };
 
-// Whether the report is that of the row, and tells that the order is of the first step.
-fn is_unreleased(report: &Report<'_>) -> bool {
-    if report.findings() != [LEFT].as_slice() {
-        return false;
+// The scripts of rows `second-account` and `order-without-its-release`.
+#[test]
+fn left(rt: HostRuntime) -> Result<(), Fail> {
+    let rows = [
+        (SECOND_ACCOUNT, Row::Left(SIGNATURES, None)),
+        (UNRELEASED, Row::Left(RELEASE, Some(1))),
+    ];
+    for (steps, row) in rows {
+        let script = signed(rt.alloc(), steps)?;
+        assert!(rt; is_row_of(rt.alloc(), C, script.as_slice(), row)?);
     }
-    report.step_left(0) == Some(1)
-}
-
-const FIRST_ACCOUNT: &[u8] =
-    b"fints-case 1\nfield dialog 41\nfield pin 3030303030\nfield tan -\nfield acct 4445313131\n";
-
-fn is_confirmed(
-    alloc: Global,
-    permissions: &Permissions<'_>,
-    plan: &Plan<'_>,
-    text: &[u8],
-) -> Result<bool, Fail> {
-    let case = Case::read(alloc, text)?;
-    Ok(confirm(alloc, permissions, plan, &FOUND, &case)?)
-}
-
-fn is_row(
-    alloc: Global,
-    permissions: &Permissions<'_>,
-    plan: &Plan<'_>,
-    row: Row<'_>,
-) -> Result<bool, Fail>
-    requires { permissions.now.orders ≡ plan.now.orders }
-{
-    match row {
-        Row::Fork => Ok(is_fork(alloc, permissions, plan)?),
-        Row::Certified => Ok(is_certified(alloc, permissions, plan)?),
-        Row::Verified(text) => Ok(is_verified(alloc, permissions, plan, text)?),
-        Row::Open(text, open) => Ok(is_open(alloc, permissions, plan, text, open)?),
-        Row::SecondAccount => {
-            let report = check(alloc, permissions, plan)?;
-            Ok(is_second_account(alloc, &report)?)
-        }
-        Row::Confirmed(text) => is_confirmed(alloc, permissions, plan, text),
-        Row::Unreleased => {
-            let report = check(alloc, permissions, plan)?;
-            Ok(is_unreleased(&report))
-        }
-        Row::Visits(wanted) => {
-            let report = check(alloc, permissions, plan)?;
-            Ok(report.visits() == wanted)
-        }
-    }
-}
-
-fn is_row_by(alloc: Global, params: &Params, script: &Script, row: Row<'_>) -> Result<bool, Fail> {
-    let orders = OrderTable::read(alloc, T)?;
-    let permissions = Permissions::build(alloc, params, &orders)?;
-    let plan = script.plan(&orders)?;
-    is_row(alloc, &permissions, &plan, row)
-}
-
-// Whether the script by the capture does what stands in the row.
-fn is_row_of(alloc: Global, capture: &[u8], script: &[u8], row: Row<'_>) -> Result<bool, Fail> {
-    let params = Params::read(alloc, capture)?;
-    let script = Script::read(alloc, script)?;
-    is_row_by(alloc, &params, &script, row)
-}
-
-#[test]
-fn reports(rt: HostRuntime) -> Result<(), Fail> {
-    let alloc = rt.alloc();
-    assert!(rt; is_row_of(alloc, C1, FORK, Row::Fork)?);
-    let second_account = signed(alloc, SECOND_ACCOUNT)?;
-    assert!(rt; is_row_of(alloc, C, second_account.as_slice(), Row::SecondAccount)?);
-    let unreleased = signed(alloc, UNRELEASED)?;
-    assert!(rt; is_row_of(alloc, C, unreleased.as_slice(), Row::Unreleased)?);
-    Ok(())
-}
-
-// Of 40 steps each has a default, 39 a branch to the next step and 38 one to the step after it; of 1,000 steps
-// each has only a default.
-#[test]
-fn visits(rt: HostRuntime) -> Result<(), Fail> {
-    let alloc = rt.alloc();
-    let short = branching(alloc, 40)?;
-    assert!(rt; is_row_of(alloc, C1, short.as_bytes(), Row::Visits(157))?);
-    let long = chain(alloc, 1000)?;
-    assert!(rt; is_row_of(alloc, C1, long.as_bytes(), Row::Visits(2000))?);
-    Ok(())
-}
-
-#[test]
-fn certificates(rt: HostRuntime) -> Result<(), Fail> {
-    let alloc = rt.alloc();
-    assert!(rt; is_row_of(alloc, C1, FORK, Row::Certified)?);
-    assert!(rt; is_row_of(alloc, C1, FORK, Row::Verified(LOOSER))?);
-    assert!(rt; !is_row_of(alloc, C1, FORK, Row::Verified(TOO_SHORT))?);
-    assert!(rt; is_row_of(alloc, C1, FORK, Row::Open(TOO_SHORT, SHORT))?);
-    assert!(rt; is_row_of(alloc, C1, FORK, Row::Open(UNREACHED, LED))?);
-    Ok(())
-}
-
-#[test]
-fn confirmed(rt: HostRuntime) -> Result<(), Fail> {
-    let alloc = rt.alloc();
-    let script = signed(alloc, SECOND_ACCOUNT)?;
-    assert!(rt; is_row_of(alloc, C, script.as_slice(), Row::Confirmed(SHOWN))?);
-    assert!(rt; !is_row_of(alloc, C, script.as_slice(), Row::Confirmed(FIRST_ACCOUNT))?);
     Ok(())
 }

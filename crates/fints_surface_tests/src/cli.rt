@@ -1,36 +1,13 @@
-//! Reports as texts, texts that are written, and commands.
-use crate::samples::{C, C1, END, T};
+//! Commands over files and outputs that say their bytes.
+use crate::samples::C;
 use crate::streams::{Kept, Same};
-use fints_cli::{Fault, check_text, emit, execute, report_text};
-use fints_params::Params;
+use fints_cli::execute;
 use fints_syntax::Memory;
 use std::alloc::Global;
 use std::test::*;
 
-// The report of row `one-end`.
+// The report of the built-in texts.
 const REPORT: &[u8] = b"step end number 1 size 55\nclean\n";
-
-fn is_report(text: Result<Vec<u8>, Fault>) -> Result<bool, Fault> {
-    let text = text?;
-    Ok(text.as_slice() == REPORT)
-}
-
-#[test]
-fn reports(rt: HostRuntime) -> Result<(), Fail> {
-    let alloc = rt.alloc();
-    assert!(rt; is_report(check_text(alloc, C1, T, END))?);
-    let params = Params::read(alloc, C1)?;
-    assert!(rt; is_report(report_text(alloc, &params, T, END))?);
-    Ok(())
-}
-
-#[test]
-fn written(rt: HostRuntime) -> Result<(), Fail> {
-    let mut out = Kept::new(rt.alloc())?;
-    assert!(rt; emit(REPORT, &mut out).is_ok());
-    assert!(rt; out.bytes() == REPORT);
-    Ok(())
-}
 
 const SHOWN: &[u8] = b"bank 280 10020030 kinds 1 kilobytes 0 protocols 300
 order HKSAL 5 orders 2 signatures 1
@@ -65,7 +42,7 @@ fn is_answered(alloc: Global, words: &[&str], text: &[u8]) -> Result<bool, Fail>
     Ok((status, out.bytes(), err.bytes()) == (0, text, b"".as_slice()))
 }
 
-// Without words the program reports on row `one-end`.
+// Without words the program reports on its built-in texts.
 #[test]
 fn commands(rt: HostRuntime) -> Result<(), Fail> {
     let rows: [(&[&str], &[u8]); 2] = [(&[], REPORT), (&["show", "--params", "c"], SHOWN)];

@@ -78,33 +78,11 @@ fn write_step(text: &mut String, number: usize, count: usize) -> Result<(), Allo
     text.push_str("]\n")
 }
 
-/// The script of steps w1 to wn: the branches of each lead one and two steps on, where these are there.
-pub fn branching(alloc: Global, count: usize) -> Result<String, AllocError> {
+// The script of steps w1 to wn: the branches of each lead one and two steps on, where these are there.
+fn branching(alloc: Global, count: usize) -> Result<String, AllocError> {
     let mut text = String::new(alloc);
     for number in 1..=count {
         write_step(&mut text, number, count)?;
-    }
-    Ok(text)
-}
-
-// Step s of a number, out of `count`: each answer leads to the next one.
-fn write_link(text: &mut String, number: usize, count: usize) -> Result<(), AllocError> {
-    text.push_str("[[step]]\nname = 's")?;
-    write_number(text, number)?;
-    text.push_str(END)?;
-    if number >= count {
-        return Ok(());
-    }
-    text.push_str("default = 's")?;
-    write_number(text, number.saturating_add(1))?;
-    text.push_str("'\n")
-}
-
-/// The script of steps s1 to sn, one after the other.
-pub fn chain(alloc: Global, count: usize) -> Result<String, AllocError> {
-    let mut text = String::new(alloc);
-    for number in 1..=count {
-        write_link(&mut text, number, count)?;
     }
     Ok(text)
 }

@@ -1,7 +1,8 @@
-//! The public surface: each call once, through the seven crates that a caller lists, at an input that it
-//! is for and with memory enough. What is wanted comes from worked rows, inputs whose answers were told
-//! before there was a program; a row is named where a value of it stands. And that every fault is an error of
-//! its own, and reports on families of scripts.
+//! The public surface, through the seven crates that a caller lists: calls that no other test makes, each
+//! at an input that it is for and with memory enough. What is wanted comes from worked rows, inputs
+//! whose answers were known before there was a program; a row is named where a value of it is used. Also that
+//! every fault is an error of its own, that outputs keep their bytes where memory runs out, and reports on
+//! families of scripts.
 #![tactic(auto)]
 
 #[cfg(test)]
@@ -26,5 +27,3 @@ mod script;
 mod streams;
 #[cfg(test)]
 mod syntax;
-#[cfg(test)]
-mod wire;
