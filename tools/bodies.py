@@ -1,9 +1,10 @@
 #!/usr/bin/env python3
-"""Counts what bodies say for a proof's sake alone: calls of laws; calls whose result is thrown away, under
-a name or without (`let _count = plan.step_count();`; one that may refuse, with `?`, is called for its
-refusal); and calls of functions that change nothing and give nothing. There are to be none: a proof
-cites the lemma of a law by its name, and what an object keeps is said by its method `keeps`, which alone
-may be called so, and looks at a part of the object for it.
+"""Counts what bodies say for a proof's sake alone: calls of laws; calls of `keeps`, which says what an object
+keeps; calls whose result is thrown away, under a name or without (`let _count = plan.step_count();`; one that
+may refuse, with `?`, is called for its refusal); and calls of functions that change nothing and give nothing.
+There are to be none: a proof cites the lemma of a law by its name, and has what an object keeps from the
+object's type, or from a call whose result the body uses. The method `keeps` itself looks at a part of its
+object, and is not counted. A `prove!` costs nothing when it runs: they are counted apart.
 
 Usage: tools/bodies.py
 """
@@ -14,9 +15,6 @@ import sys
 
 os.chdir(os.path.dirname(os.path.dirname(os.path.abspath(__file__))))
 LAW_FILES = ("laws.rt", "run_laws.rt", "class_laws.rt")
-# What each element of a list keeps can only be had by going over the list: of a `Vec` that is handed in,
-# the checker knows nothing of its elements before they are read. These two do so, and nothing else.
-OF_LISTS = {"are_codes": "fints_script_cases/src/case.rt", "are_answers": "fints_check_findings/src/confirming.rt"}
 HEAD = re.compile(r"^ *(?:pub(?:\([a-z]+\))? )?(?:const )?(?:final )?fn (\w+)((?:.|\n)*?)(?:;|\{)$", re.M)
 
 sources = {path: open(path, encoding="utf-8").read() for path in sorted(glob.glob("crates/*/src/**/*.rt", recursive=True))}
@@ -35,7 +33,7 @@ for text in sources.values():
         if "&mut" in signature or re.search(r"\(\s*(?:mut )?self\b", signature):
             changing.add(name)
         (giving if "->" in signature else silent).add(name)
-found, lists = [], 0
+found, proved = [], 0
 for path, text in sources.items():
     if "_tests/" in path:
         continue
@@ -47,15 +45,17 @@ for path, text in sources.items():
             continue
         called = re.match(r"\s+(?:\w+(?:\.|::))*(\w+)\((.*)\);$", line)
         thrown = re.match(r"\s+let _(?:\w+)? = (?:\w+(?:\.|::))*(\w+)\((.*)\);$", line)
-        if called and called[1] in laws:
+        if re.match(r"\s+prove!\(", line):
+            proved += 1
+        elif called and called[1] in laws:
             found.append(f"{at}: calls the law {called[1]}")
-        elif called and OF_LISTS.get(called[1]) and path.endswith(OF_LISTS[called[1]]):
-            lists += 1
-        elif called and called[1] in silent and called[1] not in changing | {"keeps"}:
+        elif called and called[1] == "keeps":
+            found.append(f"{at}: {line.strip()}")
+        elif called and called[1] in silent and called[1] not in changing:
             found.append(f"{at}: {line.strip()}")
         elif thrown and (thrown[1] in giving - changing or re.match(r"\s+let _\w+ = ", line)):
             found.append(f"{at}: {line.strip()}")
 for line in found:
     print(line, file=sys.stderr)
-print(f"bodies: {len(laws)} laws, {len(found)} statements for a proof alone, {lists} that learn what each element of a list keeps")
+print(f"bodies: {len(laws)} laws, {len(found)} statements for a proof alone, {proved} of `prove!`")
 sys.exit(1 if found or not laws else 0)

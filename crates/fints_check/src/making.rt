@@ -2,9 +2,11 @@
 ghost use Rattle.std.specs.Prelude.{◌≡◌, ◌↔◌, [], IfOk, IfSome, IsSome};
 ghost use Rattle.std.specs.List.{All};
 ghost use Rattle.fints_check_findings.specs.Figures.{AreFigures};
-ghost use Rattle.fints_check.specs.Certificates.{line_figures, line_names, step_names, IsClosedCertificate};
+ghost use Rattle.fints_check_findings.specs.Findings.{AreFindings, EachIsPermitted};
+ghost use Rattle.fints_check.specs.Certificates.{line_figures, line_names, step_names, IsClosedCertificate, KeepsPromise};
 ghost use Rattle.fints_check.specs.CertTexts.{IsCertificate};
 ghost use Rattle.fints_check.specs.declared.certificate.Line.{Line as LineValue};
+ghost use Rattle.fints_script.specs.Scripts.{IsRead};
 ghost use Rattle.fints_script_fields.specs.Names.{IsName};
 
 use crate::certificate::{Certificate, Line};
@@ -16,13 +18,14 @@ use std::alloc::Global;
 fn lines_of(alloc: Global, report: &Report<'_>) -> Result<Vec<Line>, Memory>
     ensures names { IfOk result (λ lines. line_names lines.items ≡ step_names report.now.plan.script.steps) }
     ensures figures { IfOk result (λ lines. AreFigures report.now.plan.script (line_figures lines.items)) }
+    ensures read { IsRead report.now.plan.script }
     ensures are_names { IfOk result (λ lines. All (λ (line : LineValue). IsName line.name) lines.items) }
 {
     let plan = report.plan();
     let mut lines = Vec::new(alloc);
     for i in 0..plan.step_count() {
         let name = plan.step(i + 1).name();
-        name.keeps();
+        prove!(!name.as_bytes().is_empty());
         lines.push(Line {
             name,
             reached: report.reached(i + 1),
@@ -47,10 +50,11 @@ impl Certified for Report<'_> {
         ensures readable { IfOk result (λ found. IfSome found IsCertificate) }
         ensures closed { IfOk result (λ found.
             IfSome found (IsClosedCertificate self.now.granted self.now.plan.script)) }
+        ensures promise { IfOk result (λ found. IfSome found (KeepsPromise self.now.plan.script)) }
+        ensures exactly { AreFindings self.now.granted self.now.plan.script self.now.findings }
+        ensures permitted { self.now.findings ≡ [] → EachIsPermitted self.now.granted self.now.plan.script }
     {
-        self.plan().keeps();
-        self.keeps();
-        if !self.is_clean() {
+        if !self.findings().is_empty() {
             return Ok(None);
         }
         let lines = lines_of(alloc, self)?;

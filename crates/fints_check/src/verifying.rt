@@ -3,6 +3,7 @@ ghost use Rattle.std.specs.Prelude.{◌≡◌, ◌↔◌, ◌≤◌, ◌^◌, So
 ghost use Rattle.fints_script_cases.specs.Answers.{IsOpenTo};
 ghost use Rattle.fints_check_findings.specs.Findings.{EachIsPermitted};
 ghost use Rattle.fints_script.specs.Numbered.{numbered};
+ghost use Rattle.fints_script.specs.Scripts.{IsRead};
 ghost use Rattle.fints_check.specs.Certificates.{figures_at, line_names, step_names, GoesOn, IsClosedCertificate, IsEntered, KeepsPromise};
 ghost use Rattle.fints_check.specs.Unclosed.{found_at, source_of, IsFirstOpen};
 ghost use Rattle.fints_check.specs.Verifying.{AreClaimsClosed, AreRepeats, AreStepsClosed, IsFoundAt, IsLeast, TellsFigures, TellsLine, TellsOnward, TellsStep};
@@ -10,6 +11,7 @@ ghost use Rattle.fints_check.specs.Verifying.{AreClaimsClosed, AreRepeats, AreSt
 use crate::certificate::{Certificate, Line};
 use crate::unclosed::{Open, Way};
 use fints_check_findings::{AtStep, Reached, is_released_step};
+use fints_check_reach::PlanStep;
 use fints_rules::{Permissions, Rule, figures_break};
 use fints_script::{MAX_STEPS, Plan, Step, Target};
 use fints_wire::worst_size;
@@ -41,9 +43,11 @@ fn repeats(plan: &Plan<'_>) -> [bool; MAX_STEPS]
 #[tactic(auto, using(crate::proofs::Numbered::numbered_is))]
 // The flag of step n.
 fn flag(flags: &[bool], n: usize) -> bool
-    requires { 1 ≤ n }
     ensures { IsTrue result ↔ (numbered flags.now n ≡ Some true) }
 {
+    if n == 0 {
+        return false;
+    }
     match flags.get(n - 1) {
         Some(flag) => *flag,
         None => false,
@@ -59,6 +63,7 @@ fn is_named(line: &Line, step: &Step) -> bool
 // Where first there isn't one line for each step, in order, with its name.
 fn other_name(plan: &Plan<'_>, lines: &[Line]) -> Option<Open>
     ensures at { IsFoundAt 0 result }
+    ensures read { IsRead plan.now.script }
     ensures none { IsNone result ↔ (line_names lines.now ≡ step_names plan.now.script.steps) }
 {
     let count = plan.step_count();
@@ -115,6 +120,7 @@ impl<'a> Claims<'a> {
     ) -> Result<Claims<'a>, Open>
         requires { permissions.now.orders ≡ plan.now.orders }
         ensures at { IfErr result (λ found. found_at found ≡ 0) }
+        ensures read { IsRead plan.now.script }
         ensures claims { OkIff result (line_names lines.now ≡ step_names plan.now.script.steps)
             (record { granted = permissions.now; script = plan.now.script; lines = lines.now }) }
     {
@@ -138,21 +144,6 @@ impl<'a> Claims<'a> {
         line.reached
     }
 
-    // The least number that is enough for step n where its first message in a row has at most number
-    // `from`.
-    fn least(&self, n: usize, from: u64) -> u64
-        requires first { 1 ≤ n }
-        requires last { n ≤ length self.now.script.steps }
-        requires small { from ≤ 2 ^ 32 }
-        ensures { IsLeast self.now n from result }
-    {
-        if flag(&self.repeats, n) {
-            let more = (self.plan.step(n).repeat() as u64).saturating_sub(1);
-            return from + more;
-        }
-        from
-    }
-
     // What is open where a run comes this way to step n, whose first message in a row has at most number
     // `from` then.
     fn open_entry(&self, n: usize, way: Way, from: u64) -> Option<Open>
@@ -163,7 +154,8 @@ impl<'a> Claims<'a> {
         let Some(reached) = self.figures(n) else {
             return Some(Open::Unreached { step: n, way });
         };
-        let least = self.least(n, from);
+        let step = ClaimedStep { claims: self, n };
+        let least = step.least(from);
         let number = reached.number;
         if u64::from(number) < least {
             return Some(Open::LowNumber {
@@ -187,89 +179,6 @@ impl<'a> Claims<'a> {
         }
     }
 
-    // What is open of the first open branch of step n that doesn't go on. A branch's opener is looked for
-    // last.
-    fn open_branch(&self, n: usize, number: u32) -> Option<Open>
-        requires first { 1 ≤ n }
-        requires last { n ≤ length self.now.script.steps }
-        ensures at { IsFoundAt n result }
-        ensures none { TellsOnward self.now n number result }
-    {
-        let step = self.plan.step(n);
-        for branch in 1..step.branches().len() + 2 {
-            let way = Way::Branch {
-                from: n,
-                branch,
-                number,
-            };
-            let found = self.open_target(step.target(branch), way, number);
-            if found.is_some() && step.opener(branch).is_some() {
-                return found;
-            }
-        }
-        None
-    }
-
-    // What is open of these figures of step n. The number is looked at before a size is asked for at it.
-    fn open_figures(&self, n: usize, reached: Reached) -> Option<Open>
-        requires first { 1 ≤ n }
-        requires last { n ≤ length self.now.script.steps }
-        ensures at { IsFoundAt n result }
-        ensures none { TellsFigures self.now n reached result }
-    {
-        let Reached { number, size } = reached;
-        let bank = self.permissions.bank();
-        let figures = reached.figures();
-        if figures_break(bank, figures, Rule::Number) {
-            return Some(Open::BreaksNumber { step: n, number });
-        }
-        let longest = worst_size(self.plan, n, number);
-        if size < longest {
-            return Some(Open::LowSize {
-                step: n,
-                number,
-                longest,
-                size,
-            });
-        }
-        if figures_break(bank, figures, Rule::Size) {
-            return Some(Open::BreaksSize { step: n, size });
-        }
-        None
-    }
-
-    // What is open of step n, which is named as reached with these figures.
-    fn open_line(&self, n: usize, reached: Reached) -> Option<Open>
-        requires first { 1 ≤ n }
-        requires last { n ≤ length self.now.script.steps }
-        ensures at { IsFoundAt n result }
-        ensures none { TellsLine self.now n reached result }
-    {
-        if let Some(found) = self.open_figures(n, reached) {
-            return Some(found);
-        }
-        if !AtStep::new(self.permissions, self.plan, n).is_clean() {
-            return Some(Open::BreaksRule { step: n });
-        }
-        if !is_released_step(self.plan, n) {
-            return Some(Open::Unreleased { step: n });
-        }
-        self.open_branch(n, reached.number)
-    }
-
-    // What is open of step n, if it is named as reached.
-    fn open_step(&self, n: usize) -> Option<Open>
-        requires first { 1 ≤ n }
-        requires last { n ≤ length self.now.script.steps }
-        ensures at { IsFoundAt n result }
-        ensures none { TellsStep self.now n result }
-    {
-        match self.figures(n) {
-            Some(reached) => self.open_line(n, reached),
-            None => None, // named as unreached
-        }
-    }
-
     // What is open of the first step that has something open.
     fn open_steps(&self) -> Option<Open>
         ensures first { IfSome result (λ found.
@@ -277,7 +186,8 @@ impl<'a> Claims<'a> {
         ensures none { IsNone result ↔ AreStepsClosed self.now }
     {
         for n in 1..self.plan.step_count() + 1 {
-            if let Some(found) = self.open_step(n) {
+            let step = ClaimedStep { claims: self, n };
+            if let Some(found) = step.open_step() {
                 return Some(found);
             }
         }
@@ -297,6 +207,113 @@ impl<'a> Claims<'a> {
     }
 }
 
+// A step of the script by its number, counted from 1, with what a certificate names.
+#[derive(Clone, Copy)]
+struct ClaimedStep<'c, 'a> {
+    claims: &'c Claims<'a>,
+    n: usize,
+    ghost first: { 1 ≤ n },
+    ghost last: { n ≤ length claims.now.script.steps },
+}
+
+impl ClaimedStep<'_, '_> {
+    // The least number that is enough for step n where its first message in a row has at most number
+    // `from`.
+    fn least(self, from: u64) -> u64
+        requires { from ≤ 2 ^ 32 }
+        ensures { IsLeast self.entry.claims.now self.entry.n from result }
+    {
+        let ClaimedStep { claims, n } = self;
+        if flag(&claims.repeats, n) {
+            let more = (claims.plan.step(n).repeat() as u64).saturating_sub(1);
+            return from + more;
+        }
+        from
+    }
+
+    // What is open of the first open branch of step n that doesn't go on. A branch's opener is looked for
+    // last.
+    fn open_branch(self, number: u32) -> Option<Open>
+        ensures at { IsFoundAt self.entry.n result }
+        ensures none { TellsOnward self.entry.claims.now self.entry.n number result }
+    {
+        let ClaimedStep { claims, n } = self;
+        let step = claims.plan.step(n);
+        for branch in 1..step.branches().len() + 2 {
+            let way = Way::Branch {
+                from: n,
+                branch,
+                number,
+            };
+            let found = claims.open_target(step.target(branch), way, number);
+            if found.is_some() && step.opener(branch).is_some() {
+                return found;
+            }
+        }
+        None
+    }
+
+    // What is open of these figures of step n. The number is looked at before a size is asked for at it.
+    fn open_figures(self, reached: Reached) -> Option<Open>
+        ensures at { IsFoundAt self.entry.n result }
+        ensures none { TellsFigures self.entry.claims.now self.entry.n reached result }
+    {
+        let Reached { number, size } = reached;
+        let ClaimedStep { claims, n } = self;
+        let bank = claims.permissions.bank();
+        let figures = reached.figures();
+        if figures_break(bank, figures, Rule::Number) {
+            return Some(Open::BreaksNumber { step: n, number });
+        }
+        let longest = worst_size(claims.plan, n, number);
+        if size < longest {
+            return Some(Open::LowSize {
+                step: n,
+                number,
+                longest,
+                size,
+            });
+        }
+        if figures_break(bank, figures, Rule::Size) {
+            return Some(Open::BreaksSize { step: n, size });
+        }
+        None
+    }
+
+    // What is open of step n, which is named as reached with these figures.
+    fn open_line(self, reached: Reached) -> Option<Open>
+        ensures at { IsFoundAt self.entry.n result }
+        ensures none { TellsLine self.entry.claims.now self.entry.n reached result }
+    {
+        if let Some(found) = self.open_figures(reached) {
+            return Some(found);
+        }
+        let ClaimedStep { claims, n } = self;
+        let at = PlanStep {
+            plan: claims.plan,
+            n,
+        };
+        if !AtStep::new(claims.permissions, at).is_clean() {
+            return Some(Open::BreaksRule { step: n });
+        }
+        if !is_released_step(at) {
+            return Some(Open::Unreleased { step: n });
+        }
+        self.open_branch(reached.number)
+    }
+
+    // What is open of step n, if it is named as reached.
+    fn open_step(self) -> Option<Open>
+        ensures at { IsFoundAt self.entry.n result }
+        ensures none { TellsStep self.entry.claims.now self.entry.n result }
+    {
+        match self.claims.figures(self.n) {
+            Some(reached) => self.open_line(reached),
+            None => None, // named as unreached
+        }
+    }
+}
+
 /// What is open of the certificate, the first in this order: the names of its lines; that runs begin with
 /// step 1; and then step by step the figures, the rules that what the step's messages hold breaks, P11,
 /// and where its branches lead. None exactly where the certificate is closed. It takes no memory.
@@ -310,6 +327,8 @@ pub fn first_open(
     ensures first { IfSome result (λ found.
         IsFirstOpen permissions.now plan.now.script certificate.now (found_at found)) }
     ensures none { IsNone result ↔ IsClosedCertificate permissions.now plan.now.script certificate.now }
+    ensures promise { IsNone result → KeepsPromise plan.now.script certificate.now }
+    ensures permitted { IsNone result → EachIsPermitted permissions.now plan.now.script }
 {
     match Claims::of(permissions, plan, certificate.lines()) {
         Ok(claims) => claims.first_open(),
@@ -326,6 +345,5 @@ pub fn verify(permissions: &Permissions<'_>, plan: &Plan<'_>, certificate: &Cert
     ensures promise { IsTrue result → KeepsPromise plan.now.script certificate.now }
     ensures permitted { IsTrue result → EachIsPermitted permissions.now plan.now.script }
 {
-    plan.keeps();
     first_open(permissions, plan, certificate).is_none()
 }

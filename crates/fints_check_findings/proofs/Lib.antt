@@ -22,3 +22,4 @@ pub mod AskedFields
 pub mod AtSteps
 pub mod SentSteps
 pub mod ChosenValues
+pub mod Kept

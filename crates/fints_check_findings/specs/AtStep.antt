@@ -41,6 +41,12 @@ pub record IsAtStep (granted : Granted) (script : ScriptValue) (n : ℕ) (step :
       → IsClosedTemplate script.fields granted.orders t
   pub facts_are : AreStepFacts granted script step facts
 
+-- the step is the script's of that number, which was read
+pub record IsOfScript (s : AtStepValue) : Type 0 where
+  pub at : numbered s.script.steps s.n ≡ Some s.step
+  pub sound : IsSound s.script
+  pub sound_step : IsSoundStep s.script s.step
+
 -- a step that runs send, its greatest figures, and whether it leaves an order unreleased
 pub record SentStepValue : Type 0 where
   pub at : AtStepValue

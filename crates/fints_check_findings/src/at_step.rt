@@ -5,13 +5,14 @@ ghost use Rattle.fints_script_cases.specs.declared.values.NamedValue.{NamedValue
 ghost use Rattle.fints_rules.specs.Breaks.{BreaksByContent};
 ghost use Rattle.fints_script.specs.Numbered.{numbered};
 ghost use Rattle.fints_script.specs.Plans.{Admits};
-ghost use Rattle.fints_script.specs.Sound.{IsSound, IsSoundStep};
 ghost use Rattle.fints_wire.specs.Views.{message_view};
+ghost use Rattle.fints_check_findings.specs.AtStep.{IsOfScript};
 ghost use Rattle.fints_check_findings.specs.Breakable.{CanBreak, IsCleanStep, NeverBreaks};
 ghost use Rattle.fints_check_findings.specs.StepFacts.{AreMessageFacts};
 
 use crate::step_facts::{StepFacts, step_facts};
 use crate::templates::step_breaks;
+use fints_check_reach::PlanStep;
 use fints_rules::{MessageFacts, Permissions, Rule};
 use fints_script::{Plan, Step};
 use std::marker::Model;
@@ -43,17 +44,15 @@ impl<'a> Model for AtStep<'a> {
 }
 
 impl<'a> AtStep<'a> {
-    /// Step n, counted from 1. It takes no memory.
-    pub fn new(permissions: &'a Permissions<'a>, plan: &'a Plan<'a>, n: usize) -> AtStep<'a>
-        requires from { 1 ≤ n }
-        requires to { n ≤ length plan.now.script.steps }
-        requires orders { permissions.now.orders ≡ plan.now.orders }
+    /// The step of this number. It takes no memory.
+    pub fn new(permissions: &'a Permissions<'a>, at: PlanStep<'a, 'a>) -> AtStep<'a>
+        requires { permissions.now.orders ≡ at.plan.now.orders }
         ensures granted { result.granted ≡ permissions.now }
-        ensures script { result.script ≡ plan.now.script }
-        ensures number { result.n ≡ n }
-        ensures step { numbered plan.now.script.steps n ≡ Some result.step }
+        ensures script { result.script ≡ at.entry.plan.now.script }
+        ensures number { result.n ≡ at.entry.n }
+        ensures step { numbered at.entry.plan.now.script.steps at.entry.n ≡ Some result.step }
     {
-        plan.keeps();
+        let PlanStep { plan, n } = at;
         let step = plan.step(n);
         AtStep {
             permissions,
@@ -62,15 +61,6 @@ impl<'a> AtStep<'a> {
             n,
             facts: step_facts(permissions, plan, step),
         }
-    }
-
-    /// What is known of the step: it is the script's, which was read.
-    pub(crate) fn keeps(&self)
-        ensures at { numbered self.now.script.steps self.now.n ≡ Some self.now.step }
-        ensures sound { IsSound self.now.script }
-        ensures sound_step { IsSoundStep self.now.script self.now.step }
-    {
-        self.plan.keeps();
     }
 
     /// Under what the rules are asked.
@@ -96,7 +86,8 @@ impl<'a> AtStep<'a> {
 
     /// How many places its message has: the whole message, and the segments before those of the end.
     pub(crate) fn place_count(&self) -> usize
-        ensures { result ≡ 2 + length self.now.step.signers + length self.now.step.templates }
+        ensures kept { IsOfScript self.now }
+        ensures count { result ≡ 2 + length self.now.step.signers + length self.now.step.templates }
     {
         2 + self.step.signers().len() + self.step.templates().len()
     }
@@ -112,6 +103,7 @@ impl<'a> AtStep<'a> {
         ensures each { (number : ℕ) (values : List NamedValue) → Admits self.now.script.fields values
             → BreaksByContent self.now.granted (message_view self.now.script self.now.step number values)
             rule place → IsTrue result }
+        ensures kept { IsOfScript self.now }
     {
         step_breaks(
             self.permissions,
@@ -127,7 +119,6 @@ impl<'a> AtStep<'a> {
     fn never_breaks(&self, rule: Rule) -> bool
         ensures { IsTrue result ↔ NeverBreaks self.now.granted self.now.script self.now.step rule }
     {
-        self.keeps();
         for place in 0..self.place_count() {
             if self.breaks(rule, place) {
                 return false;

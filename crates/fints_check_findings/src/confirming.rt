@@ -1,7 +1,7 @@
 //! Whether a case shows a finding, whoever wrote it.
 ghost use Rattle.std.specs.Prelude.{◌≡◌, ◌↔◌, ◌≤◌, ◌+◌, false, Contains, IfOk, IsTrue, MatchOption, length};
-ghost use Rattle.std.specs.List.{All};
 ghost use Rattle.fints_script_cases.specs.Answers.{IsAnswer};
+ghost use Rattle.std.specs.List.{All};
 ghost use Rattle.fints_script.specs.Plans.{Admits};
 ghost use Rattle.fints_rules.specs.Breaks.{BytesBreak, BytesBreakAfter};
 ghost use Rattle.fints_wire.specs.Runs.{EndsWith, at_first, came_after};
@@ -134,13 +134,20 @@ fn last_sent(sent: &[Sent]) -> Option<&Sent>
     }
 }
 
-// Each answer is one: a code or more, each below 10,000.
-fn are_answers(answers: &[Answer])
-    ensures { All IsAnswer answers.now }
+// Whether it has a code. Each answer has.
+fn has_code(answer: &Answer) -> bool
+    ensures always { IsTrue result }
+    ensures answer { IsTrue result → IsAnswer answer.now }
 {
-    for answer in answers {
-        answer.keeps();
-    }
+    !answer.codes().is_empty()
+}
+
+// Whether each of them has a code.
+fn have_codes(answers: &[Answer]) -> bool
+    ensures always { IsTrue result }
+    ensures answers { IsTrue result → All IsAnswer answers.now }
+{
+    answers.iter().all(|answer| has_code(answer))
 }
 
 /// Whether the values of the case are admitted, and the last message that the run of the case sends
@@ -163,7 +170,7 @@ pub fn confirm(
         return Ok(false);
     }
     let answers = case.answers.as_slice();
-    are_answers(answers);
+    prove!(have_codes(answers));
     let sent = run(alloc, plan, &case.values, answers)?;
     match last_sent(sent.as_slice()) {
         Some(last) => {

@@ -3,12 +3,14 @@ ghost use Rattle.std.specs.Prelude.{◌≡◌, ◌↔◌, ◌<◌, ◌≤◌, �
 ghost use Rattle.fints_check_reach.specs.Following.{AreBehind};
 ghost use Rattle.fints_check_reach.specs.Numbers.{Has};
 ghost use Rattle.fints_script.specs.Numbered.{numbered};
+ghost use Rattle.fints_script.specs.Plans.{IsClosed};
+ghost use Rattle.fints_script.specs.Scripts.{IsRead};
 ghost use Rattle.fints_rules.specs.declared.release.TheConstants.{RELEASE};
 ghost use Rattle.fints_check_findings.specs.Releases.{AreHolders, AreSubmittingTo, IsHeld, IsUnreleased, IsUnreleasedAt, releases, submits};
 
 use crate::kinds::some_ends;
 use crate::tans::some_has_process;
-use fints_check_reach::{Numbers, next_step};
+use fints_check_reach::{Numbers, PlanStep, StepBranch, next_step};
 use fints_params::Code;
 use fints_rules::RELEASE;
 use fints_script::{Plan, Step};
@@ -38,19 +40,18 @@ fn releases(step: &Step) -> bool
 
 // The step that a branch of step t leads to behind 0030, where it releases nothing. What costs most
 // is asked last.
-fn unreleased_at(plan: &Plan<'_>, t: usize, step: &Step, branch: usize) -> Option<usize>
-    requires at { numbered plan.now.script.steps t ≡ Some step.now }
-    requires from { 1 ≤ branch }
-    requires to { branch ≤ length step.now.branches + 1 }
+fn unreleased_at(plan: &Plan<'_>, t: usize, at: StepBranch<'_>) -> Option<usize>
+    requires { numbered plan.now.script.steps t ≡ Some at.step.now }
     ensures { MatchOption result
-        ((s : ℕ) → IsUnreleasedAt plan.now.script.steps t step.now branch s → ⊥)
-        (IsUnreleasedAt plan.now.script.steps t step.now branch) }
+        ((s : ℕ) → IsUnreleasedAt plan.now.script.steps t at.entry.step.now at.entry.branch s → ⊥)
+        (IsUnreleasedAt plan.now.script.steps t at.entry.step.now at.entry.branch) }
 {
-    plan.keeps();
+    let StepBranch { step, branch } = at;
+    let steps = plan.steps();
     match next_step(step, t, step.target(branch)) {
         None => None,
         Some(s) => {
-            if releases(plan.step(s)) {
+            if releases(&steps[s - 1]) {
                 return None;
             }
             if !step.carries(branch, release_code()) {
@@ -105,9 +106,7 @@ pub fn holders(
 
 /// The step that is kept beside step s.
 pub fn holder_of(holders: &[Option<u16>], s: usize) -> u16
-    requires from { 1 ≤ s }
-    requires to { s ≤ length holders.now }
-    requires noted { (t : ℕ) × Has holders.now s t }
+    requires { (t : ℕ) × Has holders.now s t }
     ensures { Has holders.now s result }
 {
     match holders[s - 1] {
@@ -116,30 +115,28 @@ pub fn holder_of(holders: &[Option<u16>], s: usize) -> u16
     }
 }
 
-// Whether no step leaves an order of step t unreleased, by heads and literals.
-fn is_never_held(plan: &Plan<'_>, t: usize) -> bool
-    requires from { 1 ≤ t }
-    requires to { t ≤ length plan.now.script.steps }
-    ensures { IsTrue result ↔ ((s : ℕ) → IsHeld plan.now.script.steps t s → ⊥) }
+// Whether no step leaves an order of the step unreleased, by heads and literals.
+fn is_never_held(at: PlanStep<'_, '_>) -> bool
+    ensures read { IsRead at.entry.plan.now.script }
+    ensures closed { IsClosed at.entry.plan.now.script at.entry.plan.now.orders }
+    ensures none { IsTrue result ↔ ((s : ℕ) → IsHeld at.entry.plan.now.script.steps at.entry.n s → ⊥) }
 {
+    let PlanStep { plan, n: t } = at;
     let step = plan.step(t);
     if !submits(step) {
         return true;
     }
     for branch in 1..step.branches().len() + 2 {
-        if unreleased_at(plan, t, step, branch).is_some() {
+        if unreleased_at(plan, t, StepBranch { step, branch }).is_some() {
             return false;
         }
     }
     true
 }
 
-/// Whether no step leaves an order of step t unreleased. It takes no memory.
-pub fn is_released_step(plan: &Plan<'_>, t: usize) -> bool
-    requires from { 1 ≤ t }
-    requires to { t ≤ length plan.now.script.steps }
-    ensures { IsTrue result ↔ ((s : ℕ) → IsUnreleased plan.now.script t s → ⊥) }
+/// Whether no step leaves an order of the step unreleased. It takes no memory.
+pub fn is_released_step(at: PlanStep<'_, '_>) -> bool
+    ensures { IsTrue result ↔ ((s : ℕ) → IsUnreleased at.entry.plan.now.script at.entry.n s → ⊥) }
 {
-    plan.keeps();
-    is_never_held(plan, t)
+    is_never_held(at)
 }

@@ -14,11 +14,11 @@ ghost use Rattle.fints_wire.specs.declared.building.TheConstants.{MAX_NUMBER};
 ghost use Rattle.fints_rules.specs.declared.rule.Rule.TheVariants.{Release};
 
 use crate::at_step::AtStep;
-use crate::casing::case_values;
+use crate::casing::{FindingAt, case_values};
 use crate::finding::{Finding, Reached};
 use crate::releasing::{holder_of, holders, release_code, submitting};
 use crate::searching::SentStep;
-use fints_check_reach::{Numbers, greatest_numbers, longest_way, way_behind};
+use fints_check_reach::{Numbers, PlanStep, WayTo, greatest_numbers, longest_way, way_behind};
 use fints_rules::{MessageFacts, Permissions, Rule};
 use fints_script::{Answer, Case, Plan, Values};
 use fints_syntax::Memory;
@@ -48,6 +48,8 @@ impl<'a> Model for Report<'a> {
     ghost use Rattle.fints_check_findings.specs.Releases.{AreHolders};
     ghost use Rattle.fints_check_findings.specs.Reports.{ReportValue};
     ghost use Rattle.fints_check_findings.specs.StepFacts.{AreFactsOf};
+    ghost use Rattle.fints_script.specs.Plans.{IsClosed};
+    ghost use Rattle.fints_script.specs.Scripts.{IsRead};
 
     ghost Value = { ReportValue };
 
@@ -66,7 +68,9 @@ impl<'a> Model for Report<'a> {
         × AreGreatest r.plan.now.script.steps r.numbers.greatest.items
         × AreSources r.plan.now.script.steps r.numbers.greatest.items r.numbers.sources.items
         × AreHolders r.plan.now.script.steps r.numbers.greatest.items r.holders.items
-        × AreFactsOf r.permissions.now r.plan.now.script r.facts.items };
+        × AreFactsOf r.permissions.now r.plan.now.script r.facts.items
+        × IsRead r.plan.now.script
+        × IsClosed r.plan.now.script r.plan.now.orders };
 }
 
 impl<'a> Report<'a> {
@@ -83,8 +87,9 @@ impl<'a> Report<'a> {
         ensures exactly { AreFindings self.now.granted self.now.plan.script self.now.findings }
         ensures clean { self.now.findings ≡ [] → SentStepsAreClean self.now.granted self.now.plan.script }
         ensures released { self.now.findings ≡ [] → SentStepsAreReleased self.now.plan.script }
+        ensures permitted { self.now.findings ≡ [] → EachIsPermitted self.now.granted self.now.plan.script }
+        ensures figures { AreFigures self.now.plan.script self.now.figures }
     {
-        self.keeps();
         self.findings.as_slice()
     }
 
@@ -99,7 +104,7 @@ impl<'a> Report<'a> {
         ensures permitted { self.now.findings ≡ [] → EachIsPermitted self.now.granted self.now.plan.script }
         ensures figures { AreFigures self.now.plan.script self.now.figures }
     {
-        self.plan.keeps();
+        let _ = &self.findings;
     }
 
     /// Whether nothing was found.
@@ -135,7 +140,6 @@ impl<'a> Report<'a> {
         requires { i < length self.now.findings }
         ensures { IsFindingOf self.now i result }
     {
-        self.plan.keeps();
         self.findings[i]
     }
 
@@ -155,10 +159,14 @@ impl<'a> Report<'a> {
         requires real { IsReal self.now.granted self.now.plan.script finding }
         ensures { IfOk result (λ answers. LeadsFromFirst self.now.plan.script finding.step answers.items) }
     {
-        self.plan.keeps();
         let s = finding.step as usize;
-        let t = holder_of(self.holders.as_slice(), s) as usize;
-        way_behind(alloc, self.plan, &self.numbers, t, release_code(), s)
+        let t = holder_of(self.holders.as_slice(), s);
+        let way = WayTo {
+            plan: self.plan,
+            numbers: &self.numbers,
+            n: t,
+        };
+        way_behind(alloc, way, release_code(), s)
     }
 
     /// The step of which a finding of P11 leaves an order unreleased, the first that runs send: its case
@@ -169,7 +177,6 @@ impl<'a> Report<'a> {
             → MatchOption result (f.rule ≡ Release → ⊥)
             (λ t. IsFirstLeft self.now.plan.script t f.step) }
     {
-        self.plan.keeps();
         let finding = self.finding(i);
         match finding.rule {
             Rule::Release => Some(holder_of(self.holders.as_slice(), finding.step as usize)),
@@ -185,11 +192,17 @@ impl<'a> Report<'a> {
         ensures way { IfOk result (λ answers. IsWayOf self.now i answers.items) }
         ensures first { IfOk result (λ answers. IsFirstWayOf self.now i answers.items) }
     {
-        self.plan.keeps();
         let finding = self.finding(i);
         match finding.rule {
             Rule::Release => self.unreleased_way(alloc, finding),
-            _ => longest_way(alloc, self.plan, &self.numbers, finding.step as usize),
+            _ => {
+                let way = WayTo {
+                    plan: self.plan,
+                    numbers: &self.numbers,
+                    n: finding.step,
+                };
+                longest_way(alloc, way)
+            }
         }
     }
 
@@ -201,10 +214,14 @@ impl<'a> Report<'a> {
         ensures shown { IfOk result (λ values. AreValuesOf self.now i values) }
         ensures chosen { IfOk result (λ values. AreChosenOf self.now i values) }
     {
-        self.plan.keeps();
         let finding = self.finding(i);
         let facts = self.facts(finding.step as usize);
-        case_values(alloc, self.permissions, self.plan, facts, finding)
+        let at = FindingAt {
+            permissions: self.permissions,
+            plan: self.plan,
+            finding,
+        };
+        case_values(alloc, at, facts)
     }
 
     /// A run that a finding speaks of: its answers are those of `way`, and its values those of `values`.
@@ -223,16 +240,14 @@ impl<'a> Report<'a> {
 }
 
 /// The figures of a step of this greatest number.
-pub fn figures_at(plan: &Plan<'_>, n: usize, number: u32) -> Reached
-    requires from { 1 ≤ n }
-    requires to { n ≤ length plan.now.script.steps }
+pub fn figures_at(at: PlanStep<'_, '_>, number: u32) -> Reached
     requires least { 1 ≤ number }
     requires most { number ≤ MAX_NUMBER }
     ensures number { result.number ≡ number }
-    ensures figures { (step : StepValue) → numbered plan.now.script.steps n ≡ Some step
-        → AreFiguresAt plan.now.script step result }
+    ensures figures { (step : StepValue) → numbered at.entry.plan.now.script.steps at.entry.n ≡ Some step
+        → AreFiguresAt at.entry.plan.now.script step result }
 {
-    let size = worst_size(plan, n, number);
+    let size = worst_size(at.plan, at.n, number);
     Reached { number, size }
 }
 
@@ -255,7 +270,6 @@ pub fn check<'a>(
     ensures permitted { IfOk result (λ report.
         report.findings ≡ [] → EachIsPermitted permissions.now plan.now.script) }
 {
-    plan.keeps();
     let count = plan.step_count();
     let marks = submitting(alloc, plan)?;
     let numbers = greatest_numbers(alloc, plan, marks.as_slice(), release_code())?;
@@ -264,12 +278,13 @@ pub fn check<'a>(
     let mut figures = Vec::with_capacity(alloc, count)?;
     let mut facts = Vec::with_capacity(alloc, count)?;
     for i in 0..count {
-        let step = AtStep::new(permissions, plan, i + 1);
+        let at = PlanStep { plan, n: i + 1 };
+        let step = AtStep::new(permissions, at);
         facts.push(step.message_facts())?;
         let cell = match numbers.greatest[i] {
             None => None,
             Some(number) => {
-                let reached = figures_at(plan, i + 1, number);
+                let reached = figures_at(at, number);
                 SentStep::new(step, reached, holders[i].is_some()).search(&mut findings)?;
                 Some(reached)
             }

@@ -76,8 +76,8 @@ impl<'a> SentStep<'a> {
         ensures { IsTrue result ↔ IsReal self.now.at.granted self.now.at.script
             (record { step = self.now.at.n; rule = rule; segment = place }) }
     {
-        self.at.keeps();
-        self.breaks_at_zero(rule, place) || self.at.breaks(rule, place)
+        let held = self.at.breaks(rule, place);
+        self.breaks_at_zero(rule, place) || held
     }
 
     // Adds the findings of a rule.
@@ -87,7 +87,6 @@ impl<'a> SentStep<'a> {
         ensures { OnOk result (AreFoundTo self.now.at.granted self.now.at.script self.now.at.n
             (rule_number rule + 1) 0 findings.new.items) }
     {
-        self.at.keeps();
         for place in 0..self.at.place_count() {
             if self.is_real(rule, place) {
                 findings.push(finding_at(self.at.number(), rule, place))?;

@@ -9,10 +9,10 @@ ghost use Rattle.fints_check_reach.specs.Numbers.{Has};
 ghost use Rattle.fints_check_reach.specs.Sources.{AreSources};
 ghost use Rattle.fints_check_reach.specs.Walking.{LeadsToward};
 
-use crate::passing::Numbers;
+use crate::plan_step::{StepBranch, WayTo};
 use crate::way::{longest_way, way_into};
 use fints_params::Code;
-use fints_script::{Answer, Plan, Step, Target};
+use fints_script::{Answer, Step, Target};
 use fints_syntax::Memory;
 use std::alloc::Global;
 
@@ -29,14 +29,13 @@ pub fn next_step(step: &Step, t: usize, target: Target) -> Option<usize>
 
 /// The step that a branch of step n goes to, if the branch, which some answer fires, carries the code.
 /// Branches count from 1.
-pub fn carried_step(step: &Step, n: usize, branch: usize, code: Code) -> Option<usize>
-    requires from { 1 ≤ branch }
-    requires to { branch ≤ length step.now.branches + 1 }
-    requires fired { IsOpen step.now.branches branch }
+pub fn carried_step(at: StepBranch<'_>, n: usize, code: Code) -> Option<usize>
+    requires { IsOpen at.step.now.branches at.branch }
     ensures { MatchOption result
-        ((s : ℕ) → IsCarriedTo step.now n branch code s → ⊥)
-        (λ s. IsCarriedTo step.now n branch code s) }
+        ((s : ℕ) → IsCarriedTo at.entry.step.now n at.entry.branch code s → ⊥)
+        (λ s. IsCarriedTo at.entry.step.now n at.entry.branch code s) }
 {
+    let StepBranch { step, branch } = at;
     match next_step(step, n, step.target(branch)) {
         Some(s) => {
             if step.passes(branch, code) {
@@ -69,22 +68,16 @@ pub fn branch_to(step: &Step, t: usize, code: Code, s: usize) -> Option<usize>
 
 // Answers that lead to step t: to its greatest number, or to its first message where it is to follow
 // itself.
-fn way_toward(
-    alloc: Global,
-    plan: &Plan,
-    numbers: &Numbers,
-    t: usize,
-    target: Target,
-) -> Result<Vec<Answer>, Memory>
-    requires from { 1 ≤ t }
-    requires to { t ≤ length plan.now.script.steps }
-    requires sources { AreSources plan.now.script.steps numbers.now.greatest.items numbers.now.sources.items }
-    requires reached { (number : ℕ) × Has numbers.now.greatest.items t number }
-    ensures { IfOk result (λ answers. LeadsToward plan.now.script.steps t target answers.items) }
+fn way_toward(alloc: Global, way: WayTo<'_, '_>, target: Target) -> Result<Vec<Answer>, Memory>
+    requires sources { AreSources way.plan.now.script.steps way.numbers.now.greatest.items
+        way.numbers.now.sources.items }
+    requires reached { (number : ℕ) × Has way.numbers.now.greatest.items way.n number }
+    ensures { IfOk result (λ answers.
+        LeadsToward way.entry.plan.now.script.steps way.entry.n target answers.items) }
 {
     match target {
-        Target::Again => way_into(alloc, plan, numbers, t),
-        _ => longest_way(alloc, plan, numbers, t),
+        Target::Again => way_into(alloc, way),
+        _ => longest_way(alloc, way),
     }
 }
 
@@ -94,23 +87,21 @@ fn way_toward(
 /// where that fires the branch, else the branch's opener and the code.
 pub fn way_behind(
     alloc: Global,
-    plan: &Plan,
-    numbers: &Numbers,
-    t: usize,
+    way: WayTo<'_, '_>,
     code: Code,
     s: usize,
 ) -> Result<Vec<Answer>, Memory>
-    requires from { 1 ≤ t }
-    requires to { t ≤ length plan.now.script.steps }
-    requires sources { AreSources plan.now.script.steps numbers.now.greatest.items numbers.now.sources.items }
-    requires reached { (number : ℕ) × Has numbers.now.greatest.items t number }
-    requires carries { (step : StepValue) → numbered plan.now.script.steps t ≡ Some step
-        → CarriesTo step t code s }
-    ensures { IfOk result (λ answers. LeadsBehind plan.now.script.steps t code s answers.items) }
+    requires sources { AreSources way.plan.now.script.steps way.numbers.now.greatest.items
+        way.numbers.now.sources.items }
+    requires reached { (number : ℕ) × Has way.numbers.now.greatest.items way.n number }
+    requires carries { (step : StepValue) → numbered way.plan.now.script.steps way.n ≡ Some step
+        → CarriesTo step way.n code s }
+    ensures { IfOk result (λ answers.
+        LeadsBehind way.entry.plan.now.script.steps way.entry.n code s answers.items) }
 {
-    let step = plan.step(t);
-    let branch = branch_to(step, t, code, s).unwrap();
-    let mut answers = way_toward(alloc, plan, numbers, t, step.target(branch))?;
+    let step = way.plan.step(way.n as usize);
+    let branch = branch_to(step, way.n as usize, code, s).unwrap();
+    let mut answers = way_toward(alloc, way, step.target(branch))?;
     answers.push(step.carrying(alloc, branch, code)?)?;
     Ok(answers)
 }

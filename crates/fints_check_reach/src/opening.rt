@@ -16,39 +16,46 @@ fn is_open(flags: &[bool], b: usize) -> bool
     }
 }
 
+/// A branch of a step by its place, counted from 0, with the flags of the step's branches.
+#[derive(Clone, Copy)]
+pub struct FlaggedBranch<'a> {
+    pub step: &'a Step,
+    pub flags: &'a [bool],
+    pub b: usize,
+    pub ghost to: { b ≤ length step.now.branches },
+}
+
 // Where a branch leads, if it is open.
-fn open_target(step: &Step, flags: &[bool], b: usize) -> Option<Target>
-    requires flags { AreOpen step.now flags.now }
-    requires to { b ≤ length step.now.branches }
+fn open_target(at: FlaggedBranch<'_>) -> Option<Target>
+    requires { AreOpen at.step.now at.flags.now }
     ensures { MatchOption result
-        (IsOpenAt step.now b → ⊥)
-        (λ to. IsOpenAt step.now b × (target_at step.now b ≡ to)) }
+        (IsOpenAt at.entry.step.now at.entry.b → ⊥)
+        (λ to. IsOpenAt at.entry.step.now at.entry.b × (target_at at.entry.step.now at.entry.b ≡ to)) }
 {
-    if !is_open(flags, b) {
+    if !is_open(at.flags, at.b) {
         return None;
     }
-    Some(step.target(b + 1))
+    Some(at.step.target(at.b + 1))
 }
 
 /// The later step that a branch leads to, if it is open.
-pub fn later_step(step: &Step, flags: &[bool], b: usize) -> Option<u16>
-    requires flags { AreOpen step.now flags.now }
-    requires to { b ≤ length step.now.branches }
-    ensures { MatchOption result (IsNoWay step.now b) (IsWay step.now b) }
+pub fn later_step(at: FlaggedBranch<'_>) -> Option<u16>
+    requires { AreOpen at.step.now at.flags.now }
+    ensures { MatchOption result (IsNoWay at.entry.step.now at.entry.b) (IsWay at.entry.step.now at.entry.b) }
 {
-    match open_target(step, flags, b) {
+    match open_target(at) {
         Some(Target::Step(to)) => Some(to),
         _ => None,
     }
 }
 
 // Whether a branch is open and has the same step sent again.
-fn is_again(step: &Step, flags: &[bool], b: usize) -> bool
-    requires flags { AreOpen step.now flags.now }
-    requires to { b ≤ length step.now.branches }
-    ensures { IsTrue result ↔ IsOpenAt step.now b × (target_at step.now b ≡ Target.Again) }
+fn is_again(at: FlaggedBranch<'_>) -> bool
+    requires { AreOpen at.step.now at.flags.now }
+    ensures { IsTrue result ↔ IsOpenAt at.entry.step.now at.entry.b
+        × (target_at at.entry.step.now at.entry.b ≡ Target.Again) }
 {
-    match open_target(step, flags, b) {
+    match open_target(at) {
         None => false,
         Some(target) => matches!(target, Target::Again),
     }
@@ -61,7 +68,7 @@ pub fn spare(step: &Step, flags: &[bool]) -> u32
     ensures { IsSpare step.now result }
 {
     for b in 0..step.branches().len() + 1 {
-        if is_again(step, flags, b) {
+        if is_again(FlaggedBranch { step, flags, b }) {
             return step.repeat() as u32 - 1;
         }
     }

@@ -14,7 +14,8 @@ ghost use Rattle.fints_script_rows.specs.declared.limits.TheConstants.{MAX_STEPS
 ghost use Rattle.fints_check_reach.specs.Sources.{AreSources};
 
 use crate::following::carried_step;
-use crate::opening::{later_step, spare};
+use crate::opening::{FlaggedBranch, later_step, spare};
+use crate::plan_step::{PlanStep, StepBranch};
 use fints_params::Code;
 use fints_script::{Plan, Step};
 use fints_syntax::Memory;
@@ -56,9 +57,11 @@ struct Asked<'a> {
 impl Asked<'_> {
     // Whether step n is asked about; steps count from 1.
     fn has(&self, n: usize) -> bool
-        requires { 1 ≤ n }
         ensures { IsTrue result ↔ Asks self.now.marks.now n }
     {
+        if n == 0 {
+            return false;
+        }
         match self.marks.get(n - 1) {
             Some(mark) => *mark,
             None => false,
@@ -113,7 +116,7 @@ fn raise_targets(
         number n }
 {
     for b in 0..step.branches().len() + 1 {
-        match later_step(step, flags, b) {
+        match later_step(FlaggedBranch { step, flags, b }) {
             None => {}
             Some(to) => raise(entries, sources, to as usize, number, n),
         }
@@ -134,26 +137,23 @@ fn keep(behind: &mut Vec<Option<u16>>, s: usize, n: u16)
 // Looks at a branch of step n: whether some answer fires it; and where it carries the code that is
 // asked for, step n is kept for the step that it goes to. Branches count from 1.
 fn look_at_branch(
-    step: &Step,
+    at: StepBranch<'_>,
     n: u16,
-    branch: usize,
     asked: &Asked<'_>,
     behind: &mut Vec<Option<u16>>,
 ) -> bool
-    requires step { 1 ≤ n }
-    requires from { 1 ≤ branch }
-    requires to { branch ≤ length step.now.branches + 1 }
-    requires within { (s : ℕ) → IsCarriedTo step.now n branch asked.now.code s → (1 ≤ s)
+    requires { (s : ℕ) → IsCarriedTo at.step.now n at.branch asked.now.code s → (1 ≤ s)
         × (s ≤ length behind.old.items) }
-    ensures fired { IsTrue result ↔ IsOpen step.now.branches branch }
-    ensures kept { AreKept n (BranchAsks step.now asked.now.marks.now n asked.now.code branch)
+    ensures fired { IsTrue result ↔ IsOpen at.entry.step.now.branches at.entry.branch }
+    ensures kept { AreKept n
+        (BranchAsks at.entry.step.now asked.now.marks.now n asked.now.code at.entry.branch)
         behind.old.items behind.new.items }
 {
-    if step.opener(branch).is_none() {
+    if at.step.opener(at.branch).is_none() {
         return false;
     }
     if asked.has(n as usize) {
-        match carried_step(step, n as usize, branch, asked.code) {
+        match carried_step(at, n as usize, asked.code) {
             None => {}
             Some(s) => keep(behind, s, n),
         }
@@ -170,7 +170,6 @@ fn look_at_branches(
     behind: &mut Vec<Option<u16>>,
     visits: &mut u64,
 ) -> [bool; MAX_BRANCHES]
-    requires step { 1 ≤ n }
     requires few { length step.now.branches < 21 }
     requires room { visits.old < 2 ^ 62 }
     requires within { (s : ℕ) → CarriesTo step.now n asked.now.code s → (1 ≤ s)
@@ -183,7 +182,8 @@ fn look_at_branches(
     let mut flags = [false; MAX_BRANCHES];
     for b in 0..step.branches().len() + 1 {
         *visits += 1;
-        flags[b] = look_at_branch(step, n, b + 1, asked, behind);
+        let branch = b + 1;
+        flags[b] = look_at_branch(StepBranch { step, branch }, n, asked, behind);
     }
     flags
 }
@@ -191,32 +191,28 @@ fn look_at_branches(
 // Passes over a step: its greatest number, if it was entered, the targets of its open branches raised
 // above it, and the step kept behind what is asked. The step and each of its branches are counted.
 fn pass_step(
-    plan: &Plan,
-    n: usize,
-    step: &Step,
+    at: PlanStep<'_, '_>,
     asked: &Asked<'_>,
     entries: &mut Vec<Option<u32>>,
     sources: &mut Vec<Option<u16>>,
     behind: &mut Vec<Option<u16>>,
     visits: &mut u64,
 ) -> Option<u32>
-    requires from { 1 ≤ n }
-    requires to { n ≤ length plan.now.script.steps }
-    requires at { numbered plan.now.script.steps n ≡ Some step.now }
     requires room { visits.old < 2 ^ 61 }
-    requires long { length entries.old.items ≡ length plan.now.script.steps }
-    requires wide { length sources.old.items ≡ length plan.now.script.steps }
-    requires kept { length behind.old.items ≡ length plan.now.script.steps }
-    requires small { (e : ℕ) → Has entries.old.items n e → e < 100 * MAX_STEPS }
-    ensures passed { StepIsPassed plan.now.script.steps n result entries.old.items entries.new.items
-        sources.old.items sources.new.items }
-    ensures behind { (step : StepValue) → numbered plan.now.script.steps n ≡ Some step
-        → AreKept n (PassAsks step result asked.now.marks.now n asked.now.code) behind.old.items
-        behind.new.items }
-    ensures counted { (step : StepValue) → numbered plan.now.script.steps n ≡ Some step
+    requires long { length entries.old.items ≡ length at.plan.now.script.steps }
+    requires wide { length sources.old.items ≡ length at.plan.now.script.steps }
+    requires kept { length behind.old.items ≡ length at.plan.now.script.steps }
+    requires small { (e : ℕ) → Has entries.old.items at.n e → e < 100 * MAX_STEPS }
+    ensures passed { StepIsPassed at.entry.plan.now.script.steps at.entry.n result entries.old.items
+        entries.new.items sources.old.items sources.new.items }
+    ensures behind { (step : StepValue) → numbered at.entry.plan.now.script.steps at.entry.n ≡ Some step
+        → AreKept at.entry.n (PassAsks step result asked.now.marks.now at.entry.n asked.now.code)
+        behind.old.items behind.new.items }
+    ensures counted { (step : StepValue) → numbered at.entry.plan.now.script.steps at.entry.n ≡ Some step
         → visits.new ≡ visits.old + visits_at step (is_some result) }
 {
-    plan.keeps();
+    let PlanStep { plan, n } = at;
+    let step = plan.step(n);
     *visits += 1;
     match entries[n - 1] {
         None => None,
@@ -268,11 +264,8 @@ pub fn greatest_numbers(
     let asked = Asked { marks, code };
     entries[0] = Some(1);
     for i in 0..count {
-        let step = plan.step(i + 1);
         let number = pass_step(
-            plan,
-            i + 1,
-            step,
+            PlanStep { plan, n: i + 1 },
             &asked,
             &mut entries,
             &mut sources,

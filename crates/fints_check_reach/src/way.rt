@@ -9,7 +9,7 @@ ghost use Rattle.fints_check_reach.specs.Sources.{AreSources};
 ghost use Rattle.fints_check_reach.specs.Walking.{EndsTheRow, EntersTo, HasWay, IsCodeTo, IsWayBack, LeadsOn};
 ghost use Rattle.fints_check_reach.specs.Ways.{LeadsTo};
 
-use crate::passing::Numbers;
+use crate::plan_step::{PlanStep, WayTo};
 use fints_params::Code;
 use fints_script::{Answer, Plan, Step, Target};
 use fints_syntax::Memory;
@@ -38,12 +38,11 @@ fn push_code(alloc: Global, answers: &mut Vec<Answer>, code: Code) -> Result<(),
 }
 
 // Adds the answers that have step n sent as often as it may be.
-fn push_row(alloc: Global, plan: &Plan, n: usize, answers: &mut Vec<Answer>) -> Result<(), Memory>
-    requires from { 1 ≤ n }
-    requires to { n ≤ length plan.now.script.steps }
-    ensures { OnOk result (EndsTheRow plan.now.script.steps n answers.old.items answers.new.items) }
+fn push_row(alloc: Global, at: PlanStep<'_, '_>, answers: &mut Vec<Answer>) -> Result<(), Memory>
+    ensures { OnOk result (
+        EndsTheRow at.entry.plan.now.script.steps at.entry.n answers.old.items answers.new.items) }
 {
-    let step = plan.step(n);
+    let step = at.plan.step(at.n);
     if let Some(code) = code_to(step, Target::Again) {
         for _k in 0..step.repeat() - 1 {
             push_code(alloc, answers, code)?;
@@ -56,18 +55,16 @@ fn push_row(alloc: Global, plan: &Plan, n: usize, answers: &mut Vec<Answer>) -> 
 // Adds the answer that leads from step n to a later one.
 fn push_onward(
     alloc: Global,
-    plan: &Plan,
-    n: usize,
+    at: PlanStep<'_, '_>,
     to: u16,
     answers: &mut Vec<Answer>,
 ) -> Result<(), Memory>
-    requires from { 1 ≤ n }
-    requires last { n ≤ length plan.now.script.steps }
-    requires leads { (step : StepValue) → numbered plan.now.script.steps n ≡ Some step
+    requires { (step : StepValue) → numbered at.plan.now.script.steps at.n ≡ Some step
         → Leads step (Target.Step to) }
-    ensures { OnOk result (LeadsOn plan.now.script.steps n to answers.old.items answers.new.items) }
+    ensures { OnOk result (
+        LeadsOn at.entry.plan.now.script.steps at.entry.n to answers.old.items answers.new.items) }
 {
-    let code = code_to(plan.step(n), Target::Step(to)).unwrap();
+    let code = code_to(at.plan.step(at.n), Target::Step(to)).unwrap();
     push_code(alloc, answers, code)
 }
 
@@ -87,26 +84,22 @@ fn way_back(alloc: Global, sources: &[Option<u16>], n: u16) -> Result<Vec<u16>, 
 
 /// Answers that lead to the first message of a row of step n that ends with its greatest number; steps
 /// count from 1. Each step on the way before it is repeated as often as it may be.
-pub fn way_into(
-    alloc: Global,
-    plan: &Plan,
-    numbers: &Numbers,
-    n: usize,
-) -> Result<Vec<Answer>, Memory>
-    requires from { 1 ≤ n }
-    requires to { n ≤ length plan.now.script.steps }
-    requires sources { AreSources plan.now.script.steps numbers.now.greatest.items numbers.now.sources.items }
-    requires reached { (number : ℕ) × Has numbers.now.greatest.items n number }
+pub fn way_into(alloc: Global, way: WayTo<'_, '_>) -> Result<Vec<Answer>, Memory>
+    requires sources { AreSources way.plan.now.script.steps way.numbers.now.greatest.items
+        way.numbers.now.sources.items }
+    requires reached { (number : ℕ) × Has way.numbers.now.greatest.items way.n number }
     ensures { IfOk result (λ answers.
-        EntersTo plan.now.script.steps numbers.now.greatest.items n answers.items) }
+        EntersTo way.entry.plan.now.script.steps way.entry.numbers.now.greatest.items way.entry.n
+        answers.items) }
 {
-    plan.keeps();
-    let mut later = way_back(alloc, numbers.sources.as_slice(), n as u16)?;
+    let WayTo { plan, numbers, n } = way;
+    let mut later = way_back(alloc, numbers.sources.as_slice(), n)?;
     let mut answers = Vec::new(alloc);
     let mut at = 1;
     while let Some(next) = later.pop() {
-        push_row(alloc, plan, at, &mut answers)?;
-        push_onward(alloc, plan, at, next, &mut answers)?;
+        let step = PlanStep { plan, n: at };
+        push_row(alloc, step, &mut answers)?;
+        push_onward(alloc, step, next, &mut answers)?;
         at = next as usize;
     }
     Ok(answers)
@@ -115,20 +108,19 @@ pub fn way_into(
 /// Answers after which a run ends with a message of step n that has its greatest number; steps count
 /// from 1. Each step on the way is repeated as often as it may be. An answer is one code: the least
 /// that fires, by itself, the first open branch that leads on.
-pub fn longest_way(
-    alloc: Global,
-    plan: &Plan,
-    numbers: &Numbers,
-    n: usize,
-) -> Result<Vec<Answer>, Memory>
-    requires from { 1 ≤ n }
-    requires to { n ≤ length plan.now.script.steps }
-    requires sources { AreSources plan.now.script.steps numbers.now.greatest.items numbers.now.sources.items }
-    requires reached { (number : ℕ) × Has numbers.now.greatest.items n number }
+pub fn longest_way(alloc: Global, way: WayTo<'_, '_>) -> Result<Vec<Answer>, Memory>
+    requires sources { AreSources way.plan.now.script.steps way.numbers.now.greatest.items
+        way.numbers.now.sources.items }
+    requires reached { (number : ℕ) × Has way.numbers.now.greatest.items way.n number }
     ensures { IfOk result (λ answers.
-        LeadsTo plan.now.script.steps numbers.now.greatest.items n answers.items) }
+        LeadsTo way.entry.plan.now.script.steps way.entry.numbers.now.greatest.items way.entry.n
+        answers.items) }
 {
-    let mut answers = way_into(alloc, plan, numbers, n)?;
-    push_row(alloc, plan, n, &mut answers)?;
+    let mut answers = way_into(alloc, way)?;
+    let step = PlanStep {
+        plan: way.plan,
+        n: way.n as usize,
+    };
+    push_row(alloc, step, &mut answers)?;
     Ok(answers)
 }

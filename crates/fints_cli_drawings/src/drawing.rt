@@ -41,7 +41,6 @@ fn write_step(
     ensures { OnOk result (IsStepWritten plan.now.script.steps n reached findings.now
         text.old.items text.new.items) }
 {
-    plan.keeps();
     let step = plan.step(n);
     write_node(text, step, reached, found_at(findings, n))?;
     write_edges(text, plan, step)

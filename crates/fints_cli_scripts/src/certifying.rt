@@ -22,8 +22,6 @@ pub fn certify(alloc: Global, report: &Report<'_>) -> Result<Reply, Memory>
     ensures { IfOk result (λ reply.
         IsCertifiedBy report.now.granted report.now.plan.script reply.status reply.text.items) }
 {
-    report.keeps();
-    report.plan().keeps();
     match report.certificate(alloc)? {
         Some(certificate) => certificate_reply(alloc, &certificate),
         None => reply(alloc, report),

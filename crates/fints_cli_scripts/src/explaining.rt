@@ -136,7 +136,6 @@ pub fn explain(alloc: Global, report: &Report<'_>) -> Result<Reply, Memory>
     ensures { IfOk result (λ reply.
         IsExplainedBy report.now.granted report.now.plan.script reply.status reply.text.items) }
 {
-    report.keeps();
     let mut text = Vec::new(alloc);
     write_report(&mut text, report)?;
     write_cases(alloc, &mut text, report)?;
@@ -164,7 +163,6 @@ pub fn explain_one(alloc: Global, report: &Report<'_>, number: u32) -> Result<Re
     ensures refused { IfErr result (λ f.
         IsUnfound report.now.granted report.now.plan.script number f) }
 {
-    report.keeps();
     let Some(finding) = finding_of(report.findings(), number) else {
         return Err(Fault::NoFinding { number });
     };

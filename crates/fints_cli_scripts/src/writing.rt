@@ -134,7 +134,6 @@ pub fn reply(alloc: Global, report: &Report<'_>) -> Result<Reply, Memory>
         IsReportBy report.now.granted report.now.plan.script reply.status reply.text.items) }
     ensures status { IfOk result (λ reply. reply.status ≡ report_status report.now.findings) }
 {
-    report.keeps();
     let mut text = Vec::new(alloc);
     write_report(&mut text, report)?;
     Ok(Reply {

@@ -1,4 +1,7 @@
 //! What a step rests on.
+ghost use Rattle.std.specs.Prelude.{◌≤◌, length};
+ghost use Rattle.fints_script_rows.specs.declared.limits.TheConstants.{MAX_STEPS};
+
 use crate::signers::Signers;
 use fints_script_rows::{Fields, NamedRows};
 use fints_script_templates::TemplateElements;
@@ -13,4 +16,5 @@ pub struct Around<'a, 'r> {
     pub signers: &'a Signers<'a>,
     pub seal: Option<&'a TemplateElements>,
     pub rows: &'a NamedRows<'r>,
+    pub ghost few: { length rows.now ≤ MAX_STEPS },
 }

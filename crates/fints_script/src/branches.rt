@@ -20,28 +20,34 @@ pub fn is_word(text: &str) -> bool
     text == "again" || text == "stop"
 }
 
-fn target_named(rows: &NamedRows<'_>, row: usize, text: &str) -> Result<Target, FaultKind>
-    requires { length rows.now < 65535 }
-    ensures { result ≡ target_named (map view rows.now) row text.now }
+/// The row of a step, counted from 0, among all rows of `step`.
+#[derive(Clone, Copy)]
+pub struct StepRow<'a, 'r> {
+    pub rows: &'a NamedRows<'r>,
+    pub row: usize,
+    pub ghost few: { length rows.now < 65535 },
+}
+
+fn target_named(at: StepRow<'_, '_>, text: &str) -> Result<Target, FaultKind>
+    ensures { result ≡ target_named (map view at.entry.rows.now) at.entry.row text.now }
 {
     match text {
         "again" => Ok(Target::Again),
         "stop" => Ok(Target::Stop),
-        _ => match rows.place_of(text) {
+        _ => match at.rows.place_of(text) {
             None => Err(FaultKind::NoSuchName),
-            Some(place) if place <= row => Err(FaultKind::BackwardJump),
+            Some(place) if place <= at.row => Err(FaultKind::BackwardJump),
             Some(place) => Ok(Target::Step(place as u16 + 1)),
         },
     }
 }
 
 /// Where a target leads from the step in this row, counted from 0.
-pub fn target_in(rows: &NamedRows<'_>, row: usize, value: &Value) -> Result<Target, FaultKind>
-    requires { length rows.now < 65535 }
-    ensures { result ≡ target_in (map view rows.now) row (view value.now) }
+pub fn target_in(at: StepRow<'_, '_>, value: &Value) -> Result<Target, FaultKind>
+    ensures { result ≡ target_in (map view at.entry.rows.now) at.entry.row (view value.now) }
 {
     match value {
-        Value::String(text) => target_named(rows, row, text.as_str()),
+        Value::String(text) => target_named(at, text.as_str()),
         _ => Err(FaultKind::WrongKind),
     }
 }
@@ -61,47 +67,44 @@ fn on_at(table: &Table) -> Result<Pattern, FaultKind>
     on_in(required(table, "on")?)
 }
 
-fn target_at(rows: &NamedRows<'_>, row: usize, table: &Table) -> Result<Target, FaultKind>
-    requires { length rows.now < 65535 }
-    ensures { result ≡ must (table_view table.now) (codes "to") (target_in (map view rows.now) row) }
+fn target_at(at: StepRow<'_, '_>, table: &Table) -> Result<Target, FaultKind>
+    ensures { result ≡
+        must (table_view table.now) (codes "to") (target_in (map view at.entry.rows.now) at.entry.row) }
 {
-    target_in(rows, row, required(table, "to")?)
+    target_in(at, required(table, "to")?)
 }
 
 #[tactic(auto, unfolding(crate::specs::Steps::table_branch))]
-fn table_branch(rows: &NamedRows<'_>, row: usize, table: &Table) -> Result<Branch, FaultKind>
-    requires { length rows.now < 65535 }
-    ensures { result ≡ table_branch (map view rows.now) row (table_view table.now) }
+fn table_branch(at: StepRow<'_, '_>, table: &Table) -> Result<Branch, FaultKind>
+    ensures { result ≡ table_branch (map view at.entry.rows.now) at.entry.row (table_view table.now) }
 {
     if !document::only_keys(table, &BRANCH_KEYS) {
         return Err(FaultKind::UnknownKey);
     }
-    let (on, to) = both(on_at(table), target_at(rows, row, table))?;
+    let (on, to) = both(on_at(table), target_at(at, table))?;
     Ok(Branch { on, to })
 }
 
-fn branch_in(rows: &NamedRows<'_>, row: usize, branch: &Value) -> Result<Branch, FaultKind>
-    requires { length rows.now < 65535 }
-    ensures { result ≡ branch_in (map view rows.now) row (view branch.now) }
+fn branch_in(at: StepRow<'_, '_>, branch: &Value) -> Result<Branch, FaultKind>
+    ensures { result ≡ branch_in (map view at.entry.rows.now) at.entry.row (view branch.now) }
 {
     match branch {
-        Value::Table(table) => table_branch(rows, row, table),
+        Value::Table(table) => table_branch(at, table),
         _ => Err(FaultKind::WrongKind),
     }
 }
 
 fn each_branch(
     alloc: Global,
-    rows: &NamedRows<'_>,
-    row: usize,
+    at: StepRow<'_, '_>,
     branches: &[Value],
 ) -> Result<Vec<Branch>, FaultKind>
-    requires { length rows.now < 65535 }
-    ensures { Gives (λ v. v.items) result (each (branch_in (map view rows.now) row) (map view branches.now)) }
+    ensures { Gives (λ v. v.items) result
+        (each (branch_in (map view at.entry.rows.now) at.entry.row) (map view branches.now)) }
 {
     let mut read = Ok(Vec::new(alloc));
     for branch in branches {
-        read = more(read, branch_in(rows, row, branch));
+        read = more(read, branch_in(at, branch));
     }
     read
 }
@@ -109,15 +112,11 @@ fn each_branch(
 /// The branches of the step in this row, counted from 0.
 pub fn branches_in(
     alloc: Global,
-    rows: &NamedRows<'_>,
-    row: usize,
+    at: StepRow<'_, '_>,
     value: &Value,
 ) -> Result<Vec<Branch>, FaultKind>
-    requires { length rows.now < 65535 }
-    ensures { Gives (λ v. v.items) result (branches_in (map view rows.now) row (view value.now)) }
+    ensures { Gives (λ v. v.items) result
+        (branches_in (map view at.entry.rows.now) at.entry.row (view value.now)) }
 {
-    at_most(
-        MAX_BRANCHES,
-        each_branch(alloc, rows, row, entries_of(value)?)?,
-    )
+    at_most(MAX_BRANCHES, each_branch(alloc, at, entries_of(value)?)?)
 }

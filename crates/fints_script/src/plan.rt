@@ -74,6 +74,7 @@ impl<'a> Plan<'a> {
     pub fn step_count(&self) -> usize
         ensures count { result ≡ length self.now.script.steps }
         ensures read { IsRead self.now.script }
+        ensures closed { IsClosed self.now.script self.now.orders }
     {
         self.script.steps().len()
     }
@@ -85,8 +86,17 @@ impl<'a> Plan<'a> {
         ensures step { slice_get self.now.script.steps (n - 1) ≡ Some result.now }
         ensures numbered { numbered self.now.script.steps n ≡ Some result.now }
         ensures read { IsRead self.now.script }
+        ensures closed { IsClosed self.now.script self.now.orders }
     {
         &self.script.steps()[n - 1]
+    }
+
+    /// The steps in order.
+    pub fn steps(&self) -> &[Step]
+        ensures steps { result.now ≡ self.now.script.steps }
+        ensures read { IsRead self.now.script }
+    {
+        self.script.steps()
     }
 
     /// The fields in order, the built-in `dialog` first.

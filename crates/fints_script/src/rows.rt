@@ -8,7 +8,7 @@ ghost use Rattle.fints_script.specs.Scripts.{signers_from, steps_from};
 use crate::around::Around;
 use crate::step_reading::step_in;
 use crate::steps::Step;
-use fints_script_rows::limits::{MAX_SIGNERS, MAX_STEPS};
+use fints_script_rows::limits::MAX_SIGNERS;
 use fints_script_rows::{Fields, Place, ScriptFault, placed};
 use fints_script_templates::Signer;
 use fints_script_templates::signers::signer_in;
@@ -34,7 +34,6 @@ pub fn read_signers(
 
 /// The steps of the rows.
 pub fn read_steps(alloc: Global, around: &Around<'_, '_>) -> Result<Vec<Step>, ScriptFault>
-    requires { length around.now.rows.now ≤ MAX_STEPS }
     ensures { Finds (λ v. v.items) result (steps_from (surroundings_of around.now)) }
 {
     let mut steps = Vec::new(alloc);

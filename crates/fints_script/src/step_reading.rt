@@ -10,7 +10,7 @@ ghost use Rattle.fints_script_cases.specs.declared.answers.Target.TheVariants as
 ghost use Rattle.fints_script.specs.Around.{seen_parts, surroundings_of};
 
 use crate::around::Around;
-use crate::branches::{branches_in, is_word, target_in};
+use crate::branches::{StepRow, branches_in, is_word, target_in};
 use crate::signers::Signers;
 use crate::steps::{Parts, Step, sized_step, whole_step};
 use fints_script_cases::{Branch, Target};
@@ -139,30 +139,25 @@ fn repeat_at(table: &Table) -> Result<u16, FaultKind>
     }
 }
 
-fn branches_at(
-    alloc: Global,
-    rows: &NamedRows<'_>,
-    row: usize,
-    table: &Table,
-) -> Result<Vec<Branch>, FaultKind>
-    requires { length rows.now < 65535 }
+fn branches_at(alloc: Global, at: StepRow<'_, '_>, table: &Table) -> Result<Vec<Branch>, FaultKind>
     ensures { Gives (λ v. v.items) result
-        (may (table_view table.now) (codes "branches") [] (branches_in (map view rows.now) row)) }
+        (may (table_view table.now) (codes "branches") []
+        (branches_in (map view at.entry.rows.now) at.entry.row)) }
 {
     match member(table, "branches") {
         None => Ok(Vec::new(alloc)),
-        Some(value) => branches_in(alloc, rows, row, value),
+        Some(value) => branches_in(alloc, at, value),
     }
 }
 
-fn default_at(rows: &NamedRows<'_>, row: usize, table: &Table) -> Result<Target, FaultKind>
-    requires { length rows.now < 65535 }
+fn default_at(at: StepRow<'_, '_>, table: &Table) -> Result<Target, FaultKind>
     ensures { result ≡
-        may (table_view table.now) (codes "default") targets.Stop (target_in (map view rows.now) row) }
+        may (table_view table.now) (codes "default") targets.Stop
+        (target_in (map view at.entry.rows.now) at.entry.row) }
 {
     match member(table, "default") {
         None => Ok(Target::Stop),
-        Some(value) => target_in(rows, row, value),
+        Some(value) => target_in(at, value),
     }
 }
 
@@ -188,7 +183,6 @@ fn parts_in(
     row: usize,
     table: &Table,
 ) -> Result<Parts, FaultKind>
-    requires { length around.now.rows.now < 65535 }
     ensures { Gives seen_parts result (table_step (surroundings_of around.now) row (table_view table.now)) }
 {
     if !only_step_keys(table) {
@@ -199,8 +193,9 @@ fn parts_in(
     let sealed = sealed_at(around.seal.is_some(), table);
     let signers = signatures_at(alloc, around.signers, table);
     let sent = both(both(both(name, segments), sealed), signers);
-    let branches = branches_at(alloc, around.rows, row, table);
-    let otherwise = default_at(around.rows, row, table);
+    let rows = around.rows;
+    let branches = branches_at(alloc, StepRow { rows, row }, table);
+    let otherwise = default_at(StepRow { rows, row }, table);
     both(both(both(sent, repeat_at(table)), branches), otherwise)
 }
 
@@ -211,7 +206,6 @@ pub fn step_in(
     row: usize,
     entry: &Value,
 ) -> Result<Step, FaultKind>
-    requires { length around.now.rows.now < 65535 }
     ensures { Gives (λ s. s) result (step_in (surroundings_of around.now) row (view entry.now)) }
 {
     match entry {

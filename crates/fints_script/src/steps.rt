@@ -9,7 +9,7 @@ ghost use Rattle.fints_script.specs.Around.{seen_parts, surroundings_of};
 use crate::around::Around;
 use fints_params::Code;
 use fints_script_cases::{
-    Answer, Branch, Target, carries, carrying, choose, opener, passes, target_of,
+    Answer, Branch, BranchAt, Target, carries, carrying, choose, opener, passes, target_of,
 };
 use fints_script_fields::Name;
 use fints_script_rows::FaultKind;
@@ -117,7 +117,8 @@ impl Step {
         ensures open { IsSome result ↔ IsOpen self.now.branches branch }
         ensures least { IfSome result (IsLeastOpener self.now.branches branch) }
     {
-        opener(self.branches.as_slice(), branch)
+        let branches = self.branches.as_slice();
+        opener(BranchAt { branches, branch })
     }
 
     /// Whether some answer that has the code fires this branch: that is where some answer fires it, and
@@ -127,7 +128,8 @@ impl Step {
         requires to { branch ≤ length self.now.branches + 1 }
         ensures { IsTrue result ↔ Carries self.now.branches branch code }
     {
-        carries(self.branches.as_slice(), branch, code)
+        let branches = self.branches.as_slice();
+        carries(BranchAt { branches, branch }, code)
     }
 
     /// Of a branch that some answer fires, whether one that has the code does: that is where no earlier
@@ -138,7 +140,8 @@ impl Step {
         requires fired { IsOpen self.now.branches branch }
         ensures { IsTrue result ↔ Carries self.now.branches branch code }
     {
-        passes(self.branches.as_slice(), branch, code)
+        let branches = self.branches.as_slice();
+        passes(BranchAt { branches, branch }, code)
     }
 
     /// An answer that has the code and fires this branch: the code alone where that fires it, else the
@@ -149,7 +152,8 @@ impl Step {
         requires carries { Carries self.now.branches branch code }
         ensures { IfOk result (λ answer. IsCarrying self.now.branches branch code answer) }
     {
-        carrying(alloc, self.branches.as_slice(), branch, code)
+        let branches = self.branches.as_slice();
+        carrying(alloc, BranchAt { branches, branch }, code)
     }
 
     /// Where a branch leads, counted from 1; the default counts as the last.
@@ -158,7 +162,8 @@ impl Step {
         requires to { branch ≤ length self.now.branches + 1 }
         ensures { result ≡ target_of self.now.branches self.now.otherwise branch }
     {
-        target_of(self.branches.as_slice(), self.otherwise, branch)
+        let branches = self.branches.as_slice();
+        target_of(BranchAt { branches, branch }, self.otherwise)
     }
 
     /// Where an answer leads that no branch matches.

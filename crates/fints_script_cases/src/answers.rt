@@ -6,7 +6,8 @@ ghost use Rattle.fints_script_cases.specs.CodeBlocks.{HasFree, IsBarren, size_at
 ghost use Rattle.fints_script_cases.specs.Patterns.{matches};
 ghost use Rattle.fints_script_cases.specs.Answers.{matches_some, leads, target_of, IsOpen, IsOpener, IsLeastOpener};
 
-use crate::pattern::{Pattern, digits_of, size_at};
+use crate::branch_at::BranchAt;
+use crate::pattern::{EarlierPlace, Pattern, digits_of, size_at};
 use fints_params::Code;
 
 /// Where a branch leads.
@@ -45,30 +46,27 @@ pub fn choose(branches: &[Branch], otherwise: Target, codes: &[Code]) -> Target
 }
 
 /// Where a branch leads, counted from 1; the default counts as the last.
-pub fn target_of(branches: &[Branch], otherwise: Target, branch: usize) -> Target
-    requires from { 1 ≤ branch }
-    requires to { branch ≤ length branches.now + 1 }
-    ensures { result ≡ target_of branches.now otherwise branch }
+pub fn target_of(at: BranchAt<'_>, otherwise: Target) -> Target
+    ensures { result ≡ target_of at.entry.branches.now otherwise at.entry.branch }
 {
-    branches.get(branch - 1).map_or(otherwise, |own| own.to)
+    at.branches
+        .get(at.branch - 1)
+        .map_or(otherwise, |own| own.to)
 }
 
 /// Whether the branch, counted from 1, has no pattern, or `*` at a place of it.
-fn is_free(branches: &[Branch], branch: usize, place: usize) -> bool
-    requires from { 1 ≤ branch }
-    requires place { place < 3 }
-    ensures { IsTrue result → HasFree branches.now branch place }
+fn is_free(at: BranchAt<'_>, place: EarlierPlace) -> bool
+    ensures { IsTrue result → HasFree at.entry.branches.now at.entry.branch place.index }
 {
-    match branches.get(branch - 1) {
+    match at.branches.get(at.branch - 1) {
         Some(own) => own.on.is_free(place),
         None => true,
     }
 }
 
 /// Whether one of these has the digit at a place, and fits the digits before it.
-fn is_told(earlier: &[Branch], digits: [u8; 4], place: usize, digit: u8) -> bool
-    requires { place < 4 }
-    ensures { result ≡ list_any (λ branch. tells branch.on digits place digit) earlier.now }
+fn is_told(earlier: &[Branch], digits: [u8; 4], place: EarlierPlace, digit: u8) -> bool
+    ensures { result ≡ list_any (λ branch. tells branch.on digits place.index digit) earlier.now }
 {
     earlier
         .iter()
@@ -77,59 +75,54 @@ fn is_told(earlier: &[Branch], digits: [u8; 4], place: usize, digit: u8) -> bool
 
 /// Whether no code of those with the same digits before a place opens the branch, if none below this
 /// one does: the digit before its digit there is told from others by no earlier pattern.
-fn is_spent(branches: &[Branch], branch: usize, code: Code, place: usize) -> bool
-    requires from { 1 ≤ branch }
-    requires to { branch ≤ length branches.now + 1 }
-    requires place { place < 3 }
-    ensures { IsTrue result → IsBarren branches.now branch code (10 * size_at place) }
+fn is_spent(at: BranchAt<'_>, code: Code, place: EarlierPlace) -> bool
+    ensures { IsTrue result → IsBarren at.entry.branches.now at.entry.branch code (10 * size_at place.index) }
 {
     let digits = digits_of(code);
-    if digits[place] == b'0'
-        || code.number() % size_at(place) != 0
-        || !is_free(branches, branch, place)
+    if digits[place.index] == b'0'
+        || code.number() % size_at(place.index) != 0
+        || !is_free(at, place)
     {
         return false;
     }
-    let below = digits[place] - 1;
-    !is_told(&branches[..branch - 1], digits, place, below)
+    let below = digits[place.index] - 1;
+    !is_told(&at.branches[..at.branch - 1], digits, place, below)
 }
 
 /// The greatest block about the code that is spent so, if one is.
-fn spent_block(branches: &[Branch], branch: usize, code: Code) -> Option<u16>
-    requires from { 1 ≤ branch }
-    requires to { branch ≤ length branches.now + 1 }
-    ensures { IfSome result (IsBarren branches.now branch code) }
+fn spent_block(at: BranchAt<'_>, code: Code) -> Option<u16>
+    ensures { IfSome result (IsBarren at.entry.branches.now at.entry.branch code) }
 {
-    for place in 0..3 {
-        if is_spent(branches, branch, code, place) {
-            return Some(10 * size_at(place));
+    for index in 0..3 {
+        let place = EarlierPlace { index };
+        if is_spent(at, code, place) {
+            return Some(10 * size_at(index));
         }
     }
     None
 }
 
 /// A block about the code of which the branch's own pattern matches none.
-fn missed_block(branches: &[Branch], branch: usize, code: Code) -> Option<u16>
-    requires from { 1 ≤ branch }
+fn missed_block(at: BranchAt<'_>, code: Code) -> Option<u16>
     ensures { MatchOption result
-        (ForSome (slice_get branches.now (branch - 1)) (λ own. IsTrue (matches own.on code)))
-        (IsBarren branches.now branch code) }
+        (ForSome (slice_get at.entry.branches.now (at.entry.branch - 1))
+        (λ own. IsTrue (matches own.on code)))
+        (IsBarren at.entry.branches.now at.entry.branch code) }
 {
-    if branches.len() < branch {
+    if at.branches.len() < at.branch {
         return None;
     }
-    branches[branch - 1].on.missed(code)
+    at.branches[at.branch - 1].on.missed(code)
 }
 
 /// A block about the code of which an earlier pattern matches all.
-fn taken_block(branches: &[Branch], branch: usize, code: Code) -> Option<u16>
-    requires from { 1 ≤ branch }
-    requires to { branch ≤ length branches.now + 1 }
+fn taken_block(at: BranchAt<'_>, code: Code) -> Option<u16>
     ensures { MatchOption result
-        (All (λ earlier. IsFalse (matches earlier.on code)) (take (branch - 1) branches.now))
-        (IsBarren branches.now branch code) }
+        (All (λ earlier. IsFalse (matches earlier.on code))
+        (take (at.entry.branch - 1) at.entry.branches.now))
+        (IsBarren at.entry.branches.now at.entry.branch code) }
 {
-    for earlier in &branches[..branch - 1] {
+    for earlier in &at.branches[..at.branch - 1] {
         if earlier.on.matches(code) {
             return Some(earlier.on.block());
         }
@@ -139,34 +132,30 @@ fn taken_block(branches: &[Branch], branch: usize, code: Code) -> Option<u16>
 
 /// A block about the code in which none opens the branch, if none below it does; none if the code
 /// opens it.
-fn barren_block(branches: &[Branch], branch: usize, code: Code) -> Option<u16>
-    requires from { 1 ≤ branch }
-    requires to { branch ≤ length branches.now + 1 }
+fn barren_block(at: BranchAt<'_>, code: Code) -> Option<u16>
     ensures { MatchOption result
-        (IsOpener branches.now branch code)
-        (IsBarren branches.now branch code) }
+        (IsOpener at.entry.branches.now at.entry.branch code)
+        (IsBarren at.entry.branches.now at.entry.branch code) }
 {
-    if let Some(size) = spent_block(branches, branch, code) {
+    if let Some(size) = spent_block(at, code) {
         return Some(size);
     }
-    if let Some(size) = missed_block(branches, branch, code) {
+    if let Some(size) = missed_block(at, code) {
         return Some(size);
     }
-    taken_block(branches, branch, code)
+    taken_block(at, code)
 }
 
 /// The least code that matches a branch and no earlier one. Branches count from 1, and the default
 /// counts as the last. It passes over blocks of codes, so that few are looked at, whatever the
 /// patterns.
-pub fn opener(branches: &[Branch], branch: usize) -> Option<Code>
-    requires from { 1 ≤ branch }
-    requires to { branch ≤ length branches.now + 1 }
-    ensures open { IsSome result ↔ IsOpen branches.now branch }
-    ensures least { IfSome result (IsLeastOpener branches.now branch) }
+pub fn opener(at: BranchAt<'_>) -> Option<Code>
+    ensures open { IsSome result ↔ IsOpen at.entry.branches.now at.entry.branch }
+    ensures least { IfSome result (IsLeastOpener at.entry.branches.now at.entry.branch) }
 {
     let mut number = 0;
     while let Some(code) = Code::from_number(number) {
-        let Some(size) = barren_block(branches, branch, code) else {
+        let Some(size) = barren_block(at, code) else {
             return Some(code);
         };
         number = (number / size + 1) * size;

@@ -25,21 +25,12 @@ impl Model for Answer {
     ghost invariant = { λ a. IsAnswer a.codes.items };
 }
 
-// Each code is below 10,000, which the type `Code` keeps.
-fn are_codes(codes: &[Code])
-    ensures { All (λ code. code < 10000) codes.now }
-{
-    for code in codes {
-        code.keeps();
-    }
-}
-
 impl Answer {
     /// The answer with these codes, if there is one.
     pub fn new(codes: Vec<Code>) -> Option<Answer>
         ensures { SomeIff result (0 < length codes.items) codes.items }
     {
-        are_codes(codes.as_slice());
+        prove!(codes.iter().all(|code| code.number() < 10_000));
         if codes.is_empty() {
             return None;
         }

@@ -2,6 +2,7 @@
 #![tactic(auto)]
 
 mod answers;
+mod branch_at;
 mod carried;
 mod case;
 mod case_fault;
@@ -12,6 +13,7 @@ mod pattern;
 mod values;
 
 pub use answers::{Branch, Target, choose, opener, target_of};
+pub use branch_at::BranchAt;
 pub use carried::{carries, carrying, passes};
 pub use case::{Answer, Case};
 pub use case_fault::CaseFault;

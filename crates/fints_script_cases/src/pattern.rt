@@ -76,6 +76,13 @@ pub fn size_at(place: usize) -> u16
     }
 }
 
+/// A place of a pattern that is not the last, counted from 0.
+#[derive(Clone, Copy)]
+pub struct EarlierPlace {
+    pub index: usize,
+    pub ghost within: { index < 3 },
+}
+
 impl Pattern {
     /// The pattern that the characters are, if they are one.
     pub fn parse(text: &[u8]) -> Option<Pattern>
@@ -99,6 +106,13 @@ impl Pattern {
         &self.places
     }
 
+    /// Whether each place is `*` or has the digit there.
+    pub(crate) fn fits(&self, digits: &[u8; 4]) -> bool
+        ensures { result ≡ list_all (λ p. fits p.0 p.1) (zip self.now digits.now) }
+    {
+        all_fit(&self.places, digits)
+    }
+
     /// Whether each place is `*` or has the code's digit.
     pub fn matches(&self, code: Code) -> bool
         ensures { result ≡ matches self.now code }
@@ -114,18 +128,17 @@ impl Pattern {
     }
 
     /// Whether it has `*` at a place.
-    pub(crate) fn is_free(&self, place: usize) -> bool
-        requires { place < 4 }
-        ensures { result ≡ (get_or self.now place 0 == 42) }
+    pub(crate) fn is_free(&self, place: EarlierPlace) -> bool
+        ensures { result ≡ (get_or self.now place.index 0 == 42) }
     {
-        self.places[place] == b'*'
+        self.places[place.index] == b'*'
     }
 
     /// Whether it fits the digits before a place, and has this digit there.
-    pub(crate) fn tells(&self, digits: [u8; 4], place: usize, digit: u8) -> bool
-        requires { place < 4 }
-        ensures { result ≡ tells self.now digits place digit }
+    pub(crate) fn tells(&self, digits: [u8; 4], place: EarlierPlace, digit: u8) -> bool
+        ensures { result ≡ tells self.now digits place.index digit }
     {
+        let place = place.index;
         all_fit(&self.places[..place], &digits[..place]) && self.places[place] == digit
     }
 

@@ -63,8 +63,10 @@ fn note(places: &mut FieldPlaces, name: Name, place: usize) -> Result<(), Memory
     Ok(())
 }
 
-// The hashing by the names of the fields.
-fn name_hashing(fields: &[NamedField]) -> KeyedHashing {
+// The hashing by the names of the fields. The name of each is a `Name`.
+fn name_hashing(fields: &[NamedField]) -> KeyedHashing
+    ensures { AreNamed fields.now }
+{
     let mut names = KeyDigest::new();
     for field in fields {
         names.add_text(field.name.as_bytes());
@@ -72,15 +74,15 @@ fn name_hashing(fields: &[NamedField]) -> KeyedHashing {
     KeyedHashing::by(names)
 }
 
-// The place of each name. The name of each field is a `Name`, so that a text which can't be a name names no field.
+// The place of each name. A text that can't be a name names no field.
 fn places_of(alloc: Global, fields: &[NamedField]) -> Result<FieldPlaces, Memory>
     ensures places { IfOk result (λ m. HoldsPlaces is_field_named fields.now (get bytes_eq m)) }
     ensures named { IfOk result (λ m. AreNamed fields.now) }
 {
-    let mut places = IndexMap::with_hasher(alloc, name_hashing(fields));
+    let hashing = name_hashing(fields);
+    let mut places = IndexMap::with_hasher(alloc, hashing);
     for i in 0..fields.len() {
         let name = fields[i].name;
-        name.keeps();
         note(&mut places, name, i)?;
     }
     Ok(places)

@@ -8,7 +8,9 @@ use std::test::*;
 
 // The second of three steps.
 fn are_steps(plan: &Plan<'_>) -> bool {
-    plan.step_count() == 3 && plan.step(2).name().as_bytes() == b"bad".as_slice()
+    plan.step_count() == 3
+        && plan.steps().len() == 3
+        && plan.step(2).name().as_bytes() == b"bad".as_slice()
 }
 
 fn is_planned(alloc: Global, script: &Script) -> Result<bool, Fail> {

@@ -1,12 +1,10 @@
--- The elements of an owned segment, each with an item, and none that is not whole.
-use Rattle.std.specs.Prelude.{◌≡◌, ◌<◌, List, [], length}
-use Rattle.std.specs.List.{AllByRecursion}
+-- The elements of an owned segment, none of which is not whole; each filling has an item in each whole one.
+use Rattle.std.specs.Prelude.{◌≡◌, List, []}
 use Rattle.fints_syntax_segments.specs.declared.item.OwnedItem.{OwnedItem}
 use Rattle.fints_syntax_segments.specs.declared.item.Elements.TheInside.{Inside}
 
 abbrev pub elements_of : Inside → List (List OwnedItem)
 elements_of e = e.filling.elements
 
-pub record IsElements (e : Inside) : Type 0 where
-  pub whole : e.filling.items ≡ []
-  pub nonempty : AllByRecursion (λ x. 0 < length x) e.filling.elements
+abbrev pub IsElements : Inside → Type 0
+IsElements e = e.filling.items ≡ []

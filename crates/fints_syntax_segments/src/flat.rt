@@ -1,6 +1,5 @@
 //! Elements in three flat lists: bytes, items and elements.
 ghost use Rattle.std.specs.Prelude.{◌≡◌, ◌<◌, ◌^◌, ◌++◌, ◌∷◌, [], length, OnOk, OnErr, get_or, cond};
-ghost use Rattle.std.specs.List.{AllByRecursion};
 ghost use Rattle.fints_syntax_segments.specs.Segment.{item_value};
 ghost use Rattle.fints_syntax_segments.specs.Written.{KeepsFront};
 ghost use Rattle.fints_syntax_segments.specs.declared.item.OwnedItem.TheVariants.{Text, Bin};
@@ -114,13 +113,6 @@ impl Filling {
         self.spans.truncate(self.open);
     }
 
-    // What each filling keeps: each whole element has an item.
-    pub(crate) fn keeps(&self)
-        ensures { AllByRecursion (λ e. 0 < length e) self.now.elements }
-    {
-        let _ = &self.groups;
-    }
-
     /// How many whole elements there are.
     pub fn len(&self) -> usize
         ensures count { result ≡ length self.now.elements }
@@ -131,7 +123,8 @@ impl Filling {
 
     /// The items of an element, from 0 on; none where it is absent.
     pub fn items(&self, element: usize) -> ElementRef<'_>
-        ensures { result ≡ get_or self.now.elements element [] }
+        ensures items { result ≡ get_or self.now.elements element [] }
+        ensures some { element < length self.now.elements → 0 < length result }
     {
         match self.groups.get(element) {
             None => ElementRef::new(&[], &[]),

@@ -90,7 +90,6 @@ impl Elements {
         requires { filling.items ≡ [] }
         ensures { result ≡ filling.elements }
     {
-        filling.keeps();
         Elements { filling }
     }
 

@@ -11,7 +11,7 @@ ghost use Rattle.fints_syntax_segments.specs.declared.limits.TheConstants.{MAX_B
 
 use crate::filling::{Filling, filled_elements};
 use crate::frame::{data_segment, first_segment, last_segment, seal_segment, segment};
-use crate::part::{Part, part_at, part_count};
+use crate::part::{FewParts, Part, part_at, part_count};
 use fints_script::{Plan, Step, Values};
 use fints_syntax::{Elements, Memory, OwnedSegment, write_segment};
 use std::alloc::Global;
@@ -49,7 +49,7 @@ fn inner_text<'a>(
         v.items ≡ segments_text (inner_segments plan.now.script step.now filling.now)) }
 {
     let mut out = Vec::new(alloc);
-    for i in 0..part_count(step) {
+    for i in 0..part_count(FewParts { step }) {
         let part = part_at(plan, step, i);
         write_part(alloc, &mut out, filling, &part, i as u16 + 2)?;
     }
@@ -120,7 +120,7 @@ fn later_text(
         v.items ≡ segments_text (later_segments plan.now.script step.now filling.now number)) }
 {
     let mut out = middle_text(alloc, plan, step, filling)?;
-    let last = last_segment(alloc, part_count(step) as u16 + 2, number)?;
+    let last = last_segment(alloc, part_count(FewParts { step }) as u16 + 2, number)?;
     write_segment(&mut out, &last)?;
     Ok(out)
 }

@@ -1,14 +1,15 @@
 //! Runs: the messages that a client sends under a list of answers.
-ghost use Rattle.std.specs.Prelude.{◌≡◌, ◌<◌, ◌≤◌, length, MatchOption, IfOk};
+ghost use Rattle.std.specs.Prelude.{◌<◌, ◌≤◌, MatchOption, IfOk};
 ghost use Rattle.fints_script_cases.specs.Answers.{IsAnswer};
 ghost use Rattle.fints_script.specs.Plans.{Admits};
+ghost use Rattle.fints_script.specs.Scripts.{IsRead};
 ghost use Rattle.std.specs.List.{All, AllByRecursion};
 ghost use Rattle.fints_wire.specs.Views.{IsReadAs};
 ghost use Rattle.fints_wire.specs.declared.building.TheConstants.{MAX_NUMBER};
-ghost use Rattle.fints_wire.specs.Runs.{AreSent, AreVisits, Finishes, Follows, IsSent, IsWithin, Run};
+ghost use Rattle.fints_wire.specs.Runs.{AreSent, AreVisits, Ends, Enters, IsSent, IsWithin, Run, answered};
 
 use crate::building::build;
-use fints_script::{Answer, Plan, Target, Values};
+use fints_script::{Answer, Plan, Step, Target, Values};
 use fints_syntax::{Bytes, Memory};
 use std::alloc::Global;
 
@@ -29,17 +30,14 @@ pub struct Sent {
     pub bytes: Bytes,
 }
 
-// What an answer has sent next, unless it ends the run.
-fn follow(plan: &Plan, here: Visit, answer: &Answer) -> Option<Visit>
-    requires from { 1 ≤ here.step }
-    requires to { here.step ≤ length plan.now.script.steps }
+// What an answer to a message of the step has sent next, unless it ends the run.
+fn follow(step: &Step, here: Visit, answer: &Answer) -> Option<Visit>
     requires number { here.number < MAX_NUMBER }
     requires times { here.times ≤ 99 }
     ensures { MatchOption result
-        (Finishes plan.now.script.steps here answer.now)
-        (Follows plan.now.script.steps here answer.now) }
+        (Ends step.now.repeat here (answered step.now answer.now))
+        (Enters step.now.repeat here (answered step.now answer.now)) }
 {
-    let step = plan.step(usize::from(here.step));
     match step.choose(answer.codes()) {
         Target::Step(to) => Some(Visit {
             step: to,
@@ -67,7 +65,7 @@ pub fn message(alloc: Global, plan: &Plan, values: &Values, visit: Visit) -> Res
     requires admits { Admits plan.now.script.fields values.now }
     ensures { IfOk result (IsSent plan.now.script values.now visit) }
 {
-    plan.keeps();
+    prove!(usize::from(visit.step) <= plan.step_count());
     let bytes = build(alloc, plan, usize::from(visit.step), visit.number, values)?;
     Ok(Sent {
         step: visit.step,
@@ -81,8 +79,9 @@ pub fn message(alloc: Global, plan: &Plan, values: &Values, visit: Visit) -> Res
 pub fn visits(alloc: Global, plan: &Plan, answers: &[Answer]) -> Result<Vec<Visit>, Memory>
     ensures visits { IfOk result (λ visits. AreVisits plan.now.script.steps answers.now visits.items) }
     ensures within { IfOk result (λ visits. All (IsWithin plan.now.script.steps) visits.items) }
+    ensures read { IsRead plan.now.script }
 {
-    plan.keeps();
+    let steps = plan.steps();
     let mut visits = Vec::new(alloc);
     let mut here = Visit {
         step: 1,
@@ -91,7 +90,8 @@ pub fn visits(alloc: Global, plan: &Plan, answers: &[Answer]) -> Result<Vec<Visi
     };
     visits.push(here)?;
     for answer in answers {
-        match follow(plan, here, answer) {
+        let step = &steps[here.step as usize - 1];
+        match follow(step, here, answer) {
             None => return Ok(visits),
             Some(visit) => {
                 here = visit;
@@ -131,7 +131,6 @@ pub fn run(
     ensures run { IfOk result (λ sent. Run plan.now.script values.now answers.now sent.items) }
     ensures messages { IfOk result (λ sent. AllByRecursion (IsReadAs plan.now.script values.now) sent.items) }
 {
-    plan.keeps();
     let visits = visits(alloc, plan, answers)?;
     let sent = messages(alloc, plan, values, visits.as_slice())?;
     Ok(sent)

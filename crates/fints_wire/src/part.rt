@@ -59,13 +59,20 @@ fn end_part<'a>(signers: &'a [Signer], place: usize) -> Part<'a>
     }
 }
 
+/// A step of few signers and segments, as those of scripts are.
+#[derive(Clone, Copy)]
+pub struct FewParts<'a> {
+    pub step: &'a Step,
+    pub ghost signers: { length step.now.signers ≤ 9 },
+    pub ghost templates: { length step.now.templates ≤ 100 },
+}
+
 /// How many segments stand between the first and the last, before they are sealed.
-pub fn part_count(step: &Step) -> usize
-    requires few { length step.now.signers ≤ 9 }
-    requires templates { length step.now.templates ≤ 100 }
+pub fn part_count(few: FewParts<'_>) -> usize
     ensures few { result ≤ 118 }
-    ensures count { (script : ScriptValue) → result ≡ length (templates_of script step.now) }
+    ensures count { (script : ScriptValue) → result ≡ length (templates_of script few.entry.step.now) }
 {
+    let step = few.step;
     step.signers().len() + (step.templates().len() + step.signers().len())
 }
 

@@ -13,7 +13,7 @@ ghost use Rattle.fints_wire.specs.declared.building.TheConstants.{MAX_NUMBER};
 ghost use Rattle.fints_wire.specs.Messages.{seal_of, templates_of};
 ghost use Rattle.fints_syntax_segments.specs.declared.limits.TheConstants.{MAX_BYTES};
 
-use crate::part::{Part, part_at, part_count};
+use crate::part::{FewParts, Part, part_at, part_count};
 use fints_script::{FieldClass, Plan, Step, TemplateItem};
 use fints_syntax::{Kind, OwnedItem, decimal_len, written_binary_len, written_len};
 use fints_syntax_segments::{
@@ -117,17 +117,23 @@ fn count_part(plan: &Plan, number: u32, part: &Part, n: u64, before: u64) -> u64
     count_elements(plan, number, part.elements.as_slice(), before + head)
 }
 
-fn segments_size<'a>(plan: &'a Plan<'a>, step: &'a Step, number: u32) -> u64
+// A number that a message can have.
+#[derive(Clone, Copy)]
+struct MessageNumber {
+    number: u32,
+    ghost most: { number ≤ MAX_NUMBER },
+}
+
+fn segments_size<'a>(plan: &'a Plan<'a>, step: &'a Step, number: MessageNumber) -> u64
     requires sound { IsSound plan.now.script }
     requires step { IsSoundStep plan.now.script step.now }
-    requires number { number ≤ MAX_NUMBER }
-    ensures { result ≡ segments_len (longest_sizes plan.now.script.fields number) 2
+    ensures { result ≡ segments_len (longest_sizes plan.now.script.fields number.number) 2
         (templates_of plan.now.script step.now) }
 {
     let mut size = 0u64;
-    for i in 0..part_count(step) {
+    for i in 0..part_count(FewParts { step }) {
         let part = part_at(plan, step, i);
-        size = count_part(plan, number, &part, i as u64 + 2, size);
+        size = count_part(plan, number.number, &part, i as u64 + 2, size);
     }
     size
 }
@@ -163,27 +169,25 @@ fn envelope_size(inner: u64) -> u64
     head + data + digit_count(inner) + 3 + inner
 }
 
-fn middle_size<'a>(plan: &'a Plan<'a>, step: &'a Step, number: u32) -> u64
+fn middle_size<'a>(plan: &'a Plan<'a>, step: &'a Step, number: MessageNumber) -> u64
     requires sound { IsSound plan.now.script }
     requires step { IsSoundStep plan.now.script step.now }
-    requires number { number ≤ MAX_NUMBER }
-    ensures { result ≡ between_len plan.now.script step.now (longest_sizes plan.now.script.fields number) }
+    ensures { result ≡ between_len plan.now.script step.now
+        (longest_sizes plan.now.script.fields number.number) }
 {
     let inner = segments_size(plan, step, number);
     if !step.sealed() {
         return inner;
     }
     let envelope = envelope_size(inner);
-    seal_size(plan, number, envelope)
+    seal_size(plan, number.number, envelope)
 }
 
 // The first segment and the last, but for the dialogue id.
-fn frame_size(step: &Step, number: u32) -> u64
-    requires few { length step.now.signers ≤ 9 }
-    requires templates { length step.now.templates ≤ 100 }
+fn frame_size(few: FewParts<'_>, number: u32) -> u64
     ensures is { (script : ScriptValue)
         → result ≡ head_len (codes "HNHBK") HNHBK_NUMBER HNHBK_VERSION + 17 + number_len number
-        + (head_len (codes "HNHBS") (2 + length (templates_of script step.now)) HNHBS_VERSION
+        + (head_len (codes "HNHBS") (2 + length (templates_of script few.entry.step.now)) HNHBS_VERSION
         + number_len number) }
     ensures small { result ≤ 200 }
 {
@@ -193,7 +197,7 @@ fn frame_size(step: &Step, number: u32) -> u64
         u64::from(HNHBK_NUMBER),
         u64::from(HNHBK_VERSION),
     );
-    let parts = part_count(step) as u64;
+    let parts = part_count(few) as u64;
     let last = head_size(
         Kind::parse(b"HNHBS").unwrap(),
         parts + 2,
@@ -202,16 +206,15 @@ fn frame_size(step: &Step, number: u32) -> u64
     first + last + digits + digits + 17
 }
 
-fn message_size<'a>(plan: &'a Plan<'a>, step: &'a Step, number: u32) -> u64
+fn message_size<'a>(plan: &'a Plan<'a>, step: &'a Step, number: MessageNumber) -> u64
     requires sound { IsSound plan.now.script }
     requires step { IsSoundStep plan.now.script step.now }
-    requires number { number ≤ MAX_NUMBER }
-    ensures { result ≡ message_len plan.now.script step.now (longest_sizes plan.now.script.fields number)
-        number }
+    ensures { result ≡ message_len plan.now.script step.now
+        (longest_sizes plan.now.script.fields number.number) number.number }
 {
     let middle = middle_size(plan, step, number);
-    let dialog = dialog_size(plan, number);
-    frame_size(step, number) + dialog + middle
+    let dialog = dialog_size(plan, number.number);
+    frame_size(FewParts { step }, number.number) + dialog + middle
 }
 
 /// The length in bytes of the longest of a step's messages of this number, and of those of a lower one; steps count from 1.
@@ -225,5 +228,5 @@ pub fn worst_size(plan: &Plan, step: usize, number: u32) -> u64
     ensures most { NoneIsLonger plan.now.script step number result }
     ensures short { result < MAX_BYTES }
 {
-    message_size(plan, plan.step(step), number)
+    message_size(plan, plan.step(step), MessageNumber { number })
 }

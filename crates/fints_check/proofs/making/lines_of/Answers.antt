@@ -4,6 +4,7 @@ use Rattle.std.proofs.lemmas.List.{map-append}
 use Rattle.std.proofs.lemmas.List.Elements.{All-append, All-cons}
 use Rattle.fints_script_fields.specs.Names.{IsName}
 use Rattle.fints_script.specs.Plans.{PlanValue}
+use Rattle.fints_script.specs.Scripts.{IsRead}
 use Rattle.fints_script.specs.Steps.{StepValue}
 use Rattle.fints_check.specs.Certificates.{line_figures, line_names, step_names}
 use Rattle.fints_check.specs.declared.certificate.Line.{Line}
@@ -37,6 +38,9 @@ loop-i-preserved c =
       are_names =
           subst (All (λ (x : Line). IsName x.name)) (sym c.in_ok-push.ensures.items)
           (All-append (λ (x : Line). IsName x.name) old (line ∷ []) c.loop-i.invariant.are_names
-          (All-cons (λ (x : Line). IsName x.name) line [] c.keeps.ensures
+          (All-cons (λ (x : Line). IsName x.name) line [] c.as_bytes.ensures.name
           (λ k d h. absurd (omega (arith, h)))));
     }
+
+pub returns-clause-read : goal.returns-clause-read
+returns-clause-read c = subst (λ (p : PlanValue). IsRead p.script) c.plan-plan.ensures c.step_count-i-end.ensures.read

@@ -6,6 +6,8 @@ use Rattle.fints_check.specs.Certificates.{line_names, step_names}
 use Rattle.fints_check.specs.Unclosed.{found_at, IsFirstOpen}
 use Rattle.fints_check.specs.Verifying.{AreClaimsClosed, ClaimsValue}
 use Rattle.fints_check.specs.declared.certificate.Line.{Line}
+use Rattle.fints_check.proofs.LawLemmas.{closed_promises_permitted, closed_promises_promise}
+use Rattle.fints_script.proofs.LawLemmas.{sound_of}
 use Rattle.fints_check.proofs.verifying.first_open.Goals as goal
 
 pub returns-in-Ok-clause-none : goal.returns-in-Ok-clause-none
@@ -21,6 +23,16 @@ returns-in-Ok-clause-none c =
     (subst (λ (v : ClaimsValue). IsNone c.first_open.result ↔ AreClaimsClosed v) c.in-Ok.ensures.claims.1 c.first_open.ensures.none) in
     let all = claims c.args.certificate.now in
     (λ none. closed_by_claims all names (told.0 none), λ closed. told.1 (claims_by_closed all closed))
+
+pub returns-in-Ok-clause-promise : goal.returns-in-Ok-clause-promise
+returns-in-Ok-clause-promise c none =
+    closed_promises_promise c.args.permissions.now c.args.plan.now.script c.args.certificate.now
+    (sound_of c.of.ensures.read) ((returns-in-Ok-clause-none c).0 none)
+
+pub returns-in-Ok-clause-permitted : goal.returns-in-Ok-clause-permitted
+returns-in-Ok-clause-permitted c none =
+    closed_promises_permitted c.args.permissions.now c.args.plan.now.script c.args.certificate.now
+    (sound_of c.of.ensures.read) ((returns-in-Ok-clause-none c).0 none)
 
 pub returns-in-Ok-clause-first : goal.returns-in-Ok-clause-first
 returns-in-Ok-clause-first c =

@@ -26,39 +26,39 @@ use Rattle.fints_check_findings.proofs.casing.case_values.Goals as goal
 
 pub returns-in-Size : goal.returns-in-Size
 returns-in-Size c =
-    let script = c.args.plan.now.script in
-    let granted = c.args.permissions.now in
-    let sound = sound_of c.keeps.ensures.read in
-    let breaks = size_values script granted c.args.finding sound c.in-Size.is in
-    if_ok (λ v. v ≡ longest_choice script.fields) (AreCaseValues granted script c.args.finding) c.values_of.result
+    let script = c.args.at.plan.now.script in
+    let granted = c.args.at.permissions.now in
+    let sound = sound_of c.step-step.ensures.read in
+    let breaks = size_values script granted c.args.at.finding sound c.in-Size.is in
+    if_ok (λ v. v ≡ longest_choice script.fields) (AreCaseValues granted script c.args.at.finding) c.values_of.result
     (λ v is.
     record {
-      admitted = λ r. absurd (size_not c.args.finding.rule c.in-Size.is r);
-      greatest = λ other. subst (BreaksAtGreatest granted script c.args.finding) (sym is) breaks;
+      admitted = λ r. absurd (size_not c.args.at.finding.rule c.in-Size.is r);
+      greatest = λ other. subst (BreaksAtGreatest granted script c.args.at.finding) (sym is) breaks;
       chosen =
-          λ number step at peak real. size_chosen granted script c.args.finding v c.in-Size.is is;
+          λ number step at peak real. size_chosen granted script c.args.at.finding v c.in-Size.is is;
     })
     c.values_of.ensures
 
 pub returns-in-Number : goal.returns-in-Number
 returns-in-Number c =
-    let script = c.args.plan.now.script in
-    let granted = c.args.permissions.now in
-    let sound = sound_of c.keeps.ensures.read in
-    if_ok (λ v. v ≡ shortest_choice script.fields) (AreCaseValues granted script c.args.finding) c.values_of-in-Number.result
+    let script = c.args.at.plan.now.script in
+    let granted = c.args.at.permissions.now in
+    let sound = sound_of c.step-step.ensures.read in
+    if_ok (λ v. v ≡ shortest_choice script.fields) (AreCaseValues granted script c.args.at.finding) c.values_of-in-Number.result
     (λ v is. record {
-      admitted = λ r. absurd (number_not c.args.finding.rule c.in-Number.is r);
+      admitted = λ r. absurd (number_not c.args.at.finding.rule c.in-Number.is r);
       greatest = λ other.
           let admits : Admits script.fields v = subst (Admits script.fields) (sym is) (extremes_are_admitted_shortest script.fields) in
-          number_values script granted c.args.finding sound v admits c.in-Number.is;
-      chosen = λ number step at peak real. other_chosen granted script c.args.finding v rule.Number c.in-Number.is (λ e. cc) (λ e. cc) (λ e. elim e [ inl n ↦ cc | inr n ↦ cc ]) is;
+          number_values script granted c.args.at.finding sound v admits c.in-Number.is;
+      chosen = λ number step at peak real. other_chosen granted script c.args.at.finding v rule.Number c.in-Number.is (λ e. cc) (λ e. cc) (λ e. elim e [ inl n ↦ cc | inr n ↦ cc ]) is;
     }) c.values_of-in-Number.ensures
 
 pub returns-in-Release : goal.returns-in-Release
 returns-in-Release c =
-    let script = c.args.plan.now.script in
-    let granted = c.args.permissions.now in
-    if_ok (λ v. v ≡ shortest_choice script.fields) (AreCaseValues granted script c.args.finding) c.values_of-in-Release.result
+    let script = c.args.at.plan.now.script in
+    let granted = c.args.at.permissions.now in
+    if_ok (λ v. v ≡ shortest_choice script.fields) (AreCaseValues granted script c.args.at.finding) c.values_of-in-Release.result
     (λ v is.
     record {
       admitted =
@@ -66,20 +66,20 @@ returns-in-Release c =
       greatest = λ other. absurd (other c.in-Release.is);
       chosen =
           λ number step at peak real.
-          other_chosen granted script c.args.finding v rule.Release c.in-Release.is (λ e. cc)
+          other_chosen granted script c.args.at.finding v rule.Release c.in-Release.is (λ e. cc)
           (λ e. cc) (λ e. elim e [ inl n ↦ cc | inr n ↦ cc ]) is;
     })
     c.values_of-in-Release.ensures
 
 pub facts_asked-asked-requires : goal.facts_asked-asked-requires
-facts_asked-asked-requires c = c.requires.facts c.step-step.result.now c.step-step.ensures.numbered
+facts_asked-asked-requires c = c.requires c.step-step.result.now c.step-step.ensures.numbered
 
 pub returns-in_default : goal.returns-in_default
 returns-in_default c =
-    let script = c.args.plan.now.script in
-    let granted = c.args.permissions.now in
-    let sound = sound_of c.keeps.ensures.read in
-    let f = c.args.finding in
+    let script = c.args.at.plan.now.script in
+    let granted = c.args.at.permissions.now in
+    let sound = sound_of c.step-step.ensures.read in
+    let f = c.args.at.finding in
     let choice = c.step_choice-choice.result in
     let here = c.step-step.result.now in
     let facts = c.facts_asked-asked.result in
@@ -91,8 +91,8 @@ returns-in_default c =
     (subst (λ s. IfOk c.values_of-in_default.result (AreOfSort script.fields s)) sort
     c.values_of-in_default.ensures) in
     let decides =
-    facts_decide script granted c.args.plan.now.orders f.step here c.step-step.ensures.read c.step-step.ensures.numbered
-    c.keeps.ensures.closed (sym c.requires.orders) f.rule facts c.facts_asked-asked.ensures in
+    facts_decide script granted c.args.at.plan.now.orders f.step here c.step-step.ensures.read c.step-step.ensures.numbered
+    c.step-step.ensures.closed (sym c.args.at.orders) f.rule facts c.facts_asked-asked.ensures in
     let chosen =
     subst (λ (fields : List NamedField). IsStepChoice granted fields here facts f.rule f.segment choice)
     c.fields.ensures c.step_choice-choice.ensures in

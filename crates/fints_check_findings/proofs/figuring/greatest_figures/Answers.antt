@@ -35,7 +35,7 @@ figures_at-requires-clause-least c =
     let numbers = c.in_ok-numbers.numbers.greatest.items in
     let greatest = c.in_ok-numbers.ensures.greatest in
     let cell = cell_at numbers c.loop-i.i c.index.result.now (omega (arith, greatest.long, c.step_count-count.ensures.count)) c.index.ensures in
-    (number_small script nothing (sound_of c.keeps.ensures.read) (c.loop-i.i + 1) c.in-Some.number
+    (number_small script nothing (sound_of c.step_count-count.ensures.read) (c.loop-i.i + 1) c.in-Some.number
     (greatest_at script.steps numbers (c.loop-i.i + 1) c.in-Some.number greatest
     (cell ∙ ap (λ (x : Option ℕ). Some x) c.in-Some.is))).0
 
@@ -45,14 +45,14 @@ figures_at-requires-clause-most c =
     let numbers = c.in_ok-numbers.numbers.greatest.items in
     let greatest = c.in_ok-numbers.ensures.greatest in
     let cell = cell_at numbers c.loop-i.i c.index.result.now (omega (arith, greatest.long, c.step_count-count.ensures.count)) c.index.ensures in
-    (number_small script nothing (sound_of c.keeps.ensures.read) (c.loop-i.i + 1) c.in-Some.number
+    (number_small script nothing (sound_of c.step_count-count.ensures.read) (c.loop-i.i + 1) c.in-Some.number
     (greatest_at script.steps numbers (c.loop-i.i + 1) c.in-Some.number greatest
     (cell ∙ ap (λ (x : Option ℕ). Some x) c.in-Some.is))).1
 
 pub loop-i-preserved : goal.loop-i-preserved
 loop-i-preserved c =
     let script = c.args.plan.now.script in
-    let sound = sound_of c.keeps.ensures.read in
+    let sound = sound_of c.step_count-count.ensures.read in
     let numbers = c.in_ok-numbers.numbers.greatest.items in
     let greatest = c.in_ok-numbers.ensures.greatest in
     let cell : numbered numbers (c.loop-i.i + 1) ≡ Some c.index.result.now =

@@ -15,8 +15,8 @@ none_of : (P : Type 0) (Q : ℕ → Type 0) (o : Option ℕ) → MatchOption o P
 none_of P Q None told h = told
 none_of P Q (Some s) told h = absurd cc
 
-pub returns-then-not-submits : goal.returns-then-not-submits
-returns-then-not-submits c = (
+pub returns-then-not-submits-clause-none : goal.returns-then-not-submits-clause-none
+returns-then-not-submits-clause-none c = (
   λ _ s h.
       let step = c.step-step.result.now in
       let same : h.step ≡ step = same_Some h.step step (sym h.at ∙ c.step-step.ensures.numbered) in
@@ -26,8 +26,8 @@ returns-then-not-submits c = (
   λ _. refl,
 )
 
-pub returns-then-is_some : goal.returns-then-is_some
-returns-then-is_some c = (
+pub returns-then-is_some-clause-none : goal.returns-then-is_some-clause-none
+returns-then-is_some-clause-none c = (
   λ h. let clash : false ≡ true = h in cc,
   λ none.
       let is = some_of _ _ c.unreleased_at.result c.unreleased_at.ensures (sym c.is_some.ensures ∙ c.if-is_some.true) in
@@ -51,16 +51,16 @@ loop-branch-preserved c s k low less is =
           none_of _ _ c.unreleased_at.result c.unreleased_at.ensures
           (sym c.is_some.ensures ∙ c.if-is_some.false) s
           (subst
-          (λ (j : ℕ). IsUnreleasedAt c.args.plan.now.script.steps c.args.t c.step-step.result.now j s)
+          (λ (j : ℕ). IsUnreleasedAt c.args.at.plan.now.script.steps c.args.at.n c.step-step.result.now j s)
           same is)
     ]
 
-pub returns : goal.returns
-returns c = (
+pub returns-clause-none : goal.returns-clause-none
+returns-clause-none c = (
   λ _ s h.
       let step = c.step-step.result.now in
       let same : h.step ≡ step = same_Some h.step step (sym h.at ∙ c.step-step.ensures.numbered) in
-      let is = subst (λ (x : StepValue). IsUnreleasedAt c.args.plan.now.script.steps c.args.t x h.branch s) same h.is in
+      let is = subst (λ (x : StepValue). IsUnreleasedAt c.args.at.plan.now.script.steps c.args.at.n x h.branch s) same h.is in
       let low = is.carried.carries.1.fires.from in
       let high = is.carried.carries.1.fires.to in
       c.loop-branch.invariant s h.branch low (omega (arith, high, ap length c.branches.ensures, c.loop-branch-test.false)) is,

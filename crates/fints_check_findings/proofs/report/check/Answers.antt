@@ -37,7 +37,7 @@ pub loop-i-init : goal.loop-i-init
 loop-i-init c =
     let script = c.args.plan.now.script in
     let granted = c.args.permissions.now in
-    let sound = sound_of c.keeps.ensures.read in
+    let sound = sound_of c.step_count-count.ensures.read in
     record {
       findings =
           subst (AreFoundTo granted script 1 1 0) (sym c.new-findings.ensures.items)
@@ -50,7 +50,7 @@ loop-i-init c =
 pub figures_at-reached-requires-clause-least : goal.figures_at-reached-requires-clause-least
 figures_at-reached-requires-clause-least c =
     let script = c.args.plan.now.script in
-    (number_small script c.args.permissions.now (sound_of c.keeps.ensures.read) (c.loop-i.i + 1) c.in-Some.number
+    (number_small script c.args.permissions.now (sound_of c.step_count-count.ensures.read) (c.loop-i.i + 1) c.in-Some.number
     (peak_at script.steps c.in_ok-numbers.numbers.greatest.items c.loop-i.i c.in-Some.number c.index.result.now
     c.in_ok-numbers.ensures.greatest (omega (arith, c.step_count-count.ensures.count)) c.index.ensures
     c.in-Some.is)).0
@@ -58,7 +58,7 @@ figures_at-reached-requires-clause-least c =
 pub figures_at-reached-requires-clause-most : goal.figures_at-reached-requires-clause-most
 figures_at-reached-requires-clause-most c =
     let script = c.args.plan.now.script in
-    (number_small script c.args.permissions.now (sound_of c.keeps.ensures.read) (c.loop-i.i + 1) c.in-Some.number
+    (number_small script c.args.permissions.now (sound_of c.step_count-count.ensures.read) (c.loop-i.i + 1) c.in-Some.number
     (peak_at script.steps c.in_ok-numbers.numbers.greatest.items c.loop-i.i c.in-Some.number c.index.result.now
     c.in_ok-numbers.ensures.greatest (omega (arith, c.step_count-count.ensures.count)) c.index.ensures
     c.in-Some.is)).1
@@ -84,8 +84,8 @@ pub new-requires-clause-unreleased : goal.new-requires-clause-unreleased
 new-requires-clause-unreleased c =
     let script = c.args.plan.now.script in
     let granted = c.args.permissions.now in
-    let sound = sound_of c.keeps.ensures.read in
-    let closed = subst (IsClosed script) (sym c.requires) c.keeps.ensures.closed in
+    let sound = sound_of c.step_count-count.ensures.read in
+    let closed = subst (IsClosed script) (sym c.requires) c.step_count-count.ensures.closed in
     let numbers = c.in_ok-numbers.numbers.greatest.items in
     let holders = c.in_ok-holders.holders.items in
     let greatest = c.in_ok-numbers.ensures.greatest in
@@ -103,7 +103,7 @@ pub loop-i-preserved : goal.loop-i-preserved
 loop-i-preserved c =
     let script = c.args.plan.now.script in
     let granted = c.args.permissions.now in
-    let sound = sound_of c.keeps.ensures.read in
+    let sound = sound_of c.step_count-count.ensures.read in
     let numbers = c.in_ok-numbers.numbers.greatest.items in
     let greatest = c.in_ok-numbers.ensures.greatest in
     let n : ℕ = c.loop-i.i + 1 in
@@ -168,7 +168,7 @@ pub invariant_of-result : goal.invariant_of-result
 invariant_of-result c =
     let script = c.args.plan.now.script in
     let granted = c.args.permissions.now in
-    let sound = sound_of c.keeps.ensures.read in
+    let sound = sound_of c.step_count-count.ensures.read in
     let all : c.loop-i.i ≡ length script.steps = omega (arith, c.loop-i-test.false, c.loop-i.auto.i-end, c.step_count-count.ensures.count) in (
       c.requires,
       found_all granted script c.loop-i.i c.loop-i.findings.items
@@ -182,13 +182,15 @@ invariant_of-result c =
       c.in_ok-numbers.ensures.sources,
       c.in_ok-holders.ensures,
       facts_all granted script c.loop-i.i c.loop-i.facts.items all c.loop-i.invariant.facts,
+      c.step_count-count.ensures.read,
+      c.step_count-count.ensures.closed,
     )
 
 pub returns-clause-exactly : goal.returns-clause-exactly
 returns-clause-exactly c =
     let script = c.args.plan.now.script in
     let granted = c.args.permissions.now in
-    let sound = sound_of c.keeps.ensures.read in
+    let sound = sound_of c.step_count-count.ensures.read in
     let all : c.loop-i.i ≡ length script.steps = omega (arith, c.loop-i-test.false, c.loop-i.auto.i-end, c.step_count-count.ensures.count) in
     (found_all granted script c.loop-i.i c.loop-i.findings.items
     (λ f real. subst (λ (k : ℕ). f.step ≤ k) (sym all) (real_within granted script sound f real).1)
@@ -198,7 +200,7 @@ pub returns-clause-permitted : goal.returns-clause-permitted
 returns-clause-permitted c =
     let script = c.args.plan.now.script in
     let granted = c.args.permissions.now in
-    let sound = sound_of c.keeps.ensures.read in
+    let sound = sound_of c.step_count-count.ensures.read in
     let all : c.loop-i.i ≡ length script.steps = omega (arith, c.loop-i-test.false, c.loop-i.auto.i-end, c.step_count-count.ensures.count) in
     clean_permits granted script c.loop-i.findings.items sound
     (found_all granted script c.loop-i.i c.loop-i.findings.items

@@ -10,13 +10,13 @@ returns c =
     let step = c.step-step.result.now in
     let branch = c.unwrap-branch.result in
     let carried =
-    MatchOption-at_some (CarriesTo step c.args.t c.args.code c.args.s → ⊥)
-    (λ b. IsCarriedTo step c.args.t b c.args.code c.args.s) branch c.unwrap-branch.ensures
+    MatchOption-at_some (CarriesTo step c.args.way.n c.args.code c.args.s → ⊥)
+    (λ b. IsCarriedTo step c.args.way.n b c.args.code c.args.s) branch c.unwrap-branch.ensures
     c.branch_to.ensures.carried in
     let way = c.in_ok-answers.ensures in
     let target : c.target.result ≡ target_of step.branches step.otherwise branch = c.target.ensures in
     let on =
-    branch_follows c.args.plan.now.script.steps c.args.t c.args.code c.args.s branch step way.from
+    branch_follows c.args.way.plan.now.script.steps c.args.way.n c.args.code c.args.s branch step way.from
     c.in_ok-carrying.field-0 c.step-step.ensures.numbered way.of (λ again. way.once (target ∙ again))
     c.in_ok-carrying.ensures carried.goes in
     record {

@@ -2,7 +2,7 @@ use Rattle.std.proofs.Common.{◌≡◌, ◌+◌, length, ℕ, Option, Some, Non
 use Rattle.std.specs.List.{slice_get}
 use Rattle.std.specs.Prelude.{is_some}
 use Rattle.std.proofs.lemmas.List.{length-map, length-replicate, length-set, map-append}
-use Rattle.fints_script.specs.Numbered.{numbered_from}
+use Rattle.fints_script.specs.Numbered.{numbered_at, numbered_from}
 use Rattle.fints_check_reach.specs.Numbers.{looked_at}
 use Rattle.fints_check_reach.proofs.PassLemmas.{Pass, pass_none, pass_more, pass_greatest, entered_small}
 use Rattle.fints_check_reach.proofs.SourceLemmas.{pass_sources}
@@ -79,18 +79,20 @@ pass_step-number-requires-clause-kept c = c.loop-i.invariant.behind.long
 pub loop-i-preserved : goal.loop-i-preserved
 loop-i-preserved c =
     let steps = c.args.plan.now.script.steps in
-    let at = c.step-step.ensures.numbered in
+    let here = numbered_at steps (c.loop-i.i + 1) (omega arith) (omega (arith, c.step_count-count.ensures.count)) in
+    let step = here.0 in
+    let at = here.1 in
     let more =
     pass_more steps c.loop-i.entries.items c.pass_step-number.new.entries.items c.loop-i.sources.items
     c.pass_step-number.new.sources.items c.loop-i.greatest.items c.pass_step-number.result c.loop-i.i
-    (c.loop-i.i + 1) c.step-step.result.now refl at
-    (c.pass_step-number.ensures.passed c.step-step.result.now at) c.loop-i.invariant.pass.kept
+    (c.loop-i.i + 1) step refl at
+    (c.pass_step-number.ensures.passed step at) c.loop-i.invariant.pass.kept
     (script_of c.args.plan.now.script (sound_of c.step_count-count.ensures.read))
     c.loop-i.invariant.pass in
-    let there : slice_get steps (length (map is_some c.loop-i.greatest.items)) ≡ Some c.step-step.result.now =
-    subst (λ (k : ℕ). slice_get steps k ≡ Some c.step-step.result.now)
+    let there : slice_get steps (length (map is_some c.loop-i.greatest.items)) ≡ Some step =
+    subst (λ (k : ℕ). slice_get steps k ≡ Some step)
     (omega (arith, length-map c.loop-i.greatest.items is_some, c.loop-i.invariant.pass.kept))
-    (numbered_from steps (c.loop-i.i + 1) c.step-step.result.now at) in
+    (numbered_from steps (c.loop-i.i + 1) step at) in
     record {
       pass =
           subst
@@ -105,16 +107,16 @@ loop-i-preserved c =
           (sym c.in_ok-push.ensures.items)
           (behind_more steps c.loop-i.greatest.items c.args.marks.now c.args.code (c.loop-i.i + 1)
           c.pass_step-number.result c.loop-i.behind.items c.pass_step-number.new.behind.items
-          c.step-step.result.now (omega (arith, c.loop-i.invariant.pass.kept)) at
-          (c.pass_step-number.ensures.behind c.step-step.result.now at) c.loop-i.invariant.behind);
+          step (omega (arith, c.loop-i.invariant.pass.kept)) at
+          (c.pass_step-number.ensures.behind step at) c.loop-i.invariant.behind);
       visits =
-          let pushed = looked_at_push steps (map is_some c.loop-i.greatest.items) (is_some c.pass_step-number.result) c.step-step.result.now there in
+          let pushed = looked_at_push steps (map is_some c.loop-i.greatest.items) (is_some c.pass_step-number.result) step there in
           let items : looked_at steps (map is_some c.push.new.self.items) ≡ looked_at steps
           (map is_some c.loop-i.greatest.items ++ is_some c.pass_step-number.result ∷ []) =
           ap (λ (xs : List (Option ℕ)). looked_at steps (map is_some xs)) c.in_ok-push.ensures.items
           ∙ ap (looked_at steps)
           (map-append is_some c.loop-i.greatest.items (c.pass_step-number.result ∷ [])) in
-          omega (arith, pushed, items, c.loop-i.invariant.visits, c.pass_step-number.ensures.counted c.step-step.result.now at);
+          omega (arith, pushed, items, c.loop-i.invariant.visits, c.pass_step-number.ensures.counted step at);
     }
 
 pub returns-clause-greatest : goal.returns-clause-greatest

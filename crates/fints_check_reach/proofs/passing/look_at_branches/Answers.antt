@@ -2,8 +2,8 @@ use Rattle.std.proofs.Common.{rules, ◌+◌, length, ap, arith}
 use Rattle.fints_check_reach.proofs.Keeping.{flags_more, kept_more}
 use Rattle.fints_check_reach.proofs.passing.look_at_branches.Goals as goal
 
-pub look_at_branch-requires-clause-within : goal.look_at_branch-requires-clause-within
-look_at_branch-requires-clause-within c s carried =
+pub look_at_branch-requires : goal.look_at_branch-requires
+look_at_branch-requires c s carried =
     let within = c.requires.within s (c.loop-b.b + 1, carried) in
     let high = within.1 in
     (within.0, omega (arith, high, c.loop-b.invariant.kept.long))

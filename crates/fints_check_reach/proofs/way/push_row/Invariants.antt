@@ -6,6 +6,6 @@ use Rattle.fints_check_reach.proofs.way.push_row.Given as goal
 -- the answers lead on in the row
 abbrev pub invariant-loop-k : goal.invariant-loop-k
 invariant-loop-k l =
-    (numbers : List (Option ℕ)) (e : EntersTo l.plan.script.steps numbers l.n l.fn.answers.items)
-    → RouteTo l.plan.script.steps l.answers.items
-    (record { step = l.n; number = e.from + l._k; times = 1 + l._k })
+    (numbers : List (Option ℕ)) (e : EntersTo l.at.plan.now.script.steps numbers l.at.n l.fn.answers.items)
+    → RouteTo l.at.plan.now.script.steps l.answers.items
+    (record { step = l.at.n; number = e.from + l._k; times = 1 + l._k })

@@ -5,8 +5,8 @@ use Rattle.fints_check_reach.proofs.way.way_into.Given as goal
 -- the answers lead to the first message of this step, and the rest of the way is still to go
 abbrev pub invariant-loop-next : goal.invariant-loop-next
 invariant-loop-next l = record {
-  so_far : EntersTo l.plan.script.steps l.numbers.greatest.items l.at l.answers.items;
-  rest : IsWayBack l.numbers.sources.items l.n l.later.items l.at;
+  so_far : EntersTo l.way.plan.now.script.steps l.way.numbers.now.greatest.items l.at l.answers.items;
+  rest : IsWayBack l.way.numbers.now.sources.items l.way.n l.later.items l.at;
 }
 
 abbrev pub decreases-loop-next : goal.decreases-loop-next

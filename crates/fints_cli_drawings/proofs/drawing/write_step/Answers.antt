@@ -8,7 +8,7 @@ use Rattle.fints_cli_drawings.proofs.drawing.write_step.Goals as goal
 pub write_edges-requires : goal.write_edges-requires
 write_edges-requires c =
     leads_any (length c.args.plan.now.script.steps) c.args.n c.step-step.result.now
-    ((sound_of c.keeps.ensures.read).onward c.args.n c.step-step.result.now c.step-step.ensures.numbered)
+    ((sound_of c.step-step.ensures.read).onward c.args.n c.step-step.result.now c.step-step.ensures.numbered)
 
 pub returns : goal.returns
 returns c =

@@ -1,16 +1,12 @@
 use Rattle.std.proofs.Common.{rules, ◌≡◌, subst, List, [], Option}
 use Rattle.std.specs.Prelude.{IfSome}
-use Rattle.fints_check.proofs.LawLemmas.{closed_promises_promise}
-use Rattle.fints_check.specs.Certificates.{line_figures, IsClosedCertificate}
+use Rattle.fints_check.specs.Certificates.{line_figures, IsClosedCertificate, KeepsPromise}
 use Rattle.fints_check.specs.CertTexts.{cert_text}
 use Rattle.fints_check.specs.declared.certificate.Line.{Line}
 use Rattle.fints_check_findings.specs.Figures.{AreFigures}
 use Rattle.fints_cli_texts.specs.declared.reply.Reply.{Reply}
-use Rattle.fints_script.specs.Plans.{PlanValue}
-use Rattle.fints_script.specs.Scripts.{IsRead}
 use Rattle.fints_cli_scripts.specs.Certified.{IsCertifiedBy}
 use Rattle.fints_cli_scripts.proofs.CertifyLemmas.{both_ok, certified}
-use Rattle.fints_script.proofs.LawLemmas.{sound_of}
 use Rattle.fints_cli_scripts.proofs.certifying.certify.Goals as goal
 
 pub returns-in-Some : goal.returns-in-Some
@@ -31,11 +27,13 @@ returns-in-Some c =
     IfSome found
     (λ certificate. AreFigures c.args.report.now.plan.script (line_figures certificate)))
     c.in-Some.is c.in_ok-certificate.ensures.figures in
-    let read = subst (λ (p : PlanValue). IsRead p.script) c.plan.ensures c.keeps-2.ensures.read in
-    let promise = closed_promises_promise granted script lines (sound_of read) closed in
+    let promise =
+    subst
+    (λ (found : Option (List Line)). IfSome found (KeepsPromise script))
+    c.in-Some.is c.in_ok-certificate.ensures.promise in
     both_ok (λ (reply : Reply). reply.status ≡ 0) (λ (reply : Reply). reply.text.items ≡ cert_text lines)
     (λ (reply : Reply). IsCertifiedBy granted script reply.status reply.text.items)
     c.certificate_reply.result
     c.certificate_reply.ensures.status c.certificate_reply.ensures.text
     (λ reply zero same. certified granted script lines findings reply.status reply.text.items none
-    c.keeps.ensures.exactly figures closed promise (c.keeps.ensures.permitted none) zero same)
+    c.in_ok-certificate.ensures.exactly figures closed promise (c.in_ok-certificate.ensures.permitted none) zero same)

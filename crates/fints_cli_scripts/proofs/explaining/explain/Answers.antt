@@ -14,13 +14,13 @@ returns c =
       figures = figures;
       findings = findings;
       cases = w.cases;
-      figures_are = c.keeps.ensures.figures;
+      figures_are = c.findings.ensures.figures;
       headline =
           record {
             exactly = are.exactly;
             in_order = are.in_order;
             each = w.are;
-            clean = c.keeps.ensures.permitted;
+            clean = c.findings.ensures.permitted;
           };
       chosen = w.chosen;
       text_is =

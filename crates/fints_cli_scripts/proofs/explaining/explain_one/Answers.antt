@@ -14,7 +14,7 @@ write_case-requires-clause-of_step c =
     let at : numbered report.findings c.args.number ≡ Some f =
     subst (λ (fs : List Finding). numbered fs c.args.number ≡ Some f) c.findings.ensures.findings
     (sym c.in-Some.ensures) in
-    let within = findings_within report.granted report.plan.script report.findings c.keeps.ensures.exactly in
+    let within = findings_within report.granted report.plan.script report.findings c.findings.ensures.exactly in
     numbered_holds (IsFindingOf report.plan.script.steps) report.findings c.args.number f within at
 
 pub write_case-requires-clause-way : goal.write_case-requires-clause-way
@@ -38,8 +38,8 @@ returns-clause-told c =
       findings = findings;
       finding = f;
       case = w.case;
-      figures_are = c.keeps.ensures.figures;
-      findings_are = c.keeps.ensures.exactly;
+      figures_are = c.findings.ensures.figures;
+      findings_are = c.findings.ensures.exactly;
       number_is =
           subst (λ (fs : List Finding). numbered fs c.args.number ≡ Some f) c.findings.ensures.findings
           (sym c.in-Some.ensures);

@@ -12,9 +12,9 @@ returns-clause-report c =
     record {
       figures = figures;
       findings = findings;
-      figures_are = c.keeps.ensures.figures;
-      findings_are = c.keeps.ensures.exactly;
+      figures_are = c.findings.ensures.figures;
+      findings_are = c.findings.ensures.exactly;
       text_is = text;
       status_is = c.report_status.ensures ∙ ap report_status c.findings.ensures.findings;
-      permitted = λ ends. c.keeps.ensures.permitted (clean_is_none script.steps figures findings _ text ends);
+      permitted = λ ends. c.findings.ensures.permitted (clean_is_none script.steps figures findings _ text ends);
     }

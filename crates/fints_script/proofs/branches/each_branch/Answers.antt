@@ -6,7 +6,7 @@ use Rattle.fints_script.proofs.branches.each_branch.Goals as goal
 
 pub loop-branch-preserved : goal.loop-branch-preserved
 loop-branch-preserved c =
-    let branch = branch_in (map view c.args.rows.now) c.args.row in
+    let branch = branch_in (map view c.args.at.rows.now) c.args.at.row in
     each_step (λ v. v.items) branch c.args.branches.now c.loop-branch.branch-index c.branch-item.result
     c.loop-branch.read c.more-read.result c.branch_in.result c.loop-branch-test.true c.branch-item.is
     c.loop-branch.invariant

@@ -9,7 +9,7 @@ use Rattle.fints_script_cases.proofs.answers.taken_block.Goals as goal
 
 pub returns-then-matches : goal.returns-then-matches
 returns-then-matches c =
-    taken_barren c.args.branches.now c.args.branch c.args.code c.block.result c.loop-earlier.earlier-index
+    taken_barren c.args.at.branches.now c.args.at.branch c.args.code c.block.result c.loop-earlier.earlier-index
     c.earlier-item.result c.earlier-item.result c.loop-earlier-test.true c.earlier-item.is
     c.block.ensures.some c.block.ensures.most c.block.ensures.alike
     (sym c.matches.ensures ∙ c.if-matches.true)
@@ -17,13 +17,13 @@ returns-then-matches c =
 pub loop-earlier-preserved : goal.loop-earlier-preserved
 loop-earlier-preserved c =
     all_more (λ (earlier : Branch). IsFalse (matches earlier.on c.args.code))
-    (take (c.args.branch - 1) c.args.branches.now) c.loop-earlier.earlier-index c.earlier-item.result
+    (take (c.args.at.branch - 1) c.args.at.branches.now) c.loop-earlier.earlier-index c.earlier-item.result
     c.loop-earlier-test.true c.earlier-item.is c.loop-earlier.invariant
     (sym c.matches.ensures ∙ c.if-matches.false)
 
 pub returns : goal.returns
 returns c =
     subst (λ bs. All (λ (earlier : Branch). IsFalse (matches earlier.on c.args.code)) bs)
-    (take_all c.loop-earlier.earlier-index (take (c.args.branch - 1) c.args.branches.now)
+    (take_all c.loop-earlier.earlier-index (take (c.args.at.branch - 1) c.args.at.branches.now)
     c.loop-earlier-test.false)
     c.loop-earlier.invariant

@@ -7,22 +7,22 @@ use Rattle.fints_script_cases.proofs.carried.carrying.Goals as goal
 
 pub returns-then-matches_own : goal.returns-then-matches_own
 returns-then-matches_own c =
-    let branches = c.args.branches.now in
-    let small : c.args.code < 10000 = c.keeps.ensures in
-    let passed = ((carried_where branches c.args.branch c.args.code small).exactly.0 c.requires.carries).1 in
+    let branches = c.args.at.branches.now in
+    let small : c.args.code < 10000 = c.matches_own.ensures.small in
+    let passed = ((carried_where branches c.args.at.branch c.args.code small).exactly.0 c.requires).1 in
     let one =
-    alone branches c.args.branch c.args.code c.requires.from c.requires.to
-    (record { small = small; here = c.matches_own.ensures.0 c.if-matches_own.true; first = passed }) in
+    alone branches c.args.at.branch c.args.code c.args.at.from c.args.at.to
+    (record { small = small; here = c.matches_own.ensures.own.0 c.if-matches_own.true; first = passed }) in
     IfOk-weaker c.single.result (λ answer. answer ≡ c.args.code ∷ [])
-    (λ answer. IsCarrying branches c.args.branch c.args.code answer)
-    (λ answer is. subst (IsCarrying branches c.args.branch c.args.code) (sym is) one) c.single.ensures
+    (λ answer. IsCarrying branches c.args.at.branch c.args.code answer)
+    (λ answer is. subst (IsCarrying branches c.args.at.branch c.args.code) (sym is) one) c.single.ensures
 
 pub returns-in-Some : goal.returns-in-Some
 returns-in-Some c =
-    let branches = c.args.branches.now in
-    let small : c.args.code < 10000 = c.keeps.ensures in
-    let at = carried_where branches c.args.branch c.args.code small in
-    let both = at.beside c.in-Some.first c.requires.from c.requires.to c.in-Some.ensures.least.opens (at.exactly.0 c.requires.carries).1 in
+    let branches = c.args.at.branches.now in
+    let small : c.args.code < 10000 = c.matches_own.ensures.small in
+    let at = carried_where branches c.args.at.branch c.args.code small in
+    let both = at.beside c.in-Some.first c.args.at.from c.args.at.to c.in-Some.ensures.least.opens (at.exactly.0 c.requires).1 in
     IfOk-weaker c.pair.result (λ answer. answer ≡ c.in-Some.first ∷ c.args.code ∷ [])
-    (λ answer. IsCarrying branches c.args.branch c.args.code answer)
-    (λ answer is. subst (IsCarrying branches c.args.branch c.args.code) (sym is) both) c.pair.ensures
+    (λ answer. IsCarrying branches c.args.at.branch c.args.code answer)
+    (λ answer is. subst (IsCarrying branches c.args.at.branch c.args.code) (sym is) both) c.pair.ensures

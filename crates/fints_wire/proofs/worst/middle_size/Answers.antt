@@ -8,8 +8,8 @@ pub envelope_size-envelope-requires : goal.envelope_size-envelope-requires
 envelope_size-envelope-requires c =
     let script = c.args.plan.now.script in
     let short =
-    step_short script c.args.step.now (longest_sizes script.fields c.args.number) c.args.number
-    c.requires.step (longest_within script c.args.number c.requires.sound) c.requires.number in
+    step_short script c.args.step.now (longest_sizes script.fields c.args.number.number) c.args.number.number
+    c.requires.step (longest_within script c.args.number.number c.requires.sound) c.args.number.most in
     let inner = short.inner in
     let size = c.segments_size-inner.ensures in
     omega arith
@@ -18,8 +18,8 @@ pub seal_size-requires : goal.seal_size-requires
 seal_size-requires c =
     let script = c.args.plan.now.script in
     let step = c.args.step.now in
-    let sizes = longest_sizes script.fields c.args.number in
-    let short = step_short script step sizes c.args.number c.requires.step (longest_within script c.args.number c.requires.sound) c.requires.number in
+    let sizes = longest_sizes script.fields c.args.number.number in
+    let short = step_short script step sizes c.args.number.number c.requires.step (longest_within script c.args.number.number c.requires.sound) c.args.number.most in
     let whole = short.whole in
     let inner = c.segments_size-inner.ensures in
     let envelope = c.envelope_size-envelope.ensures in

@@ -11,7 +11,7 @@ pub count_part-size-requires : goal.count_part-size-requires
 count_part-size-requires c =
     let script = c.args.plan.now.script in
     let step = c.args.step.now in
-    let number = c.args.number in
+    let number = c.args.number.number in
     let sizes = longest_sizes script.fields number in
     let ts = templates_of script step in
     let t = c.part_at-part.result in
@@ -20,7 +20,7 @@ count_part-size-requires c =
     let test = c.loop-i-test.true in
     let lt : i < length ts = omega arith in
     let e = c.part_at-part.ensures t in
-    let short = (step_short script step sizes number c.requires.step (longest_within script number c.requires.sound) c.requires.number).inner in
+    let short = (step_short script step sizes number c.requires.step (longest_within script number c.requires.sound) c.args.number.most).inner in
     let inv = c.loop-i.invariant in
     let d = segments-drop sizes (i + 2) i ts t lt in
     let k = small_templates script step (map figures_of script.fields) c.requires.step i t lt in
@@ -33,7 +33,7 @@ pub loop-i-preserved : goal.loop-i-preserved
 loop-i-preserved c =
     let script = c.args.plan.now.script in
     let step = c.args.step.now in
-    let number = c.args.number in
+    let number = c.args.number.number in
     let sizes = longest_sizes script.fields number in
     let ts = templates_of script step in
     let t = c.part_at-part.result in
@@ -57,7 +57,7 @@ loop-i-preserved c =
 pub returns : goal.returns
 returns c =
     let script = c.args.plan.now.script in
-    let sizes = longest_sizes script.fields c.args.number in
+    let sizes = longest_sizes script.fields c.args.number.number in
     let ts = templates_of script c.args.step.now in
     let i = c.loop-i.i in
     let count = c.part_count-i-end.ensures.count script in

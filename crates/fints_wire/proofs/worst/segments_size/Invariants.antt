@@ -5,6 +5,6 @@ use Rattle.fints_wire.proofs.worst.segments_size.Given as goal
 
 abbrev pub invariant-loop-i : goal.invariant-loop-i
 invariant-loop-i l =
-    l.size + segments_len (longest_sizes l.plan.script.fields l.number) (l.i + 2)
+    l.size + segments_len (longest_sizes l.plan.script.fields l.number.number) (l.i + 2)
     (drop l.i (templates_of l.plan.script l.step)) ≡ segments_len
-    (longest_sizes l.plan.script.fields l.number) 2 (templates_of l.plan.script l.step)
+    (longest_sizes l.plan.script.fields l.number.number) 2 (templates_of l.plan.script l.step)

@@ -5,10 +5,14 @@ use Rattle.fints_check.specs.Unclosed.{IsFirstOpen}
 use Rattle.fints_check.specs.Verifying.{ClaimsValue, IsStepClosed}
 use Rattle.fints_check.proofs.verifying.Claims.open_steps.Goals as goal
 
-pub open_step-requires-clause-last : goal.open_step-requires-clause-last
-open_step-requires-clause-last c =
-    let count = c.step_count-n-end.ensures.count in let test = c.loop-n-test.true in subst
-    (λ (v : ClaimsValue). c.loop-n.n ≤ length v.script.steps) c.self.view_is (omega arith)
+pub invariant_of-step : goal.invariant_of-step
+invariant_of-step c =
+    let count = c.step_count-n-end.ensures.count in
+    let test = c.loop-n-test.true in
+    record {
+      first = omega arith;
+      last = subst (λ (v : ClaimsValue). c.loop-n.n ≤ length v.script.steps) c.self.view_is (omega arith);
+    }
 
 pub returns-in-Some-clause-none : goal.returns-in-Some-clause-none
 returns-in-Some-clause-none c =

@@ -5,7 +5,7 @@ use Rattle.fints_script_rows.specs.declared.fields.NamedField.{NamedField}
 use Rattle.fints_rules.specs.Breaks.{BreaksByContent}
 use Rattle.fints_script.specs.Plans.{Admits}
 use Rattle.fints_wire.specs.Views.{message_view}
-use Rattle.fints_check_findings.specs.AtStep.{AtStepValue}
+use Rattle.fints_check_findings.specs.AtStep.{AtStepValue, IsOfScript}
 use Rattle.fints_check_findings.specs.Breakable.{CanBreak}
 use Rattle.fints_check_findings.specs.Elements.{wants_tan}
 use Rattle.fints_check_findings.specs.StepFacts.{StepBreaks, message_for}
@@ -37,4 +37,7 @@ returns c =
           → IsTrue c.step_breaks.result)
           c.self.view_is
           (λ number values admits h. b.1 (d.each number values c.args.place admits h));
+      kept =
+          let is = c.self.invariant in
+          subst IsOfScript c.self.view_is (record { at = is.at; sound = is.sound; sound_step = is.sound_step });
     }

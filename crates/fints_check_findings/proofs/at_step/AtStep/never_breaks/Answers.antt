@@ -29,6 +29,6 @@ returns c = (
   λ _ number values place admits b.
       let self = c.args.self.now in
       let within = content_within self.granted self.script self.step number values c.args.rule place b in
-      c.loop-place.invariant number values place admits (omega (arith, within, c.place_count-place-end.ensures, c.loop-place-test.false)) b,
+      c.loop-place.invariant number values place admits (omega (arith, within, c.place_count-place-end.ensures.count, c.loop-place-test.false)) b,
   λ _. refl,
 )

@@ -20,5 +20,5 @@ returns c =
     subst (λ (m : ℕ). c.args.i < m) (sym (ap (λ (r : ReportValue). length r.findings) c.self.view_is))
     c.requires in
     subst (λ (r : ReportValue). IsFindingOf r c.args.i c.index.result.now) c.self.view_is
-    (finding_of report c.args.i c.index.result.now (sound_of c.keeps.ensures.read) c.self.invariant.1 few
+    (finding_of report c.args.i c.index.result.now (sound_of c.self.invariant.8) c.self.invariant.1 few
     c.index.ensures)

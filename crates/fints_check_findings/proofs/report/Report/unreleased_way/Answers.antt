@@ -13,26 +13,16 @@ use Rattle.fints_rules.specs.declared.release.TheConstants.{RELEASE}
 use Rattle.fints_script.proofs.LawLemmas.{sound_of}
 use Rattle.fints_check_findings.proofs.report.Report.unreleased_way.Goals as goal
 
-pub holder_of-t-requires-clause-noted : goal.holder_of-t-requires-clause-noted
-holder_of-t-requires-clause-noted c =
+pub holder_of-t-requires : goal.holder_of-t-requires
+holder_of-t-requires c =
     let inside = c.self.inside in
     let f = c.args.finding in
     let real = subst (λ (r : ReportValue). IsReal r.granted r.plan.script f) (sym c.self.view_is) c.requires.real in
     let has =
     kept_beside inside.permissions.now inside.plan.now.script inside.plan.now.orders
-    inside.numbers.greatest.items inside.holders.items f (sound_of c.keeps.ensures.read) c.self.invariant.0
-    c.keeps.ensures.closed c.self.invariant.4 c.self.invariant.6 c.requires.release real in
+    inside.numbers.greatest.items inside.holders.items f (sound_of c.self.invariant.8) c.self.invariant.0
+    c.self.invariant.9 c.self.invariant.4 c.self.invariant.6 c.requires.release real in
     (has.0, subst (λ (xs : List (Option ℕ)). Has xs f.step has.0) (sym c.as_slice.ensures.value) has.1)
-
-pub holder_of-t-requires-clause-from : goal.holder_of-t-requires-clause-from
-holder_of-t-requires-clause-from c =
-    let has = holder_of-t-requires-clause-noted c in
-    (numbered_within c.as_slice.result.now c.args.finding.step (Some has.0) has.1).0
-
-pub holder_of-t-requires-clause-to : goal.holder_of-t-requires-clause-to
-holder_of-t-requires-clause-to c =
-    let has = holder_of-t-requires-clause-noted c in
-    (numbered_within c.as_slice.result.now c.args.finding.step (Some has.0) has.1).1
 
 pub way_behind-requires-clause-reached : goal.way_behind-requires-clause-reached
 way_behind-requires-clause-reached c =
@@ -41,25 +31,16 @@ way_behind-requires-clause-reached c =
     c.as_slice.result.now c.args.finding.step c.holder_of-t.result c.self.invariant.6 c.as_slice.ensures.value
     c.holder_of-t.ensures).0
 
-pub way_behind-requires-clause-from : goal.way_behind-requires-clause-from
-way_behind-requires-clause-from c =
+pub invariant_of-way : goal.invariant_of-way
+invariant_of-way c =
     let inside = c.self.inside in
     let steps = inside.plan.now.script.steps in
     let h =
     (held_beside steps inside.numbers.greatest.items inside.holders.items c.as_slice.result.now
     c.args.finding.step c.holder_of-t.result c.self.invariant.6 c.as_slice.ensures.value
     c.holder_of-t.ensures).1 in
-    (numbered_within steps c.holder_of-t.result h.step h.at).0
-
-pub way_behind-requires-clause-to : goal.way_behind-requires-clause-to
-way_behind-requires-clause-to c =
-    let inside = c.self.inside in
-    let steps = inside.plan.now.script.steps in
-    let h =
-    (held_beside steps inside.numbers.greatest.items inside.holders.items c.as_slice.result.now
-    c.args.finding.step c.holder_of-t.result c.self.invariant.6 c.as_slice.ensures.value
-    c.holder_of-t.ensures).1 in
-    (numbered_within steps c.holder_of-t.result h.step h.at).1
+    let within = numbered_within steps c.holder_of-t.result h.step h.at in
+    record { from = within.0; to = within.1 }
 
 pub way_behind-requires-clause-carries : goal.way_behind-requires-clause-carries
 way_behind-requires-clause-carries c step at =
@@ -80,7 +61,7 @@ returns c =
     let f = c.args.finding in
     let first =
     first_beside script inside.plan.now.orders inside.numbers.greatest.items inside.holders.items
-    c.as_slice.result.now f.step c.holder_of-t.result (sound_of c.keeps.ensures.read) c.keeps.ensures.closed
+    c.as_slice.result.now f.step c.holder_of-t.result (sound_of c.self.invariant.8) c.self.invariant.9
     c.self.invariant.4 c.self.invariant.6 c.as_slice.ensures.value c.holder_of-t.ensures in
     subst (λ (r : ReportValue). IfOk c.way_behind.result (λ answers. LeadsFromFirst r.plan.script f.step answers.items)) c.self.view_is
     (if_ok

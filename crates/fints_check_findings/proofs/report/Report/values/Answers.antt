@@ -13,13 +13,18 @@ use Rattle.fints_check_findings.proofs.Checking.{greatest_at}
 use Rattle.fints_script.proofs.LawLemmas.{sound_of}
 use Rattle.fints_check_findings.proofs.report.Report.values.Goals as goal
 
-pub case_values-requires-clause-to : goal.case_values-requires-clause-to
-case_values-requires-clause-to c =
-    subst (λ (r : ReportValue). c.finding-finding.result.step ≤ length r.plan.script.steps) (sym c.self.view_is)
-    c.finding-finding.ensures.to
+pub invariant_of-at : goal.invariant_of-at
+invariant_of-at c =
+    record {
+      from = c.finding-finding.ensures.from;
+      to =
+          subst (λ (r : ReportValue). c.finding-finding.result.step ≤ length r.plan.script.steps) (sym c.self.view_is)
+          c.finding-finding.ensures.to;
+      orders = c.self.invariant.0;
+    }
 
-pub case_values-requires-clause-facts : goal.case_values-requires-clause-facts
-case_values-requires-clause-facts c =
+pub case_values-requires : goal.case_values-requires
+case_values-requires c =
     subst (λ (r : ReportValue). AreFactsAt r.granted r.plan.script c.finding-finding.result.step c.facts-facts.result)
     (sym c.self.view_is) c.facts-facts.ensures
 
@@ -40,8 +45,8 @@ returns c =
     } in
     let is = subst (λ (r : ReportValue). IsFindingOf r c.args.i found) (sym c.self.view_is)
     c.finding-finding.ensures in
-    let sound = sound_of c.keeps.ensures.read in
-    let closed = subst (IsClosed script) (sym c.self.invariant.0) c.keeps.ensures.closed in
+    let sound = sound_of c.self.invariant.8 in
+    let closed = subst (IsClosed script) (sym c.self.invariant.0) c.self.invariant.9 in
     let step = numbered_at script.steps found.step is.from is.to in
     let number = real_has script granted sound numbers c.self.invariant.4 found is.real in
     let peak = greatest_at script.steps numbers found.step number.0 c.self.invariant.4 number.1 in

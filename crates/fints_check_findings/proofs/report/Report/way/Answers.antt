@@ -11,16 +11,20 @@ use Rattle.fints_check_findings.proofs.CaseLemmas.{by_figures, if_ok, real_has}
 use Rattle.fints_script.proofs.LawLemmas.{sound_of}
 use Rattle.fints_check_findings.proofs.report.Report.way.Goals as goal
 
-pub longest_way-requires-clause-to : goal.longest_way-requires-clause-to
-longest_way-requires-clause-to c =
-    subst (λ (r : ReportValue). c.finding-finding.result.step ≤ length r.plan.script.steps) (sym c.self.view_is)
-    c.finding-finding.ensures.to
+pub invariant_of-way : goal.invariant_of-way
+invariant_of-way c =
+    record {
+      from = c.finding-finding.ensures.from;
+      to =
+          subst (λ (r : ReportValue). c.finding-finding.result.step ≤ length r.plan.script.steps) (sym c.self.view_is)
+          c.finding-finding.ensures.to;
+    }
 
 pub longest_way-requires-clause-reached : goal.longest_way-requires-clause-reached
 longest_way-requires-clause-reached c =
     let inside = c.self.inside in
     let f = c.finding-finding.result in
-    real_has inside.plan.now.script inside.permissions.now (sound_of c.keeps.ensures.read)
+    real_has inside.plan.now.script inside.permissions.now (sound_of c.self.invariant.8)
     inside.numbers.greatest.items c.self.invariant.4 f
     (subst (λ (r : ReportValue). IsReal r.granted r.plan.script f) (sym c.self.view_is)
     c.finding-finding.ensures.real)
@@ -86,7 +90,7 @@ returns-in_default-clause-way c =
     (record {
       longest =
           λ other.
-          by_figures script (sound_of c.keeps.ensures.read) numbers inside.figures.items found.step
+          by_figures script (sound_of c.self.invariant.8) numbers inside.figures.items found.step
           answers.items c.self.invariant.4 c.self.invariant.2 way;
       unreleased = λ is. absurd (c.in_default.not-Release is);
     }))

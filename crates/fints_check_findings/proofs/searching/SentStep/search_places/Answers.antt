@@ -17,8 +17,8 @@ use Rattle.fints_check_findings.proofs.searching.SentStep.search_places.Goals.{t
 pub finding_at-requires-clause-step : goal.finding_at-requires-clause-step
 finding_at-requires-clause-step c =
     let s = c.self.inside.at in
-    let within = (numbered_within s.script.steps s.n s.step c.keeps.ensures.at).1 in
-    let few = c.keeps.ensures.sound.few_steps in
+    let within = (numbered_within s.script.steps s.n s.step c.place_count-place-end.ensures.kept.at).1 in
+    let few = c.place_count-place-end.ensures.kept.sound.few_steps in
     omega (arith, within, few, c.number.ensures)
 
 abbrev finding_of : Rule → ℕ → ℕ → Finding
@@ -50,11 +50,11 @@ pub returns : goal.returns
 returns c =
     let s = c.args.self.now.at in
     let inside = c.self.inside in
-    let k = c.keeps.ensures in
+    let k = c.place_count-place-end.ensures.kept in
     let few = subst (λ (v : SentStepValue). (f : Finding) → f.step ≡ v.at.n → IsReal v.at.granted v.at.script f → f.segment < c.loop-place.place) c.self.view_is
     (λ f here real.
     let low = few_places inside.at inside.figures inside.unreleased c.self.invariant k.at k.sound
     k.sound_step f here real in omega
-    (arith, low, c.place_count-place-end.ensures, c.loop-place-test.false))
+    (arith, low, c.place_count-place-end.ensures.count, c.loop-place-test.false))
     in
     found_rule s.granted s.script s.n (rule_number c.args.rule) c.loop-place.place c.loop-place.findings.items few c.loop-place.invariant

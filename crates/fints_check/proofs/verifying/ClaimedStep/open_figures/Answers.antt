@@ -8,7 +8,7 @@ use Rattle.fints_check.specs.declared.unclosed.Open.TheVariants as Open
 use Rattle.fints_check.specs.Certificates.{worst_len}
 use Rattle.fints_check.specs.Verifying.{ClaimsValue, TellsFigures}
 use Rattle.fints_check.proofs.Promising.{figures_permitted, number_asked}
-use Rattle.fints_check.proofs.verifying.Claims.open_figures.Goals as goal
+use Rattle.fints_check.proofs.verifying.ClaimedStep.open_figures.Goals as goal
 
 pub worst_size-longest-requires-clause-first : goal.worst_size-longest-requires-clause-first
 worst_size-longest-requires-clause-first c =
@@ -23,7 +23,7 @@ worst_size-longest-requires-clause-last c =
     omega (arith, asked)
 
 pub worst_size-longest-requires-clause-to : goal.worst_size-longest-requires-clause-to
-worst_size-longest-requires-clause-to c = subst (λ (v : ClaimsValue). c.args.n ≤ length v.script.steps) (sym c.self.view_is) c.requires.last
+worst_size-longest-requires-clause-to c = subst (λ (v : ClaimsValue). c.args.self.n ≤ length v.script.steps) (sym c.claims.view_is) c.args.self.last
 
 pub returns-then-figures_break-clause-none : goal.returns-then-figures_break-clause-none
 returns-then-figures_break-clause-none c step at = (
@@ -36,8 +36,8 @@ returns-then-figures_break-clause-none c step at = (
 
 pub returns-then-figures_break-2-clause-none : goal.returns-then-figures_break-2-clause-none
 returns-then-figures_break-2-clause-none c =
-    let granted = c.self.inside.permissions.now in
-    subst (λ (v : ClaimsValue). TellsFigures v c.args.n c.args.reached (Some (Open.BreaksSize c.args.n c.args.reached.size))) c.self.view_is
+    let granted = c.claims.inside.permissions.now in
+    subst (λ (v : ClaimsValue). TellsFigures v c.args.self.n c.args.reached (Some (Open.BreaksSize c.args.self.n c.args.reached.size))) c.claims.view_is
     (λ step at. (
       λ h. absurd cc,
       λ closed.
@@ -50,9 +50,9 @@ returns-then-figures_break-2-clause-none c =
 
 pub returns-then-size-longest-clause-none : goal.returns-then-size-longest-clause-none
 returns-then-size-longest-clause-none c =
-    let script = c.self.inside.plan.now.script in
-    subst (λ (v : ClaimsValue). TellsFigures v c.args.n c.args.reached
-    (Some (Open.LowSize c.args.n c.args.reached.number c.worst_size-longest.result c.args.reached.size))) c.self.view_is
+    let script = c.claims.inside.plan.now.script in
+    subst (λ (v : ClaimsValue). TellsFigures v c.args.self.n c.args.reached
+    (Some (Open.LowSize c.args.self.n c.args.reached.number c.worst_size-longest.result c.args.reached.size))) c.claims.view_is
     (λ step at. (
       λ h. absurd cc,
       λ closed.
@@ -63,10 +63,10 @@ returns-then-size-longest-clause-none c =
 
 pub returns-clause-none : goal.returns-clause-none
 returns-clause-none c =
-    let inside = c.self.inside in
+    let inside = c.claims.inside in
     let granted = inside.permissions.now in
     let script = inside.plan.now.script in
-    subst (λ (v : ClaimsValue). TellsFigures v c.args.n c.args.reached None) c.self.view_is
+    subst (λ (v : ClaimsValue). TellsFigures v c.args.self.n c.args.reached None) c.claims.view_is
     (λ step at. (
       λ h. record {
         permitted =

@@ -8,16 +8,13 @@ use Rattle.fints_check_findings.specs.Releases.{IsUnreleased}
 use Rattle.fints_script.specs.Numbered.{numbered}
 use Rattle.fints_check.specs.Verifying.{ClaimsValue, TellsLine}
 use Rattle.fints_check.specs.declared.unclosed.Open.TheVariants as Open
-use Rattle.fints_check.proofs.verifying.Claims.open_line.Goals as goal
+use Rattle.fints_check.proofs.verifying.ClaimedStep.open_line.Goals as goal
 
-pub new-requires-clause-to : goal.new-requires-clause-to
-new-requires-clause-to c = subst (λ (v : ClaimsValue). c.args.n ≤ length v.script.steps) (sym c.self.view_is) c.requires.last
+pub invariant_of-at : goal.invariant_of-at
+invariant_of-at c = record { from = c.args.self.first; to = subst (λ (v : ClaimsValue). c.args.self.n ≤ length v.script.steps) (sym c.claims.view_is) c.args.self.last }
 
-pub new-requires-clause-orders : goal.new-requires-clause-orders
-new-requires-clause-orders c = c.self.invariant.0
-
-pub is_released_step-requires-clause-to : goal.is_released_step-requires-clause-to
-is_released_step-requires-clause-to c = subst (λ (v : ClaimsValue). c.args.n ≤ length v.script.steps) (sym c.self.view_is) c.requires.last
+pub new-requires : goal.new-requires
+new-requires c = c.claims.invariant.0
 
 pub returns-in-Some-clause-none : goal.returns-in-Some-clause-none
 returns-in-Some-clause-none c step at = (
@@ -29,10 +26,10 @@ returns-in-Some-clause-none c step at = (
 
 pub returns-then-not-is_clean-clause-none : goal.returns-then-not-is_clean-clause-none
 returns-then-not-is_clean-clause-none c =
-    let inside = c.self.inside in
+    let inside = c.claims.inside in
     let granted = inside.permissions.now in
     let script = inside.plan.now.script in
-    subst (λ (v : ClaimsValue). TellsLine v c.args.n c.args.reached (Some (Open.BreaksRule c.args.n))) c.self.view_is
+    subst (λ (v : ClaimsValue). TellsLine v c.args.self.n c.args.reached (Some (Open.BreaksRule c.args.self.n))) c.claims.view_is
     (λ step at.
     let same : c.new.result.step ≡ step = same_Some c.new.result.step step (sym c.new.ensures.step ∙ at) in
     let clean =
@@ -44,7 +41,7 @@ returns-then-not-is_clean-clause-none c =
 
 pub returns-then-not-is_released_step-clause-none : goal.returns-then-not-is_released_step-clause-none
 returns-then-not-is_released_step-clause-none c =
-    subst (λ (v : ClaimsValue). TellsLine v c.args.n c.args.reached (Some (Open.Unreleased c.args.n))) c.self.view_is
+    subst (λ (v : ClaimsValue). TellsLine v c.args.self.n c.args.reached (Some (Open.Unreleased c.args.self.n))) c.claims.view_is
     (λ step at. (
       λ h. absurd cc,
       λ closed. absurd (both_ways _ c.if-not-is_released_step.true (c.is_released_step.ensures.1 closed.released)),
@@ -52,19 +49,19 @@ returns-then-not-is_released_step-clause-none c =
 
 pub returns-clause-none : goal.returns-clause-none
 returns-clause-none c step at =
-    let inside = c.self.inside in
+    let inside = c.claims.inside in
     let granted = inside.permissions.now in
     let script = inside.plan.now.script in
     let figures = (c.in_default.ensures.none step at).0 refl in
     let onward = c.open_branch.ensures.none step at in
-    let here = subst (λ (v : ClaimsValue). numbered v.script.steps c.args.n ≡ Some step) (sym c.self.view_is) at in
+    let here = subst (λ (v : ClaimsValue). numbered v.script.steps c.args.self.n ≡ Some step) (sym c.claims.view_is) at in
     let same : c.new.result.step ≡ step = same_Some c.new.result.step step (sym c.new.ensures.step ∙ here) in
     let clean =
     from_same (λ g x s. IsTrue c.is_clean.result ↔ IsCleanStep g x s) c.new.result granted script step
     c.new.ensures.granted c.new.ensures.script same c.is_clean.ensures in
-    let holds = subst (λ (v : ClaimsValue). IsCleanStep v.granted v.script step) c.self.view_is (clean.0 c.if-not-is_clean.false) in
+    let holds = subst (λ (v : ClaimsValue). IsCleanStep v.granted v.script step) c.claims.view_is (clean.0 c.if-not-is_clean.false) in
     let released =
-    subst (λ (v : ClaimsValue). (s : ℕ) → IsUnreleased v.script c.args.n s → ⊥) c.self.view_is
+    subst (λ (v : ClaimsValue). (s : ℕ) → IsUnreleased v.script c.args.self.n s → ⊥) c.claims.view_is
     (c.is_released_step.ensures.0 c.if-not-is_released_step.false) in (
       λ none. record {
         holds = record { permitted = figures.permitted; size = figures.size; clean = holds; onward = onward.0 none };

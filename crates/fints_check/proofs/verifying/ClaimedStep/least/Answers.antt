@@ -7,13 +7,13 @@ use Rattle.fints_script.specs.Numbered.{numbered}
 use Rattle.fints_script_cases.proofs.LawLemmas.{open_branches_lead}
 use Rattle.fints_script_cases.specs.declared.answers.Target.TheVariants.{Again}
 use Rattle.fints_check.specs.Verifying.{ClaimsValue}
-use Rattle.fints_check.proofs.verifying.Claims.least.Goals as goal
+use Rattle.fints_check.proofs.verifying.ClaimedStep.least.Goals as goal
 
 pub returns : goal.returns
 returns c step at number =
-    let here = subst (λ (v : ClaimsValue). numbered v.script.steps c.args.n ≡ Some step) (sym c.self.view_is)
+    let here = subst (λ (v : ClaimsValue). numbered v.script.steps c.args.self.n ≡ Some step) (sym c.claims.view_is)
     at in
-    let again = c.self.invariant.1.each c.args.n step here in (
+    let again = c.claims.invariant.1.each c.args.self.n step here in (
       λ told. record {
         once = told;
         often =
@@ -25,9 +25,9 @@ returns c step at number =
 
 pub returns-then-flag : goal.returns-then-flag
 returns-then-flag c step at number =
-    let here = subst (λ (v : ClaimsValue). numbered v.script.steps c.args.n ≡ Some step) (sym c.self.view_is)
+    let here = subst (λ (v : ClaimsValue). numbered v.script.steps c.args.self.n ≡ Some step) (sym c.claims.view_is)
     at in
-    let again = c.self.invariant.1.each c.args.n step here in
+    let again = c.claims.invariant.1.each c.args.self.n step here in
     let same : c.step.result.now ≡ step = same_Some c.step.result.now step (sym c.step.ensures.numbered ∙ here) in
     let repeat : c.repeat.result ≡ step.repeat = c.repeat.ensures ∙ ap (λ (s : StepValue). s.repeat) same in
     let more = c.saturating_sub-more.ensures in (
