@@ -316,7 +316,8 @@ impl ClaimedStep<'_, '_> {
 
 /// What is open of the certificate, the first in this order: the names of its lines; that runs begin with
 /// step 1; and then step by step the figures, the rules that what the step's messages hold breaks, P11,
-/// and where its branches lead. None exactly where the certificate is closed. It takes no memory.
+/// and where its branches lead. None exactly where the certificate is closed: it then keeps its promise,
+/// whoever wrote it, and every message of every run is permitted. It takes no memory.
 /// Permissions and plan were made with order tables of the same rows.
 pub fn first_open(
     permissions: &Permissions<'_>,

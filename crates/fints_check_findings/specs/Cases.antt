@@ -55,7 +55,7 @@ pub record HaveFirstAccount (granted : Granted) (script : ScriptValue) (step : S
   pub first : (earlier number : ℕ) (other : List (List ℕ)) → earlier < row
       → slice_get (field_accounts field.class) earlier ≡ Some other
       → BreaksByContent granted
-          (message_view script step number (with_account script.fields place field other)) r
+      (message_view script step number (with_account script.fields place field other)) r
       segment → ⊥
 
 -- the values are the shortest, and where accounts of a field are asked for, that field has the first that breaks the rule

@@ -75,8 +75,8 @@ abbrev pub IsBreakingPlace : Granted → MessageFacts → Rule → Template → 
     → Type 0
 IsBreakingPlace granted f r t count accounts place =
     MatchOption place
-        (Any (λ account. SegmentBreaks granted f r (template_facts t count account)) accounts → ⊥)
-        (HasBreaking granted f r t count accounts)
+    (Any (λ account. SegmentBreaks granted f r (template_facts t count account)) accounts → ⊥)
+    (HasBreaking granted f r t count accounts)
 
 -- element 2 is the field that is set, and the account that it is set to is the first with which the template's segment breaks the rule
 pub record IsSetFor (granted : Granted) (fields : List NamedField) (f : MessageFacts) (r : Rule)

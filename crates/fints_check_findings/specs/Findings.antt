@@ -50,7 +50,7 @@ abbrev pub IsBefore : Finding → Finding → Type 0
 IsBefore f g =
     (f.step < g.step)
     ⊎ ((f.step ≡ g.step)
-        × ((rule_number f.rule < rule_number g.rule) ⊎ ((f.rule ≡ g.rule) × (f.segment < g.segment))))
+    × ((rule_number f.rule < rule_number g.rule) ⊎ ((f.rule ≡ g.rule) × (f.segment < g.segment))))
 
 -- exactly the real findings, in order, each once
 pub record AreFindings (granted : Granted) (script : ScriptValue) (findings : List Finding) : Type 0 where

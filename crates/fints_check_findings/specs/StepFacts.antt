@@ -122,5 +122,5 @@ TemplatesDecide =
     (script : ScriptValue) (granted : Granted) (step : StepValue) (r : Rule) (f : MessageFacts)
     → IsSound script → IsSoundStep script step
     → ((i : ℕ) (t : Template) → slice_get step.templates i ≡ Some t
-        → IsClosedTemplate script.fields granted.orders t)
+    → IsClosedTemplate script.fields granted.orders t)
     → AreMessageFacts granted script step (wants_tan r) f → Decides granted script step r f

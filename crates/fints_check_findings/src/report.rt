@@ -81,6 +81,13 @@ impl<'a> Report<'a> {
         self.plan
     }
 
+    /// What the bank permits, by which it was checked.
+    pub fn permissions(&self) -> &Permissions<'a>
+        ensures { result.now ≡ self.now.granted }
+    {
+        self.permissions
+    }
+
     /// The findings in order of step, rule and segment.
     pub fn findings(&self) -> &[Finding]
         ensures findings { result.now ≡ self.now.findings }

@@ -39,4 +39,4 @@ FollowedWhereCarried =
     (script : ScriptValue) (t code s : ℕ) (step : StepValue) → IsSound script
     → numbered script.steps t ≡ Some step
     → (IsFollowed script.steps t code s
-        ↔ (((v : Visit) × Arrives script.steps v × (v.step ≡ t)) × CarriesTo step t code s))
+    ↔ (((v : Visit) × Arrives script.steps v × (v.step ≡ t)) × CarriesTo step t code s))

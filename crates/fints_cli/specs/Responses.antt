@@ -2,10 +2,11 @@
 use Rattle.std.specs.Prelude.{codes, ◌≡◌, ◌≤◌, ◌⊎◌, ℕ, true, false, List, [], ◌∷◌, ◌++◌, Option, string_bytes}
 use Rattle.fints_cli_files.specs.Streams.{ReadCounts, Gets, GetsNothing, GetsPrefix, one_more}
 use Rattle.fints_cli_files.specs.Loading.{NoneFailed}
-use Rattle.fints_cli_words.specs.declared.words.Request.{Request}
-use Rattle.fints_cli_words.specs.declared.words.Request.TheVariants.{Draft}
-use Rattle.fints_cli_words.specs.declared.words.Asked.{Asked}
-use Rattle.fints_cli_words.specs.declared.words.Asked.TheVariants.{Help, Usage, NoMemory, Run}
+use Rattle.fints_cli_words.specs.declared.requests.Command.{Command}
+use Rattle.fints_cli_words.specs.declared.requests.Command.TheVariants.{DraftCase}
+use Rattle.fints_cli_words.specs.declared.requests.Request.{Request}
+use Rattle.fints_cli_words.specs.declared.requests.Asked.{Asked}
+use Rattle.fints_cli_words.specs.declared.requests.Asked.TheVariants.{Help, Usage, NoMemory, Run}
 use Rattle.fints_cli_commands.specs.declared.failing.Failure.{Failure}
 use Rattle.fints_cli_commands.specs.Loading.{files_of, AreWithin, FollowsReading}
 use Rattle.fints_cli_commands.specs.Commands.{failure_status, AnswersTo, FailsFor}
@@ -15,7 +16,7 @@ abbrev pub IsTextFor : Asked → (List ℕ → Option (List ℕ)) → ℕ → Li
 IsTextFor (Help help) holds status text = (status ≡ 0) × (text ≡ string_bytes help)
 IsTextFor (Usage fault) holds status text = ⊥
 IsTextFor NoMemory holds status text = ⊥
-IsTextFor (Run request hints) holds status text =
+IsTextFor (Run request) holds status text =
     AnswersTo request holds status text × AreWithin (files_of request) holds
 
 -- the output got the whole text
@@ -32,36 +33,35 @@ abbrev pub IsUsage : Asked → Type 0
 IsUsage (Help help) = ⊥
 IsUsage (Usage fault) = Unit {0}
 IsUsage NoMemory = ⊥
-IsUsage (Run request hints) = ⊥
+IsUsage (Run request) = ⊥
 
 -- memory ran out before the words were understood
 abbrev pub RanOut : Asked → Type 0
 RanOut (Help help) = ⊥
 RanOut (Usage fault) = ⊥
 RanOut NoMemory = Unit {0}
-RanOut (Run request hints) = ⊥
+RanOut (Run request) = ⊥
 
 -- the request has no answer, and this status
 abbrev pub FailsWith : ℕ → Asked → (List ℕ → Option (List ℕ)) → Type 0
 FailsWith status (Help help) holds = ⊥
 FailsWith status (Usage fault) holds = ⊥
 FailsWith status NoMemory holds = ⊥
-FailsWith status (Run request hints) holds =
-    (f : Failure) × (failure_status f ≡ status) × FailsFor request holds f
+FailsWith status (Run request) holds = (f : Failure) × (failure_status f ≡ status) × FailsFor request holds f
 
 -- none of the files that are named is longer than its limit, where their bytes are told
 abbrev pub FilesAreWithin : Asked → (List ℕ → Option (List ℕ)) → Type 0
 FilesAreWithin (Help help) holds = Unit {0}
 FilesAreWithin (Usage fault) holds = Unit {0}
 FilesAreWithin NoMemory holds = Unit {0}
-FilesAreWithin (Run request hints) holds = AreWithin (files_of request) holds
+FilesAreWithin (Run request) holds = AreWithin (files_of request) holds
 
 -- the request has no answer, since a file that it names couldn't be read
 abbrev pub FailsToRead : Asked → (List ℕ → Option (List ℕ)) → ReadCounts → ReadCounts → Type 0
 FailsToRead (Help help) holds before after = ⊥
 FailsToRead (Usage fault) holds before after = ⊥
 FailsToRead NoMemory holds before after = ⊥
-FailsToRead (Run request hints) holds before after =
+FailsToRead (Run request) holds before after =
     (f : Failure) × (failure_status f ≡ 5) × FailsFor request holds f
     × FollowsReading (files_of request) holds before after f
 
@@ -102,9 +102,9 @@ write_line = codes "error: write" ++ 10 ∷ []
 abbrev pub secrets_line : List ℕ
 secrets_line = codes "note: this case holds the PIN and the TANs of the dialogue" ++ 10 ∷ []
 
--- what is said beside the answer of a request: that a drafted case holds secrets, and nothing beside another answer
-abbrev pub line_beside : Request → List ℕ
-line_beside (Draft files true) = secrets_line
+-- what is said beside the answer of a command: that a drafted case holds secrets, and nothing beside another answer
+abbrev pub line_beside : Command → List ℕ
+line_beside DraftCase = secrets_line
 line_beside _ = []
 
 -- a stream got the text, or a prefix of it, after which a write failed; where the text is empty, nothing was written
@@ -114,8 +114,8 @@ SaysText (b ∷ text) old new lost lost_after = Tells old new lost lost_after (b
 
 -- what was said beside what was asked for
 abbrev pub SaysBeside : Asked → (old new : Option (List ℕ)) (lost lost_after : ℕ) → Type 0
-SaysBeside (Run request hints) old new lost lost_after =
-    SaysText (line_beside request) old new lost lost_after
+SaysBeside (Run request) old new lost lost_after =
+    SaysText (line_beside request.command) old new lost lost_after
 SaysBeside _ old new lost lost_after = IsUntold old new lost lost_after
 
 -- no hint is asked for
@@ -123,14 +123,14 @@ abbrev pub AsksNoHint : Asked → Type 0
 AsksNoHint (Help help) = Unit {0}
 AsksNoHint (Usage fault) = Unit {0}
 AsksNoHint NoMemory = Unit {0}
-AsksNoHint (Run request hints) = hints ≡ false
+AsksNoHint (Run request) = request.hints ≡ false
 
 -- the usage of bad words is told
 abbrev pub TellsUsage : Asked → (old new : Option (List ℕ)) (lost lost_after : ℕ) → Type 0
 TellsUsage (Help help) old new lost lost_after = Unit {0}
 TellsUsage (Usage fault) old new lost lost_after = Tells old new lost lost_after (string_bytes fault)
 TellsUsage NoMemory old new lost lost_after = Unit {0}
-TellsUsage (Run request hints) old new lost lost_after = Unit {0}
+TellsUsage (Run request) old new lost lost_after = Unit {0}
 
 -- a line: its front, a text, and a line feed
 abbrev pub told_line : List ℕ → List ℕ → List ℕ

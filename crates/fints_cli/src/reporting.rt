@@ -5,7 +5,7 @@ ghost use Rattle.fints_cli_scripts.specs.Told.{IsRefused, IsToldOf, IsToldOn};
 ghost use Rattle.fints_cli_scripts.specs.declared.telling.Wanted.TheVariants as wanted_is;
 
 use fints_cli_scripts::{Wanted, tell, tell_script};
-use fints_cli_texts::Fault;
+use fints_cli_texts::{Fault, Unobserved};
 use fints_params::Params;
 use std::alloc::Global;
 
@@ -21,7 +21,14 @@ pub fn report_text(
         × IsToldOn wanted_is.Report params.now orders.now script.now status text.items) }
     ensures refused { IfErr result (λ f. IsPlanRefusal orders.now script.now f) }
 {
-    let reply = tell(alloc, params, orders, script, Wanted::Report)?;
+    let reply = tell(
+        alloc,
+        params,
+        orders,
+        script,
+        Wanted::Report,
+        &mut Unobserved,
+    )?;
     Ok(reply.text)
 }
 

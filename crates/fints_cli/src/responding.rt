@@ -2,9 +2,9 @@
 ghost use Rattle.std.specs.Prelude.{◌≡◌, ◌≤◌, ◌+◌, ◌*◌, ◌⊎◌, ℕ, List, [], false, None, OnOk, OnErr};
 ghost use Rattle.fints_cli_files.specs.Streams.{Gets, GetsNothing, GetsPrefix, one_more};
 ghost use Rattle.fints_cli_files.specs.Loading.{MAX_READS, NoneFailed};
-ghost use Rattle.fints_cli_words.specs.declared.words.Request.TheVariants as request;
-ghost use Rattle.fints_cli_words.specs.declared.words.Asked.{Asked};
-ghost use Rattle.fints_cli_words.specs.declared.words.Asked.TheVariants as asked;
+ghost use Rattle.fints_cli_words.specs.Requests.{built_in_request};
+ghost use Rattle.fints_cli_words.specs.declared.requests.Asked.{Asked};
+ghost use Rattle.fints_cli_words.specs.declared.requests.Asked.TheVariants as asked;
 ghost use Rattle.fints_cli_commands.specs.Commands.{failure_status};
 ghost use Rattle.fints_cli.specs.Responses.{IsAnswered, IsCutOff, IsResponse, RanOut, IsUntold, SaysText, IsUsage, FailsToRead, FailsWith, FilesAreWithin, SaysWhy, Tells, TellsFault, told_line, line_beside, memory_line, write_line};
 
@@ -12,7 +12,7 @@ use crate::emitting::emit;
 use arrayvec::ArrayString;
 use fints_cli_commands::{Answered, Refusal, perform};
 use fints_cli_files::{Files, Out, WriteFault};
-use fints_cli_words::{Asked, Request, read_words};
+use fints_cli_words::{Asked, Command, Request, read_words};
 use std::alloc::Global;
 use std::fmt::Write;
 
@@ -105,12 +105,10 @@ fn deliver<O: Out, E: Out>(text: &[u8], status: u8, out: &mut O, err: &mut E) ->
 // What is said beside the answer of a request: that a drafted case holds PIN and TAN.
 #[tactic(auto, unfolding(crate::specs::Responses::secrets_line))]
 fn line_beside(request: &Request<'_>) -> &'static [u8]
-    ensures { result.now ≡ line_beside request.now }
+    ensures { result.now ≡ line_beside request.now.command }
 {
-    match request {
-        Request::Draft { case: true, .. } => {
-            b"note: this case holds the PIN and the TANs of the dialogue\n"
-        }
+    match request.command {
+        Command::DraftCase => { b"note: this case holds the PIN and the TANs of the dialogue\n" }
         _ => b"",
     }
 }
@@ -140,7 +138,7 @@ fn respond_with<O: Out, E: Out>(
     ensures cut { result ≡ 5 → GetsPrefix (O.told out.old) (O.told out.new) answered.now.reply.text.items }
     ensures failed { result ≡ 5 → O.failed_calls out.new ≡ one_more (O.failed_calls out.old) }
     ensures beside { result ≡ answered.now.reply.status → answered.now.reasons ≡ None
-        → SaysText (line_beside request.now)
+        → SaysText (line_beside request.now.command)
         (E.told err.old) (E.told err.new) (E.failed_calls err.old) (E.failed_calls err.new) }
     ensures line { result ≡ 5
         → Tells (E.told err.old) (E.told err.new) (E.failed_calls err.old)
@@ -195,7 +193,7 @@ pub fn respond<F: Files, O: Out, E: Out>(
             2
         }
         Asked::NoMemory => tell_memory(err),
-        Asked::Run { request, hints } => match perform(alloc, request, files, *hints) {
+        Asked::Run(request) => match perform(alloc, request, files) {
             Ok(answered) => respond_with(request, &answered, out, err),
             Err(refusal) => tell_refusal(&refusal, err),
         },
@@ -216,7 +214,7 @@ pub fn execute<F: Files, O: Out, E: Out>(
     err: &mut E,
 ) -> u8
     ensures status { result ≤ 5 }
-    ensures responds { (what : Asked) × (words.now ≡ [] → what ≡ asked.Run request.BuiltIn false)
+    ensures responds { (what : Asked) × (words.now ≡ [] → what ≡ asked.Run built_in_request)
         × IsResponse what (F.holds files.old) (F.reads files.old) (F.reads files.new)
         (O.failed_calls out.old) (O.failed_calls out.new) result (O.told out.old) (O.told out.new)
         × SaysWhy what result (E.told err.old) (E.told err.new) (E.failed_calls err.old)

@@ -1,2 +1,4 @@
 pub mod Reading
-pub mod Answering
+pub mod Counting
+pub mod OfRequest
+pub mod Refusing

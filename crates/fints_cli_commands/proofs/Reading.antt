@@ -6,8 +6,8 @@ use Rattle.std.specs.Result.{IsErrAnd}
 use Rattle.fints_cli_commands.specs.declared.failing.Failure.{Failure}
 use Rattle.fints_cli_commands.specs.declared.failing.Failure.TheVariants.{Input, Unread}
 use Rattle.fints_cli_commands.specs.Loading.{Held, NamedFile, AreWithin, FollowsReading, HasUnreadable, IsUnreadable}
-use Rattle.fints_cli_commands.specs.Loaded.{AreRead, IsOneUnread, IsReadAt}
-use Rattle.fints_cli_files.specs.Captures.{FedReader, HoldsCapture}
+use Rattle.fints_cli_commands.specs.Loaded.{AreRead, IsOneUnread}
+use Rattle.fints_cli_files.specs.Captures.{FedReader, HoldsCapture, IsReadFrom}
 use Rattle.fints_cli_files.specs.Loading.{NoneFailed}
 use Rattle.fints_cli_files.specs.Streams.{IsFile, ReadCounts, one_more}
 
@@ -24,11 +24,10 @@ of_file P None x h p = tt
 of_file P (Some a) x h p = subst P h p
 
 -- what is told of a capture that holds the bytes of a file is told of the file
-pub read_at : {T : Type 0} (Answers : List ℕ → T → Type 0) (path : Option (Bor (List ℕ))) (holds : Held)
-    (capture : FedReader) (told : T) → ((bytes : List ℕ) → HoldsCapture bytes capture → Answers bytes told)
-    → IsReadAt HoldsCapture path holds capture → IsReadAt Answers path holds told
-read_at Answers None holds capture told tells h = tt
-read_at Answers (Some path) holds capture told tells (bytes, file, held) = (bytes, file, tells bytes held)
+pub read_at : {T : Type 0} (Answers : List ℕ → T → Type 0) (held : Option (List ℕ)) (capture : FedReader) (told : T)
+    → ((bytes : List ℕ) → HoldsCapture bytes capture → Answers bytes told)
+    → IsReadFrom HoldsCapture held capture → IsReadFrom Answers held told
+read_at Answers held capture told tells (bytes, file, kept) = (bytes, file, tells bytes kept)
 
 -- ---- files that were read, and more of them
 

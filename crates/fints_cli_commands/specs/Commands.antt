@@ -6,15 +6,13 @@ use Rattle.fints_cli_texts.specs.declared.fault.Fault.TheVariants.{Memory, NoFin
 use Rattle.fints_cli_commands.specs.declared.failing.Failure.{Failure}
 use Rattle.fints_cli_commands.specs.declared.failing.Failure.TheVariants.{Input, Unread}
 use Rattle.fints_cli_commands.specs.declared.failing.Refusal.{Refusal}
-use Rattle.fints_cli_words.specs.declared.words.Request.{Request}
-use Rattle.fints_cli_words.specs.declared.words.Request.TheVariants.{BuiltIn, Show, ShowMessage, Judge, JudgeAfter, AuditOwn, Audit, Draft, Check, Explain, Certify, Verify, Draw, DrawFound}
-use Rattle.fints_cli_words.specs.declared.words.Request.TheVariants as requests
-use Rattle.fints_cli_words.specs.declared.words.AuditFiles.{AuditFiles}
-use Rattle.fints_cli_words.specs.declared.words.JudgeFiles.{JudgeFiles}
-use Rattle.fints_cli_words.specs.declared.words.RunFiles.{RunFiles}
-use Rattle.fints_cli_words.specs.declared.words.ScriptFiles.{ScriptFiles}
+use Rattle.fints_cli_words.specs.declared.requests.Command.{Command}
+use Rattle.fints_cli_words.specs.declared.requests.Command.TheVariants.{BuiltIn, Show, ShowMessage, Judge, JudgeAfter, Audit, AuditOwn, Draft, DraftCase, Check, Explain, Certify, Verify, Draw, DrawFound}
+use Rattle.fints_cli_words.specs.declared.requests.Command.TheVariants as commands
+use Rattle.fints_cli_words.specs.declared.requests.Paths.{Paths}
+use Rattle.fints_cli_words.specs.declared.requests.Request.{Request}
 use Rattle.fints_cli_commands.specs.BuiltIn as built_in
-use Rattle.fints_cli_commands.specs.Loading.{Held}
+use Rattle.fints_cli_commands.specs.Loading.{Held, bytes_at}
 use Rattle.fints_cli_texts.specs.Show.{IsShowOf, IsMemoryOrShowFault}
 use Rattle.fints_cli_texts.specs.ShowMessage.{IsShownMessage}
 use Rattle.fints_cli_texts.specs.Judge.{IsVerdictOf, IsMessageRefusal, IsJudgeRefusal}
@@ -44,128 +42,135 @@ failure_status (Unread option) = 5
 abbrev pub HintsIfAsked : Bool → Refusal → Type 0
 HintsIfAsked asked refusal = asked ≡ false → refusal.hint ≡ None
 
--- this holds of what three files hold, where that is told
-abbrev pub IfTold : (a b c : Option (List ℕ)) → (List ℕ → List ℕ → List ℕ → Type 0) → Type 0
-IfTold a b c P = IfSome a (λ p. IfSome b (λ q. IfSome c (λ r. P p q r)))
+-- this holds of the bytes of two inputs, where they are told
+abbrev pub IfBoth : (a b : Option (List ℕ)) → (List ℕ → List ℕ → Type 0) → Type 0
+IfBoth a b P = IfSome a (λ p. IfSome b (λ q. P p q))
+
+-- this holds of the bytes of three inputs, where they are told
+abbrev pub IfAll : (a b c : Option (List ℕ)) → (List ℕ → List ℕ → List ℕ → Type 0) → Type 0
+IfAll a b c P = IfSome a (λ p. IfSome b (λ q. IfSome c (λ r. P p q r)))
 
 -- this holds of the capture, the order table and the script
-abbrev pub OfScript : Held → ScriptFiles → (List ℕ → List ℕ → List ℕ → Type 0) → Type 0
-OfScript holds files P = IfTold (holds files.params.now) (holds files.orders.now) (holds files.script.now) P
+abbrev pub OfScript : Held → Paths → (List ℕ → List ℕ → List ℕ → Type 0) → Type 0
+OfScript holds paths P =
+    IfAll (bytes_at holds paths.params) (bytes_at holds paths.orders) (bytes_at holds paths.script) P
 
 -- this holds of the capture, the order table and the message
-abbrev pub OfMessage : Held → JudgeFiles → (List ℕ → List ℕ → List ℕ → Type 0) → Type 0
-OfMessage holds files P = IfTold (holds files.params.now) (holds files.orders.now) (holds files.message.now) P
+abbrev pub OfMessage : Held → Paths → (List ℕ → List ℕ → List ℕ → Type 0) → Type 0
+OfMessage holds paths P =
+    IfAll (bytes_at holds paths.params) (bytes_at holds paths.orders) (bytes_at holds paths.message) P
 
 -- this holds of the capture, the order table and the recorded dialogue
-abbrev pub OfDialogue : Held → AuditFiles → List ℕ → (List ℕ → List ℕ → List ℕ → Type 0) → Type 0
-OfDialogue holds files params P = IfTold (holds params) (holds files.orders.now) (holds files.dialogue.now) P
+abbrev pub OfDialogue : Held → Paths → (List ℕ → List ℕ → List ℕ → Type 0) → Type 0
+OfDialogue holds paths P =
+    IfAll (bytes_at holds paths.params) (bytes_at holds paths.orders) (bytes_at holds paths.dialogue) P
 
 -- this holds of the order table and the recorded dialogue
-abbrev pub OfOwnDialogue : Held → AuditFiles → (List ℕ → List ℕ → Type 0) → Type 0
-OfOwnDialogue holds files P =
-    IfSome (holds files.orders.now)
-        (λ table. IfSome (holds files.dialogue.now) (λ dialogue. P table dialogue))
-
--- this holds of an order table; where none is named, of the empty one
-abbrev pub OfTable : Held → Option (Bor (List ℕ)) → (List ℕ → Type 0) → Type 0
-OfTable holds None P = P no_orders
-OfTable holds (Some path) P = IfSome (holds path.now) P
-
--- what `draft` tells: the script, or the case
-abbrev pub drafted : Bool → Drafted
-drafted true = drafts.Case
-drafted false = drafts.Script
+abbrev pub OfOwnDialogue : Held → Paths → (List ℕ → List ℕ → Type 0) → Type 0
+OfOwnDialogue holds paths P = IfBoth (bytes_at holds paths.orders) (bytes_at holds paths.dialogue) P
 
 -- this holds of the order table, the script and the case
-abbrev pub OfCase : Held → RunFiles → (List ℕ → List ℕ → List ℕ → Type 0) → Type 0
-OfCase holds files P = IfTold (holds files.orders.now) (holds files.script.now) (holds files.case.now) P
+abbrev pub OfCase : Held → Paths → (List ℕ → List ℕ → List ℕ → Type 0) → Type 0
+OfCase holds paths P =
+    IfAll (bytes_at holds paths.orders) (bytes_at holds paths.script) (bytes_at holds paths.case) P
 
--- what `explain` tells: the cases of all findings, or that of the one of a number
+-- what `explain` prints: the cases of all findings, or that of the one of a number
 abbrev pub cases_wanted : Option ℕ → Wanted
 cases_wanted None = Cases
 cases_wanted (Some number) = OneCase number
 
+-- the status and the text are the answer of a command by these files, where their bytes are told
+abbrev pub AnswersBy : Command → Paths → Option ℕ → Held → ℕ → List ℕ → Type 0
+AnswersBy BuiltIn paths number holds status text =
+    IsToldOf Report built_in.capture built_in.orders built_in.script status text
+AnswersBy Show paths number holds status text =
+    (status ≡ 0) × IfSome (bytes_at holds paths.shown) (λ capture. IsShowOf capture text)
+AnswersBy ShowMessage paths number holds status text =
+    (status ≡ 0) × IfSome (bytes_at holds paths.message) (λ bytes. IsShownMessage bytes text)
+AnswersBy Judge paths number holds status text =
+    OfMessage holds paths (λ capture table message. IsVerdictOf capture table message status text)
+AnswersBy JudgeAfter paths number holds status text =
+    OfMessage holds paths (λ capture table message.
+    IfBoth (bytes_at holds paths.before) (bytes_at holds paths.answer) (λ before answer.
+    IsVerdictAfter capture table before answer message status text))
+AnswersBy Audit paths number holds status text =
+    OfDialogue holds paths (λ capture table dialogue. IsAuditOf capture table dialogue status text)
+AnswersBy AuditOwn paths number holds status text =
+    OfOwnDialogue holds paths (λ table dialogue. IsOwnAuditOf table dialogue status text)
+AnswersBy Draft paths number holds status text =
+    (status ≡ 0) × IfSome (bytes_at holds paths.dialogue) (λ dialogue. IsDraftOf drafts.Script dialogue text)
+AnswersBy DraftCase paths number holds status text =
+    (status ≡ 0) × IfSome (bytes_at holds paths.dialogue) (λ dialogue. IsDraftOf drafts.Case dialogue text)
+AnswersBy Check paths number holds status text =
+    OfScript holds paths (λ capture table script. IsToldOf Report capture table script status text)
+AnswersBy Explain paths number holds status text =
+    OfScript holds paths (λ capture table script.
+    IsToldOf (cases_wanted number) capture table script status text)
+AnswersBy Certify paths number holds status text =
+    OfScript holds paths (λ capture table script. IsToldOf Certificate capture table script status text)
+AnswersBy Verify paths number holds status text =
+    OfScript holds paths (λ capture table script. IfSome (bytes_at holds paths.certificate) (λ lines.
+    IsVerifiedOf capture table script lines status text))
+AnswersBy commands.Run paths number holds status text =
+    (status ≡ 0) × OfCase holds paths (λ table script case. IsRunOf table script case number text)
+AnswersBy Draw paths number holds status text =
+    (status ≡ 0) × IfSome (bytes_at holds paths.script) (λ bytes. IsPictureOf bytes text)
+AnswersBy DrawFound paths number holds status text =
+    OfScript holds paths (λ capture table script. IsDrawnOf capture table script status text)
+
 -- the status and the text are the request's answer, where the bytes of its files are told
 abbrev pub AnswersTo : Request → Held → ℕ → List ℕ → Type 0
-AnswersTo BuiltIn holds status text =
-    IsToldOf Report built_in.capture built_in.orders built_in.script status text
-AnswersTo (Show params) holds status text =
-    (status ≡ 0) × IfSome (holds params.now) (λ capture. IsShowOf capture text)
-AnswersTo (ShowMessage message) holds status text =
-    (status ≡ 0) × IfSome (holds message.now) (λ bytes. IsShownMessage bytes text)
-AnswersTo (Judge files) holds status text =
-    OfMessage holds files (λ capture table message. IsVerdictOf capture table message status text)
-AnswersTo (JudgeAfter files earlier) holds status text =
-    OfMessage holds files (λ capture table message.
-    IfSome (holds earlier.before.now) (λ before. IfSome (holds earlier.answer.now) (λ answer.
-    IsVerdictAfter capture table before answer message status text)))
-AnswersTo (AuditOwn files) holds status text =
-    OfOwnDialogue holds files (λ table dialogue. IsOwnAuditOf table dialogue status text)
-AnswersTo (Audit files params) holds status text =
-    OfDialogue holds files params.now (λ capture table dialogue. IsAuditOf capture table dialogue status text)
-AnswersTo (Draft files case) holds status text =
-    (status ≡ 0) × IfSome (holds files.dialogue.now) (λ dialogue. IsDraftOf (drafted case) dialogue text)
-AnswersTo (Check files) holds status text =
-    OfScript holds files (λ capture table script. IsToldOf Report capture table script status text)
-AnswersTo (Explain files finding) holds status text =
-    OfScript holds files (λ capture table script.
-    IsToldOf (cases_wanted finding) capture table script status text)
-AnswersTo (Certify files) holds status text =
-    OfScript holds files (λ capture table script. IsToldOf Certificate capture table script status text)
-AnswersTo (Verify files certificate) holds status text =
-    OfScript holds files (λ capture table script. IfSome (holds certificate.now) (λ lines.
-    IsVerifiedOf capture table script lines status text))
-AnswersTo (requests.Run files only) holds status text =
-    (status ≡ 0) × OfCase holds files (λ table script case. IsRunOf table script case only text)
-AnswersTo (Draw script) holds status text =
-    (status ≡ 0) × IfSome (holds script.now) (λ bytes. IsPictureOf bytes text)
-AnswersTo (DrawFound files) holds status text =
-    OfScript holds files (λ capture table script. IsDrawnOf capture table script status text)
+AnswersTo request holds status text = AnswersBy request.command request.paths request.number holds status text
+
+-- the fault refuses a command with these files, where their bytes are told
+abbrev pub RefusesBy : Command → Paths → Option ℕ → Held → Fault → Type 0
+RefusesBy BuiltIn paths number holds fault =
+    IsTellRefusal Report built_in.capture built_in.orders built_in.script fault
+RefusesBy Show paths number holds fault =
+    IfSome (bytes_at holds paths.shown) (λ capture. IsMemoryOrShowFault capture fault)
+RefusesBy ShowMessage paths number holds fault =
+    IfSome (bytes_at holds paths.message) (λ bytes. IsMessageRefusal bytes fault)
+RefusesBy Judge paths number holds fault =
+    OfMessage holds paths (λ capture table message. IsJudgeRefusal capture table message fault)
+RefusesBy JudgeAfter paths number holds fault =
+    OfMessage holds paths (λ capture table message.
+    IfBoth (bytes_at holds paths.before) (bytes_at holds paths.answer) (λ before answer.
+    IsJudgeAfterRefusal capture table before answer message fault))
+RefusesBy Audit paths number holds fault =
+    OfDialogue holds paths (λ capture table dialogue. IsAuditRefusal capture table dialogue fault)
+RefusesBy AuditOwn paths number holds fault =
+    OfOwnDialogue holds paths (λ table dialogue. IsOwnAuditRefusal table dialogue fault)
+RefusesBy Draft paths number holds fault =
+    OfOwnDialogue holds paths (λ table dialogue. IsDraftRefusal table dialogue fault)
+RefusesBy DraftCase paths number holds fault =
+    OfOwnDialogue holds paths (λ table dialogue. IsDraftRefusal table dialogue fault)
+RefusesBy Check paths number holds fault =
+    OfScript holds paths (λ capture table script. IsTellRefusal Report capture table script fault)
+RefusesBy Explain paths number holds fault =
+    OfScript holds paths (λ capture table script.
+    IsTellRefusal (cases_wanted number) capture table script fault)
+RefusesBy Certify paths number holds fault =
+    OfScript holds paths (λ capture table script. IsTellRefusal Certificate capture table script fault)
+RefusesBy Verify paths number holds fault =
+    OfScript holds paths (λ capture table script. IfSome (bytes_at holds paths.certificate) (λ lines.
+    IsUnverified capture table script lines fault))
+RefusesBy commands.Run paths number holds fault =
+    OfCase holds paths (λ table script case. IsRunRefusal table script case number fault)
+RefusesBy Draw paths number holds fault =
+    IfSome (bytes_at holds paths.script) (λ bytes. IsPlanRefusal no_orders bytes fault)
+RefusesBy DrawFound paths number holds fault =
+    OfScript holds paths (λ capture table script. IsRefused capture table script fault)
 
 -- the fault refuses the request, where the bytes of its files are told
 abbrev pub RefusesRequest : Request → Held → Fault → Type 0
-RefusesRequest BuiltIn holds fault =
-    IsTellRefusal Report built_in.capture built_in.orders built_in.script fault
-RefusesRequest (Show params) holds fault =
-    IfSome (holds params.now) (λ capture. IsMemoryOrShowFault capture fault)
-RefusesRequest (ShowMessage message) holds fault =
-    IfSome (holds message.now) (λ bytes. IsMessageRefusal bytes fault)
-RefusesRequest (Judge files) holds fault =
-    OfMessage holds files (λ capture table message. IsJudgeRefusal capture table message fault)
-RefusesRequest (JudgeAfter files earlier) holds fault =
-    OfMessage holds files (λ capture table message.
-    IfSome (holds earlier.before.now) (λ before. IfSome (holds earlier.answer.now) (λ answer.
-    IsJudgeAfterRefusal capture table before answer message fault)))
-RefusesRequest (AuditOwn files) holds fault =
-    OfOwnDialogue holds files (λ table dialogue. IsOwnAuditRefusal table dialogue fault)
-RefusesRequest (Audit files params) holds fault =
-    OfDialogue holds files params.now (λ capture table dialogue. IsAuditRefusal capture table dialogue fault)
-RefusesRequest (Draft files case) holds fault =
-    OfTable holds files.orders (λ table.
-    IfSome (holds files.dialogue.now) (λ dialogue. IsDraftRefusal table dialogue fault))
-RefusesRequest (Check files) holds fault =
-    OfScript holds files (λ capture table script. IsTellRefusal Report capture table script fault)
-RefusesRequest (Explain files finding) holds fault =
-    OfScript holds files (λ capture table script.
-    IsTellRefusal (cases_wanted finding) capture table script fault)
-RefusesRequest (Certify files) holds fault =
-    OfScript holds files (λ capture table script. IsTellRefusal Certificate capture table script fault)
-RefusesRequest (Verify files certificate) holds fault =
-    OfScript holds files (λ capture table script. IfSome (holds certificate.now) (λ lines.
-    IsUnverified capture table script lines fault))
-RefusesRequest (requests.Run files only) holds fault =
-    OfCase holds files (λ table script case. IsRunRefusal table script case only fault)
-RefusesRequest (Draw script) holds fault =
-    IfSome (holds script.now) (λ bytes. IsPlanRefusal no_orders bytes fault)
-RefusesRequest (DrawFound files) holds fault =
-    OfScript holds files (λ capture table script. IsRefused capture table script fault)
+RefusesRequest request holds fault = RefusesBy request.command request.paths request.number holds fault
 
--- a request that has files may have one that couldn't be read
-abbrev pub HasFiles : Request → Type 0
+-- a command that reads files may have one that couldn't be read
+abbrev pub HasFiles : Command → Type 0
 HasFiles BuiltIn = ⊥
 HasFiles _ = Unit {0}
 
--- why the request has no answer; which files may be answered as unread stands in `Loading`
+-- why the request has no answer; `Loading` says which files may be answered as unread
 abbrev pub FailsFor : Request → Held → Failure → Type 0
 FailsFor request holds (Input fault) = RefusesRequest request holds fault
-FailsFor request holds (Unread option) = HasFiles request
+FailsFor request holds (Unread option) = HasFiles request.command

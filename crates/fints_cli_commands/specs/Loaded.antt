@@ -13,16 +13,18 @@ use Rattle.fints_cli_texts.specs.declared.fault.Fault.TheVariants.{Memory}
 use Rattle.fints_cli_commands.specs.declared.failing.Failure.{Failure}
 use Rattle.fints_cli_commands.specs.declared.failing.Failure.TheVariants.{Input, Unread}
 use Rattle.fints_cli_commands.specs.declared.loading.Contents.{Contents}
-use Rattle.fints_cli_commands.specs.declared.loading.Paths.{Paths}
-use Rattle.fints_cli_commands.specs.Loading.{Held, NamedFile, AreWithin, FollowsReading}
+use Rattle.fints_cli_commands.specs.Loading.{Held, NamedFile, AreWithin, FollowsReading, bytes_at}
+use Rattle.fints_cli_words.specs.Requests.{option_of}
+use Rattle.fints_cli_words.specs.declared.requests.Input.{Input as InputName}
+use Rattle.fints_cli_words.specs.declared.requests.Paths.{Paths}
 
--- the bytes are those of the file, where there is a path
+-- the bytes are those of the file; without a path there are none
 abbrev pub IsFileAt : Option (Bor (List ℕ)) → Held → List ℕ → Type 0
-IsFileAt path holds bytes = IfSome path (λ p. IsFile (holds p.now) bytes)
+IsFileAt path holds bytes = IsFile (bytes_at holds path) bytes
 
--- the file of the path was read so, where there is a path
+-- the file of the path was read so
 abbrev pub IsReadAt : {T : Type 0} → (List ℕ → T → Type 0) → Option (Bor (List ℕ)) → Held → T → Type 0
-IsReadAt Answers path holds told = IfSome path (λ p. IsReadFrom Answers (holds p.now) told)
+IsReadAt Answers path holds told = IsReadFrom Answers (bytes_at holds path) told
 
 -- what was loaded is what the files of these paths hold
 pub record IsLoaded (paths : Paths) (holds : Held) (capture : Result Rows ParamFault) (contents : Contents)
@@ -60,7 +62,8 @@ pub record IsOneUnread (files : List NamedFile) (holds kept : Held) (before afte
   pub calls : after.calls ≤ before.calls + length files * MAX_READS
   pub keeps : kept ≡ holds
 
--- what the file of an option that wasn't loaded is told as
-abbrev pub unread_as : Bor (List ℕ) → LoadFault → Failure
-unread_as option load_faults.Memory = Input Memory
-unread_as option _ = Unread option
+-- a file of an input wasn't loaded for a fault, and is answered so
+abbrev pub IsUnreadAs : InputName → LoadFault → Failure → Type 0
+IsUnreadAs input load_faults.Memory failure = failure ≡ Input Memory
+IsUnreadAs input fault (Unread option) = option.now ≡ option_of input
+IsUnreadAs input fault (Input refusal) = ⊥

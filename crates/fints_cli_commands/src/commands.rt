@@ -1,30 +1,27 @@
 //! The commands: what each answers, of the files that it names.
-ghost use Rattle.std.specs.Prelude.{◌≡◌, ◌≤◌, ◌+◌, ◌*◌, false, None, IfOk, IfErr, IfSome};
+ghost use Rattle.std.specs.Prelude.{◌≡◌, ◌≤◌, ◌+◌, ◌*◌, false, None, IfOk, IfErr};
 ghost use Rattle.fints_cli_commands.specs.BuiltIn as texts;
-ghost use Rattle.fints_cli_drawings.specs.Drawn.{no_orders};
 ghost use Rattle.fints_cli_scripts.specs.Told.{IsToldOf, IsTellRefusal};
 ghost use Rattle.fints_cli_scripts.specs.declared.telling.Wanted.TheVariants as wants;
-ghost use Rattle.fints_cli_commands.specs.Loading.{files_of, paths_of as paths_named};
+ghost use Rattle.fints_cli_commands.specs.Loading.{files_of, paths_of as paths_read};
 ghost use Rattle.fints_cli_commands.specs.Loading.{AreWithin, FollowsReading, Held};
 ghost use Rattle.fints_cli_commands.specs.Loaded.{IsLoaded};
 ghost use Rattle.fints_cli_files.specs.Loading.{MAX_READS, NoneFailed};
-ghost use Rattle.fints_cli_commands.specs.Commands.{cases_wanted, drafted, failure_status, AnswersTo, FailsFor, HintsIfAsked, RefusesRequest};
+ghost use Rattle.fints_cli_commands.specs.Commands.{cases_wanted, failure_status, AnswersTo, FailsFor, HintsIfAsked, RefusesRequest};
 
+use crate::answering::{
+    Answered, answer_audit, answer_audit_own, answer_check, answer_draft, answer_draw,
+    answer_draw_script, answer_judge, answer_judge_after, answer_run, answer_show,
+    answer_show_message, answer_verify,
+};
 use crate::built_in;
 use crate::failing::{Refusal, refused};
 use crate::loading::{Contents, Loaded, load_all, paths_of};
-use fints_cli_drafts::{Drafted, draft_read};
-use fints_cli_drawings::{draw_read, draw_script};
+use fints_cli_drafts::Drafted;
 use fints_cli_files::Files;
-use fints_cli_hints_dialogues::audited_reasons;
-use fints_cli_hints_reasons::judged_reasons;
-use fints_cli_hints_segments::skipped_notes;
-use fints_cli_hints_verdicts::{report_reasons, verified_reason};
-use fints_cli_scripts::{Wanted, run_case, tell_read, tell_script, verify_read};
-use fints_cli_texts::{
-    Fault, Reply, audit_own, audit_read, judge_after_read, judge_read, show_message, show_read,
-};
-use fints_cli_words::Request;
+use fints_cli_scripts::{Wanted, tell_script};
+use fints_cli_texts::{Fault, Reply};
+use fints_cli_words::{Command, Request};
 use fints_params::{ParamFault, Params};
 use std::alloc::Global;
 
@@ -45,7 +42,7 @@ fn tell_built_in(alloc: Global) -> Result<Reply, Fault>
     )
 }
 
-// What `explain` tells: the cases of all findings, or that of the one of a number.
+// What `explain` prints: the cases of all findings, or that of the one of a number.
 fn cases_wanted(finding: Option<u32>) -> Wanted
     ensures { result ≡ cases_wanted finding }
 {
@@ -55,129 +52,56 @@ fn cases_wanted(finding: Option<u32>) -> Wanted
     }
 }
 
-// What `draft` tells: the script, or the case that has it send what was recorded.
-fn drafted(case: bool) -> Drafted
-    ensures { result ≡ drafted case }
-{
-    if case { Drafted::Case } else { Drafted::Script }
-}
-
-// The text of an order table that may be absent: then it is the empty one.
-fn table_of<'c>(path: Option<&str>, contents: &'c Contents) -> &'c [u8]
-    ensures absent { path.entry ≡ None → result.now ≡ no_orders }
-    ensures loaded { IfSome path.entry (λ _. result.now ≡ contents.now.orders.items) }
-{
-    match path {
-        None => &[],
-        Some(_) => contents.orders.as_slice(),
-    }
-}
-
 // Answers a request, of what was loaded of its files.
 fn answer(
     alloc: Global,
     request: &Request<'_>,
     params: Result<Params, ParamFault>,
     contents: &Contents,
-) -> Result<Reply, Fault>
-    ensures status { IfOk result (λ reply. reply.status ≤ 1) }
-    ensures answers { IfOk result (λ reply.
-        (holds : Held) → IsLoaded (paths_named request.now) holds params contents.now
-        → AnswersTo request.now holds reply.status reply.text.items) }
+) -> Result<Answered, Fault>
+    ensures status { IfOk result (λ it. it.reply.status ≤ 1) }
+    ensures answers { IfOk result (λ it.
+        (holds : Held) → IsLoaded (paths_read request.now) holds params contents.now
+        → AnswersTo request.now holds it.reply.status it.reply.text.items) }
     ensures refused { IfErr result (λ fault.
-        (holds : Held) → IsLoaded (paths_named request.now) holds params contents.now
+        (holds : Held) → IsLoaded (paths_read request.now) holds params contents.now
         → RefusesRequest request.now holds fault) }
 {
-    let Contents { orders, script, .. } = contents;
-    match request {
-        Request::BuiltIn => tell_built_in(alloc),
-        Request::Show { .. } => {
-            let text = show_read(alloc, &contents.shown.told)?;
-            Ok(Reply { status: 0, text })
+    let hints = request.hints;
+    match request.command {
+        Command::BuiltIn => {
+            let reply = tell_built_in(alloc)?;
+            Ok(Answered {
+                reply,
+                reasons: None,
+            })
         }
-        Request::ShowMessage { .. } => {
-            let text = show_message(alloc, &contents.message)?;
-            Ok(Reply { status: 0, text })
+        Command::Show => answer_show(alloc, contents, hints),
+        Command::ShowMessage => answer_show_message(alloc, contents),
+        Command::Judge => answer_judge(alloc, params, contents, hints),
+        Command::JudgeAfter => answer_judge_after(alloc, params, contents, hints),
+        Command::Audit => answer_audit(alloc, params, contents, hints),
+        Command::AuditOwn => answer_audit_own(alloc, contents, hints),
+        Command::Draft => answer_draft(alloc, contents, Drafted::Script),
+        Command::DraftCase => answer_draft(alloc, contents, Drafted::Case),
+        Command::Check => answer_check(alloc, params, contents, Wanted::Report, hints),
+        Command::Explain => {
+            answer_check(alloc, params, contents, cases_wanted(request.number), hints)
         }
-        Request::Judge(_) => judge_read(alloc, params, orders, &contents.message),
-        Request::JudgeAfter { .. } => judge_after_read(
-            alloc,
-            params,
-            orders,
-            &contents.before,
-            &contents.answer,
-            &contents.message,
-        ),
-        Request::AuditOwn(_) => audit_own(alloc, orders, &contents.dialogue),
-        Request::Audit { .. } => audit_read(alloc, params, orders, &contents.dialogue),
-        Request::Draft { files, case } => {
-            let orders = table_of(files.orders, contents);
-            let text = draft_read(alloc, orders, &contents.dialogue, drafted(*case))?;
-            Ok(Reply { status: 0, text })
-        }
-        Request::Check(_) => tell_read(alloc, params, orders, script, Wanted::Report),
-        Request::Explain { finding, .. } => {
-            tell_read(alloc, params, orders, script, cases_wanted(*finding))
-        }
-        Request::Certify(_) => tell_read(alloc, params, orders, script, Wanted::Certificate),
-        Request::Verify { .. } => {
-            verify_read(alloc, params, orders, script, &contents.certificate)
-        }
-        Request::Run { message, .. } => {
-            let text = run_case(alloc, orders, script, &contents.case, *message)?;
-            Ok(Reply { status: 0, text })
-        }
-        Request::Draw { .. } => {
-            let text = draw_script(alloc, script)?;
-            Ok(Reply { status: 0, text })
-        }
-        Request::DrawFound(_) => draw_read(alloc, params, orders, script),
+        Command::Certify => answer_check(alloc, params, contents, Wanted::Certificate, hints),
+        Command::Verify => answer_verify(alloc, params, contents, hints),
+        Command::Run => answer_run(alloc, contents, request.number),
+        Command::Draw => answer_draw_script(alloc, contents),
+        Command::DrawFound => answer_draw(alloc, params, contents, hints),
     }
 }
 
-/// The answer of a command, and what stands beside it where hints are asked for: the reasons of what is
-/// broken, the notes on a script, and those on what is skipped of a capture, a line each.
-#[derive(Drop)]
-pub struct Answered {
-    pub reply: Reply,
-    pub reasons: Option<String>,
-}
-
-// The reasons of what the request finds broken and the notes on its script or capture, where they are
-// asked for; none where there is no memory for them.
-fn reasons(alloc: Global, request: &Request<'_>, contents: &Contents, hints: bool) -> Option<String>
-    ensures { hints ≡ false → result ≡ None }
-{
-    if !hints {
-        return None;
-    }
-    let inputs = contents.inputs();
-    match request {
-        Request::Show { .. } => skipped_notes(alloc, inputs.params).unwrap_or(None),
-        Request::Judge(_) | Request::JudgeAfter { .. } => {
-            judged_reasons(alloc, &inputs).unwrap_or(None)
-        }
-        Request::AuditOwn(_) | Request::Audit { .. } => {
-            audited_reasons(alloc, &inputs).unwrap_or(None)
-        }
-        Request::Check(_) | Request::Explain { .. } | Request::Certify(_) | Request::DrawFound(_) =>
-            report_reasons(alloc, &inputs).unwrap_or(None),
-        Request::Verify { .. } => verified_reason(alloc, &inputs).unwrap_or(None),
-        Request::BuiltIn
-        | Request::ShowMessage { .. }
-        | Request::Draft { .. }
-        | Request::Run { .. }
-        | Request::Draw { .. } => None,
-    }
-}
-
-/// Answers a request over the files, all of which are read before any fault of what stands in them
-/// is told. Where hints are asked for, a refusal has a hint, and what is broken has reasons.
+/// Answers a request over the files, all of which are read before any fault in them is answered. Where
+/// hints are wanted, a refusal has a hint, and what is broken has reasons.
 pub fn perform<F: Files>(
     alloc: Global,
     request: &Request<'_>,
     files: &mut F,
-    hints: bool,
 ) -> Result<Answered, Refusal>
     ensures status { IfOk result (λ it. it.reply.status ≤ 1) }
     ensures answers { IfOk result (λ it.
@@ -192,16 +116,16 @@ pub fn perform<F: Files>(
         (F.reads files.new) r.failure) }
     ensures calls { (F.reads files.new).calls ≤ (F.reads files.old).calls + 5 * MAX_READS }
     ensures keeps { F.holds files.new ≡ F.holds files.old }
-    ensures unasked { IfErr result (λ r. HintsIfAsked hints r) }
-    ensures no_reasons { IfOk result (λ it. hints ≡ false → it.reasons ≡ None) }
+    ensures unasked { IfErr result (λ r. HintsIfAsked request.now.hints r) }
+    ensures no_reasons { IfOk result (λ it. request.now.hints ≡ false → it.reasons ≡ None) }
 {
     let paths = paths_of(request);
-    let Loaded { params, contents } = load_all(alloc, files, &paths, hints)?;
+    let Loaded { params, contents } = load_all(alloc, files, &paths, request.hints)?;
     match answer(alloc, request, params, &contents) {
-        Ok(reply) => {
-            let reasons = reasons(alloc, request, &contents, hints);
+        Ok(Answered { reply, reasons }) => {
+            let reasons = if request.hints { reasons } else { None };
             Ok(Answered { reply, reasons })
         }
-        Err(fault) => Err(refused(alloc, fault, &contents.inputs(), hints)),
+        Err(fault) => Err(refused(alloc, fault, &contents.inputs(), request.hints)),
     }
 }

@@ -1,12 +1,13 @@
 //! Why a command has no answer.
 ghost use Rattle.std.specs.Prelude.{◌≡◌};
 ghost use Rattle.fints_cli_commands.specs.Commands.{failure_status, HintsIfAsked};
-ghost use Rattle.fints_cli_commands.specs.Loaded.{unread_as};
+ghost use Rattle.fints_cli_commands.specs.Loaded.{IsUnreadAs};
 ghost use Rattle.fints_cli_commands.specs.declared.failing.Failure.TheVariants as failure;
 
 use fints_cli_files::LoadFault;
 use fints_cli_hints::{Inputs, hint};
 use fints_cli_texts::Fault;
+use fints_cli_words::Input;
 use std::alloc::{AllocError, Global};
 use std::fmt;
 use std::fmt::{Display, Formatter, Write};
@@ -103,23 +104,16 @@ fn file_hint(
 }
 
 /// The refusal of a file that wasn't loaded, with a hint where that is asked for.
-pub fn unread(
-    alloc: Global,
-    option: &'static str,
-    path: &str,
-    fault: LoadFault,
-    limit: usize,
-    hints: bool,
-) -> Refusal
-    ensures failure { result.failure ≡ unread_as option.entry fault }
+pub fn unread(alloc: Global, input: Input, path: &str, fault: LoadFault, hints: bool) -> Refusal
+    ensures failure { IsUnreadAs input fault result.failure }
     ensures unasked { HintsIfAsked hints result }
 {
     let failure = match fault {
         LoadFault::Memory => Failure::Input(Fault::Memory),
-        _ => Failure::Unread(option),
+        _ => Failure::Unread(input.option()),
     };
     let hint = if hints {
-        file_hint(alloc, path, fault, limit).unwrap_or(None)
+        file_hint(alloc, path, fault, input.limit()).unwrap_or(None)
     } else {
         None
     };

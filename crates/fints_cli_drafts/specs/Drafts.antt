@@ -100,8 +100,12 @@ HasBlankNewPin t = t.kind ≡ codes "HKPAE" → IsLastBlank t.elements 0
 -- a field that lists none of its values
 abbrev pub IsUnlisted : NamedField → Type 0
 IsUnlisted f =
-    elim f.class [ classes.Text c ↦ Unit {0} | classes.Bin c ↦ Unit {0} | classes.OneOf c ↦ ⊥
-        | classes.Account c ↦ ⊥ ]
+    elim f.class [
+      | classes.Text c ↦ Unit {0}
+      | classes.Bin c ↦ Unit {0}
+      | classes.OneOf c ↦ ⊥
+      | classes.Account c ↦ ⊥
+    ]
 
 -- PIN, TAN and new PIN are values of fields, and the last elements of their segments; and no field lists its values
 pub record KeepsSecrets (script : ScriptValue) : Type 0 where

@@ -13,7 +13,7 @@ use crate::edges::write_edges;
 use crate::finding::found_at;
 use crate::nodes::write_node;
 use fints_check::{Finding, Reached, Report, check, greatest_figures};
-use fints_cli_scripts::{read_inputs, report_status};
+use fints_cli_scripts::{ReportObserver, read_inputs, report_status};
 use fints_cli_texts::{Fault, Reply};
 use fints_params::{ParamFault, Params};
 use fints_rules::Permissions;
@@ -114,36 +114,49 @@ fn draw_report(alloc: Global, report: &Report<'_>) -> Result<Reply, Memory>
 }
 
 // The picture of a plan with what its runs break, by good parameters.
-fn draw_plan(alloc: Global, params: &Params, plan: &Plan<'_>) -> Result<Reply, Memory>
+fn draw_plan<O: ReportObserver>(
+    alloc: Global,
+    params: &Params,
+    plan: &Plan<'_>,
+    observer: &mut O,
+) -> Result<Reply, Memory>
     ensures { IfOk result (λ reply.
         IsDrawnBy (record { rows = params.now; orders = plan.now.orders }) plan.now.script
         reply.status reply.text.items) }
 {
     let permissions = Permissions::build(alloc, params, plan.orders())?;
     let report = check(alloc, &permissions, plan)?;
+    observer.reported(&report);
     draw_report(alloc, &report)
 }
 
 // The picture of a script with what its runs break, by good parameters.
-fn draw_found(alloc: Global, params: &Params, orders: &[u8], script: &[u8]) -> Result<Reply, Fault>
+fn draw_found<O: ReportObserver>(
+    alloc: Global,
+    params: &Params,
+    orders: &[u8],
+    script: &[u8],
+    observer: &mut O,
+) -> Result<Reply, Fault>
     ensures drawn { IfOk result (λ reply.
         IsDrawnOn params.now orders.now script.now reply.status reply.text.items) }
     ensures refused { IfErr result (λ f. IsPlanRefusal orders.now script.now f) }
 {
     let inputs = read_inputs(alloc, orders, script)?;
     let plan = inputs.script.plan(&inputs.orders)?;
-    let reply = draw_plan(alloc, params, &plan)?;
+    let reply = draw_plan(alloc, params, &plan, observer)?;
     Ok(reply)
 }
 
 /// The picture of a script with what its runs break, by what was read of a capture: with status 0 where
 /// nothing is found, else 1. Of the refusals that of the capture comes first, then that of the order
 /// table, that of the script, and what the script leaves open with the order table.
-pub fn draw_read(
+pub fn draw_read<O: ReportObserver>(
     alloc: Global,
     params: Result<Params, ParamFault>,
     orders: &[u8],
     script: &[u8],
+    observer: &mut O,
 ) -> Result<Reply, Fault>
     ensures status { IfOk result (λ reply. reply.status ≤ 1) }
     ensures drawn { IfOk result (λ reply. (capture : List ℕ) → IsReadOf capture params
@@ -156,6 +169,6 @@ pub fn draw_read(
         Ok(params) => params,
         Err(fault) => return Err(Fault::from(fault)),
     };
-    let reply = draw_found(alloc, &params, orders, script)?;
+    let reply = draw_found(alloc, &params, orders, script, observer)?;
     Ok(reply)
 }

@@ -48,8 +48,8 @@ abbrev pub ReadsFrom : Option (List ℕ) → ℕ → List ℕ → Result ℕ Rea
 ReadsFrom held at buffer result =
     IfSome held (λ bytes. MatchResult result
     (λ count. count ≤ length buffer
-        → (take count buffer ≡ take count (drop at bytes))
-        × (count ≡ 0 → 0 < length buffer → length bytes ≤ at))
+    → (take count buffer ≡ take count (drop at bytes))
+    × (count ≡ 0 → 0 < length buffer → length bytes ≤ at))
     (λ _. ⊤))
 
 -- what was loaded is what the file holds, where that is told

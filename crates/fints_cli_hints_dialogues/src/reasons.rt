@@ -1,142 +1,139 @@
 //! Why the messages of a recorded dialogue break the rules that `audit` names.
 use crate::notes::Notes;
-use fints_cli_hints_reasons::bank::Bank;
+use fints_cli_hints_reasons::bank::{Bank, BankIndex};
 use fints_cli_hints_reasons::{Judged, add_reasons};
-use fints_cli_hints_words::inputs::Inputs;
 use fints_cli_hints_words::places::written;
 use fints_params::Params;
-use fints_rules::{Broken, Message, OrderTable, Permissions};
-use fints_rules_dialogues::{Exchange, Observer, Recording, Sent, audit};
+use fints_rules::{Broken, Permissions};
+use fints_rules_dialogues::{Exchange, Observer, Recording};
 use fints_syntax::Memory;
 use std::alloc::Global;
 
-// The parameters by which a dialogue is judged, and the capture in which they stand.
-#[derive(Drop)]
-struct Source<'a> {
-    capture: &'a [u8],
-    params: Params,
-}
-
-fn source_in<'a>(alloc: Global, capture: &'a [u8]) -> Option<Source<'a>> {
-    match Params::read(alloc, capture) {
-        Ok(params) => Some(Source { capture, params }),
-        Err(_) => None,
-    }
-}
-
-// The first answer that tells parameters, and these.
-fn own_source<'a>(alloc: Global, messages: &[Sent<'a>]) -> Option<Source<'a>> {
-    for answer in messages.iter().skip(1).step_by(2) {
-        if let Some(source) = source_in(alloc, answer.bytes) {
-            return Some(source);
+// The first answer of a dialogue that has parameters; empty where there is none.
+fn own_capture<'a>(alloc: Global, dialogue: &'a [u8]) -> &'a [u8] {
+    let Ok(recording) = Recording::cut(alloc, dialogue) else {
+        return &[];
+    };
+    for answer in recording.messages().iter().skip(1).step_by(2) {
+        if Params::read(alloc, answer.bytes).is_ok() {
+            return answer.bytes;
         }
     }
-    None
+    &[]
 }
 
-fn source_of<'a>(alloc: Global, capture: &'a [u8], messages: &[Sent<'a>]) -> Option<Source<'a>> {
-    if capture.is_empty() {
-        own_source(alloc, messages)
-    } else {
-        source_in(alloc, capture)
+/// Where the parameters of an audit were read.
+#[derive(Clone, Copy)]
+pub enum Source<'c> {
+    /// In a capture.
+    Capture(&'c [u8]),
+    /// In an answer of the dialogue itself.
+    Dialogue(&'c [u8]),
+}
+
+// The rows of the parameters in order. The dialogue is looked at only where something of its parameters
+// was skipped.
+fn index_of(alloc: Global, params: &Params, source: Source<'_>) -> Result<BankIndex, Memory> {
+    match source {
+        Source::Capture(capture) => BankIndex::of(alloc, params, capture),
+        Source::Dialogue(_) if params.skipped() == 0 => BankIndex::of(alloc, params, &[]),
+        Source::Dialogue(dialogue) => BankIndex::of(alloc, params, own_capture(alloc, dialogue)),
     }
 }
 
-// Adds the reasons of what the message of a number breaks.
-fn add_broken(
-    text: &mut String,
-    alloc: Global,
-    bank: &Bank<'_>,
-    number: usize,
-    message: &Message<'_>,
-    broken: &[Broken],
-) -> Result<(), Memory> {
-    if broken.is_empty() {
-        return Ok(());
-    }
-    let called = written(alloc, format_args!("message {number}"))?;
-    let judged = Judged {
-        bank,
-        called: called.as_str(),
-        message,
-    };
-    add_reasons(text, alloc, &judged, broken)
-}
-
-// What is said of a dialogue while it is audited.
+/// The reasons of what the client's messages of a dialogue break, in the order in which `audit` names them:
+/// a line for each rule, why it is broken and what to change; and then the notes on the dialogue.
 #[derive(Drop)]
-struct Remarks<'b, 'p> {
+pub struct AuditReasons<'c> {
     alloc: Global,
-    bank: &'b Bank<'p>,
+    wanted: bool,
+    source: Source<'c>,
+    // That of the bank, from the first message on that breaks a rule.
+    index: Option<BankIndex>,
     reasons: String,
     notes: Notes,
     // Whether memory ran out.
     failed: bool,
 }
 
-impl Remarks<'_, '_> {
-    fn add(&mut self, exchange: &Exchange<'_>, broken: &[Broken]) -> Result<(), Memory> {
+impl<'c> AuditReasons<'c> {
+    /// Those by the parameters that were read there.
+    pub fn new(alloc: Global, wanted: bool, source: Source<'c>) -> AuditReasons<'c> {
+        AuditReasons {
+            alloc,
+            wanted,
+            source,
+            index: None,
+            reasons: String::new(alloc),
+            notes: Notes::new(alloc),
+            failed: false,
+        }
+    }
+
+    /// The lines. None where memory ran out.
+    pub fn into_text(self) -> Option<String> {
+        let AuditReasons {
+            reasons: mut text,
+            notes,
+            failed,
+            ..
+        } = self;
+        if failed || text.push_str(notes.text()).is_err() {
+            return None;
+        }
+        Some(text)
+    }
+
+    // Adds the reasons of what the next message breaks.
+    fn add_broken(
+        &mut self,
+        permissions: &Permissions<'_>,
+        exchange: &Exchange<'_>,
+        broken: &[Broken],
+    ) -> Result<(), Memory> {
+        if broken.is_empty() {
+            return Ok(());
+        }
+        let index = match self.index.take() {
+            Some(index) => index,
+            None => index_of(self.alloc, permissions.params(), self.source)?,
+        };
+        let bank = Bank {
+            permissions,
+            index: &index,
+        };
         let number = self.notes.place();
-        add_broken(
-            &mut self.reasons,
-            self.alloc,
-            self.bank,
-            number,
-            &exchange.message,
-            broken,
-        )?;
+        let called = written(self.alloc, format_args!("message {number}"))?;
+        let judged = Judged {
+            bank: &bank,
+            called: called.as_str(),
+            message: &exchange.message,
+        };
+        add_reasons(&mut self.reasons, self.alloc, &judged, broken)?;
+        self.index = Some(index);
+        Ok(())
+    }
+
+    fn add(
+        &mut self,
+        permissions: &Permissions<'_>,
+        exchange: &Exchange<'_>,
+        broken: &[Broken],
+    ) -> Result<(), Memory> {
+        self.add_broken(permissions, exchange, broken)?;
         self.notes.add(self.alloc, exchange)
     }
 }
 
-impl Observer for Remarks<'_, '_> {
-    fn observe(&mut self, exchange: &Exchange<'_>, broken: &[Broken]) {
-        if !self.failed {
-            self.failed = self.add(exchange, broken).is_err();
+impl Observer for AuditReasons<'_> {
+    fn observe(
+        &mut self,
+        permissions: &Permissions<'_>,
+        exchange: &Exchange<'_>,
+        broken: &[Broken],
+    ) {
+        if self.wanted && !self.failed {
+            self.failed = self.add(permissions, exchange, broken).is_err();
         }
     }
-}
-
-// The reasons of what the messages of a recording break, and then the notes on it.
-fn remarks_on(
-    alloc: Global,
-    bank: &Bank<'_>,
-    recording: &Recording<'_>,
-) -> Result<Option<String>, Memory> {
-    let mut remarks = Remarks {
-        alloc,
-        bank,
-        reasons: String::new(alloc),
-        notes: Notes::new(alloc),
-        failed: false,
-    };
-    let audited = audit(alloc, bank.permissions, recording, &mut remarks);
-    if audited.is_err() || remarks.failed {
-        return Ok(None);
-    }
-    let Remarks {
-        reasons: mut text,
-        notes,
-        ..
-    } = remarks;
-    text.push_str(notes.text())?;
-    Ok(Some(text))
-}
-
-/// A line for each rule that the client's messages of a dialogue break, in the order in which `audit` names
-/// them: why, and what to change; and then the notes on the dialogue. Without a capture the parameters are
-/// those of the first answer that has some. None where an input is refused.
-pub fn audited_reasons(alloc: Global, inputs: &Inputs<'_>) -> Result<Option<String>, Memory> {
-    let Ok(orders) = OrderTable::read(alloc, inputs.orders) else {
-        return Ok(None);
-    };
-    let Ok(recording) = Recording::cut(alloc, inputs.dialogue) else {
-        return Ok(None);
-    };
-    let Some(source) = source_of(alloc, inputs.params, recording.messages()) else {
-        return Ok(None);
-    };
-    let permissions = Permissions::build(alloc, &source.params, &orders)?;
-    let bank = Bank::of(alloc, source.capture, &source.params, &orders, &permissions)?;
-    remarks_on(alloc, &bank, &recording)
 }

@@ -68,7 +68,7 @@ fn account_of<'a>(form: Option<AccountForm>, items: &Items<'a>) -> Account<'a> {
 }
 
 fn form_of(bank: &Bank<'_>, seen: &Seen<'_>) -> Option<AccountForm> {
-    bank.orders.form(seen.kind, seen.version)
+    bank.orders().form(seen.kind, seen.version)
 }
 
 /// The account that the order names.
@@ -177,7 +177,7 @@ fn other_place(bank: &Bank<'_>, seen: &Seen<'_>) -> Option<usize> {
     let form = form_of(bank, seen);
     for element in 3..seen.elements.last().saturating_add(1) {
         let items = seen.elements.items(element);
-        if !are_empty(&items) && has_account(&bank.accounts, &account_of(form, &items)) {
+        if !are_empty(&items) && has_account(&bank.accounts(), &account_of(form, &items)) {
             return Some(element);
         }
     }
@@ -201,7 +201,7 @@ fn elsewhere_in<'a>(bank: &Bank<'_>, seen: &Seen<'a>, element: usize) -> Locked<
     };
     Locked::Elsewhere {
         named,
-        count: bank.accounts.count(),
+        count: bank.accounts().count(),
         account: account_of(form_of(bank, seen), &elements.items(element)),
         element,
         kind: seen.kind,
@@ -217,7 +217,7 @@ fn unknown<'a>(bank: &Bank<'_>, seen: &Seen<'a>) -> Locked<'a> {
     let items = seen.elements.items(2);
     let [first, ..] = items;
     let advice = match (
-        advice(&bank.accounts, form_of(bank, seen), first),
+        advice(&bank.accounts(), form_of(bank, seen), first),
         other_place(bank, seen),
     ) {
         (Some(advice), _) => advice,
@@ -229,7 +229,7 @@ fn unknown<'a>(bank: &Bank<'_>, seen: &Seen<'a>) -> Locked<'a> {
     }
     Locked::Unknown {
         account: account_named(bank, seen),
-        count: bank.accounts.count(),
+        count: bank.accounts().count(),
         advice,
     }
 }
@@ -238,10 +238,10 @@ fn unknown<'a>(bank: &Bank<'_>, seen: &Seen<'a>) -> Locked<'a> {
 pub fn locked_by<'a>(bank: &Bank<'_>, seen: &Seen<'a>) -> Locked<'a> {
     let account = account_named(bank, seen);
     let kind = seen.kind;
-    if bank.accounts.count() == 0 {
+    if bank.accounts().count() == 0 {
         return Locked::NoAccounts;
     }
-    if !are_empty(&seen.elements.items(2)) && has_account(&bank.accounts, &account) {
+    if !are_empty(&seen.elements.items(2)) && has_account(&bank.accounts(), &account) {
         return Locked::Unlisted { account, kind };
     }
     unknown(bank, seen)

@@ -1,6 +1,5 @@
-//! What a bank permits, and the rows from which that comes, in orders in which one is found without a walk
-//! over all.
-use fints_cli_hints_segments::{Skipped, skipped_segments};
+//! What a bank permits, with its rows in orders in which one is found without a walk over all.
+use fints_cli_hints_segments::skipped_segments;
 use fints_params::{AccountRow, OrderParam, Params};
 use fints_rules::{OrderTable, Permissions};
 use fints_syntax::{Kind, Memory};
@@ -9,56 +8,37 @@ use std::alloc::Global;
 /// What names an account in its country: number, subaccount, country and bank code.
 pub type NationalItems<'a> = (&'a [u8], &'a [u8], &'a [u8], &'a [u8]);
 
-/// The accounts of a capture, by what names them.
-#[derive(Drop)]
-pub struct Accounts<'a> {
-    ibans: Vec<&'a [u8]>,
-    nationals: Vec<NationalItems<'a>>,
+// The IBAN of the account at a place; empty where there is none.
+fn iban_at(accounts: &[AccountRow], place: usize) -> &[u8] {
+    match accounts.get(place) {
+        Some(account) => account.iban.as_slice(),
+        None => &[],
+    }
 }
 
-fn national_of(row: &AccountRow) -> NationalItems<'_> {
-    (
-        row.national.number(),
-        row.national.subaccount(),
-        row.national.country(),
-        row.national.bank(),
-    )
+// What names the account at a place in its country.
+fn national_at(accounts: &[AccountRow], place: usize) -> NationalItems<'_> {
+    match accounts.get(place) {
+        Some(account) => (
+            account.national.number(),
+            account.national.subaccount(),
+            account.national.country(),
+            account.national.bank(),
+        ),
+        None => (&[], &[], &[], &[]),
+    }
 }
 
-impl<'a> Accounts<'a> {
-    fn of(alloc: Global, rows: &'a [AccountRow]) -> Result<Accounts<'a>, Memory> {
-        let mut ibans = Vec::new(alloc);
-        let mut nationals = Vec::new(alloc);
-        for row in rows {
-            ibans.push(row.iban.as_slice())?;
-            nationals.push(national_of(row))?;
-        }
-        ibans.sort_unstable();
-        nationals.sort_unstable();
-        Ok(Accounts { ibans, nationals })
-    }
+fn by_iban(alloc: Global, accounts: &[AccountRow]) -> Result<Vec<usize>, Memory> {
+    let mut places: Vec<usize> = (0..accounts.len()).collect(alloc)?;
+    places.sort_unstable_by(|a, b| iban_at(accounts, *a).cmp(iban_at(accounts, *b)));
+    Ok(places)
+}
 
-    pub fn count(&self) -> usize {
-        self.ibans.len()
-    }
-
-    pub fn has_iban(&self, iban: &[u8]) -> bool {
-        self.ibans.binary_search(&iban).is_ok()
-    }
-
-    pub fn has_national(&self, items: NationalItems<'_>) -> bool {
-        self.nationals.binary_search(&items).is_ok()
-    }
-
-    pub fn has_number(&self, number: &[u8]) -> bool {
-        let place = self
-            .nationals
-            .partition_point(|it| it.0.cmp(number).is_lt());
-        match self.nationals.get(place) {
-            Some(items) => items.0 == number,
-            None => false,
-        }
-    }
+fn by_national(alloc: Global, accounts: &[AccountRow]) -> Result<Vec<usize>, Memory> {
+    let mut places: Vec<usize> = (0..accounts.len()).collect(alloc)?;
+    places.sort_unstable_by(|a, b| national_at(accounts, *a).cmp(&national_at(accounts, *b)));
+    Ok(places)
 }
 
 fn versions_in(alloc: Global, rows: &[OrderParam]) -> Result<Vec<(Kind, u16)>, Memory> {
@@ -71,10 +51,14 @@ fn versions_in(alloc: Global, rows: &[OrderParam]) -> Result<Vec<(Kind, u16)>, M
     Ok(versions)
 }
 
-// The parameter segments of a capture that can't be read, in order.
-fn skipped_in(alloc: Global, skipped: &[Skipped]) -> Result<Vec<(Kind, u16)>, Memory> {
+// The parameter segments of a capture that can't be read, in order. The capture is looked at only where
+// its reader skipped something.
+fn skipped_in(alloc: Global, params: &Params, capture: &[u8]) -> Result<Vec<(Kind, u16)>, Memory> {
     let mut sorted = Vec::new(alloc);
-    for segment in skipped {
+    if params.skipped() == 0 {
+        return Ok(sorted);
+    }
+    for segment in skipped_segments(alloc, capture)?.as_slice() {
         sorted.push((segment.id, segment.version))?;
     }
     sorted.sort_unstable();
@@ -88,49 +72,103 @@ fn of_kind(sorted: &[(Kind, u16)], kind: Kind) -> &[(Kind, u16)] {
     sorted.get(from..to).unwrap_or(&[])
 }
 
-/// What a bank permits, and the rows from which that comes.
+/// The rows of a bank's parameters in these orders.
 #[derive(Drop)]
-pub struct Bank<'a> {
-    pub params: &'a Params,
-    pub orders: &'a OrderTable,
-    pub permissions: &'a Permissions<'a>,
-    pub accounts: Accounts<'a>,
+pub struct BankIndex {
+    // The places of the accounts, in order of what names them.
+    by_iban: Vec<usize>,
+    by_national: Vec<usize>,
     versions: Vec<(Kind, u16)>,
     skipped: Vec<(Kind, u16)>,
 }
 
-impl<'a> Bank<'a> {
-    /// The bank of a capture, of which these are the parameters.
-    pub fn of(
-        alloc: Global,
-        capture: &[u8],
-        params: &'a Params,
-        orders: &'a OrderTable,
-        permissions: &'a Permissions<'a>,
-    ) -> Result<Bank<'a>, Memory> {
-        let skipped = skipped_segments(alloc, capture)?;
-        Ok(Bank {
-            params,
-            orders,
-            permissions,
-            accounts: Accounts::of(alloc, params.accounts())?,
+impl BankIndex {
+    /// That of these parameters, which were read in the capture.
+    pub fn of(alloc: Global, params: &Params, capture: &[u8]) -> Result<BankIndex, Memory> {
+        Ok(BankIndex {
+            by_iban: by_iban(alloc, params.accounts())?,
+            by_national: by_national(alloc, params.accounts())?,
             versions: versions_in(alloc, params.orders())?,
-            skipped: skipped_in(alloc, skipped.as_slice())?,
+            skipped: skipped_in(alloc, params, capture)?,
         })
+    }
+}
+
+/// The accounts of a capture, by what names them.
+#[derive(Clone, Copy)]
+pub struct Accounts<'a> {
+    rows: &'a [AccountRow],
+    index: &'a BankIndex,
+}
+
+impl Accounts<'_> {
+    pub fn count(&self) -> usize {
+        self.rows.len()
+    }
+
+    pub fn has_iban(&self, iban: &[u8]) -> bool {
+        let places = self.index.by_iban.as_slice();
+        let first = places.partition_point(|it| iban_at(self.rows, *it).cmp(iban).is_lt());
+        match places.get(first) {
+            Some(place) => iban_at(self.rows, *place) == iban,
+            None => false,
+        }
+    }
+
+    pub fn has_national(&self, items: NationalItems<'_>) -> bool {
+        let places = self.index.by_national.as_slice();
+        let first = places.partition_point(|it| national_at(self.rows, *it).cmp(&items).is_lt());
+        match places.get(first) {
+            Some(place) => national_at(self.rows, *place) == items,
+            None => false,
+        }
+    }
+
+    pub fn has_number(&self, number: &[u8]) -> bool {
+        let places = self.index.by_national.as_slice();
+        let first = places.partition_point(|it| national_at(self.rows, *it).0.cmp(number).is_lt());
+        match places.get(first) {
+            Some(place) => national_at(self.rows, *place).0 == number,
+            None => false,
+        }
+    }
+}
+
+/// What a bank permits, and its rows in order.
+#[derive(Clone, Copy)]
+pub struct Bank<'a> {
+    pub permissions: &'a Permissions<'a>,
+    pub index: &'a BankIndex,
+}
+
+impl Bank<'_> {
+    pub fn params(&self) -> &Params {
+        self.permissions.params()
+    }
+
+    pub fn orders(&self) -> &OrderTable {
+        self.permissions.orders()
+    }
+
+    pub fn accounts(&self) -> Accounts<'_> {
+        Accounts {
+            rows: self.permissions.params().accounts(),
+            index: self.index,
+        }
     }
 
     /// The versions in which it takes an order, in order.
     pub fn versions(&self, kind: Kind) -> &[(Kind, u16)] {
-        of_kind(self.versions.as_slice(), kind)
+        of_kind(self.index.versions.as_slice(), kind)
     }
 
     /// Whether a parameter segment of this identifier is in the capture and can't be read.
     pub fn skips(&self, id: Kind) -> bool {
-        !of_kind(self.skipped.as_slice(), id).is_empty()
+        !of_kind(self.index.skipped.as_slice(), id).is_empty()
     }
 
-    /// The same of a version alone.
+    /// The same of one version.
     pub fn skips_version(&self, id: Kind, version: u16) -> bool {
-        self.skipped.binary_search(&(id, version)).is_ok()
+        self.index.skipped.binary_search(&(id, version)).is_ok()
     }
 }

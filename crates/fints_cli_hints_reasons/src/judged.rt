@@ -1,36 +1,15 @@
 //! Why a message breaks the rules that `judge` names.
-use crate::bank::Bank;
+use crate::bank::{Bank, BankIndex};
 use crate::elements::Elements;
 use crate::kinds::Kinds;
 use crate::lines::{Where, add_why};
 use crate::segment::{Seen, SegmentWhy};
 use crate::tans::NoTan;
 use crate::whole::{Before, Whole, WholeWhy, is_of_whole};
-use fints_cli_hints_words::inputs::Inputs;
-use fints_params::{Params, feedback_codes};
-use fints_rules::{
-    Broken, Message, OrderTable, Permissions, judge_message, judge_message_after, read_message,
-    segment_cause,
-};
+use fints_cli_texts::JudgeObserver;
+use fints_rules::{Broken, Message, Permissions, segment_cause};
 use fints_syntax::{Kind, Memory, SegmentView};
 use std::alloc::Global;
-
-// The rules that the message breaks, after the one before where there is one.
-fn broken_by(
-    alloc: Global,
-    permissions: &Permissions<'_>,
-    inputs: &Inputs<'_>,
-    message: &Message<'_>,
-) -> Result<Vec<Broken>, Memory> {
-    let before = read_message(alloc, inputs.before);
-    let codes = feedback_codes(alloc, inputs.answer);
-    match (before, codes) {
-        (Ok(before), Ok(codes)) => {
-            judge_message_after(alloc, permissions, &before, codes.as_slice(), message)
-        }
-        _ => judge_message(alloc, permissions, message),
-    }
-}
 
 fn kinds_in(
     alloc: Global,
@@ -111,7 +90,7 @@ fn add_whole(
         before: Before::Message,
     };
     let why = WholeWhy {
-        bank: judged.bank.params.bank(),
+        bank: judged.bank.params().bank(),
         whole: &whole,
         rule: broken.rule,
     };
@@ -169,48 +148,67 @@ fn answer_line(alloc: Global) -> Result<String, Memory> {
     Ok(text)
 }
 
-fn judged_lines(
+// A line for each rule that the message breaks, or one line where it is a bank's answer.
+fn lines_of(
     alloc: Global,
-    bank: &Bank<'_>,
-    inputs: &Inputs<'_>,
+    capture: &[u8],
+    permissions: &Permissions<'_>,
+    message: &Message<'_>,
+    broken: &[Broken],
 ) -> Result<Option<String>, Memory> {
-    let Ok(message) = read_message(alloc, inputs.message) else {
+    if broken.is_empty() {
         return Ok(None);
-    };
-    let broken = broken_by(alloc, bank.permissions, inputs, &message)?;
-    if !broken.is_empty() && is_answer(&message) {
+    }
+    if is_answer(message) {
         return Ok(Some(answer_line(alloc)?));
     }
+    let index = BankIndex::of(alloc, permissions.params(), capture)?;
+    let bank = Bank {
+        permissions,
+        index: &index,
+    };
     let judged = Judged {
-        bank,
+        bank: &bank,
         called: "",
-        message: &message,
+        message,
     };
     let mut text = String::new(alloc);
-    add_reasons(&mut text, alloc, &judged, broken.as_slice())?;
+    add_reasons(&mut text, alloc, &judged, broken)?;
     Ok(Some(text))
 }
 
-fn lines_by(
+/// The reasons of what a message breaks, in the order in which `judge` names it: a line for each rule, why
+/// it is broken and what to change; or one line where the message is a bank's answer, with no segment of a
+/// client. None where they aren't wanted, and where memory ran out.
+#[derive(Drop)]
+pub struct JudgeReasons<'c> {
     alloc: Global,
-    params: &Params,
-    orders: &OrderTable,
-    inputs: &Inputs<'_>,
-) -> Result<Option<String>, Memory> {
-    let permissions = Permissions::build(alloc, params, orders)?;
-    let bank = Bank::of(alloc, inputs.params, params, orders, &permissions)?;
-    judged_lines(alloc, &bank, inputs)
+    wanted: bool,
+    capture: &'c [u8],
+    text: Option<String>,
 }
 
-/// A line for each rule that the message breaks, in the order in which `judge` names them: why, and what
-/// to change; or one line alone, where the message is a bank's answer, with no segment of a client. None
-/// where an input is refused.
-pub fn judged_reasons(alloc: Global, inputs: &Inputs<'_>) -> Result<Option<String>, Memory> {
-    let Ok(params) = Params::read(alloc, inputs.params) else {
-        return Ok(None);
-    };
-    match OrderTable::read(alloc, inputs.orders) {
-        Ok(orders) => lines_by(alloc, &params, &orders, inputs),
-        Err(_) => Ok(None),
+impl<'c> JudgeReasons<'c> {
+    /// Those by the parameters that were read in this capture.
+    pub fn new(alloc: Global, wanted: bool, capture: &'c [u8]) -> JudgeReasons<'c> {
+        JudgeReasons {
+            alloc,
+            wanted,
+            capture,
+            text: None,
+        }
+    }
+
+    pub fn into_text(self) -> Option<String> {
+        self.text
+    }
+}
+
+impl JudgeObserver for JudgeReasons<'_> {
+    fn judged(&mut self, permissions: &Permissions<'_>, message: &Message<'_>, broken: &[Broken]) {
+        if self.wanted {
+            let lines = lines_of(self.alloc, self.capture, permissions, message, broken);
+            self.text = lines.unwrap_or(None);
+        }
     }
 }

@@ -14,4 +14,4 @@ pub mod segment;
 pub mod tans;
 pub mod whole;
 
-pub use judged::{Judged, add_reasons, judged_reasons};
+pub use judged::{JudgeReasons, Judged, add_reasons};

@@ -1,6 +1,6 @@
 //! Reasons of verdicts on scripts: why some run breaks a rule, why a certificate isn't closed, and notes on
-//! a script. They look at the inputs again, and a contract here says no more than that each call returns
-//! safely.
+//! a script. They look on while a script is checked or a certificate verified; a contract here says no more
+//! than that each call returns safely.
 #![tactic(auto)]
 
 mod notes;
@@ -8,5 +8,5 @@ mod report;
 mod steps;
 mod verified;
 
-pub use report::report_reasons;
-pub use verified::verified_reason;
+pub use report::ReportReasons;
+pub use verified::VerifyReason;

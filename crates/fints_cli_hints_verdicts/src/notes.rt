@@ -310,15 +310,11 @@ fn add_steps(
 }
 
 /// Adds the notes on a script, by its steps, and last those on its fields.
-pub fn add_notes(
-    text: &mut String,
-    alloc: Global,
-    report: &Report<'_>,
-    steps: &[Step],
-) -> Result<(), Memory> {
+pub fn add_notes(text: &mut String, alloc: Global, report: &Report<'_>) -> Result<(), Memory> {
+    let plan = report.plan();
+    let steps = plan.steps();
     let ends = endings(alloc, steps)?;
     let endless = first_endless(report, ends.as_slice());
     add_steps(text, alloc, report, steps, endless)?;
-    let plan = report.plan();
     add_fields(text, alloc, plan, steps, plan.fields())
 }

@@ -3,9 +3,9 @@ ghost use Rattle.std.specs.Prelude.{◌<◌, length};
 
 use crate::notes::add_notes;
 use crate::steps::{figures_of, step_at};
-use fints_check::{Finding, Report, check};
+use fints_check::{Finding, Report};
 use fints_check_reach::branch_to;
-use fints_cli_hints_reasons::bank::Bank;
+use fints_cli_hints_reasons::bank::{Bank, BankIndex};
 use fints_cli_hints_reasons::branches::BranchOf;
 use fints_cli_hints_reasons::elements::{Elements, Filled};
 use fints_cli_hints_reasons::kinds::Kinds;
@@ -13,10 +13,10 @@ use fints_cli_hints_reasons::lines::{Where, add_why, name_of};
 use fints_cli_hints_reasons::segment::{Seen, SegmentWhy};
 use fints_cli_hints_reasons::tans::no_tan;
 use fints_cli_hints_reasons::whole::{Before, Whole, WholeWhy, is_of_whole};
-use fints_cli_hints_words::inputs::Inputs;
-use fints_params::{Code, Params};
-use fints_rules::{Figures, OrderTable, Permissions, RELEASE, Rule, segment_cause};
-use fints_script::{Plan, Script, Step, Template, Values};
+use fints_cli_scripts::ReportObserver;
+use fints_params::Code;
+use fints_rules::{Figures, Permissions, RELEASE, Rule, segment_cause};
+use fints_script::{Plan, Step, Template, Values};
 use fints_syntax::{Kind, Memory};
 use std::alloc::Global;
 
@@ -117,7 +117,7 @@ fn add_whole(
         before,
     };
     let why = WholeWhy {
-        bank: found.bank.params.bank(),
+        bank: found.bank.params().bank(),
         whole: &whole,
         rule,
     };
@@ -219,13 +219,13 @@ fn add_finding(
     }
 }
 
-fn lines_of(
+// Adds a line for each finding.
+fn add_findings(
+    text: &mut String,
     alloc: Global,
     bank: &Bank<'_>,
     report: &Report<'_>,
-    steps: &[Step],
-) -> Result<String, Memory> {
-    let mut text = String::new(alloc);
+) -> Result<(), Memory> {
     let (plan, permissions) = (report.plan(), bank.permissions);
     let mut at: usize = 0;
     let mut kinds = kinds_at(alloc, permissions, plan, at)?;
@@ -235,48 +235,59 @@ fn lines_of(
             kinds = kinds_at(alloc, permissions, plan, n)?;
             at = n;
         }
-        add_finding(&mut text, alloc, bank, report, &kinds, i)?;
+        add_finding(text, alloc, bank, report, &kinds, i)?;
     }
-    add_notes(&mut text, alloc, report, steps)?;
+    Ok(())
+}
+
+fn lines_of(alloc: Global, capture: &[u8], report: &Report<'_>) -> Result<String, Memory> {
+    let mut text = String::new(alloc);
+    if !report.findings().is_empty() {
+        let permissions = report.permissions();
+        let index = BankIndex::of(alloc, permissions.params(), capture)?;
+        let bank = Bank {
+            permissions,
+            index: &index,
+        };
+        add_findings(&mut text, alloc, &bank, report)?;
+    }
+    add_notes(&mut text, alloc, report)?;
     Ok(text)
 }
 
-fn checked_lines(
+/// The reasons of a report: a line for each finding, in its order: why some run breaks the rule, and what
+/// to change; and then the notes on the script. None where they aren't wanted, and where memory ran out.
+#[derive(Drop)]
+pub struct ReportReasons<'c> {
     alloc: Global,
-    params: &Params,
-    orders: &OrderTable,
-    script: &Script,
-    inputs: &Inputs<'_>,
-) -> Result<Option<String>, Memory> {
-    let Ok(plan) = script.plan(orders) else {
-        return Ok(None);
-    };
-    let permissions = Permissions::build(alloc, params, orders)?;
-    let bank = Bank::of(alloc, inputs.params, params, orders, &permissions)?;
-    let report = check(alloc, &permissions, &plan)?;
-    Ok(Some(lines_of(alloc, &bank, &report, script.steps())?))
+    wanted: bool,
+    capture: &'c [u8],
+    text: Option<String>,
 }
 
-fn scripted_lines(
-    alloc: Global,
-    params: &Params,
-    orders: &OrderTable,
-    inputs: &Inputs<'_>,
-) -> Result<Option<String>, Memory> {
-    match Script::read(alloc, inputs.script) {
-        Ok(script) => checked_lines(alloc, params, orders, &script, inputs),
-        Err(_) => Ok(None),
+impl<'c> ReportReasons<'c> {
+    /// Those by the parameters that were read in this capture.
+    pub fn new(alloc: Global, wanted: bool, capture: &'c [u8]) -> ReportReasons<'c> {
+        ReportReasons {
+            alloc,
+            wanted,
+            capture,
+            text: None,
+        }
+    }
+
+    pub fn into_text(self) -> Option<String> {
+        self.text
     }
 }
 
-/// A line for each finding of the script, in the order of the report: why some run breaks the rule, and
-/// what to change; and then the notes on the script. None where an input is refused.
-pub fn report_reasons(alloc: Global, inputs: &Inputs<'_>) -> Result<Option<String>, Memory> {
-    let Ok(params) = Params::read(alloc, inputs.params) else {
-        return Ok(None);
-    };
-    match OrderTable::read(alloc, inputs.orders) {
-        Ok(orders) => scripted_lines(alloc, &params, &orders, inputs),
-        Err(_) => Ok(None),
+impl ReportObserver for ReportReasons<'_> {
+    fn reported(&mut self, report: &Report<'_>) {
+        if self.wanted {
+            self.text = match lines_of(self.alloc, self.capture, report) {
+                Ok(text) => Some(text),
+                Err(_) => None,
+            };
+        }
     }
 }

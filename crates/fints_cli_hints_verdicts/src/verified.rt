@@ -1,14 +1,13 @@
 //! Why a certificate isn't closed: what is open of it first, in words.
 
 use crate::steps::step_at;
-use fints_check::{Certificate, Line, Open, Way, first_open};
+use fints_check::{Certificate, Line, Open, Way};
 use fints_cli_hints_reasons::branches::BranchOf;
 use fints_cli_hints_reasons::lines::Called;
-use fints_cli_hints_words::inputs::Inputs;
 use fints_cli_hints_words::places::{Told, told};
-use fints_params::Params;
-use fints_rules::{LAST_NUMBER, OrderTable, Permissions};
-use fints_script::{Plan, Script};
+use fints_cli_scripts::VerifyObserver;
+use fints_rules::LAST_NUMBER;
+use fints_script::Plan;
 use std::alloc::Global;
 use std::fmt;
 use std::fmt::{Display, Formatter, Write};
@@ -218,41 +217,34 @@ fn why_text<'p>(alloc: Global, plan: &'p Plan<'p>, lines: &[Line], open: Open) -
     told(alloc, format_args!("why: {why}\n"))
 }
 
-fn verified_line(
+/// A line that says what is open of a certificate first. None where it is closed, where the line isn't
+/// wanted, and where memory ran out.
+#[derive(Drop)]
+pub struct VerifyReason {
     alloc: Global,
-    params: &Params,
-    orders: &OrderTable,
-    script: &Script,
-    certificate: &Certificate,
-) -> Told {
-    let Ok(plan) = script.plan(orders) else {
-        return Ok(None);
-    };
-    let permissions = Permissions::build(alloc, params, orders)?;
-    let Some(open) = first_open(&permissions, &plan, certificate) else {
-        return Ok(None);
-    };
-    why_text(alloc, &plan, certificate.lines(), open)
+    wanted: bool,
+    text: Option<String>,
 }
 
-fn line_by(alloc: Global, params: &Params, orders: &OrderTable, inputs: &Inputs<'_>) -> Told {
-    let Ok(script) = Script::read(alloc, inputs.script) else {
-        return Ok(None);
-    };
-    match Certificate::read(alloc, inputs.certificate) {
-        Ok(certificate) => verified_line(alloc, params, orders, &script, &certificate),
-        Err(_) => Ok(None),
+impl VerifyReason {
+    pub fn new(alloc: Global, wanted: bool) -> VerifyReason {
+        VerifyReason {
+            alloc,
+            wanted,
+            text: None,
+        }
+    }
+
+    pub fn into_text(self) -> Option<String> {
+        self.text
     }
 }
 
-/// A line that says what is open of the certificate first. None where an input is refused, or the
-/// certificate is closed.
-pub fn verified_reason(alloc: Global, inputs: &Inputs<'_>) -> Told {
-    let Ok(params) = Params::read(alloc, inputs.params) else {
-        return Ok(None);
-    };
-    match OrderTable::read(alloc, inputs.orders) {
-        Ok(orders) => line_by(alloc, &params, &orders, inputs),
-        Err(_) => Ok(None),
+impl VerifyObserver for VerifyReason {
+    fn verified(&mut self, plan: &Plan<'_>, certificate: &Certificate, open: Option<Open>) {
+        if let (true, Some(open)) = (self.wanted, open) {
+            let line = why_text(self.alloc, plan, certificate.lines(), open);
+            self.text = line.unwrap_or(None);
+        }
     }
 }

@@ -1,4 +1,4 @@
-//! The inputs of a command, which hints and reasons look at again.
+//! The inputs of a command, which the hint of a refusal looks at.
 
 /// The bytes of the files that a command has read; empty where it has no such file.
 #[derive(Clone, Copy)]

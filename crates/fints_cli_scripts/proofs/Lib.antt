@@ -5,3 +5,4 @@ pub mod ReportLemmas
 pub mod StepLemmas
 pub mod RunLemmas
 pub mod Endings
+pub mod HandedIn

@@ -12,6 +12,6 @@ mod writing;
 
 pub use inputs::{Inputs, read_inputs};
 pub use running::run_case;
-pub use telling::{Wanted, tell, tell_read, tell_script};
-pub use verifying::{verify_certificate, verify_read, verify_script};
+pub use telling::{ReportObserver, Wanted, tell, tell_read, tell_script};
+pub use verifying::{VerifyObserver, verify_certificate, verify_read, verify_script};
 pub use writing::report_status;

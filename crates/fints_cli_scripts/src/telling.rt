@@ -9,8 +9,8 @@ use crate::certifying::certify;
 use crate::explaining::{explain, explain_one};
 use crate::inputs::read_inputs;
 use crate::writing::reply;
-use fints_check::check;
-use fints_cli_texts::{Fault, Reply};
+use fints_check::{Report, check};
+use fints_cli_texts::{Fault, Reply, Unobserved};
 use fints_params::{ParamFault, Params};
 use fints_rules::Permissions;
 use fints_script::Plan;
@@ -29,12 +29,38 @@ pub enum Wanted {
     Certificate,
 }
 
+/// What looks on while a script is checked. No contract says what it makes of it.
+pub trait ReportObserver {
+    /// Looks at the report.
+    fn reported(&mut self, report: &Report<'_>);
+}
+
+impl ReportObserver for Unobserved {
+    fn reported(&mut self, _report: &Report<'_>) {}
+}
+
+// What is told of a report.
+fn tell_report(alloc: Global, report: &Report<'_>, wanted: Wanted) -> Result<Reply, Fault>
+    ensures told { IfOk result (λ reply.
+        IsToldBy wanted report.now.granted report.now.plan.script reply.status reply.text.items) }
+    ensures refused { IfErr result (λ f.
+        IsTellRefusalBy wanted report.now.granted report.now.plan.script f) }
+{
+    match wanted {
+        Wanted::Report => Ok(reply(alloc, report)?),
+        Wanted::Cases => Ok(explain(alloc, report)?),
+        Wanted::OneCase(number) => explain_one(alloc, report, number),
+        Wanted::Certificate => Ok(certify(alloc, report)?),
+    }
+}
+
 // What is told of a plan, by good parameters.
-fn tell_plan(
+fn tell_plan<O: ReportObserver>(
     alloc: Global,
     params: &Params,
     plan: &Plan<'_>,
     wanted: Wanted,
+    observer: &mut O,
 ) -> Result<Reply, Fault>
     ensures told { IfOk result (λ reply.
         IsToldBy wanted (record { rows = params.now; orders = plan.now.orders }) plan.now.script
@@ -44,23 +70,20 @@ fn tell_plan(
 {
     let permissions = Permissions::build(alloc, params, plan.orders())?;
     let report = check(alloc, &permissions, plan)?;
-    match wanted {
-        Wanted::Report => Ok(reply(alloc, &report)?),
-        Wanted::Cases => Ok(explain(alloc, &report)?),
-        Wanted::OneCase(number) => explain_one(alloc, &report, number),
-        Wanted::Certificate => Ok(certify(alloc, &report)?),
-    }
+    observer.reported(&report);
+    tell_report(alloc, &report, wanted)
 }
 
 /// What is told of a script by good parameters. The status is 0 where nothing is found, else 1. Of
 /// the refusals that of the order table comes first, then that of the script, then what the script
 /// leaves open with the order table, and then that of the number of a finding that isn't there.
-pub fn tell(
+pub fn tell<O: ReportObserver>(
     alloc: Global,
     params: &Params,
     orders: &[u8],
     script: &[u8],
     wanted: Wanted,
+    observer: &mut O,
 ) -> Result<Reply, Fault>
     ensures told { IfOk result (λ reply.
         IsToldOn wanted params.now orders.now script.now reply.status reply.text.items) }
@@ -68,18 +91,19 @@ pub fn tell(
 {
     let inputs = read_inputs(alloc, orders, script)?;
     let plan = inputs.script.plan(&inputs.orders)?;
-    let reply = tell_plan(alloc, params, &plan, wanted)?;
+    let reply = tell_plan(alloc, params, &plan, wanted, observer)?;
     Ok(reply)
 }
 
 /// What is told of a script by what was read of a capture, with the same statuses. The refusal of the
 /// capture comes before the others.
-pub fn tell_read(
+pub fn tell_read<O: ReportObserver>(
     alloc: Global,
     params: Result<Params, ParamFault>,
     orders: &[u8],
     script: &[u8],
     wanted: Wanted,
+    observer: &mut O,
 ) -> Result<Reply, Fault>
     ensures status { IfOk result (λ reply. reply.status ≤ 1) }
     ensures told { IfOk result (λ reply. (capture : List ℕ) → IsReadOf capture params
@@ -93,7 +117,7 @@ pub fn tell_read(
         Ok(params) => params,
         Err(fault) => return Err(Fault::from(fault)),
     };
-    let reply = tell(alloc, &params, orders, script, wanted)?;
+    let reply = tell(alloc, &params, orders, script, wanted, observer)?;
     Ok(reply)
 }
 
@@ -109,5 +133,6 @@ pub fn tell_script(
         IsToldOf wanted params.now orders.now script.now reply.status reply.text.items) }
     ensures refused { IfErr result (λ f. IsTellRefusal wanted params.now orders.now script.now f) }
 {
-    tell_read(alloc, Params::read(alloc, params), orders, script, wanted)
+    let params = Params::read(alloc, params);
+    tell_read(alloc, params, orders, script, wanted, &mut Unobserved)
 }

@@ -13,7 +13,7 @@ use Rattle.fints_rules_messages.specs.declared.message.JudgeFault.TheVariants as
 use Rattle.fints_rules_permissions.specs.Orders.{IsTableFault}
 use Rattle.fints_cli_texts.specs.declared.fault.Fault.TheVariants.{Memory, Answer}
 use Rattle.fints_cli_texts.specs.Fault.{answer_fault_of, fault_of, order_fault_of, message_fault_of}
-use Rattle.fints_cli_texts.specs.Judge.{IsFirstRefusal}
+use Rattle.fints_cli_texts.specs.Judge.{IsFirstRefusal, IsMessageRefusal}
 use Rattle.fints_cli_texts.specs.JudgeAfter.{IsAnswerRefusal, IsRefusalOfThree}
 use Rattle.fints_rules_messages.specs.Messages.{IsMessage, MessageView}
 use Rattle.fints_rules_messages.specs.Read.{IsJudgeFault}
@@ -45,6 +45,12 @@ orders_refused capture table P rows orders.NotToml h p = ((rows, h), p)
 orders_refused capture table P rows orders.UnknownKey h p = ((rows, h), p)
 orders_refused capture table P rows (orders.BadRow n) h p = ((rows, h), p)
 orders_refused capture table P rows (orders.TwoRows n) h p = ((rows, h), p)
+
+pub message_refused : (bytes : List ℕ) (f : JudgeFault) → IsJudgeFault bytes f
+    → IsMessageRefusal bytes (message_fault_of f)
+message_refused bytes message.Memory h = tt
+message_refused bytes (message.NotAMessage offset) h = h
+message_refused bytes (message.NotAMessageBefore offset) h = absurd h
 
 -- ---- of a message behind another one
 

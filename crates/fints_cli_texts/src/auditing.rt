@@ -13,7 +13,7 @@ use crate::judging::{verdict_status, write_broken, write_last};
 use crate::reply::Reply;
 use fints_params::{ParamFault, Params};
 use fints_rules::{Broken, OrderTable, Permissions};
-use fints_rules_dialogues::{Audited, DialogueFault, Recording, Unobserved, audit, own_params};
+use fints_rules_dialogues::{Audited, DialogueFault, Observer, Recording, audit, own_params};
 use itoa::Buffer;
 use std::alloc::{AllocError, Global};
 
@@ -85,47 +85,54 @@ fn audit_reply(alloc: Global, audited: &[Audited<'_>]) -> Result<Reply, AllocErr
 }
 
 // The text of a recording, by good parameters and a good order table.
-fn audit_recording(
+fn audit_recording<O: Observer>(
     alloc: Global,
     params: &Params,
     orders: &OrderTable,
     recording: &Recording<'_>,
+    observer: &mut O,
 ) -> Result<Reply, DialogueFault>
     ensures audited { IfOk result (λ reply.
         IsRecordingAudit params.now orders.now recording.now reply.status reply.text.items) }
     ensures refused { IfErr result (λ f. IsMemoryOrRefusal (IsTurnFault recording.now) f) }
 {
     let permissions = Permissions::build(alloc, params, orders)?;
-    let audited = audit(alloc, &permissions, recording, &mut Unobserved)?;
+    let audited = audit(alloc, &permissions, recording, observer)?;
     let reply = audit_reply(alloc, audited.as_slice())?;
     Ok(reply)
 }
 
 // The text of the dialogue in a file, by good parameters and a good order table.
-fn audit_file(
+fn audit_file<O: Observer>(
     alloc: Global,
     params: &Params,
     orders: &OrderTable,
     file: &[u8],
+    observer: &mut O,
 ) -> Result<Reply, DialogueFault>
     ensures audited { IfOk result (λ reply.
         IsFileAudit params.now orders.now file.now reply.status reply.text.items) }
     ensures refused { IfErr result (λ f. IsMemoryOrRefusal (IsDialogueFault file.now) f) }
 {
     let recording = Recording::cut(alloc, file)?;
-    audit_recording(alloc, params, orders, &recording)
+    audit_recording(alloc, params, orders, &recording, observer)
 }
 
 // The same by the dialogue's own parameters. These are looked for before its messages are read; so where
 // they are refused, the messages are still read for a refusal of theirs, which comes first.
-fn audit_file_own(alloc: Global, orders: &OrderTable, file: &[u8]) -> Result<Reply, DialogueFault>
+fn audit_file_own<O: Observer>(
+    alloc: Global,
+    orders: &OrderTable,
+    file: &[u8],
+    observer: &mut O,
+) -> Result<Reply, DialogueFault>
     ensures audited { IfOk result (λ reply.
         IsOwnFileAudit orders.now file.now reply.status reply.text.items) }
     ensures refused { IfErr result (λ f. IsMemoryOrRefusal (IsOwnFault file.now) f) }
 {
     let recording = Recording::cut(alloc, file)?;
     match own_params(alloc, &recording) {
-        Ok(params) => audit_recording(alloc, &params, orders, &recording),
+        Ok(params) => audit_recording(alloc, &params, orders, &recording, observer),
         Err(fault) => {
             recording.exchanges(alloc)?;
             Err(fault)
@@ -136,11 +143,12 @@ fn audit_file_own(alloc: Global, orders: &OrderTable, file: &[u8]) -> Result<Rep
 /// The rules that the client's messages of a recorded dialogue break, by what was read of a capture and
 /// an order table. Of the refusals that of the capture comes first, then that of the order table, then
 /// that of the dialogue.
-pub fn audit_read(
+pub fn audit_read<O: Observer>(
     alloc: Global,
     params: Result<Params, ParamFault>,
     orders: &[u8],
     dialogue: &[u8],
+    observer: &mut O,
 ) -> Result<Reply, Fault>
     ensures status { IfOk result (λ reply. reply.status ≤ 1) }
     ensures audited { IfOk result (λ reply. (capture : List ℕ) → IsReadOf capture params
@@ -154,19 +162,24 @@ pub fn audit_read(
         Err(fault) => return Err(Fault::from(fault)),
     };
     let orders = OrderTable::read(alloc, orders)?;
-    let reply = audit_file(alloc, &params, &orders, dialogue)?;
+    let reply = audit_file(alloc, &params, &orders, dialogue, observer)?;
     Ok(reply)
 }
 
 /// The same, by the parameters that the dialogue's own answers tell. Of the refusals that of the order
 /// table comes first, then that of the dialogue, then that of its parameters.
-pub fn audit_own(alloc: Global, orders: &[u8], dialogue: &[u8]) -> Result<Reply, Fault>
+pub fn audit_own<O: Observer>(
+    alloc: Global,
+    orders: &[u8],
+    dialogue: &[u8],
+    observer: &mut O,
+) -> Result<Reply, Fault>
     ensures status { IfOk result (λ reply. reply.status ≤ 1) }
     ensures audited { IfOk result (λ reply.
         IsOwnAuditOf orders.now dialogue.now reply.status reply.text.items) }
     ensures refused { IfErr result (λ f. IsOwnAuditRefusal orders.now dialogue.now f) }
 {
     let orders = OrderTable::read(alloc, orders)?;
-    let reply = audit_file_own(alloc, &orders, dialogue)?;
+    let reply = audit_file_own(alloc, &orders, dialogue, observer)?;
     Ok(reply)
 }

@@ -9,7 +9,8 @@ ghost use Rattle.fints_cli_texts.specs.Judge.{broken_line, last_line, verdict_te
 use crate::fault::Fault;
 use crate::reply::Reply;
 use fints_params::{ParamFault, Params};
-use fints_rules::{Broken, OrderTable, Permissions, judge};
+use fints_rules::{Broken, Message, OrderTable, Permissions, read_message};
+use fints_rules_dialogues::Unobserved;
 use itoa::Buffer;
 use std::alloc::{AllocError, Global};
 
@@ -68,30 +69,50 @@ pub fn verdict(alloc: Global, broken: &[Broken]) -> Result<Reply, AllocError>
     })
 }
 
+/// What looks on while a message is judged. No contract says what it makes of it.
+pub trait JudgeObserver {
+    /// Looks at the message, and at the rules that it breaks under these permissions.
+    fn judged(&mut self, permissions: &Permissions<'_>, message: &Message<'_>, broken: &[Broken]);
+}
+
+impl JudgeObserver for Unobserved {
+    fn judged(
+        &mut self,
+        _permissions: &Permissions<'_>,
+        _message: &Message<'_>,
+        _broken: &[Broken],
+    ) {}
+}
+
 // The verdict on a message, by good parameters and a good order table.
-fn judge_with(
+#[tactic(auto, using(crate::proofs::JudgeLemmas::message_refused))]
+fn judge_with<O: JudgeObserver>(
     alloc: Global,
     params: &Params,
     orders: &OrderTable,
     message: &[u8],
+    observer: &mut O,
 ) -> Result<Reply, Fault>
     ensures judged { IfOk result (λ reply.
         IsVerdictBy params.now orders.now message.now reply.status reply.text.items) }
     ensures refused { IfErr result (λ f. IsMessageRefusal message.now f) }
 {
     let permissions = Permissions::build(alloc, params, orders)?;
-    let broken = judge(alloc, &permissions, message)?;
+    let read = read_message(alloc, message)?;
+    let broken = fints_rules::judge_message(alloc, &permissions, &read)?;
+    observer.judged(&permissions, &read, broken.as_slice());
     let reply = verdict(alloc, broken.as_slice())?;
     Ok(reply)
 }
 
 /// The rules that a message breaks, by what was read of a capture and an order table. Of the refusals
 /// that of the capture comes first, and then that of the order table.
-pub fn judge_read(
+pub fn judge_read<O: JudgeObserver>(
     alloc: Global,
     params: Result<Params, ParamFault>,
     orders: &[u8],
     message: &[u8],
+    observer: &mut O,
 ) -> Result<Reply, Fault>
     ensures status { IfOk result (λ reply. reply.status ≤ 1) }
     ensures judged { IfOk result (λ reply. (capture : List ℕ) → IsReadOf capture params
@@ -105,7 +126,7 @@ pub fn judge_read(
         Err(fault) => return Err(Fault::from(fault)),
     };
     let orders = OrderTable::read(alloc, orders)?;
-    let reply = judge_with(alloc, &params, &orders, message)?;
+    let reply = judge_with(alloc, &params, &orders, message, observer)?;
     Ok(reply)
 }
 
@@ -120,5 +141,6 @@ pub fn judge_message(
         IsVerdictOf params.now orders.now message.now reply.status reply.text.items) }
     ensures refused { IfErr result (λ f. IsJudgeRefusal params.now orders.now message.now f) }
 {
-    judge_read(alloc, Params::read(alloc, params), orders, message)
+    let params = Params::read(alloc, params);
+    judge_read(alloc, params, orders, message, &mut Unobserved)
 }

@@ -7,7 +7,7 @@ ghost use Rattle.fints_params.specs.Captures.{IsCodesOf, IsReadOf};
 ghost use Rattle.fints_cli_texts.specs.JudgeAfter.{IsAnswerRefusal, IsBeforeRefusal, IsJudgeAfterRefusal, IsRefusalOfThree, IsVerdictAfter, IsVerdictAfterBy};
 
 use crate::fault::{Fault, answer_fault};
-use crate::judging::verdict;
+use crate::judging::{JudgeObserver, verdict};
 use crate::reply::Reply;
 use fints_params::{Code, ParamFault, Params, feedback_codes};
 use fints_rules::{OrderTable, Permissions, judge_message_after};
@@ -41,12 +41,13 @@ fn read_answer(alloc: Global, answer: &[u8]) -> Result<Vec<Code>, Fault>
 
 // The verdict on a message behind another one and the answer to that.
 #[tactic(auto, using(crate::proofs::JudgeLemmas::answer_refused, crate::proofs::JudgeLemmas::judged_refused))]
-fn judge_behind(
+fn judge_behind<O: JudgeObserver>(
     alloc: Global,
     permissions: &Permissions<'_>,
     before: &[u8],
     answer: &[u8],
     message: &[u8],
+    observer: &mut O,
 ) -> Result<Reply, Fault>
     ensures judged { IfOk result (λ reply.
         IsVerdictAfterBy permissions.now.rows permissions.now.orders before.now answer.now message.now
@@ -57,18 +58,20 @@ fn judge_behind(
     let codes = read_answer(alloc, answer)?;
     let read = read_message(alloc, message)?;
     let broken = judge_message_after(alloc, permissions, &earlier, codes.as_slice(), &read)?;
+    observer.judged(permissions, &read, broken.as_slice());
     let reply = verdict(alloc, broken.as_slice())?;
     Ok(reply)
 }
 
 // The same, by good parameters and a good order table.
-fn judge_after_with(
+fn judge_after_with<O: JudgeObserver>(
     alloc: Global,
     params: &Params,
     orders: &OrderTable,
     before: &[u8],
     answer: &[u8],
     message: &[u8],
+    observer: &mut O,
 ) -> Result<Reply, Fault>
     ensures judged { IfOk result (λ reply.
         IsVerdictAfterBy params.now orders.now before.now answer.now message.now
@@ -76,7 +79,7 @@ fn judge_after_with(
     ensures refused { IfErr result (λ f. IsRefusalOfThree before.now answer.now message.now f) }
 {
     let permissions = Permissions::build(alloc, params, orders)?;
-    let reply = judge_behind(alloc, &permissions, before, answer, message)?;
+    let reply = judge_behind(alloc, &permissions, before, answer, message, observer)?;
     Ok(reply)
 }
 
@@ -84,13 +87,14 @@ fn judge_after_with(
 /// what was read of a capture and an order table. The refusals come in this order: of the capture, of
 /// the order table, of the message before, of the answer, of the message. The codes of the answer are
 /// those of `feedback_codes`.
-pub fn judge_after_read(
+pub fn judge_after_read<O: JudgeObserver>(
     alloc: Global,
     params: Result<Params, ParamFault>,
     orders: &[u8],
     before: &[u8],
     answer: &[u8],
     message: &[u8],
+    observer: &mut O,
 ) -> Result<Reply, Fault>
     ensures status { IfOk result (λ reply. reply.status ≤ 1) }
     ensures judged { IfOk result (λ reply. (capture : List ℕ) → IsReadOf capture params
@@ -104,6 +108,6 @@ pub fn judge_after_read(
         Err(fault) => return Err(Fault::from(fault)),
     };
     let orders = OrderTable::read(alloc, orders)?;
-    let reply = judge_after_with(alloc, &params, &orders, before, answer, message)?;
+    let reply = judge_after_with(alloc, &params, &orders, before, answer, message, observer)?;
     Ok(reply)
 }

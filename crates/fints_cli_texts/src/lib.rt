@@ -13,7 +13,10 @@ mod showing_message;
 
 pub use auditing::{audit_own, audit_read};
 pub use fault::Fault;
-pub use judging::{judge_message, judge_read, verdict_status, write_broken, write_last};
+pub use fints_rules_dialogues::Unobserved;
+pub use judging::{
+    JudgeObserver, judge_message, judge_read, verdict_status, write_broken, write_last,
+};
 pub use judging_after::judge_after_read;
 pub use reply::Reply;
 pub use showing::{show, show_read};

@@ -40,8 +40,8 @@ abbrev pub entry_of : List OwnedItem → Option Entry
 entry_of items =
     let values = map item_value items in
     option_and_then
-        (λ k. option_map (λ n. record { kind = k; signatures = n }) (number_of (get_or values 1 [])))
-        (entry_kind (get_or values 0 []))
+    (λ k. option_map (λ n. record { kind = k; signatures = n }) (number_of (get_or values 1 [])))
+    (entry_kind (get_or values 0 []))
 
 -- the elements from 11 on
 abbrev pub entry_elements : OwnedSegment → List (List OwnedItem)
@@ -53,8 +53,12 @@ is_odd_element items = not (is_empty_element items) && not (is_some (entry_of it
 abbrev pub account_row : OwnedSegment → AccountRow
 account_row s = record {
   national =
-      record { number = value_at s 2 1; subaccount = value_at s 2 2; country = value_at s 2 3;
-          bank = value_at s 2 4 };
+      record {
+        number = value_at s 2 1;
+        subaccount = value_at s 2 2;
+        country = value_at s 2 3;
+        bank = value_at s 2 4;
+      };
   iban = value_at s 3 1;
   entries = filter_map entry_of (entry_elements s);
 }

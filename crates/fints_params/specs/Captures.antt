@@ -33,7 +33,7 @@ abbrev pub IsParamFault : List ℕ → ParamFault → Type 0
 IsParamFault capture f =
     IsRefusedOf fault_after capture f
     ⊎ ((segments : List OwnedSegment) × AreSegmentsOf capture segments × NoneRefused fault_after segments
-        × (end_fault segments ≡ Some f))
+    × (end_fault segments ≡ Some f))
 
 -- what is answered where the parameters of a capture are read
 abbrev pub IsReadOf : List ℕ → Result Rows ParamFault → Type 0

@@ -26,7 +26,7 @@ abbrev pub kind_of_orders : List ℕ → Option (List ℕ)
 kind_of_orders id =
     if is_order_identifier id
     then kind_from (get_or id 0 0 ∷ get_or (codes "K") 0 0 ∷ get_or id 2 0 ∷ get_or id 3 0 ∷ get_or id 4 0
-        ∷ []) else None
+    ∷ []) else None
 
 -- what the segment says of the kind, if it has both numbers
 abbrev pub order_of : OwnedSegment → List ℕ → Option OrderParam

@@ -74,4 +74,4 @@ abbrev pub IsRefusedOf : Rule → List ℕ → ParamFault → Type 0
 IsRefusedOf rule capture f =
     IsSyntaxFault capture f
     ⊎ ((length capture ≤ MAX_CAPTURE) × (placed : List Placed) × IsPlacedCapture capture placed
-        × IsRefusedIn rule placed f)
+    × IsRefusedIn rule placed f)

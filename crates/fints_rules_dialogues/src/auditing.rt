@@ -21,8 +21,13 @@ pub struct Audited<'a> {
 
 /// What looks on while a dialogue is audited. No contract says what it makes of it.
 pub trait Observer {
-    /// Looks at the next exchange and the rules that its message breaks.
-    fn observe(&mut self, exchange: &Exchange<'_>, broken: &[Broken]);
+    /// Looks at the next exchange, and at the rules that its message breaks under these permissions.
+    fn observe(
+        &mut self,
+        permissions: &Permissions<'_>,
+        exchange: &Exchange<'_>,
+        broken: &[Broken],
+    );
 }
 
 /// Nobody looks on.
@@ -30,7 +35,12 @@ pub trait Observer {
 pub struct Unobserved;
 
 impl Observer for Unobserved {
-    fn observe(&mut self, _exchange: &Exchange<'_>, _broken: &[Broken]) {}
+    fn observe(
+        &mut self,
+        _permissions: &Permissions<'_>,
+        _exchange: &Exchange<'_>,
+        _broken: &[Broken],
+    ) {}
 }
 
 // The codes of the answer of an exchange; none without an answer.
@@ -86,7 +96,7 @@ pub fn audit<'a, O: Observer>(
         let (_, rest) = messages.split_at(at);
         let exchange = read_exchange(alloc, rest)?;
         let broken = judge_behind(alloc, permissions, before.as_ref(), &exchange)?;
-        observer.observe(&exchange, broken.as_slice());
+        observer.observe(permissions, &exchange, broken.as_slice());
         let sent = exchange.sent;
         audited.push(Audited { sent, broken })?;
         at += message_count(&exchange);

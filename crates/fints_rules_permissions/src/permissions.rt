@@ -82,6 +82,20 @@ impl<'a> Permissions<'a> {
         })
     }
 
+    /// The parameters that they come from.
+    pub fn params(&self) -> &Params
+        ensures { result.now ≡ self.now.rows }
+    {
+        self.params
+    }
+
+    /// The order table that they come from.
+    pub fn orders(&self) -> &OrderTable
+        ensures { result.now ≡ self.now.orders }
+    {
+        self.orders
+    }
+
     /// The bank's own row.
     pub fn bank(&self) -> &BankRow
         ensures { result.now ≡ self.now.rows.bank }

@@ -15,7 +15,12 @@ const DIALOGUE: &[u8] =
 struct Counter(usize);
 
 impl Observer for Counter {
-    fn observe(&mut self, _exchange: &Exchange<'_>, _broken: &[Broken]) {
+    fn observe(
+        &mut self,
+        _permissions: &Permissions<'_>,
+        _exchange: &Exchange<'_>,
+        _broken: &[Broken],
+    ) {
         self.0 = self.0.saturating_add(1);
     }
 }

@@ -72,7 +72,7 @@ open_fault opens.Process step segment = faults.OpenProcess step segment
 abbrev pub faults_in_segments : List NamedField → List OrderRow → ℕ → ℕ → List Template → List PlanFault
 faults_in_segments fields orders n first templates =
     filter_map (λ (p : ℕ × Template). option_map (λ left. open_fault left n p.0) (open_of fields orders p.1))
-        (enumerate_from first templates)
+    (enumerate_from first templates)
 
 -- the faults of step n: before its segments stand HNHBK and the signers' HNSHK
 abbrev pub faults_in_step : List NamedField → List OrderRow → ℕ → StepValue → List PlanFault

@@ -132,7 +132,7 @@ abbrev pub step_weight : Surroundings → StepValue → ℕ
 step_weight around step =
     total (λ (t : Template). segment_weight around.figures t.elements) step.templates
     + (total (signature_weight around.figures around.signers) step.signers
-        + seal_weight around.figures step.sealed around.seal)
+    + seal_weight around.figures step.sealed around.seal)
 
 -- some segment has more items than it may
 abbrev pub has_large_segment : List Figures → List Template → Bool
@@ -157,8 +157,15 @@ is_taken_step rows i name = is_word name || list_any (is_called name) (take i ro
 
 abbrev pub step_value : List ℕ → List Template → Bool → List ℕ → ℕ → List Branch → Target → StepValue
 step_value name templates sealed signers repeat branches otherwise =
-    record { name = name; templates = templates; sealed = sealed; signers = signers; repeat = repeat;
-        branches = branches; otherwise = otherwise }
+    record {
+      name = name;
+      templates = templates;
+      sealed = sealed;
+      signers = signers;
+      repeat = repeat;
+      branches = branches;
+      otherwise = otherwise;
+    }
 
 -- a step of a size that it may have
 abbrev pub sized_step : Surroundings → StepValue → Part StepValue

@@ -138,7 +138,7 @@ decimal_len-mono a b le small =
     let n = decimal_is_IsNumeral b small in
     let value : digits_value 10 (decimal b) ≡ b = n.1 in
     let below : digits_value 10 (decimal b) < 10 ^ length (decimal b) =
-        digits_value-lt 10 (decimal b) n.0.1 in
+    digits_value-lt 10 (decimal b) n.0.1 in
     length-decimal-le (length (decimal b)) a (decimal_nonempty b small) (omega arith) (omega arith)
 
 binary_mono : (v w : List ℕ) → length v ≤ length w → length w ≤ 10000 → binary_len v ≤ binary_len w

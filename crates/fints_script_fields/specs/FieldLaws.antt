@@ -14,7 +14,7 @@ use Rattle.fints_script_fields.specs.Fields.{field_domain, field_items, field_lo
 pub longest_is_admitted : (f : Field) → field_domain f (field_longest f)
 longest_is_admitted (Text c) =
     counted_most (IsCharacter c.alphabet) c.min c.max (longest_character c.alphabet)
-        (longest_has c.alphabet) c.ordered
+    (longest_has c.alphabet) c.ordered
 longest_is_admitted (Bin c) = counted_most IsByte c.min c.max 255 (omega arith) c.ordered
 longest_is_admitted (OneOf c) = longest_listed (λ x. x) text_len [] c.values c.some
 longest_is_admitted (Account c) = longest_listed account_text length [] c.values c.some
@@ -22,7 +22,7 @@ longest_is_admitted (Account c) = longest_listed account_text length [] c.values
 pub shortest_is_admitted : (f : Field) → field_domain f (field_shortest f)
 shortest_is_admitted (Text c) =
     counted_least (IsCharacter c.alphabet) c.min c.max (shortest_character c.alphabet)
-        (shortest_has c.alphabet) c.ordered
+    (shortest_has c.alphabet) c.ordered
 shortest_is_admitted (Bin c) = counted_least IsByte c.min c.max 0 (omega arith) c.ordered
 shortest_is_admitted (OneOf c) = shortest_listed (λ x. x) text_len [] c.values c.some
 shortest_is_admitted (Account c) = shortest_listed account_text length [] c.values c.some

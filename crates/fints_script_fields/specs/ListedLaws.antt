@@ -71,7 +71,7 @@ first_passes {X} q before after best fails earlier here later =
     let xs : List X = before ++ best ∷ after in
     find_behind (λ x. list_all (q x) xs) before after best
     (All-weaker (λ x. q x best ≡ false) (λ x. list_all (q x) xs ≡ false)
-        (λ x no. elim (cases_Bool (list_all (q x) xs)) [
+    (λ x no. elim (cases_Bool (list_all (q x) xs)) [
       | inl all ↦ absurd (false≢true
           (sym no ∙ middle (λ y. q x y ≡ true) before after best (AllPass-from_list_all (q x) xs all)))
       | inr not_all ↦ not_all
@@ -124,9 +124,16 @@ module _ (better within : ℕ → ℕ → Bool) (tests : AreTests better within)
               rw h (elim (best_of x xs) [
                 | inl (e, all) ↦
                     subst P (sym e)
-                    (inr
-                    (record { before = []; after = xs; place = refl; earlier = All-nil (IsWorse x);
-                        later = all }, h))
+                    (inr (
+                      record {
+                        before = [];
+                        after = xs;
+                        place = refl;
+                        earlier = All-nil (IsWorse x);
+                        later = all;
+                      },
+                      h,
+                    ))
                 | inr (m, rise) ↦
                     inr (
                       record {
@@ -191,7 +198,7 @@ module _ (better within : ℕ → ℕ → Bool) (tests : AreTests better within)
     found_best none xs best f =
         let at = first_passes (λ x y. within (size y) (size x)) f.before f.after best
         (All-weaker (IsWorse best) (λ x. within (size best) (size x) ≡ false)
-            (λ x h. tests.yes (size best) (size x) h)
+        (λ x h. tests.yes (size best) (size x) h)
         f.before f.earlier)
         (none_before f.before best f.earlier) (tests.same (size best)) f.later in
         ap (first_best within size none) f.place ∙ ap (λ (o : Option X). unwrap_or o none) at
@@ -224,7 +231,7 @@ module _ (better within : ℕ → ℕ → Bool) (tests : AreTests better within)
         let f = best_first size x xs in
         subst (λ y. IsListed text (x ∷ xs) (text y)) (sym (best_is size none x xs))
         (subst (λ (l : List X). IsListed text l (text best)) (sym f.place)
-            (listed_there text f.before f.after best))
+        (listed_there text f.before f.after best))
 
 -- ---- the longest and the shortest
 
@@ -333,6 +340,6 @@ pub account_most : (accounts : List (List (List ℕ))) (v : List ℕ) → IsList
     → length (account_items (first_with account_text [] accounts v)) ≤ greatest (map length accounts)
 account_most accounts v l =
     let a =
-        found account_text (λ a. length a ≤ greatest (map length accounts)) [] accounts v
-            (below_greatest length accounts) l in
+    found account_text (λ a. length a ≤ greatest (map length accounts)) [] accounts v
+    (below_greatest length accounts) l in
     omega (arith, a, length-map (first_with account_text [] accounts v) Text)

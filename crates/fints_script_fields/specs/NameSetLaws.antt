@@ -47,7 +47,7 @@ module _ {X : Type 0} (name_of : X → List ℕ) where
         )
         | inr other ↦
             let step : list_any (λ n. bytes_eq n name) (map name_of (x ∷ xs)) ≡ others =
-                ap (λ (b : Bool). b || others) other in (
+            ap (λ (b : Bool). b || others) other in (
               λ e. All-cons (λ x. name_of x ≢ name) x xs
                   (λ is. false≢true (sym other ∙ (bytes_eq-Decides (name_of x) name).1 is))
                   (rest.0 (sym step ∙ e)),

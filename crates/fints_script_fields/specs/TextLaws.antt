@@ -77,8 +77,8 @@ tell [] (d ∷ y) r s a b e = absurd (no_unit d (W y ++ s) r (sym (e ∙ append_
 tell (c ∷ x) [] r s a b e = absurd (no_unit c (W x ++ r) s (sym (append_assoc (U c) (W x) r) ∙ e) b)
 tell (c ∷ x) (d ∷ y) r s a b e =
     let two =
-        one_unit c d (W x ++ r) (W y ++ s)
-            (sym (append_assoc (U c) (W x) r) ∙ (e ∙ append_assoc (U d) (W y) s)) in
+    one_unit c d (W x ++ r) (W y ++ s)
+    (sym (append_assoc (U c) (W x) r) ∙ (e ∙ append_assoc (U d) (W y) s)) in
     let rest = tell x y r s a b two.1 in
     (ap (λ (n : ℕ). n ∷ x) two.0 ∙ ap (λ (z : List ℕ). d ∷ z) rest.0, rest.1)
 
@@ -92,21 +92,21 @@ text_tells (x ∷ []) (y ∷ []) some_a some_b e =
     ap (λ (z : List ℕ). z ∷ []) t.0
 text_tells (x ∷ []) (y ∷ z ∷ b) some_a some_b e =
     let t =
-        tell x y [] (58 ∷ account_text (z ∷ b)) (inl refl) (inr (account_text (z ∷ b), refl))
-            (append-nil (W x) ∙ e) in
+    tell x y [] (58 ∷ account_text (z ∷ b)) (inl refl) (inr (account_text (z ∷ b), refl))
+    (append-nil (W x) ∙ e) in
     let no_match : [] ≡ 58 ∷ account_text (z ∷ b) = t.1 in cc
 text_tells (x ∷ w ∷ a) (y ∷ []) some_a some_b e =
     let t =
-        tell x y (58 ∷ account_text (w ∷ a)) [] (inr (account_text (w ∷ a), refl)) (inl refl)
-            (e ∙ sym (append-nil (W y))) in
+    tell x y (58 ∷ account_text (w ∷ a)) [] (inr (account_text (w ∷ a), refl)) (inl refl)
+    (e ∙ sym (append-nil (W y))) in
     let no_match : 58 ∷ account_text (w ∷ a) ≡ [] = t.1 in cc
 text_tells (x ∷ w ∷ a) (y ∷ z ∷ b) some_a some_b e =
     let t =
-        tell x y (58 ∷ account_text (w ∷ a)) (58 ∷ account_text (z ∷ b)) (inr (account_text (w ∷ a), refl))
-            (inr (account_text (z ∷ b), refl)) e in
+    tell x y (58 ∷ account_text (w ∷ a)) (58 ∷ account_text (z ∷ b)) (inr (account_text (w ∷ a), refl))
+    (inr (account_text (z ∷ b), refl)) e in
     let rest =
-        text_tells (w ∷ a) (z ∷ b) (omega arith) (omega arith)
-            (heads 58 58 (account_text (w ∷ a)) (account_text (z ∷ b)) t.1).1 in
+    text_tells (w ∷ a) (z ∷ b) (omega arith) (omega arith)
+    (heads 58 58 (account_text (w ∷ a)) (account_text (z ∷ b)) t.1).1 in
     ap (λ (n : List ℕ). n ∷ w ∷ a) t.0 ∙ ap (λ (l : List (List ℕ)). y ∷ l) rest
 
 -- the text with the number of items tells the items, even where there are none

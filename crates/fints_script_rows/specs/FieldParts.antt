@@ -28,14 +28,14 @@ text_is (table ms) text e = absurd cc
 
 new_is : (taken : Bool) (text name : List ℕ) → new_name taken text ≡ Ok name → (text ≡ name) × (taken ≡ false)
 new_is taken text name e =
-    elim (choice_ok (is_name text) (cond taken (Err kinds.Duplicate) (Ok text)) (Err kinds.WrongKind) name e)
-        [
-  | inr f ↦ absurd (let h = f.1 in cc)
-  | inl t ↦ elim (choice_ok taken (Err kinds.Duplicate) (Ok text) name t.1) [
-    | inl u ↦ absurd (let h = u.1 in cc)
-    | inr n ↦ ((let h = n.1 in cc), n.0)
-  ]
-]
+    elim (choice_ok (is_name text) (cond taken (Err kinds.Duplicate) (Ok text)) (Err kinds.WrongKind)
+    name e) [
+      | inr f ↦ absurd (let h = f.1 in cc)
+      | inl t ↦ elim (choice_ok taken (Err kinds.Duplicate) (Ok text) name t.1) [
+        | inl u ↦ absurd (let h = u.1 in cc)
+        | inr n ↦ ((let h = n.1 in cc), n.0)
+      ]
+    ]
 
 -- a row that has a name tells it, and it is not taken
 pub row_named : (taken : List ℕ → Bool) (ms : Members) (name : List ℕ) → row_name taken ms ≡ Ok name
@@ -44,9 +44,10 @@ row_named taken ms name e =
     let read = bind_ok (name_text ms) (λ text. new_name (taken text) text) name e in
     let value = bind_ok (required (codes "name") ms) text_of_name read.0 read.1 in
     let new = new_is (taken read.0) read.0 name read.2 in
-    let there = or_ok (get_member (codes "name") ms) kinds.Missing value.0 value.1 in
-    (ap (option_and_then as_str) (there ∙ ap Some (text_is value.0 read.0 value.2)) ∙ ap Some new.0,
-        ap taken (sym new.0) ∙ new.1)
+    let there = or_ok (get_member (codes "name") ms) kinds.Missing value.0 value.1 in (
+      ap (option_and_then as_str) (there ∙ ap Some (text_is value.0 read.0 value.2)) ∙ ap Some new.0,
+      ap taken (sym new.0) ∙ new.1,
+    )
 
 -- ---- fields
 

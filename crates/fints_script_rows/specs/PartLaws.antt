@@ -170,7 +170,7 @@ pub both_gives : {X Y U V : Type 0}
 both_gives see look a b p q h i =
     near_gives (λ z. (see z.0, look z.1)) (both a b) (both p q)
     (subst (λ r. Near r (both p q)) (seen_both see look a b)
-        (both_near (seen see a) p (seen look b) q (near see a p h) (near look b q i)))
+    (both_near (seen see a) p (seen look b) q (near see a p h) (near look b q i)))
 
 -- a table of three keys, by the first two together
 pub three_keys : {X Y Z V : Type 0} → (of : X → Y → Z → V) (p : Part X) (q : Part Y) (r : Part Z)
@@ -208,7 +208,7 @@ pub next_gives : {X Y V W : Type 0}
 next_gives {X = X} {Y = Y} see look a b r p q h i is =
     subst (λ (s : Result (X × Y) FaultKind). Gives (λ (z : X × Y). see z.0 (look z.1)) s (p <*> q)) (sym is)
     (applied_gives (λ (z : X × Y). (see z.0, look z.1)) (both a b) (both p q)
-        (both_gives see look a b p q h i))
+    (both_gives see look a b p q h i))
 
 -- what a call gives at a place
 pub placed_finds : {X Y : Type 0} → (see : X → Y) (place : Place) (r : Result X FaultKind) (part : Part Y)
@@ -275,7 +275,7 @@ module _ {X Y : Type 0} where
   each_all part P has (y ∷ ys) xs e =
       let parts = first_and_rest (part y) (each part ys) xs e in
       subst (All P) (sym parts.4)
-          (All-cons P parts.0 parts.1 (has y parts.0 parts.2) (each_all part P has ys parts.1 parts.3))
+      (All-cons P parts.0 parts.1 (has y parts.0 parts.2) (each_all part P has ys parts.1 parts.3))
 
   pub each_length : (part : Y → Part X) (ys : List Y) (xs : List X) → each part ys ≡ Ok xs
       → length xs ≡ length ys
@@ -303,7 +303,7 @@ each_step see part vs i v items r item h is so_far one step =
     (near_same item (part (view v)) one)) in
     gives_near see r (more (seen see items) item) (each part (map view (take (i + 1) vs))) step
     (subst (Near (more (seen see items) item))
-        (sym (each_more part (map view (take i vs)) (view v)) ∙ ap (each part) entries) near_more)
+    (sym (each_more part (map view (take i vs)) (view v)) ∙ ap (each part) entries) near_more)
 
 -- ---- rows
 
@@ -327,8 +327,8 @@ module _ {X : Type 0} (place : ℕ → Place) (part : ℕ → Data → Part X) w
       × (xs ≡ x ∷ rest)
   rows_first k d ds xs e =
       let one =
-          bind_ok (part_at (place (k + 1)) (part k d))
-              (λ y. rows_from place part (k + 1) ds >>= λ ys. Ok (y ∷ ys)) xs e in
+      bind_ok (part_at (place (k + 1)) (part k d))
+      (λ y. rows_from place part (k + 1) ds >>= λ ys. Ok (y ∷ ys)) xs e in
       let two = bind_ok (rows_from place part (k + 1) ds) (λ ys. Ok (one.0 ∷ ys)) xs one.2 in
       (one.0, two.0, part_ok (place (k + 1)) (part k d) one.0 one.1, two.1, (let h = two.2 in cc))
 
@@ -342,7 +342,7 @@ module _ {X : Type 0} (place : ℕ → Place) (part : ℕ → Data → Part X) w
       let at : k + 0 ≡ k = omega arith in
       let first : part k c ≡ Ok x = ap (part k) here ∙ (subst (λ n. part n d ≡ Ok x) at e) in
       joined (place (k + 1)) (part k c) (Ok []) x [] first refl
-          ∙ ap (λ (ys : List X). Ok (ys ++ x ∷ [])) (sym none)
+      ∙ ap (λ (ys : List X). Ok (ys ++ x ∷ [])) (sym none)
   more_from (c ∷ ds) k (suc i) xs x d is h e =
       let parts = rows_first k c (take i ds) xs h in
       let at : k + suc i ≡ (k + 1) + i = omega arith in
@@ -369,7 +369,7 @@ module _ {X : Type 0} (place : ℕ → Place) (part : ℕ → Data → Part X) w
       let at : k + suc i ≡ (k + 1) + i = omega arith in
       let rest = stop_from ds (k + 1) i parts.1 kind d is parts.3 (subst (λ n. part n d ≡ Err kind) at e) in
       ap (λ (q : Part X). part_at (place (k + 1)) q >>= λ y. rows_from place part (k + 1) ds
-          >>= λ ys. Ok (y ∷ ys)) parts.2
+      >>= λ ys. Ok (y ∷ ys)) parts.2
       ∙ ap (λ (r : Result (List X) ScriptFault). r >>= λ ys. Ok (parts.0 ∷ ys)) rest
       ∙ ap (λ n. Err (fault_at (place (n + 1)) kind)) (sym at)
 
@@ -406,15 +406,19 @@ module _ {X : Type 0} (place : ℕ → Place) (part : ℕ → Data → Part X) w
   at_from (c ∷ ds) k xs zero d h is =
       let parts = rows_first k c ds xs h in
       let here : c ≡ d = same_Some c d is in
-      let at : k ≡ k + 0 = omega arith in
-      (parts.0, ap (λ (ys : List X). slice_get ys 0) parts.4,
-          subst (λ n. part n d ≡ Ok parts.0) at (ap (part k) (sym here) ∙ parts.2))
+      let at : k ≡ k + 0 = omega arith in (
+        parts.0,
+        ap (λ (ys : List X). slice_get ys 0) parts.4,
+        subst (λ n. part n d ≡ Ok parts.0) at (ap (part k) (sym here) ∙ parts.2),
+      )
   at_from (c ∷ ds) k xs (suc i) d h is =
       let parts = rows_first k c ds xs h in
       let rest = at_from ds (k + 1) parts.1 i d parts.3 is in
-      let at : (k + 1) + i ≡ k + suc i = omega arith in
-      (rest.0, ap (λ (ys : List X). slice_get ys (suc i)) parts.4 ∙ rest.1,
-          subst (λ n. part n d ≡ Ok rest.0) at rest.2)
+      let at : (k + 1) + i ≡ k + suc i = omega arith in (
+        rest.0,
+        ap (λ (ys : List X). slice_get ys (suc i)) parts.4 ∙ rest.1,
+        subst (λ n. part n d ≡ Ok rest.0) at rest.2,
+      )
 
   -- the value of the row at a place
   pub rows_at : (ds : List Data) (xs : List X) (i : ℕ) (d : Data) → rows_from place part 0 ds ≡ Ok xs

@@ -6,5 +6,7 @@ use Rattle.fints_script_templates.specs.declared.weights.Figures.{Figures}
 -- the written length of its longest value, and the items of its value with the most
 abbrev pub figures_of : NamedField → Figures
 figures_of field =
-    record { written = field_written field.class (field_longest field.class);
-        items = field_most_items field.class }
+    record {
+      written = field_written field.class (field_longest field.class);
+      items = field_most_items field.class;
+    }

@@ -44,8 +44,12 @@ pub record IsFed (old : Buffered) (piece : List ℕ) (placed : List Placed) (new
   pub read : ReadTo
   pub is_read : IsReadTo (rest_with old piece) placed read
   pub new_is : new
-      ≡ record { bytes = old.bytes ++ piece; at = old.at;
-          to = record { whole = old.to.whole + read.whole; rest = read.rest }; failed = None }
+      ≡ record {
+        bytes = old.bytes ++ piece;
+        at = old.at;
+        to = record { whole = old.to.whole + read.whole; rest = read.rest };
+        failed = None;
+      }
 
 -- after a fault its offset alone is kept
 pub record IsHalted (old : Buffered) (offset : ℕ) (new : Buffered) : Type 0 where
@@ -63,7 +67,7 @@ abbrev pub IsFeedFault : Buffered → List ℕ → SyntaxFault → Buffered → 
 IsFeedFault old piece f new =
     (IsMemory f × (new ≡ old))
     ⊎ ((o : ℕ) × (f.offset ≡ rest_at old + o)
-        × PieceFaultAt (MAX_CAPTURE - rest_at old) f.kind o (rest_with old piece) × IsHalted old f.offset new)
+    × PieceFaultAt (MAX_CAPTURE - rest_at old) f.kind o (rest_with old piece) × IsHalted old f.offset new)
 
 -- why a piece is refused, and what is kept then
 abbrev pub IsUnfed : Option ℕ → Buffered → List ℕ → SyntaxFault → Buffered → Type 0
@@ -73,5 +77,9 @@ IsUnfed None old piece f new = IsFeedFault old piece f new
 -- the bytes that whole segments take are given up
 abbrev pub without_whole : Buffered → Buffered
 without_whole b =
-    record { bytes = drop b.to.whole b.bytes; at = rest_at b; to = record { whole = 0; rest = b.to.rest };
-        failed = b.failed }
+    record {
+      bytes = drop b.to.whole b.bytes;
+      at = rest_at b;
+      to = record { whole = 0; rest = b.to.rest };
+      failed = b.failed;
+    }

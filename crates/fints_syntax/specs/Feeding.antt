@@ -44,7 +44,7 @@ abbrev pub IsStopped : Fed → List ℕ → SyntaxFault → Fed → Type 0
 IsStopped old piece f new =
     (IsMemory f × (new ≡ old))
     ⊎ ((o : ℕ) × (f.offset ≡ old.at + o) × PieceFaultAt (MAX_CAPTURE - old.at) f.kind o (old.rest ++ piece)
-        × (new ≡ stopped old f.offset))
+    × (new ≡ stopped old f.offset))
 
 -- why a piece is refused, and what the feeder keeps then
 abbrev pub IsNotGiven : Option ℕ → Fed → List ℕ → SyntaxFault → Fed → Type 0

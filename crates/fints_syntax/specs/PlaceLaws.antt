@@ -50,7 +50,7 @@ start_within (h ∷ []) o e = absurd cc
 start_within (h ∷ [] ∷ rest) o e = absurd cc
 start_within (h ∷ (s ∷ ss) ∷ rest) o e =
     let at : elements_size (h ∷ []) + 0 + data_offset s ≡ o =
-        some_same (elements_size (h ∷ []) + 0 + data_offset s) o e in
+    some_same (elements_size (h ∷ []) + 0 + data_offset s) o e in
     omega (
       arith,
       at,

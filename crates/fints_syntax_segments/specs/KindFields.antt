@@ -21,6 +21,6 @@ pub fields_of-text_of : (k : Inside) → IsPadded k → fields_of (text_of k) �
 fields_of-text_of k h =
     let len : length (take k.len k.bytes) ≡ k.len = length-take-le k.len k.bytes (omega arith) in
     let back : take k.len k.bytes ++ replicate (6 - length (take k.len k.bytes)) 0 ≡ k.bytes =
-        rw (len, ← h.padded) (take-append-drop k.len k.bytes) in
+    rw (len, ← h.padded) (take-append-drop k.len k.bytes) in
     let make : List ℕ → ℕ → Inside = λ bs n. record { bytes = bs; len = n } in
     ap (λ (bs : List ℕ). make bs (length (take k.len k.bytes))) back ∙ ap (λ (n : ℕ). make k.bytes n) len

@@ -23,11 +23,14 @@ pub record IsSpelledKind (bytes : List ℕ) : Type 0 where
 pub spelled_kind : (bytes : List ℕ) → IsKindText bytes → IsSpelledKind bytes
 spelled_kind bytes h =
     let outer =
-        and_parts (list_all is_kind_byte bytes && leb 1 (length bytes)) (leb (length bytes) 6)
-            (passes _ bytes h) in
+    and_parts (list_all is_kind_byte bytes && leb 1 (length bytes)) (leb (length bytes) 6)
+    (passes _ bytes h) in
     let inner = and_parts (list_all is_kind_byte bytes) (leb 1 (length bytes)) outer.0 in
-    record { each = inner.0; some = leb-true 1 (length bytes) inner.1;
-        most = leb-true (length bytes) 6 outer.1 }
+    record {
+      each = inner.0;
+      some = leb-true 1 (length bytes) inner.1;
+      most = leb-true (length bytes) 6 outer.1;
+    }
 
 -- the text of a kind passes
 pub kind_from-kind : (bytes : List ℕ) → IsKindText bytes → kind_from bytes ≡ Some bytes

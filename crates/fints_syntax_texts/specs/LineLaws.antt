@@ -20,7 +20,7 @@ split_same byte (x ∷ a) b (y ∷ c) d ha hc e =
     let front : x ≡ y = cc in
     let back : a ++ byte ∷ b ≡ c ++ byte ∷ d = cc in
     let rest =
-        split_same byte a b c d (All-tail (λ x. x ≢ byte) x a ha) (All-tail (λ x. x ≢ byte) y c hc) back in
+    split_same byte a b c d (All-tail (λ x. x ≢ byte) x a ha) (All-tail (λ x. x ≢ byte) y c hc) back in
     (cc (front, rest.0), rest.1)
 
 -- the byte between two parts is a byte of the whole
@@ -62,7 +62,7 @@ lines_after (l ∷ ls) [] rest hl hm e =
     absurd (not_empty l (text_of_lines ls ++ rest) (sym (line_front l (text_of_lines ls) rest) ∙ e))
 lines_after (l ∷ ls) (m ∷ ms) rest hl hm e =
     let second : (m ++ 10 ∷ []) ++ text_of_lines ms ≡ m ++ 10 ∷ text_of_lines ms =
-        append_assoc m (10 ∷ []) (text_of_lines ms) in
+    append_assoc m (10 ∷ []) (text_of_lines ms) in
     let parts =
     split_same 10 l (text_of_lines ls ++ rest) m (text_of_lines ms) (All-head NoFeed l ls hl)
     (All-head NoFeed m ms hm) (sym (line_front l (text_of_lines ls) rest) ∙ (e ∙ second)) in
@@ -80,13 +80,13 @@ same_lines ls ms hl hm e =
     go [] whole r = sym (whole ∙ append-nil ls)
     go (l ∷ later) whole r =
         absurd (not_empty l (text_of_lines later)
-            (sym (append_assoc l (10 ∷ []) (text_of_lines later)) ∙ sym r))
+        (sym (append_assoc l (10 ∷ []) (text_of_lines later)) ∙ sym r))
 
 pub lines-push : (ls : List (List ℕ)) (l : List ℕ)
     → text_of_lines (ls ++ l ∷ []) ≡ text_of_lines ls ++ (l ++ 10 ∷ [])
 lines-push ls l =
     flat_map-append (λ (line : List ℕ). line ++ 10 ∷ []) ls (l ∷ [])
-        ∙ ap (λ (t : List ℕ). text_of_lines ls ++ t) (append-nil (l ++ 10 ∷ []))
+    ∙ ap (λ (t : List ℕ). text_of_lines ls ++ t) (append-nil (l ++ 10 ∷ []))
 
 -- a text is as long as it has lines, at least
 pub lines_long : (ls : List (List ℕ)) → length ls ≤ length (text_of_lines ls)
@@ -94,7 +94,7 @@ lines_long [] = omega arith
 lines_long (l ∷ ls) =
     let rest = lines_long ls in
     let a : length ((l ++ 10 ∷ []) ++ text_of_lines ls) ≡ length (l ++ 10 ∷ []) + length (text_of_lines ls) =
-        length-append (l ++ 10 ∷ []) (text_of_lines ls) in
+    length-append (l ++ 10 ∷ []) (text_of_lines ls) in
     let b : length (l ++ 10 ∷ []) ≡ length l + 1 = length-append l (10 ∷ []) in
     omega arith
 
@@ -127,7 +127,7 @@ pub length_taken : (text more : List ℕ) (ls : List (List ℕ)) → text ≡ te
 length_taken text more ls whole =
     let long : length text ≡ length (text_of_lines ls ++ more) = ap length whole in
     let parts : length (text_of_lines ls ++ more) ≡ length (text_of_lines ls) + length more =
-        length-append (text_of_lines ls) more in
+    length-append (text_of_lines ls) more in
     omega arith
 
 -- a line is written
@@ -149,7 +149,7 @@ lines_more f front xs i x out new within is h e =
     sym (map-append f (take i xs) (x ∷ [])) ∙ ap (map f) (sym (taken_more xs i x within is)) in
     text_push (front ++ map f (take i xs)) (f x) out new h e
     ∙ ap text_of_lines
-        (append_assoc front (map f (take i xs)) (f x ∷ []) ∙ ap (λ (ls : List (List ℕ)). front ++ ls) inner)
+    (append_assoc front (map f (take i xs)) (f x ∷ []) ∙ ap (λ (ls : List (List ℕ)). front ++ ls) inner)
 
 -- a loop has passed one element more
 pub all_more : {X : Type 0} (P : X → Type 0) (xs : List X) (i : ℕ) (x : X) → i < length xs → x ≡ get_or xs i x
@@ -254,7 +254,7 @@ module _ (Good : List (List ℕ) → Type 0) (without : (all : List (List ℕ)) 
       → n ≡ m
   one_bad_line text n m f g =
       elim (fronts f.lines g.lines f.rest g.rest (begins_without f.lines f.begins)
-          (begins_without g.lines g.begins) (sym f.text_is ∙ g.text_is)) [
+      (begins_without g.lines g.begins) (sym f.text_is ∙ g.text_is)) [
         | inl on ↦ same_front text n m f g on
         | inr on ↦ sym (same_front text m n g f on)
       ]
@@ -265,7 +265,7 @@ module _ (Good : List (List ℕ) → Type 0) (without : (all : List (List ℕ)) 
 shorter : (rest line more : List ℕ) → rest ≡ line ++ 10 ∷ more → length more < length rest
 shorter rest line more is =
     let size : length rest ≡ length line + length (10 ∷ more) =
-        ap length is ∙ length-append line (10 ∷ more) in
+    ap length is ∙ length-append line (10 ∷ more) in
     omega (arith, size)
 
 -- Where some lines make a text of the kind, it can't be that a text is none of the kind and has no first bad
@@ -293,7 +293,7 @@ module _ (Good : List (List ℕ) → Type 0) (text : List ℕ)
       → text ≡ text_of_lines lines ++ rest → BeginsText Good lines → ⊥
   text_or_bad_line_from zero lines rest few is begins =
       goes_on_behind lines rest is begins
-          (λ line more split b. omega (arith, few, shorter rest line more split))
+      (λ line more split b. omega (arith, few, shorter rest line more split))
   text_or_bad_line_from (suc n) lines rest few is begins =
       goes_on_behind lines rest is begins (λ line more split b.
       text_or_bad_line_from n (lines ++ line ∷ []) more (omega (arith, few, shorter rest line more split))

@@ -31,8 +31,10 @@ dialog_items fields number = if number == 1 then Text (codes "0") ∷ [] else ge
 -- what stands in the message of a number under a choice
 abbrev pub filling_of : List NamedField → List NamedValue → ℕ → FillingValue
 filling_of fields values number =
-    record { dialog = dialog_items (items_of_fields fields values) number;
-        fields = items_of_fields fields values }
+    record {
+      dialog = dialog_items (items_of_fields fields values) number;
+      fields = items_of_fields fields values;
+    }
 
 abbrev pub filled_item : FillingValue → TemplateItem → List OwnedItem
 filled_item filling (Literal item) = item ∷ []
@@ -49,8 +51,10 @@ filled_elements filling elements = map (filled_element filling) elements
 -- a segment of this number, without a reference
 abbrev pub make_segment : List ℕ → ℕ → ℕ → List (List OwnedItem) → OwnedSegment
 make_segment kind n version elements =
-    record { head = record { id = kind; number = n; version = version; reference = None };
-        elements = elements }
+    record {
+      head = record { id = kind; number = n; version = version; reference = None };
+      elements = elements;
+    }
 
 abbrev pub filled_segment : FillingValue → ℕ → Template → OwnedSegment
 filled_segment filling n t = make_segment t.kind n t.version (filled_elements filling t.elements)

@@ -37,8 +37,10 @@ longest_size field = 1 + field_written field.class (field_longest field.class)
 -- what the dialogue id, which is `0` in message 1, and each field count for at most
 abbrev pub longest_sizes : List NamedField → ℕ → Sizes
 longest_sizes fields number =
-    record { dialog = if number == 1 then 2 else get_or (map longest_size fields) 0 0;
-        fields = map longest_size fields }
+    record {
+      dialog = if number == 1 then 2 else get_or (map longest_size fields) 0 0;
+      fields = map longest_size fields;
+    }
 
 abbrev pub item_len : Sizes → TemplateItem → ℕ
 item_len sizes (Literal item) = item_size item
@@ -78,7 +80,7 @@ middle_len true seal inner =
 abbrev pub between_len : ScriptValue → StepValue → Sizes → ℕ
 between_len script step sizes =
     middle_len step.sealed (elements_len sizes (seal_of script))
-        (segments_len sizes 2 (templates_of script step))
+    (segments_len sizes 2 (templates_of script step))
 
 abbrev pub number_len : ℕ → ℕ
 number_len number = 1 + length (decimal number)

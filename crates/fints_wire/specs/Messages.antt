@@ -85,7 +85,7 @@ last_segment n number = make_segment (codes "HNHBS") n HNHBS_VERSION ((Text (dec
 abbrev pub between_segments : ScriptValue → StepValue → FillingValue → List OwnedSegment
 between_segments script step filling =
     middle_segments step.sealed (filled_elements filling (seal_of script))
-        (inner_segments script step filling)
+    (inner_segments script step filling)
 
 -- the segments behind HNHBK; the last has the number after the last inner one
 abbrev pub later_segments : ScriptValue → StepValue → FillingValue → ℕ → List OwnedSegment

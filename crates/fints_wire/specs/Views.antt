@@ -25,7 +25,7 @@ message_view script step number values =
       body = filled_segments filling (2 + length step.signers) step.templates;
       ends =
           filled_segments filling (2 + length step.signers + length step.templates)
-              (map end_template (signers_of script step));
+          (map end_template (signers_of script step));
     }
 
 -- the bytes of a step's message are a message, and what is read in them is what the step says

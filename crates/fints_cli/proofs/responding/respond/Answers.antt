@@ -21,7 +21,7 @@ returns-in-Help-clause-failed g c five =
 pub returns-in-Ok-clause-failed : goal.returns-in-Ok-clause-failed
 returns-in-Ok-clause-failed g c five =
     inr (
-      cut_answer c.args.asked.now c.in-Run.request c.in-Run.hints _ c.in-Ok.answered.reply.status
+      cut_answer c.args.asked.now c.in-Run.request _ c.in-Ok.answered.reply.status
           c.in-Ok.answered.reply.text.items _ _ c.in-Run.is c.in-Ok.ensures.answers
           c.in-Ok.ensures.within (c.respond_with.ensures.cut five),
       c.respond_with.ensures.failed five,

@@ -1,87 +1,164 @@
-use Rattle.std.proofs.lemmas.Result.{IfErr-weaker}
-use Rattle.fints_cli_drawings.specs.Drawn.{no_orders}
-use Rattle.fints_cli_scripts.specs.Plans.{IsPlanRefusal}
-use Rattle.fints_cli_texts.specs.Judge.{IsMessageRefusal}
-use Rattle.fints_cli_texts.specs.Show.{IsMemoryOrShowFault}
-use Rattle.fints_cli_commands.proofs.Answering.{audit_own_refused, audit_refused, draft_refused, judge_refused, judge_after_refused, run_refused}
-use Rattle.fints_cli_commands.proofs.Reading.{of_exit, of_file}
+use Rattle.std.proofs.Common.{refl, IfSome}
+use Rattle.std.proofs.lemmas.Result.{IfErr-weaker, IfOk-weaker}
+use Rattle.fints_cli_drawings.specs.Drawn.{IsDrawnOf}
+use Rattle.fints_cli_texts.specs.Audit.{IsAuditRefusal}
+use Rattle.fints_cli_scripts.specs.RunText.{IsRunRefusal}
+use Rattle.fints_cli_scripts.specs.Told.{IsRefused, IsTellRefusal, IsToldOf}
+use Rattle.fints_cli_scripts.specs.Verified.{IsUnverified, IsVerifiedOf}
+use Rattle.fints_cli_scripts.specs.declared.telling.Wanted.TheVariants as wants
+use Rattle.fints_cli_texts.specs.Judge.{IsJudgeRefusal, IsVerdictOf}
+use Rattle.fints_cli_texts.specs.JudgeAfter.{IsJudgeAfterRefusal, IsVerdictAfter}
+use Rattle.fints_cli_words.specs.declared.requests.Command.TheVariants as commands
+use Rattle.fints_cli_commands.specs.Commands.{IfBoth, cases_wanted}
+use Rattle.fints_cli_commands.specs.Loading.{bytes_at}
+use Rattle.fints_cli_commands.proofs.OfRequest as of_request
+use Rattle.fints_cli_commands.proofs.Reading.{of_file}
 use Rattle.fints_cli_commands.proofs.commands.answer.Goals as goal
 
-pub returns-in_err-text-in-Show-clause-refused : goal.returns-in_err-text-in-Show-clause-refused
-returns-in_err-text-in-Show-clause-refused c =
-    let fault = c.in_err-text-in-Show.field-0.0 in
-    rw c.in-Show.is (of_exit c.from_residual.result fault _ c.from_residual.ensures.1 (λ holds loaded.
-    let (bytes, file, read) = loaded.shown in
-    of_file (λ capture. IsMemoryOrShowFault capture fault) (holds c.in-Show.params.now) bytes file
-    (c.in_err-text-in-Show.ensures.refused bytes read)))
-
-pub returns-in_err-text-in-ShowMessage-clause-refused : goal.returns-in_err-text-in-ShowMessage-clause-refused
-returns-in_err-text-in-ShowMessage-clause-refused c =
-    let fault = c.in_err-text-in-ShowMessage.field-0.0 in
-    let message = c.deref.ensures.value in
-    let refused = rw message at c.in_err-text-in-ShowMessage.ensures.refused in
-    let exit = c.from_residual-in_err-text-in-ShowMessage.ensures.1 in
-    rw c.in-ShowMessage.is (of_exit c.from_residual-in_err-text-in-ShowMessage.result fault _ exit (λ holds loaded.
-    of_file (λ bytes. IsMessageRefusal bytes fault) (holds c.in-ShowMessage.message.now) _ loaded.message refused))
-
-pub returns-in_err-text-in-Run-clause-refused : goal.returns-in_err-text-in-Run-clause-refused
-returns-in_err-text-in-Run-clause-refused c =
-    let orders = c.deref-in-Run.ensures.value in
-    let script = c.deref-in-Run-2.ensures.value in
-    let case = c.deref-in-Run-3.ensures.value in
-    let refused = rw (orders, script, case) at c.in_err-text-in-Run.ensures.refused in
-    let exit = c.from_residual-in_err-text-in-Run.ensures.1 in
-    rw c.in-Run.is (of_exit c.from_residual-in_err-text-in-Run.result _ _ exit (λ holds loaded.
-    run_refused holds _ _ _ c.in-Run.files _ refused loaded))
-
-pub returns-in_err-text-in-Draft-clause-refused : goal.returns-in_err-text-in-Draft-clause-refused
-returns-in_err-text-in-Draft-clause-refused c =
-    let dialogue = c.deref-in-Draft.ensures.value in
-    let refused = rw dialogue at c.in_err-text-in-Draft.ensures.refused in
-    let exit = c.from_residual-in_err-text-in-Draft.ensures.1 in
-    rw c.in-Draft.is (of_exit c.from_residual-in_err-text-in-Draft.result _ _ exit (λ holds loaded.
-    draft_refused holds _ _ _ c.in-Draft.files c.in-Draft.case _ c.table_of-orders.ensures.absent c.table_of-orders.ensures.loaded refused
-    loaded))
-
-pub returns-in_err-text-in-Draw-clause-refused : goal.returns-in_err-text-in-Draw-clause-refused
-returns-in_err-text-in-Draw-clause-refused c =
-    let fault = c.in_err-text-in-Draw.field-0.0 in
-    let script = c.deref-in-Draw.ensures.value in
-    let refused = rw script at c.in_err-text-in-Draw.ensures.refused in
-    let exit = c.from_residual-in_err-text-in-Draw.ensures.1 in
-    rw c.in-Draw.is (of_exit c.from_residual-in_err-text-in-Draw.result fault _ exit (λ holds loaded.
-    of_file (λ bytes. IsPlanRefusal no_orders bytes fault) (holds c.in-Draw.script.now) _ loaded.script refused))
+pub returns-in-Judge-clause-answers : goal.returns-in-Judge-clause-answers
+returns-in-Judge-clause-answers c =
+    IfOk-weaker c.answer_judge.result _ _ (λ it h holds loaded. rw c.in-Judge.is
+    (of_request.of_message c.args.request.now holds _ _ loaded commands.Judge c.in-Judge.is
+    (λ x y z. IsVerdictOf x y z it.reply.status it.reply.text.items)
+    refl refl refl h))
+    c.answer_judge.ensures.judged
 
 pub returns-in-Judge-clause-refused : goal.returns-in-Judge-clause-refused
 returns-in-Judge-clause-refused c =
-    let orders = c.deref-in-Judge.ensures.value in
-    let message = c.deref-in-Judge-2.ensures.value in
-    rw c.in-Judge.is (IfErr-weaker c.judge_read.result _ _ (λ fault h holds loaded.
-    judge_refused holds _ _ fault _ (rw (orders, message) at h) loaded)
-    c.judge_read.ensures.refused)
+    IfErr-weaker c.answer_judge.result _ _ (λ fault h holds loaded. rw c.in-Judge.is
+    (of_request.of_message c.args.request.now holds _ _ loaded commands.Judge c.in-Judge.is
+    (λ x y z. IsJudgeRefusal x y z fault)
+    refl refl refl h))
+    c.answer_judge.ensures.refused
+
+pub returns-in-JudgeAfter-clause-answers : goal.returns-in-JudgeAfter-clause-answers
+returns-in-JudgeAfter-clause-answers c =
+    let request = c.args.request.now in
+    IfOk-weaker c.answer_judge_after.result _ _ (λ it h holds loaded. rw c.in-JudgeAfter.is
+    (let before = of_request.before request holds _ _ loaded commands.JudgeAfter c.in-JudgeAfter.is refl in
+    let answer = of_request.answer request holds _ _ loaded commands.JudgeAfter c.in-JudgeAfter.is refl in
+    of_request.of_message request holds _ _ loaded commands.JudgeAfter c.in-JudgeAfter.is
+    (λ x y z. IfBoth (bytes_at holds request.paths.before) (bytes_at holds request.paths.answer)
+    (λ b a. IsVerdictAfter x y b a z it.reply.status it.reply.text.items))
+    refl refl refl (λ bytes read. of_request.of_both
+    (λ b a. IsVerdictAfter bytes c.args.contents.now.orders.items b a c.args.contents.now.message.items it.reply.status it.reply.text.items)
+    _ _ _ _ before answer (h bytes read))))
+    c.answer_judge_after.ensures.judged
 
 pub returns-in-JudgeAfter-clause-refused : goal.returns-in-JudgeAfter-clause-refused
 returns-in-JudgeAfter-clause-refused c =
-    let orders = c.deref-in-JudgeAfter.ensures.value in
-    let before = c.deref-in-JudgeAfter-2.ensures.value in
-    let answer = c.deref-in-JudgeAfter-3.ensures.value in
-    let message = c.deref-in-JudgeAfter-4.ensures.value in
-    rw c.in-JudgeAfter.is (IfErr-weaker c.judge_after_read.result _ _ (λ fault h holds loaded.
-    judge_after_refused holds _ _ fault _ _ (rw (orders, before, answer, message) at h) loaded)
-    c.judge_after_read.ensures.refused)
-
-pub returns-in-AuditOwn-clause-refused : goal.returns-in-AuditOwn-clause-refused
-returns-in-AuditOwn-clause-refused c =
-    let orders = c.deref-in-AuditOwn.ensures.value in
-    let dialogue = c.deref-in-AuditOwn-2.ensures.value in
-    rw c.in-AuditOwn.is (IfErr-weaker c.audit_own.result _ _ (λ fault h holds loaded.
-    audit_own_refused holds _ _ fault _ (rw (orders, dialogue) at h) loaded)
-    c.audit_own.ensures.refused)
+    let request = c.args.request.now in
+    IfErr-weaker c.answer_judge_after.result _ _ (λ fault h holds loaded. rw c.in-JudgeAfter.is
+    (let before = of_request.before request holds _ _ loaded commands.JudgeAfter c.in-JudgeAfter.is refl in
+    let answer = of_request.answer request holds _ _ loaded commands.JudgeAfter c.in-JudgeAfter.is refl in
+    of_request.of_message request holds _ _ loaded commands.JudgeAfter c.in-JudgeAfter.is
+    (λ x y z. IfBoth (bytes_at holds request.paths.before) (bytes_at holds request.paths.answer)
+    (λ b a. IsJudgeAfterRefusal x y b a z fault))
+    refl refl refl (λ bytes read. of_request.of_both
+    (λ b a. IsJudgeAfterRefusal bytes c.args.contents.now.orders.items b a c.args.contents.now.message.items fault)
+    _ _ _ _ before answer (h bytes read))))
+    c.answer_judge_after.ensures.refused
 
 pub returns-in-Audit-clause-refused : goal.returns-in-Audit-clause-refused
 returns-in-Audit-clause-refused c =
-    let orders = c.deref-in-Audit.ensures.value in
-    let dialogue = c.deref-in-Audit-2.ensures.value in
-    rw c.in-Audit.is (IfErr-weaker c.audit_read.result _ _ (λ fault h holds loaded.
-    audit_refused holds _ _ fault _ _ (rw (orders, dialogue) at h) loaded)
-    c.audit_read.ensures.refused)
+    IfErr-weaker c.answer_audit.result _ _ (λ fault h holds loaded. rw c.in-Audit.is
+    (of_request.of_dialogue c.args.request.now holds _ _ loaded commands.Audit c.in-Audit.is
+    (λ x y z. IsAuditRefusal x y z fault)
+    refl refl refl h))
+    c.answer_audit.ensures.refused
+
+pub returns-in-Check-clause-answers : goal.returns-in-Check-clause-answers
+returns-in-Check-clause-answers c =
+    IfOk-weaker c.answer_check.result _ _ (λ it h holds loaded. rw c.in-Check.is
+    (of_request.of_script c.args.request.now holds _ _ loaded commands.Check c.in-Check.is
+    (λ x y z. IsToldOf wants.Report x y z it.reply.status it.reply.text.items)
+    refl refl refl h))
+    c.answer_check.ensures.told
+
+pub returns-in-Check-clause-refused : goal.returns-in-Check-clause-refused
+returns-in-Check-clause-refused c =
+    IfErr-weaker c.answer_check.result _ _ (λ fault h holds loaded. rw c.in-Check.is
+    (of_request.of_script c.args.request.now holds _ _ loaded commands.Check c.in-Check.is
+    (λ x y z. IsTellRefusal wants.Report x y z fault)
+    refl refl refl h))
+    c.answer_check.ensures.refused
+
+pub returns-in-Certify-clause-answers : goal.returns-in-Certify-clause-answers
+returns-in-Certify-clause-answers c =
+    IfOk-weaker c.answer_check-in-Certify.result _ _ (λ it h holds loaded. rw c.in-Certify.is
+    (of_request.of_script c.args.request.now holds _ _ loaded commands.Certify c.in-Certify.is
+    (λ x y z. IsToldOf wants.Certificate x y z it.reply.status it.reply.text.items)
+    refl refl refl h))
+    c.answer_check-in-Certify.ensures.told
+
+pub returns-in-Certify-clause-refused : goal.returns-in-Certify-clause-refused
+returns-in-Certify-clause-refused c =
+    IfErr-weaker c.answer_check-in-Certify.result _ _ (λ fault h holds loaded. rw c.in-Certify.is
+    (of_request.of_script c.args.request.now holds _ _ loaded commands.Certify c.in-Certify.is
+    (λ x y z. IsTellRefusal wants.Certificate x y z fault)
+    refl refl refl h))
+    c.answer_check-in-Certify.ensures.refused
+
+pub returns-in-Explain-clause-answers : goal.returns-in-Explain-clause-answers
+returns-in-Explain-clause-answers c =
+    IfOk-weaker c.answer_check-in-Explain.result _ _ (λ it h holds loaded. rw c.in-Explain.is
+    (of_request.of_script c.args.request.now holds _ _ loaded commands.Explain c.in-Explain.is
+    (λ x y z. IsToldOf (cases_wanted c.args.request.now.number) x y z it.reply.status it.reply.text.items)
+    refl refl refl (rw c.cases_wanted.ensures at h)))
+    c.answer_check-in-Explain.ensures.told
+
+pub returns-in-Explain-clause-refused : goal.returns-in-Explain-clause-refused
+returns-in-Explain-clause-refused c =
+    IfErr-weaker c.answer_check-in-Explain.result _ _ (λ fault h holds loaded. rw c.in-Explain.is
+    (of_request.of_script c.args.request.now holds _ _ loaded commands.Explain c.in-Explain.is
+    (λ x y z. IsTellRefusal (cases_wanted c.args.request.now.number) x y z fault)
+    refl refl refl (rw c.cases_wanted.ensures at h)))
+    c.answer_check-in-Explain.ensures.refused
+
+pub returns-in-Verify-clause-answers : goal.returns-in-Verify-clause-answers
+returns-in-Verify-clause-answers c =
+    let request = c.args.request.now in
+    IfOk-weaker c.answer_verify.result _ _ (λ it h holds loaded. rw c.in-Verify.is
+    (let lines = of_request.certificate request holds _ _ loaded commands.Verify c.in-Verify.is refl in
+    of_request.of_script request holds _ _ loaded commands.Verify c.in-Verify.is
+    (λ x y z. IfSome (bytes_at holds request.paths.certificate) (λ t. IsVerifiedOf x y z t it.reply.status it.reply.text.items))
+    refl refl refl (λ bytes read. of_file
+    (λ t. IsVerifiedOf bytes c.args.contents.now.orders.items c.args.contents.now.script.items t it.reply.status it.reply.text.items)
+    _ _ lines (h bytes read))))
+    c.answer_verify.ensures.told
+
+pub returns-in-Verify-clause-refused : goal.returns-in-Verify-clause-refused
+returns-in-Verify-clause-refused c =
+    let request = c.args.request.now in
+    IfErr-weaker c.answer_verify.result _ _ (λ fault h holds loaded. rw c.in-Verify.is
+    (let lines = of_request.certificate request holds _ _ loaded commands.Verify c.in-Verify.is refl in
+    of_request.of_script request holds _ _ loaded commands.Verify c.in-Verify.is
+    (λ x y z. IfSome (bytes_at holds request.paths.certificate) (λ t. IsUnverified x y z t fault))
+    refl refl refl (λ bytes read. of_file
+    (λ t. IsUnverified bytes c.args.contents.now.orders.items c.args.contents.now.script.items t fault)
+    _ _ lines (h bytes read))))
+    c.answer_verify.ensures.refused
+
+pub returns-in-Run-clause-refused : goal.returns-in-Run-clause-refused
+returns-in-Run-clause-refused c =
+    let request = c.args.request.now in
+    IfErr-weaker c.answer_run.result _ _ (λ fault h holds loaded. rw c.in-Run.is
+    (of_request.of_case request holds _ _ loaded commands.Run c.in-Run.is
+    (λ x y z. IsRunRefusal x y z request.number fault) refl refl refl h))
+    c.answer_run.ensures.refused
+
+pub returns-in-DrawFound-clause-answers : goal.returns-in-DrawFound-clause-answers
+returns-in-DrawFound-clause-answers c =
+    IfOk-weaker c.answer_draw.result _ _ (λ it h holds loaded. rw c.in-DrawFound.is
+    (of_request.of_script c.args.request.now holds _ _ loaded commands.DrawFound c.in-DrawFound.is
+    (λ x y z. IsDrawnOf x y z it.reply.status it.reply.text.items)
+    refl refl refl h))
+    c.answer_draw.ensures.drawn
+
+pub returns-in-DrawFound-clause-refused : goal.returns-in-DrawFound-clause-refused
+returns-in-DrawFound-clause-refused c =
+    IfErr-weaker c.answer_draw.result _ _ (λ fault h holds loaded. rw c.in-DrawFound.is
+    (of_request.of_script c.args.request.now holds _ _ loaded commands.DrawFound c.in-DrawFound.is
+    (λ x y z. IsRefused x y z fault)
+    refl refl refl h))
+    c.answer_draw.ensures.refused

@@ -88,9 +88,8 @@ returns-clause-loaded g c =
     let answer = c.in_ok-answer.ensures.read.keeps ∙ before in
     let message = c.in_ok-message.ensures.read.keeps ∙ answer in
     record {
-      shown = read_at IsBothReadOf _ _ _ _ c.end-shown_read.ensures.read c.in_ok-shown.ensures.loaded;
-      params =
-          rw shown at (read_at IsReadOf _ _ _ _ c.end-read.ensures.read c.in_ok-capture.ensures.loaded);
+      shown = read_at IsBothReadOf _ _ _ c.end-shown_read.ensures.read c.in_ok-shown.ensures.loaded;
+      params = read_at IsReadOf _ _ _ c.end-read.ensures.read (rw shown at c.in_ok-capture.ensures.loaded);
       orders = rw capture at c.in_ok-orders.ensures.loaded;
       script = rw orders at c.in_ok-script.ensures.loaded;
       case = rw script at c.in_ok-case.ensures.loaded;

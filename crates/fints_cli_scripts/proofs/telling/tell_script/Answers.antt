@@ -5,5 +5,5 @@ use Rattle.fints_cli_scripts.proofs.telling.tell_script.Goals as goal
 pub returns-clause-refused : goal.returns-clause-refused
 returns-clause-refused c =
     IfErr-weaker c.tell_read.result _ _
-    (λ f refused. refused c.args.params.now (read_of c.args.params.now c.read.result c.read.ensures.rows c.read.ensures.refused))
+    (λ f refused. refused c.args.params.now (read_of c.args.params.now c.read-params.result c.read-params.ensures.rows c.read-params.ensures.refused))
     c.tell_read.ensures.refused

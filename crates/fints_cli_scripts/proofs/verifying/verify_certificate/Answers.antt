@@ -5,12 +5,12 @@ use Rattle.fints_cli_scripts.proofs.ReportLemmas.{verified_on}
 use Rattle.fints_cli_scripts.proofs.verifying.verify_certificate.Goals as goal
 
 pub returns-in_err-inputs-clause-refused : goal.returns-in_err-inputs-clause-refused
-returns-in_err-inputs-clause-refused c =
+returns-in_err-inputs-clause-refused g c =
     let refused = unplanned_verify c.args.orders.now c.args.script.now c.args.certificate.now c.in_err-inputs.field-0.0 c.in_err-inputs.ensures.refused in
     search rules
 
 pub returns-in_err-reply-clause-refused : goal.returns-in_err-reply-clause-refused
-returns-in_err-reply-clause-refused c =
+returns-in_err-reply-clause-refused g c =
     let refused =
     planned_verify c.args.orders.now c.args.script.now c.args.certificate.now c.in_ok-plan.plan.script
     c.in_err-reply.field-0.0 (search rules) c.in_err-reply.ensures.refused in
@@ -18,7 +18,7 @@ returns-in_err-reply-clause-refused c =
     rw (p.1, p.2) refused
 
 pub returns-clause-told : goal.returns-clause-told
-returns-clause-told c =
+returns-clause-told g c =
     verified_on c.args.params.now c.args.orders.now c.args.script.now c.args.certificate.now
     c.in_ok-inputs.inputs.orders c.in_ok-inputs.inputs.script c.in_ok-plan.plan c.in_ok-reply.reply.status
     c.in_ok-reply.reply.text.items

@@ -4,7 +4,7 @@ use Rattle.fints_cli_texts.proofs.AuditLemmas.{params_last}
 use Rattle.fints_cli_texts.proofs.auditing.audit_file_own.Goals as goal
 
 pub returns-clause-refused : goal.returns-clause-refused
-returns-clause-refused c =
+returns-clause-refused g c =
     let exchanges = c.in_ok-exchanges-in-Err.field-0.items in
     let is : IsDialogue c.args.file.now exchanges = record {
       messages = c.in_ok-recording.recording;

@@ -4,7 +4,7 @@ use Rattle.fints_cli_texts.proofs.AuditLemmas.{exit_refused, own_refused}
 use Rattle.fints_cli_texts.proofs.auditing.audit_own.Goals as goal
 
 pub returns-in_err-reply-clause-refused : goal.returns-in_err-reply-clause-refused
-returns-in_err-reply-clause-refused c =
+returns-in_err-reply-clause-refused g c =
     let orders = c.args.orders.now in
     let dialogue = c.args.dialogue.now in
     let fault = c.in_err-reply.field-0.0 in

@@ -7,13 +7,13 @@ use Rattle.fints_cli_texts.specs.Audit.{IsAuditRefusal, IsDialogueRefusal}
 use Rattle.fints_cli_texts.proofs.auditing.audit_read.Goals as goal
 
 pub returns-in-Err-clause-refused : goal.returns-in-Err-clause-refused
-returns-in-Err-clause-refused c =
+returns-in-Err-clause-refused g c =
     λ capture read. subst (IsAuditRefusal capture c.args.orders.now c.args.dialogue.now) (sym c.from.ensures)
     (params_refused capture c.args.orders.now (IsDialogueRefusal c.args.dialogue.now) c.in-Err.fault
     (subst (IsReadOf capture) c.in-Err.is read))
 
 pub returns-in_err-reply-clause-refused : goal.returns-in_err-reply-clause-refused
-returns-in_err-reply-clause-refused c =
+returns-in_err-reply-clause-refused g c =
     let orders = c.args.orders.now in
     let dialogue = c.args.dialogue.now in
     let fault = c.in_err-reply.field-0.0 in

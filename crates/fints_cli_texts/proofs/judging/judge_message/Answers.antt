@@ -7,5 +7,5 @@ returns-clause-refused c =
     IfErr-weaker c.judge_read.result _ _
     (λ f refused.
     refused c.args.params.now
-    (read_of c.args.params.now c.read.result c.read.ensures.rows c.read.ensures.refused))
+    (read_of c.args.params.now c.read-params.result c.read-params.ensures.rows c.read-params.ensures.refused))
     c.judge_read.ensures.refused

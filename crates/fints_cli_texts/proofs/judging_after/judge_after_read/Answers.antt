@@ -5,7 +5,7 @@ use Rattle.fints_cli_texts.proofs.JudgeLemmas.{params_refused}
 use Rattle.fints_cli_texts.proofs.judging_after.judge_after_read.Goals as goal
 
 pub returns-in-Err-clause-refused : goal.returns-in-Err-clause-refused
-returns-in-Err-clause-refused c =
+returns-in-Err-clause-refused g c =
     λ capture read. subst (IsJudgeAfterRefusal capture c.args.orders.now c.args.before.now c.args.answer.now c.args.message.now) (sym c.from.ensures)
     (params_refused capture c.args.orders.now
     (IsRefusalOfThree c.args.before.now c.args.answer.now c.args.message.now) c.in-Err.fault

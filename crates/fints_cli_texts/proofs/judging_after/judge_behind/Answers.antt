@@ -4,7 +4,7 @@ use Rattle.fints_cli_texts.specs.Judge.{verdict_status, verdict_text}
 use Rattle.fints_cli_texts.proofs.judging_after.judge_behind.Goals as goal
 
 pub returns-clause-judged : goal.returns-clause-judged
-returns-clause-judged c = record {
+returns-clause-judged g c = record {
   numbers = c.in_ok-codes.codes.items;
   answered = c.in_ok-codes.ensures.codes;
   broken = c.in_ok-broken.broken.items;
@@ -16,6 +16,6 @@ returns-clause-judged c = record {
       c.as_slice.ensures.value
       (c.in_ok-broken.ensures c.args.before.now c.args.message.now c.in_ok-earlier.ensures.message
       c.in_ok-read.ensures.message);
-  text_is = c.in_ok-reply.ensures.text ∙ ap verdict_text c.as_slice-2.ensures.value;
-  status_is = c.in_ok-reply.ensures.status ∙ ap verdict_status c.as_slice-2.ensures.value;
+  text_is = c.in_ok-reply.ensures.text ∙ ap verdict_text c.as_slice-3.ensures.value;
+  status_is = c.in_ok-reply.ensures.status ∙ ap verdict_status c.as_slice-3.ensures.value;
 }

@@ -1,0 +1,342 @@
+//! What each command answers with reasons, of what was loaded of its files.
+ghost use Rattle.std.specs.Prelude.{◌≡◌, ◌≤◌, ℕ, List, IfOk, IfErr};
+ghost use Rattle.fints_params.specs.Captures.{IsReadOf, IsBothReadOf};
+ghost use Rattle.fints_cli_drafts.specs.Drafts.{IsDraftOf, IsDraftRefusal};
+ghost use Rattle.fints_cli_drawings.specs.Drawn.{no_orders, IsDrawnOf, IsPictureOf};
+ghost use Rattle.fints_cli_texts.specs.Audit.{IsAuditOf, IsAuditRefusal, IsOwnAuditOf, IsOwnAuditRefusal};
+ghost use Rattle.fints_cli_scripts.specs.Plans.{IsPlanRefusal};
+ghost use Rattle.fints_cli_scripts.specs.RunText.{IsRunOf, IsRunRefusal};
+ghost use Rattle.fints_cli_scripts.specs.Told.{IsRefused, IsTellRefusal, IsToldOf};
+ghost use Rattle.fints_cli_scripts.specs.Verified.{IsUnverified, IsVerifiedOf};
+ghost use Rattle.fints_cli_texts.specs.Judge.{IsJudgeRefusal, IsMessageRefusal, IsVerdictOf};
+ghost use Rattle.fints_cli_texts.specs.JudgeAfter.{IsJudgeAfterRefusal, IsVerdictAfter};
+ghost use Rattle.fints_cli_texts.specs.Show.{IsMemoryOrShowFault, IsShowOf};
+ghost use Rattle.fints_cli_texts.specs.ShowMessage.{IsShownMessage};
+
+use crate::loading::Contents;
+use fints_cli_drafts::{Drafted, draft_read};
+use fints_cli_drawings::{draw_read, draw_script};
+use fints_cli_hints_dialogues::{AuditReasons, Source};
+use fints_cli_hints_reasons::JudgeReasons;
+use fints_cli_hints_segments::skipped_notes;
+use fints_cli_hints_verdicts::{ReportReasons, VerifyReason};
+use fints_cli_scripts::{Wanted, run_case, tell_read, verify_read};
+use fints_cli_texts::{
+    Fault, Reply, audit_own, audit_read, judge_after_read, judge_read, show_message, show_read,
+};
+use fints_params::{ParamFault, Params};
+use std::alloc::Global;
+
+/// The answer of a command, and what is printed beside it where hints are wanted: the reasons of what is
+/// broken, the notes on a script or a dialogue, and those on what is skipped of a capture, a line each.
+#[derive(Drop)]
+pub struct Answered {
+    pub reply: Reply,
+    pub reasons: Option<String>,
+}
+
+// An answer with status 0 and without reasons.
+fn text_only(text: Vec<u8>) -> Answered
+    ensures status { result.reply.status ≡ 0 }
+    ensures text { result.reply.text ≡ text }
+{
+    Answered {
+        reply: Reply { status: 0, text },
+        reasons: None,
+    }
+}
+
+/// What a capture says. Its notes look at the bytes again, since its reader passes over what it skips.
+pub fn answer_show(alloc: Global, contents: &Contents, hints: bool) -> Result<Answered, Fault>
+    ensures status { IfOk result (λ it. it.reply.status ≡ 0) }
+    ensures shown { IfOk result (λ it. (capture : List ℕ) → IsBothReadOf capture contents.now.shown.told
+        → IsShowOf capture it.reply.text.items) }
+    ensures refused { IfErr result (λ f. (capture : List ℕ) → IsBothReadOf capture contents.now.shown.told
+        → IsMemoryOrShowFault capture f) }
+{
+    let text = show_read(alloc, &contents.shown.told)?;
+    let reasons = if hints {
+        skipped_notes(alloc, contents.shown.bytes.as_slice()).unwrap_or(None)
+    } else {
+        None
+    };
+    Ok(Answered {
+        reply: Reply { status: 0, text },
+        reasons,
+    })
+}
+
+/// The rules that a message breaks.
+pub fn answer_judge(
+    alloc: Global,
+    params: Result<Params, ParamFault>,
+    contents: &Contents,
+    hints: bool,
+) -> Result<Answered, Fault>
+    ensures status { IfOk result (λ it. it.reply.status ≤ 1) }
+    ensures judged { IfOk result (λ it. (capture : List ℕ) → IsReadOf capture params
+        → IsVerdictOf capture contents.now.orders.items contents.now.message.items
+        it.reply.status it.reply.text.items) }
+    ensures refused { IfErr result (λ f. (capture : List ℕ) → IsReadOf capture params
+        → IsJudgeRefusal capture contents.now.orders.items contents.now.message.items f) }
+{
+    let Contents {
+        orders,
+        message,
+        ..
+    } = contents;
+    let mut reasons = JudgeReasons::new(alloc, hints, contents.capture.as_slice());
+    let reply = judge_read(
+        alloc,
+        params,
+        orders.as_slice(),
+        message.as_slice(),
+        &mut reasons,
+    )?;
+    Ok(Answered {
+        reply,
+        reasons: reasons.into_text(),
+    })
+}
+
+/// Those that it breaks after the message before it and the bank's answer to that.
+pub fn answer_judge_after(
+    alloc: Global,
+    params: Result<Params, ParamFault>,
+    contents: &Contents,
+    hints: bool,
+) -> Result<Answered, Fault>
+    ensures status { IfOk result (λ it. it.reply.status ≤ 1) }
+    ensures judged { IfOk result (λ it. (capture : List ℕ) → IsReadOf capture params
+        → IsVerdictAfter capture contents.now.orders.items contents.now.before.items
+        contents.now.answer.items contents.now.message.items it.reply.status it.reply.text.items) }
+    ensures refused { IfErr result (λ f. (capture : List ℕ) → IsReadOf capture params
+        → IsJudgeAfterRefusal capture contents.now.orders.items contents.now.before.items
+        contents.now.answer.items contents.now.message.items f) }
+{
+    let mut reasons = JudgeReasons::new(alloc, hints, contents.capture.as_slice());
+    let reply = judge_after_read(
+        alloc,
+        params,
+        contents.orders.as_slice(),
+        contents.before.as_slice(),
+        contents.answer.as_slice(),
+        contents.message.as_slice(),
+        &mut reasons,
+    )?;
+    Ok(Answered {
+        reply,
+        reasons: reasons.into_text(),
+    })
+}
+
+/// The rules that the client's messages of a dialogue break.
+pub fn answer_audit(
+    alloc: Global,
+    params: Result<Params, ParamFault>,
+    contents: &Contents,
+    hints: bool,
+) -> Result<Answered, Fault>
+    ensures status { IfOk result (λ it. it.reply.status ≤ 1) }
+    ensures audited { IfOk result (λ it. (capture : List ℕ) → IsReadOf capture params
+        → IsAuditOf capture contents.now.orders.items contents.now.dialogue.items
+        it.reply.status it.reply.text.items) }
+    ensures refused { IfErr result (λ f. (capture : List ℕ) → IsReadOf capture params
+        → IsAuditRefusal capture contents.now.orders.items contents.now.dialogue.items f) }
+{
+    let Contents {
+        orders,
+        dialogue,
+        ..
+    } = contents;
+    let source = Source::Capture(contents.capture.as_slice());
+    let mut reasons = AuditReasons::new(alloc, hints, source);
+    let reply = audit_read(
+        alloc,
+        params,
+        orders.as_slice(),
+        dialogue.as_slice(),
+        &mut reasons,
+    )?;
+    Ok(Answered {
+        reply,
+        reasons: reasons.into_text(),
+    })
+}
+
+/// The same, by the parameters in the dialogue's own answers.
+pub fn answer_audit_own(alloc: Global, contents: &Contents, hints: bool) -> Result<Answered, Fault>
+    ensures status { IfOk result (λ it. it.reply.status ≤ 1) }
+    ensures audited { IfOk result (λ it. IsOwnAuditOf contents.now.orders.items contents.now.dialogue.items
+        it.reply.status it.reply.text.items) }
+    ensures refused { IfErr result (λ f.
+        IsOwnAuditRefusal contents.now.orders.items contents.now.dialogue.items f) }
+{
+    let Contents {
+        orders,
+        dialogue,
+        ..
+    } = contents;
+    let source = Source::Dialogue(dialogue.as_slice());
+    let mut reasons = AuditReasons::new(alloc, hints, source);
+    let reply = audit_own(alloc, orders.as_slice(), dialogue.as_slice(), &mut reasons)?;
+    Ok(Answered {
+        reply,
+        reasons: reasons.into_text(),
+    })
+}
+
+/// What is wanted of a script.
+pub fn answer_check(
+    alloc: Global,
+    params: Result<Params, ParamFault>,
+    contents: &Contents,
+    wanted: Wanted,
+    hints: bool,
+) -> Result<Answered, Fault>
+    ensures status { IfOk result (λ it. it.reply.status ≤ 1) }
+    ensures told { IfOk result (λ it. (capture : List ℕ) → IsReadOf capture params
+        → IsToldOf wanted capture contents.now.orders.items contents.now.script.items
+        it.reply.status it.reply.text.items) }
+    ensures refused { IfErr result (λ f. (capture : List ℕ) → IsReadOf capture params
+        → IsTellRefusal wanted capture contents.now.orders.items contents.now.script.items f) }
+{
+    let Contents { orders, script, .. } = contents;
+    let mut reasons = ReportReasons::new(alloc, hints, contents.capture.as_slice());
+    let reply = tell_read(
+        alloc,
+        params,
+        orders.as_slice(),
+        script.as_slice(),
+        wanted,
+        &mut reasons,
+    )?;
+    Ok(Answered {
+        reply,
+        reasons: reasons.into_text(),
+    })
+}
+
+/// The picture of a script with what its runs break.
+pub fn answer_draw(
+    alloc: Global,
+    params: Result<Params, ParamFault>,
+    contents: &Contents,
+    hints: bool,
+) -> Result<Answered, Fault>
+    ensures status { IfOk result (λ it. it.reply.status ≤ 1) }
+    ensures drawn { IfOk result (λ it. (capture : List ℕ) → IsReadOf capture params
+        → IsDrawnOf capture contents.now.orders.items contents.now.script.items
+        it.reply.status it.reply.text.items) }
+    ensures refused { IfErr result (λ f. (capture : List ℕ) → IsReadOf capture params
+        → IsRefused capture contents.now.orders.items contents.now.script.items f) }
+{
+    let Contents { orders, script, .. } = contents;
+    let mut reasons = ReportReasons::new(alloc, hints, contents.capture.as_slice());
+    let reply = draw_read(
+        alloc,
+        params,
+        orders.as_slice(),
+        script.as_slice(),
+        &mut reasons,
+    )?;
+    Ok(Answered {
+        reply,
+        reasons: reasons.into_text(),
+    })
+}
+
+/// Whether a certificate is closed.
+pub fn answer_verify(
+    alloc: Global,
+    params: Result<Params, ParamFault>,
+    contents: &Contents,
+    hints: bool,
+) -> Result<Answered, Fault>
+    ensures status { IfOk result (λ it. it.reply.status ≤ 1) }
+    ensures told { IfOk result (λ it. (capture : List ℕ) → IsReadOf capture params
+        → IsVerifiedOf capture contents.now.orders.items contents.now.script.items
+        contents.now.certificate.items it.reply.status it.reply.text.items) }
+    ensures refused { IfErr result (λ f. (capture : List ℕ) → IsReadOf capture params
+        → IsUnverified capture contents.now.orders.items contents.now.script.items
+        contents.now.certificate.items f) }
+{
+    let mut reason = VerifyReason::new(alloc, hints);
+    let reply = verify_read(
+        alloc,
+        params,
+        contents.orders.as_slice(),
+        contents.script.as_slice(),
+        contents.certificate.as_slice(),
+        &mut reason,
+    )?;
+    Ok(Answered {
+        reply,
+        reasons: reason.into_text(),
+    })
+}
+
+/// The segments of a message.
+pub fn answer_show_message(alloc: Global, contents: &Contents) -> Result<Answered, Fault>
+    ensures status { IfOk result (λ it. it.reply.status ≡ 0) }
+    ensures shown { IfOk result (λ it. IsShownMessage contents.now.message.items it.reply.text.items) }
+    ensures refused { IfErr result (λ f. IsMessageRefusal contents.now.message.items f) }
+{
+    let text = show_message(alloc, contents.message.as_slice())?;
+    Ok(text_only(text))
+}
+
+/// What is drafted of a dialogue.
+pub fn answer_draft(alloc: Global, contents: &Contents, drafted: Drafted) -> Result<Answered, Fault>
+    ensures status { IfOk result (λ it. it.reply.status ≡ 0) }
+    ensures drafted { IfOk result (λ it.
+        IsDraftOf drafted contents.now.dialogue.items it.reply.text.items) }
+    ensures refused { IfErr result (λ f.
+        IsDraftRefusal contents.now.orders.items contents.now.dialogue.items f) }
+{
+    let Contents {
+        orders,
+        dialogue,
+        ..
+    } = contents;
+    let text = draft_read(alloc, orders.as_slice(), dialogue.as_slice(), drafted)?;
+    Ok(text_only(text))
+}
+
+/// The messages of a case, or the one of this number.
+pub fn answer_run(
+    alloc: Global,
+    contents: &Contents,
+    message: Option<u32>,
+) -> Result<Answered, Fault>
+    ensures status { IfOk result (λ it. it.reply.status ≡ 0) }
+    ensures run { IfOk result (λ it. IsRunOf contents.now.orders.items contents.now.script.items
+        contents.now.case.items message it.reply.text.items) }
+    ensures refused { IfErr result (λ f. IsRunRefusal contents.now.orders.items
+        contents.now.script.items contents.now.case.items message f) }
+{
+    let Contents {
+        orders,
+        script,
+        case,
+        ..
+    } = contents;
+    let text = run_case(
+        alloc,
+        orders.as_slice(),
+        script.as_slice(),
+        case.as_slice(),
+        message,
+    )?;
+    Ok(text_only(text))
+}
+
+/// The picture of a script.
+pub fn answer_draw_script(alloc: Global, contents: &Contents) -> Result<Answered, Fault>
+    ensures status { IfOk result (λ it. it.reply.status ≡ 0) }
+    ensures drawn { IfOk result (λ it. IsPictureOf contents.now.script.items it.reply.text.items) }
+    ensures refused { IfErr result (λ f. IsPlanRefusal no_orders contents.now.script.items f) }
+{
+    let text = draw_script(alloc, contents.script.as_slice())?;
+    Ok(text_only(text))
+}
