@@ -1,22 +1,27 @@
 -- The laws, each with its proof, for the proofs of the crates above.
-use Rattle.std.proofs.Common.{◌≡◌, ℕ, ◌-◌, ◌≤◌, Bool, true, false, List, [], ◌∷◌, ◌++◌, length, map, take, drop, refl, ap, ◌∙◌, sym, subst, arith, inl, inr, codes}
-use Rattle.std.specs.Prelude.{IsTrue, if◌then◌else◌}
-use Rattle.std.specs.List.{AllByRecursion, flat_map}
+use Rattle.std.proofs.Common.{◌≡◌, ℕ, ◌-◌, ◌≤◌, Bool, true, false, List, [], ◌∷◌, ◌++◌, length, map, take, drop, refl, ap, ◌∙◌, sym, arith, inl, inr, codes}
+use Rattle.std.specs.Prelude.{IsTrue, ◌==◌, ◌&&◌, if◌then◌else◌}
+use Rattle.std.specs.List.{AllZip, flat_map}
 use Rattle.std.specs.Str.{bytes_eq}
-use Rattle.std.proofs.lemmas.Bool.{cases_lt}
+use Rattle.std.proofs.lemmas.Bool.{and_parts, cases_lt}
 use Rattle.std.proofs.lemmas.Slice.Eq.{bytes_eq-Decides}
 use Rattle.std.proofs.lemmas.List.{append-nil, drop_all, drop_at, length-take-le, take_all, take_at}
 use Rattle.fints_syntax_segments.specs.Segment.{item_value}
 use Rattle.fints_syntax_segments.specs.Written.{written_segment}
 use Rattle.fints_syntax_segments.specs.declared.item.OwnedItem.{OwnedItem}
 use Rattle.fints_syntax_segments.specs.declared.item.OwnedItem.TheVariants.{Text}
+use Rattle.fints_syntax_segments.specs.declared.item.Head.{Head}
 use Rattle.fints_syntax_segments.specs.declared.item.OwnedSegment.{OwnedSegment}
+use Rattle.fints_params.specs.Sealed.{is_sealed}
 use Rattle.fints_syntax.proofs.LawLemmas.{one_segment_text}
-use Rattle.fints_rules_messages.proofs.Seals.{envelope_text, text_one}
-use Rattle.fints_cli_texts.specs.Masked.{emptied_at, mask, masked, masked_from, masked_items, with_elements}
+use Rattle.fints_rules_messages.specs.Messages.{MessageView}
+use Rattle.fints_rules_messages.proofs.LawLemmas.{one_message}
+use Rattle.fints_rules_messages.proofs.Seals.{text_one}
+use Rattle.fints_cli_texts.specs.Masked.{emptied_at, mask, masked, masked_from, masked_items, with_elements, with_items}
 use Rattle.fints_cli_texts.proofs.MaskLemmas.{masked_after}
-use Rattle.fints_cli_texts.specs.ShowMessage.{Opened, IsOpened, opened_lines, shown_byte}
-use Rattle.fints_cli_texts.specs.Laws.{OneShownMessage, HasSecretsFrom, absences, is_absent, SecretsAreUnshown}
+use Rattle.fints_cli_texts.proofs.ShowMessageLemmas.{framed_lines}
+use Rattle.fints_cli_texts.specs.ShowMessage.{opened_lines, segment_line, shown_byte}
+use Rattle.fints_cli_texts.specs.Laws.{OneShownMessage, HasSecretsFrom, IsSameButSecrets, absences, is_absent, SecretsAreUnshown, ShownWithoutSecrets}
 
 -- ---- a segment with other secrets
 
@@ -88,44 +93,83 @@ masked_in s from (inr h) =
     ap (λ kind. masked_by kind s) (kind_is s (codes "HKPAE") h.0) ∙ ap (masked_from s) (sym h.1)
 
 pub secrets_are_unshown : SecretsAreUnshown
-secrets_are_unshown blanks s from secrets has e =
-    ap (λ (t : OwnedSegment). blanks ++ flat_map shown_byte (written_segment t) ++ codes "\n")
-    (masked_in (with_elements s from secrets) from has ∙ masked_same s from secrets e ∙ sym (masked_in s from has))
+secrets_are_unshown blanks s t h =
+    ap (λ (x : OwnedSegment). blanks ++ flat_map shown_byte (written_segment x) ++ codes "\n")
+    (ap masked h.is ∙ masked_in (with_elements s h.from h.secrets) h.from h.has
+    ∙ masked_same s h.from h.secrets h.as_empty ∙ sym (masked_in s h.from h.has))
+
+-- ---- a message with other secrets
+
+head_same : (s t : OwnedSegment) → IsSameButSecrets s t → t.head ≡ s.head
+head_same s t (inl e) = ap (λ (x : OwnedSegment). x.head) e
+head_same s t (inr (inl h)) = ap (λ (x : OwnedSegment). x.head) h.is
+head_same s t (inr (inr h)) = ap (λ (x : OwnedSegment). x.head) h.1
+
+masked_sealed : (s : OwnedSegment) → IsTrue (is_sealed s) → masked s ≡ emptied_at s 2
+masked_sealed s h =
+    ap (λ kind. masked_by kind s)
+    (kind_is s (codes "HNVSD") (and_parts (bytes_eq s.head.id (codes "HNVSD")) (s.head.version == 1) h).0)
+
+sealed_same : (s t : OwnedSegment) → IsSameButSecrets s t → is_sealed t ≡ is_sealed s
+sealed_same s t h =
+    ap (λ (x : Head). bytes_eq x.id (codes "HNVSD") && x.version == 1) (head_same s t h)
+
+line_same : (blanks : List ℕ) (s t : OwnedSegment) → IsSameButSecrets s t
+    → segment_line blanks t ≡ segment_line blanks s
+line_same blanks s t (inl e) = ap (segment_line blanks) e
+line_same blanks s t (inr (inl h)) = secrets_are_unshown blanks s t h
+line_same blanks s t (inr (inr h)) =
+    ap (λ (x : OwnedSegment). blanks ++ flat_map shown_byte (written_segment x) ++ codes "\n")
+    (masked_sealed t (sealed_same s t (inr (inr h)) ∙ h.0) ∙ h.1 ∙ sym (masked_sealed s h.0))
+
+lines_same : (blanks : List ℕ) (ss ts : List OwnedSegment) → AllZip IsSameButSecrets ss ts
+    → flat_map (segment_line blanks) ts ≡ flat_map (segment_line blanks) ss
+lines_same blanks [] [] h = refl
+lines_same blanks [] (t ∷ ts) h = absurd h
+lines_same blanks (s ∷ ss) [] h = absurd h
+lines_same blanks (s ∷ ss) (t ∷ ts) h =
+    ap (λ xs. xs ++ flat_map (segment_line blanks) ts) (line_same blanks s t h.0)
+    ∙ ap (λ xs. segment_line blanks s ++ xs) (lines_same blanks ss ts h.1)
+
+opened_same : (inner other : List OwnedSegment) (s t : OwnedSegment) → AllZip IsSameButSecrets inner other
+    → IsSameButSecrets s t → opened_lines other t ≡ opened_lines inner s
+opened_same inner other s t each h =
+    ap (λ xs. xs ++ (if is_sealed t then flat_map (segment_line (codes "  ")) other else [])) (line_same [] s t h)
+    ∙ ap (λ b. segment_line [] s ++ (if b then flat_map (segment_line (codes "  ")) other else [])) (sealed_same s t h)
+    ∙ ap (λ xs. segment_line [] s ++ (if is_sealed s then xs else [])) (lines_same (codes "  ") inner other each)
+
+all_opened_same : (inner other ss ts : List OwnedSegment) → AllZip IsSameButSecrets inner other
+    → AllZip IsSameButSecrets ss ts
+    → flat_map (opened_lines other) ts ≡ flat_map (opened_lines inner) ss
+all_opened_same inner other [] [] each h = refl
+all_opened_same inner other [] (t ∷ ts) each h = absurd h
+all_opened_same inner other (s ∷ ss) [] each h = absurd h
+all_opened_same inner other (s ∷ ss) (t ∷ ts) each h =
+    ap (λ xs. xs ++ flat_map (opened_lines other) ts) (opened_same inner other s t each h.0)
+    ∙ ap (λ xs. opened_lines inner s ++ xs) (all_opened_same inner other ss ts each h.1)
+
+pub shown_without_secrets : ShownWithoutSecrets
+shown_without_secrets message other text told a b size h =
+    let m : MessageView = a.held in
+    let n : MessageView = b.held in (
+      flat_map (opened_lines m.inner) m.middle ++ segment_line [] m.last,
+      a.text_is ∙ framed_lines a.is.segments m a.is.form,
+      b.text_is ∙ framed_lines b.is.segments n b.is.form
+          ∙ ap (λ s. segment_line [] s ++ (flat_map (opened_lines n.inner) n.middle ++ segment_line [] n.last)) h.first
+          ∙ ap (λ xs. segment_line [] (with_items m.first 2 size) ++ (xs ++ segment_line [] n.last))
+          (all_opened_same m.inner n.inner m.middle n.middle h.inner h.middle)
+          ∙ ap
+          (λ s.
+          segment_line [] (with_items m.first 2 size)
+          ++ (flat_map (opened_lines m.inner) m.middle ++ segment_line [] s))
+          h.last,
+    )
 
 -- ---- one text
-
-same_inside : (s : OwnedSegment) (xs ys : List OwnedSegment) → IsOpened (record { segment = s; inside = xs })
-    → IsOpened (record { segment = s; inside = ys }) → xs ≡ ys
-same_inside s xs ys (inl h) (inl g) = h.1 ∙ sym g.1
-same_inside s xs ys (inl h) (inr g) = let no : false ≡ true = sym h.0 ∙ g.kind in absurd (cc)
-same_inside s xs ys (inr h) (inl g) = let no : false ≡ true = sym g.0 ∙ h.kind in absurd (cc)
-same_inside s xs ys (inr h) (inr g) = text_one one_segment_text g.bytes xs ys (envelope_text xs s g.bytes g.item h) g.holds
-
-abbrev opened : OwnedSegment → List OwnedSegment → Opened
-opened s inside = record { segment = s; inside = inside }
-
-same_cons : (x y : Opened) (xs ys : List Opened) → x ≡ y → xs ≡ ys → x ∷ xs ≡ y ∷ ys
-same_cons x y xs ys e f = rw (e, f) refl
-
-both_same : (s t : OwnedSegment) (xs ys : List OwnedSegment) → s ≡ t → xs ≡ ys
-    → opened s xs ≡ opened t ys
-both_same s t xs ys e f = rw (e, f) refl
-
-same_opened : (xs ys : List Opened) → map (λ o. o.segment) xs ≡ map (λ o. o.segment) ys
-    → AllByRecursion IsOpened xs → AllByRecursion IsOpened ys → xs ≡ ys
-same_opened [] [] e h g = refl
-same_opened [] (y ∷ ys) e h g = absurd (cc)
-same_opened (x ∷ xs) [] e h g = absurd (cc)
-same_opened (x ∷ xs) (y ∷ ys) e h g =
-    let head : x.segment ≡ y.segment = cc in
-    let tail : map (λ (o : Opened). o.segment) xs ≡ map (λ (o : Opened). o.segment) ys = cc in
-    let inside : x.inside ≡ y.inside =
-    same_inside y.segment x.inside y.inside
-    (subst (λ s. IsOpened (record { segment = s; inside = x.inside })) head h.0) g.0 in
-    same_cons x y xs ys (both_same x.segment y.segment x.inside y.inside head inside) (same_opened xs ys tail h.1 g.1)
 
 pub one_shown_message : OneShownMessage
 one_shown_message message text told a b =
     let segments = text_one one_segment_text message a.is.segments b.is.segments a.is.text b.is.text in
-    let same = same_opened a.opened b.opened (a.segments_are ∙ segments ∙ sym b.segments_are) a.each b.each in
-    a.text_is ∙ ap (flat_map opened_lines) same ∙ sym b.text_is
+    let held = one_message message a.held b.held a.is b.is in
+    a.text_is ∙ ap (flat_map (opened_lines a.held.inner)) segments
+    ∙ ap (λ (m : MessageView). flat_map (opened_lines m.inner) b.is.segments) held ∙ sym b.text_is

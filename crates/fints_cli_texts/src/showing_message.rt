@@ -1,18 +1,18 @@
 //! The text of `show --message`: a message without its secrets.
-ghost use Rattle.std.specs.Prelude.{◌≡◌, ◌<◌, ◌++◌, length, drop, OnOk, IfOk, IfErr};
+ghost use Rattle.std.specs.Prelude.{◌≡◌, ◌++◌, [], OnOk, IfOk, IfErr};
 ghost use Rattle.std.specs.List.{flat_map};
 ghost use Rattle.fints_syntax_segments.specs.Written.{written_segment};
+ghost use Rattle.fints_syntax.specs.Owned.{segment_of, segments_of};
 ghost use Rattle.fints_rules_messages.specs.Messages.{MessageView, IsMessage};
 ghost use Rattle.fints_cli_texts.specs.declared.fault.Fault.TheVariants as fault;
 ghost use Rattle.fints_cli_texts.specs.Judge.{IsMessageRefusal};
 ghost use Rattle.fints_cli_texts.specs.Masked.{masked};
-ghost use Rattle.fints_cli_texts.specs.ShowMessage.{is_control, shown_byte, segment_line, IsShownMessage, HasSegments, HasShowable, IsBefore, IsShowable, IsShownIn, IsTextShownIn, AreLinesIn};
+ghost use Rattle.fints_cli_texts.specs.ShowMessage.{is_control, shown_byte, segment_line, IsShownMessage};
 
 use crate::fault::Fault;
 use crate::masking::{emptied_at, masked_from};
-use fints_params::{is_sealed, sealed_data};
-use fints_rules::read_message;
-use fints_syntax::{Memory, OwnedSegment, parse_segment, write_segment};
+use fints_rules::{Message, read_message};
+use fints_syntax::{Memory, OwnedSegment, SegmentView, write_segment};
 use std::alloc::{AllocError, Global};
 
 fn is_control(b: u8) -> bool
@@ -60,84 +60,55 @@ fn write_masked(alloc: Global, out: &mut Vec<u8>, segment: &OwnedSegment) -> Res
     }
 }
 
+// Writes the segment without its secrets, in a line of its own.
 fn write_line(
     alloc: Global,
     text: &mut Vec<u8>,
     blanks: &[u8],
-    segment: &OwnedSegment,
+    view: &SegmentView<'_>,
 ) -> Result<(), Memory>
-    ensures { OnOk result (text.new.items ≡ text.old.items ++ segment_line blanks.now segment.now) }
+    ensures { OnOk result
+        (text.new.items ≡ text.old.items ++ segment_line blanks.now (segment_of view.now)) }
 {
+    let segment = view.to_owned(alloc)?;
     let mut written = Vec::new(alloc);
-    write_masked(alloc, &mut written, segment)?;
+    write_masked(alloc, &mut written, &segment)?;
     text.extend_from_slice(blanks)?;
     write_bytes(alloc, text, written.as_slice())?;
     text.push(b'\n')?;
     Ok(())
 }
 
-// The segment that bytes begin with, and the bytes behind it.
-#[derive(Drop)]
-struct First<'a> {
-    segment: OwnedSegment,
-    rest: &'a [u8],
-}
-
-fn first_of<'a>(alloc: Global, bytes: &'a [u8]) -> Result<First<'a>, Memory>
-    requires some { 0 < length bytes.now }
-    requires segments { HasSegments bytes.now }
-    ensures { IfOk result (λ first. IsBefore bytes.now first.segment first.rest.now) }
+// Writes the lines of segments: the items of one are held at a time, since they take much more than its text.
+fn write_lines(
+    alloc: Global,
+    text: &mut Vec<u8>,
+    blanks: &[u8],
+    views: &[SegmentView<'_>],
+) -> Result<(), Memory>
+    ensures { OnOk result (text.new.items
+        ≡ text.old.items ++ flat_map (segment_line blanks.now) (segments_of views.now)) }
 {
-    let Ok((view, len)) = parse_segment(bytes) else {
-        unreachable!()
-    };
-    let segment = view.to_owned(alloc)?;
-    let (_, rest) = bytes.split_at(len);
-    Ok(First { segment, rest })
-}
-
-// Writes the segments that the bytes are the texts of, each behind two blanks.
-fn write_inside(alloc: Global, text: &mut Vec<u8>, bytes: &[u8]) -> Result<(), Memory>
-    requires { HasSegments bytes.now }
-    ensures { OnOk result (AreLinesIn bytes.now text.old.items text.new.items) }
-{
-    let mut rest = bytes;
-    while !rest.is_empty() {
-        let first = first_of(alloc, rest)?;
-        write_line(alloc, text, b"  ", &first.segment)?;
-        rest = first.rest;
+    for view in views {
+        write_line(alloc, text, blanks, view)?;
     }
     Ok(())
 }
 
-// Writes the segment, and those in its data where it is an HNVSD.
-fn write_opened(alloc: Global, text: &mut Vec<u8>, segment: &OwnedSegment) -> Result<(), Memory>
-    requires { IsShowable segment.now }
-    ensures { OnOk result (IsShownIn segment.now text.old.items text.new.items) }
+// Writes the lines of the inner segments and of HNHBS.
+fn write_rest(
+    alloc: Global,
+    text: &mut Vec<u8>,
+    blanks: &[u8],
+    message: &Message<'_>,
+) -> Result<(), Memory>
+    ensures { OnOk result (text.new.items ≡ text.old.items
+        ++ (flat_map (segment_line blanks.now) message.now.inner ++ segment_line [] message.now.last)) }
 {
-    write_line(alloc, text, b"", segment)?;
-    if !is_sealed(segment) {
-        return Ok(());
-    }
-    let Some(bytes) = sealed_data(segment) else {
-        unreachable!()
-    };
-    write_inside(alloc, text, bytes)
-}
-
-// Writes the segments that the bytes are the texts of: one is held at a time, since its items take much
-// more than its text.
-fn write_all(alloc: Global, text: &mut Vec<u8>, bytes: &[u8]) -> Result<(), Memory>
-    requires { HasShowable bytes.now }
-    ensures { OnOk result (IsTextShownIn bytes.now text.old.items text.new.items) }
-{
-    let mut rest = bytes;
-    while !rest.is_empty() {
-        let first = first_of(alloc, rest)?;
-        write_opened(alloc, text, &first.segment)?;
-        rest = first.rest;
-    }
-    Ok(())
+    write_lines(alloc, text, blanks, message.openers())?;
+    write_lines(alloc, text, blanks, message.body())?;
+    write_lines(alloc, text, blanks, message.ends())?;
+    write_line(alloc, text, b"", message.last())
 }
 
 /// The segments of a message, a line each, those of sealed data indented behind HNVSD. PIN, TAN and new
@@ -148,8 +119,15 @@ pub fn show_message(alloc: Global, message: &[u8]) -> Result<Vec<u8>, Fault>
     ensures memory_alone { (m : MessageView) → IsMessage message.now m
         → IfErr result (λ f. f ≡ fault.Memory) }
 {
-    read_message(alloc, message)?;
+    let read = read_message(alloc, message)?;
     let mut text = Vec::new(alloc);
-    write_all(alloc, &mut text, message)?;
+    write_line(alloc, &mut text, b"", read.first())?;
+    let Some(seal) = read.seal() else {
+        write_rest(alloc, &mut text, b"", &read)?;
+        return Ok(text);
+    };
+    write_line(alloc, &mut text, b"", &seal.head)?;
+    write_line(alloc, &mut text, b"", &seal.envelope)?;
+    write_rest(alloc, &mut text, b"  ", &read)?;
     Ok(text)
 }

@@ -10,8 +10,8 @@ use Rattle.fints_syntax_segments.specs.declared.item.OwnedSegment.{OwnedSegment}
 use Rattle.fints_syntax_segments.specs.Number.{number_of}
 use Rattle.fints_syntax_segments.specs.Values.{is_named}
 use Rattle.fints_rules_messages.specs.Parts.{part_of}
-use Rattle.fints_rules_messages.specs.Messages.{IsNumbered, IsInner, IsLast, IsSealHead, Seals, IsTail}
-use Rattle.fints_rules_messages.specs.Front.{IsHalf, CanFollow, CanStand, BeginsBy, IsNumber}
+use Rattle.fints_rules_messages.specs.Messages.{IsNumbered, IsInner, IsLast, IsSealHead, Seals}
+use Rattle.fints_rules_messages.specs.Front.{IsHalf, CanFollow, CanStand, IsTail, BeginsBy, IsNumber}
 use Rattle.fints_rules_messages.specs.declared.part.Part.{Part}
 use Rattle.fints_rules_messages.specs.declared.part.Part.TheVariants.{Opener, Body, Ender, Other}
 use Rattle.fints_rules_messages.proofs.Ranks.{IsRanked, Fits, fits, balanced, none_3}
@@ -40,11 +40,11 @@ follows Body k b e f = f.at_1 refl
 follows Ender k b e f = f.at_2 refl
 follows Other k b e f = f.at_3 refl
 
-half_ranked : (ss body ends : List OwnedSegment) (k : ℕ) (h : IsHalf ss body ends k)
-    → IsRanked rank_of h.opened body ends
-half_ranked ss body ends k h =
+half_ranked : (ss os body ends : List OwnedSegment) (h : IsHalf ss os body ends)
+    → IsRanked rank_of os body ends
+half_ranked ss os body ends h =
     record {
-      first = all_ranks Opener 0 h.opened refl h.openers_are;
+      first = all_ranks Opener 0 os refl h.openers_are;
       second = all_ranks Body 1 body refl h.body_is;
       third = all_ranks Ender 2 ends refl h.ends_are;
     }
@@ -67,38 +67,37 @@ number_at n (x ∷ xs) s more h = omega (arith, number_at (n + 1) xs s more h.1)
 
 -- ---- an inner segment that follows
 
-pub stands : (ss body ends : List OwnedSegment) (k : ℕ) (s : OwnedSegment) (more b e : List OwnedSegment)
-    → IsHalf ss body ends k → IsInner (ss ++ s ∷ more) b e → IsNumbered 2 (ss ++ s ∷ more)
-    → CanStand s k (length body) (length ends)
-stands ss body ends k s more b e h g n =
-    let flat : (h.opened ++ (body ++ ends)) ++ s ∷ more ≡ h.opened ++ (body ++ (ends ++ s ∷ more)) =
-    append_assoc h.opened (body ++ ends) (s ∷ more)
-    ∙ ap (λ z. h.opened ++ z) (append_assoc body ends (s ∷ more)) in
-    let joined : g.openers ++ (b ++ e) ≡ h.opened ++ (body ++ (ends ++ s ∷ more)) = sym g.together ∙ ap (λ z. z ++ s ∷ more) h.together ∙ flat in
-    let f = fits rank_of h.opened body ends g.openers b e s more (half_ranked ss body ends k h) (inner_ranked (ss ++ s ∷ more) b e g) g.as_many joined in (
-      omega (arith, number_at 2 ss s more n, length-half ss body ends k h),
-      follows (part_of s) k (length body) (length ends) (subst (λ z. Fits (rank_of s) z (length body) (length ends)) h.count f),
+pub stands : (ss os body ends : List OwnedSegment) (s : OwnedSegment) (more b e : List OwnedSegment)
+    → IsHalf ss os body ends → IsInner (ss ++ s ∷ more) b e → IsNumbered 2 (ss ++ s ∷ more)
+    → CanStand s (length os) (length body) (length ends)
+stands ss os body ends s more b e h g n =
+    let flat : (os ++ (body ++ ends)) ++ s ∷ more ≡ os ++ (body ++ (ends ++ s ∷ more)) =
+    append_assoc os (body ++ ends) (s ∷ more)
+    ∙ ap (λ z. os ++ z) (append_assoc body ends (s ∷ more)) in
+    let joined : g.openers ++ (b ++ e) ≡ os ++ (body ++ (ends ++ s ∷ more)) = sym g.together ∙ ap (λ z. z ++ s ∷ more) h.together ∙ flat in
+    let f = fits rank_of os body ends g.openers b e s more (half_ranked ss os body ends h) (inner_ranked (ss ++ s ∷ more) b e g) g.as_many joined in (
+      omega (arith, number_at 2 ss s more n, length-half ss os body ends h),
+      follows (part_of s) (length os) (length body) (length ends) f,
     )
 
-pub ends_all : (ss body ends : List OwnedSegment) (k : ℕ) (b e : List OwnedSegment) → IsHalf ss body ends k
-    → IsInner ss b e → length ends ≡ k
-ends_all ss body ends k b e h g =
+pub ends_all : (ss os body ends : List OwnedSegment) (b e : List OwnedSegment) → IsHalf ss os body ends
+    → IsInner ss b e → length ends ≡ length os
+ends_all ss os body ends b e h g =
     omega (
       arith,
-      h.count,
-      balanced rank_of h.opened body ends g.openers b e (half_ranked ss body ends k h)
+      balanced rank_of os body ends g.openers b e (half_ranked ss os body ends h)
           (inner_ranked ss b e g) g.as_many (sym g.together ∙ h.together),
     )
 
-pub inner_half : (ss body ends : List OwnedSegment) (k : ℕ) → IsHalf ss body ends k → length ends ≡ k
+pub inner_half : (ss os body ends : List OwnedSegment) → IsHalf ss os body ends → length ends ≡ length os
     → IsInner ss body ends
-inner_half ss body ends k h n =
+inner_half ss os body ends h n =
     record {
-      openers = h.opened;
+      openers = os;
       openers_are = h.openers_are;
       body_is = h.body_is;
       ends_are = h.ends_are;
-      as_many = omega (arith, h.count, n);
+      as_many = omega (arith, n);
       together = h.together;
     }
 
@@ -122,26 +121,26 @@ seal_head_not_last number s h g =
     let e : codes "HNVSK" ≡ codes "HNHBS" = sym (kind_is (codes "HNVSK") 3 s h.kind) ∙ kind_is (codes "HNHBS") 1 s g.kind in
     let f : false ≡ true = ap (λ id. bytes_eq id (codes "HNHBS")) e in cc
 
-half_no_other : (ss body ends : List OwnedSegment) (k : ℕ) (front : List OwnedSegment) (s : OwnedSegment)
+half_no_other : (ss os body ends : List OwnedSegment) (front : List OwnedSegment) (s : OwnedSegment)
     (more : List OwnedSegment)
-    → IsHalf ss body ends k → ss ≡ front ++ s ∷ more → part_of s ≡ Other → ⊥
-half_no_other ss body ends k front s more h e p = none_3 rank_of h.opened body ends front s more (half_ranked ss body ends k h) (sym e ∙ h.together) (ap rank p)
+    → IsHalf ss os body ends → ss ≡ front ++ s ∷ more → part_of s ≡ Other → ⊥
+half_no_other ss os body ends front s more h e p = none_3 rank_of os body ends front s more (half_ranked ss os body ends h) (sym e ∙ h.together) (ap rank p)
 
-pub half_not_tail : (number : ℕ) (ss body ends : List OwnedSegment) (k : ℕ) (b e : List OwnedSegment)
-    → IsHalf ss body ends k → IsTail number ss b e → ⊥
-half_not_tail number ss body ends k b e h t = half_no_other ss body ends k t.outer t.last [] h t.together (last_other number t.last t.is_last)
+pub half_not_tail : (number : ℕ) (ss os body ends i b e : List OwnedSegment)
+    → IsHalf ss os body ends → IsTail number ss i b e → ⊥
+half_not_tail number ss os body ends i b e h t = half_no_other ss os body ends t.middle t.last [] h t.together (last_other number t.last t.is_last)
 
 -- ---- the two forms
 
-pub plain_segments : (number : ℕ) (ss b e : List OwnedSegment) (t : IsTail number ss b e) → t.outer ≡ t.inner
-    → ss ≡ t.inner ++ t.last ∷ []
-plain_segments number ss b e t plain = t.together ∙ ap (λ z. z ++ t.last ∷ []) plain
+pub plain_segments : (number : ℕ) (ss i b e : List OwnedSegment) (t : IsTail number ss i b e) → t.middle ≡ i
+    → ss ≡ i ++ t.last ∷ []
+plain_segments number ss i b e t plain = t.together ∙ ap (λ z. z ++ t.last ∷ []) plain
 
 -- HNVSK, HNVSD and HNHBS
-pub sealed_segments : (number : ℕ) (ss b e : List OwnedSegment) (t : IsTail number ss b e)
-    (q : Seals t.inner t.outer)
+pub sealed_segments : (number : ℕ) (ss i b e : List OwnedSegment) (t : IsTail number ss i b e)
+    (q : Seals i t.middle)
     → ss ≡ q.seal_head ∷ q.envelope ∷ t.last ∷ []
-sealed_segments number ss b e t q = t.together ∙ ap (λ z. z ++ t.last ∷ []) q.together
+sealed_segments number ss i b e t q = t.together ∙ ap (λ z. z ++ t.last ∷ []) q.together
 
 -- ---- what follows some inner segments
 
@@ -169,23 +168,23 @@ pub record IsEnd (number : ℕ) (s : OwnedSegment) (before ends k : ℕ) (more :
   pub all : ends ≡ k
   pub none : more ≡ []
 
-pub data Next (number : ℕ) (ss body ends : List OwnedSegment) (k : ℕ) (s : OwnedSegment)
+pub data Next (number : ℕ) (ss os body ends : List OwnedSegment) (s : OwnedSegment)
     (more : List OwnedSegment) : Type
     0 where
-  inner : CanStand s k (length body) (length ends) → Next number ss body ends k s more
-  end : IsEnd number s (length ss) (length ends) k more → Next number ss body ends k s more
-  seal_head : ss ≡ [] → IsSealHead s → Next number ss body ends k s more
+  inner : CanStand s (length os) (length body) (length ends) → Next number ss os body ends s more
+  end : IsEnd number s (length ss) (length ends) (length os) more → Next number ss os body ends s more
+  seal_head : ss ≡ [] → IsSealHead s → Next number ss os body ends s more
 
 pub numbered_front : (n : ℕ) (xs ys : List OwnedSegment) → IsNumbered n (xs ++ ys) → IsNumbered n xs
 numbered_front n [] ys h = tt
 numbered_front n (x ∷ xs) ys h = (h.0, numbered_front (n + 1) xs ys h.1)
 
-plain_next : (number : ℕ) (ss body ends : List OwnedSegment) (k : ℕ) (s : OwnedSegment)
-    (more b e : List OwnedSegment)
-    → IsHalf ss body ends k → (p : IsTail number (ss ++ s ∷ more) b e) → p.outer ≡ p.inner
-    → Next number ss body ends k s more
-plain_next number ss body ends k s more b e h p plain =
-    elim (split ss s more p.inner p.last (plain_segments number (ss ++ s ∷ more) b e p plain)) [
+plain_next : (number : ℕ) (ss os body ends : List OwnedSegment) (s : OwnedSegment)
+    (more i b e : List OwnedSegment)
+    → IsHalf ss os body ends → (p : IsTail number (ss ++ s ∷ more) i b e) → p.middle ≡ i
+    → Next number ss os body ends s more
+plain_next number ss os body ends s more i b e h p plain =
+    elim (split ss s more i p.last (plain_segments number (ss ++ s ∷ more) i b e p plain)) [
       | at_end none is same ↦
           let numbered : IsNumbered 2 (ss ++ s ∷ []) =
           subst (λ x. IsNumbered 2 (ss ++ x ∷ [])) (sym is)
@@ -194,36 +193,36 @@ plain_next number ss body ends k s more b e h p plain =
           (record {
             last = subst (IsLast number) (sym is) p.is_last;
             place = number_at 2 ss s [] numbered;
-            all = ends_all ss body ends k b e h (subst (λ xs. IsInner xs b e) (sym same) p.is_inner);
+            all = ends_all ss os body ends b e h (subst (λ xs. IsInner xs b e) (sym same) p.is_inner);
             none = none;
           })
       | inside zs same ↦
           let g : IsInner (ss ++ s ∷ zs) b e = subst (λ xs. IsInner xs b e) same p.is_inner in
           inner
-          (stands ss body ends k s zs b e h g
+          (stands ss os body ends s zs b e h g
           (numbered_front 2 (ss ++ s ∷ zs) (p.last ∷ [])
           (subst (λ xs. IsNumbered 2 (xs ++ p.last ∷ [])) same p.numbered)))
     ]
 
-sealed_next : (number : ℕ) (ss body ends : List OwnedSegment) (k : ℕ) (s : OwnedSegment)
-    (more b e : List OwnedSegment)
-    → IsHalf ss body ends k → (t : IsTail number (ss ++ s ∷ more) b e) → Seals t.inner t.outer
-    → Next number ss body ends k s more
-sealed_next number [] body ends k s more b e h t q =
-    let all = sealed_segments number (s ∷ more) b e t q in
+sealed_next : (number : ℕ) (ss os body ends : List OwnedSegment) (s : OwnedSegment)
+    (more i b e : List OwnedSegment)
+    → IsHalf ss os body ends → (t : IsTail number (ss ++ s ∷ more) i b e) → Seals i t.middle
+    → Next number ss os body ends s more
+sealed_next number [] os body ends s more i b e h t q =
+    let all = sealed_segments number (s ∷ more) i b e t q in
     let first : s ≡ q.seal_head = cc in seal_head refl (subst IsSealHead (sym first) q.is_seal_head)
-sealed_next number (x ∷ ss) body ends k s more b e h t q =
-    let all = sealed_segments number (x ∷ (ss ++ s ∷ more)) b e t q in
+sealed_next number (x ∷ ss) os body ends s more i b e h t q =
+    let all = sealed_segments number (x ∷ (ss ++ s ∷ more)) i b e t q in
     let first : x ≡ q.seal_head = cc in
-    absurd (half_no_other (x ∷ ss) body ends k [] x ss h refl (ap part_of first ∙ seal_head_other q.seal_head q.is_seal_head))
+    absurd (half_no_other (x ∷ ss) os body ends [] x ss h refl (ap part_of first ∙ seal_head_other q.seal_head q.is_seal_head))
 
-pub next : (number : ℕ) (ss body ends : List OwnedSegment) (k : ℕ) (s : OwnedSegment)
-    (more b e : List OwnedSegment)
-    → IsHalf ss body ends k → IsTail number (ss ++ s ∷ more) b e → Next number ss body ends k s more
-next number ss body ends k s more b e h t =
+pub next : (number : ℕ) (ss os body ends : List OwnedSegment) (s : OwnedSegment)
+    (more i b e : List OwnedSegment)
+    → IsHalf ss os body ends → IsTail number (ss ++ s ∷ more) i b e → Next number ss os body ends s more
+next number ss os body ends s more i b e h t =
     elim t.stands [
-      | inl p ↦ plain_next number ss body ends k s more b e h t p
-      | inr q ↦ sealed_next number ss body ends k s more b e h t q
+      | inl p ↦ plain_next number ss os body ends s more i b e h t p
+      | inr q ↦ sealed_next number ss os body ends s more i b e h t q
     ]
 
 -- ---- more segments that make it whole
@@ -262,10 +261,10 @@ pub last_number : (n : ℕ) (value : List ℕ) → (last_of n value).head.number
 unfolding last_of
 last_number n value = refl
 
-pub begins_half : (number : ℕ) (ss body ends : List OwnedSegment) (k : ℕ) → IsNumber number
-    → IsHalf ss body ends k → IsNumbered 2 ss → BeginsBy (IsTail number) ss
-begins_half number ss body ends k v h n =
-    let j : ℕ = k - length ends in
+pub begins_half : (number : ℕ) (ss os body ends : List OwnedSegment) → IsNumber number
+    → IsHalf ss os body ends → IsNumbered 2 ss → BeginsBy (IsTail number) ss
+begins_half number ss os body ends v h n =
+    let j : ℕ = length os - length ends in
     let fill : List OwnedSegment = enders (2 + length ss) j in
     let last : OwnedSegment = last_of (2 + length ss + j) v.value in
     let place : last.head.number ≡ 2 + length (ss ++ fill) =
@@ -277,19 +276,19 @@ begins_half number ss body ends k v h n =
     ) in
     let filled : IsNumbered 2 (ss ++ fill) = numbered-append 2 ss fill n (enders_numbered (2 + length ss) j) in (
       fill ++ last ∷ [],
+      ss ++ fill,
       body,
       ends ++ fill,
       record {
-        inner = ss ++ fill;
-        outer = ss ++ fill;
+        middle = ss ++ fill;
         last = last;
         is_inner = record {
-          openers = h.opened;
+          openers = os;
           openers_are = h.openers_are;
           body_is = h.body_is;
           ends_are = all_append (λ s. part_of s ≡ Ender) ends fill h.ends_are (enders_parts (2 + length ss) j);
-          as_many = omega (arith, h.count, h.at_most, length-append ends fill, length-enders (2 + length ss) j);
-          together = ap (λ z. z ++ fill) h.together ∙ append_assoc h.opened (body ++ ends) fill ∙ ap (λ z. h.opened ++ z) (append_assoc body ends fill);
+          as_many = omega (arith, h.at_most, length-append ends fill, length-enders (2 + length ss) j);
+          together = ap (λ z. z ++ fill) h.together ∙ append_assoc os (body ++ ends) fill ∙ ap (λ z. os ++ z) (append_assoc body ends fill);
         };
         stands = inl refl;
         is_last = last_is number (2 + length ss + j) v.value v.is;
@@ -298,14 +297,13 @@ begins_half number ss body ends k v h n =
       },
     )
 
-pub tail_whole : (number : ℕ) (ss body ends : List OwnedSegment) (k : ℕ) (s : OwnedSegment)
-    → IsHalf ss body ends k → IsNumbered 2 ss → length ends ≡ k → IsLast number s
-    → s.head.number ≡ 2 + length ss → IsTail number (ss ++ s ∷ []) body ends
-tail_whole number ss body ends k s h n all last place = record {
-  inner = ss;
-  outer = ss;
+pub tail_whole : (number : ℕ) (ss os body ends : List OwnedSegment) (s : OwnedSegment)
+    → IsHalf ss os body ends → IsNumbered 2 ss → length ends ≡ length os → IsLast number s
+    → s.head.number ≡ 2 + length ss → IsTail number (ss ++ s ∷ []) ss body ends
+tail_whole number ss os body ends s h n all last place = record {
+  middle = ss;
   last = s;
-  is_inner = inner_half ss body ends k h all;
+  is_inner = inner_half ss os body ends h all;
   stands = inl refl;
   is_last = last;
   numbered = numbered-append 2 ss (s ∷ []) n (place, tt);
@@ -313,12 +311,12 @@ tail_whole number ss body ends k s h n all last place = record {
 }
 
 -- nothing follows HNHBS
-pub none_after : (number : ℕ) (ss body ends : List OwnedSegment) (k : ℕ) (s t : OwnedSegment)
-    (more b e : List OwnedSegment)
-    → IsHalf ss body ends k → IsLast number s → IsTail number (ss ++ s ∷ t ∷ more) b e → ⊥
-none_after number ss body ends k s t more b e h last tail =
-    elim (next number ss body ends k s (t ∷ more) b e h tail) [
-      | inner stand ↦ subst (λ p. CanFollow p k (length body) (length ends)) (last_other number s last) stand.1
+pub none_after : (number : ℕ) (ss os body ends : List OwnedSegment) (s t : OwnedSegment)
+    (more i b e : List OwnedSegment)
+    → IsHalf ss os body ends → IsLast number s → IsTail number (ss ++ s ∷ t ∷ more) i b e → ⊥
+none_after number ss os body ends s t more i b e h last tail =
+    elim (next number ss os body ends s (t ∷ more) i b e h tail) [
+      | inner stand ↦ subst (λ p. CanFollow p (length os) (length body) (length ends)) (last_other number s last) stand.1
       | end q ↦ let none = q.none in cc
       | seal_head none is ↦ seal_head_not_last number s is last
     ]
@@ -334,8 +332,8 @@ seal_head_first number s ss [] b e last h i l q = let same : s ≡ last = cc in 
 seal_head_first number s ss (x ∷ xs) b e last h i l q = let same : x ≡ s = cc in inner_no_other (x ∷ xs) b e x xs i refl (ap part_of same ∙ seal_head_other s h)
 
 -- what begins with HNVSK is not plain
-pub seal_head_not_plain : (number : ℕ) (s : OwnedSegment) (more ss b e : List OwnedSegment) → IsSealHead s
-    → (t : IsTail number ss b e) → ss ≡ s ∷ more → t.outer ≡ t.inner → ⊥
-seal_head_not_plain number s more ss b e h t first plain =
-    seal_head_first number s more t.inner b e t.last h t.is_inner t.is_last
-    (sym first ∙ plain_segments number ss b e t plain)
+pub seal_head_not_plain : (number : ℕ) (s : OwnedSegment) (more ss i b e : List OwnedSegment) → IsSealHead s
+    → (t : IsTail number ss i b e) → ss ≡ s ∷ more → t.middle ≡ i → ⊥
+seal_head_not_plain number s more ss i b e h t first plain =
+    seal_head_first number s more i b e t.last h t.is_inner t.is_last
+    (sym first ∙ plain_segments number ss i b e t plain)

@@ -1,7 +1,7 @@
 -- The numbers of a message's body.
 use Rattle.std.proofs.Common.{◌≡◌, ℕ, suc, ◌+◌, List, [], ◌∷◌, ◌++◌, length, subst, arith}
 use Rattle.fints_syntax_segments.specs.declared.item.OwnedSegment.{OwnedSegment}
-use Rattle.fints_rules_messages.specs.Messages.{MessageView, IsMessage, IsInner, IsNumbered, IsTail}
+use Rattle.fints_rules_messages.specs.Messages.{MessageView, IsMessage, IsInner, IsNumbered}
 use Rattle.fints_rules_messages.proofs.Forms.{numbered_front}
 
 numbered_back : (n : ℕ) (xs ys : List OwnedSegment) → IsNumbered n (xs ++ ys) → IsNumbered (n + length xs) ys
@@ -17,10 +17,6 @@ numbered_inner inner body ends i h =
     let after = numbered_back 2 i.openers (body ++ ends) together in
     subst (λ k. IsNumbered (2 + k) body) i.as_many (numbered_front (2 + length i.openers) body ends after)
 
-numbered_tail : (number : ℕ) (segments body ends : List OwnedSegment) → IsTail number segments body ends
-    → IsNumbered (2 + length ends) body
-numbered_tail number segments body ends t = numbered_inner t.inner body ends t.is_inner (numbered_front 2 t.inner (t.last ∷ []) t.numbered)
-
 pub numbered_body : (bytes : List ℕ) (m : MessageView) → IsMessage bytes m
     → IsNumbered (2 + length m.ends) m.body
-numbered_body bytes m h = numbered_tail m.number h.form.tail m.body m.ends h.form.is_tail
+numbered_body bytes m h = numbered_inner m.inner m.body m.ends h.form.is_inner (numbered_front 2 m.inner (m.last ∷ []) h.form.numbered)

@@ -5,7 +5,8 @@ use Rattle.std.proofs.lemmas.List.{append-nil}
 use Rattle.std.proofs.lemmas.Bool.Decides.{nat_tests}
 use Rattle.fints_syntax_segments.specs.declared.item.OwnedSegment.{OwnedSegment}
 use Rattle.fints_syntax.specs.Laws.{OneSegmentText}
-use Rattle.fints_rules_messages.specs.Messages.{MessageView, IsInner, IsTail, IsForm, IsMessage, IsEnvelope}
+use Rattle.fints_rules_messages.specs.Messages.{MessageView, IsInner, IsForm, IsMessage, IsEnvelope}
+use Rattle.fints_rules_messages.specs.Front.{IsTail}
 use Rattle.fints_syntax_segments.specs.Number.{number_of}
 use Rattle.fints_syntax_segments.specs.Values.{value_at}
 use Rattle.fints_rules_messages.proofs.Ranks.{IsRanked}
@@ -70,50 +71,74 @@ inner_one inner a b c d h g = (
       ∙ keep_third rank_of g.openers c d (inner_ranked inner c d g),
 )
 
-snoc_one : (xs ys : List OwnedSegment) (x y : OwnedSegment) → xs ++ x ∷ [] ≡ ys ++ y ∷ [] → xs ≡ ys
+pub snoc_one : (xs ys : List OwnedSegment) (x y : OwnedSegment) → xs ++ x ∷ [] ≡ ys ++ y ∷ []
+    → (xs ≡ ys) × (x ≡ y)
 snoc_one xs ys x y e = elim (split xs x [] ys y e) [
-  | at_end a b c ↦ c
+  | at_end a b c ↦ (c, b)
   | inside zs c ↦ absurd (omega (arith, ap length e, ap length c, length-append xs (x ∷ []), length-append ys (y ∷ []), length-append xs (x ∷ zs)))
 ]
 
-tail_one : OneSegmentText → (number : ℕ) (ss a b c d : List OwnedSegment) → IsTail number ss a b
-    → IsTail number ss c d → (a ≡ c) × (b ≡ d)
-tail_one law number ss a b c d h g = elim h.stands [
+inner_same : OneSegmentText → (number : ℕ) (ss i j a b c d : List OwnedSegment) → IsTail number ss i a b
+    → IsTail number ss j c d → i ≡ j
+inner_same law number ss i j a b c d h g = elim h.stands [
   | inl p ↦ elim g.stands [
-    | inl q ↦
-        let both = sym (plain_segments number ss a b h p) ∙ plain_segments number ss c d g q in
-        inner_one g.inner a b c d (subst (λ z. IsInner z a b) (snoc_one h.inner g.inner h.last g.last both) h.is_inner) g.is_inner
-    | inr q ↦ absurd (seal_head_not_plain number q.seal_head (q.envelope ∷ g.last ∷ []) ss a b q.is_seal_head h (sealed_segments number ss c d g q) p)
+    | inl q ↦ (snoc_one i j h.last g.last (sym (plain_segments number ss i a b h p) ∙ plain_segments number ss j c d g q)).0
+    | inr q ↦ absurd (seal_head_not_plain number q.seal_head (q.envelope ∷ g.last ∷ []) ss i a b q.is_seal_head h (sealed_segments number ss j c d g q) p)
   ]
   | inr p ↦ elim g.stands [
-    | inl q ↦ absurd (seal_head_not_plain number p.seal_head (p.envelope ∷ h.last ∷ []) ss c d p.is_seal_head g (sealed_segments number ss a b h p) q)
+    | inl q ↦ absurd (seal_head_not_plain number p.seal_head (p.envelope ∷ h.last ∷ []) ss j c d p.is_seal_head g (sealed_segments number ss i a b h p) q)
     | inr q ↦
-        let both = sym (sealed_segments number ss a b h p) ∙ sealed_segments number ss c d g q in
+        let both = sym (sealed_segments number ss i a b h p) ∙ sealed_segments number ss j c d g q in
         let env : q.envelope ≡ p.envelope = cc in
-        let held = envelope_text g.inner p.envelope p.is_envelope.bytes p.is_envelope.item (subst (IsEnvelope g.inner) env q.is_envelope) in
-        let same : g.inner ≡ h.inner = text_one law p.is_envelope.bytes g.inner h.inner held p.is_envelope.holds in
-        inner_one h.inner a b c d h.is_inner (subst (λ z. IsInner z c d) same g.is_inner)
+        let held = envelope_text j p.envelope p.is_envelope.bytes p.is_envelope.item (subst (IsEnvelope j) env q.is_envelope) in
+        text_one law p.is_envelope.bytes i j p.is_envelope.holds held
   ]
 ]
+
+-- what follows HNHBK, in a message
+pub tail_of : (ss : List OwnedSegment) (m : MessageView) → IsForm ss m
+    → IsTail m.number (m.middle ++ m.last ∷ []) m.inner m.body m.ends
+tail_of ss m h = record {
+  middle = m.middle;
+  last = m.last;
+  is_inner = h.is_inner;
+  stands = h.stands;
+  is_last = h.is_last;
+  numbered = h.numbered;
+  together = refl;
+}
 
 form_one : OneSegmentText → (ss : List OwnedSegment) (m n : MessageView) → IsForm ss m → IsForm ss n
     → m.size ≡ n.size → m ≡ n
 form_one law ss m n h g size =
     let both = sym h.together ∙ g.together in
-    let first : g.first ≡ h.first = cc in
-    let tail : g.tail ≡ h.tail = cc in
+    let first : m.first ≡ n.first = cc in
+    let tail : m.middle ++ m.last ∷ [] ≡ n.middle ++ n.last ∷ [] = cc in
+    let middle = (snoc_one m.middle n.middle m.last n.last tail).0 in
+    let last = (snoc_one m.middle n.middle m.last n.last tail).1 in
     let number : Some m.number ≡ Some n.number =
-    sym h.is_first.number_is ∙ ap (λ (s : OwnedSegment). number_of (value_at s 5 1)) (sym first)
+    sym h.is_first.number_is ∙ ap (λ (s : OwnedSegment). number_of (value_at s 5 1)) first
     ∙ g.is_first.number_is in
     let same : n.number ≡ m.number = cc in
-    let parts =
-    tail_one law m.number h.tail m.body m.ends n.body n.ends h.is_tail
-    (subst (λ z. IsTail m.number z n.body n.ends) tail
-    (subst (λ k. IsTail k g.tail n.body n.ends) same g.is_tail)) in
-    let protocol : m.protocol ≡ n.protocol = sym h.protocol ∙ ap (λ (s : OwnedSegment). number_of (value_at s 3 1)) (sym first) ∙ g.protocol in
+    let inner : m.inner ≡ n.inner =
+    inner_same law m.number (m.middle ++ m.last ∷ []) m.inner n.inner m.body m.ends n.body n.ends (tail_of ss m h)
+    (subst (λ z. IsTail m.number z n.inner n.body n.ends) (sym tail)
+    (subst (λ k. IsTail k (n.middle ++ n.last ∷ []) n.inner n.body n.ends) same (tail_of ss n g))) in
+    let parts = inner_one n.inner m.body m.ends n.body n.ends (subst (λ z. IsInner z m.body m.ends) inner h.is_inner) g.is_inner in
+    let protocol : m.protocol ≡ n.protocol = sym h.protocol ∙ ap (λ (s : OwnedSegment). number_of (value_at s 3 1)) first ∙ g.protocol in
     let body = parts.0 in
     let ends = parts.1 in
-    λ i. record { size = size i; protocol = protocol i; number = sym same i; body = body i; ends = ends i }
+    λ i. record {
+      size = size i;
+      protocol = protocol i;
+      number = sym same i;
+      first = first i;
+      middle = middle i;
+      inner = inner i;
+      body = body i;
+      ends = ends i;
+      last = last i;
+    }
 
 pub message_one : OneSegmentText → (bytes : List ℕ) (m n : MessageView) → IsMessage bytes m
     → IsMessage bytes n → m ≡ n

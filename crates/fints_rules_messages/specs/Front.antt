@@ -1,5 +1,5 @@
 -- What a look at the segments between HNHBK and HNHBS finds. Private contracts alone cite these words.
-use Rattle.std.specs.Prelude.{◌≡◌, ◌⊎◌, ℕ, ◌+◌, ◌<◌, ◌≤◌, List, [], ◌∷◌, ◌++◌, length, drop, Some, Result, Ok, Err}
+use Rattle.std.specs.Prelude.{◌≡◌, ◌⊎◌, ℕ, ◌+◌, ◌<◌, ◌≤◌, List, [], ◌∷◌, ◌++◌, length, drop, Option, Some, None, Result, Ok, Err}
 use Rattle.std.specs.List.{AllByRecursion}
 use Rattle.fints_syntax_segments.specs.Spelling.{Spelled}
 use Rattle.fints_syntax_segments.specs.Segment.{segment_bytes, IsSegment}
@@ -8,23 +8,36 @@ use Rattle.fints_syntax_segments.specs.Number.{number_of}
 use Rattle.fints_syntax.specs.Owned.{segment_of, segments_of}
 use Rattle.fints_rules_messages.specs.Segments.{texts_of}
 use Rattle.fints_rules_messages.specs.Parts.{part_of}
-use Rattle.fints_rules_messages.specs.Messages.{IsNumbered, IsInner, IsEnvelope, IsSealHead, IsLast, Stops}
+use Rattle.fints_rules_messages.specs.Messages.{IsNumbered, IsInner, IsEnvelope, IsSealHead, Seals, IsLast, Stops}
 use Rattle.fints_rules_messages.specs.declared.front.Inner.{Inner}
+use Rattle.fints_rules_messages.specs.declared.front.Seal.{Seal}
 use Rattle.fints_rules_messages.specs.declared.slip.Slip.{Slip}
 use Rattle.fints_rules_messages.specs.declared.tail.Tail.{Tail}
 use Rattle.fints_rules_messages.specs.declared.tail.Tail.TheVariants.{Whole, Stop}
 use Rattle.fints_rules_messages.specs.declared.part.Part.{Part}
 use Rattle.fints_rules_messages.specs.declared.part.Part.TheVariants.{Opener, Body, Ender, Other}
 
+-- the inner segments that were read, in order
+abbrev pub inner_of : Inner → List OwnedSegment
+inner_of i = segments_of i.openers.items ++ (segments_of i.body.items ++ segments_of i.ends.items)
+
+-- inner segments as they stand between HNHBK and HNHBS: plain or sealed
+abbrev pub middle_by : Option Seal → List OwnedSegment → List OwnedSegment
+middle_by None inner = inner
+middle_by (Some seal) inner = segment_of seal.head ∷ segment_of seal.envelope ∷ []
+
+-- the inner segments are in the data of the HNVSD that seals them, if one does
+abbrev pub AreSealedBy : Option Seal → List OwnedSegment → Type 0
+AreSealedBy None inner = Unit {0}
+AreSealedBy (Some seal) inner = IsEnvelope inner (segment_of seal.envelope)
+
 -- some HNSHK, some of the body, and at most as many HNSHA; the body is over where there are HNSHA
-pub record IsHalf (segments body ends : List OwnedSegment) (openers : ℕ) : Type 0 where
-  pub opened : List OwnedSegment
-  pub openers_are : AllByRecursion (λ s. part_of s ≡ Opener) opened
+pub record IsHalf (segments openers body ends : List OwnedSegment) : Type 0 where
+  pub openers_are : AllByRecursion (λ s. part_of s ≡ Opener) openers
   pub body_is : AllByRecursion (λ s. part_of s ≡ Body) body
   pub ends_are : AllByRecursion (λ s. part_of s ≡ Ender) ends
-  pub count : length opened ≡ openers
-  pub at_most : length ends ≤ openers
-  pub together : segments ≡ opened ++ (body ++ ends)
+  pub at_most : length ends ≤ length openers
+  pub together : segments ≡ openers ++ (body ++ ends)
 
 -- a segment of this part can follow so many HNSHK, segments of the body and HNSHA
 abbrev pub CanFollow : Part → ℕ → ℕ → ℕ → Type 0
@@ -34,12 +47,12 @@ CanFollow Ender openers body ends = ends < openers
 CanFollow Other openers body ends = ⊥
 
 -- the bytes begin with segments that can stand between HNHBK and HNHBS, and the next, if there is one, can't
-pub record IsFront (bytes : List ℕ) (at openers : ℕ) (body ends : List (List (List Spelled))) : Type 0 where
+pub record IsFront (bytes : List ℕ) (at : ℕ) (openers body ends : List (List (List Spelled))) : Type 0 where
   pub trees : List (List (List Spelled))
   pub each : AllByRecursion IsSegment trees
   pub text : bytes ≡ texts_of trees ++ drop at bytes
   pub at_is : at ≡ length (texts_of trees)
-  pub half : IsHalf (segments_of trees) (segments_of body) (segments_of ends) openers
+  pub half : IsHalf (segments_of trees) (segments_of openers) (segments_of body) (segments_of ends)
   pub numbered : IsNumbered 2 (segments_of trees)
 
 -- the bytes begin with the text of this segment, of so many bytes, and of no other
@@ -75,28 +88,40 @@ abbrev pub NoneStandsBehind : Inner → List ℕ → Type 0
 NoneStandsBehind inner bytes =
     NoneStands bytes (length inner.openers.items) (length inner.body.items) (length inner.ends.items)
 
--- a form: which segments are one, with this body and these HNSHA
+-- what follows HNHBK: the inner segments, plain or sealed, and HNHBS
+pub record IsTail (number : ℕ) (segments inner body ends : List OwnedSegment) : Type 0 where
+  pub middle : List OwnedSegment
+  pub last : OwnedSegment
+  pub is_inner : IsInner inner body ends
+  pub stands : (middle ≡ inner) ⊎ Seals inner middle
+  pub is_last : IsLast number last
+  pub numbered : IsNumbered 2 (inner ++ last ∷ [])
+  pub together : segments ≡ middle ++ last ∷ []
+
+-- a form: which segments are one, with these inner segments, this body and these HNSHA
 abbrev pub Form : Type 1
-Form = List OwnedSegment → List OwnedSegment → List OwnedSegment → Type 0
+Form = List OwnedSegment → List OwnedSegment → List OwnedSegment → List OwnedSegment → Type 0
 
 -- more segments make it a list of the form
 abbrev pub BeginsBy : Form → List OwnedSegment → Type 0
-BeginsBy form segments = (more body ends : List OwnedSegment) × form (segments ++ more) body ends
+BeginsBy form segments = (more inner body ends : List OwnedSegment) × form (segments ++ more) inner body ends
 
 abbrev pub IsWholeBy : Form → List OwnedSegment → Type 0
-IsWholeBy form segments = (body ends : List OwnedSegment) × form segments body ends
+IsWholeBy form segments = (inner body ends : List OwnedSegment) × form segments inner body ends
 
--- the bytes are the texts of segments of the form
-pub record IsReadBy (form : Form) (bytes : List ℕ) (body ends : List (List (List Spelled))) : Type 0 where
+-- the bytes are the texts of segments of the form, which are these inner ones and the last, but for those before
+pub record IsReadBy (form : Form) (before : List OwnedSegment) (bytes : List ℕ) (i : Inner)
+    (last : List (List Spelled)) : Type 0 where
   pub trees : List (List (List Spelled))
   pub each : AllByRecursion IsSegment trees
   pub text : bytes ≡ texts_of trees
-  pub is : form (segments_of trees) (segments_of body) (segments_of ends)
+  pub is : form (segments_of trees) (inner_of i) (segments_of i.body.items) (segments_of i.ends.items)
+  pub together : before ++ segments_of trees ≡ middle_by i.seal (inner_of i) ++ segment_of last ∷ []
+  pub sealed : AreSealedBy i.seal (inner_of i)
 
 -- what follows HNVSK in the sealed form
-pub record IsSealedRest (number : ℕ) (segments body ends : List OwnedSegment) : Type 0 where
+pub record IsSealedRest (number : ℕ) (segments inner body ends : List OwnedSegment) : Type 0 where
   pub envelope : OwnedSegment
-  pub inner : List OwnedSegment
   pub last : OwnedSegment
   pub is_envelope : IsEnvelope inner envelope
   pub is_inner : IsInner inner body ends
@@ -109,9 +134,9 @@ pub record IsNumber (number : ℕ) : Type 0 where
   pub value : List ℕ
   pub is : number_of value ≡ Some number
 
-abbrev pub TailIs : Form → List ℕ → Tail → Type 0
-TailIs form bytes (Whole i) = IsReadBy form bytes i.body.items i.ends.items
-TailIs form bytes (Stop at slip) = Stops (BeginsBy form) (IsWholeBy form) bytes at
+abbrev pub TailIs : Form → List OwnedSegment → List ℕ → Tail → Type 0
+TailIs form before bytes (Whole i last) = IsReadBy form before bytes i last
+TailIs form before bytes (Stop at slip) = Stops (BeginsBy form) (IsWholeBy form) bytes at
 
 -- HNHBS stands there, and the HNSHA are all there
 pub record IsEndOf (number : ℕ) (s : OwnedSegment) (openers body ends : ℕ) : Type 0 where
@@ -126,37 +151,32 @@ IsEndBehind number s inner =
 
 -- how bytes close where this segment, of so many bytes, stands at a place in them behind the inner segments: they
 -- stop at it where it isn't HNHBS, and behind it where more bytes follow
-abbrev pub ClosesAs : ℕ → OwnedSegment → Inner → ℕ → ℕ → ℕ → Tail → Type 0
-ClosesAs number s inner at len size (Whole i) =
-    IsEndBehind number s inner × (size ≤ at + len) × (i.body.items ≡ inner.body.items)
-    × (i.ends.items ≡ inner.ends.items)
-ClosesAs number s inner at len size (Stop stop slip) =
-    ((stop ≡ at) × (IsEndBehind number s inner → ⊥))
-    ⊎ ((stop ≡ at + len) × IsEndBehind number s inner × (at + len < size))
+abbrev pub ClosesAs : ℕ → List (List Spelled) → Inner → ℕ → ℕ → ℕ → Tail → Type 0
+ClosesAs number t inner at len size (Whole i last) =
+    IsEndBehind number (segment_of t) inner × (size ≤ at + len) × (i ≡ inner) × (last ≡ t)
+ClosesAs number t inner at len size (Stop stop slip) =
+    ((stop ≡ at) × (IsEndBehind number (segment_of t) inner → ⊥))
+    ⊎ ((stop ≡ at + len) × IsEndBehind number (segment_of t) inner × (at + len < size))
 
--- the bytes begin with an HNVSK of so many bytes
-pub record HasSealHead (bytes : List ℕ) (len : ℕ) : Type 0 where
-  pub tree : List (List Spelled)
-  pub is_next : IsNextSegment bytes tree len
-  pub is_seal_head : IsSealHead (segment_of tree)
+-- the bytes begin with this HNVSK, of so many bytes
+pub record HasSealHead (bytes : List ℕ) (len : ℕ) (t : List (List Spelled)) : Type 0 where
+  pub is_next : IsNextSegment bytes t len
+  pub is_seal_head : IsSealHead (segment_of t)
 
--- the envelope holds the inner segments of a message
-pub record IsOpened (s : OwnedSegment) (openers : ℕ) (body ends : List OwnedSegment) : Type 0 where
-  pub inner : List OwnedSegment
-  pub is_envelope : IsEnvelope inner s
-  pub is_inner : IsInner inner body ends
-  pub numbered : IsNumbered 2 inner
-  pub count : length inner ≡ openers + (length body + length ends)
-  pub as_many : length ends ≡ openers
+-- the envelope holds these inner segments of a message
+pub record IsOpened (s : OwnedSegment) (i : Inner) : Type 0 where
+  pub is_envelope : IsEnvelope (inner_of i) s
+  pub is_inner : IsInner (inner_of i) (segments_of i.body.items) (segments_of i.ends.items)
+  pub numbered : IsNumbered 2 (inner_of i)
+  pub as_many : length i.ends.items ≡ length i.openers.items
 
 abbrev pub EnvelopeIs : Result Inner Slip → OwnedSegment → Type 0
 EnvelopeIs (Err slip) s =
     (inner body ends : List OwnedSegment) → IsEnvelope inner s → IsInner inner body ends → IsNumbered 2 inner
     → ⊥
-EnvelopeIs (Ok i) s =
-    IsOpened s (length i.openers.items) (segments_of i.body.items) (segments_of i.ends.items)
+EnvelopeIs (Ok i) s = IsOpened s i
 
 -- a stop within the bytes
 abbrev pub StopsWithin : Tail → ℕ → Type 0
-StopsWithin (Whole i) n = Unit {0}
+StopsWithin (Whole i last) n = Unit {0}
 StopsWithin (Stop at slip) n = at ≤ n

@@ -15,13 +15,18 @@ use Rattle.fints_syntax_segments.specs.Values.{is_named}
 use Rattle.fints_rules_messages.specs.Parts.{part_of}
 use Rattle.fints_rules_messages.specs.declared.part.Part.TheVariants.{Opener, Body, Ender}
 
--- What a message holds. The number of its signatures is that of `ends`.
+-- What a message holds: its first segment, those in the middle, and its last. The inner segments are those in the middle, or
+-- stand in the data of the HNVSD there; they hold the body, and `ends`, the HNSHA, one for each signature.
 pub record MessageView : Type 0 where
   pub size : ℕ
   pub protocol : Option ℕ
   pub number : ℕ
+  pub first : OwnedSegment
+  pub middle : List OwnedSegment
+  pub inner : List OwnedSegment
   pub body : List OwnedSegment
   pub ends : List OwnedSegment
+  pub last : OwnedSegment
 
 -- the segments are numbered on from n
 abbrev pub IsNumbered : ℕ → List OwnedSegment → Type 0
@@ -63,32 +68,23 @@ pub record IsEnvelope (inner : List OwnedSegment) (s : OwnedSegment) : Type 0 wh
   pub holds : IsText bytes inner
 
 -- the inner segments as they stand in the sealed form: HNVSK, and HNVSD with them in it
-pub record Seals (inner outer : List OwnedSegment) : Type 0 where
+pub record Seals (inner middle : List OwnedSegment) : Type 0 where
   pub seal_head : OwnedSegment
   pub envelope : OwnedSegment
   pub is_seal_head : IsSealHead seal_head
   pub is_envelope : IsEnvelope inner envelope
-  pub together : outer ≡ seal_head ∷ envelope ∷ []
+  pub together : middle ≡ seal_head ∷ envelope ∷ []
 
--- What follows HNHBK: the inner segments, plain or sealed, and HNHBS. In both forms HNHBS has the number behind the last inner segment.
-pub record IsTail (number : ℕ) (segments body ends : List OwnedSegment) : Type 0 where
-  pub inner : List OwnedSegment
-  pub outer : List OwnedSegment
-  pub last : OwnedSegment
-  pub is_inner : IsInner inner body ends
-  pub stands : (outer ≡ inner) ⊎ Seals inner outer
-  pub is_last : IsLast number last
-  pub numbered : IsNumbered 2 (inner ++ last ∷ [])
-  pub together : segments ≡ outer ++ last ∷ []
-
--- the segments are a message of one of the two forms
+-- The segments are a message: HNHBK, the inner segments, plain or sealed, and HNHBS. In both forms HNHBS has the number after
+-- the last inner segment.
 pub record IsForm (segments : List OwnedSegment) (m : MessageView) : Type 0 where
-  pub first : OwnedSegment
-  pub tail : List OwnedSegment
-  pub is_first : IsFirst m.size m.number first
-  pub protocol : number_of (value_at first 3 1) ≡ m.protocol
-  pub is_tail : IsTail m.number tail m.body m.ends
-  pub together : segments ≡ first ∷ tail
+  pub is_first : IsFirst m.size m.number m.first
+  pub protocol : number_of (value_at m.first 3 1) ≡ m.protocol
+  pub is_inner : IsInner m.inner m.body m.ends
+  pub stands : (m.middle ≡ m.inner) ⊎ Seals m.inner m.middle
+  pub is_last : IsLast m.number m.last
+  pub numbered : IsNumbered 2 (m.inner ++ m.last ∷ [])
+  pub together : segments ≡ m.first ∷ (m.middle ++ m.last ∷ [])
 
 -- the bytes are a message
 pub record IsMessage (bytes : List ℕ) (m : MessageView) : Type 0 where

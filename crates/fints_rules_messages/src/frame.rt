@@ -48,19 +48,19 @@ fn is_end(view: &SegmentView<'_>, number: u64, inner: &Inner<'_>) -> bool
 pub fn close<'a>(
     bytes: &[u8],
     at: usize,
-    last: &SegmentView<'_>,
+    last: SegmentView<'a>,
     len: usize,
     number: u64,
     inner: Inner<'a>,
 ) -> Tail<'a>
     requires { at + len ≤ length bytes.now }
-    ensures { ClosesAs number (segment_of last.now) inner.entry at len (length bytes.now) result }
+    ensures { ClosesAs number last.entry inner.entry at len (length bytes.now) result }
 {
-    if !is_end(last, number, &inner) {
+    if !is_end(&last, number, &inner) {
         return Tail::Stop(at, Slip::Next { inner, number });
     }
     if at + len < bytes.len() {
         return Tail::Stop(at + len, Slip::End);
     }
-    Tail::Whole(inner)
+    Tail::Whole(inner, last)
 }

@@ -1,5 +1,5 @@
 //! The segments between the first and the last of a message.
-ghost use Rattle.std.specs.Prelude.{◌↔◌, ◌^◌, ◌<◌, ◌≤◌, IsTrue, IfOk, IfSome, IfNone, length, drop};
+ghost use Rattle.std.specs.Prelude.{◌≡◌, ◌↔◌, ◌^◌, ◌<◌, ◌≤◌, IsTrue, IfOk, IfSome, IfNone, length, drop};
 ghost use Rattle.fints_syntax.specs.Owned.{segment_of};
 ghost use Rattle.fints_rules_messages.specs.Front.{IsNextSegment, HasNoNext, IsFront, CanStandBehind, NoneStandsBehind};
 
@@ -57,7 +57,8 @@ pub fn read_inner<'a>(
     seal: Option<Seal<'a>>,
 ) -> Result<Inner<'a>, AllocError>
     ensures front { IfOk result
-        (λ r. IsFront bytes.now r.at (length r.openers.items) r.body.items r.ends.items) }
+        (λ r. IsFront bytes.now r.at r.openers.items r.body.items r.ends.items) }
+    ensures seal { IfOk result (λ r. r.seal ≡ seal.entry) }
     ensures within { IfOk result (λ r. r.at ≤ length bytes.now) }
     ensures stopped { IfOk result (λ r. NoneStandsBehind r (drop r.at bytes.now)) }
 {

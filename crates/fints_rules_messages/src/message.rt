@@ -1,7 +1,7 @@
 //! Messages, as they are read.
-ghost use Rattle.std.specs.Prelude.{◌≡◌, ◌+◌, ◌<◌, ℕ, length, Option, Some, IfOk, IfErr, IfSome, IfNone};
+ghost use Rattle.std.specs.Prelude.{◌≡◌, ◌+◌, ◌<◌, ◌++◌, [], ◌∷◌, ℕ, length, Option, Some, IfOk, IfErr, IfSome, IfNone};
 ghost use Rattle.fints_syntax.specs.Owned.{segment_of, segments_of};
-ghost use Rattle.fints_rules_messages.specs.Messages.{MessageView, IsMessage, IsFirst, IsNumbered, CeasesAt};
+ghost use Rattle.fints_rules_messages.specs.Messages.{MessageView, IsMessage, IsFirst, IsEnvelope, IsNumbered, CeasesAt};
 ghost use Rattle.fints_rules_messages.specs.Read.{IsJudgeFault};
 ghost use Rattle.fints_rules_messages.specs.declared.message.JudgeFault.TheVariants as fault;
 
@@ -25,12 +25,14 @@ pub struct Message<'a> {
     number: u64,
     first: SegmentView<'a>,
     inner: Inner<'a>,
+    last: SegmentView<'a>,
 }
 
 impl<'a> Model for Message<'a> {
     ghost use Rattle.std.specs.Prelude.{◌+◌, length};
     ghost use Rattle.fints_syntax.specs.Owned.{segment_of, segments_of};
     ghost use Rattle.fints_rules_messages.specs.Messages.{MessageView, IsFirst, IsNumbered};
+    ghost use Rattle.fints_rules_messages.specs.Front.{inner_of, middle_by, AreSealedBy};
 
     ghost Value = { MessageView };
 
@@ -38,12 +40,17 @@ impl<'a> Model for Message<'a> {
       size = m.size;
       protocol = m.protocol;
       number = m.number;
+      first = segment_of m.first;
+      middle = middle_by m.inner.seal (inner_of m.inner);
+      inner = inner_of m.inner;
       body = segments_of m.inner.body.items;
       ends = segments_of m.inner.ends.items;
+      last = segment_of m.last;
     } };
 
     ghost invariant = { λ m. IsFirst m.size m.number (segment_of m.first)
-        × IsNumbered (2 + length (segments_of m.inner.ends.items)) (segments_of m.inner.body.items) };
+        × IsNumbered (2 + length (segments_of m.inner.ends.items)) (segments_of m.inner.body.items)
+        × AreSealedBy m.inner.seal (inner_of m.inner) };
 }
 
 impl<'a> Message<'a> {
@@ -70,18 +77,26 @@ impl<'a> Message<'a> {
 
     /// HNHBK.
     pub fn first(&self) -> &SegmentView<'a>
-        ensures { IsFirst self.now.size self.now.number (segment_of result.now) }
+        ensures first { segment_of result.now ≡ self.now.first }
+        ensures is { IsFirst self.now.size self.now.number (segment_of result.now) }
     {
         &self.first
     }
 
     /// What seals the segments between HNHBK and HNHBS, if they are sealed.
-    pub fn seal(&self) -> Option<&Seal<'a>> {
+    pub fn seal(&self) -> Option<&Seal<'a>>
+        ensures plain { IfNone result (self.now.middle ≡ self.now.inner) }
+        ensures envelope { IfSome result (λ seal. IsEnvelope self.now.inner (segment_of seal.now.envelope)) }
+        ensures sealed { IfSome result (λ seal. self.now.middle
+            ≡ segment_of seal.now.head ∷ segment_of seal.now.envelope ∷ []) }
+    {
         self.inner.seal.as_ref()
     }
 
-    /// The HNSHK.
-    pub fn openers(&self) -> &[SegmentView<'a>] {
+    /// The HNSHK, which the body and the HNSHA follow.
+    pub fn openers(&self) -> &[SegmentView<'a>]
+        ensures { self.now.inner ≡ segments_of result.now ++ (self.now.body ++ self.now.ends) }
+    {
         self.inner.openers.as_slice()
     }
 
@@ -98,6 +113,13 @@ impl<'a> Message<'a> {
         ensures { segments_of result.now ≡ self.now.ends }
     {
         self.inner.ends.as_slice()
+    }
+
+    /// HNHBS.
+    pub fn last(&self) -> &SegmentView<'a>
+        ensures { segment_of result.now ≡ self.now.last }
+    {
+        &self.last
     }
 }
 
@@ -181,7 +203,7 @@ pub fn read_or_slip(
             offset: len + at,
             slip,
         })),
-        Tail::Whole(inner) => {
+        Tail::Whole(inner, last) => {
             let protocol = number_at(&first, 3, 1, 1, 9);
             Ok(Ok(Message {
                 size: bytes.len(),
@@ -189,6 +211,7 @@ pub fn read_or_slip(
                 number,
                 first,
                 inner,
+                last,
             }))
         }
     }

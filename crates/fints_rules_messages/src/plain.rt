@@ -1,8 +1,8 @@
 //! The plain form of a message.
-ghost use Rattle.std.specs.Prelude.{◌≡◌, ◌↔◌, ◌<◌, IsTrue, IfOk, length};
+ghost use Rattle.std.specs.Prelude.{◌≡◌, ◌↔◌, ◌<◌, [], IsTrue, IfOk, length};
 ghost use Rattle.fints_syntax.specs.Owned.{segment_of};
-ghost use Rattle.fints_rules_messages.specs.Messages.{IsTail, IsSealHead};
-ghost use Rattle.fints_rules_messages.specs.Front.{IsNumber, TailIs, StopsWithin};
+ghost use Rattle.fints_rules_messages.specs.Messages.{IsSealHead};
+ghost use Rattle.fints_rules_messages.specs.Front.{IsTail, IsNumber, TailIs, StopsWithin};
 
 use crate::frame::{close, is_seal_head};
 use crate::inner::{next_segment, read_inner};
@@ -22,7 +22,7 @@ fn is_seal_head_at(view: &SegmentView<'_>, at: usize) -> bool
 /// What follows HNHBK, of either form.
 pub fn read_tail<'a>(alloc: Global, tail: &'a [u8], number: u64) -> Result<Tail<'a>, AllocError>
     requires { IsNumber number }
-    ensures tail { IfOk result (λ r. TailIs (IsTail number) tail.now r) }
+    ensures tail { IfOk result (λ r. TailIs (IsTail number) [] tail.now r) }
     ensures within { IfOk result (λ r. StopsWithin r (length tail.now)) }
 {
     let inner = read_inner(alloc, tail, None)?;
@@ -34,5 +34,5 @@ pub fn read_tail<'a>(alloc: Global, tail: &'a [u8], number: u64) -> Result<Tail<
     if is_seal_head_at(&view, at) {
         return read_sealed(alloc, tail, view, len, number);
     }
-    Ok(close(tail, at, &view, len, number, inner))
+    Ok(close(tail, at, view, len, number, inner))
 }

@@ -1,8 +1,7 @@
 //! The sealed form of a message.
-ghost use Rattle.std.specs.Prelude.{◌+◌, ◌<◌, IfOk, length};
+ghost use Rattle.std.specs.Prelude.{◌≡◌, ◌+◌, ◌<◌, [], ◌∷◌, Some, IfOk, length};
 ghost use Rattle.fints_syntax.specs.Owned.{segment_of};
-ghost use Rattle.fints_rules_messages.specs.Messages.{IsTail};
-ghost use Rattle.fints_rules_messages.specs.Front.{IsNumber, TailIs, StopsWithin, IsSealedRest, HasSealHead, EnvelopeIs};
+ghost use Rattle.fints_rules_messages.specs.Front.{IsTail, IsNumber, TailIs, StopsWithin, IsSealedRest, HasSealHead, EnvelopeIs};
 
 use crate::frame::close;
 use crate::front::{Inner, Seal};
@@ -20,7 +19,9 @@ fn open_envelope<'a>(
     head: SegmentView<'a>,
     envelope: SegmentView<'a>,
 ) -> Result<Result<Inner<'a>, Slip<'a>>, AllocError>
-    ensures { IfOk result (λ o. EnvelopeIs o (segment_of envelope.entry)) }
+    ensures envelope { IfOk result (λ o. EnvelopeIs o (segment_of envelope.entry)) }
+    ensures seal { IfOk result (λ o. IfOk o (λ i.
+        i.seal ≡ Some (record { head = head.entry; envelope = envelope.entry }))) }
 {
     if !envelope.is_named(b"HNVSD", HNVSD_VERSION) {
         return Ok(Err(Slip::Envelope));
@@ -49,7 +50,8 @@ fn read_rest<'a>(
     number: u64,
 ) -> Result<Tail<'a>, AllocError>
     requires { IsNumber number }
-    ensures rest { IfOk result (λ r. TailIs (IsSealedRest number) rest.now r) }
+    ensures rest { IfOk result
+        (λ r. TailIs (IsSealedRest number) (segment_of head.entry ∷ []) rest.now r) }
     ensures within { IfOk result (λ r. StopsWithin r (length rest.now)) }
 {
     let Some((view, len)) = next_segment(rest) else {
@@ -63,7 +65,7 @@ fn read_rest<'a>(
     let Some((last, n)) = next_segment(end) else {
         return Ok(Tail::Stop(len, Slip::Next { inner, number }));
     };
-    Ok(close(rest, len, &last, n, number, inner))
+    Ok(close(rest, len, last, n, number, inner))
 }
 
 /// What follows HNHBK, where it begins with this HNVSK, which has `len` bytes.
@@ -75,13 +77,13 @@ pub fn read_sealed<'a>(
     number: u64,
 ) -> Result<Tail<'a>, AllocError>
     requires number { IsNumber number }
-    requires seal_head { HasSealHead tail.now len }
-    ensures tail { IfOk result (λ r. TailIs (IsTail number) tail.now r) }
+    requires seal_head { HasSealHead tail.now len head }
+    ensures tail { IfOk result (λ r. TailIs (IsTail number) [] tail.now r) }
     ensures within { IfOk result (λ r. StopsWithin r (length tail.now)) }
 {
     let (_, rest) = tail.split_at(len);
     match read_rest(alloc, head, rest, number)? {
-        Tail::Whole(inner) => Ok(Tail::Whole(inner)),
+        Tail::Whole(inner, last) => Ok(Tail::Whole(inner, last)),
         Tail::Stop(at, slip) => Ok(Tail::Stop(len + at, slip)),
     }
 }

@@ -10,7 +10,7 @@ use Rattle.std.proofs.lemmas.Slice.Eq.{bytes_eq-Decides}
 use Rattle.fints_syntax_segments.specs.declared.item.OwnedItem.{OwnedItem}
 use Rattle.fints_syntax_segments.specs.declared.item.OwnedItem.TheVariants.{Bin}
 use Rattle.fints_syntax_segments.specs.declared.item.OwnedSegment.{OwnedSegment}
-use Rattle.fints_rules_messages.specs.Messages.{IsFirst, IsInner, IsLast, IsNumbered, IsTail, Seals}
+use Rattle.fints_rules_messages.specs.Messages.{IsFirst, IsInner, IsLast, IsNumbered, Seals}
 use Rattle.fints_rules_messages.specs.Parts.{part_of}
 use Rattle.fints_rules_messages.specs.Segments.{IsText}
 use Rattle.fints_rules_messages.specs.declared.part.Part.{Part}
@@ -100,7 +100,7 @@ module _ (script : ScriptValue) (step : StepValue) (filling : FillingValue) (sou
   abbrev end_segments : List OwnedSegment
   end_segments = filled_segments filling (2 + length step.signers + length step.templates) ends
 
-  inner_is : IsInner (inner_segments script step filling) body_segments end_segments
+  pub inner_is : IsInner (inner_segments script step filling) body_segments end_segments
   inner_is =
       let n : length (signers_of script step) ≡ length step.signers = length-map step.signers (signer_at script.signers) in
       let a : length heads ≡ length (signers_of script step) = length-map (signers_of script step) head_template in
@@ -122,17 +122,17 @@ module _ (script : ScriptValue) (step : StepValue) (filling : FillingValue) (sou
         together = outer ∙ ap (λ (ss : List OwnedSegment). filled_segments filling 2 heads ++ ss) later;
       }
 
-  last_is : (n number : ℕ) → number < 10 ^ 9 → IsLast number (last_segment n number)
+  pub last_is : (n number : ℕ) → number < 10 ^ 9 → IsLast number (last_segment n number)
   last_is n number small = record { kind = refl; number_is = number_read number small }
 
-  inner_numbered : (number : ℕ)
+  pub inner_numbered : (number : ℕ)
       → IsNumbered 2
       (inner_segments script step filling ++ last_segment (2 + length (templates_of script step))
       number ∷ [])
   inner_numbered number = filled_numbered filling 2 (templates_of script step) (last_segment (2 + length (templates_of script step)) number) refl
 
   -- the inner segments stand as they are, or in the envelope
-  stand_in : (sealed : Bool) (seal : List (List OwnedItem)) (inner : List OwnedSegment)
+  pub stand_in : (sealed : Bool) (seal : List (List OwnedItem)) (inner : List OwnedSegment)
       → IsText (segments_text inner) inner
       → (middle_segments sealed seal inner ≡ inner) ⊎ Seals inner (middle_segments sealed seal inner)
   stand_in false seal inner text = inl refl
@@ -143,23 +143,6 @@ module _ (script : ScriptValue) (step : StepValue) (filling : FillingValue) (sou
     is_envelope = record { kind = refl; place = refl; bytes = segments_text inner; item = refl; holds = text };
     together = refl;
   })
-
-  pub tail_of : (sealed : Bool) (seal : List (List OwnedItem)) (number : ℕ) → number < 10 ^ 9
-      → IsText (segments_text (inner_segments script step filling)) (inner_segments script step filling)
-      → IsTail number
-      (middle_segments sealed seal (inner_segments script step filling) ++ last_segment
-      (2 + length (templates_of script step)) number ∷ [])
-      body_segments end_segments
-  tail_of sealed seal number small text = record {
-    inner = inner_segments script step filling;
-    outer = middle_segments sealed seal (inner_segments script step filling);
-    last = last_segment (2 + length (templates_of script step)) number;
-    is_inner = inner_is;
-    stands = stand_in sealed seal (inner_segments script step filling) text;
-    is_last = last_is (2 + length (templates_of script step)) number small;
-    numbered = inner_numbered number;
-    together = refl;
-  }
 
 -- ---- the first segment
 

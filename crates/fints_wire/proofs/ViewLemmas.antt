@@ -1,5 +1,5 @@
 -- The message of a step is read as what the step says.
-use Rattle.std.proofs.Common.{◌≡◌, ℕ, zero, suc, ◌<◌, ◌≤◌, List, [], ◌∷◌, length, Some, refl, sym, subst, arith}
+use Rattle.std.proofs.Common.{◌≡◌, ℕ, zero, suc, ◌+◌, ◌<◌, ◌≤◌, List, [], ◌∷◌, length, Some, refl, sym, subst, arith}
 use Rattle.std.specs.List.{slice_get}
 use Rattle.fints_syntax.specs.Laws.{WrittenIsSpelled, WrittenHasValues, WrittenHasHead}
 use Rattle.fints_rules_messages.specs.Messages.{IsForm, IsMessage}
@@ -9,9 +9,9 @@ use Rattle.fints_script.specs.Sound.{IsSound, IsSoundStep}
 use Rattle.fints_script.specs.Steps.{StepValue}
 use Rattle.fints_script_cases.specs.declared.values.NamedValue.{NamedValue}
 use Rattle.fints_wire.specs.Filling.{FillingValue, filled_elements, filling_of}
-use Rattle.fints_wire.specs.Messages.{first_segment, inner_segments, later_segments, message_bytes, message_segments, message_size, seal_of}
+use Rattle.fints_wire.specs.Messages.{inner_segments, message_bytes, message_segments, message_size, seal_of, templates_of}
 use Rattle.fints_wire.specs.Views.{MessagesAreRead, message_view}
-use Rattle.fints_wire.proofs.MessageParts.{first_is, tail_of}
+use Rattle.fints_wire.proofs.MessageParts.{first_is, inner_is, inner_numbered, last_is, stand_in}
 use Rattle.fints_wire.proofs.ReadBack.{is_text}
 use Rattle.fints_wire.proofs.TextLemmas.{found_at}
 use Rattle.fints_wire.proofs.Weighing.{message_light}
@@ -38,13 +38,14 @@ module _ (spelled : WrittenIsSpelled) (has_values : WrittenHasValues) (has_head 
       let inner = is_text spelled has_values has_head (inner_segments script step filling) (inner_writable script step values number sound h admits small) in
       let light = message_light script step values number sound h admits small in
       let form : IsForm (message_segments script step number values) (message_view script step number values) = record {
-        first = first_segment (message_size script step filling number) filling.dialog number;
-        tail = later_segments script step filling number;
         is_first =
             first_is (message_size script step filling number) filling.dialog number
             (size_small script step values number sound h admits small) (omega arith);
         protocol = refl;
-        is_tail = tail_of script step filling h step.sealed (filled_elements filling (seal_of script)) number (omega arith) inner;
+        is_inner = inner_is script step filling h;
+        stands = stand_in script step filling h step.sealed (filled_elements filling (seal_of script)) (inner_segments script step filling) inner;
+        is_last = last_is script step filling h (2 + length (templates_of script step)) number (omega arith);
+        numbered = inner_numbered script step filling h number;
         together = refl;
       } in
       record {

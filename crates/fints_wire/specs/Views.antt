@@ -10,7 +10,7 @@ use Rattle.fints_script_cases.specs.declared.values.NamedValue.{NamedValue}
 use Rattle.fints_wire.specs.Filling.{FillingValue, filling_of, filled_segments}
 use Rattle.fints_wire.specs.declared.dialogue.Sent.{Sent}
 use Rattle.fints_wire.specs.declared.building.TheConstants.{MAX_NUMBER}
-use Rattle.fints_wire.specs.Messages.{end_template, message_bytes, message_size, signers_of}
+use Rattle.fints_wire.specs.Messages.{between_segments, end_template, first_segment, inner_segments, last_segment, message_bytes, message_size, signers_of, templates_of}
 use Rattle.fints_syntax_segments.specs.declared.limits.TheConstants.{MAX_BYTES}
 
 -- what the message of a step, of this number, holds under a choice: the step's templates with the choice put
@@ -22,10 +22,14 @@ message_view script step number values =
       size = message_size script step filling number;
       protocol = Some 300;
       number = number;
+      first = first_segment (message_size script step filling number) filling.dialog number;
+      middle = between_segments script step filling;
+      inner = inner_segments script step filling;
       body = filled_segments filling (2 + length step.signers) step.templates;
       ends =
           filled_segments filling (2 + length step.signers + length step.templates)
           (map end_template (signers_of script step));
+      last = last_segment (2 + length (templates_of script step)) number;
     }
 
 -- the bytes of a step's message are a message, and what is read in them is what the step says

@@ -1,6 +1,6 @@
-use Rattle.std.proofs.Common.{ℕ, ◌+◌, ◌∷◌, [], drop, sym, subst, arith, length-append}
+use Rattle.std.proofs.Common.{◌∷◌, [], drop, sym, subst, arith, length-append}
 use Rattle.fints_syntax.specs.Owned.{segment_of}
-use Rattle.fints_rules_messages.specs.Front.{IsFront, IsNextSegment}
+use Rattle.fints_rules_messages.specs.Front.{IsNextSegment}
 use Rattle.fints_rules_messages.proofs.Fronts.{front_opener, front_body, front_ender, front_within, after_opener, after_body, after_ender}
 use Rattle.fints_rules_messages.proofs.inner.read_inner.Goals as goal
 
@@ -18,11 +18,8 @@ loop-view-preserved-in-Continue-1 c =
     rw c.in_ok-push-in-Opener.ensures.items (record {
       within = front_within _ _ _ _ _ front;
       few = omega (arith, few, stand.0, long);
-      front = subst
-          (λ (k : ℕ).
-          IsFront c.args.bytes.now (c.loop-view.inner.0 + c.in-Some.len) k c.loop-view.inner.1.1.0.items
-          c.loop-view.inner.1.1.1.0.items)
-          (sym long) front;
+      front = front;
+      seal = c.loop-view.invariant.seal;
     })
 
 pub loop-view-preserved-in-Continue-branch-2 : goal.loop-view-preserved-in-Continue-branch-2
@@ -38,6 +35,7 @@ loop-view-preserved-in-Continue-branch-2 c =
       within = front_within _ _ _ _ _ front;
       few = omega (arith, few, stand.0, length-append c.loop-view.inner.1.1.1.0.items (c.in-Some.view ∷ []));
       front = front;
+      seal = c.loop-view.invariant.seal;
     })
 
 pub loop-view-preserved : goal.loop-view-preserved
@@ -55,4 +53,5 @@ loop-view-preserved c =
       within = front_within _ _ _ _ _ front;
       few = omega (arith, few, stand.0, length-append c.loop-view.inner.1.1.0.items (c.in-Some.view ∷ []));
       front = front;
+      seal = c.loop-view.invariant.seal;
     })

@@ -1,4 +1,4 @@
-use Rattle.std.proofs.Common.{◌+◌, ◌-◌, ◌^◌, ◌<◌, ◌≤◌, length}
+use Rattle.std.proofs.Common.{◌≡◌, ◌+◌, ◌-◌, ◌^◌, ◌<◌, ◌≤◌, length}
 use Rattle.fints_rules_messages.specs.Front.{IsFront}
 use Rattle.fints_rules_messages.proofs.inner.read_inner.Given as goal
 
@@ -11,7 +11,8 @@ invariant-loop-view l =
     record {
       within : l.inner.0 ≤ length l.bytes;
       few : length openers + (length body + length ends) < 2 ^ 16;
-      front : IsFront l.bytes l.inner.0 (length openers) body ends;
+      front : IsFront l.bytes l.inner.0 openers body ends;
+      seal : l.inner.1.1.1.1.0 ≡ l.fn.seal;
     }
 
 abbrev pub decreases-loop-view : goal.decreases-loop-view
