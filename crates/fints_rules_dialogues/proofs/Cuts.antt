@@ -72,17 +72,17 @@ cut_more file start len n messages m h at bytes sized le within breaks clean =
 
 -- ---- one cut
 
-no_break : IsBreak 72 → ⊥
+pub no_break : IsBreak 72 → ⊥
 no_break (inl e) = omega (arith, e)
 no_break (inr e) = omega (arith, e)
 
-begins : (m : List ℕ) → IsSized m → m ≡ 72 ∷ drop 1 m
+pub begins : (m : List ℕ) → IsSized m → m ≡ 72 ∷ drop 1 m
 begins m h = subst (λ xs. xs ≡ 72 ∷ drop 1 xs) (sym h.text) refl
 
-front_of : (x y : ℕ) (xs ys : List ℕ) → x ∷ xs ≡ y ∷ ys → x ≡ y
+pub front_of : (x y : ℕ) (xs ys : List ℕ) → x ∷ xs ≡ y ∷ ys → x ≡ y
 front_of x y xs ys e = cc
 
-back_of : (x y : ℕ) (xs ys : List ℕ) → x ∷ xs ≡ y ∷ ys → xs ≡ ys
+pub back_of : (x y : ℕ) (xs ys : List ℕ) → x ∷ xs ≡ y ∷ ys → xs ≡ ys
 back_of x y xs ys e = ap (drop 1) e
 
 -- line breaks hold no message
@@ -118,10 +118,10 @@ pub record IsSameStand (m n : Sent) (r s : List ℕ) : Type 0 where
   pub bytes : m.bytes.now ≡ n.bytes.now
   pub rest : r ≡ s
 
-with_front : (gap m r : List ℕ) → IsSized m → gap ++ (m ++ r) ≡ gap ++ 72 ∷ (drop 1 m ++ r)
+pub with_front : (gap m r : List ℕ) → IsSized m → gap ++ (m ++ r) ≡ gap ++ 72 ∷ (drop 1 m ++ r)
 with_front gap m r h = ap (λ xs. gap ++ (xs ++ r)) (begins m h)
 
-same_stand : (at to : ℕ) (xs ys : List ℕ) (m n : Sent) (r s : List ℕ) → at ≡ to → xs ≡ ys
+pub same_stand : (at to : ℕ) (xs ys : List ℕ) (m n : Sent) (r s : List ℕ) → at ≡ to → xs ≡ ys
     → Stands at xs m r → Stands to ys n s → IsSameStand m n r s
 same_stand at to xs ys m n r s a e h g =
     let texts : h.gap ++ (m.bytes.now ++ r) ≡ g.gap ++ (n.bytes.now ++ s) = sym h.text ∙ e ∙ g.text in
@@ -139,7 +139,7 @@ same_stand at to xs ys m n r s a e h g =
     }
 
 -- nothing stands in line breaks
-none_in_breaks : (at : ℕ) (xs more r : List ℕ) (m : Sent) → AllByRecursion IsBreak more → xs ≡ more
+pub none_in_breaks : (at : ℕ) (xs more r : List ℕ) (m : Sent) → AllByRecursion IsBreak more → xs ≡ more
     → Stands at xs m r → ⊥
 none_in_breaks at xs more r m h e s =
     no_message s.gap (drop 1 m.bytes.now ++ r)

@@ -1,7 +1,11 @@
 -- The laws of recorded dialogues. Each is the contract of a public function.
-use Rattle.std.specs.Prelude.{◌≡◌, ℕ, List, map}
+use Rattle.std.specs.Prelude.{◌≡◌, ℕ, List, Option, Some, None, map}
+use Rattle.fints_rules_messages.specs.Messages.{MessageView}
 use Rattle.fints_rules_dialogues.specs.declared.cutting.Sent.{Sent}
-use Rattle.fints_rules_dialogues.specs.Dialogues.{IsCutFile}
+use Rattle.fints_rules_dialogues.specs.declared.fault.DialogueFault.{DialogueFault}
+use Rattle.fints_rules_dialogues.specs.declared.reading.Answer.{Answer}
+use Rattle.fints_rules_dialogues.specs.declared.reading.Exchange.{Exchange}
+use Rattle.fints_rules_dialogues.specs.Dialogues.{IsCutFile, IsDialogue, IsDialogueFault}
 
 -- a file is cut in one way at most: at the same offsets, into the same messages
 abbrev pub OneCut : Type 0
@@ -9,3 +13,29 @@ OneCut =
     (file : List ℕ) (a b : List Sent) → IsCutFile file a → IsCutFile file b
     → (map (λ m. m.start) a ≡ map (λ m. m.start) b)
     × (map (λ m. m.bytes.now) a ≡ map (λ m. m.bytes.now) b)
+
+-- where an answer stands, its bytes and its codes
+abbrev pub answer_values : Option Answer → Option (ℕ × List ℕ × List ℕ)
+answer_values None = None
+answer_values (Some a) = Some (a.sent.start, a.sent.bytes.now, a.codes.items)
+
+-- where the message of an exchange stands, its bytes and what they are as a message, and the answer
+abbrev pub exchange_values : Exchange → ℕ × List ℕ × MessageView × Option (ℕ × List ℕ × List ℕ)
+exchange_values e = (e.sent.start, e.sent.bytes.now, e.message, answer_values e.answer)
+
+-- a file is one dialogue at most: it has the same exchanges, at the same places
+abbrev pub OneDialogue : Type 0
+OneDialogue =
+    (file : List ℕ) (a b : List Exchange) → IsDialogue file a → IsDialogue file b
+    → map exchange_values a ≡ map exchange_values b
+
+-- it has one first refusal at most
+abbrev pub OneDialogueFault : Type 0
+OneDialogueFault =
+    (file : List ℕ) (f g : DialogueFault) → IsDialogueFault file f → IsDialogueFault file g → f ≡ g
+
+-- it is never a dialogue and refused
+abbrev pub NoDialogueAtFault : Type 0
+NoDialogueAtFault =
+    (file : List ℕ) (exchanges : List Exchange) (f : DialogueFault) → IsDialogue file exchanges
+    → IsDialogueFault file f → ⊥
