@@ -34,26 +34,35 @@ fn lines_of(alloc: Global, report: &Report<'_>) -> Result<Vec<Line>, Memory>
     Ok(lines)
 }
 
-/// What gives a report its certificate.
+/// What gives a report its certificate; a contract sees the report.
 pub trait Certified {
+    ghost use Rattle.fints_check_findings.specs.Reports.{ReportValue};
+
+    /// The report.
+    ghost report: { Self → ReportValue };
+
     /// The certificate of a report without findings, with the greatest figures of its steps; `verify`
     /// of it is true, and its text can be read back.
-    fn certificate(&self, alloc: Global) -> Result<Option<Certificate>, Memory>;
+    fn certificate(&self, alloc: Global) -> Result<Option<Certificate>, Memory>
+        ensures clean { IfOk result (λ found. IsSome found ↔ ((report self.now).findings ≡ [])) }
+        ensures found { ((report self.now).findings ≡ [] → ⊥) → result ≡ Ok None }
+        ensures figures { IfOk result (λ found. IfSome found
+            (λ certificate. AreFigures (report self.now).plan.script (line_figures certificate))) }
+        ensures readable { IfOk result (λ found. IfSome found IsCertificate) }
+        ensures closed { IfOk result (λ found. IfSome found
+            (IsClosedCertificate (report self.now).granted (report self.now).plan.script)) }
+        ensures promise { IfOk result (λ found.
+            IfSome found (KeepsPromise (report self.now).plan.script)) }
+        ensures exactly { AreFindings (report self.now).granted (report self.now).plan.script
+            (report self.now).findings }
+        ensures permitted { (report self.now).findings ≡ []
+            → EachIsPermitted (report self.now).granted (report self.now).plan.script };
 }
 
 impl Certified for Report<'_> {
-    fn certificate(&self, alloc: Global) -> Result<Option<Certificate>, Memory>
-        ensures clean { IfOk result (λ found. IsSome found ↔ (self.now.findings ≡ [])) }
-        ensures found { (self.now.findings ≡ [] → ⊥) → result ≡ Ok None }
-        ensures figures { IfOk result (λ found.
-            IfSome found (λ certificate. AreFigures self.now.plan.script (line_figures certificate))) }
-        ensures readable { IfOk result (λ found. IfSome found IsCertificate) }
-        ensures closed { IfOk result (λ found.
-            IfSome found (IsClosedCertificate self.now.granted self.now.plan.script)) }
-        ensures promise { IfOk result (λ found. IfSome found (KeepsPromise self.now.plan.script)) }
-        ensures exactly { AreFindings self.now.granted self.now.plan.script self.now.findings }
-        ensures permitted { self.now.findings ≡ [] → EachIsPermitted self.now.granted self.now.plan.script }
-    {
+    ghost report = { λ r. r };
+
+    fn certificate(&self, alloc: Global) -> Result<Option<Certificate>, Memory> {
         if !self.findings().is_empty() {
             return Ok(None);
         }
