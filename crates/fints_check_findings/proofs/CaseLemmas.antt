@@ -225,8 +225,9 @@ module _ (report : ReportValue) (sound : IsSound report.plan.script)
         | inl is ↦
             subst (λ (x : Finding). Shows report.granted report.plan.script x values answers)
             (as_release f is (release_is_left report.granted report.plan.script f sound is real).0)
-            (unreleased_is_shown report.granted report.plan.script f.step values answers sound closed
-            (are.admitted is) (leads.unreleased is))
+            (let way = leads.unreleased is in
+            unreleased_is_shown report.granted report.plan.script way.before f.step values answers sound
+            closed (are.admitted is) way.first.unreleased way.leads.leads)
         | inr other ↦
             shown_by report.plan.script report.granted sound report.figures figures_are f values answers real
             (are.greatest other) (leads.longest other)

@@ -23,7 +23,7 @@ unreleased_is_real granted script v s sound closed =
     v s
 
 pub unreleased_is_shown : UnreleasedIsShown
-unreleased_is_shown granted script s values answers sound closed =
+unreleased_is_shown granted script t s values answers sound closed =
     unreleased_shown granted script sound
     (λ n step at i template there. closed_segments script granted.orders closed n i step template at there)
-    s values answers
+    t s values answers

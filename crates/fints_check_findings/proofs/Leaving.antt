@@ -5,7 +5,7 @@ use Rattle.std.specs.List.{list_any, slice_get}
 use Rattle.fints_script_cases.specs.Answers.{IsAnswer}
 use Rattle.fints_script_cases.specs.declared.values.NamedValue.{NamedValue}
 use Rattle.fints_rules_messages.specs.Messages.{MessageView, IsMessage}
-use Rattle.fints_check_reach.specs.Following.{StepsFollow}
+use Rattle.fints_check_reach.specs.Following.{LeadsBehind, StepsFollow}
 use Rattle.fints_rules.specs.Breaks.{Breaks, BytesBreak}
 use Rattle.fints_rules.specs.Facts.{facts_alone}
 use Rattle.fints_rules_permissions.specs.Permits.{Granted}
@@ -30,7 +30,7 @@ use Rattle.fints_check_findings.specs.Elements.{has_process}
 use Rattle.fints_check_findings.specs.Kinds.{is_end}
 use Rattle.fints_check_findings.specs.Findings.{BreaksBehind, IsReal, Shows}
 use Rattle.fints_check_findings.specs.Laws.{release_of}
-use Rattle.fints_check_findings.specs.Releases.{IsHeld, IsUnreleased, LeadsUnreleased, releases, submits}
+use Rattle.fints_check_findings.specs.Releases.{IsHeld, IsUnreleased, releases, submits}
 use Rattle.fints_check_findings.specs.declared.finding.Finding.{Finding}
 use Rattle.fints_rules.specs.declared.release.TheConstants.{RELEASE}
 use Rattle.fints_check_findings.proofs.Literals.{ends_are, processes_are}
@@ -235,12 +235,11 @@ module _ (granted : Granted) (script : ScriptValue) (sound : IsSound script) whe
               sends.1;
         }
 
-    pub unreleased_shown : (s : ℕ) (values : List NamedValue) (answers : List (List ℕ))
-        → Admits script.fields values → LeadsUnreleased script s answers
+    pub unreleased_shown : (t s : ℕ) (values : List NamedValue) (answers : List (List ℕ))
+        → Admits script.fields values → IsUnreleased script t s
+        → LeadsBehind script.steps t RELEASE s answers
         → Shows granted script (release_of s) values answers
-    unreleased_shown s values answers admits l =
-        let u = l.unreleased in
-        let way = l.leads in
+    unreleased_shown t s values answers admits u way =
         let are = way.are in
         let a : Arrives script.steps way.from =
         record {
@@ -258,7 +257,7 @@ module _ (granted : Granted) (script : ScriptValue) (sound : IsSound script) whe
         are.answer are.follows (record { at = u.from; of = at; is = refl })
         (record { at = u.to; of = there; is = refl }) in
         subst (Shows granted script (release_of s) values) (sym way.answers_are)
-        (follow_shows l.before s values (way.way ++ way.codes ∷ []) way.from way.to way.codes u admits a
+        (follow_shows t s values (way.way ++ way.codes ∷ []) way.from way.to way.codes u admits a
         are ends)
 
   -- ---- what breaks P11

@@ -3,14 +3,16 @@ use Rattle.std.specs.Prelude.{◌≡◌, ◌↔◌, ℕ, List}
 use Rattle.fints_script_cases.specs.declared.values.NamedValue.{NamedValue}
 use Rattle.fints_rules_permissions.specs.Permits.{Granted}
 use Rattle.fints_rules_permissions.specs.declared.orders.OrderRow.{OrderRow}
+use Rattle.fints_rules.specs.declared.release.TheConstants.{RELEASE}
 use Rattle.fints_rules.specs.declared.rule.Rule.TheVariants.{Release}
 use Rattle.fints_script.specs.Plans.{Admits, IsClosed}
 use Rattle.fints_script.specs.Scripts.{ScriptValue}
 use Rattle.fints_script.specs.Sound.{IsSound}
 use Rattle.fints_wire.specs.Runs.{Arrives}
 use Rattle.fints_wire.specs.declared.dialogue.Visit.{Visit}
+use Rattle.fints_check_reach.specs.Following.{LeadsBehind}
 use Rattle.fints_check_findings.specs.Findings.{IsReal, Shows}
-use Rattle.fints_check_findings.specs.Releases.{IsHeld, IsUnreleased, LeadsUnreleased}
+use Rattle.fints_check_findings.specs.Releases.{IsHeld, IsUnreleased}
 use Rattle.fints_check_findings.specs.declared.finding.Finding.{Finding}
 
 -- P11 at the whole message of a step
@@ -37,10 +39,11 @@ UnreleasedIsReal =
     → IsClosed script granted.orders → Arrives script.steps v → IsUnreleased script v.step s
     → IsReal granted script (release_of s)
 
--- answers that lead there show it, with any admitted values
+-- answers that lead there by one with 0030 show it, with any admitted values
 abbrev pub UnreleasedIsShown : Type 0
 UnreleasedIsShown =
-    (granted : Granted) (script : ScriptValue) (s : ℕ) (values : List NamedValue) (answers : List (List ℕ))
-    → IsSound script → IsClosed script granted.orders → Admits script.fields values
-    → LeadsUnreleased script s answers
+    (granted : Granted) (script : ScriptValue) (t s : ℕ) (values : List NamedValue)
+    (answers : List (List ℕ)) → IsSound script → IsClosed script granted.orders
+    → Admits script.fields values → IsUnreleased script t s
+    → LeadsBehind script.steps t RELEASE s answers
     → Shows granted script (release_of s) values answers

@@ -4,8 +4,8 @@
 use Rattle.std.specs.Prelude.{codes, ◌≡◌, ◌||◌, ℕ, ◌≤◌, Bool, true, false, List, length, Option, Some}
 use Rattle.std.specs.List.{list_any}
 use Rattle.fints_script_cases.specs.declared.values.NamedValue.{NamedValue}
-use Rattle.fints_check_reach.specs.Following.{CarriesTo, IsCarriedTo, LeadsBehind}
-use Rattle.fints_check_reach.specs.Numbers.{Has}
+use Rattle.fints_check_reach.specs.Following.{CarriesTo, IsCarriedTo, LeadsByFirstBranch}
+use Rattle.fints_check_reach.specs.Numbers.{AreGreatest, Has}
 use Rattle.fints_rules.specs.Facts.{facts_alone}
 use Rattle.fints_rules.specs.Rules.{LeavesOrder}
 use Rattle.fints_script.specs.Numbered.{numbered}
@@ -37,12 +37,6 @@ pub record IsUnreleased (script : ScriptValue) (t s : ℕ) : Type 0 where
   pub follows : CarriesTo from t RELEASE s
   pub leaves : StepLeavesOrder script from to
 
--- the answers lead to a message of step s behind one of a step whose order it leaves unreleased, and behind an answer with 0030
-pub record LeadsUnreleased (script : ScriptValue) (s : ℕ) (answers : List (List ℕ)) : Type 0 where
-  pub before : ℕ
-  pub unreleased : IsUnreleased script before s
-  pub leads : LeadsBehind script.steps before RELEASE s answers
-
 -- step t is the first that some run sends and of which step s leaves an order unreleased
 pub record IsFirstLeft (script : ScriptValue) (t s : ℕ) : Type 0 where
   pub unreleased : IsUnreleased script t s
@@ -51,11 +45,13 @@ pub record IsFirstLeft (script : ScriptValue) (t s : ℕ) : Type 0 where
   pub of : visit.step ≡ t
   pub first : (v : Visit) → Arrives script.steps v → IsUnreleased script v.step s → t ≤ v.step
 
--- the answers lead to a message of step s behind one of that first step, and behind an answer with 0030
+-- the answers lead to a message of step s behind one of that first step, by the first branch that carries 0030 there; the numbers are the greatest of all steps
 pub record LeadsFromFirst (script : ScriptValue) (s : ℕ) (answers : List (List ℕ)) : Type 0 where
   pub before : ℕ
   pub first : IsFirstLeft script before s
-  pub leads : LeadsBehind script.steps before RELEASE s answers
+  pub numbers : List (Option ℕ)
+  pub greatest : AreGreatest script.steps numbers
+  pub leads : LeadsByFirstBranch script.steps numbers before RELEASE s answers
 
 -- ---- of private contracts, proofs and the invariant of Report alone
 

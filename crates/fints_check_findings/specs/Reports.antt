@@ -10,7 +10,7 @@ use Rattle.fints_script.specs.Steps.{StepValue}
 use Rattle.fints_wire.specs.Runs.{RouteTo}
 use Rattle.fints_check_findings.specs.Cases.{AreChosenFor}
 use Rattle.fints_check_findings.specs.Findings.{Shows}
-use Rattle.fints_check_findings.specs.Releases.{LeadsFromFirst, LeadsUnreleased}
+use Rattle.fints_check_findings.specs.Releases.{LeadsFromFirst}
 use Rattle.fints_check_findings.specs.declared.finding.Finding.{Finding}
 use Rattle.fints_check_findings.specs.declared.finding.Reached.{Reached}
 
@@ -32,22 +32,16 @@ pub record LeadsToGreatest (steps : List StepValue) (figures : List (Option Reac
   pub times : ℕ
   pub route : RouteTo steps answers (record { step = n; number = reached.number; times = times })
 
--- the answers lead to the greatest number of the finding's step; for P11 to a message of it that leaves an order unreleased
+-- the answers lead to the greatest number of the finding's step; for P11 to a message of it behind one of the first step whose order it leaves unreleased
 pub record LeadsFor (script : ScriptValue) (figures : List (Option Reached)) (f : Finding)
     (answers : List (List ℕ)) : Type 0 where
   pub longest : (f.rule ≡ Release → ⊥) → LeadsToGreatest script.steps figures f.step answers
-  pub unreleased : f.rule ≡ Release → LeadsUnreleased script f.step answers
+  pub unreleased : f.rule ≡ Release → LeadsFromFirst script f.step answers
 
 abbrev pub IsWayOf : ReportValue → ℕ → List (List ℕ) → Type 0
 IsWayOf report i answers =
     (f : Finding) → slice_get report.findings i ≡ Some f
     → LeadsFor report.plan.script report.figures f answers
-
--- for a finding of P11 the step before is the first that it can be
-abbrev pub IsFirstWayOf : ReportValue → ℕ → List (List ℕ) → Type 0
-IsFirstWayOf report i answers =
-    (f : Finding) → slice_get report.findings i ≡ Some f → f.rule ≡ Release
-    → LeadsFromFirst report.plan.script f.step answers
 
 -- the values show the finding with any answers that lead so
 abbrev pub AreValuesOf : ReportValue → ℕ → List NamedValue → Type 0

@@ -6,7 +6,7 @@ ghost use Rattle.fints_script.specs.Steps.{StepValue};
 ghost use Rattle.fints_check_findings.specs.Figures.{AreFigures, FiguresAre};
 ghost use Rattle.fints_check_findings.specs.Findings.{AreFindings, EachIsPermitted, IsBefore, IsReal, SentStepsAreClean, SentStepsAreReleased};
 ghost use Rattle.fints_check_findings.specs.Releases.{IsFirstLeft, LeadsFromFirst};
-ghost use Rattle.fints_check_findings.specs.Reports.{AreChosenOf, AreValuesOf, IsFirstWayOf, IsWayOf, ShowsFindingAt};
+ghost use Rattle.fints_check_findings.specs.Reports.{AreChosenOf, AreValuesOf, IsWayOf, ShowsFindingAt};
 ghost use Rattle.fints_check_findings.specs.Searching.{AreFiguresAt, IsFindingOf, IsGreatestAt};
 ghost use Rattle.fints_check_findings.specs.StepFacts.{AreFactsAt};
 ghost use Rattle.fints_check_findings.specs.declared.finding.Finding.{Finding as FindingValue};
@@ -196,8 +196,7 @@ impl<'a> Report<'a> {
     /// Findings count from 0. It is the same for all findings of a step but that of P11.
     pub fn way(&self, alloc: Global, i: usize) -> Result<Vec<Answer>, Memory>
         requires { i < length self.now.findings }
-        ensures way { IfOk result (λ answers. IsWayOf self.now i answers.items) }
-        ensures first { IfOk result (λ answers. IsFirstWayOf self.now i answers.items) }
+        ensures { IfOk result (λ answers. IsWayOf self.now i answers.items) }
     {
         let finding = self.finding(i);
         match finding.rule {
@@ -237,7 +236,6 @@ impl<'a> Report<'a> {
         requires { i < length self.now.findings }
         ensures shows { IfOk result (λ case. ShowsFindingAt self.now i case.values case.answers.items) }
         ensures way { IfOk result (λ case. IsWayOf self.now i case.answers.items) }
-        ensures first { IfOk result (λ case. IsFirstWayOf self.now i case.answers.items) }
         ensures chosen { IfOk result (λ case. AreChosenOf self.now i case.values) }
     {
         let answers = self.way(alloc, i)?;

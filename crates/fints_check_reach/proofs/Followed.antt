@@ -1,5 +1,5 @@
 -- Which step follows which, and by which branch.
-use Rattle.std.proofs.Common.{ℕ, ◌+◌, ◌≤◌, ◌≡◌, Some, List, refl, ap, sym, subst, ◌∙◌, arith}
+use Rattle.std.proofs.Common.{ℕ, ◌+◌, ◌≤◌, ◌≡◌, Option, Some, List, refl, ap, sym, subst, ◌∙◌, arith}
 use Rattle.std.proofs.lemmas.Option.{same_Some}
 use Rattle.fints_script_cases.specs.Answers.{target_of}
 use Rattle.fints_script_cases.specs.Carrying.{IsCarrying}
@@ -7,12 +7,12 @@ use Rattle.fints_script_cases.specs.declared.answers.Target.{Target}
 use Rattle.fints_script_cases.specs.declared.answers.Target.TheVariants.{Step, Again, Stop}
 use Rattle.fints_script.specs.Numbered.{numbered}
 use Rattle.fints_script.specs.Steps.{StepValue}
-use Rattle.fints_wire.specs.Runs.{start, answered, Arrives, Enters, Reach}
+use Rattle.fints_wire.specs.Runs.{start, answered, Arrives, Enters, Reach, RouteTo}
 use Rattle.fints_wire.specs.Runs.Reach.{first, onward}
 use Rattle.fints_wire.specs.declared.dialogue.Visit.{Visit}
 use Rattle.fints_script_cases.proofs.LawLemmas.{carrying_leads, one_branch_fires}
 use Rattle.fints_wire.proofs.RunLawLemmas.{runs_by_steps}
-use Rattle.fints_check_reach.specs.Following.{CarriesTo, GoesTo, IsFollowed, StepsFollow}
+use Rattle.fints_check_reach.specs.Following.{CarriesTo, GoesTo, IsFollowed, LeadsToward, StepsFollow}
 
 -- behind a message of step t, the first in a row where the target is the same step, the target has one of step s sent next
 goes_on : (step : StepValue) (t s : ℕ) (target : Target) (v : Visit) → v.step ≡ t
@@ -45,6 +45,20 @@ begins_on steps v w repeat Stop r b e = absurd e
 begins : (steps : List StepValue) (v : Visit) → Reach steps v → Begins steps v
 begins steps _ first = (start, first, refl, refl)
 begins steps w (onward {v} codes a r f) = begins_on steps v w f.step.repeat (answered f.step codes) (onward codes a r f) (begins steps v r) f.enters
+
+-- the message that answers lead to, to which another leads to this target
+pub toward_visit : (steps : List StepValue) (numbers : List (Option ℕ)) (t : ℕ) (target : Target)
+    (answers : List (List ℕ)) → LeadsToward steps numbers t target answers
+    → (v : Visit) × RouteTo steps answers v × (v.step ≡ t) × (target ≡ Again → v.times ≡ 1)
+toward_visit steps numbers t Again answers l =
+    let e = l.again refl in
+    (record { step = t; number = e.from; times = 1 }, e.route, refl, λ _. refl)
+toward_visit steps numbers t (Step to) answers l =
+    let e = l.other (λ (clash : Step to ≡ Again). cc) in
+    (record { step = t; number = e.number; times = e.times }, e.route, refl, λ (clash : Step to ≡ Again). cc)
+toward_visit steps numbers t Stop answers l =
+    let e = l.other (λ (clash : Stop ≡ Again). cc) in
+    (record { step = t; number = e.number; times = e.times }, e.route, refl, λ (clash : Stop ≡ Again). cc)
 
 -- an answer that fires a branch to step s behind a message of step t has one sent
 pub branch_follows : (steps : List StepValue) (t code s branch : ℕ) (step : StepValue) (v : Visit)

@@ -12,8 +12,8 @@ use Rattle.fints_wire.specs.declared.dialogue.Visit.{Visit}
 use Rattle.fints_check_reach.specs.Leading.{Leads}
 use Rattle.fints_check_reach.specs.Numbers.{Has}
 use Rattle.fints_check_reach.specs.Sources.{AreSources, EndsRow}
-use Rattle.fints_check_reach.specs.Walking.{EntersTo, HasWay, IsCodeTo, IsWayBack}
-use Rattle.fints_check_reach.specs.Ways.{LeadsTo}
+use Rattle.fints_check_reach.specs.Walking.{HasWay, IsCodeTo, IsWayBack}
+use Rattle.fints_check_reach.specs.Ways.{EntersTo, LeadsTo}
 use Rattle.fints_wire.proofs.RunLawLemmas.{routes_grow_more}
 use Rattle.fints_check_reach.proofs.SourceLemmas.{one_number}
 

@@ -2,7 +2,7 @@
 use Rattle.std.specs.Prelude.{ℕ, ◌≡◌, ◌≤◌, Bool, true, Option, Some, List, [], ◌∷◌, ◌++◌, length}
 use Rattle.std.specs.List.{Contains}
 use Rattle.fints_script_cases.specs.Answers.{IsAnswer, target_of}
-use Rattle.fints_script_cases.specs.Carrying.{Carries}
+use Rattle.fints_script_cases.specs.Carrying.{Carries, IsChosenCarrying}
 use Rattle.fints_script_cases.specs.declared.answers.Target.{Target}
 use Rattle.fints_script_cases.specs.declared.answers.Target.TheVariants as targets
 use Rattle.fints_script.specs.Numbered.{numbered}
@@ -10,6 +10,7 @@ use Rattle.fints_script.specs.Steps.{StepValue}
 use Rattle.fints_wire.specs.Runs.{Arrives, Follows, RouteTo}
 use Rattle.fints_wire.specs.declared.dialogue.Visit.{Visit}
 use Rattle.fints_check_reach.specs.Numbers.{Has}
+use Rattle.fints_check_reach.specs.Ways.{EntersTo, LeadsTo}
 
 -- behind a message of step t this target has one of step s sent next: it is step s, or the same step, of which more than one message may be sent in a row
 abbrev pub GoesTo : StepValue → ℕ → Target → ℕ → Type 0
@@ -52,6 +53,24 @@ pub record LeadsBehind (steps : List StepValue) (t code s : ℕ) (answers : List
   pub route : RouteTo steps way from
   pub are : StepsFollow steps t code s from codes to
   pub answers_are : answers ≡ way ++ codes ∷ []
+
+-- the answers lead to a message of step t, to which one more answer leads to this target: to one that has the step's greatest number; where the target is the same step, to the first of a row that ends with that number
+pub record LeadsToward (steps : List StepValue) (numbers : List (Option ℕ)) (t : ℕ) (target : Target)
+    (answers : List (List ℕ)) : Type 0 where
+  pub again : target ≡ targets.Again → EntersTo steps numbers t answers
+  pub other : (target ≡ targets.Again → ⊥) → LeadsTo steps numbers t answers
+
+-- they lead to step s by the first branch of step t that carries the code there, and the last of them is the one that is chosen for that branch
+pub record LeadsByFirstBranch (steps : List StepValue) (numbers : List (Option ℕ)) (t code s : ℕ)
+    (answers : List (List ℕ)) : Type 0 where
+  pub leads : LeadsBehind steps t code s answers
+  pub step : StepValue
+  pub at : numbered steps t ≡ Some step
+  pub branch : ℕ
+  pub carried : IsCarriedTo step t branch code s
+  pub first : (other : ℕ) → IsCarriedTo step t other code s → branch ≤ other
+  pub toward : LeadsToward steps numbers t (target_of step.branches step.otherwise branch) leads.way
+  pub chosen : IsChosenCarrying step.branches branch code leads.codes
 
 -- ---- found in the pass
 

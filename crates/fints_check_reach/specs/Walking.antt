@@ -1,30 +1,16 @@
 -- What is found on the way to a step, back and forth. Private contracts alone cite these words.
-use Rattle.std.specs.Prelude.{ℕ, ◌≡◌, ◌<◌, ◌≤◌, ◌+◌, Option, Some, List, [], ◌∷◌, length}
+use Rattle.std.specs.Prelude.{ℕ, ◌≡◌, ◌<◌, ◌≤◌, ◌+◌, Option, List, [], ◌∷◌, length}
 use Rattle.fints_script_cases.specs.declared.answers.Target.{Target}
-use Rattle.fints_script_cases.specs.declared.answers.Target.TheVariants.{Again}
-use Rattle.fints_script.specs.Numbered.{numbered}
 use Rattle.fints_script.specs.Steps.{StepValue}
 use Rattle.fints_wire.specs.Runs.{RouteTo, answered}
-use Rattle.fints_wire.specs.declared.dialogue.Visit.{Visit}
 use Rattle.fints_check_reach.specs.Numbers.{Has}
-use Rattle.fints_check_reach.specs.Sources.{AreSources, EndsRow}
-use Rattle.fints_check_reach.specs.Ways.{LeadsTo}
+use Rattle.fints_check_reach.specs.Sources.{AreSources}
+use Rattle.fints_check_reach.specs.Ways.{EntersTo, LeadsTo}
 
 -- the code alone leads from the step to this target
 pub record IsCodeTo (step : StepValue) (to : Target) (code : ℕ) : Type 0 where
   pub small : code < 10000
   pub leads_there : answered step (code ∷ []) ≡ to
-
--- the answers lead to the first message of a row of step n that ends with the step's number
-pub record EntersTo (steps : List StepValue) (numbers : List (Option ℕ)) (n : ℕ) (answers : List (List ℕ))
-    : Type 0 where
-  pub step : StepValue
-  pub at : numbered steps n ≡ Some step
-  pub from : ℕ
-  pub number : ℕ
-  pub row : EndsRow step from number
-  pub has : Has numbers n number
-  pub route : RouteTo steps answers (record { step = n; number = from; times = 1 })
 
 -- where the old answers lead to the first message of such a row, the new ones lead to its last
 abbrev pub EndsTheRow : List StepValue → ℕ → List (List ℕ) → List (List ℕ) → Type 0
@@ -50,11 +36,3 @@ pub record HasWay (sources : List (Option ℕ)) (n : ℕ) : Type 0 where
 abbrev pub IsWayBack : List (Option ℕ) → ℕ → List ℕ → ℕ → Type 0
 IsWayBack sources n [] c = n ≡ c
 IsWayBack sources n (x ∷ xs) c = (n ≡ x) × ((s : ℕ) × Has sources n s × IsWayBack sources s xs c)
-
--- the answers lead to a message of step t; it is the first in a row where this target, to which another answer leads from there, is the same step
-pub record LeadsToward (steps : List StepValue) (t : ℕ) (target : Target) (answers : List (List ℕ))
-    : Type 0 where
-  pub from : Visit
-  pub route : RouteTo steps answers from
-  pub of : from.step ≡ t
-  pub once : target ≡ Again → from.times ≡ 1

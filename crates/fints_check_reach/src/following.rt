@@ -4,10 +4,9 @@ ghost use Rattle.fints_script_cases.specs.declared.answers.Target.{Target};
 ghost use Rattle.fints_script_cases.specs.Answers.{IsOpen};
 ghost use Rattle.fints_script.specs.Numbered.{numbered};
 ghost use Rattle.fints_script.specs.Steps.{StepValue};
-ghost use Rattle.fints_check_reach.specs.Following.{CarriesTo, GoesTo, IsCarriedTo, LeadsBehind};
+ghost use Rattle.fints_check_reach.specs.Following.{CarriesTo, GoesTo, IsCarriedTo, LeadsByFirstBranch, LeadsToward};
 ghost use Rattle.fints_check_reach.specs.Numbers.{Has};
 ghost use Rattle.fints_check_reach.specs.Sources.{AreSources};
-ghost use Rattle.fints_check_reach.specs.Walking.{LeadsToward};
 
 use crate::plan_step::{StepBranch, WayTo};
 use crate::way::{longest_way, way_into};
@@ -66,14 +65,15 @@ pub fn branch_to(step: &Step, t: usize, code: Code, s: usize) -> Option<usize>
     None
 }
 
-// Answers that lead to step t: to its greatest number, or to its first message where it is to follow
-// itself.
+// Answers that lead to step t: to its greatest number, or to the first message of the row that ends
+// with it where the step is to follow itself.
 fn way_toward(alloc: Global, way: WayTo<'_, '_>, target: Target) -> Result<Vec<Answer>, Memory>
     requires sources { AreSources way.plan.now.script.steps way.numbers.now.greatest.items
         way.numbers.now.sources.items }
     requires reached { (number : ℕ) × Has way.numbers.now.greatest.items way.n number }
     ensures { IfOk result (λ answers.
-        LeadsToward way.entry.plan.now.script.steps way.entry.n target answers.items) }
+        LeadsToward way.entry.plan.now.script.steps way.entry.numbers.now.greatest.items way.entry.n
+        target answers.items) }
 {
     match target {
         Target::Again => way_into(alloc, way),
@@ -83,8 +83,9 @@ fn way_toward(alloc: Global, way: WayTo<'_, '_>, target: Target) -> Result<Vec<A
 
 /// Answers after which a run ends with a message of step s behind one of step t, the last of them with
 /// the code; steps count from 1. They take the first branch that carries the code there, and lead to
-/// step t as the longest way does, where it isn't to follow itself. The last answer is the code alone
-/// where that fires the branch, else the branch's opener and the code.
+/// step t as the longest way does; where it is to follow itself, to the first message of the row that
+/// ends with its greatest number. The last answer is the code alone where that fires the branch, else
+/// the branch's opener and the code.
 pub fn way_behind(
     alloc: Global,
     way: WayTo<'_, '_>,
@@ -97,7 +98,8 @@ pub fn way_behind(
     requires carries { (step : StepValue) → numbered way.plan.now.script.steps way.n ≡ Some step
         → CarriesTo step way.n code s }
     ensures { IfOk result (λ answers.
-        LeadsBehind way.entry.plan.now.script.steps way.entry.n code s answers.items) }
+        LeadsByFirstBranch way.entry.plan.now.script.steps way.entry.numbers.now.greatest.items
+        way.entry.n code s answers.items) }
 {
     let step = way.plan.step(way.n as usize);
     let branch = branch_to(step, way.n as usize, code, s).unwrap();

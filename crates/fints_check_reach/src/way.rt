@@ -6,8 +6,8 @@ ghost use Rattle.fints_script.specs.Steps.{StepValue};
 ghost use Rattle.fints_check_reach.specs.Leading.{Leads};
 ghost use Rattle.fints_check_reach.specs.Numbers.{Has};
 ghost use Rattle.fints_check_reach.specs.Sources.{AreSources};
-ghost use Rattle.fints_check_reach.specs.Walking.{EndsTheRow, EntersTo, HasWay, IsCodeTo, IsWayBack, LeadsOn};
-ghost use Rattle.fints_check_reach.specs.Ways.{LeadsTo};
+ghost use Rattle.fints_check_reach.specs.Walking.{EndsTheRow, HasWay, IsCodeTo, IsWayBack, LeadsOn};
+ghost use Rattle.fints_check_reach.specs.Ways.{EntersTo, LeadsTo};
 
 use crate::plan_step::{PlanStep, WayTo};
 use fints_params::Code;

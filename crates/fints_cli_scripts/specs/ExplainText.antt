@@ -31,8 +31,9 @@ abbrev pub cases_text : List StepValue → ℕ → List Finding → List CaseVal
 cases_text steps i (f ∷ fs) (c ∷ cs) = shown_case steps i f c ++ cases_text steps (i + 1) fs cs
 cases_text steps i _ _ = []
 
--- which case of a finding it is: its answers lead to the greatest number of the finding's step, or for P11 to
--- a message that leaves an order unreleased; and its values are those that are chosen for the finding
+-- which case of a finding it is: its answers lead to the greatest number of the finding's step, or for P11
+-- behind a message of the first step whose order it leaves unreleased, by the first branch that carries 0030;
+-- and its values are those that are chosen for the finding
 pub record IsChosenCase (granted : Granted) (script : ScriptValue) (figures : List (Option Reached))
     (f : Finding) (c : CaseValue) : Type 0 where
   pub way : LeadsFor script figures f c.answers

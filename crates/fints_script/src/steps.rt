@@ -1,7 +1,7 @@
 //! Steps and their size.
 ghost use Rattle.std.specs.Prelude.{◌≡◌, ◌≤◌, ◌+◌, ◌↔◌, length, option_map, IfOk, IfSome, IsSome, IsTrue};
 ghost use Rattle.fints_script_cases.specs.Answers.{leads, target_of, IsOpen, IsLeastOpener};
-ghost use Rattle.fints_script_cases.specs.Carrying.{Carries, IsCarrying};
+ghost use Rattle.fints_script_cases.specs.Carrying.{Carries, IsChosenCarrying};
 ghost use Rattle.fints_script_templates.specs.Weights.{Spends, total, segment_weight};
 ghost use Rattle.fints_script.specs.Steps.{seal_weight, signature_weight, sized_step, step_weight, has_large_segment, is_too_large};
 ghost use Rattle.fints_script.specs.Around.{seen_parts, surroundings_of};
@@ -150,7 +150,7 @@ impl Step {
         requires from { 1 ≤ branch }
         requires to { branch ≤ length self.now.branches + 1 }
         requires carries { Carries self.now.branches branch code }
-        ensures { IfOk result (λ answer. IsCarrying self.now.branches branch code answer) }
+        ensures { IfOk result (λ answer. IsChosenCarrying self.now.branches branch code answer) }
     {
         let branches = self.branches.as_slice();
         carrying(alloc, BranchAt { branches, branch }, code)

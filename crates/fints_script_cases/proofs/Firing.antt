@@ -94,7 +94,7 @@ one_branch branches otherwise codes =
     }
 
 -- the tests of one code by itself
-alone_is : (p : ℕ → Bool) (code : ℕ) (b : Bool) → p code ≡ b → list_any p (code ∷ []) ≡ b
+pub alone_is : (p : ℕ → Bool) (code : ℕ) (b : Bool) → p code ≡ b → list_any p (code ∷ []) ≡ b
 alone_is p code true h = rw h refl
 alone_is p code false h = rw h refl
 

@@ -1,7 +1,7 @@
 -- Which branches an answer can fire that has a code beside others. Branches count from 1, and the default counts as the last.
 use Rattle.std.specs.Prelude.{ℕ, ◌-◌, ◌+◌, ◌≡◌, ◌≤◌, ◌↔◌, IsFalse, List, [], ◌∷◌, length, take}
 use Rattle.std.specs.List.{All, Contains}
-use Rattle.fints_script_cases.specs.Answers.{Fires, IsAnswer, IsOpen, IsOpener, leads, target_of}
+use Rattle.fints_script_cases.specs.Answers.{Fires, IsAnswer, IsLeastOpener, IsOpen, IsOpener, leads, target_of}
 use Rattle.fints_script_cases.specs.Patterns.{matches}
 use Rattle.fints_script_cases.specs.declared.answers.Branch.{Branch}
 use Rattle.fints_script_cases.specs.declared.answers.Target.{Target}
@@ -11,6 +11,13 @@ pub record IsCarrying (branches : List Branch) (b code : ℕ) (codes : List ℕ)
   pub answer : IsAnswer codes
   pub has : Contains codes code
   pub fires : Fires branches codes b
+
+-- the one of these answers that is chosen: the code by itself where that fires the branch, else the branch's opener and the code
+pub record IsChosenCarrying (branches : List Branch) (b code : ℕ) (codes : List ℕ) : Type 0 where
+  pub carries : IsCarrying branches b code codes
+  pub by_itself : Fires branches (code ∷ []) b → codes ≡ code ∷ []
+  pub beside : (Fires branches (code ∷ []) b → ⊥)
+      → (opener : ℕ) × IsLeastOpener branches b opener × (codes ≡ opener ∷ code ∷ [])
 
 -- some answer that has the code fires the branch
 abbrev pub Carries : List Branch → ℕ → ℕ → Type 0

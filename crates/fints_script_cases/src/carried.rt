@@ -2,7 +2,7 @@
 ghost use Rattle.std.specs.Prelude.{◌≡◌, ◌↔◌, ◌-◌, ◌<◌, slice_get, IsTrue, IfOk};
 ghost use Rattle.std.specs.Option.{ForSome};
 ghost use Rattle.fints_script_cases.specs.Answers.{IsOpen};
-ghost use Rattle.fints_script_cases.specs.Carrying.{Carries, IsCarrying, IsPassed};
+ghost use Rattle.fints_script_cases.specs.Carrying.{Carries, IsChosenCarrying, IsPassed};
 ghost use Rattle.fints_script_cases.specs.Patterns.{matches};
 
 use crate::answers::opener;
@@ -60,7 +60,8 @@ pub fn carries(at: BranchAt<'_>, code: Code) -> bool
 /// branch's opener and the code.
 pub fn carrying(alloc: Global, at: BranchAt<'_>, code: Code) -> Result<Answer, Memory>
     requires { Carries at.branches.now at.branch code }
-    ensures { IfOk result (λ answer. IsCarrying at.entry.branches.now at.entry.branch code answer) }
+    ensures { IfOk result (λ answer.
+        IsChosenCarrying at.entry.branches.now at.entry.branch code answer) }
 {
     if matches_own(at, code) {
         return Answer::single(alloc, code);

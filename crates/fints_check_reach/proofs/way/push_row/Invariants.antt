@@ -1,6 +1,6 @@
 use Rattle.std.proofs.Common.{ℕ, ◌+◌, Option, List}
 use Rattle.fints_wire.specs.Runs.{RouteTo}
-use Rattle.fints_check_reach.specs.Walking.{EntersTo}
+use Rattle.fints_check_reach.specs.Ways.{EntersTo}
 use Rattle.fints_check_reach.proofs.way.push_row.Given as goal
 
 -- the answers lead on in the row

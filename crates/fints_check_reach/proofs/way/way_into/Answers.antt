@@ -4,7 +4,8 @@ use Rattle.fints_script_cases.specs.declared.answers.Target.TheVariants.{Step}
 use Rattle.fints_script.specs.Numbered.{numbered_within}
 use Rattle.fints_script.specs.Steps.{StepValue}
 use Rattle.fints_check_reach.specs.Leading.{Leads}
-use Rattle.fints_check_reach.specs.Walking.{EntersTo, IsWayBack}
+use Rattle.fints_check_reach.specs.Walking.{IsWayBack}
+use Rattle.fints_check_reach.specs.Ways.{EntersTo}
 use Rattle.fints_check_reach.proofs.WayLemmas.{back_has, back_next, enters_first, enters_on}
 use Rattle.fints_wire.proofs.RunLawLemmas.{routes_grow_first}
 use Rattle.fints_check_reach.proofs.way.way_into.Goals as goal

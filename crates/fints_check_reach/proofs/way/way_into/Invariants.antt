@@ -1,5 +1,6 @@
 use Rattle.std.proofs.Common.{length}
-use Rattle.fints_check_reach.specs.Walking.{EntersTo, IsWayBack}
+use Rattle.fints_check_reach.specs.Walking.{IsWayBack}
+use Rattle.fints_check_reach.specs.Ways.{EntersTo}
 use Rattle.fints_check_reach.proofs.way.way_into.Given as goal
 
 -- the answers lead to the first message of this step, and the rest of the way is still to go

@@ -24,7 +24,7 @@ write_case-requires-clause-way c =
     let at : numbered report.findings c.args.number ≡ Some f =
     subst (λ (fs : List Finding). numbered fs c.args.number ≡ Some f) c.findings.ensures.findings
     (sym c.in-Some.ensures) in
-    c.in_ok-way.ensures.way f (numbered_from report.findings c.args.number f at)
+    c.in_ok-way.ensures f (numbered_from report.findings c.args.number f at)
 
 pub returns-clause-told : goal.returns-clause-told
 returns-clause-told c =

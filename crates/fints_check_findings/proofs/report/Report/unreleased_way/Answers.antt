@@ -1,6 +1,6 @@
 use Rattle.std.proofs.Common.{ℕ, ◌≡◌, List, Option, Some, IfOk, sym, subst, ◌∙◌}
 use Rattle.std.proofs.lemmas.Option.{same_Some}
-use Rattle.fints_check_reach.specs.Following.{CarriesTo, LeadsBehind}
+use Rattle.fints_check_reach.specs.Following.{CarriesTo, LeadsByFirstBranch}
 use Rattle.fints_check_reach.specs.Numbers.{Has}
 use Rattle.fints_script.specs.Numbered.{numbered_within}
 use Rattle.fints_script.specs.Steps.{StepValue}
@@ -65,15 +65,19 @@ returns c =
     c.self.invariant.4 c.self.invariant.6 c.as_slice.ensures.value c.holder_of-t.ensures in
     subst (λ (r : ReportValue). IfOk c.way_behind.result (λ answers. LeadsFromFirst r.plan.script f.step answers.items)) c.self.view_is
     (if_ok
-    (λ answers. LeadsBehind script.steps c.holder_of-t.result c.release_code.result f.step answers.items)
+    (λ answers. LeadsByFirstBranch script.steps inside.numbers.greatest.items c.holder_of-t.result
+    c.release_code.result f.step answers.items)
     (λ answers. LeadsFromFirst script f.step answers.items) c.way_behind.result
     (λ answers way.
     record {
       before = c.holder_of-t.result;
       first = first;
+      numbers = inside.numbers.greatest.items;
+      greatest = c.self.invariant.4;
       leads =
           subst
-          (λ (code : ℕ). LeadsBehind script.steps c.holder_of-t.result code f.step answers.items)
+          (λ (code : ℕ). LeadsByFirstBranch script.steps inside.numbers.greatest.items
+          c.holder_of-t.result code f.step answers.items)
           c.release_code.ensures way;
     })
     c.way_behind.ensures)

@@ -3,10 +3,9 @@ use Rattle.std.proofs.lemmas.Option.{same_Some}
 use Rattle.fints_check_reach.specs.Ways.{LeadsTo}
 use Rattle.fints_check_findings.specs.Findings.{IsReal}
 use Rattle.fints_check_findings.specs.Releases.{LeadsFromFirst}
-use Rattle.fints_check_findings.specs.Reports.{IsFirstWayOf, IsWayOf, LeadsFor, ReportValue}
+use Rattle.fints_check_findings.specs.Reports.{IsWayOf, LeadsFor, ReportValue}
 use Rattle.fints_check_findings.specs.Searching.{IsFindingOf}
 use Rattle.fints_check_findings.specs.declared.finding.Finding.{Finding}
-use Rattle.fints_rules.specs.declared.rule.Rule.TheVariants.{Release}
 use Rattle.fints_check_findings.proofs.CaseLemmas.{by_figures, if_ok, real_has}
 use Rattle.fints_script.proofs.LawLemmas.{sound_of}
 use Rattle.fints_check_findings.proofs.report.Report.way.Goals as goal
@@ -29,8 +28,8 @@ longest_way-requires-clause-reached c =
     (subst (λ (r : ReportValue). IsReal r.granted r.plan.script f) (sym c.self.view_is)
     c.finding-finding.ensures.real)
 
-pub returns-in-Release-clause-way : goal.returns-in-Release-clause-way
-returns-in-Release-clause-way c =
+pub returns-in-Release : goal.returns-in-Release
+returns-in-Release c =
     let report = c.args.self.now in
     if_ok (λ answers. LeadsFromFirst report.plan.script c.finding-finding.result.step answers.items)
     (λ answers. IsWayOf report c.args.i answers.items) c.unreleased_way.result
@@ -39,34 +38,12 @@ returns-in-Release-clause-way c =
     (same_Some c.finding-finding.result f (sym c.finding-finding.ensures.at ∙ at))
     (record {
       longest = λ other. absurd (other c.in-Release.is);
-      unreleased = λ is. record { before = way.before; unreleased = way.first.unreleased; leads = way.leads };
+      unreleased = λ is. way;
     }))
     c.unreleased_way.ensures
 
-pub returns-in-Release-clause-first : goal.returns-in-Release-clause-first
-returns-in-Release-clause-first c =
-    let report = c.args.self.now in
-    if_ok (λ answers. LeadsFromFirst report.plan.script c.finding-finding.result.step answers.items)
-    (λ answers. IsFirstWayOf report c.args.i answers.items) c.unreleased_way.result
-    (λ answers way f at is.
-    subst (λ (x : Finding). LeadsFromFirst report.plan.script x.step answers.items)
-    (same_Some c.finding-finding.result f (sym c.finding-finding.ensures.at ∙ at)) way)
-    c.unreleased_way.ensures
-
-pub returns-in_default-clause-first : goal.returns-in_default-clause-first
-returns-in_default-clause-first c =
-    let numbers = c.self.inside.numbers.greatest.items in
-    let report = c.args.self.now in
-    let found = c.finding-finding.result in
-    if_ok (λ answers. LeadsTo c.self.inside.plan.now.script.steps numbers found.step answers.items)
-    (λ answers. IsFirstWayOf report c.args.i answers.items) c.longest_way.result
-    (λ answers way f at is.
-    absurd (c.in_default.not-Release
-    (subst (λ (x : Finding). x.rule ≡ Release) (sym (same_Some found f (sym c.finding-finding.ensures.at ∙ at))) is)))
-    c.longest_way.ensures
-
-pub returns-in_default-clause-way : goal.returns-in_default-clause-way
-returns-in_default-clause-way c =
+pub returns-in_default : goal.returns-in_default
+returns-in_default c =
     let inside = c.self.inside in
     let script = inside.plan.now.script in
     let numbers = inside.numbers.greatest.items in
