@@ -59,8 +59,12 @@ fn is_first_case(
         return Ok(false);
     }
     let case = report.case(alloc, 0)?;
-    let text = case.write(alloc)?;
-    Ok(text.as_slice() == wanted)
+    let parts = Case {
+        values: report.values(alloc, 0)?,
+        answers: report.way(alloc, 0)?,
+    };
+    let (text, again) = (case.write(alloc)?, parts.write(alloc)?);
+    Ok((text.as_slice(), again.as_slice()) == (wanted, wanted))
 }
 
 fn is_closed(

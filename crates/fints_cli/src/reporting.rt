@@ -1,4 +1,4 @@
-//! The report on a script, as a text alone.
+//! The report on a script, as a text.
 ghost use Rattle.std.specs.Prelude.{ℕ, IfOk, IfErr};
 ghost use Rattle.fints_cli_scripts.specs.Plans.{IsPlanRefusal};
 ghost use Rattle.fints_cli_scripts.specs.Told.{IsRefused, IsToldOf, IsToldOn};

@@ -64,7 +64,7 @@ fn emit_refusal<E: Out>(refusal: &Refusal, err: &mut E) -> Result<(), WriteFault
     }
 }
 
-// Says on the errors why there is no answer; no hint stands behind want of memory.
+// Says on the errors why there is no answer; where memory ran out there is no hint.
 fn tell_refusal<E: Out>(refusal: &Refusal, err: &mut E) -> u8
     ensures status { result ≡ failure_status refusal.now.failure }
     ensures memory { result ≡ 4
@@ -123,7 +123,7 @@ fn say<E: Out>(text: &[u8], err: &mut E)
     }
 }
 
-// Writes the answer to the output, and then what stands beside it to the errors.
+// Writes the answer to the output, and then what is said beside it to the errors.
 fn respond_with<O: Out, E: Out>(
     request: &Request<'_>,
     answered: &Answered,
@@ -201,8 +201,8 @@ pub fn respond<F: Files, O: Out, E: Out>(
 }
 
 /// Does what the words after the program's name ask for, and gives the status: 0 where the answer
-/// or the help stands on the output, 2 for bad words and for a message that a run doesn't reach, 3
-/// for a refused input, 4 for want of memory, and 5 where a file couldn't be read or the output
+/// or the help is on the output, 2 for bad words and for a message that a run doesn't reach, 3
+/// for a refused input, 4 where memory ran out, and 5 where a file couldn't be read or the output
 /// failed. Status 1 is that of a message that breaks
 /// a rule, of a script with a run that does, and of a certificate that isn't closed. Each status from
 /// 2 on has its line on the errors, where those take it.

@@ -4,12 +4,20 @@ use Rattle.std.proofs.Common.{Option, None, Some, IfErr, IfSome, Result, Ok, Err
 use Rattle.std.specs.Borrow.{Bor}
 use Rattle.std.specs.Result.{IsErrAnd}
 use Rattle.fints_cli_commands.specs.declared.failing.Failure.{Failure}
+use Rattle.fints_cli_commands.specs.declared.failing.Refused.{Refused}
+use Rattle.fints_cli_texts.specs.declared.fault.Fault.{Fault}
 use Rattle.fints_cli_commands.specs.declared.failing.Failure.TheVariants.{Input, Unread}
 use Rattle.fints_cli_commands.specs.Loading.{Held, NamedFile, AreWithin, FollowsReading, HasUnreadable, IsUnreadable}
 use Rattle.fints_cli_commands.specs.Loaded.{AreRead, IsOneUnread}
 use Rattle.fints_cli_files.specs.Captures.{FedReader, HoldsCapture, IsReadFrom}
 use Rattle.fints_cli_files.specs.Loading.{NoneFailed}
 use Rattle.fints_cli_files.specs.Streams.{IsFile, ReadCounts, one_more}
+
+-- what the exit of a `?` returns, where its fault is made into a refusal
+pub of_refused : {T : Type 0} (r : Result T Refused) (e : Fault) (P : Fault → Type 0)
+    → IsErrAnd r (λ f. f.fault ≡ e) → P e → IfErr r (λ f. P f.fault)
+of_refused (Ok v) e P is p = tt
+of_refused (Err f) e P is p = subst P (sym is) p
 
 -- what the exit of a `?` returns
 pub of_exit : {T E : Type 0} (r : Result T E) (e : E) (P : E → Type 0)
@@ -53,12 +61,12 @@ module _ (more : List NamedFile) (holds : Held) (a b : ReadCounts) where
       → HasUnreadable files holds a b option → HasUnreadable (files ++ more) holds a b option
   unreadable_first [] option h = absurd h
   unreadable_first (file ∷ files) option (inl h) = inl h
-  unreadable_first (file ∷ files) option (inr h) = inr (unreadable_first files option h)
+  unreadable_first (file ∷ files) option (inr h) = inr (h.0, unreadable_first files option h.1)
 
-  unreadable_later : (files : List NamedFile) (option : List ℕ)
+  unreadable_later : (files : List NamedFile) (option : List ℕ) → AreWithin files holds
       → HasUnreadable more holds a b option → HasUnreadable (files ++ more) holds a b option
-  unreadable_later [] option h = h
-  unreadable_later (file ∷ files) option h = inr (unreadable_later files option h)
+  unreadable_later [] option within h = h
+  unreadable_later (file ∷ files) option within h = inr (within.0, unreadable_later files option within.1 h)
 
   follows_first : (files : List NamedFile) (failure : Failure)
       → FollowsReading files holds a b failure → FollowsReading (files ++ more) holds a b failure
@@ -77,13 +85,13 @@ module _ (holds : Held) (a b c : ReadCounts) (fine : NoneFailed a b)
       → HasUnreadable files holds b c option → HasUnreadable files holds a c option
   unreadable_since [] option h = absurd h
   unreadable_since (file ∷ files) option (inl h) = inl (h.0, one_since (holds file.path) file.limit h.1)
-  unreadable_since (file ∷ files) option (inr h) = inr (unreadable_since files option h)
+  unreadable_since (file ∷ files) option (inr h) = inr (h.0, unreadable_since files option h.1)
 
-  follows_later : (files more : List NamedFile) (failure : Failure)
+  follows_later : (files more : List NamedFile) (failure : Failure) → AreWithin files holds
       → FollowsReading more holds b c failure → FollowsReading (files ++ more) holds a c failure
-  follows_later files more (Unread option) h =
-      unreadable_later more holds a c files option.now (unreadable_since more option.now h)
-  follows_later files more (Input fault) h = h ∙ fine
+  follows_later files more (Unread option) within h =
+      unreadable_later more holds a c files option.now within (unreadable_since more option.now h)
+  follows_later files more (Input fault) within h = h ∙ fine
 
 pub first_unread : {files : List NamedFile} (more : List NamedFile) {holds kept : Held}
     {a b : ReadCounts} {failure : Failure}
@@ -100,7 +108,7 @@ pub later_unread : {files more : List NamedFile} {holds kept last : Held}
     → AreRead files holds kept a b → IsOneUnread more kept last b c failure
     → IsOneUnread (files ++ more) holds last a c failure
 later_unread {files} {more} {holds} {kept} {last} {a} {b} {c} {failure} first h = record {
-  follows = follows_later holds a b c first.fine first.counted files more failure
+  follows = follows_later holds a b c first.fine first.counted files more failure first.within
       (subst (λ (held : Held). FollowsReading more held b c failure) first.keeps h.follows);
   unloaded = h.unloaded;
   calls = omega (arith, first.calls, h.calls, length-append files more);

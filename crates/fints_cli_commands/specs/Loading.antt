@@ -59,23 +59,26 @@ files_at paths =
 abbrev pub files_of : Request → List NamedFile
 files_of request = files_at (paths_of request)
 
--- none of these files is longer than its limit, where its bytes are told
+-- the file isn't longer than its limit, where its bytes are told
+abbrev pub IsWithin : NamedFile → Held → Type 0
+IsWithin file holds = IfSome (holds file.path) (λ bytes. length bytes ≤ file.limit)
+
+-- none of these files is longer than its limit
 abbrev pub AreWithin : List NamedFile → Held → Type 0
 AreWithin [] holds = Unit {0}
-AreWithin (file ∷ files) holds =
-    IfSome (holds file.path) (λ bytes. length bytes ≤ file.limit) × AreWithin files holds
+AreWithin (file ∷ files) holds = IsWithin file holds × AreWithin files holds
 
 -- what lets a file be answered as unread: a read failed; it is longer than its limit, or doesn't tell its bytes;
 -- or as many reads were asked for as one file may take
 abbrev pub IsUnreadable : Option (List ℕ) → ℕ → ReadCounts → ReadCounts → Type 0
 IsUnreadable held limit before after = HasFailed before after ⊎ (IsLonger held limit ⊎ AreUsedUp before after)
 
--- the option is that of one of these files, which may be answered as unread
+-- the option is that of one of these files, which may be answered as unread, and no file before it is too long
 abbrev pub HasUnreadable : List NamedFile → Held → ReadCounts → ReadCounts → List ℕ → Type 0
 HasUnreadable [] holds before after option = ⊥
 HasUnreadable (file ∷ files) holds before after option =
     ((option ≡ file.option) × IsUnreadable (holds file.path) file.limit before after)
-    ⊎ HasUnreadable files holds before after option
+    ⊎ (IsWithin file holds × HasUnreadable files holds before after option)
 
 -- a failure after these files were read: one of them may be answered as unread, or no read failed, and
 -- an input is refused or memory ran out

@@ -13,16 +13,17 @@ ghost use Rattle.fints_cli_texts.specs.JudgeAfter.{IsJudgeAfterRefusal, IsVerdic
 ghost use Rattle.fints_cli_texts.specs.Show.{IsMemoryOrShowFault, IsShowOf};
 ghost use Rattle.fints_cli_texts.specs.ShowMessage.{IsShownMessage};
 
+use crate::failing::Refused;
 use crate::loading::Contents;
 use fints_cli_drafts::{Drafted, draft_read};
 use fints_cli_drawings::{draw_read, draw_script};
 use fints_cli_hints_dialogues::{AuditReasons, Source};
 use fints_cli_hints_reasons::JudgeReasons;
-use fints_cli_hints_segments::skipped_notes;
+use fints_cli_hints_segments::{UnreadHint, skipped_notes};
 use fints_cli_hints_verdicts::{ReportReasons, VerifyReason};
 use fints_cli_scripts::{Wanted, run_case, tell_read, verify_read};
 use fints_cli_texts::{
-    Fault, Reply, audit_own, audit_read, judge_after_read, judge_read, show_message, show_read,
+    Reply, audit_own, audit_read, judge_after_read, judge_read, show_message_with, show_read,
 };
 use fints_params::{ParamFault, Params};
 use std::alloc::Global;
@@ -47,12 +48,12 @@ fn text_only(text: Vec<u8>) -> Answered
 }
 
 /// What a capture says. Its notes look at the bytes again, since its reader passes over what it skips.
-pub fn answer_show(alloc: Global, contents: &Contents, hints: bool) -> Result<Answered, Fault>
+pub fn answer_show(alloc: Global, contents: &Contents, hints: bool) -> Result<Answered, Refused>
     ensures status { IfOk result (λ it. it.reply.status ≡ 0) }
     ensures shown { IfOk result (λ it. (capture : List ℕ) → IsBothReadOf capture contents.now.shown.told
         → IsShowOf capture it.reply.text.items) }
-    ensures refused { IfErr result (λ f. (capture : List ℕ) → IsBothReadOf capture contents.now.shown.told
-        → IsMemoryOrShowFault capture f) }
+    ensures refused { IfErr result (λ r. (capture : List ℕ) → IsBothReadOf capture contents.now.shown.told
+        → IsMemoryOrShowFault capture r.fault) }
 {
     let text = show_read(alloc, &contents.shown.told)?;
     let reasons = if hints {
@@ -72,13 +73,13 @@ pub fn answer_judge(
     params: Result<Params, ParamFault>,
     contents: &Contents,
     hints: bool,
-) -> Result<Answered, Fault>
+) -> Result<Answered, Refused>
     ensures status { IfOk result (λ it. it.reply.status ≤ 1) }
     ensures judged { IfOk result (λ it. (capture : List ℕ) → IsReadOf capture params
         → IsVerdictOf capture contents.now.orders.items contents.now.message.items
         it.reply.status it.reply.text.items) }
-    ensures refused { IfErr result (λ f. (capture : List ℕ) → IsReadOf capture params
-        → IsJudgeRefusal capture contents.now.orders.items contents.now.message.items f) }
+    ensures refused { IfErr result (λ r. (capture : List ℕ) → IsReadOf capture params
+        → IsJudgeRefusal capture contents.now.orders.items contents.now.message.items r.fault) }
 {
     let Contents {
         orders,
@@ -86,17 +87,22 @@ pub fn answer_judge(
         ..
     } = contents;
     let mut reasons = JudgeReasons::new(alloc, hints, contents.capture.as_slice());
-    let reply = judge_read(
+    match judge_read(
         alloc,
         params,
         orders.as_slice(),
         message.as_slice(),
         &mut reasons,
-    )?;
-    Ok(Answered {
-        reply,
-        reasons: reasons.into_text(),
-    })
+    ) {
+        Ok(reply) => Ok(Answered {
+            reply,
+            reasons: reasons.into_text(),
+        }),
+        Err(fault) => Err(Refused {
+            fault,
+            unread: reasons.into_hint(),
+        }),
+    }
 }
 
 /// Those that it breaks after the message before it and the bank's answer to that.
@@ -105,17 +111,17 @@ pub fn answer_judge_after(
     params: Result<Params, ParamFault>,
     contents: &Contents,
     hints: bool,
-) -> Result<Answered, Fault>
+) -> Result<Answered, Refused>
     ensures status { IfOk result (λ it. it.reply.status ≤ 1) }
     ensures judged { IfOk result (λ it. (capture : List ℕ) → IsReadOf capture params
         → IsVerdictAfter capture contents.now.orders.items contents.now.before.items
         contents.now.answer.items contents.now.message.items it.reply.status it.reply.text.items) }
-    ensures refused { IfErr result (λ f. (capture : List ℕ) → IsReadOf capture params
+    ensures refused { IfErr result (λ r. (capture : List ℕ) → IsReadOf capture params
         → IsJudgeAfterRefusal capture contents.now.orders.items contents.now.before.items
-        contents.now.answer.items contents.now.message.items f) }
+        contents.now.answer.items contents.now.message.items r.fault) }
 {
     let mut reasons = JudgeReasons::new(alloc, hints, contents.capture.as_slice());
-    let reply = judge_after_read(
+    match judge_after_read(
         alloc,
         params,
         contents.orders.as_slice(),
@@ -123,11 +129,16 @@ pub fn answer_judge_after(
         contents.answer.as_slice(),
         contents.message.as_slice(),
         &mut reasons,
-    )?;
-    Ok(Answered {
-        reply,
-        reasons: reasons.into_text(),
-    })
+    ) {
+        Ok(reply) => Ok(Answered {
+            reply,
+            reasons: reasons.into_text(),
+        }),
+        Err(fault) => Err(Refused {
+            fault,
+            unread: reasons.into_hint(),
+        }),
+    }
 }
 
 /// The rules that the client's messages of a dialogue break.
@@ -136,13 +147,13 @@ pub fn answer_audit(
     params: Result<Params, ParamFault>,
     contents: &Contents,
     hints: bool,
-) -> Result<Answered, Fault>
+) -> Result<Answered, Refused>
     ensures status { IfOk result (λ it. it.reply.status ≤ 1) }
     ensures audited { IfOk result (λ it. (capture : List ℕ) → IsReadOf capture params
         → IsAuditOf capture contents.now.orders.items contents.now.dialogue.items
         it.reply.status it.reply.text.items) }
-    ensures refused { IfErr result (λ f. (capture : List ℕ) → IsReadOf capture params
-        → IsAuditRefusal capture contents.now.orders.items contents.now.dialogue.items f) }
+    ensures refused { IfErr result (λ r. (capture : List ℕ) → IsReadOf capture params
+        → IsAuditRefusal capture contents.now.orders.items contents.now.dialogue.items r.fault) }
 {
     let Contents {
         orders,
@@ -151,26 +162,35 @@ pub fn answer_audit(
     } = contents;
     let source = Source::Capture(contents.capture.as_slice());
     let mut reasons = AuditReasons::new(alloc, hints, source);
-    let reply = audit_read(
+    match audit_read(
         alloc,
         params,
         orders.as_slice(),
         dialogue.as_slice(),
         &mut reasons,
-    )?;
-    Ok(Answered {
-        reply,
-        reasons: reasons.into_text(),
-    })
+    ) {
+        Ok(reply) => Ok(Answered {
+            reply,
+            reasons: reasons.into_text(),
+        }),
+        Err(fault) => Err(Refused {
+            fault,
+            unread: reasons.into_hint(),
+        }),
+    }
 }
 
 /// The same, by the parameters in the dialogue's own answers.
-pub fn answer_audit_own(alloc: Global, contents: &Contents, hints: bool) -> Result<Answered, Fault>
+pub fn answer_audit_own(
+    alloc: Global,
+    contents: &Contents,
+    hints: bool,
+) -> Result<Answered, Refused>
     ensures status { IfOk result (λ it. it.reply.status ≤ 1) }
     ensures audited { IfOk result (λ it. IsOwnAuditOf contents.now.orders.items contents.now.dialogue.items
         it.reply.status it.reply.text.items) }
-    ensures refused { IfErr result (λ f.
-        IsOwnAuditRefusal contents.now.orders.items contents.now.dialogue.items f) }
+    ensures refused { IfErr result (λ r.
+        IsOwnAuditRefusal contents.now.orders.items contents.now.dialogue.items r.fault) }
 {
     let Contents {
         orders,
@@ -179,11 +199,16 @@ pub fn answer_audit_own(alloc: Global, contents: &Contents, hints: bool) -> Resu
     } = contents;
     let source = Source::Dialogue(dialogue.as_slice());
     let mut reasons = AuditReasons::new(alloc, hints, source);
-    let reply = audit_own(alloc, orders.as_slice(), dialogue.as_slice(), &mut reasons)?;
-    Ok(Answered {
-        reply,
-        reasons: reasons.into_text(),
-    })
+    match audit_own(alloc, orders.as_slice(), dialogue.as_slice(), &mut reasons) {
+        Ok(reply) => Ok(Answered {
+            reply,
+            reasons: reasons.into_text(),
+        }),
+        Err(fault) => Err(Refused {
+            fault,
+            unread: reasons.into_hint(),
+        }),
+    }
 }
 
 /// What is wanted of a script.
@@ -193,13 +218,13 @@ pub fn answer_check(
     contents: &Contents,
     wanted: Wanted,
     hints: bool,
-) -> Result<Answered, Fault>
+) -> Result<Answered, Refused>
     ensures status { IfOk result (λ it. it.reply.status ≤ 1) }
     ensures told { IfOk result (λ it. (capture : List ℕ) → IsReadOf capture params
         → IsToldOf wanted capture contents.now.orders.items contents.now.script.items
         it.reply.status it.reply.text.items) }
-    ensures refused { IfErr result (λ f. (capture : List ℕ) → IsReadOf capture params
-        → IsTellRefusal wanted capture contents.now.orders.items contents.now.script.items f) }
+    ensures refused { IfErr result (λ r. (capture : List ℕ) → IsReadOf capture params
+        → IsTellRefusal wanted capture contents.now.orders.items contents.now.script.items r.fault) }
 {
     let Contents { orders, script, .. } = contents;
     let mut reasons = ReportReasons::new(alloc, hints, contents.capture.as_slice());
@@ -223,13 +248,13 @@ pub fn answer_draw(
     params: Result<Params, ParamFault>,
     contents: &Contents,
     hints: bool,
-) -> Result<Answered, Fault>
+) -> Result<Answered, Refused>
     ensures status { IfOk result (λ it. it.reply.status ≤ 1) }
     ensures drawn { IfOk result (λ it. (capture : List ℕ) → IsReadOf capture params
         → IsDrawnOf capture contents.now.orders.items contents.now.script.items
         it.reply.status it.reply.text.items) }
-    ensures refused { IfErr result (λ f. (capture : List ℕ) → IsReadOf capture params
-        → IsRefused capture contents.now.orders.items contents.now.script.items f) }
+    ensures refused { IfErr result (λ r. (capture : List ℕ) → IsReadOf capture params
+        → IsRefused capture contents.now.orders.items contents.now.script.items r.fault) }
 {
     let Contents { orders, script, .. } = contents;
     let mut reasons = ReportReasons::new(alloc, hints, contents.capture.as_slice());
@@ -252,14 +277,14 @@ pub fn answer_verify(
     params: Result<Params, ParamFault>,
     contents: &Contents,
     hints: bool,
-) -> Result<Answered, Fault>
+) -> Result<Answered, Refused>
     ensures status { IfOk result (λ it. it.reply.status ≤ 1) }
     ensures told { IfOk result (λ it. (capture : List ℕ) → IsReadOf capture params
         → IsVerifiedOf capture contents.now.orders.items contents.now.script.items
         contents.now.certificate.items it.reply.status it.reply.text.items) }
-    ensures refused { IfErr result (λ f. (capture : List ℕ) → IsReadOf capture params
+    ensures refused { IfErr result (λ r. (capture : List ℕ) → IsReadOf capture params
         → IsUnverified capture contents.now.orders.items contents.now.script.items
-        contents.now.certificate.items f) }
+        contents.now.certificate.items r.fault) }
 {
     let mut reason = VerifyReason::new(alloc, hints);
     let reply = verify_read(
@@ -277,30 +302,57 @@ pub fn answer_verify(
 }
 
 /// The segments of a message.
-pub fn answer_show_message(alloc: Global, contents: &Contents) -> Result<Answered, Fault>
+pub fn answer_show_message(
+    alloc: Global,
+    contents: &Contents,
+    hints: bool,
+) -> Result<Answered, Refused>
     ensures status { IfOk result (λ it. it.reply.status ≡ 0) }
     ensures shown { IfOk result (λ it. IsShownMessage contents.now.message.items it.reply.text.items) }
-    ensures refused { IfErr result (λ f. IsMessageRefusal contents.now.message.items f) }
+    ensures refused { IfErr result (λ r. IsMessageRefusal contents.now.message.items r.fault) }
 {
-    let text = show_message(alloc, contents.message.as_slice())?;
-    Ok(text_only(text))
+    let mut hint = UnreadHint::new(alloc, hints);
+    match show_message_with(alloc, contents.message.as_slice(), &mut hint) {
+        Ok(text) => Ok(text_only(text)),
+        Err(fault) => Err(Refused {
+            fault,
+            unread: hint.into_text(),
+        }),
+    }
 }
 
 /// What is drafted of a dialogue.
-pub fn answer_draft(alloc: Global, contents: &Contents, drafted: Drafted) -> Result<Answered, Fault>
+pub fn answer_draft(
+    alloc: Global,
+    contents: &Contents,
+    drafted: Drafted,
+    hints: bool,
+) -> Result<Answered, Refused>
     ensures status { IfOk result (λ it. it.reply.status ≡ 0) }
     ensures drafted { IfOk result (λ it.
         IsDraftOf drafted contents.now.dialogue.items it.reply.text.items) }
-    ensures refused { IfErr result (λ f.
-        IsDraftRefusal contents.now.orders.items contents.now.dialogue.items f) }
+    ensures refused { IfErr result (λ r.
+        IsDraftRefusal contents.now.orders.items contents.now.dialogue.items r.fault) }
 {
     let Contents {
         orders,
         dialogue,
         ..
     } = contents;
-    let text = draft_read(alloc, orders.as_slice(), dialogue.as_slice(), drafted)?;
-    Ok(text_only(text))
+    let mut hint = UnreadHint::new(alloc, hints);
+    match draft_read(
+        alloc,
+        orders.as_slice(),
+        dialogue.as_slice(),
+        drafted,
+        &mut hint,
+    ) {
+        Ok(text) => Ok(text_only(text)),
+        Err(fault) => Err(Refused {
+            fault,
+            unread: hint.into_text(),
+        }),
+    }
 }
 
 /// The messages of a case, or the one of this number.
@@ -308,12 +360,12 @@ pub fn answer_run(
     alloc: Global,
     contents: &Contents,
     message: Option<u32>,
-) -> Result<Answered, Fault>
+) -> Result<Answered, Refused>
     ensures status { IfOk result (λ it. it.reply.status ≡ 0) }
     ensures run { IfOk result (λ it. IsRunOf contents.now.orders.items contents.now.script.items
         contents.now.case.items message it.reply.text.items) }
-    ensures refused { IfErr result (λ f. IsRunRefusal contents.now.orders.items
-        contents.now.script.items contents.now.case.items message f) }
+    ensures refused { IfErr result (λ r. IsRunRefusal contents.now.orders.items
+        contents.now.script.items contents.now.case.items message r.fault) }
 {
     let Contents {
         orders,
@@ -332,10 +384,10 @@ pub fn answer_run(
 }
 
 /// The picture of a script.
-pub fn answer_draw_script(alloc: Global, contents: &Contents) -> Result<Answered, Fault>
+pub fn answer_draw_script(alloc: Global, contents: &Contents) -> Result<Answered, Refused>
     ensures status { IfOk result (λ it. it.reply.status ≡ 0) }
     ensures drawn { IfOk result (λ it. IsPictureOf contents.now.script.items it.reply.text.items) }
-    ensures refused { IfErr result (λ f. IsPlanRefusal no_orders contents.now.script.items f) }
+    ensures refused { IfErr result (λ r. IsPlanRefusal no_orders contents.now.script.items r.fault) }
 {
     let text = draw_script(alloc, contents.script.as_slice())?;
     Ok(text_only(text))

@@ -1,4 +1,4 @@
-//! The texts that the program checks when it is called with no words: they stand in `examples/` too.
+//! The texts that the program checks when it is called with no words: they are in `examples/` too.
 
 /// A capture: the bank's parameters and the PIN/TAN parameters (`examples/c1.fints`).
 pub const CAPTURE: &[u8] = b"HIBPA:3:3+12+280:10020030+Bank+1+1+300+0'

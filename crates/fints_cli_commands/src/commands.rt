@@ -15,7 +15,7 @@ use crate::answering::{
     answer_show_message, answer_verify,
 };
 use crate::built_in;
-use crate::failing::{Refusal, refused};
+use crate::failing::{Refusal, Refused, refusal_of};
 use crate::loading::{Contents, Loaded, load_all, paths_of};
 use fints_cli_drafts::Drafted;
 use fints_cli_files::Files;
@@ -58,14 +58,14 @@ fn answer(
     request: &Request<'_>,
     params: Result<Params, ParamFault>,
     contents: &Contents,
-) -> Result<Answered, Fault>
+) -> Result<Answered, Refused>
     ensures status { IfOk result (λ it. it.reply.status ≤ 1) }
     ensures answers { IfOk result (λ it.
         (holds : Held) → IsLoaded (paths_read request.now) holds params contents.now
         → AnswersTo request.now holds it.reply.status it.reply.text.items) }
-    ensures refused { IfErr result (λ fault.
+    ensures refused { IfErr result (λ r.
         (holds : Held) → IsLoaded (paths_read request.now) holds params contents.now
-        → RefusesRequest request.now holds fault) }
+        → RefusesRequest request.now holds r.fault) }
 {
     let hints = request.hints;
     match request.command {
@@ -77,13 +77,13 @@ fn answer(
             })
         }
         Command::Show => answer_show(alloc, contents, hints),
-        Command::ShowMessage => answer_show_message(alloc, contents),
+        Command::ShowMessage => answer_show_message(alloc, contents, hints),
         Command::Judge => answer_judge(alloc, params, contents, hints),
         Command::JudgeAfter => answer_judge_after(alloc, params, contents, hints),
         Command::Audit => answer_audit(alloc, params, contents, hints),
         Command::AuditOwn => answer_audit_own(alloc, contents, hints),
-        Command::Draft => answer_draft(alloc, contents, Drafted::Script),
-        Command::DraftCase => answer_draft(alloc, contents, Drafted::Case),
+        Command::Draft => answer_draft(alloc, contents, Drafted::Script, hints),
+        Command::DraftCase => answer_draft(alloc, contents, Drafted::Case, hints),
         Command::Check => answer_check(alloc, params, contents, Wanted::Report, hints),
         Command::Explain => {
             answer_check(alloc, params, contents, cases_wanted(request.number), hints)
@@ -126,6 +126,9 @@ pub fn perform<F: Files>(
             let reasons = if request.hints { reasons } else { None };
             Ok(Answered { reply, reasons })
         }
-        Err(fault) => Err(refused(alloc, fault, &contents.inputs(), request.hints)),
+        Err(Refused { fault, unread }) => {
+            let inputs = contents.inputs(unread.as_ref().map(|text| text.as_str()));
+            Err(refusal_of(alloc, fault, &inputs, request.hints))
+        }
     }
 }

@@ -26,7 +26,7 @@ pub enum Failure {
 
 impl Failure {
     /// The status of a command that ends so: 2 for a message that a run doesn't reach or a finding
-    /// that isn't there, 3 for a refused input, 4 for want of memory, and 5 for a file that couldn't
+    /// that isn't there, 3 for a refused input, 4 where memory ran out, and 5 for a file that couldn't
     /// be read.
     pub fn status(&self) -> u8
         ensures { result ≡ failure_status self.now }
@@ -41,7 +41,25 @@ impl Failure {
     }
 }
 
-/// Why a command has no answer, and what to look at where that was asked for and can be told.
+/// Why inputs are refused, and why bytes are no message where that was found and a hint is wanted.
+#[derive(Drop)]
+pub struct Refused {
+    pub fault: Fault,
+    pub unread: Option<String>,
+}
+
+impl From<Fault> for Refused {
+    ghost from_gives = { λ fault r. r.fault ≡ fault };
+
+    fn from(fault: Fault) -> Refused {
+        Refused {
+            fault,
+            unread: None,
+        }
+    }
+}
+
+/// Why a command has no answer, and what to look at, where that was asked for and is known.
 #[derive(Drop)]
 pub struct Refusal {
     pub failure: Failure,
@@ -49,7 +67,7 @@ pub struct Refusal {
 }
 
 /// The refusal of inputs, with a hint where that is asked for.
-pub fn refused(alloc: Global, fault: Fault, inputs: &Inputs<'_>, hints: bool) -> Refusal
+pub fn refusal_of(alloc: Global, fault: Fault, inputs: &Inputs<'_>, hints: bool) -> Refusal
     ensures failure { result.failure ≡ failure.Input fault }
     ensures unasked { HintsIfAsked hints result }
 {

@@ -31,7 +31,7 @@ pub fn paths_of<'a>(request: &Request<'a>) -> Paths<'a>
     }
 }
 
-/// What a capture that is shown told, and the bytes of the other files; empty where there is no path.
+/// What was read of a capture that is shown, and the bytes of the other files; empty where there is no path.
 #[derive(Drop)]
 pub struct Contents {
     pub shown: ReadCapture<ParamsAndCodes>,
@@ -48,8 +48,8 @@ pub struct Contents {
 }
 
 impl Contents {
-    /// The bytes for a hint.
-    pub fn inputs(&self) -> Inputs<'_> {
+    /// The bytes for a hint, and why those of a message are none.
+    pub fn inputs<'a>(&'a self, unread: Option<&'a str>) -> Inputs<'a> {
         let params = if self.shown.bytes.is_empty() {
             &self.capture
         } else {
@@ -65,6 +65,7 @@ impl Contents {
             answer: self.answer.as_slice(),
             message: self.message.as_slice(),
             dialogue: self.dialogue.as_slice(),
+            unread,
         }
     }
 }

@@ -1,7 +1,8 @@
 -- What a draft of a recorded dialogue is: the text of a script, and that of a case that has it send the client's
 -- messages once more.
-use Rattle.std.specs.Prelude.{codes, ◌≡◌, ◌≤◌, ◌+◌, ◌⊎◌, ℕ, List, [], ◌∷◌, ◌++◌, length, get_or, Option, Some, None}
-use Rattle.std.specs.List.{All, AllZip, flat_map}
+use Rattle.std.specs.Prelude.{codes, ◌≡◌, ◌≤◌, ◌+◌, ◌⊎◌, ℕ, List, [], ◌∷◌, ◌++◌, length, get_or, Option, Some, None, IsTrue}
+use Rattle.std.specs.Char.{is_ascii_alphanumeric}
+use Rattle.std.specs.List.{All, AllZip, flat_map, list_all}
 use Rattle.fints_syntax_segments.specs.Spelling.{Spelled}
 use Rattle.fints_syntax_segments.specs.Segment.{item_value, segment_bytes, IsSegment}
 use Rattle.fints_syntax.specs.Owned.{segment_of}
@@ -89,9 +90,17 @@ pub record IsLastBlank (elements : List (List TemplateItem)) (place : ℕ) : Typ
   pub blank : All IsBlank (get_or elements place [])
   pub last : length elements ≤ place + 1
 
--- a signer's PIN and TAN: element 4 of its HNSHA
-abbrev pub HasBlankPin : Signer → Type 0
-HasBlankPin signer = IsLastBlank signer.end 2
+-- one item of letters and digits, as a control reference is, or no item
+abbrev pub IsReference : List TemplateItem → Type 0
+IsReference [] = Unit {0}
+IsReference (Literal item ∷ []) = IsTrue (list_all is_ascii_alphanumeric (item_value item))
+IsReference _ = ⊥
+
+-- a signer's PIN and TAN are in element 4 of its HNSHA, and no part of them is in an element before it
+pub record HasBlankPin (signer : Signer) : Type 0 where
+  pub reference : IsReference (get_or signer.end 0 [])
+  pub validation : All IsBlank (get_or signer.end 1 [])
+  pub secrets : IsLastBlank signer.end 2
 
 -- the new PIN of an HKPAE: its element 2
 abbrev pub HasBlankNewPin : Template → Type 0

@@ -1,7 +1,8 @@
 //! Whether a script keeps PIN and TAN out of its text.
-ghost use Rattle.std.specs.Prelude.{IsTrue};
-ghost use Rattle.std.specs.List.{All};
-ghost use Rattle.fints_cli_drafts.specs.Drafts.{HasBlankNewPin, HasBlankPin, IsBlank, IsLastBlank, IsUnlisted, KeepsSecrets};
+ghost use Rattle.std.specs.Prelude.{◌≡◌, [], IsTrue, get_or};
+ghost use Rattle.std.specs.Char.{is_ascii_alphanumeric};
+ghost use Rattle.std.specs.List.{All, list_all};
+ghost use Rattle.fints_cli_drafts.specs.Drafts.{HasBlankNewPin, HasBlankPin, IsBlank, IsLastBlank, IsReference, IsUnlisted, KeepsSecrets};
 
 use fints_script::{Field, NamedField, Script, Signer, Template, TemplateElements, TemplateItem};
 
@@ -28,10 +29,46 @@ fn is_last_blank(elements: &TemplateElements, place: usize) -> bool
     }
 }
 
+// Whether the items of an element are so, by its place, which counts from 0.
+fn is_blank_element(elements: &TemplateElements, place: usize) -> bool
+    ensures { IsTrue result → All IsBlank (get_or elements.now place []) }
+{
+    match elements.as_slice().get(place) {
+        None => true,
+        Some(items) => items.iter().all(is_blank),
+    }
+}
+
+fn is_plain(value: &[u8]) -> bool
+    ensures { result ≡ list_all is_ascii_alphanumeric value.now }
+{
+    value.iter().all(|b| b.is_ascii_alphanumeric())
+}
+
+fn is_reference(items: &[TemplateItem]) -> bool
+    ensures { IsTrue result → IsReference items.now }
+{
+    match items {
+        [] => true,
+        [TemplateItem::Literal(item)] => is_plain(item.value()),
+        _ => false,
+    }
+}
+
+// Whether the first element is a control reference, or absent.
+fn has_reference(elements: &TemplateElements) -> bool
+    ensures { IsTrue result → IsReference (get_or elements.now 0 []) }
+{
+    match elements.as_slice().get(0) {
+        None => true,
+        Some(items) => is_reference(items.as_slice()),
+    }
+}
+
 fn has_blank_pin(signer: &Signer) -> bool
     ensures { IsTrue result → HasBlankPin signer.now }
 {
-    is_last_blank(&signer.end, 2)
+    has_reference(&signer.end) && is_blank_element(&signer.end, 1) && is_last_blank(&signer.end, 2)
 }
 
 fn has_blank_new_pin(template: &Template) -> bool

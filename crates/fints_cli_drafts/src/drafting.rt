@@ -12,7 +12,8 @@ use crate::replaying::{answers_of, replay};
 use crate::sketching::{Sketch, sketch_of};
 use fints_cli_texts::Fault;
 use fints_rules::OrderTable;
-use fints_rules_dialogues::{Exchange, read_dialogue};
+use fints_rules_dialogues::{Exchange, read_dialogue_with};
+use fints_rules_messages::UnreadObserver;
 use fints_script::{Answer, Case, CaseFault, FaultKind, Script, Values};
 use std::alloc::Global;
 
@@ -148,18 +149,20 @@ fn text_of(draft: Draft, drafted: Drafted) -> Vec<u8>
 /// The script that sends the client's messages of a recorded dialogue once more, or the case that has it
 /// do so. In comments the script says which orders name an account, by the text of an order table. Of
 /// the refusals that of the order table comes first, then that of the dialogue, and then that no draft
-/// was found, with the first segment that would be sent otherwise.
-pub fn draft_read(
+/// was found, with the first segment that would be sent otherwise. Where a message of the client is none,
+/// the observer sees why.
+pub fn draft_read<O: UnreadObserver>(
     alloc: Global,
     orders: &[u8],
     dialogue: &[u8],
     drafted: Drafted,
+    observer: &mut O,
 ) -> Result<Vec<u8>, Fault>
     ensures draft { IfOk result (λ text. IsDraftOf drafted dialogue.now text.items) }
     ensures refused { IfErr result (λ f. IsDraftRefusal orders.now dialogue.now f) }
 {
     let orders = OrderTable::read(alloc, orders)?;
-    let exchanges = read_dialogue(alloc, dialogue)?;
+    let exchanges = read_dialogue_with(alloc, dialogue, observer)?;
     let draft = draft_of(alloc, &orders, exchanges.as_slice())?;
     Ok(text_of(draft, drafted))
 }

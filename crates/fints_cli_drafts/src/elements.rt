@@ -107,7 +107,7 @@ pub fn write_elements(
     secrets: &mut Secrets,
     written: &Written<'_>,
 ) -> Result<(), Undrafted> {
-    if Secret::has_rest(written.segment) {
+    if Secret::is_misplaced(written.segment) {
         return Err(written.place().refused());
     }
     text.push('[')?;

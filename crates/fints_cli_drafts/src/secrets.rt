@@ -1,10 +1,11 @@
 //! The secrets of a dialogue, each of which becomes a field of the script: PIN and TAN of HNSHA, and the
 //! new PIN of HKPAE (FinTS 3.0, Security PIN/TAN).
 use crate::place::{Place, Undrafted};
+use fints_cli_texts::has_reference;
 use fints_script::limits::MAX_FIELDS;
 use fints_script::{Name, Values};
 use fints_script_fields::Alphabet;
-use fints_syntax::{Bytes, ItemRef, Memory, OwnedSegment};
+use fints_syntax::{Bytes, ElementRef, ItemRef, Memory, OwnedSegment};
 use std::alloc::{AllocError, Global};
 
 /// The most bytes of a secret (FinTS 3.0, Security PIN/TAN: PIN and TAN, an..99).
@@ -31,12 +32,15 @@ impl Secret {
         None
     }
 
-    /// Whether a segment has more elements after the one with its secrets: they may be the rest of a secret
-    /// in which a + isn't escaped.
-    pub fn has_rest(segment: &OwnedSegment) -> bool {
+    /// Whether another element of a segment than the one of its secrets may hold a part of them, as where a +
+    /// is missing, or is written in a secret without an escape.
+    pub fn is_misplaced(segment: &OwnedSegment) -> bool {
         let kind = segment.head.id;
         let count = segment.elements.len();
-        kind.is(b"HNSHA") && count > 3 || kind.is(b"HKPAE") && count > 1
+        if kind.is(b"HNSHA") {
+            return count > 3 || !has_reference(segment) || !is_empty(&segment.items(3));
+        }
+        kind.is(b"HKPAE") && count > 1
     }
 
     fn word(self) -> &'static str {
@@ -76,6 +80,11 @@ impl SecretField {
         self.write_name(text)?;
         write!(text, "\"\nclass = \"{class}\"\nmin = 1\nmax = {LONGEST}\n")
     }
+}
+
+// Whether each item of an element is empty.
+fn is_empty(items: &ElementRef<'_>) -> bool {
+    (0..items.len()).all(|i| items.value(i + 1).is_empty())
 }
 
 // Whether an item is binary, and its value.

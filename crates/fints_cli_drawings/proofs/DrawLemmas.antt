@@ -1,12 +1,12 @@
 -- What is drawn of a plan is drawn of the texts that the plan was made of.
-use Rattle.std.proofs.Common.{◌≡◌, ◌∙◌, ◌≤◌, ℕ, List, [], ◌∷◌, Option, ap, arith, sym, subst}
+use Rattle.std.proofs.Common.{◌≡◌, ◌∙◌, ◌≤◌, ℕ, List, [], ◌∷◌, Option, ap, arith, refl, sym, subst}
 use Rattle.fints_params.specs.Parameters.{Rows}
 use Rattle.fints_rules_permissions.specs.Orders.{DenotesTable}
 use Rattle.fints_rules_permissions.specs.declared.orders.OrderRow.{OrderRow}
 use Rattle.fints_script.specs.Plans.{IsClosed, PlanValue}
 use Rattle.fints_script.specs.Scripts.{Denotes, ScriptValue}
 use Rattle.fints_check_findings.specs.Figures.{AreFigures}
-use Rattle.fints_check_findings.specs.Findings.{AreFindings}
+use Rattle.fints_check_findings.specs.Findings.{AreFindings, EachIsPermitted}
 use Rattle.fints_check_findings.specs.Reports.{ReportValue}
 use Rattle.fints_check_findings.specs.declared.finding.Finding.{Finding}
 use Rattle.fints_check_findings.specs.declared.finding.Reached.{Reached}
@@ -48,17 +48,23 @@ pub drawn_low : (rows : Rows) (table text : List ℕ) (status : ℕ) (told : Lis
 drawn_low rows table text status told on =
     subst (λ (n : ℕ). n ≤ 1) (sym on.drawn.status_is) (report_low on.drawn.findings)
 
+nothing_found : (findings : List Finding) → report_status findings ≡ 0 → findings ≡ []
+nothing_found [] e = refl
+nothing_found (f ∷ fs) e = absurd cc
+
 -- what a report found is drawn
 pub drawn_by : (report : ReportValue) (plan : PlanValue) (figures : List (Option Reached))
     (findings : List Finding) (status : ℕ) (text : List ℕ) → plan ≡ report.plan
     → findings ≡ report.findings → AreFindings report.granted report.plan.script report.findings
+    → (report.findings ≡ [] → EachIsPermitted report.granted report.plan.script)
     → AreFigures plan.script figures → text ≡ picture_text plan.script.steps figures findings
     → status ≡ report_status findings → IsDrawnBy report.granted report.plan.script status text
-drawn_by report plan figures findings status text same found exactly are told is = record {
+drawn_by report plan figures findings status text same found exactly permitted are told is = record {
   figures = figures;
   findings = findings;
   figures_are = subst (λ (p : PlanValue). AreFigures p.script figures) same are;
   findings_are = subst (λ (fs : List Finding). AreFindings report.granted report.plan.script fs) (sym found) exactly;
   text_is = told ∙ ap (λ (p : PlanValue). picture_text p.script.steps figures findings) same;
   status_is = is;
+  permitted = λ none. permitted (sym found ∙ nothing_found findings (sym is ∙ none));
 }

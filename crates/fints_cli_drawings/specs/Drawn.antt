@@ -5,7 +5,7 @@ use Rattle.fints_params.specs.Parameters.{Rows}
 use Rattle.fints_rules_permissions.specs.Permits.{Granted}
 use Rattle.fints_script.specs.Scripts.{ScriptValue}
 use Rattle.fints_check_findings.specs.Figures.{AreFigures}
-use Rattle.fints_check_findings.specs.Findings.{AreFindings}
+use Rattle.fints_check_findings.specs.Findings.{AreFindings, EachIsPermitted}
 use Rattle.fints_check_findings.specs.declared.finding.Finding.{Finding}
 use Rattle.fints_check_findings.specs.declared.finding.Reached.{Reached}
 use Rattle.fints_cli_scripts.specs.Plans.{ArePlan}
@@ -33,7 +33,7 @@ pub record IsPictureOf (script text : List ℕ) : Type 0 where
 -- ---- a script with what its runs break
 
 -- the text and the status tell the greatest figures of the steps, and what the runs break under these
--- permissions
+-- permissions; where the status is 0, each message of each run is permitted
 pub record IsDrawnBy (granted : Granted) (script : ScriptValue) (status : ℕ) (text : List ℕ) : Type 0 where
   pub figures : List (Option Reached)
   pub findings : List Finding
@@ -41,6 +41,7 @@ pub record IsDrawnBy (granted : Granted) (script : ScriptValue) (status : ℕ) (
   pub findings_are : AreFindings granted script findings
   pub text_is : text ≡ picture_text script.steps figures findings
   pub status_is : status ≡ report_status findings
+  pub permitted : status ≡ 0 → EachIsPermitted granted script
 
 -- they tell it by these rows of parameters and the texts of an order table and of a script
 pub record IsDrawnOn (rows : Rows) (orders script : List ℕ) (status : ℕ) (text : List ℕ) : Type 0 where

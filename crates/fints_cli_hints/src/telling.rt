@@ -8,12 +8,21 @@ use crate::plans::plan_hint;
 use crate::runs::run_hint;
 use fints_cli_hints_dialogues::{dialogue_hint, draft_hint};
 use fints_cli_hints_scripts::script_hint;
-use fints_cli_hints_segments::{message_hint, params_hint};
+use fints_cli_hints_segments::params_hint;
 use fints_cli_hints_words::inputs::Inputs;
+use fints_cli_hints_words::places::{Told, told};
 use fints_cli_texts::Fault;
 use fints_script_cases::CaseFault;
 use fints_syntax::Memory;
 use std::alloc::Global;
+
+// Why the bytes of a message are none, as it was said where they were read.
+fn unread_hint(alloc: Global, unread: Option<&str>) -> Told {
+    match unread {
+        Some(text) => told(alloc, text),
+        None => Ok(None),
+    }
+}
 
 /// What to look at, for a refusal of these inputs: a line without LF. None where there is no more to
 /// say, as for want of memory.
@@ -30,10 +39,9 @@ pub fn hint(alloc: Global, fault: &Fault, inputs: &Inputs<'_>) -> Result<Option<
         Fault::NoMessage { number } => run_hint(alloc, *number, inputs.script, inputs.case),
         Fault::NoFinding { number } => finding_hint(alloc, *number),
         Fault::Certificate { line } => cert_hint(alloc, *line, inputs.certificate),
-        Fault::Before { offset: _ } => message_hint(alloc, inputs.before),
+        Fault::Before { .. } | Fault::Message(_) => unread_hint(alloc, inputs.unread),
         Fault::Answer(fault) => params_hint(alloc, fault, inputs.answer),
-        Fault::Message(_) => message_hint(alloc, inputs.message),
-        Fault::Dialogue(fault) => dialogue_hint(alloc, fault, inputs.dialogue),
+        Fault::Dialogue(fault) => dialogue_hint(alloc, fault, inputs.dialogue, inputs.unread),
         Fault::NotDraftable { message, segment } => {
             draft_hint(alloc, *message, *segment, inputs.dialogue)
         }

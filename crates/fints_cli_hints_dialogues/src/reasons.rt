@@ -2,10 +2,12 @@
 use crate::notes::Notes;
 use fints_cli_hints_reasons::bank::{Bank, BankIndex};
 use fints_cli_hints_reasons::{Judged, add_reasons};
+use fints_cli_hints_segments::UnreadHint;
 use fints_cli_hints_words::places::written;
 use fints_params::Params;
 use fints_rules::{Broken, Permissions};
 use fints_rules_dialogues::{Exchange, Observer, Recording};
+use fints_rules_messages::{Unread, UnreadObserver};
 use fints_syntax::Memory;
 use std::alloc::Global;
 
@@ -42,7 +44,8 @@ fn index_of(alloc: Global, params: &Params, source: Source<'_>) -> Result<BankIn
 }
 
 /// The reasons of what the client's messages of a dialogue break, in the order in which `audit` names them:
-/// a line for each rule, why it is broken and what to change; and then the notes on the dialogue.
+/// a line for each rule, why it is broken and what to change; and then the notes on the dialogue. And the hint
+/// of a message that is none.
 #[derive(Drop)]
 pub struct AuditReasons<'c> {
     alloc: Global,
@@ -54,6 +57,7 @@ pub struct AuditReasons<'c> {
     notes: Notes,
     // Whether memory ran out.
     failed: bool,
+    hint: UnreadHint,
 }
 
 impl<'c> AuditReasons<'c> {
@@ -67,6 +71,7 @@ impl<'c> AuditReasons<'c> {
             reasons: String::new(alloc),
             notes: Notes::new(alloc),
             failed: false,
+            hint: UnreadHint::new(alloc, wanted),
         }
     }
 
@@ -82,6 +87,11 @@ impl<'c> AuditReasons<'c> {
             return None;
         }
         Some(text)
+    }
+
+    /// Why a message of the client is none; none where they all are.
+    pub fn into_hint(self) -> Option<String> {
+        self.hint.into_text()
     }
 
     // Adds the reasons of what the next message breaks.
@@ -122,6 +132,12 @@ impl<'c> AuditReasons<'c> {
     ) -> Result<(), Memory> {
         self.add_broken(permissions, exchange, broken)?;
         self.notes.add(self.alloc, exchange)
+    }
+}
+
+impl UnreadObserver for AuditReasons<'_> {
+    fn unread(&mut self, bytes: &[u8], unread: &Unread<'_>) {
+        self.hint.unread(bytes, unread);
     }
 }
 

@@ -1,6 +1,6 @@
 //! What the refusal of a recorded dialogue is about. Where a file can't be cut into messages nothing is shown
 //! of what stands there, since it may be a PIN or a TAN, but the head of a message.
-use fints_cli_hints_segments::{front_hint, head_of, message_hint, params_hint};
+use fints_cli_hints_segments::{front_hint, head_of, params_hint};
 use fints_cli_hints_words::places::{Told, line_at, told, told_at};
 use fints_cli_hints_words::quoting::Sample;
 use fints_params::ParamFault;
@@ -119,27 +119,20 @@ fn uncut_hint(alloc: Global, file: &[u8], offset: usize) -> Told {
     }
 }
 
-// Why a message of the client ceases at an offset to be one: it is the last of the client that begins there
-// or before.
-fn client_hint(alloc: Global, messages: &[Sent<'_>], offset: usize) -> Told {
+// Why a message of the client ceases at an offset to be one, as its reader says it: it is the last of the
+// client that begins there or before.
+fn client_hint(alloc: Global, messages: &[Sent<'_>], offset: usize, unread: &str) -> Told {
     let begun = messages.partition_point(|it| it.start <= offset);
     let last = begun.saturating_sub(1);
-    let place = last.saturating_sub(last % 2);
-    let Some(sent) = messages.get(place) else {
-        return Ok(None);
-    };
-    let turn = Turn(place);
-    told_at(
-        alloc,
-        format_args!("{turn}: "),
-        message_hint(alloc, sent.bytes)?,
-    )
+    let turn = Turn(last.saturating_sub(last % 2));
+    told(alloc, format_args!("{turn}: {unread}"))
 }
 
-fn no_message_hint(alloc: Global, file: &[u8], offset: usize) -> Told {
-    match cut_file(alloc, file)? {
-        Some(messages) => client_hint(alloc, messages.as_slice(), offset),
-        None => uncut_hint(alloc, file, offset),
+fn no_message_hint(alloc: Global, file: &[u8], offset: usize, unread: Option<&str>) -> Told {
+    match (cut_file(alloc, file)?, unread) {
+        (Some(messages), Some(text)) => client_hint(alloc, messages.as_slice(), offset, text),
+        (Some(_), None) => Ok(None),
+        (None, _) => uncut_hint(alloc, file, offset),
     }
 }
 
@@ -193,12 +186,18 @@ const NO_MESSAGE: &str =
 const NO_PARAMETERS: &str =
     "no answer has both HIBPA version 3 and HIPINS version 1, the bank's parameters: record the dialogue from its initialisation on, or hand over a capture by --params";
 
-/// What the refusal of a recorded dialogue is about.
-pub fn dialogue_hint(alloc: Global, fault: &DialogueFault, file: &[u8]) -> Told {
+/// What the refusal of a recorded dialogue is about; `unread` says why a message of the client is none, where
+/// its reader found that.
+pub fn dialogue_hint(
+    alloc: Global,
+    fault: &DialogueFault,
+    file: &[u8],
+    unread: Option<&str>,
+) -> Told {
     match fault {
         DialogueFault::Memory => Ok(None),
         DialogueFault::NoMessage => told(alloc, NO_MESSAGE),
-        DialogueFault::NotAMessage { offset } => no_message_hint(alloc, file, *offset),
+        DialogueFault::NotAMessage { offset } => no_message_hint(alloc, file, *offset, unread),
         DialogueFault::NotInTurn { offset } => turn_hint(alloc, file, *offset),
         DialogueFault::Answer { start, fault } => answer_hint(alloc, file, *start, fault),
         DialogueFault::NoParameters => told(alloc, NO_PARAMETERS),

@@ -18,7 +18,7 @@ const SIGNATURE: &str =
     "a script sends HNSHK 4 and HNSHA 2 without a reference number, and has at most 20 signers, one for each two that differ";
 
 const SECRET: &str =
-    "a PIN or a TAN is a field of 1 to 99 characters, U+0020 to U+007E and U+00A0 to U+00FF, and a script has at most 100 of them; they stand in the last element, 4 of HNSHA and 2 of HKPAE, and a + in them is written ?+";
+    "a PIN or a TAN is a field of 1 to 99 characters, U+0020 to U+007E and U+00A0 to U+00FF, and a script has at most 100 of them; they stand in the last element, 4 of HNSHA and 2 of HKPAE, and a + in them is written ?+; element 3 of HNSHA is empty, and element 2 letters and digits";
 
 const TEXT: &str =
     "a script sends no reference number, no escape that isn't needed, and no character but U+0020 to U+007E and U+00A0 to U+00FF";

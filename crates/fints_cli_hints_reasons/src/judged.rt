@@ -6,8 +6,10 @@ use crate::lines::{Where, add_why};
 use crate::segment::{Seen, SegmentWhy};
 use crate::tans::NoTan;
 use crate::whole::{Before, Whole, WholeWhy, is_of_whole};
+use fints_cli_hints_segments::UnreadHint;
 use fints_cli_texts::JudgeObserver;
-use fints_rules::{Broken, Message, Permissions, segment_cause};
+use fints_rules::{Broken, Message, Permissions};
+use fints_rules_messages::{Unread, UnreadObserver};
 use fints_syntax::{Kind, Memory, SegmentView};
 use std::alloc::Global;
 
@@ -48,19 +50,18 @@ fn add_segment(
 ) -> Result<(), Memory> {
     let bank = judged.bank;
     let (kind, version) = (segment.id(), segment.version());
-    let signatures = judged.message.ends().len();
-    let Some(cause) = segment_cause(bank.permissions, broken.rule, kind, version, signatures) else {
-        return Ok(());
-    };
     let sent = segment.to_owned(alloc)?;
     let seen = Seen {
         kind,
         version,
         elements: Elements::Sent(&sent),
         count: kinds.count(kind),
-        signatures,
+        signatures: judged.message.ends().len(),
         demanding: kinds.demanding(),
         no_tan: NoTan::NoneThere,
+    };
+    let Some(cause) = seen.cause(bank.permissions, broken.rule) else {
+        return Ok(());
     };
     let why = SegmentWhy {
         bank,
@@ -179,13 +180,14 @@ fn lines_of(
 
 /// The reasons of what a message breaks, in the order in which `judge` names it: a line for each rule, why
 /// it is broken and what to change; or one line where the message is a bank's answer, with no segment of a
-/// client. None where they aren't wanted, and where memory ran out.
+/// client. None where they aren't wanted, and where memory ran out. And the hint of bytes that are no message.
 #[derive(Drop)]
 pub struct JudgeReasons<'c> {
     alloc: Global,
     wanted: bool,
     capture: &'c [u8],
     text: Option<String>,
+    hint: UnreadHint,
 }
 
 impl<'c> JudgeReasons<'c> {
@@ -196,11 +198,23 @@ impl<'c> JudgeReasons<'c> {
             wanted,
             capture,
             text: None,
+            hint: UnreadHint::new(alloc, wanted),
         }
     }
 
     pub fn into_text(self) -> Option<String> {
         self.text
+    }
+
+    /// Why bytes are no message; none where they were one.
+    pub fn into_hint(self) -> Option<String> {
+        self.hint.into_text()
+    }
+}
+
+impl UnreadObserver for JudgeReasons<'_> {
+    fn unread(&mut self, bytes: &[u8], unread: &Unread<'_>) {
+        self.hint.unread(bytes, unread);
     }
 }
 

@@ -3,8 +3,8 @@ use crate::accounts::{account_named, least_need, locked_by};
 use crate::bank::Bank;
 use crate::elements::Elements;
 use crate::tans::NoTan;
-use fints_rules::Cause;
 use fints_rules::kinds::own_version;
+use fints_rules::{Cause, Permissions, Rule, SegmentFacts, segment_cause};
 use fints_syntax::Kind;
 use std::fmt;
 use std::fmt::{Display, Formatter, Write};
@@ -22,6 +22,15 @@ pub struct Seen<'a> {
     pub demanding: usize,
     /// Why the message has no TAN.
     pub no_tan: NoTan<'a>,
+}
+
+impl Seen<'_> {
+    /// Why it breaks the rule; none where no message with so many signatures has it do so.
+    pub fn cause(&self, permissions: &Permissions<'_>, rule: Rule) -> Option<Cause> {
+        let items = self.elements.items(2);
+        let facts = SegmentFacts::new(self.kind, self.version, items, self.count);
+        segment_cause(permissions, rule, &facts, self.signatures)
+    }
 }
 
 /// A kind.

@@ -1,5 +1,5 @@
 //! Segments that can't stand at their place in a message.
-use crate::syntax::{begin_of, named, trouble};
+use crate::syntax::{Rest, begin_of, named, trouble};
 use fints_cli_hints_words::places::{Told, told, written};
 use fints_cli_hints_words::quoting::Sample;
 use fints_rules_messages::{Inner, Part, part_of};
@@ -124,14 +124,14 @@ fn last_slip(
 }
 
 /// Why no segment can be read where this one must stand.
-pub fn unread_text(alloc: Global, rest: &[u8], what: &str) -> Result<String, Memory> {
-    if rest.is_empty() {
+pub fn unread_text(alloc: Global, rest: Rest<'_>, what: &str) -> Result<String, Memory> {
+    if rest.bytes.is_empty() {
         return written(
             alloc,
             format_args!("the bytes end there, and {what} is missing"),
         );
     }
-    let text = trouble(alloc, rest)?;
+    let text = trouble(alloc, rest.bytes)?;
     let begin = begin_of(rest);
     written(
         alloc,
@@ -140,8 +140,8 @@ pub fn unread_text(alloc: Global, rest: &[u8], what: &str) -> Result<String, Mem
 }
 
 // Why no segment of a message can be read after these inner segments.
-fn unread_slip(alloc: Global, rest: &[u8], inner: &Inner<'_>) -> Result<String, Memory> {
-    if rest.is_empty() || inner.seal.is_some() {
+fn unread_slip(alloc: Global, rest: Rest<'_>, inner: &Inner<'_>) -> Result<String, Memory> {
+    if rest.bytes.is_empty() || inner.seal.is_some() {
         return unread_text(alloc, rest, "HNHBS");
     }
     let wanted = inner.next_number();
@@ -164,11 +164,11 @@ fn other_slip(alloc: Global, view: &SegmentView<'_>, inner: &Inner<'_>) -> Resul
 /// Why the front of bytes doesn't go on with inner segments of a message of this number, nor close it.
 pub fn next_slip(
     alloc: Global,
-    rest: &[u8],
+    rest: Rest<'_>,
     inner: &Inner<'_>,
     number: u64,
 ) -> Result<String, Memory> {
-    match parse_segment(rest) {
+    match parse_segment(rest.bytes) {
         Ok((view, _)) if view.is_named(b"HNHBS", HNHBS_VERSION) => {
             last_slip(alloc, &view, inner, number)
         }

@@ -11,6 +11,6 @@ mod skipped;
 mod syntax;
 
 pub use captures::params_hint;
-pub use messages::{front_hint, message_hint};
+pub use messages::{UnreadHint, front_hint};
 pub use skipped::{Skipped, skipped_notes, skipped_segments};
 pub use syntax::head_of;

@@ -1,10 +1,10 @@
 //! Why bytes are no message.
 use crate::forms::form_text;
 use crate::frames::{next_slip, order_slip, unread_text};
-use crate::syntax::{Begin, begin_of, is_break, named, trouble, wrapped};
+use crate::syntax::{Begin, Rest, begin_of, is_break, named, rest_at, trouble, wrapped};
 use fints_cli_hints_words::places::{Told, told, written};
 use fints_cli_hints_words::quoting::Sample;
-use fints_rules_messages::{Inner, Slip, Unread, read_or_slip};
+use fints_rules_messages::{Inner, Slip, Unread, UnreadObserver};
 use fints_syntax::{
     HNHBK_NUMBER, HNHBK_VERSION, HNVSD_NUMBER, HNVSD_VERSION, Memory, OwnedSegment, SegmentView,
     parse_segment,
@@ -94,7 +94,7 @@ fn no_segment(alloc: Global, bytes: &[u8]) -> Result<String, Memory> {
         return written(alloc, "there are no bytes");
     }
     let text = trouble(alloc, bytes)?;
-    let begin = begin_of(bytes);
+    let begin = begin_of(rest_at(bytes, 0));
     written(
         alloc,
         format_args!("a message begins with HNHBK; {begin} there{text}"),
@@ -109,8 +109,8 @@ fn start_text(alloc: Global, bytes: &[u8]) -> Result<String, Memory> {
     }
 }
 
-fn left_text(alloc: Global, rest: &[u8]) -> Result<String, Memory> {
-    let count = rest.len();
+fn left_text(alloc: Global, rest: Rest<'_>) -> Result<String, Memory> {
+    let count = rest.bytes.len();
     match begin_of(rest) {
         Begin::Hidden => written(
             alloc,
@@ -126,8 +126,8 @@ fn left_text(alloc: Global, rest: &[u8]) -> Result<String, Memory> {
 }
 
 // Why what is left of the data of HNVSD goes on with no inner segment.
-fn inner_slip(alloc: Global, rest: &[u8], inner: &Inner<'_>) -> Result<String, Memory> {
-    match parse_segment(rest) {
+fn inner_slip(alloc: Global, rest: Rest<'_>, inner: &Inner<'_>) -> Result<String, Memory> {
+    match parse_segment(rest.bytes) {
         Ok((view, _)) => order_slip(alloc, &view, inner),
         Err(_) => unread_text(alloc, rest, "a segment"),
     }
@@ -136,8 +136,8 @@ fn inner_slip(alloc: Global, rest: &[u8], inner: &Inner<'_>) -> Result<String, M
 // Why the data of an HNVSD are no inner segments.
 fn data_slip(alloc: Global, data: &[u8], inner: &Inner<'_>) -> Result<String, Memory> {
     let at = inner.at;
-    let rest = data.get(at..).unwrap_or(&[]);
-    if rest.is_empty() {
+    let rest = rest_at(data, at);
+    if rest.bytes.is_empty() {
         let (openers, ends) = (inner.openers.len(), inner.ends.len());
         return written(
             alloc,
@@ -174,8 +174,8 @@ fn envelope_slip(alloc: Global, view: &SegmentView<'_>) -> Result<String, Memory
     )
 }
 
-fn no_envelope(alloc: Global, rest: &[u8]) -> Result<String, Memory> {
-    match parse_segment(rest) {
+fn no_envelope(alloc: Global, rest: Rest<'_>) -> Result<String, Memory> {
+    match parse_segment(rest.bytes) {
         Ok((view, _)) => envelope_slip(alloc, &view),
         Err(_) => unread_text(alloc, rest, "HNVSD"),
     }
@@ -183,7 +183,7 @@ fn no_envelope(alloc: Global, rest: &[u8]) -> Result<String, Memory> {
 
 // Which part is missing where the bytes cease to be a message.
 fn slip_text(alloc: Global, unread: &Unread<'_>, bytes: &[u8]) -> Result<String, Memory> {
-    let rest = bytes.get(unread.offset..).unwrap_or(&[]);
+    let rest = rest_at(bytes, unread.offset);
     match &unread.slip {
         Slip::First => start_text(alloc, bytes),
         Slip::Envelope => no_envelope(alloc, rest),
@@ -201,13 +201,42 @@ pub fn front_hint(alloc: Global, bytes: &[u8]) -> Told {
     }
 }
 
-/// Why bytes are no message: what is where they cease to be one. None where they are one.
-pub fn message_hint(alloc: Global, bytes: &[u8]) -> Told {
-    if let Some(text) = form_text(bytes) {
-        return told(alloc, text);
+// Why bytes are no message, where their reader found what is missing.
+fn unread_hint(alloc: Global, bytes: &[u8], unread: &Unread<'_>) -> Result<String, Memory> {
+    match form_text(bytes) {
+        Some(text) => written(alloc, text),
+        None => slip_text(alloc, unread, bytes),
     }
-    match read_or_slip(alloc, bytes)? {
-        Ok(_) => Ok(None),
-        Err(unread) => Ok(Some(slip_text(alloc, &unread, bytes)?)),
+}
+
+/// Looks on while messages are read, and says why bytes are none: what is where they cease to be one.
+#[derive(Drop)]
+pub struct UnreadHint {
+    alloc: Global,
+    wanted: bool,
+    text: Option<String>,
+}
+
+impl UnreadHint {
+    /// One that has seen nothing yet, and says nothing where no hint is wanted.
+    pub fn new(alloc: Global, wanted: bool) -> UnreadHint {
+        UnreadHint {
+            alloc,
+            wanted,
+            text: None,
+        }
+    }
+
+    /// What it says of the last bytes that were no message. None where there were none, or memory ran out.
+    pub fn into_text(self) -> Option<String> {
+        self.text
+    }
+}
+
+impl UnreadObserver for UnreadHint {
+    fn unread(&mut self, bytes: &[u8], unread: &Unread<'_>) {
+        if self.wanted {
+            self.text = unread_hint(self.alloc, bytes, unread).ok();
+        }
     }
 }

@@ -2,7 +2,9 @@
 use crate::scanning::{Stop, binary_of, stop_of};
 use fints_cli_hints_words::places::{Told, line_at, told, written};
 use fints_cli_hints_words::quoting::Sample;
-use fints_syntax::{Kind, Memory, SegmentView, SyntaxKind, parse_number, parse_segment};
+use fints_syntax::{
+    Kind, Memory, SegmentView, SyntaxKind, is_frame_kind, parse_number, parse_segment,
+};
 use fints_syntax_segments::MAX_BYTES;
 use std::alloc::Global;
 use std::fmt;
@@ -170,12 +172,37 @@ pub fn head_of(bytes: &[u8]) -> Option<&[u8]> {
     }
 }
 
-/// A segment by what may be told of its bytes. Where its head can't be read they may be the rest of a PIN or
-/// a TAN, in which an apostrophe isn't escaped: then nothing is told of them but an identifier.
+/// Bytes that begin where a segment is due, and the bytes of the message or capture before them.
+#[derive(Clone, Copy)]
+pub struct Rest<'a> {
+    pub front: &'a [u8],
+    pub bytes: &'a [u8],
+}
+
+/// The bytes from an offset on.
+pub fn rest_at(bytes: &[u8], offset: usize) -> Rest<'_> {
+    let (front, bytes) = bytes.split_at(offset.min(bytes.len()));
+    Rest { front, bytes }
+}
+
+// Whether a segment with PIN, TAN or new PIN begins there.
+fn begins_secret(bytes: &[u8]) -> bool {
+    bytes.starts_with(b"HNSHA:") || bytes.starts_with(b"HKPAE:")
+}
+
+impl Rest<'_> {
+    // Whether the bytes may be the rest of a PIN, a TAN or a new PIN.
+    fn follows_secret(self) -> bool {
+        (0..self.front.len()).any(|at| begins_secret(self.front.get(at..).unwrap_or(&[])))
+    }
+}
+
+/// A segment by what may be printed of its bytes. Where its head can't be read they may be the rest of a PIN
+/// or a TAN in which an apostrophe isn't escaped: then at most an identifier is printed.
 #[derive(Clone, Copy)]
 pub enum Begin<'a> {
     Numbered(Numbered),
-    /// An identifier of 2 to 6 capitals, before a colon.
+    /// An identifier of 2 to 6 capitals, before a colon. After a segment with a secret it is one of the frame.
     Id(&'a [u8]),
     Hidden,
 }
@@ -184,13 +211,15 @@ fn is_identifier(word: &[u8]) -> bool {
     (2..=6).contains(&word.len()) && word.iter().all(|b| b.is_ascii_uppercase())
 }
 
-/// What may be told of the segment that bytes begin with.
-pub fn begin_of(bytes: &[u8]) -> Begin<'_> {
+/// What may be printed of the segment that the bytes begin with.
+pub fn begin_of(rest: Rest<'_>) -> Begin<'_> {
+    let bytes = rest.bytes;
     let (id, _) = first_word(bytes);
     match name_of(bytes) {
         Some(name) => Begin::Numbered(name),
-        None if is_identifier(id) && bytes.get(id.len()) == Some(&b':') => Begin::Id(id),
-        None => Begin::Hidden,
+        None if !is_identifier(id) || bytes.get(id.len()) != Some(&b':') => Begin::Hidden,
+        None if !is_frame_kind(id) && rest.follows_secret() => Begin::Hidden,
+        None => Begin::Id(id),
     }
 }
 
@@ -369,11 +398,11 @@ fn wrapped_before(region: &Region<'_>, start: usize) -> &'static str {
 
 /// Why no segment can be read at a place of a region.
 pub fn trouble_at(alloc: Global, region: &Region<'_>, start: usize) -> Told {
-    let rest = region.bytes.get(start..).unwrap_or(&[]);
+    let rest = rest_at(region.bytes, start);
     let line = line_at(region.input, region.base.saturating_add(start));
     let begin = begin_of(rest);
     let within = region.within;
-    let text = trouble(alloc, rest)?;
+    let text = trouble(alloc, rest.bytes)?;
     let wrapped = wrapped_before(region, start);
     told(
         alloc,

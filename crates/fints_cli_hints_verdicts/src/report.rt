@@ -15,7 +15,7 @@ use fints_cli_hints_reasons::tans::no_tan;
 use fints_cli_hints_reasons::whole::{Before, Whole, WholeWhy, is_of_whole};
 use fints_cli_scripts::ReportObserver;
 use fints_params::Code;
-use fints_rules::{Figures, Permissions, RELEASE, Rule, segment_cause};
+use fints_rules::{Figures, Permissions, RELEASE, Rule};
 use fints_script::{Plan, Step, Template, Values};
 use fints_syntax::{Kind, Memory};
 use std::alloc::Global;
@@ -78,14 +78,7 @@ fn add_segment(
     values: &Values,
 ) -> Result<(), Memory> {
     let seen = seen_in(found, template, values);
-    let cause = segment_cause(
-        found.bank.permissions,
-        found.finding.rule,
-        seen.kind,
-        seen.version,
-        seen.signatures,
-    );
-    let Some(cause) = cause else {
+    let Some(cause) = seen.cause(found.bank.permissions, found.finding.rule) else {
         return Ok(());
     };
     let why = SegmentWhy {

@@ -1,6 +1,7 @@
 //! The inputs of a command, which the hint of a refusal looks at.
 
-/// The bytes of the files that a command has read; empty where it has no such file.
+/// The bytes of the files that a command has read; empty where it has no such file. And what was said while
+/// they were read.
 #[derive(Clone, Copy)]
 pub struct Inputs<'a> {
     pub params: &'a [u8],
@@ -12,6 +13,8 @@ pub struct Inputs<'a> {
     pub answer: &'a [u8],
     pub message: &'a [u8],
     pub dialogue: &'a [u8],
+    /// Why the bytes of a message are none, where its reader found that.
+    pub unread: Option<&'a str>,
 }
 
 impl Inputs<'_> {
@@ -27,6 +30,7 @@ impl Inputs<'_> {
             answer: b"",
             message: b"",
             dialogue: b"",
+            unread: None,
         }
     }
 }

@@ -1,5 +1,8 @@
 //! The calls behind the commands.
-use fints_cli::{Fault, built_in, judge_message, run_case, show, show_message};
+use fints_cli::{
+    Asked, Command, Fault, Wanted, built_in, draw_script, judge_message, read_words, run_case,
+    show, show_message, tell_script, verify_script,
+};
 use std::alloc::Global;
 use std::test::Fail;
 
@@ -63,4 +66,72 @@ fn sent(rt: HostRuntime) -> Result<(), Fail> {
         assert!(rt; fault == Some(Fault::NoMessage { number }));
     }
     Ok(())
+}
+
+const REPORT: &[u8] = b"step end number 1 size 55\nclean\n";
+
+const CERTIFICATE: &[u8] = b"fints-cert 2\nstep end 1 55\n";
+
+#[test]
+fn reported(rt: HostRuntime) -> Result<(), Fail> {
+    for (wanted, text) in [(Wanted::Report, REPORT), (Wanted::Certificate, CERTIFICATE)] {
+        let (capture, orders) = (built_in::CAPTURE, built_in::ORDERS);
+        let reply = tell_script(rt.alloc(), capture, orders, built_in::SCRIPT, wanted)?;
+        assert!(rt; (reply.status, reply.text.as_slice()) == (0, text));
+    }
+    Ok(())
+}
+
+#[test]
+fn verified(rt: HostRuntime) -> Result<(), Fail> {
+    let rows: [(&[u8], u8, &[u8]); 2] = [
+        (CERTIFICATE, 0, b"valid\n"),
+        (b"fints-cert 2\nstep end 1 54\n", 1, b"invalid\n"),
+    ];
+    for (certificate, status, text) in rows {
+        let (capture, orders) = (built_in::CAPTURE, built_in::ORDERS);
+        let reply = verify_script(rt.alloc(), capture, orders, built_in::SCRIPT, certificate)?;
+        assert!(rt; (reply.status, reply.text.as_slice()) == (status, text));
+    }
+    Ok(())
+}
+
+const PICTURE: &[u8] = b"digraph fints {
+  node [shape=box];
+  \"stop\" [shape=doublecircle];
+  \"end\" [label=\"end\\nHKEND:1\\nnumber 1 size 55\"];
+  \"end\" -> \"stop\" [label=\"default (0000)\", style=dashed];
+}
+";
+
+#[test]
+fn drawn(rt: HostRuntime) -> Result<(), Fail> {
+    let text = draw_script(rt.alloc(), built_in::SCRIPT)?;
+    assert!(rt; text.as_slice() == PICTURE);
+    Ok(())
+}
+
+// Whether the words ask for the number of a command.
+fn asks_for(alloc: Global, words: &[&str], command: Command, number: Option<u32>) -> bool {
+    match read_words(alloc, words) {
+        Asked::Run(request) => (request.command, request.number) == (command, number),
+        _ => false,
+    }
+}
+
+#[test]
+fn words(rt: HostRuntime) {
+    let words = [
+        "explain",
+        "--params",
+        "p",
+        "--orders",
+        "o",
+        "--script",
+        "s",
+        "--finding",
+        "2",
+    ];
+    assert!(rt; asks_for(rt.alloc(), &words, Command::Explain, Some(2)));
+    assert!(rt; asks_for(rt.alloc(), &[], Command::BuiltIn, None));
 }

@@ -1,5 +1,5 @@
 -- The lines of audited messages; and what refuses an input of `audit` is the refusal of the call.
-use Rattle.std.proofs.Common.{◌≡◌, ℕ, ◌+◌, ◌<◌, List, ◌∷◌, ◌++◌, length, get_or, drop, ap, ◌∙◌, sym, subst, append_assoc, inl, inr, Result, Ok, Err, IfErr}
+use Rattle.std.proofs.Common.{◌≡◌, ℕ, ◌+◌, ◌<◌, List, ◌∷◌, ◌++◌, length, get_or, drop, ap, ◌∙◌, sym, subst, append_assoc, inl, inr, None, Result, Ok, Err, IfErr}
 use Rattle.std.specs.Result.{IsErrAnd}
 use Rattle.std.proofs.lemmas.List.{drop_more}
 use Rattle.fints_params.specs.Parameters.{Rows}
@@ -15,11 +15,16 @@ use Rattle.fints_rules_dialogues.specs.declared.fault.DialogueFault.TheVariants 
 use Rattle.fints_rules_dialogues.specs.declared.reading.Exchange.{Exchange}
 use Rattle.fints_rules_dialogues.specs.Dialogues.{IsCutFile, IsDialogue, IsDialogueFault, IsFileFault, IsMemoryOrRefusal, IsTurnFault}
 use Rattle.fints_rules_dialogues.specs.OwnParams.{IsOwnParamsFault}
+use Rattle.fints_rules_permissions.specs.Permits.{Granted}
+use Rattle.fints_rules_dialogues.specs.Auditing.{AreAudited, ArePermitted}
+use Rattle.fints_rules_dialogues.proofs.Audits.{all_permitted}
+use Rattle.fints_cli_texts.proofs.Endings.{permitted_is_none}
 use Rattle.fints_cli_texts.proofs.JudgeLemmas.{orders_refused}
+use Rattle.fints_cli_texts.specs.Judge.{EndsPermitted}
 use Rattle.fints_cli_texts.specs.declared.fault.Fault.{Fault}
 use Rattle.fints_cli_texts.specs.declared.fault.Fault.TheVariants.{Memory, Dialogue}
 use Rattle.fints_cli_texts.specs.Fault.{dialogue_fault_of, order_fault_of}
-use Rattle.fints_cli_texts.specs.Audit.{message_lines, lines_from, IsDialogueRefusal, IsAuditRefusal, IsOwnFault, IsOwnAuditRefusal}
+use Rattle.fints_cli_texts.specs.Audit.{all_broken, audit_text, message_lines, lines_from, IsDialogueRefusal, IsAuditRefusal, IsOwnFault, IsOwnAuditRefusal}
 
 -- ---- lines
 
@@ -32,6 +37,14 @@ line_more xs i a text lt is =
     append_assoc text (message_lines (i + 1) a) (lines_from (i + 1 + 1) (drop (i + 1) xs))
     ∙ ap (λ ys. text ++ lines_from (i + 1) ys)
     (sym (drop_more xs i a lt ∙ ap (λ x. x ∷ drop (i + 1) xs) (sym is)))
+
+-- where the text ends with `permitted`, each message is
+pub audit_permits : (granted : Granted) (exchanges : List Exchange) (audited : List Audited) (text : List ℕ)
+    → AreAudited granted exchanges audited → text ≡ audit_text audited → EndsPermitted text
+    → ArePermitted granted exchanges
+audit_permits granted exchanges audited text are is ends =
+    all_permitted granted None exchanges audited are
+    (permitted_is_none (all_broken audited) (lines_from 1 audited) text is ends)
 
 -- ---- refusals
 

@@ -1,7 +1,8 @@
 -- The laws, each with its proof, for the proofs of the crates above.
-use Rattle.std.proofs.Common.{◌≡◌, ℕ, ◌-◌, ◌≤◌, Bool, true, false, List, [], ◌∷◌, ◌++◌, length, map, take, drop, refl, ap, ◌∙◌, sym, arith, inl, inr, codes}
-use Rattle.std.specs.Prelude.{IsTrue, ◌==◌, ◌&&◌, if◌then◌else◌}
-use Rattle.std.specs.List.{AllZip, flat_map}
+use Rattle.std.proofs.Common.{◌≡◌, ℕ, ◌-◌, ◌≤◌, Bool, true, false, List, [], ◌∷◌, ◌++◌, length, get_or, map, take, drop, refl, ap, ◌∙◌, sym, arith, inl, inr, codes}
+use Rattle.std.specs.Prelude.{IsTrue, ◌==◌, ◌&&◌, nat_le, if◌then◌else◌}
+use Rattle.std.specs.Char.{is_ascii_alphanumeric}
+use Rattle.std.specs.List.{AllZip, flat_map, list_all}
 use Rattle.std.specs.Str.{bytes_eq}
 use Rattle.std.proofs.lemmas.Bool.{and_parts, cases_lt}
 use Rattle.std.proofs.lemmas.Slice.Eq.{bytes_eq-Decides}
@@ -17,7 +18,7 @@ use Rattle.fints_syntax.proofs.LawLemmas.{one_segment_text}
 use Rattle.fints_rules_messages.specs.Messages.{MessageView}
 use Rattle.fints_rules_messages.proofs.LawLemmas.{one_message}
 use Rattle.fints_rules_messages.proofs.Seals.{text_one}
-use Rattle.fints_cli_texts.specs.Masked.{emptied_at, mask, masked, masked_from, masked_items, with_elements, with_items}
+use Rattle.fints_cli_texts.specs.Masked.{emptied_at, has_reference, mask, masked, masked_from, masked_items, secrets_from, with_elements, with_items}
 use Rattle.fints_cli_texts.proofs.MaskLemmas.{masked_after}
 use Rattle.fints_cli_texts.proofs.ShowMessageLemmas.{framed_lines}
 use Rattle.fints_cli_texts.specs.ShowMessage.{opened_lines, segment_line, shown_byte}
@@ -81,22 +82,67 @@ kind_is s kind h = (bytes_eq-Decides s.head.id kind).0 h
 
 abbrev masked_by : List ℕ → OwnedSegment → OwnedSegment
 masked_by kind s =
-    if bytes_eq kind (codes "HNSHA") then masked_from s 4
+    if bytes_eq kind (codes "HNSHA") then masked_from s (secrets_from s)
     else if bytes_eq kind (codes "HKPAE") then masked_from s 2
     else if bytes_eq kind (codes "HNVSD") then emptied_at s 2
     else s
 
-masked_in : (s : OwnedSegment) (from : ℕ) → HasSecretsFrom s from → masked s ≡ masked_from s from
-masked_in s from (inl h) =
-    ap (λ kind. masked_by kind s) (kind_is s (codes "HNSHA") h.0) ∙ ap (masked_from s) (sym h.1)
-masked_in s from (inr h) =
-    ap (λ kind. masked_by kind s) (kind_is s (codes "HKPAE") h.0) ∙ ap (masked_from s) (sym h.1)
+-- other elements from 3 on leave the control reference as it is
+reference_same : (es secrets : List (List OwnedItem)) → map absences secrets ≡ map absences (drop 1 es)
+    → get_or (take 1 es ++ secrets) 0 [] ≡ get_or es 0 []
+reference_same [] [] e = refl
+reference_same [] (x ∷ xs) e = absurd (cc)
+reference_same (x ∷ xs) secrets e = refl
+
+abbrev reads_reference : List OwnedItem → Bool
+reads_reference items =
+    nat_le (length items) 1 && list_all is_ascii_alphanumeric (get_or (map item_value items) 0 [])
+
+absences_again : (es secrets : List (List OwnedItem)) → map absences secrets ≡ map absences (drop 1 es)
+    → map absences (take 1 es ++ secrets) ≡ map absences es
+absences_again [] [] e = refl
+absences_again [] (x ∷ xs) e = absurd (cc)
+absences_again (x ∷ xs) secrets e = ap (λ ys. absences x ∷ ys) e
+
+-- the elements from 2 on are masked, where those from 3 on are others
+masked_all : (s : OwnedSegment) (secrets : List (List OwnedItem))
+    → map absences secrets ≡ map absences (drop 1 s.elements)
+    → masked_from (with_elements s 3 secrets) 2 ≡ masked_from s 2
+masked_all s secrets e =
+    ap (λ es. record s { elements = es })
+    (same_elements (take 1 s.elements ++ secrets) s.elements (absences_again s.elements secrets e))
+
+masked_signature : (s : OwnedSegment) (secrets : List (List OwnedItem))
+    → map absences secrets ≡ map absences (drop 1 s.elements)
+    → masked_from (with_elements s 3 secrets) (secrets_from (with_elements s 3 secrets))
+    ≡ masked_from s (secrets_from s)
+masked_signature s secrets e =
+    ap (λ items. masked_from (with_elements s 3 secrets) (if reads_reference items then 3 else 2))
+    (reference_same s.elements secrets e)
+    ∙ elim (has_reference s) as (λ b. masked_from (with_elements s 3 secrets) (if b then 3 else 2)
+    ≡ masked_from s (if b then 3 else 2)) [
+      | true ↦ masked_same s 3 secrets e
+      | false ↦ masked_all s secrets e
+    ]
+
+-- a segment of that kind is masked as it says
+masked_kind : (s : OwnedSegment) (kind : List ℕ) → IsTrue (bytes_eq s.head.id kind) → masked s ≡ masked_by kind s
+masked_kind s kind h = ap (λ k. masked_by k s) (kind_is s kind h)
+
+masked_other : (s : OwnedSegment) (from : ℕ) (secrets : List (List OwnedItem)) → HasSecretsFrom s from
+    → map absences secrets ≡ map absences (drop (from - 2) s.elements)
+    → masked (with_elements s from secrets) ≡ masked s
+masked_other s from secrets (inl h) e = rw h.1
+    (masked_kind (with_elements s 3 secrets) (codes "HNSHA") h.0
+    ∙ masked_signature s secrets (rw h.1 at e) ∙ sym (masked_kind s (codes "HNSHA") h.0))
+masked_other s from secrets (inr h) e = rw h.1
+    (masked_kind (with_elements s 2 secrets) (codes "HKPAE") h.0
+    ∙ masked_same s 2 secrets (rw h.1 at e) ∙ sym (masked_kind s (codes "HKPAE") h.0))
 
 pub secrets_are_unshown : SecretsAreUnshown
 secrets_are_unshown blanks s t h =
     ap (λ (x : OwnedSegment). blanks ++ flat_map shown_byte (written_segment x) ++ codes "\n")
-    (ap masked h.is ∙ masked_in (with_elements s h.from h.secrets) h.from h.has
-    ∙ masked_same s h.from h.secrets h.as_empty ∙ sym (masked_in s h.from h.has))
+    (ap masked h.is ∙ masked_other s h.from h.secrets h.has h.as_empty)
 
 -- ---- a message with other secrets
 

@@ -4,3 +4,4 @@ pub mod MaskLemmas
 pub mod ShowLemmas
 pub mod ShowMessageLemmas
 pub mod AuditLemmas
+pub mod Endings

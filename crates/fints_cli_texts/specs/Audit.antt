@@ -14,8 +14,8 @@ use Rattle.fints_rules_dialogues.specs.declared.fault.DialogueFault.{DialogueFau
 use Rattle.fints_rules_dialogues.specs.declared.reading.Exchange.{Exchange}
 use Rattle.fints_rules_dialogues.specs.Dialogues.{AreInTurn, IsDialogue, IsDialogueFault}
 use Rattle.fints_rules_dialogues.specs.OwnParams.{TellsParams, IsOwnParamsFault}
-use Rattle.fints_rules_dialogues.specs.Auditing.{AreAudited}
-use Rattle.fints_cli_texts.specs.Judge.{broken_line, last_line, verdict_status, IsFirstRefusal, IsTableRefusal}
+use Rattle.fints_rules_dialogues.specs.Auditing.{AreAudited, ArePermitted}
+use Rattle.fints_cli_texts.specs.Judge.{broken_line, last_line, verdict_status, EndsPermitted, IsFirstRefusal, IsTableRefusal}
 use Rattle.fints_cli_texts.specs.declared.fault.Fault.{Fault}
 use Rattle.fints_cli_texts.specs.declared.fault.Fault.TheVariants.{Memory, Orders, Dialogue}
 
@@ -39,7 +39,8 @@ all_broken audited = flat_map (λ a. a.broken.items) audited
 abbrev pub audit_text : List Audited → List ℕ
 audit_text audited = lines_from 1 audited ++ last_line (all_broken audited)
 
--- the status and the text tell the rules that the messages break, by these rows and this order table
+-- the status and the text tell the rules that the messages break, by these rows and this order table; where
+-- the text ends with `permitted`, each message is permitted after those before it
 pub record IsAuditBy (rows : Rows) (table : List OrderRow) (exchanges : List Exchange) (status : ℕ)
     (text : List ℕ)
     : Type 0 where
@@ -47,6 +48,7 @@ pub record IsAuditBy (rows : Rows) (table : List OrderRow) (exchanges : List Exc
   pub are : AreAudited (record { rows = rows; orders = table }) exchanges audited
   pub text_is : text ≡ audit_text audited
   pub status_is : status ≡ verdict_status (all_broken audited)
+  pub permitted : EndsPermitted text → ArePermitted (record { rows = rows; orders = table }) exchanges
 
 -- they tell them of the dialogue, by the capture and the text of an order table
 pub record IsAuditOf (params orders dialogue : List ℕ) (status : ℕ) (text : List ℕ) : Type 0 where

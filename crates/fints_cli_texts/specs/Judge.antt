@@ -9,7 +9,7 @@ use Rattle.fints_rules.specs.declared.rule.Broken.{Broken}
 use Rattle.fints_rules_permissions.specs.Orders.{DenotesTable, IsTableFault}
 use Rattle.fints_rules_permissions.specs.declared.orders.TableFault.{TableFault}
 use Rattle.fints_rules_permissions.specs.declared.orders.TableFault.TheVariants as table_faults
-use Rattle.fints_rules.specs.Breaks.{IsJudged}
+use Rattle.fints_rules.specs.Breaks.{IsJudged, Permitted}
 use Rattle.fints_rules_messages.specs.Messages.{CeasesAt}
 use Rattle.fints_rules_messages.specs.declared.message.JudgeFault.{JudgeFault}
 use Rattle.fints_rules_messages.specs.declared.message.JudgeFault.TheVariants as message_faults
@@ -32,13 +32,19 @@ abbrev pub verdict_status : List Broken → ℕ
 verdict_status [] = 0
 verdict_status (b ∷ bs) = 1
 
--- the status and the text tell the rules that the message breaks, by these rows and this order table
+-- it ends with `permitted` and LF
+abbrev pub EndsPermitted : List ℕ → Type 0
+EndsPermitted text = (before : List ℕ) × (text ≡ before ++ codes "permitted\n")
+
+-- the status and the text tell the rules that the message breaks, by these rows and this order table; where
+-- the text ends with `permitted`, the message is permitted
 pub record IsVerdictBy (rows : Rows) (table : List OrderRow) (message : List ℕ) (status : ℕ) (text : List ℕ)
     : Type 0 where
   pub broken : List Broken
   pub judged : IsJudged (record { rows = rows; orders = table }) message broken
   pub text_is : text ≡ verdict_text broken
   pub status_is : status ≡ verdict_status broken
+  pub permitted : EndsPermitted text → Permitted (record { rows = rows; orders = table }) message
 
 -- they tell them by the capture and the text of an order table
 pub record IsVerdictOf (params orders message : List ℕ) (status : ℕ) (text : List ℕ) : Type 0 where

@@ -3,15 +3,16 @@ use Rattle.std.specs.Prelude.{◌≡◌, ℕ, List}
 use Rattle.fints_rules_messages.specs.Messages.{MessageView, IsMessage, CeasesAt}
 use Rattle.fints_params.specs.Captures.{IsCodeFault, IsCodesOf, IsParamsOf}
 use Rattle.fints_params.specs.Parameters.{Rows}
-use Rattle.fints_rules.specs.Breaks.{IsJudgedAfter}
+use Rattle.fints_rules.specs.Breaks.{IsJudgedAfter, PermittedAfter}
 use Rattle.fints_rules_permissions.specs.Orders.{DenotesTable}
 use Rattle.fints_rules_permissions.specs.declared.orders.OrderRow.{OrderRow}
 use Rattle.fints_rules.specs.declared.rule.Broken.{Broken}
-use Rattle.fints_cli_texts.specs.Judge.{IsFirstRefusal, IsStop, verdict_status, verdict_text}
+use Rattle.fints_cli_texts.specs.Judge.{EndsPermitted, IsFirstRefusal, IsStop, verdict_status, verdict_text}
 use Rattle.fints_cli_texts.specs.declared.fault.Fault.{Fault}
 use Rattle.fints_cli_texts.specs.declared.fault.Fault.TheVariants.{Memory, Before, Answer, Message}
 
--- the status and the text tell the rules that the message breaks behind the one before and the answer to that, by these rows and this order table
+-- the status and the text tell the rules that the message breaks after the one before and the answer to that,
+-- by these rows and this order table; where the text ends with `permitted`, the message is permitted then
 pub record IsVerdictAfterBy (rows : Rows) (table : List OrderRow) (before answer message : List ℕ)
     (status : ℕ) (text : List ℕ) : Type 0 where
   pub numbers : List ℕ
@@ -20,6 +21,8 @@ pub record IsVerdictAfterBy (rows : Rows) (table : List OrderRow) (before answer
   pub judged : IsJudgedAfter (record { rows = rows; orders = table }) before numbers message broken
   pub text_is : text ≡ verdict_text broken
   pub status_is : status ≡ verdict_status broken
+  pub permitted : EndsPermitted text
+      → PermittedAfter (record { rows = rows; orders = table }) before numbers message
 
 -- they tell them by the capture and the text of an order table
 pub record IsVerdictAfter (params orders before answer message : List ℕ) (status : ℕ) (text : List ℕ)

@@ -15,10 +15,10 @@ abbrev pub OneShownMessage : Type 0
 OneShownMessage =
     (message text told : List ℕ) → IsShownMessage message text → IsShownMessage message told → text ≡ told
 
--- PIN and TAN, or a new PIN, stand in the segment from this element on
+-- PIN and TAN, or a new PIN, and what may be a part of them, are in the segment from this element on
 abbrev pub HasSecretsFrom : OwnedSegment → ℕ → Type 0
 HasSecretsFrom s from =
-    (IsTrue (bytes_eq s.head.id (codes "HNSHA")) × (from ≡ 4))
+    (IsTrue (bytes_eq s.head.id (codes "HNSHA")) × (from ≡ 3))
     ⊎ (IsTrue (bytes_eq s.head.id (codes "HKPAE")) × (from ≡ 2))
 
 abbrev pub is_absent : List ℕ → Bool

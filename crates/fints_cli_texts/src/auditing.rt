@@ -134,7 +134,7 @@ fn audit_file_own<O: Observer>(
     match own_params(alloc, &recording) {
         Ok(params) => audit_recording(alloc, &params, orders, &recording, observer),
         Err(fault) => {
-            recording.exchanges(alloc)?;
+            recording.exchanges(alloc, observer)?;
             Err(fault)
         }
     }

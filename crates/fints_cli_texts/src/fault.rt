@@ -17,19 +17,19 @@ pub enum Fault {
     /// A growth was refused.
     #[error("memory")]
     Memory,
-    /// The capture is refused; want of memory is no such refusal.
+    /// The capture is refused; memory that ran out is no such refusal.
     #[error("params {0}")]
     Params(ParamFault),
-    /// The order table is refused; want of memory is no such refusal.
+    /// The order table is refused; memory that ran out is no such refusal.
     #[error("orders {0}")]
     Orders(TableFault),
-    /// The script is refused; want of memory is no such refusal.
+    /// The script is refused; memory that ran out is no such refusal.
     #[error("script {0}")]
     Script(ScriptFault),
     /// The script leaves something open with the order table.
     #[error("plan {0}")]
     Plan(PlanFault),
-    /// The text is no case; want of memory is no such refusal.
+    /// The text is no case; memory that ran out is no such refusal.
     #[error("case {0}")]
     Case(CaseFault),
     /// The values of the case aren't those that the script admits.
@@ -47,10 +47,10 @@ pub enum Fault {
     /// The bytes before a judged message are no message; the offset is that of `NotAMessage`.
     #[error("before NotAMessage at {offset}")]
     Before { offset: usize },
-    /// The bank's answer to the message before is refused; want of memory is no such refusal.
+    /// The bank's answer to the message before is refused; memory that ran out is no such refusal.
     #[error("answer {0}")]
     Answer(ParamFault),
-    /// The bytes are no message; want of memory is no such refusal.
+    /// The bytes are no message; memory that ran out is no such refusal.
     #[error("message {0}")]
     Message(JudgeFault),
     /// The bytes are no recorded dialogue, or it tells no parameters; want of memory is no such

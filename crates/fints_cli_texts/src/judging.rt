@@ -9,8 +9,8 @@ ghost use Rattle.fints_cli_texts.specs.Judge.{broken_line, last_line, verdict_te
 use crate::fault::Fault;
 use crate::reply::Reply;
 use fints_params::{ParamFault, Params};
-use fints_rules::{Broken, Message, OrderTable, Permissions, read_message};
-use fints_rules_dialogues::Unobserved;
+use fints_rules::{Broken, Message, OrderTable, Permissions};
+use fints_rules_messages::{Unobserved, UnreadObserver, read_message_with};
 use itoa::Buffer;
 use std::alloc::{AllocError, Global};
 
@@ -70,7 +70,7 @@ pub fn verdict(alloc: Global, broken: &[Broken]) -> Result<Reply, AllocError>
 }
 
 /// What looks on while a message is judged. No contract says what it makes of it.
-pub trait JudgeObserver {
+pub trait JudgeObserver: UnreadObserver {
     /// Looks at the message, and at the rules that it breaks under these permissions.
     fn judged(&mut self, permissions: &Permissions<'_>, message: &Message<'_>, broken: &[Broken]);
 }
@@ -98,7 +98,7 @@ fn judge_with<O: JudgeObserver>(
     ensures refused { IfErr result (λ f. IsMessageRefusal message.now f) }
 {
     let permissions = Permissions::build(alloc, params, orders)?;
-    let read = read_message(alloc, message)?;
+    let read = read_message_with(alloc, message, observer)?;
     let broken = fints_rules::judge_message(alloc, &permissions, &read)?;
     observer.judged(&permissions, &read, broken.as_slice());
     let reply = verdict(alloc, broken.as_slice())?;

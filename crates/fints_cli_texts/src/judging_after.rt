@@ -1,4 +1,4 @@
-//! The text of `judge` for a message behind another one and the bank's answer to that.
+//! The text of `judge` for a message after another one and the bank's answer to that.
 ghost use Rattle.std.specs.Prelude.{◌≡◌, ◌≤◌, ℕ, List, IfOk, IfErr};
 ghost use Rattle.fints_params.specs.declared.fault.ParamFault.{ParamFault as ParamFaultValue};
 ghost use Rattle.fints_cli_texts.specs.Fault.{fault_of};
@@ -11,15 +11,19 @@ use crate::judging::{JudgeObserver, verdict};
 use crate::reply::Reply;
 use fints_params::{Code, ParamFault, Params, feedback_codes};
 use fints_rules::{OrderTable, Permissions, judge_message_after};
-use fints_rules_messages::{JudgeFault, Message, read_message};
+use fints_rules_messages::{JudgeFault, Message, UnreadObserver, read_message_with};
 use std::alloc::Global;
 
 // The message before the judged one.
-fn read_before(alloc: Global, before: &[u8]) -> Result<Message<'_>, Fault>
+fn read_before<'a, O: UnreadObserver>(
+    alloc: Global,
+    before: &'a [u8],
+    observer: &mut O,
+) -> Result<Message<'a>, Fault>
     ensures message { IfOk result (λ m. IsMessage before.now m) }
     ensures refused { IfErr result (λ f. IsBeforeRefusal before.now f) }
 {
-    match read_message(alloc, before) {
+    match read_message_with(alloc, before, observer) {
         Ok(message) => Ok(message),
         Err(fault) => match fault {
             JudgeFault::NotAMessage { offset } => Err(Fault::Before { offset }),
@@ -39,7 +43,7 @@ fn read_answer(alloc: Global, answer: &[u8]) -> Result<Vec<Code>, Fault>
     }
 }
 
-// The verdict on a message behind another one and the answer to that.
+// The verdict on a message after another one and the answer to that.
 #[tactic(auto, using(crate::proofs::JudgeLemmas::answer_refused, crate::proofs::JudgeLemmas::judged_refused))]
 fn judge_behind<O: JudgeObserver>(
     alloc: Global,
@@ -54,9 +58,9 @@ fn judge_behind<O: JudgeObserver>(
         reply.status reply.text.items) }
     ensures refused { IfErr result (λ f. IsRefusalOfThree before.now answer.now message.now f) }
 {
-    let earlier = read_before(alloc, before)?;
+    let earlier = read_before(alloc, before, observer)?;
     let codes = read_answer(alloc, answer)?;
-    let read = read_message(alloc, message)?;
+    let read = read_message_with(alloc, message, observer)?;
     let broken = judge_message_after(alloc, permissions, &earlier, codes.as_slice(), &read)?;
     observer.judged(permissions, &read, broken.as_slice());
     let reply = verdict(alloc, broken.as_slice())?;
@@ -83,7 +87,7 @@ fn judge_after_with<O: JudgeObserver>(
     Ok(reply)
 }
 
-/// The rules that a message breaks behind the message before it and the bank's answer to that, by
+/// The rules that a message breaks after the message before it and the bank's answer to that, by
 /// what was read of a capture and an order table. The refusals come in this order: of the capture, of
 /// the order table, of the message before, of the answer, of the message. The codes of the answer are
 /// those of `feedback_codes`.

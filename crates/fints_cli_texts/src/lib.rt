@@ -13,11 +13,12 @@ mod showing_message;
 
 pub use auditing::{audit_own, audit_read};
 pub use fault::Fault;
-pub use fints_rules_dialogues::Unobserved;
+pub use fints_rules_messages::Unobserved;
 pub use judging::{
     JudgeObserver, judge_message, judge_read, verdict_status, write_broken, write_last,
 };
 pub use judging_after::judge_after_read;
+pub use masking::has_reference;
 pub use reply::Reply;
 pub use showing::{show, show_read};
-pub use showing_message::show_message;
+pub use showing_message::{show_message, show_message_with};

@@ -1,9 +1,10 @@
 //! Segments without their secrets (FinTS 3.0, Security, PIN/TAN: HNSHA, the user defined signature; HKPAE).
 ghost use Rattle.std.specs.Prelude.{◌≡◌, ◌-◌, ◌<◌, ◌≤◌, ◌++◌, ◌∷◌, [], length, drop, OnOk, IfOk};
-ghost use Rattle.std.specs.List.{AllByRecursion};
+ghost use Rattle.std.specs.Char.{is_ascii_alphanumeric};
+ghost use Rattle.std.specs.List.{AllByRecursion, list_all};
 ghost use Rattle.fints_syntax_segments.specs.Lent.{item_of_ref};
 ghost use Rattle.fints_syntax_segments.specs.declared.item.OwnedItem.TheVariants.{Text};
-ghost use Rattle.fints_cli_texts.specs.Masked.{emptied_at, mask, masked_from, masked_items, with_items};
+ghost use Rattle.fints_cli_texts.specs.Masked.{emptied_at, has_reference, mask, masked_from, masked_items, secrets_from, with_items};
 
 use fints_syntax::{Bytes, ElementRef, Elements, ItemRef, Memory, OwnedItem, OwnedSegment};
 use std::alloc::Global;
@@ -38,7 +39,7 @@ fn copied(alloc: Global, item: &ItemRef<'_>) -> Result<OwnedItem, Memory>
     }
 }
 
-// Adds copies of the items of an element, but for so many at its front.
+// Adds copies of the items of an element, but for the first `skipped` ones.
 fn copy_items(
     alloc: Global,
     out: &mut Vec<OwnedItem>,
@@ -81,6 +82,28 @@ fn mask_element(
 {
     let masked = masked_items(alloc, items)?;
     elements.push(masked.as_slice())
+}
+
+fn is_plain(value: &[u8]) -> bool
+    ensures { result ≡ list_all is_ascii_alphanumeric value.now }
+{
+    value.iter().all(|b| b.is_ascii_alphanumeric())
+}
+
+/// Whether element 2 of an HNSHA is a control reference, one item of letters and digits, or is absent. If it
+/// is neither, a part of a PIN may be in it.
+pub fn has_reference(segment: &OwnedSegment) -> bool
+    ensures { result ≡ has_reference segment.now }
+{
+    segment.items(2).len() <= 1 && is_plain(segment.value(2, 1))
+}
+
+/// The element of an HNSHA from which on all may be PIN and TAN, or a part of them.
+pub fn secrets_from(segment: &OwnedSegment) -> usize
+    ensures from { result ≡ secrets_from segment.now }
+    ensures after_head { 2 ≤ result }
+{
+    if has_reference(segment) { 3 } else { 2 }
 }
 
 /// A copy of the segment, with each item masked of the elements from this one on.

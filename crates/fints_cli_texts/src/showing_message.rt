@@ -10,8 +10,8 @@ ghost use Rattle.fints_cli_texts.specs.Masked.{masked};
 ghost use Rattle.fints_cli_texts.specs.ShowMessage.{is_control, shown_byte, segment_line, IsShownMessage};
 
 use crate::fault::Fault;
-use crate::masking::{emptied_at, masked_from};
-use fints_rules::{Message, read_message};
+use crate::masking::{emptied_at, masked_from, secrets_from};
+use fints_rules_messages::{Message, Unobserved, UnreadObserver, read_message_with};
 use fints_syntax::{Memory, OwnedSegment, SegmentView, write_segment};
 use std::alloc::{AllocError, Global};
 
@@ -50,7 +50,7 @@ fn write_masked(alloc: Global, out: &mut Vec<u8>, segment: &OwnedSegment) -> Res
 {
     let kind = segment.head.id;
     if kind.is(b"HNSHA") {
-        write_segment(out, &masked_from(alloc, segment, 4)?)
+        write_segment(out, &masked_from(alloc, segment, secrets_from(segment))?)
     } else if kind.is(b"HKPAE") {
         write_segment(out, &masked_from(alloc, segment, 2)?)
     } else if kind.is(b"HNVSD") {
@@ -111,15 +111,20 @@ fn write_rest(
     write_line(alloc, text, b"", message.last())
 }
 
-/// The segments of a message, a line each, those of sealed data indented behind HNVSD. PIN, TAN and new
-/// PIN are masked, and what stands in their segments after them, so that the text may be handed on.
-pub fn show_message(alloc: Global, message: &[u8]) -> Result<Vec<u8>, Fault>
+/// The segments of a message, a line each, those of sealed data indented after HNVSD. PIN, TAN and new
+/// PIN are masked, and what is in their segments after them, so that the text may be handed on. Where
+/// the bytes are no message, the observer sees why.
+pub fn show_message_with<O: UnreadObserver>(
+    alloc: Global,
+    message: &[u8],
+    observer: &mut O,
+) -> Result<Vec<u8>, Fault>
     ensures shown { IfOk result (λ text. IsShownMessage message.now text.items) }
     ensures refused { IfErr result (λ f. IsMessageRefusal message.now f) }
     ensures memory_alone { (m : MessageView) → IsMessage message.now m
         → IfErr result (λ f. f ≡ fault.Memory) }
 {
-    let read = read_message(alloc, message)?;
+    let read = read_message_with(alloc, message, observer)?;
     let mut text = Vec::new(alloc);
     write_line(alloc, &mut text, b"", read.first())?;
     let Some(seal) = read.seal() else {
@@ -130,4 +135,14 @@ pub fn show_message(alloc: Global, message: &[u8]) -> Result<Vec<u8>, Fault>
     write_line(alloc, &mut text, b"", &seal.envelope)?;
     write_rest(alloc, &mut text, b"  ", &read)?;
     Ok(text)
+}
+
+/// The same, while nobody looks on.
+pub fn show_message(alloc: Global, message: &[u8]) -> Result<Vec<u8>, Fault>
+    ensures shown { IfOk result (λ text. IsShownMessage message.now text.items) }
+    ensures refused { IfErr result (λ f. IsMessageRefusal message.now f) }
+    ensures memory_alone { (m : MessageView) → IsMessage message.now m
+        → IfErr result (λ f. f ≡ fault.Memory) }
+{
+    show_message_with(alloc, message, &mut Unobserved)
 }

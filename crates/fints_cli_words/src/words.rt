@@ -56,7 +56,7 @@ fn option<'a>(alloc: Global, choice: &Choice) -> Result<Arg<'a>, AllocError> {
     }
 }
 
-// The options of which exactly one is given.
+// The options, exactly one of which is given.
 fn either_group<'a>(alloc: Global, options: &[Choice]) -> Result<ArgGroup<'a>, AllocError> {
     let mut group = ArgGroup::new(alloc, "either").required(true);
     for choice in options {
@@ -111,7 +111,7 @@ fn command_line<'a>(alloc: Global) -> Result<Clap<'a>, AllocError> {
     Ok(program)
 }
 
-// What is told in place of a command.
+// What is printed in place of a command.
 fn told<'a>(alloc: Global, error: &Error) -> Asked<'a> {
     if error.kind() == ErrorKind::OutOfMemory {
         return Asked::NoMemory;

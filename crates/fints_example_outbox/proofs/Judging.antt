@@ -6,43 +6,16 @@ use Rattle.std.proofs.lemmas.List.{get_or_append_left, take-append-le}
 use Rattle.std.proofs.lemmas.Option.{slice_get_within, slice_get-get_or, get_or_from_slice_get}
 use Rattle.std.proofs.Math.Seq.{get_or-append_seam, take-append_seam}
 use Rattle.std.specs.Prelude.{Contains, slice_get}
-use Rattle.fints_example_outbox.specs.Outboxes.{EachWasPermitted, IsPermittedAfter, IsPermittedNext, SentValue}
-use Rattle.fints_rules.specs.Breaks.{Breaks, IsJudged, IsJudgedAfter, Permitted, PermittedAfter}
-use Rattle.fints_rules.proofs.{one_message}
+use Rattle.fints_example_outbox.specs.Outboxes.{EachWasPermitted, IsHeldFor, IsPermittedAfter, IsPermittedNext, OutboxValue, SentValue}
+use Rattle.fints_example_outbox.specs.declared.outbox.Held.TheVariants as held
+use Rattle.fints_rules.specs.Breaks.{Breaks, IsJudged, IsJudgedAfter, IsJudgeFaultAfter, Permitted, PermittedAfter}
+use Rattle.fints_rules.proofs.{one_message, one_stop_not_both}
+use Rattle.fints_rules.specs.JudgeFaults as faults
 use Rattle.fints_rules.specs.Messages.{IsMessage, MessageView}
+use Rattle.fints_rules.specs.Read.{IsJudgeFault}
+use Rattle.fints_rules.specs.{JudgeFault}
 use Rattle.fints_rules.specs.declared.rule.Broken.{Broken}
 use Rattle.fints_rules.specs.Permits.{Granted}
-use Rattle.fints_rules.specs.declared.rule.Rule.TheVariants.{Release}
-
-nothing_in : (broken : List Broken) (b : Broken) → broken ≡ [] → Contains broken b → ⊥
-nothing_in broken b none h = let has = subst (λ (xs : List Broken). Contains xs b) none h in let lt = has.1 in omega arith
-
-pub permitted : (granted : Granted) (bytes : List ℕ) (broken : List Broken) → IsJudged granted bytes broken
-    → broken ≡ [] → Permitted granted bytes
-permitted granted bytes broken h none =
-    record {
-      message = h.message;
-      is = h.is;
-      none =
-          λ rule place b.
-          nothing_in broken (record { rule = rule; segment = place }) none ((h.exactly rule place).1 b);
-    }
-
-pub permitted_after : (granted : Granted) (before codes bytes : List ℕ) (broken : List Broken)
-    → IsJudgedAfter granted before codes bytes broken → broken ≡ []
-    → PermittedAfter granted before codes bytes
-permitted_after granted before codes bytes broken h none =
-    record {
-      alone = record {
-        message = h.message;
-        is = h.is;
-        none =
-            λ rule place b.
-            nothing_in broken (record { rule = rule; segment = place }) none
-            ((h.exactly rule place).1 (inl (record { message = h.message; is = h.is; breaks = b })));
-      };
-      released = λ b. nothing_in broken (record { rule = Release; segment = 0 }) none ((h.exactly Release 0).1 (inr (refl, refl, b)));
-    }
 
 empty : (broken : List Broken) → ((b : Broken) → Contains broken b → ⊥) → broken ≡ []
 empty [] h = refl
@@ -100,3 +73,17 @@ each_more granted sent x each next i s at =
           subst (λ (xs : List SentValue). IsPermittedNext granted xs s.heard s.message) (sym front)
           (subst (λ (y : SentValue). IsPermittedNext granted sent y.heard y.message) same next)
     ]
+
+-- why a message isn't judged, behind one that is a message or as the first one
+pub held_after : (o : OutboxValue) (before bytes : List ℕ) (f : JudgeFault) → (m : MessageView) × IsMessage before m
+    → IsJudgeFaultAfter before bytes f → IsHeldFor o bytes (held.Unjudged f)
+held_after o before bytes faults.Memory was h = tt
+held_after o before bytes (faults.NotAMessageBefore offset) was h =
+    absurd (one_stop_not_both before offset was.0 h was.1)
+held_after o before bytes (faults.NotAMessage offset) was h = h.1
+
+pub held_first : (o : OutboxValue) (bytes : List ℕ) (f : JudgeFault) → IsJudgeFault bytes f
+    → IsHeldFor o bytes (held.Unjudged f)
+held_first o bytes faults.Memory h = tt
+held_first o bytes (faults.NotAMessageBefore offset) h = absurd h
+held_first o bytes (faults.NotAMessage offset) h = h

@@ -2,7 +2,7 @@
 ghost use Rattle.std.specs.Prelude.{◌≡◌, [], OnOk, OnErr, IfOk, IfErr};
 ghost use Rattle.fints_rules.specs.Permits.{Granted};
 ghost use Rattle.fints_rules.specs.JudgeFaults as faults;
-ghost use Rattle.fints_example_outbox.specs.Outboxes.{nothing_sent, with_sent, after_sending, EachWasPermitted, IsNextIn};
+ghost use Rattle.fints_example_outbox.specs.Outboxes.{nothing_sent, with_sent, after_sending, EachWasPermitted, IsHeldFor, IsJudgedNextIn, IsNextIn};
 ghost use Rattle.fints_example_outbox.specs.declared.outbox.Held.TheVariants as held;
 
 use fints_params::Code;
@@ -113,6 +113,8 @@ impl<'a> Outbox<'a> {
     fn broken(&self, message: &[u8]) -> Result<Vec<Broken>, JudgeFault>
         ensures permitted { IfOk result (λ broken. broken.items ≡ [] → IsNextIn self.now message.now) }
         ensures broken { IfOk result (λ broken. IsNextIn self.now message.now → broken.items ≡ []) }
+        ensures judged { IfOk result (λ broken. IsJudgedNextIn self.now message.now broken.items) }
+        ensures unjudged { IfErr result (λ f. IsHeldFor self.now message.now (held.Unjudged f)) }
         ensures memory_alone { IsNextIn self.now message.now → IfErr result (λ f. f ≡ faults.Memory) }
     {
         match self.sent.last() {
@@ -128,11 +130,13 @@ impl<'a> Outbox<'a> {
     }
 
     /// Hands a message on, if the bank permits it behind the one before and the bank's answer to that. One
-    /// that it permits is held back for want of memory alone.
+    /// that it permits is held back for want of memory alone; another for all the rules that it breaks, or
+    /// because it is no message.
     pub fn send(&mut self, message: &[u8]) -> Result<(), Held>
         ensures permitted { OnOk result (IsNextIn self.old message.now) }
         ensures sent { OnOk result (self.new ≡ after_sending self.old message.now) }
         ensures held { IfErr result (λ why. self.new ≡ self.old) }
+        ensures why { IfErr result (λ why. IsHeldFor self.old message.now why) }
         ensures memory_alone { IsNextIn self.old message.now
             → IfErr result (λ why. why ≡ held.Unjudged faults.Memory) }
     {

@@ -1,5 +1,6 @@
--- Why a rule is broken at a segment: the parts of the rules' definitions, told apart.
-use Rattle.std.specs.Prelude.{◌≡◌, ◌≢◌, ◌≤◌, ℕ, List, [], Some, None, IsTrue}
+-- Why a rule is broken at a segment: the parts of the rules' definitions, told apart. Words of private
+-- contracts and proofs alone stand last, under a heading.
+use Rattle.std.specs.Prelude.{◌≡◌, ◌≢◌, ◌≤◌, ℕ, Bool, false, List, [], Some, None, IsTrue}
 use Rattle.fints_rules.specs.declared.facts.MessageFacts.{MessageFacts}
 use Rattle.fints_rules.specs.declared.rule.Rule.{Rule}
 use Rattle.fints_rules.specs.declared.rule.Rule.TheVariants as rule
@@ -49,13 +50,29 @@ IsBrokenBecause granted f s cause.OneOrderAtATime =
 IsBrokenBecause granted f s cause.NoOneStep =
     IsPlainOrder s × IsListedWithTan granted.rows.pins s.kind × IsOneStep f × NeedsTwoSteps granted.rows
 
--- Wherever a segment of this kind and version breaks the rule, in a message with so many signatures, it does so for this cause.
-abbrev pub IsCauseOf : Granted → Rule → List ℕ → ℕ → ℕ → Cause → Type 0
-IsCauseOf granted rule kind version signatures cause =
-    (f : MessageFacts) (s : SegmentFactsValue) → s.kind ≡ kind → s.version ≡ version
-    → f.signatures ≡ signatures
-    → SegmentBreaks granted f rule s → IsBrokenBecause granted f s cause
+-- in some message with so many signatures the segment breaks the rule
+abbrev pub MayBreak : Granted → Rule → SegmentFactsValue → ℕ → Type 0
+MayBreak granted rule s signatures =
+    (f : MessageFacts) × (f.signatures ≡ signatures) × SegmentBreaks granted f rule s
 
--- no segment breaks the rule
-abbrev pub IsNeverBroken : Granted → Rule → Type 0
-IsNeverBroken granted rule = (f : MessageFacts) (s : SegmentFactsValue) → SegmentBreaks granted f rule s → ⊥
+-- wherever it does, it does so for this cause
+abbrev pub IsCauseOf : Granted → Rule → SegmentFactsValue → ℕ → Cause → Type 0
+IsCauseOf granted rule s signatures cause =
+    (f : MessageFacts) → f.signatures ≡ signatures → SegmentBreaks granted f rule s
+    → IsBrokenBecause granted f s cause
+
+-- ---- of private contracts and proofs alone
+
+-- a message with so many signatures, with a TAN or without one: it submits no order, and two demand a TAN
+abbrev pub barest : ℕ → Bool → MessageFacts
+barest signatures has_tan = record {
+  protocol = None;
+  kinds = 0;
+  signatures = signatures;
+  submits = false;
+  sends = false;
+  ends = false;
+  has_tan = has_tan;
+  has_tan_order = false;
+  demanding = 2;
+}

@@ -1,5 +1,7 @@
 pub use Rattle.fints_rules_permissions.specs.Permits
 pub use Rattle.fints_rules_messages.specs.Messages
+pub use Rattle.fints_rules_messages.specs.Read
+pub use Rattle.fints_rules_messages.specs.declared.message.JudgeFault.{JudgeFault}
 pub use Rattle.fints_rules_messages.specs.declared.message.JudgeFault.TheVariants as JudgeFaults
 pub mod SegmentFacts
 pub mod Rules

@@ -1,11 +1,12 @@
 //! The causes of the rules of a segment, P5 to P10 and P12.
-ghost use Rattle.std.specs.Prelude.{◌≡◌, IfSome, MatchOption};
-ghost use Rattle.fints_rules.specs.Causes.{cause_rule, IsCauseOf, IsNeverBroken};
+ghost use Rattle.std.specs.Prelude.{◌≡◌, ◌↔◌, IfSome, IsSome, IsTrue};
+ghost use Rattle.fints_rules.specs.Causes.{barest, cause_rule, IsCauseOf, MayBreak};
 
+use crate::facts::{MessageFacts, SegmentFacts};
 use crate::rule::Rule;
+use crate::segments::segment_breaks;
 use fints_rules_permissions::Permissions;
 use fints_rules_permissions::kinds::{is_tan_order, own_version};
-use fints_syntax::Kind;
 
 /// Why a segment breaks a rule.
 #[derive(Clone, Copy, PartialEq, Eq)]
@@ -36,19 +37,54 @@ pub enum Cause {
     NoOneStep,
 }
 
-/// Why a segment of this kind and version breaks the rule, wherever it does so in a message with so many
-/// signatures; none for a rule that no segment breaks. It takes no memory.
+// The facts of a message with so many signatures, with a TAN or without one, that submits no order. Two of
+// its orders demand a TAN.
+fn barest(signatures: usize, has_tan: bool) -> MessageFacts
+    ensures { result ≡ barest signatures has_tan }
+{
+    MessageFacts {
+        protocol: None,
+        kinds: 0,
+        signatures,
+        submits: false,
+        sends: false,
+        ends: false,
+        has_tan,
+        has_tan_order: false,
+        demanding: 2,
+    }
+}
+
+// Whether in some message with so many signatures the segment breaks the rule: if it does in any, it does
+// in one of the barest.
+fn may_break(
+    permissions: &Permissions<'_>,
+    rule: Rule,
+    segment: &SegmentFacts<'_>,
+    signatures: usize,
+) -> bool
+    ensures { IsTrue result ↔ MayBreak permissions.now rule segment.now signatures }
+{
+    segment_breaks(permissions, &barest(signatures, false), rule, segment)
+        || segment_breaks(permissions, &barest(signatures, true), rule, segment)
+}
+
+/// Why the segment breaks the rule, wherever it does so in a message with so many signatures; some
+/// exactly where it does in one of them. It takes no memory.
 pub fn segment_cause(
     permissions: &Permissions<'_>,
     rule: Rule,
-    kind: Kind,
-    version: u16,
+    segment: &SegmentFacts<'_>,
     signatures: usize,
 ) -> Option<Cause>
+    ensures some { IsSome result ↔ MayBreak permissions.now rule segment.now signatures }
     ensures rule { IfSome result (λ cause. cause_rule cause ≡ rule) }
-    ensures cause { MatchOption result (IsNeverBroken permissions.now rule)
-        (IsCauseOf permissions.now rule kind version signatures) }
+    ensures cause { IfSome result (IsCauseOf permissions.now rule segment.now signatures) }
 {
+    if !may_break(permissions, rule, segment, signatures) {
+        return None;
+    }
+    let (kind, version) = (segment.kind(), segment.version());
     match rule {
         Rule::Version if own_version(kind).is_some() => Some(Cause::OtherVersion),
         Rule::Version => Some(Cause::NoParameters),
@@ -64,6 +100,6 @@ pub fn segment_cause(
         Rule::Tan => Some(Cause::NoTan),
         Rule::Procedure if is_tan_order(kind) => Some(Cause::OneOrderAtATime),
         Rule::Procedure => Some(Cause::NoOneStep),
-        _ => None,
+        Rule::Protocol | Rule::Number | Rule::Size | Rule::Kinds | Rule::Release => None,
     }
 }

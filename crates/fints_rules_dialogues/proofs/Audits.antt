@@ -2,13 +2,16 @@
 use Rattle.std.proofs.Common.{◌≡◌, ℕ, ◌+◌, ◌≤◌, List, [], ◌∷◌, ◌++◌, length, drop, refl, ap, ◌∙◌, sym, subst, Option, Some, None}
 use Rattle.std.specs.Borrow.{Bor}
 use Rattle.std.specs.Prelude.{IfSome, option_copied}
+use Rattle.std.specs.List.{flat_map}
 use Rattle.fints_rules_permissions.specs.Permits.{Granted}
+use Rattle.fints_rules.specs.declared.rule.Broken.{Broken}
+use Rattle.fints_rules.proofs.Unbroken.{permitted, permitted_after}
 use Rattle.fints_rules_dialogues.specs.declared.auditing.Audited.{Audited}
 use Rattle.fints_rules_dialogues.specs.declared.cutting.Sent.{Sent}
 use Rattle.fints_rules_dialogues.specs.declared.fault.DialogueFault.{DialogueFault}
 use Rattle.fints_rules_dialogues.specs.declared.reading.Exchange.{Exchange}
 use Rattle.fints_rules_dialogues.specs.Dialogues.{sents_in, IsExchange, IsExchangeFault, IsMemoryOrRefusal, IsTurnFault, BeginsWithOne}
-use Rattle.fints_rules_dialogues.specs.Auditing.{IsJudgedBehind, AreJudgedBehind, AreAudited, AreAuditedInTurn}
+use Rattle.fints_rules_dialogues.specs.Auditing.{codes_told, IsJudgedBehind, AreJudgedBehind, AreAudited, AreAuditedInTurn, IsPermittedNext, ArePermittedNext}
 use Rattle.fints_rules_dialogues.proofs.Turns.{AreReadSoFar, all_read, one_read, turn_refused}
 
 -- the last of the exchanges, or the one before them
@@ -72,3 +75,31 @@ pub before_lent : (lent : Option (Bor Exchange)) (before : Option Exchange) → 
     → IfSome before IsExchange → IfSome lent (λ e. IsExchange e.now)
 before_lent None before is h = tt
 before_lent (Some e) before is h = subst (λ b. IfSome b IsExchange) (sym is) h
+
+-- ---- messages that break no rule
+
+permitted_next : (granted : Granted) (before : Option Exchange) (bytes : List ℕ) (broken : List Broken)
+    → IsJudgedBehind granted before bytes broken → broken ≡ [] → IsPermittedNext granted before bytes
+permitted_next granted None bytes broken h none = permitted granted bytes broken h none
+permitted_next granted (Some e) bytes broken h none =
+    permitted_after granted e.sent.bytes.now (codes_told e.answer) bytes broken h none
+
+first_none : {A : Type 0} (xs ys : List A) → xs ++ ys ≡ [] → xs ≡ []
+first_none [] ys e = refl
+first_none (x ∷ xs) ys e = absurd cc
+
+rest_none : {A : Type 0} (xs ys : List A) → xs ++ ys ≡ [] → ys ≡ []
+rest_none [] ys e = e
+rest_none (x ∷ xs) ys e = absurd cc
+
+-- where no message breaks a rule, each is permitted
+pub all_permitted : (granted : Granted) (before : Option Exchange) (es : List Exchange)
+    (audited : List Audited) → AreJudgedBehind granted before es audited
+    → flat_map (λ (a : Audited). a.broken.items) audited ≡ [] → ArePermittedNext granted before es
+all_permitted granted before [] audited h none = tt
+all_permitted granted before (e ∷ es) [] h none = absurd h
+all_permitted granted before (e ∷ es) (a ∷ more) (s, j, h) none =
+    let rest = flat_map (λ (b : Audited). b.broken.items) more in (
+      permitted_next granted before e.sent.bytes.now a.broken.items j (first_none a.broken.items rest none),
+      all_permitted granted (Some e) es more h (rest_none a.broken.items rest none),
+    )

@@ -1,7 +1,7 @@
 -- Which rules each message of the client breaks, after the message before it and the bank's answer to that.
 use Rattle.std.specs.Prelude.{◌≡◌, ℕ, List, [], ◌∷◌, Option, Some, None}
 use Rattle.fints_rules.specs.declared.rule.Broken.{Broken}
-use Rattle.fints_rules.specs.Breaks.{IsJudged, IsJudgedAfter}
+use Rattle.fints_rules.specs.Breaks.{IsJudged, IsJudgedAfter, Permitted, PermittedAfter}
 use Rattle.fints_rules_permissions.specs.Permits.{Granted}
 use Rattle.fints_rules_dialogues.specs.declared.auditing.Audited.{Audited}
 use Rattle.fints_rules_dialogues.specs.Dialogues.{AreInTurn}
@@ -30,6 +30,21 @@ AreJudgedBehind granted before (e ∷ es) (a ∷ more) =
 -- the messages of a recorded dialogue, each with the rules that it breaks
 abbrev pub AreAudited : Granted → List Exchange → List Audited → Type 0
 AreAudited granted exchanges audited = AreJudgedBehind granted None exchanges audited
+
+-- the bank permits the message: the first by itself, another after the exchange before it
+abbrev pub IsPermittedNext : Granted → Option Exchange → List ℕ → Type 0
+IsPermittedNext granted None bytes = Permitted granted bytes
+IsPermittedNext granted (Some e) bytes = PermittedAfter granted e.sent.bytes.now (codes_told e.answer) bytes
+
+-- the same of the message of each exchange, the first after that one
+abbrev pub ArePermittedNext : Granted → Option Exchange → List Exchange → Type 0
+ArePermittedNext granted before [] = Unit {0}
+ArePermittedNext granted before (e ∷ es) =
+    IsPermittedNext granted before e.sent.bytes.now × ArePermittedNext granted (Some e) es
+
+-- the bank permits each message of the client in a recorded dialogue, after those before it
+abbrev pub ArePermitted : Granted → List Exchange → Type 0
+ArePermitted granted exchanges = ArePermittedNext granted None exchanges
 
 -- the messages are those of a recorded dialogue, each of the client's with the rules that it breaks
 abbrev pub AreAuditedInTurn : Granted → List Sent → List Audited → Type 0

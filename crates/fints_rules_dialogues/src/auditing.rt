@@ -9,6 +9,7 @@ use crate::reading::{Exchange, message_count, read_exchange};
 use crate::recording::Recording;
 use fints_params::Code;
 use fints_rules::{Broken, Permissions, judge_message, judge_message_after};
+use fints_rules_messages::{Unobserved, UnreadObserver};
 use fints_syntax::Memory;
 use std::alloc::Global;
 
@@ -20,7 +21,7 @@ pub struct Audited<'a> {
 }
 
 /// What looks on while a dialogue is audited. No contract says what it makes of it.
-pub trait Observer {
+pub trait Observer: UnreadObserver {
     /// Looks at the next exchange, and at the rules that its message breaks under these permissions.
     fn observe(
         &mut self,
@@ -29,10 +30,6 @@ pub trait Observer {
         broken: &[Broken],
     );
 }
-
-/// Nobody looks on.
-#[derive(Clone, Copy)]
-pub struct Unobserved;
 
 impl Observer for Unobserved {
     fn observe(
@@ -94,7 +91,7 @@ pub fn audit<'a, O: Observer>(
     let mut at = 0;
     while at < messages.len() {
         let (_, rest) = messages.split_at(at);
-        let exchange = read_exchange(alloc, rest)?;
+        let exchange = read_exchange(alloc, rest, observer)?;
         let broken = judge_behind(alloc, permissions, before.as_ref(), &exchange)?;
         observer.observe(permissions, &exchange, broken.as_slice());
         let sent = exchange.sent;

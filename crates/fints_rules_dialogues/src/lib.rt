@@ -9,9 +9,10 @@ mod reading;
 mod recording;
 mod telling;
 
-pub use auditing::{Audited, Observer, Unobserved, audit};
+pub use auditing::{Audited, Observer, audit};
 pub use cutting::{Sent, cut};
 pub use fault::DialogueFault;
+pub use fints_rules_messages::{Unobserved, Unread, UnreadObserver};
 pub use reading::{Answer, Exchange};
-pub use recording::{Recording, read_dialogue};
+pub use recording::{Recording, read_dialogue, read_dialogue_with};
 pub use telling::own_params;

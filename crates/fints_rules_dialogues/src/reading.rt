@@ -8,7 +8,7 @@ ghost use Rattle.fints_rules_dialogues.specs.Dialogues.{is_hirmg, sents_in, IsFr
 use crate::cutting::Sent;
 use crate::fault::DialogueFault;
 use fints_params::{Code, ParamFault, feedback_codes};
-use fints_rules_messages::{JudgeFault, Message, read_message};
+use fints_rules_messages::{JudgeFault, Message, UnreadObserver, read_message_with};
 use fints_syntax::SegmentView;
 use std::alloc::Global;
 
@@ -47,14 +47,18 @@ fn has_hirmg(message: &Message<'_>) -> bool
 }
 
 // The message of the client that the sent one is.
-fn read_client<'a>(alloc: Global, sent: &Sent<'a>) -> Result<Message<'a>, DialogueFault>
+fn read_client<'a, O: UnreadObserver>(
+    alloc: Global,
+    sent: &Sent<'a>,
+    observer: &mut O,
+) -> Result<Message<'a>, DialogueFault>
     requires { sent.now.start + length sent.now.bytes.now < 2 ^ 64 }
     ensures message { IfOk result (λ m. IsMessage sent.now.bytes.now m) }
     ensures client { IfOk result (λ _. IsFromClient sent.now.bytes.now) }
     ensures refused { IfErr result (λ f. IsMemoryOrRefusal (IsClientFault sent.now) f) }
 {
     let offset = sent.start;
-    match read_message(alloc, sent.bytes) {
+    match read_message_with(alloc, sent.bytes, observer) {
         Ok(message) => {
             if has_hirmg(&message) {
                 return Err(DialogueFault::NotInTurn { offset });
@@ -93,10 +97,11 @@ fn read_answer<'a>(alloc: Global, sent: &Sent<'a>) -> Result<Answer<'a>, Dialogu
     }
 }
 
-/// The exchange at the front of the messages.
-pub fn read_exchange<'a>(
+/// The exchange at the front of the messages. Where the client's is none, the observer sees why.
+pub fn read_exchange<'a, O: UnreadObserver>(
     alloc: Global,
     messages: &[Sent<'a>],
+    observer: &mut O,
 ) -> Result<Exchange<'a>, DialogueFault>
     requires some { 0 < length messages.now }
     requires below { EndsBelow messages.now }
@@ -104,7 +109,7 @@ pub fn read_exchange<'a>(
     ensures refused { IfErr result (λ f. IsMemoryOrRefusal (IsExchangeFault messages.now) f) }
 {
     let sent = messages[0];
-    let message = read_client(alloc, &sent)?;
+    let message = read_client(alloc, &sent, observer)?;
     if messages.len() == 1 {
         return Ok(Exchange {
             sent,

@@ -6,6 +6,7 @@ ghost use Rattle.fints_rules_dialogues.specs.Dialogues.{IsExchange, IsFileFault,
 use crate::cutting::{Sent, cut};
 use crate::fault::DialogueFault;
 use crate::reading::{Exchange, message_count, read_exchange};
+use fints_rules_messages::{Unobserved, UnreadObserver};
 use std::alloc::Global;
 use std::marker::Model;
 
@@ -52,7 +53,12 @@ impl<'a> Recording<'a> {
     /// The exchanges: the 1st, 3rd, .. message is the client's, and the 2nd, 4th, .. the bank's. The
     /// refusal is the first, message by message: one of the client that is none or has a HIRMG, one of
     /// the bank whose feedback is refused or has no code (FinTS 3.0, Formals, messages and feedback).
-    pub fn exchanges(&self, alloc: Global) -> Result<Vec<Exchange<'a>>, DialogueFault>
+    /// Where one of the client is none, the observer sees why.
+    pub fn exchanges<O: UnreadObserver>(
+        &self,
+        alloc: Global,
+        observer: &mut O,
+    ) -> Result<Vec<Exchange<'a>>, DialogueFault>
         ensures exchanges { IfOk result (λ v. AreInTurn self.now v.items []) }
         ensures refused { IfErr result (λ f. IsMemoryOrRefusal (IsTurnFault self.now) f) }
     {
@@ -61,7 +67,7 @@ impl<'a> Recording<'a> {
         let mut at = 0;
         while at < messages.len() {
             let (_, rest) = messages.split_at(at);
-            let exchange = read_exchange(alloc, rest)?;
+            let exchange = read_exchange(alloc, rest, observer)?;
             at += message_count(&exchange);
             exchanges.push(exchange)?;
         }
@@ -70,12 +76,25 @@ impl<'a> Recording<'a> {
 }
 
 /// The exchanges of a recorded dialogue. The refusal is the first, in this order: of the file as a whole,
-/// then message by message.
-pub fn read_dialogue(alloc: Global, file: &[u8]) -> Result<Vec<Exchange<'_>>, DialogueFault>
+/// then message by message. Where a message of the client is none, the observer sees why.
+pub fn read_dialogue_with<'a, O: UnreadObserver>(
+    alloc: Global,
+    file: &'a [u8],
+    observer: &mut O,
+) -> Result<Vec<Exchange<'a>>, DialogueFault>
     ensures dialogue { IfOk result (λ v. IsDialogue file.now v.items) }
     ensures each { IfOk result (λ v. AllByRecursion IsExchange v.items) }
     ensures refused { IfErr result (λ f. IsMemoryOrRefusal (IsDialogueFault file.now) f) }
 {
     let recording = Recording::cut(alloc, file)?;
-    recording.exchanges(alloc)
+    recording.exchanges(alloc, observer)
+}
+
+/// The exchanges of a recorded dialogue, with the same refusals.
+pub fn read_dialogue(alloc: Global, file: &[u8]) -> Result<Vec<Exchange<'_>>, DialogueFault>
+    ensures dialogue { IfOk result (λ v. IsDialogue file.now v.items) }
+    ensures each { IfOk result (λ v. AllByRecursion IsExchange v.items) }
+    ensures refused { IfErr result (λ f. IsMemoryOrRefusal (IsDialogueFault file.now) f) }
+{
+    read_dialogue_with(alloc, file, &mut Unobserved)
 }

@@ -6,6 +6,7 @@ mod front;
 mod inner;
 pub mod laws;
 mod message;
+mod observing;
 mod part;
 mod plain;
 mod sealed;
@@ -14,6 +15,7 @@ mod tail;
 mod values;
 
 pub use front::{Inner, Seal};
-pub use message::{JudgeFault, Message, read_message, read_or_slip};
+pub use message::{JudgeFault, Message, read_or_slip};
+pub use observing::{Unobserved, UnreadObserver, read_message, read_message_with};
 pub use part::{Part, part_of};
 pub use slip::{Slip, Unread};

@@ -1,9 +1,7 @@
 //! Messages, as they are read.
 ghost use Rattle.std.specs.Prelude.{◌≡◌, ◌+◌, ◌<◌, ◌++◌, [], ◌∷◌, ℕ, length, Option, Some, IfOk, IfErr, IfSome, IfNone};
 ghost use Rattle.fints_syntax.specs.Owned.{segment_of, segments_of};
-ghost use Rattle.fints_rules_messages.specs.Messages.{MessageView, IsMessage, IsFirst, IsEnvelope, IsNumbered, CeasesAt};
-ghost use Rattle.fints_rules_messages.specs.Read.{IsJudgeFault};
-ghost use Rattle.fints_rules_messages.specs.declared.message.JudgeFault.TheVariants as fault;
+ghost use Rattle.fints_rules_messages.specs.Messages.{IsMessage, IsFirst, IsEnvelope, IsNumbered, CeasesAt};
 
 use crate::front::{Inner, Seal};
 use crate::inner::next_segment;
@@ -214,19 +212,5 @@ pub fn read_or_slip(
                 last,
             }))
         }
-    }
-}
-
-/// The message that the bytes are.
-pub fn read_message(alloc: Global, bytes: &[u8]) -> Result<Message<'_>, JudgeFault>
-    ensures message { IfOk result (λ m. IsMessage bytes.now m) }
-    ensures refusal { IfErr result (λ f. IsJudgeFault bytes.now f) }
-    ensures memory_alone { (m : MessageView) → IsMessage bytes.now m → IfErr result (λ f. f ≡ fault.Memory) }
-{
-    match read_or_slip(alloc, bytes)? {
-        Ok(message) => Ok(message),
-        Err(unread) => Err(JudgeFault::NotAMessage {
-            offset: unread.offset,
-        }),
     }
 }

@@ -1,7 +1,8 @@
 //! Recorded dialogues.
 use fints_rules::{Broken, OrderTable, Permissions};
 use fints_rules_dialogues::{
-    DialogueFault, Exchange, Observer, Recording, audit, own_params, read_dialogue,
+    DialogueFault, Exchange, Observer, Recording, Unread, UnreadObserver, audit, own_params,
+    read_dialogue, read_dialogue_with,
 };
 use fints_samples::T;
 use std::test::Fail;
@@ -10,9 +11,23 @@ use std::test::Fail;
 const DIALOGUE: &[u8] =
     b"HNHBK:1:3+000000000055+300+0+1'HKEND:2:1+0'HNHBS:3:1+1'\r\nHNHBK:1:3+000000000137+300+0+1'HIRMG:2:2+0010::OK'HIBPA:3:3+12+280:10020030+Bank+1+1+300+0'HIPINS:4:1+1+1+0+5:38:6:::HKSAL:N'HNHBS:5:1+1'";
 
-// Counts the exchanges that it looks at.
+// Counts the exchanges that it looks at, and keeps the offset at which bytes cease to be a message.
 #[derive(Drop)]
-struct Counter(usize);
+struct Counter {
+    exchanges: usize,
+    offset: Option<usize>,
+}
+
+const NOTHING_SEEN: Counter = Counter {
+    exchanges: 0,
+    offset: None,
+};
+
+impl UnreadObserver for Counter {
+    fn unread(&mut self, _bytes: &[u8], unread: &Unread<'_>) {
+        self.offset = Some(unread.offset);
+    }
+}
 
 impl Observer for Counter {
     fn observe(
@@ -21,7 +36,7 @@ impl Observer for Counter {
         _exchange: &Exchange<'_>,
         _broken: &[Broken],
     ) {
-        self.0 = self.0.saturating_add(1);
+        self.exchanges = self.exchanges.saturating_add(1);
     }
 }
 
@@ -31,14 +46,15 @@ fn audited(rt: HostRuntime) -> Result<(), Fail> {
     let params = own_params(rt.alloc(), &recording)?;
     let orders = OrderTable::read(rt.alloc(), T)?;
     let permissions = Permissions::build(rt.alloc(), &params, &orders)?;
-    let mut seen = Counter(0);
+    let mut seen = NOTHING_SEEN;
     let audited = audit(rt.alloc(), &permissions, &recording, &mut seen)?;
     assert_eq!(rt; audited.len(), 1);
     for one in audited.iter() {
         assert!(rt; (one.sent.start, one.sent.bytes.len()) == (0, 55));
         assert!(rt; one.broken.is_empty());
     }
-    assert_eq!(rt; seen.0, 1);
+    assert_eq!(rt; seen.exchanges, 1);
+    assert!(rt; seen.offset.is_none());
     Ok(())
 }
 
@@ -57,4 +73,15 @@ fn exchanges(rt: HostRuntime) -> Result<(), Fail> {
 fn no_dialogue(rt: HostRuntime) {
     let fault = read_dialogue(rt.alloc(), b"\r\n").err();
     assert_eq!(rt; fault, Some(DialogueFault::NoMessage));
+}
+
+// Its second segment has the number 3.
+const MISNUMBERED: &[u8] = b"\nHNHBK:1:3+000000000055+300+0+1'HKEND:3:1+0'HNHBS:3:1+1'";
+
+#[test]
+fn an_unread_message(rt: HostRuntime) {
+    let mut seen = NOTHING_SEEN;
+    let fault = read_dialogue_with(rt.alloc(), MISNUMBERED, &mut seen).err();
+    assert_eq!(rt; fault, Some(DialogueFault::NotAMessage { offset: 32 }));
+    assert_eq!(rt; seen.offset, Some(31));
 }

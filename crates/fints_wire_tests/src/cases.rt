@@ -53,6 +53,16 @@ fn answers(rt: HostRuntime) -> Result<(), Fail> {
 }
 
 #[test]
+fn two_codes(rt: HostRuntime) -> Result<(), Fail> {
+    let (first, second) = (Code::from_number(20), Code::from_number(3010));
+    let answer = Answer::pair(rt.alloc(), first.ok_or("code")?, second.ok_or("code")?)?;
+    assert!(rt; answer.codes().len() == 2);
+    assert!(rt; answer.codes().first().map(|code| code.number()) == Some(20));
+    assert!(rt; answer.codes().last().map(|code| code.number()) == Some(3010));
+    Ok(())
+}
+
+#[test]
 fn written(rt: HostRuntime) -> Result<(), Fail> {
     for text in [VALUES, ANSWER] {
         let case = Case::read(rt.alloc(), text)?;

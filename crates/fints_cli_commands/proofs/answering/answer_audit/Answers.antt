@@ -1,7 +1,5 @@
-use Rattle.fints_cli_commands.proofs.Reading.{of_exit}
 use Rattle.fints_cli_commands.proofs.answering.answer_audit.Goals as goal
 
-pub returns-in_err-reply-clause-refused : goal.returns-in_err-reply-clause-refused
-returns-in_err-reply-clause-refused c =
-    of_exit c.from_residual.result _ _ c.from_residual.ensures.1
-    (rw (c.as_slice-2.ensures.value, c.as_slice-3.ensures.value) at c.in_err-reply.ensures.refused)
+pub returns-in-Err-clause-refused : goal.returns-in-Err-clause-refused
+returns-in-Err-clause-refused c =
+    rw (c.as_slice-2.ensures.value, c.as_slice-3.ensures.value) at c.in-Err.ensures.refused

@@ -8,12 +8,20 @@ use Rattle.fints_cli_scripts.specs.Verified.{IsUnverified, IsVerifiedOf}
 use Rattle.fints_cli_scripts.specs.declared.telling.Wanted.TheVariants as wants
 use Rattle.fints_cli_texts.specs.Judge.{IsJudgeRefusal, IsVerdictOf}
 use Rattle.fints_cli_texts.specs.JudgeAfter.{IsJudgeAfterRefusal, IsVerdictAfter}
+use Rattle.fints_cli_texts.specs.Show.{IsMemoryOrShowFault}
 use Rattle.fints_cli_words.specs.declared.requests.Command.TheVariants as commands
 use Rattle.fints_cli_commands.specs.Commands.{IfBoth, cases_wanted}
 use Rattle.fints_cli_commands.specs.Loading.{bytes_at}
 use Rattle.fints_cli_commands.proofs.OfRequest as of_request
 use Rattle.fints_cli_commands.proofs.Reading.{of_file}
 use Rattle.fints_cli_commands.proofs.commands.answer.Goals as goal
+
+pub returns-in-Show-clause-refused : goal.returns-in-Show-clause-refused
+returns-in-Show-clause-refused c =
+    IfErr-weaker c.answer_show.result _ _ (λ refused h holds loaded. rw c.in-Show.is
+    (let (bytes, file, read) = of_request.shown c.args.request.now holds _ _ loaded commands.Show c.in-Show.is refl in
+    of_file (λ x. IsMemoryOrShowFault x refused.fault) _ _ file (h bytes read)))
+    c.answer_show.ensures.refused
 
 pub returns-in-Judge-clause-answers : goal.returns-in-Judge-clause-answers
 returns-in-Judge-clause-answers c =
@@ -25,9 +33,9 @@ returns-in-Judge-clause-answers c =
 
 pub returns-in-Judge-clause-refused : goal.returns-in-Judge-clause-refused
 returns-in-Judge-clause-refused c =
-    IfErr-weaker c.answer_judge.result _ _ (λ fault h holds loaded. rw c.in-Judge.is
+    IfErr-weaker c.answer_judge.result _ _ (λ refused h holds loaded. rw c.in-Judge.is
     (of_request.of_message c.args.request.now holds _ _ loaded commands.Judge c.in-Judge.is
-    (λ x y z. IsJudgeRefusal x y z fault)
+    (λ x y z. IsJudgeRefusal x y z refused.fault)
     refl refl refl h))
     c.answer_judge.ensures.refused
 
@@ -48,22 +56,22 @@ returns-in-JudgeAfter-clause-answers c =
 pub returns-in-JudgeAfter-clause-refused : goal.returns-in-JudgeAfter-clause-refused
 returns-in-JudgeAfter-clause-refused c =
     let request = c.args.request.now in
-    IfErr-weaker c.answer_judge_after.result _ _ (λ fault h holds loaded. rw c.in-JudgeAfter.is
+    IfErr-weaker c.answer_judge_after.result _ _ (λ refused h holds loaded. rw c.in-JudgeAfter.is
     (let before = of_request.before request holds _ _ loaded commands.JudgeAfter c.in-JudgeAfter.is refl in
     let answer = of_request.answer request holds _ _ loaded commands.JudgeAfter c.in-JudgeAfter.is refl in
     of_request.of_message request holds _ _ loaded commands.JudgeAfter c.in-JudgeAfter.is
     (λ x y z. IfBoth (bytes_at holds request.paths.before) (bytes_at holds request.paths.answer)
-    (λ b a. IsJudgeAfterRefusal x y b a z fault))
+    (λ b a. IsJudgeAfterRefusal x y b a z refused.fault))
     refl refl refl (λ bytes read. of_request.of_both
-    (λ b a. IsJudgeAfterRefusal bytes c.args.contents.now.orders.items b a c.args.contents.now.message.items fault)
+    (λ b a. IsJudgeAfterRefusal bytes c.args.contents.now.orders.items b a c.args.contents.now.message.items refused.fault)
     _ _ _ _ before answer (h bytes read))))
     c.answer_judge_after.ensures.refused
 
 pub returns-in-Audit-clause-refused : goal.returns-in-Audit-clause-refused
 returns-in-Audit-clause-refused c =
-    IfErr-weaker c.answer_audit.result _ _ (λ fault h holds loaded. rw c.in-Audit.is
+    IfErr-weaker c.answer_audit.result _ _ (λ refused h holds loaded. rw c.in-Audit.is
     (of_request.of_dialogue c.args.request.now holds _ _ loaded commands.Audit c.in-Audit.is
-    (λ x y z. IsAuditRefusal x y z fault)
+    (λ x y z. IsAuditRefusal x y z refused.fault)
     refl refl refl h))
     c.answer_audit.ensures.refused
 
@@ -77,9 +85,9 @@ returns-in-Check-clause-answers c =
 
 pub returns-in-Check-clause-refused : goal.returns-in-Check-clause-refused
 returns-in-Check-clause-refused c =
-    IfErr-weaker c.answer_check.result _ _ (λ fault h holds loaded. rw c.in-Check.is
+    IfErr-weaker c.answer_check.result _ _ (λ refused h holds loaded. rw c.in-Check.is
     (of_request.of_script c.args.request.now holds _ _ loaded commands.Check c.in-Check.is
-    (λ x y z. IsTellRefusal wants.Report x y z fault)
+    (λ x y z. IsTellRefusal wants.Report x y z refused.fault)
     refl refl refl h))
     c.answer_check.ensures.refused
 
@@ -93,9 +101,9 @@ returns-in-Certify-clause-answers c =
 
 pub returns-in-Certify-clause-refused : goal.returns-in-Certify-clause-refused
 returns-in-Certify-clause-refused c =
-    IfErr-weaker c.answer_check-in-Certify.result _ _ (λ fault h holds loaded. rw c.in-Certify.is
+    IfErr-weaker c.answer_check-in-Certify.result _ _ (λ refused h holds loaded. rw c.in-Certify.is
     (of_request.of_script c.args.request.now holds _ _ loaded commands.Certify c.in-Certify.is
-    (λ x y z. IsTellRefusal wants.Certificate x y z fault)
+    (λ x y z. IsTellRefusal wants.Certificate x y z refused.fault)
     refl refl refl h))
     c.answer_check-in-Certify.ensures.refused
 
@@ -109,9 +117,9 @@ returns-in-Explain-clause-answers c =
 
 pub returns-in-Explain-clause-refused : goal.returns-in-Explain-clause-refused
 returns-in-Explain-clause-refused c =
-    IfErr-weaker c.answer_check-in-Explain.result _ _ (λ fault h holds loaded. rw c.in-Explain.is
+    IfErr-weaker c.answer_check-in-Explain.result _ _ (λ refused h holds loaded. rw c.in-Explain.is
     (of_request.of_script c.args.request.now holds _ _ loaded commands.Explain c.in-Explain.is
-    (λ x y z. IsTellRefusal (cases_wanted c.args.request.now.number) x y z fault)
+    (λ x y z. IsTellRefusal (cases_wanted c.args.request.now.number) x y z refused.fault)
     refl refl refl (rw c.cases_wanted.ensures at h)))
     c.answer_check-in-Explain.ensures.refused
 
@@ -130,21 +138,21 @@ returns-in-Verify-clause-answers c =
 pub returns-in-Verify-clause-refused : goal.returns-in-Verify-clause-refused
 returns-in-Verify-clause-refused c =
     let request = c.args.request.now in
-    IfErr-weaker c.answer_verify.result _ _ (λ fault h holds loaded. rw c.in-Verify.is
+    IfErr-weaker c.answer_verify.result _ _ (λ refused h holds loaded. rw c.in-Verify.is
     (let lines = of_request.certificate request holds _ _ loaded commands.Verify c.in-Verify.is refl in
     of_request.of_script request holds _ _ loaded commands.Verify c.in-Verify.is
-    (λ x y z. IfSome (bytes_at holds request.paths.certificate) (λ t. IsUnverified x y z t fault))
+    (λ x y z. IfSome (bytes_at holds request.paths.certificate) (λ t. IsUnverified x y z t refused.fault))
     refl refl refl (λ bytes read. of_file
-    (λ t. IsUnverified bytes c.args.contents.now.orders.items c.args.contents.now.script.items t fault)
+    (λ t. IsUnverified bytes c.args.contents.now.orders.items c.args.contents.now.script.items t refused.fault)
     _ _ lines (h bytes read))))
     c.answer_verify.ensures.refused
 
 pub returns-in-Run-clause-refused : goal.returns-in-Run-clause-refused
 returns-in-Run-clause-refused c =
     let request = c.args.request.now in
-    IfErr-weaker c.answer_run.result _ _ (λ fault h holds loaded. rw c.in-Run.is
+    IfErr-weaker c.answer_run.result _ _ (λ refused h holds loaded. rw c.in-Run.is
     (of_request.of_case request holds _ _ loaded commands.Run c.in-Run.is
-    (λ x y z. IsRunRefusal x y z request.number fault) refl refl refl h))
+    (λ x y z. IsRunRefusal x y z request.number refused.fault) refl refl refl h))
     c.answer_run.ensures.refused
 
 pub returns-in-DrawFound-clause-answers : goal.returns-in-DrawFound-clause-answers
@@ -157,8 +165,8 @@ returns-in-DrawFound-clause-answers c =
 
 pub returns-in-DrawFound-clause-refused : goal.returns-in-DrawFound-clause-refused
 returns-in-DrawFound-clause-refused c =
-    IfErr-weaker c.answer_draw.result _ _ (λ fault h holds loaded. rw c.in-DrawFound.is
+    IfErr-weaker c.answer_draw.result _ _ (λ refused h holds loaded. rw c.in-DrawFound.is
     (of_request.of_script c.args.request.now holds _ _ loaded commands.DrawFound c.in-DrawFound.is
-    (λ x y z. IsRefused x y z fault)
+    (λ x y z. IsRefused x y z refused.fault)
     refl refl refl h))
     c.answer_draw.ensures.refused

@@ -33,7 +33,7 @@ dialogue_refused text dialogue table dialogues.NoParameters h (inl e) = absurd c
 dialogue_refused text dialogue table dialogues.NoParameters h (inr p) = ((table, h), p)
 
 pub returns-in_err-exchanges-clause-refused : goal.returns-in_err-exchanges-clause-refused
-returns-in_err-exchanges-clause-refused c =
+returns-in_err-exchanges-clause-refused g c =
     let orders = c.args.orders.now in
     let dialogue = c.args.dialogue.now in
     let fault = c.in_err-exchanges.field-0.0 in

@@ -14,5 +14,5 @@ pub returns : goal.returns
 returns c =
     drawn_by c.args.report.now c.plan-plan.result.now c.in_ok-figures.figures.items c.findings-findings.result.now
     c.report_status.result c.in_ok-text.text.items c.plan-plan.ensures c.findings-findings.ensures.findings
-    c.findings-findings.ensures.exactly c.in_ok-figures.ensures
+    c.findings-findings.ensures.exactly c.findings-findings.ensures.permitted c.in_ok-figures.ensures
     (rw c.as_slice.ensures.value at c.in_ok-text.ensures) c.report_status.ensures

@@ -3,7 +3,7 @@ use Rattle.fints_rules_dialogues.proofs.Turns.{AreReadSoFar}
 use Rattle.fints_rules_dialogues.proofs.recording.Recording.exchanges.Given as goal
 
 abbrev pub invariant-loop-at : goal.invariant-loop-at
-invariant-loop-at l = AreReadSoFar l.messages l.at l.exchanges.items
+invariant-loop-at g l = AreReadSoFar l.messages l.at l.exchanges.items
 
 abbrev pub decreases-loop-at : goal.decreases-loop-at
-decreases-loop-at l = length l.messages - l.at
+decreases-loop-at g l = length l.messages - l.at
