@@ -174,13 +174,13 @@ module _ (granted : Granted) (script : ScriptValue) (lines : List Line) (sound :
         let s = p.sent.sends in
         none (record { step = n; rule = r; segment = 0 }) (record {
           values = p.sent.values;
-          answers = s.answers;
+          answers = s.0;
           shown = record {
             admitted = p.sent.admitted;
             message = p.message;
-            ends = record { each = s.each; sent = s.sent; run = s.run; last = s.last };
+            ends = s.1;
             of = p.sent.of;
-            breaks = itself granted (came_after at_first s.sent s.answers) p.message r 0 (record {
+            breaks = itself granted (came_after at_first s.1.sent s.0) p.message r 0 (record {
               message = message_view script step p.visit.number p.sent.values;
               is = subst (λ (t : List ℕ). IsMessage t (message_view script step p.visit.number p.sent.values)) (sym p.bytes) view_is;
               breaks = b;

@@ -101,7 +101,7 @@ module _ (granted : Granted) (script : ScriptValue) (lines : List Line) (sound :
 
   last_of_run : (values : List NamedValue) (before : Before) (m : Sent) → SendsAfter script values before m
       → SendsLast script values m
-  last_of_run values before m s = record { answers = s.0; each = s.1.ends.each; sent = s.1.ends.sent; run = s.1.ends.run; last = s.1.ends.last }
+  last_of_run values before m s = (s.0, s.1.ends)
 
   -- behind the message before it no message leaves an order unreleased
   none_left : (values : List NamedValue) (b : Sent) (codes : List ℕ) (m : Sent) → Admits script.fields values

@@ -33,7 +33,7 @@ use Rattle.fints_check_findings.proofs.Checking.{greatest_at, real_within}
 use Rattle.fints_check_findings.proofs.FigureRules.{number_case, size_case}
 use Rattle.fints_rules.proofs.RuleTable.{rule_or}
 use Rattle.fints_check_findings.proofs.LawLemmas.{release_is_left, unreleased_is_shown}
-use Rattle.fints_check_findings.proofs.Reals.{number_small, read_at, real_breaks, itself, sends_last}
+use Rattle.fints_check_findings.proofs.Reals.{number_small, read_at, real_breaks, itself}
 use Rattle.fints_wire.proofs.RunLawLemmas.{last_messages, routes_send, visits_are_within}
 use Rattle.fints_wire.proofs.LawLemmas.{extremes_are_admitted_longest}
 
@@ -106,7 +106,7 @@ module _ (script : ScriptValue) (granted : Granted) (sound : IsSound script) (nu
   -- the step of a real finding has a greatest number
   pub real_has : (f : Finding) → IsReal granted script f → (number : ℕ) × Has numbers f.step number
   real_has f real =
-      let way = (last_messages script real.values real.shown.message sound).0 (sends_last script real.values real.answers real.shown.message real.shown.ends) in
+      let way = (last_messages script real.values real.shown.message sound).0 (real.answers, real.shown.ends) in
       let here : way.0.step ≡ f.step = sym (ap (λ (x : Sent). x.step) way.2.is) ∙ real.shown.of in
       let most = greatest.most way.0 way.1 in
       (most.0, subst (λ k. Has numbers k most.0) here most.1)

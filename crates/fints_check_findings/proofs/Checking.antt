@@ -25,7 +25,7 @@ use Rattle.fints_check_findings.specs.Searching.{IsGreatestAt}
 use Rattle.fints_check_findings.specs.StepFacts.{AreFactsAt, AreFactsOf}
 use Rattle.fints_check_findings.specs.declared.finding.Finding.{Finding}
 use Rattle.fints_check_findings.specs.declared.finding.Reached.{Reached}
-use Rattle.fints_check_findings.proofs.Reals.{itself, sends_last}
+use Rattle.fints_check_findings.proofs.Reals.{itself}
 use Rattle.fints_wire.proofs.RunLawLemmas.{each_is_last_after, last_messages, sent_are_read, visits_are_within}
 use Rattle.fints_script.specs.Sound.{IsSound}
 
@@ -65,12 +65,12 @@ pub nothing_real : (granted : Granted) (script : ScriptValue) (numbers : List (O
     → f.step ≡ n → IsReal granted script f → ⊥
 nothing_real granted script numbers n greatest sound none f here real =
     unreached script numbers n real.values real.shown.message greatest sound none
-    (sends_last script real.values real.answers real.shown.message real.shown.ends) (real.shown.of ∙ here)
+    (real.answers, real.shown.ends) (real.shown.of ∙ here)
 
 pub real_within : (granted : Granted) (script : ScriptValue) → IsSound script → (f : Finding)
     → IsReal granted script f → (1 ≤ f.step) × (f.step ≤ length script.steps)
 real_within granted script sound f real =
-    let way = (last_messages script real.values real.shown.message sound).0 (sends_last script real.values real.answers real.shown.message real.shown.ends) in
+    let way = (last_messages script real.values real.shown.message sound).0 (real.answers, real.shown.ends) in
     let here : way.0.step ≡ f.step = sym (ap (λ (x : Sent). x.step) way.2.is) ∙ real.shown.of in
     let w = visits_are_within script way.0 sound way.1 in
     let low = w.from in

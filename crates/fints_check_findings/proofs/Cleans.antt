@@ -107,14 +107,14 @@ module _ (script : ScriptValue) (granted : Granted) (sound : IsSound script) whe
       (v, way.1, record { at = step; of = there; is = refl }) in
       record {
         values = can.values;
-        answers = sends.answers;
+        answers = sends.0;
         shown = record {
           admitted = can.admitted;
           message = record { step = v.step; number = v.number; bytes = message_bytes script step v.number can.values };
-          ends = record { each = sends.each; sent = sends.sent; run = sends.run; last = sends.last };
+          ends = sends.1;
           of = here;
           breaks =
-              itself granted (came_after at_first sends.sent sends.answers)
+              itself granted (came_after at_first sends.1.sent sends.0)
               (record {
                 step = v.step;
                 number = v.number;

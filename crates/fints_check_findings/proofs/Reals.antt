@@ -44,10 +44,6 @@ pub record Comes (script : ScriptValue) (step : StepValue) (number : ℕ) (m : S
   pub bytes : m.bytes ≡ message_bytes script step m.number values
   pub read : IsMessage (message_bytes script step m.number values) (message_view script step m.number values)
 
-pub sends_last : (script : ScriptValue) (values : List NamedValue) (answers : List (List ℕ)) (m : Sent)
-    → EndsIn script values answers m → SendsLast script values m
-sends_last script values answers m e = record { answers = answers; each = e.each; sent = e.sent; run = e.run; last = e.last }
-
 -- what is broken by itself is broken behind anything
 pub itself : (granted : Granted) (before : Before) (m : Sent) (r : Rule) (place : ℕ)
     → BytesBreak granted m.bytes r place → BreaksBehind granted before m r place
@@ -115,7 +111,7 @@ module _ (script : ScriptValue) (granted : Granted) (sound : IsSound script) whe
   real_breaks f number step other at greatest real =
       let s = real.shown in
       let m = s.message in
-      let c = comes f.step number step real.values m at greatest s.admitted (sends_last script real.values real.answers m s.ends) s.of in
+      let c = comes f.step number step real.values m at greatest s.admitted (real.answers, s.ends) s.of in
       let view : MessageView = message_view script step m.number real.values in
       let own = by_itself granted (came_after at_first s.ends.sent real.answers) m f.rule f.segment other s.breaks in
       let same : own.message ≡ view = one_message m.bytes own.message view own.is (subst (λ b. IsMessage b view) (sym c.bytes) c.read) in
@@ -135,13 +131,13 @@ module _ (script : ScriptValue) (granted : Granted) (sound : IsSound script) whe
       let sends = (last_messages script b.values m sound).1 (v, way.1, record { at = step; of = there; is = refl }) in
       record {
         values = b.values;
-        answers = sends.answers;
+        answers = sends.0;
         shown = record {
           admitted = b.admitted;
           message = m;
-          ends = record { each = sends.each; sent = sends.sent; run = sends.run; last = sends.last };
+          ends = sends.1;
           of = way.2;
-          breaks = itself granted (came_after at_first sends.sent sends.answers) m f.rule f.segment (record {
+          breaks = itself granted (came_after at_first sends.1.sent sends.0) m f.rule f.segment (record {
             message = message_view script step number b.values;
             is =
                 subst (λ t. IsMessage t (message_view script step number b.values)) (sym bytes)

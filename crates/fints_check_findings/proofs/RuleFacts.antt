@@ -93,10 +93,10 @@ items_moved granted f t count X Y rule.Signatures account process (inl b) = inl 
 items_moved granted f t count X Y rule.Signatures account process (inr (plain, (who, names, more))) =
     let same = account refl (formed granted.orders (template_facts t count X) who names) in
     inr (plain, (who, subst (λ (items : List (List ℕ)). NamesAccount granted.orders (template_facts t count items) who) same names, more))
-items_moved granted f t count X Y rule.Account account process (plain, inl b) = (plain, inl b)
-items_moved granted f t count X Y rule.Account account process (plain, inr (who, names, locked)) =
+items_moved granted f t count X Y rule.Account account process (inl b) = inl b
+items_moved granted f t count X Y rule.Account account process (inr (plain, (who, names, locked))) =
     let same = account refl (formed granted.orders (template_facts t count X) who names) in
-    (plain, inr (who, subst (λ (items : List (List ℕ)). NamesAccount granted.orders (template_facts t count items) who) same names, locked))
+    inr (plain, (who, subst (λ (items : List (List ℕ)). NamesAccount granted.orders (template_facts t count items) who) same names, locked))
 items_moved granted f t count X Y rule.Tan account process (inl b) = inl b
 items_moved granted f t count X Y rule.Tan account process (inr ((tan, two), has)) =
     inr ((tan, ap (λ (items : List (List ℕ)). get_or items 0 []) (sym (process tan)) ∙ two), has)

@@ -1,6 +1,6 @@
 //! Reports: what the runs of a plan break, and the greatest figures of its steps.
 ghost use Rattle.std.specs.Prelude.{◌≡◌, ◌↔◌, ◌<◌, ◌≤◌, [], length, map, is_some, slice_get, Some, AllPairs, Contains, IfOk, IsTrue, MatchOption};
-ghost use Rattle.fints_check_reach.specs.Numbers.{all_visits, looked_at, reached_visits};
+ghost use Rattle.fints_check_reach.specs.Numbers.{looked_at};
 ghost use Rattle.fints_script.specs.Numbered.{numbered};
 ghost use Rattle.fints_script.specs.Steps.{StepValue};
 ghost use Rattle.fints_check_findings.specs.Figures.{AreFigures, FiguresAre};
@@ -135,9 +135,7 @@ impl<'a> Report<'a> {
     /// How many steps and branches were looked at for the figures: each step once, and each branch of
     /// a step that some run sends once; a default is a branch.
     pub fn visits(&self) -> u64
-        ensures visits { result ≡ self.now.visits }
-        ensures most { result ≤ all_visits self.now.plan.script.steps }
-        ensures least { reached_visits self.now.plan.script.steps (map is_some self.now.figures) ≤ result }
+        ensures visits { result ≡ looked_at self.now.plan.script.steps (map is_some self.now.figures) }
     {
         self.numbers.visits
     }

@@ -7,7 +7,8 @@ use Rattle.fints_script.specs.Scripts.{ScriptValue}
 use Rattle.fints_script.specs.Sound.{IsSound, IsSoundStep}
 use Rattle.fints_script.specs.Steps.{StepValue}
 use Rattle.fints_script_rows.specs.declared.limits.TheConstants.{MAX_STEPS}
-use Rattle.fints_check_reach.specs.Numbers.{all_visits, looked_at, reached_at, reached_visits, visits_at}
+use Rattle.fints_check_reach.specs.Numbers.{looked_at, visits_at}
+use Rattle.fints_check_reach.specs.Laws.{all_visits, reached_at, reached_visits}
 
 pub none_looked_at : (steps : List StepValue) → looked_at steps [] ≡ 0
 none_looked_at [] = refl

@@ -1,5 +1,5 @@
 -- The laws of greatest numbers, of how much is looked at for them, and of what follows what. Each is the contract of a public function.
-use Rattle.std.specs.Prelude.{◌≡◌, ◌≤◌, ◌↔◌, ℕ, Bool, List, Option, Some}
+use Rattle.std.specs.Prelude.{◌≡◌, ◌≤◌, ◌+◌, ◌↔◌, ℕ, Bool, true, false, List, [], ◌∷◌, Option, Some}
 use Rattle.fints_script.specs.Numbered.{numbered}
 use Rattle.fints_script.specs.Scripts.{ScriptValue}
 use Rattle.fints_script.specs.Sound.{IsSound}
@@ -8,7 +8,7 @@ use Rattle.fints_wire.specs.Runs.{Arrives}
 use Rattle.fints_wire.specs.declared.dialogue.Visit.{Visit}
 use Rattle.fints_check_reach.specs.Closed.{AreClosed}
 use Rattle.fints_check_reach.specs.Following.{CarriesTo, IsFollowed}
-use Rattle.fints_check_reach.specs.Numbers.{AreGreatest, IsBounded, all_visits, looked_at, reached_visits}
+use Rattle.fints_check_reach.specs.Numbers.{AreGreatest, IsBounded, branch_count, looked_at}
 
 -- closed numbers bound every run, whoever computed them: each step that a run sends has one, and no message of the step has a greater one
 abbrev pub ClosedNumbersBound : Type 0
@@ -21,6 +21,20 @@ abbrev pub GreatestAreClosed : Type 0
 GreatestAreClosed =
     (script : ScriptValue) (numbers : List (Option ℕ)) → IsSound script → AreGreatest script.steps numbers
     → AreClosed script.steps numbers
+
+-- all steps and all branches
+abbrev pub all_visits : List StepValue → ℕ
+all_visits [] = 0
+all_visits (step ∷ steps) = (1 + branch_count step) + all_visits steps
+
+abbrev pub reached_at : StepValue → Bool → ℕ
+reached_at step false = 0
+reached_at step true = 1 + branch_count step
+
+-- the steps that are reached, and their branches
+abbrev pub reached_visits : List StepValue → List Bool → ℕ
+reached_visits (step ∷ steps) (reached ∷ others) = reached_at step reached + reached_visits steps others
+reached_visits _ _ = 0
 
 -- no more is looked at than all steps and all branches
 abbrev pub AtMostAllAreLookedAt : Type 0

@@ -35,17 +35,3 @@ visits_at step true = 1 + branch_count step
 abbrev pub looked_at : List StepValue → List Bool → ℕ
 looked_at (step ∷ steps) (reached ∷ others) = visits_at step reached + looked_at steps others
 looked_at _ _ = 0
-
--- all steps and all branches
-abbrev pub all_visits : List StepValue → ℕ
-all_visits [] = 0
-all_visits (step ∷ steps) = (1 + branch_count step) + all_visits steps
-
-abbrev pub reached_at : StepValue → Bool → ℕ
-reached_at step false = 0
-reached_at step true = 1 + branch_count step
-
--- the steps that are reached, and their branches
-abbrev pub reached_visits : List StepValue → List Bool → ℕ
-reached_visits (step ∷ steps) (reached ∷ others) = reached_at step reached + reached_visits steps others
-reached_visits _ _ = 0

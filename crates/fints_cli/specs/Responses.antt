@@ -10,6 +10,7 @@ use Rattle.fints_cli_words.specs.declared.requests.Asked.TheVariants.{Help, Usag
 use Rattle.fints_cli_commands.specs.declared.failing.Failure.{Failure}
 use Rattle.fints_cli_commands.specs.Loading.{files_of, AreWithin, FollowsReading}
 use Rattle.fints_cli_commands.specs.Commands.{failure_status, AnswersTo, FailsFor}
+use Rattle.fints_cli_commands.specs.FailureText.{failure_text}
 
 -- the status and the text are what was asked for: the help, or the request's answer, for which no file is longer than its limit
 abbrev pub IsTextFor : Asked → (List ℕ → Option (List ℕ)) → ℕ → List ℕ → Type 0
@@ -42,12 +43,14 @@ RanOut (Usage fault) = ⊥
 RanOut NoMemory = Unit {0}
 RanOut (Run request) = ⊥
 
+-- the request has no answer for this failure, which has this status
+abbrev pub IsFailureOf : Asked → (List ℕ → Option (List ℕ)) → ℕ → Failure → Type 0
+IsFailureOf (Run request) holds status f = (failure_status f ≡ status) × FailsFor request holds f
+IsFailureOf _ holds status f = ⊥
+
 -- the request has no answer, and this status
 abbrev pub FailsWith : ℕ → Asked → (List ℕ → Option (List ℕ)) → Type 0
-FailsWith status (Help help) holds = ⊥
-FailsWith status (Usage fault) holds = ⊥
-FailsWith status NoMemory holds = ⊥
-FailsWith status (Run request) holds = (f : Failure) × (failure_status f ≡ status) × FailsFor request holds f
+FailsWith status asked holds = (f : Failure) × IsFailureOf asked holds status f
 
 -- none of the files that are named is longer than its limit, where their bytes are told
 abbrev pub FilesAreWithin : Asked → (List ℕ → Option (List ℕ)) → Type 0
@@ -107,16 +110,15 @@ abbrev pub line_beside : Command → List ℕ
 line_beside DraftCase = secrets_line
 line_beside _ = []
 
+-- what is said beside what was asked for
+abbrev pub text_beside : Asked → List ℕ
+text_beside (Run request) = line_beside request.command
+text_beside _ = []
+
 -- a stream got the text, or a prefix of it, after which a write failed; where the text is empty, nothing was written
 abbrev pub SaysText : List ℕ → (old new : Option (List ℕ)) (lost lost_after : ℕ) → Type 0
 SaysText [] old new lost lost_after = IsUntold old new lost lost_after
 SaysText (b ∷ text) old new lost lost_after = Tells old new lost lost_after (b ∷ text)
-
--- what was said beside what was asked for
-abbrev pub SaysBeside : Asked → (old new : Option (List ℕ)) (lost lost_after : ℕ) → Type 0
-SaysBeside (Run request) old new lost lost_after =
-    SaysText (line_beside request.command) old new lost lost_after
-SaysBeside _ old new lost lost_after = IsUntold old new lost lost_after
 
 -- no hint is asked for
 abbrev pub AsksNoHint : Asked → Type 0
@@ -136,18 +138,41 @@ TellsUsage (Run request) old new lost lost_after = Unit {0}
 abbrev pub told_line : List ℕ → List ℕ → List ℕ
 told_line front text = front ++ (text ++ 10 ∷ [])
 
--- The line of a fault, or a prefix of it and of what more is said, after which a write failed. Nothing more is said under this premise.
-pub record TellsFault (alone : Type 0) (old new : Option (List ℕ)) (lost lost_after : ℕ) : Type 0 where
-  pub why : List ℕ
-  pub more : List ℕ
-  pub nothing_more : alone → more ≡ []
-  pub told : Tells old new lost lost_after (told_line (codes "error: ") why ++ more)
-
--- What the errors got. Where no hint is asked for that is nothing up to status 1, but for what stands beside a drafted case. From 2 on it is the usage of a bad command
--- line; else the line of a fault, alone where no hint is asked for. Want of memory has a line of its own, and so has an output that failed.
-pub record SaysWhy (asked : Asked) (status : ℕ) (old new : Option (List ℕ)) (lost lost_after : ℕ)
+-- This text is said, and then hints, reasons or notes; or a prefix of that, after which a write failed. There is nothing more
+-- under this premise.
+pub record SaysFirst (no_more : Type 0) (text : List ℕ) (old new : Option (List ℕ)) (lost lost_after : ℕ)
     : Type 0 where
-  pub beside : status ≤ 1 → AsksNoHint asked → SaysBeside asked old new lost lost_after
+  pub more : List ℕ
+  pub nothing_more : no_more → more ≡ []
+  pub said : SaysText (text ++ more) old new lost lost_after
+
+-- the line of a fault
+abbrev pub fault_line : Failure → List ℕ
+fault_line f = told_line (codes "error: ") (failure_text f)
+
+-- the request has no answer for a failure of this status, and the line of this failure is said
+abbrev pub SaysFailure : Asked → (List ℕ → Option (List ℕ)) → ℕ → (old new : Option (List ℕ))
+    (lost lost_after : ℕ) → Type 0
+SaysFailure asked holds status old new lost lost_after =
+    (f : Failure) × IsFailureOf asked holds status f
+    × SaysFirst (AsksNoHint asked) (fault_line f) old new lost lost_after
+
+-- the output failed, and this is said
+abbrev pub SaysUnwritten : ℕ → (old new : Option (List ℕ)) (lost lost_after : ℕ) → Type 0
+SaysUnwritten status old new lost lost_after =
+    (status ≡ 5) × Tells old new lost lost_after write_line
+
+-- What the errors got. Up to status 1 that is what is said beside the answer, and then reasons and notes. From 2 on it is the
+-- usage of a bad command line, the line of an output that failed, or the line of a failure that the request has, and then
+-- a hint. Reasons, notes and hints come only where they are asked for. Where memory ran out, there is its line only.
+pub record SaysWhy (asked : Asked) (holds : List ℕ → Option (List ℕ)) (status : ℕ) (old new : Option (List ℕ))
+    (lost lost_after : ℕ)
+    : Type 0 where
+  pub beside : status ≤ 1 → SaysFirst (AsksNoHint asked) (text_beside asked) old new lost lost_after
   pub usage : TellsUsage asked old new lost lost_after
-  pub line : 2 ≤ status → IsUsage asked ⊎ TellsFault (AsksNoHint asked) old new lost lost_after
+  pub line : 2 ≤ status
+      → IsUsage asked
+      ⊎ (RanOut asked
+      ⊎ (SaysUnwritten status old new lost lost_after
+      ⊎ SaysFailure asked holds status old new lost lost_after))
   pub memory : status ≡ 4 → Tells old new lost lost_after memory_line

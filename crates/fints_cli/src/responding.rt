@@ -1,23 +1,18 @@
 //! From words to a status: the answer of a command on the output, and what it says on the errors.
-ghost use Rattle.std.specs.Prelude.{◌≡◌, ◌≤◌, ◌+◌, ◌*◌, ◌⊎◌, ℕ, List, [], false, None, OnOk, OnErr};
+ghost use Rattle.std.specs.Prelude.{◌≡◌, ◌≤◌, ◌+◌, ◌*◌, ◌++◌, ◌⊎◌, ℕ, List, [], None, OnOk, OnErr};
 ghost use Rattle.fints_cli_files.specs.Streams.{Gets, GetsNothing, GetsPrefix, one_more};
 ghost use Rattle.fints_cli_files.specs.Loading.{MAX_READS, NoneFailed};
 ghost use Rattle.fints_cli_words.specs.Requests.{built_in_request};
 ghost use Rattle.fints_cli_words.specs.declared.requests.Asked.{Asked};
 ghost use Rattle.fints_cli_words.specs.declared.requests.Asked.TheVariants as asked;
 ghost use Rattle.fints_cli_commands.specs.Commands.{failure_status};
-ghost use Rattle.fints_cli.specs.Responses.{IsAnswered, IsCutOff, IsResponse, RanOut, IsUntold, SaysText, IsUsage, FailsToRead, FailsWith, FilesAreWithin, SaysWhy, Tells, TellsFault, told_line, line_beside, memory_line, write_line};
+ghost use Rattle.fints_cli.specs.Responses.{IsAnswered, IsCutOff, IsResponse, RanOut, IsUntold, SaysText, IsUsage, FailsToRead, FailsWith, FilesAreWithin, SaysFirst, SaysWhy, Tells, told_line, fault_line, line_beside, memory_line, write_line};
 
 use crate::emitting::emit;
-use arrayvec::ArrayString;
 use fints_cli_commands::{Answered, Refusal, perform};
 use fints_cli_files::{Files, Out, WriteFault};
 use fints_cli_words::{Asked, Command, Request, read_words};
 use std::alloc::Global;
-use std::fmt::Write;
-
-// The words of each fault have fewer bytes.
-const LONGEST_FAULT: usize = 256;
 
 // Writes a text to the errors; a fault there changes nothing.
 fn tell<E: Out>(text: &[u8], err: &mut E)
@@ -50,14 +45,12 @@ fn emit_line<E: Out>(front: &[u8], text: &[u8], err: &mut E) -> Result<(), Write
 
 // Writes the line of a fault, which takes no memory, and what to look at where there is a hint.
 fn emit_refusal<E: Out>(refusal: &Refusal, err: &mut E) -> Result<(), WriteFault>
-    ensures told { OnOk result (TellsFault (refusal.now.hint ≡ None)
+    ensures told { OnOk result (SaysFirst (refusal.now.hint ≡ None) (fault_line refusal.now.failure)
         (E.told err.old) (E.told err.new) (E.failed_calls err.old) (E.failed_calls err.new)) }
-    ensures cut { OnErr result (TellsFault (refusal.now.hint ≡ None)
+    ensures cut { OnErr result (SaysFirst (refusal.now.hint ≡ None) (fault_line refusal.now.failure)
         (E.told err.old) (E.told err.new) (E.failed_calls err.old) (E.failed_calls err.new)) }
 {
-    let mut why = ArrayString::<LONGEST_FAULT>::new();
-    let _ = write!(why, "{}", refusal.failure);
-    emit_line(b"error: ", why.as_bytes(), err)?;
+    emit_line(b"error: ", refusal.failure.text().as_bytes(), err)?;
     match &refusal.hint {
         Some(hint) => emit_line(b"hint: ", hint.as_bytes(), err),
         None => Ok(()),
@@ -70,7 +63,7 @@ fn tell_refusal<E: Out>(refusal: &Refusal, err: &mut E) -> u8
     ensures memory { result ≡ 4
         → Tells (E.told err.old) (E.told err.new) (E.failed_calls err.old)
         (E.failed_calls err.new) memory_line }
-    ensures line { TellsFault (refusal.now.hint ≡ None)
+    ensures line { SaysFirst (refusal.now.hint ≡ None) (fault_line refusal.now.failure)
         (E.told err.old) (E.told err.new) (E.failed_calls err.old) (E.failed_calls err.new) }
 {
     let status = refusal.failure.status();
@@ -113,6 +106,25 @@ fn line_beside(request: &Request<'_>) -> &'static [u8]
     }
 }
 
+// Writes what is said beside an answer, and then reasons and notes.
+fn emit_beside<E: Out>(line: &[u8], reasons: &[u8], err: &mut E) -> Result<(), WriteFault>
+    ensures written { OnOk result (Gets (E.told err.old) (E.told err.new) (line.now ++ reasons.now)) }
+    ensures fine { OnOk result (E.failed_calls err.new ≡ E.failed_calls err.old) }
+    ensures cut { OnErr result (GetsPrefix (E.told err.old) (E.told err.new) (line.now ++ reasons.now)) }
+    ensures failed { OnErr result (E.failed_calls err.new ≡ one_more (E.failed_calls err.old)) }
+{
+    emit(line, err)?;
+    emit(reasons, err)
+}
+
+// Writes both to the errors; a fault there changes nothing.
+fn tell_both<E: Out>(line: &[u8], reasons: &[u8], err: &mut E)
+    ensures { Tells (E.told err.old) (E.told err.new) (E.failed_calls err.old)
+        (E.failed_calls err.new) (line.now ++ reasons.now) }
+{
+    let _ = emit_beside(line, reasons, err);
+}
+
 // Writes a text to the errors, if there is one.
 fn say<E: Out>(text: &[u8], err: &mut E)
     ensures { SaysText text.now (E.told err.old) (E.told err.new) (E.failed_calls err.old)
@@ -123,7 +135,27 @@ fn say<E: Out>(text: &[u8], err: &mut E)
     }
 }
 
-// Writes the answer to the output, and then what is said beside it to the errors.
+// Says what is beside an answer, and then reasons and notes, if there is any.
+fn tell_beside<E: Out>(line: &[u8], reasons: &[u8], err: &mut E)
+    ensures { SaysText (line.now ++ reasons.now) (E.told err.old) (E.told err.new)
+        (E.failed_calls err.old) (E.failed_calls err.new) }
+{
+    if line.is_empty() {
+        return say(reasons, err);
+    }
+    tell_both(line, reasons, err);
+}
+
+fn reasons_of(answered: &Answered) -> &[u8]
+    ensures { answered.now.reasons ≡ None → result.now ≡ [] }
+{
+    match &answered.reasons {
+        Some(reasons) => reasons.as_bytes(),
+        None => b"",
+    }
+}
+
+// Writes the answer to the output, and then to the errors what is said beside it.
 fn respond_with<O: Out, E: Out>(
     request: &Request<'_>,
     answered: &Answered,
@@ -137,21 +169,17 @@ fn respond_with<O: Out, E: Out>(
     ensures fine { result ≡ answered.now.reply.status → O.failed_calls out.new ≡ O.failed_calls out.old }
     ensures cut { result ≡ 5 → GetsPrefix (O.told out.old) (O.told out.new) answered.now.reply.text.items }
     ensures failed { result ≡ 5 → O.failed_calls out.new ≡ one_more (O.failed_calls out.old) }
-    ensures beside { result ≡ answered.now.reply.status → answered.now.reasons ≡ None
-        → SaysText (line_beside request.now.command)
+    ensures beside { result ≡ answered.now.reply.status
+        → SaysFirst (answered.now.reasons ≡ None) (line_beside request.now.command)
         (E.told err.old) (E.told err.new) (E.failed_calls err.old) (E.failed_calls err.new) }
     ensures line { result ≡ 5
         → Tells (E.told err.old) (E.told err.new) (E.failed_calls err.old)
         (E.failed_calls err.new) write_line }
 {
-    let Answered { reply, reasons } = answered;
+    let reply = &answered.reply;
     let status = deliver(reply.text.as_slice(), reply.status, out, err);
-    if status == 5 {
-        return status;
-    }
-    say(line_beside(request), err);
-    if let Some(reasons) = reasons {
-        let _ = emit(reasons.as_bytes(), err);
+    if status != 5 {
+        tell_beside(line_beside(request), reasons_of(answered), err);
     }
     status
 }
@@ -183,7 +211,7 @@ pub fn respond<F: Files, O: Out, E: Out>(
     ensures read { result ≤ 3 → NoneFailed (F.reads files.old) (F.reads files.new) }
     ensures within { result ≤ 3 → FilesAreWithin asked.now (F.holds files.old) }
     ensures calls { (F.reads files.new).calls ≤ (F.reads files.old).calls + 5 * MAX_READS }
-    ensures says { SaysWhy asked.now result
+    ensures says { SaysWhy asked.now (F.holds files.old) result
         (E.told err.old) (E.told err.new) (E.failed_calls err.old) (E.failed_calls err.new) }
 {
     match asked {
@@ -217,7 +245,7 @@ pub fn execute<F: Files, O: Out, E: Out>(
     ensures responds { (what : Asked) × (words.now ≡ [] → what ≡ asked.Run built_in_request)
         × IsResponse what (F.holds files.old) (F.reads files.old) (F.reads files.new)
         (O.failed_calls out.old) (O.failed_calls out.new) result (O.told out.old) (O.told out.new)
-        × SaysWhy what result (E.told err.old) (E.told err.new) (E.failed_calls err.old)
+        × SaysWhy what (F.holds files.old) result (E.told err.old) (E.told err.new) (E.failed_calls err.old)
         (E.failed_calls err.new) }
     ensures calls { (F.reads files.new).calls ≤ (F.reads files.old).calls + 5 * MAX_READS }
 {

@@ -3,6 +3,7 @@ use Rattle.std.proofs.Common.{arith, ◌≡◌, ◌∙◌, ◌≤◌, ◌-◌, �
 use Rattle.std.proofs.Common.{Option, None, Some, IfErr, IfSome, Result, Ok, Err, length-append}
 use Rattle.std.specs.Borrow.{Bor}
 use Rattle.std.specs.Result.{IsErrAnd}
+use Rattle.fints_cli_words.specs.Requests.{option_of}
 use Rattle.fints_cli_commands.specs.declared.failing.Failure.{Failure}
 use Rattle.fints_cli_commands.specs.declared.failing.Refused.{Refused}
 use Rattle.fints_cli_texts.specs.declared.fault.Fault.{Fault}
@@ -70,7 +71,7 @@ module _ (more : List NamedFile) (holds : Held) (a b : ReadCounts) where
 
   follows_first : (files : List NamedFile) (failure : Failure)
       → FollowsReading files holds a b failure → FollowsReading (files ++ more) holds a b failure
-  follows_first files (Unread option) h = unreadable_first files option.now h
+  follows_first files (Unread input) h = unreadable_first files (option_of input) h
   follows_first files (Input fault) h = h
 
 -- what is unreadable since later reads is so since earlier ones, of which none failed
@@ -89,8 +90,8 @@ module _ (holds : Held) (a b c : ReadCounts) (fine : NoneFailed a b)
 
   follows_later : (files more : List NamedFile) (failure : Failure) → AreWithin files holds
       → FollowsReading more holds b c failure → FollowsReading (files ++ more) holds a c failure
-  follows_later files more (Unread option) within h =
-      unreadable_later more holds a c files option.now within (unreadable_since more option.now h)
+  follows_later files more (Unread input) within h =
+      unreadable_later more holds a c files (option_of input) within (unreadable_since more (option_of input) h)
   follows_later files more (Input fault) within h = h ∙ fine
 
 pub first_unread : {files : List NamedFile} (more : List NamedFile) {holds kept : Held}

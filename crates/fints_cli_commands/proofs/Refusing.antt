@@ -7,6 +7,7 @@ use Rattle.fints_cli_words.specs.declared.requests.Command.{Command}
 use Rattle.fints_cli_words.specs.declared.requests.Command.TheVariants as commands
 use Rattle.fints_cli_words.specs.declared.requests.Paths.{Paths}
 use Rattle.fints_cli_words.specs.declared.requests.Request.{Request}
+use Rattle.fints_cli_words.specs.Requests.{option_of}
 use Rattle.fints_cli_commands.specs.declared.failing.Failure.{Failure}
 use Rattle.fints_cli_commands.specs.declared.failing.Failure.TheVariants.{Input, Unread}
 use Rattle.fints_cli_commands.specs.Commands.{FailsFor, HasFiles, RefusesBy, RefusesRequest}
@@ -87,8 +88,8 @@ has_files commands.DrawFound request holds before after option is h = tt
 pub unloaded_fails : (request : Request) (holds : Held) (before after : ReadCounts) (failure : Failure)
     → FollowsReading (files_of request) holds before after failure → IsUnloaded failure
     → FailsFor request holds failure
-unloaded_fails request holds before after (Unread option) follows unloaded =
-    has_files request.command request holds before after option.now refl follows
+unloaded_fails request holds before after (Unread input) follows unloaded =
+    has_files request.command request holds before after (option_of input) refl follows
 unloaded_fails request holds before after (Input fault) follows unloaded =
     subst (RefusesRequest request holds) (sym unloaded)
     (memory_refuses request.command request.paths request.number holds)

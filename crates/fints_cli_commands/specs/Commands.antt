@@ -36,7 +36,7 @@ failure_status (Input Memory) = 4
 failure_status (Input (NoMessage number)) = 2
 failure_status (Input (NoFinding number)) = 2
 failure_status (Input _) = 3
-failure_status (Unread option) = 5
+failure_status (Unread input) = 5
 
 -- a hint stands only where it is asked for
 abbrev pub HintsIfAsked : Bool → Refusal → Type 0
@@ -173,4 +173,4 @@ HasFiles _ = Unit {0}
 -- why the request has no answer; `Loading` says which files may be answered as unread
 abbrev pub FailsFor : Request → Held → Failure → Type 0
 FailsFor request holds (Input fault) = RefusesRequest request holds fault
-FailsFor request holds (Unread option) = HasFiles request.command
+FailsFor request holds (Unread input) = HasFiles request.command

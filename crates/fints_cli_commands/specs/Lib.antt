@@ -2,3 +2,4 @@ pub mod BuiltIn
 pub mod Loading
 pub mod Loaded
 pub mod Commands
+pub mod FailureText

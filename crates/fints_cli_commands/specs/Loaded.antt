@@ -14,7 +14,6 @@ use Rattle.fints_cli_commands.specs.declared.failing.Failure.{Failure}
 use Rattle.fints_cli_commands.specs.declared.failing.Failure.TheVariants.{Input, Unread}
 use Rattle.fints_cli_commands.specs.declared.loading.Contents.{Contents}
 use Rattle.fints_cli_commands.specs.Loading.{Held, NamedFile, AreWithin, FollowsReading, bytes_at}
-use Rattle.fints_cli_words.specs.Requests.{option_of}
 use Rattle.fints_cli_words.specs.declared.requests.Input.{Input as InputName}
 use Rattle.fints_cli_words.specs.declared.requests.Paths.{Paths}
 
@@ -50,7 +49,7 @@ pub record AreRead (files : List NamedFile) (holds kept : Held) (before after : 
 
 -- a file of an option wasn't loaded, or memory ran out
 abbrev pub IsUnloaded : Failure → Type 0
-IsUnloaded (Unread option) = Unit {0}
+IsUnloaded (Unread input) = Unit {0}
 IsUnloaded (Input fault) = fault ≡ Memory
 
 -- one of these files wasn't loaded
@@ -65,5 +64,5 @@ pub record IsOneUnread (files : List NamedFile) (holds kept : Held) (before afte
 -- a file of an input wasn't loaded for a fault, and is answered so
 abbrev pub IsUnreadAs : InputName → LoadFault → Failure → Type 0
 IsUnreadAs input load_faults.Memory failure = failure ≡ Input Memory
-IsUnreadAs input fault (Unread option) = option.now ≡ option_of input
+IsUnreadAs input fault (Unread unread) = unread ≡ input
 IsUnreadAs input fault (Input refusal) = ⊥

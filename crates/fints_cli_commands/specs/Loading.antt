@@ -83,5 +83,6 @@ HasUnreadable (file ∷ files) holds before after option =
 -- a failure after these files were read: one of them may be answered as unread, or no read failed, and
 -- an input is refused or memory ran out
 abbrev pub FollowsReading : List NamedFile → Held → ReadCounts → ReadCounts → Failure → Type 0
-FollowsReading files holds before after (Unread option) = HasUnreadable files holds before after option.now
+FollowsReading files holds before after (Unread input) =
+    HasUnreadable files holds before after (option_of input)
 FollowsReading files holds before after (Input f) = NoneFailed before after

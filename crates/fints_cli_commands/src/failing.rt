@@ -1,6 +1,7 @@
 //! Why a command has no answer.
-ghost use Rattle.std.specs.Prelude.{◌≡◌};
+ghost use Rattle.std.specs.Prelude.{◌≡◌, ◌≤◌, length};
 ghost use Rattle.fints_cli_commands.specs.Commands.{failure_status, HintsIfAsked};
+ghost use Rattle.fints_cli_commands.specs.FailureText.{failure_text};
 ghost use Rattle.fints_cli_commands.specs.Loaded.{IsUnreadAs};
 ghost use Rattle.fints_cli_commands.specs.declared.failing.Failure.TheVariants as failure;
 
@@ -8,6 +9,7 @@ use fints_cli_files::LoadFault;
 use fints_cli_hints::{Inputs, hint};
 use fints_cli_texts::Fault;
 use fints_cli_words::Input;
+use fints_syntax_segments::FaultText;
 use std::alloc::{AllocError, Global};
 use std::fmt;
 use std::fmt::{Display, Formatter, Write};
@@ -15,13 +17,12 @@ use thiserror::Error;
 
 /// Why a command has no answer.
 #[derive(Clone, Copy, Debug, PartialEq, Eq, Error)]
+#[error("{}", self.text())]
 pub enum Failure {
     /// An input is refused, or memory ran out.
-    #[error("{0}")]
     Input(Fault),
-    /// The file of an option couldn't be read.
-    #[error("read --{0}")]
-    Unread(&'static str),
+    /// The file of this input couldn't be read.
+    Unread(Input),
 }
 
 impl Failure {
@@ -37,6 +38,17 @@ impl Failure {
             Failure::Input(Fault::NoFinding { .. }) => 2,
             Failure::Input(_) => 3,
             Failure::Unread(_) => 5,
+        }
+    }
+
+    /// What its line says after `error: `.
+    pub fn text(&self) -> FaultText
+        ensures text { result ≡ failure_text self.now }
+        ensures short { length result ≤ 108 }
+    {
+        match self {
+            Failure::Input(fault) => fault.text(),
+            Failure::Unread(input) => FaultText::new("read --").and(input.option()),
         }
     }
 }
@@ -128,7 +140,7 @@ pub fn unread(alloc: Global, input: Input, path: &str, fault: LoadFault, hints: 
 {
     let failure = match fault {
         LoadFault::Memory => Failure::Input(Fault::Memory),
-        _ => Failure::Unread(input.option()),
+        _ => Failure::Unread(input),
     };
     let hint = if hints {
         file_hint(alloc, path, fault, input.limit()).unwrap_or(None)

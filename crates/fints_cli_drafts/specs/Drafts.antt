@@ -1,12 +1,13 @@
 -- What a draft of a recorded dialogue is: the text of a script, and that of a case that has it send the client's
 -- messages once more.
-use Rattle.std.specs.Prelude.{codes, ◌≡◌, ◌≤◌, ◌+◌, ◌⊎◌, ℕ, List, [], ◌∷◌, ◌++◌, length, get_or, Option, Some, None, IsTrue}
+use Rattle.std.specs.Prelude.{codes, ◌≡◌, ◌≤◌, ◌+◌, ◌⊎◌, ℕ, List, [], ◌∷◌, ◌++◌, length, get_or, Option, Some, None, Bool, ◌==◌, IsTrue}
 use Rattle.std.specs.Char.{is_ascii_alphanumeric}
-use Rattle.std.specs.List.{All, AllZip, flat_map, list_all}
+use Rattle.std.specs.List.{All, AllZip, flat_map, list_all, list_any}
 use Rattle.fints_syntax_segments.specs.Spelling.{Spelled}
 use Rattle.fints_syntax_segments.specs.Segment.{item_value, segment_bytes, IsSegment}
+use Rattle.fints_syntax_segments.specs.declared.item.OwnedSegment.{OwnedSegment}
 use Rattle.fints_syntax.specs.Owned.{segment_of}
-use Rattle.fints_rules_messages.specs.Messages.{IsSealHead}
+use Rattle.fints_rules_messages.specs.Messages.{MessageView, IsSealHead}
 use Rattle.fints_rules_permissions.specs.declared.orders.OrderRow.{OrderRow}
 use Rattle.fints_rules_permissions.specs.Orders.{DenotesTable}
 use Rattle.fints_rules_dialogues.specs.declared.reading.Answer.{Answer}
@@ -20,6 +21,7 @@ use Rattle.fints_script_templates.specs.declared.template.Signer.{Signer}
 use Rattle.fints_script_templates.specs.declared.template.Template.{Template}
 use Rattle.fints_script_templates.specs.declared.template.TemplateItem.{TemplateItem}
 use Rattle.fints_script_templates.specs.declared.template.TemplateItem.TheVariants.{Literal, Dialog, Field}
+use Rattle.fints_script.specs.Numbered.{numbered}
 use Rattle.fints_script.specs.Plans.{Admits}
 use Rattle.fints_script.specs.Scripts.{Denotes, ScriptValue}
 use Rattle.fints_wire.specs.Runs.{Run}
@@ -29,8 +31,6 @@ use Rattle.fints_cli_texts.specs.declared.fault.Fault.{Fault}
 use Rattle.fints_cli_texts.specs.declared.fault.Fault.TheVariants.{Memory, Orders, Dialogue, NotDraftable}
 use Rattle.fints_cli_drafts.specs.declared.drafting.Drafted.{Drafted}
 use Rattle.fints_cli_drafts.specs.declared.drafting.Drafted.TheVariants.{Script, Case}
-use Rattle.fints_cli_drafts.specs.declared.place.Undrafted.{Undrafted}
-use Rattle.fints_cli_drafts.specs.declared.place.Undrafted.TheVariants as undrafted
 
 -- ---- a message sent once more
 
@@ -146,8 +146,30 @@ pub record IsDraftOf (drafted : Drafted) (dialogue text : List ℕ) : Type 0 whe
   pub draft : IsDraft exchanges script case
   pub text_is : text ≡ drafted_text drafted script case
 
+abbrev pub has_number : ℕ → OwnedSegment → Bool
+has_number number s = s.head.number == number
+
+-- a segment of the message has this number: HNHBK has 1, the inner segments and HNHBS are numbered on from 2, and HNVSK and
+-- HNVSD have numbers of their own
+abbrev pub HasSegment : MessageView → ℕ → Type 0
+HasSegment m number =
+    ((1 ≤ number) × (number ≤ length m.inner + 2)) ⊎ IsTrue (list_any (has_number number) m.middle)
+
+-- the dialogue as a whole, a message of the client as a whole, or a segment of it
+abbrev pub IsPlaceIn : List Exchange → ℕ → ℕ → Type 0
+IsPlaceIn exchanges message segment =
+    ((message ≡ 0) × (segment ≡ 0))
+    ⊎ ((e : Exchange) × (numbered exchanges message ≡ Some e)
+    × ((segment ≡ 0) ⊎ HasSegment e.message segment))
+
+-- why exchanges have no draft: what no draft sends is there, or memory ran out
+abbrev pub IsUndrafted : List Exchange → Fault → Type 0
+IsUndrafted exchanges Memory = Unit {0}
+IsUndrafted exchanges (NotDraftable message segment) = IsPlaceIn exchanges message segment
+IsUndrafted exchanges _ = ⊥
+
 -- why there is no draft of a dialogue, with the text of an order table: the first refusal, of the order table or of the
--- dialogue; or that no draft was found, or want of memory
+-- dialogue; or that no draft was found, or memory ran out
 abbrev pub IsDraftRefusal : List ℕ → List ℕ → Fault → Type 0
 IsDraftRefusal orders dialogue Memory = Unit {0}
 IsDraftRefusal orders dialogue (Orders f) = IsTableRefusal orders f
@@ -155,12 +177,5 @@ IsDraftRefusal orders dialogue (Dialogue f) =
     ((table : List OrderRow) × DenotesTable orders table) × IsDialogueFault dialogue f
 IsDraftRefusal orders dialogue (NotDraftable message segment) =
     ((table : List OrderRow) × DenotesTable orders table)
-    × ((exchanges : List Exchange) × IsDialogue dialogue exchanges)
+    × ((exchanges : List Exchange) × IsDialogue dialogue exchanges × IsPlaceIn exchanges message segment)
 IsDraftRefusal orders dialogue _ = ⊥
-
--- ---- of private contracts and proofs alone
-
--- the fault of a dialogue without a draft
-abbrev pub fault_of : Undrafted → Fault
-fault_of undrafted.Memory = Memory
-fault_of (undrafted.At place) = NotDraftable place.message place.segment

@@ -1,15 +1,14 @@
 //! Drafts of recorded dialogues, each tried before it is handed out.
 ghost use Rattle.std.specs.Prelude.{◌≡◌, IfErr, IfOk, IsTrue, string_bytes};
-ghost use Rattle.std.specs.List.{AllByRecursion};
-ghost use Rattle.fints_rules_dialogues.specs.Dialogues.{IsExchange};
 ghost use Rattle.fints_script.specs.Scripts.{Denotes};
 ghost use Rattle.fints_script_cases.specs.Cases.{IsCaseOf};
-ghost use Rattle.fints_cli_drafts.specs.Drafts.{answers_of, drafted_text, IsDraft, IsDraftOf, IsDraftRefusal};
+ghost use Rattle.fints_cli_drafts.specs.Drafts.{answers_of, drafted_text, IsDraft, IsDraftOf, IsDraftRefusal, IsUndrafted};
 
 use crate::blank::keeps_secrets;
 use crate::place::{Place, Undrafted};
 use crate::replaying::{answers_of, replay};
 use crate::sketching::{Sketch, sketch_of};
+use crate::within::place_within;
 use fints_cli_texts::Fault;
 use fints_rules::OrderTable;
 use fints_rules_dialogues::{Exchange, read_dialogue_with};
@@ -82,7 +81,6 @@ fn case_text(
     values: Values,
     exchanges: &[Exchange<'_>],
 ) -> Result<(Vec<u8>, Case), Undrafted>
-    requires { AllByRecursion IsExchange exchanges.now }
     ensures text { IfOk result (λ r. IsCaseOf r.0.items r.1.values r.1.answers.items) }
     ensures answers { IfOk result (λ r. r.1.answers.items ≡ answers_of exchanges.now) }
 {
@@ -103,7 +101,6 @@ fn tried(
     exchanges: &[Exchange<'_>],
     sketch: Sketch,
 ) -> Result<Draft, Undrafted>
-    requires { AllByRecursion IsExchange exchanges.now }
     ensures { IfOk result (λ draft. IsDraft exchanges.now draft.script.items draft.case.items) }
 {
     let script = script_of(alloc, &sketch)?;
@@ -128,11 +125,38 @@ fn draft_of(
     orders: &OrderTable,
     exchanges: &[Exchange<'_>],
 ) -> Result<Draft, Undrafted>
-    requires { AllByRecursion IsExchange exchanges.now }
     ensures { IfOk result (λ draft. IsDraft exchanges.now draft.script.items draft.case.items) }
 {
     let sketch = sketch_of(alloc, orders, exchanges)?;
     tried(alloc, orders, exchanges, sketch)
+}
+
+// The refusal of a dialogue without a draft.
+fn refusal_of(exchanges: &[Exchange<'_>], undrafted: Undrafted) -> Fault
+    ensures { IsUndrafted exchanges.now result }
+{
+    match undrafted {
+        Undrafted::Memory => Fault::Memory,
+        Undrafted::At(place) => {
+            let Place { message, segment } = place_within(exchanges, place);
+            Fault::NotDraftable { message, segment }
+        }
+    }
+}
+
+// The draft of a dialogue, or where it has something that no draft sends.
+fn draft_or_refusal(
+    alloc: Global,
+    orders: &OrderTable,
+    exchanges: &[Exchange<'_>],
+) -> Result<Draft, Fault>
+    ensures draft { IfOk result (λ draft. IsDraft exchanges.now draft.script.items draft.case.items) }
+    ensures refused { IfErr result (λ f. IsUndrafted exchanges.now f) }
+{
+    match draft_of(alloc, orders, exchanges) {
+        Ok(draft) => Ok(draft),
+        Err(undrafted) => Err(refusal_of(exchanges, undrafted)),
+    }
 }
 
 // The wanted text of a draft.
@@ -163,6 +187,6 @@ pub fn draft_read<O: UnreadObserver>(
 {
     let orders = OrderTable::read(alloc, orders)?;
     let exchanges = read_dialogue_with(alloc, dialogue, observer)?;
-    let draft = draft_of(alloc, &orders, exchanges.as_slice())?;
+    let draft = draft_or_refusal(alloc, &orders, exchanges.as_slice())?;
     Ok(text_of(draft, drafted))
 }

@@ -16,5 +16,6 @@ mod sketching;
 mod steps;
 mod texts;
 mod turns;
+mod within;
 
 pub use drafting::{Drafted, draft_read};

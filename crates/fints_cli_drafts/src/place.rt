@@ -1,10 +1,7 @@
 //! Where in a recorded dialogue something stands that no draft sends.
 ghost use Rattle.std.specs.Prelude.{◌≡◌};
-ghost use Rattle.fints_cli_texts.specs.declared.fault.Fault.TheVariants as fault;
-ghost use Rattle.fints_cli_drafts.specs.Drafts.{fault_of};
 ghost use Rattle.fints_cli_drafts.specs.declared.place.Undrafted.TheVariants as undrafted;
 
-use fints_cli_texts::Fault;
 use fints_syntax::Memory;
 use std::alloc::{AllocError, AllocFailed};
 
@@ -25,7 +22,9 @@ pub enum Undrafted {
 
 impl Place {
     /// A message as a whole.
-    pub fn whole(message: usize) -> Place {
+    pub fn whole(message: usize) -> Place
+        ensures { result ≡ record { message = message; segment = 0 } }
+    {
         Place {
             message,
             segment: 0,
@@ -59,16 +58,5 @@ impl<T: Drop> From<AllocFailed<T>> for Undrafted {
 
     fn from(_e: AllocFailed<T>) -> Undrafted {
         Undrafted::Memory
-    }
-}
-
-impl From<Undrafted> for Fault {
-    ghost from_gives = { λ e f. f ≡ fault_of e };
-
-    fn from(e: Undrafted) -> Fault {
-        match e {
-            Undrafted::Memory => Fault::Memory,
-            Undrafted::At(Place { message, segment }) => Fault::NotDraftable { message, segment },
-        }
     }
 }

@@ -1,7 +1,5 @@
 //! Whether a script and a case send a recorded dialogue once more.
 ghost use Rattle.std.specs.Prelude.{◌≡◌, ◌<◌, ◌++◌, IfNone, IfOk, IfSome, OnOk, length};
-ghost use Rattle.std.specs.List.{AllByRecursion};
-ghost use Rattle.fints_rules_dialogues.specs.Dialogues.{IsExchange};
 ghost use Rattle.fints_cli_drafts.specs.Drafts.{answers_of, answer_in, AreSentAgain, Replays};
 
 use crate::comparing::{is_sent_again, other_place};
@@ -34,8 +32,7 @@ fn add_answer(
     alloc: Global,
     answers: &mut Vec<Answer>,
     exchange: &Exchange<'_>,
-) -> Result<(), Memory>
-    requires { IsExchange exchange.now }
+) -> Result<(), Undrafted>
     ensures { OnOk result (answers.new.items ≡ answers.old.items ++ answer_in exchange.now.answer) }
 {
     let Some(answer) = &exchange.answer else {
@@ -43,15 +40,14 @@ fn add_answer(
     };
     let codes = copied_codes(alloc, answer.codes.as_slice())?;
     let Some(answer) = Answer::new(codes) else {
-        unreachable!()
+        return Err(Place::whole(0).refused());
     };
     answers.push(answer)?;
     Ok(())
 }
 
-/// The bank's answers to the client's messages.
-pub fn answers_of(alloc: Global, exchanges: &[Exchange<'_>]) -> Result<Vec<Answer>, Memory>
-    requires { AllByRecursion IsExchange exchanges.now }
+/// The bank's answers to the client's messages. One without a code, which no dialogue has, has no draft.
+pub fn answers_of(alloc: Global, exchanges: &[Exchange<'_>]) -> Result<Vec<Answer>, Undrafted>
     ensures { IfOk result (λ answers. answers.items ≡ answers_of exchanges.now) }
 {
     let mut answers = Vec::new(alloc);

@@ -21,10 +21,9 @@ fn opener_of(step: &Step, branch: usize) -> Option<Code>
 }
 
 fn write_pattern(text: &mut Vec<u8>, step: &Step, branch: usize) -> Result<(), Memory>
-    requires { 1 ≤ branch }
     ensures { OnOk result (text.new.items ≡ text.old.items ++ pattern_text step.now.branches branch) }
 {
-    match step.branches().get(branch - 1) {
+    match step.branches().get(branch.saturating_sub(1)) {
         Some(own) => text.extend_from_slice(own.on.as_bytes())?,
         None => text.extend_from_slice(b"default")?,
     }
@@ -66,7 +65,6 @@ fn write_label(
     opener: &Option<Code>,
     to: Target,
 ) -> Result<(), Memory>
-    requires { 1 ≤ branch }
     ensures { OnOk result (text.new.items ≡ text.old.items ++ edge_label step.now branch opener.now to) }
 {
     write_pattern(text, step, branch)?;
@@ -76,10 +74,9 @@ fn write_label(
 
 // Dashed where it is the default.
 fn write_default_style(text: &mut Vec<u8>, step: &Step, branch: usize) -> Result<(), Memory>
-    requires { 1 ≤ branch }
     ensures { OnOk result (text.new.items ≡ text.old.items ++ default_style step.now.branches branch) }
 {
-    if step.branches().get(branch - 1).is_none() {
+    if step.branches().get(branch.saturating_sub(1)).is_none() {
         text.extend_from_slice(b", style=dashed")?;
     }
     Ok(())
@@ -103,7 +100,6 @@ fn write_style(
     branch: usize,
     opener: &Option<Code>,
 ) -> Result<(), Memory>
-    requires { 1 ≤ branch }
     ensures { OnOk result (text.new.items ≡ text.old.items ++ edge_style step.now branch opener.now) }
 {
     write_default_style(text, step, branch)?;
@@ -133,8 +129,7 @@ fn write_edge_to(
     opener: &Option<Code>,
     to: Target,
 ) -> Result<(), Memory>
-    requires from { 1 ≤ branch }
-    requires onward { IsOnward (length plan.now.script.steps) 0 to }
+    requires { IsOnward (length plan.now.script.steps) 0 to }
     ensures { OnOk result (text.new.items
         ≡ text.old.items ++ edge_to plan.now.script.steps step.now branch opener.now to) }
 {

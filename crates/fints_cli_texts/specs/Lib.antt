@@ -6,3 +6,4 @@ pub mod Masked
 pub mod Show
 pub mod ShowMessage
 pub mod Audit
+pub mod FaultText

@@ -1,5 +1,6 @@
 //! Why inputs have no answer.
-ghost use Rattle.std.specs.Prelude.{◌≡◌};
+ghost use Rattle.std.specs.Prelude.{◌≡◌, ◌≤◌, ◌+◌, ◌++◌, length};
+ghost use Rattle.fints_cli_texts.specs.FaultText.{fault_text};
 ghost use Rattle.fints_cli_texts.specs.Fault.{answer_fault_of, dialogue_fault_of, fault_of, order_fault_of, script_fault_of, case_fault_of, message_fault_of};
 ghost use Rattle.fints_cli_texts.specs.declared.fault.Fault.TheVariants as fault;
 
@@ -7,61 +8,91 @@ use fints_params::ParamFault;
 use fints_rules::{JudgeFault, TableFault};
 use fints_rules_dialogues::DialogueFault;
 use fints_script::{CaseFault, FaultKind, PlanFault, ScriptFault};
-use fints_syntax::Memory;
+use fints_syntax::{FaultText, Memory};
 use std::alloc::AllocError;
 use thiserror::Error;
 
 /// Why inputs have no answer.
 #[derive(Clone, Copy, Debug, PartialEq, Eq, Error)]
+#[error("{}", self.text())]
 pub enum Fault {
     /// A growth was refused.
-    #[error("memory")]
     Memory,
     /// The capture is refused; memory that ran out is no such refusal.
-    #[error("params {0}")]
     Params(ParamFault),
     /// The order table is refused; memory that ran out is no such refusal.
-    #[error("orders {0}")]
     Orders(TableFault),
     /// The script is refused; memory that ran out is no such refusal.
-    #[error("script {0}")]
     Script(ScriptFault),
     /// The script leaves something open with the order table.
-    #[error("plan {0}")]
     Plan(PlanFault),
     /// The text is no case; memory that ran out is no such refusal.
-    #[error("case {0}")]
     Case(CaseFault),
     /// The values of the case aren't those that the script admits.
-    #[error("case NotAdmitted")]
     NotAdmitted,
     /// The run of the case has no message of this number; numbers count from 1.
-    #[error("run NoMessage {number}")]
     NoMessage { number: u32 },
     /// The report has no finding of this number; numbers count from 1.
-    #[error("explain NoFinding {number}")]
     NoFinding { number: u32 },
     /// The first line that is no line of a certificate there; lines count from 1.
-    #[error("cert line {line}")]
     Certificate { line: u32 },
     /// The bytes before a judged message are no message; the offset is that of `NotAMessage`.
-    #[error("before NotAMessage at {offset}")]
     Before { offset: usize },
     /// The bank's answer to the message before is refused; memory that ran out is no such refusal.
-    #[error("answer {0}")]
     Answer(ParamFault),
     /// The bytes are no message; memory that ran out is no such refusal.
-    #[error("message {0}")]
     Message(JudgeFault),
     /// The bytes are no recorded dialogue, or it tells no parameters; want of memory is no such
     /// refusal.
-    #[error("dialogue {0}")]
     Dialogue(DialogueFault),
     /// No draft sends this segment of a message of the recorded dialogue as it was recorded. The
     /// client's messages count from 1, and the segment has the number in its head: 0 is the message as
     /// a whole, and message 0 the dialogue.
-    #[error("dialogue NotDraftable message {message} segment {segment}")]
     NotDraftable { message: usize, segment: usize },
+}
+
+// A word that says which input is refused, and then why.
+fn refused(input: &str, why: &FaultText) -> FaultText
+    ensures text { length input.now + length why.now ≤ 128 → result ≡ input.now ++ why.now }
+{
+    FaultText::new(input).and(why.as_str())
+}
+
+impl Fault {
+    /// Which input is refused, and why.
+    pub fn text(&self) -> FaultText
+        ensures text { result ≡ fault_text self.now }
+        ensures short { length result ≤ 108 }
+    {
+        match self {
+            Fault::Memory => FaultText::new("memory"),
+            Fault::Params(fault) => refused("params ", &fault.text()),
+            Fault::Orders(fault) => refused("orders ", &fault.text()),
+            Fault::Script(fault) => refused("script ", &fault.text()),
+            Fault::Plan(fault) => refused("plan ", &fault.text()),
+            Fault::Case(fault) => refused("case ", &fault.text()),
+            Fault::NotAdmitted => FaultText::new("case NotAdmitted"),
+            Fault::NoMessage { number } => {
+                FaultText::new("run NoMessage ").number(u64::from(*number))
+            }
+            Fault::NoFinding { number } => {
+                FaultText::new("explain NoFinding ").number(u64::from(*number))
+            }
+            Fault::Certificate { line } => FaultText::new("cert line ").number(u64::from(*line)),
+            Fault::Before { offset } => {
+                FaultText::new("before NotAMessage at ").number(*offset as u64)
+            }
+            Fault::Answer(fault) => refused("answer ", &fault.text()),
+            Fault::Message(fault) => refused("message ", &fault.text()),
+            Fault::Dialogue(fault) => refused("dialogue ", &fault.text()),
+            Fault::NotDraftable { message, segment } => FaultText::numbered(
+                "dialogue NotDraftable message ",
+                *message as u64,
+                " segment ",
+                *segment as u64,
+            ),
+        }
+    }
 }
 
 impl From<Memory> for Fault {

@@ -1,36 +1,54 @@
 //! Why a capture gives no parameters.
-ghost use Rattle.std.specs.Prelude.{◌≡◌, ◌↔◌, IsTrue};
+ghost use Rattle.std.specs.Prelude.{◌≡◌, ◌≤◌, ◌↔◌, length, IsTrue};
 ghost use Rattle.fints_params.specs.declared.fault.ParamFault.TheVariants.{Memory, BadElement};
 ghost use Rattle.fints_params.specs.declared.fault.ParamFault.TheVariants as faults;
+ghost use Rattle.fints_params.specs.FaultText.{param_text};
 ghost use Rattle.fints_params.specs.Faults.{as_param_fault};
 
-use fints_syntax::{Memory, OwnedSegment, SyntaxFault, SyntaxKind};
+use fints_syntax::{FaultText, Memory, OwnedSegment, SyntaxFault, SyntaxKind};
 use std::alloc::{AllocError, AllocFailed};
 use thiserror::Error;
 
 /// Why a capture gives no parameters, or a message no codes.
 #[derive(Clone, Copy, Debug, PartialEq, Eq, Error)]
+#[error("{}", self.text())]
 pub enum ParamFault {
     /// A growth was refused.
-    #[error("memory")]
     Memory,
     /// The capture isn't segments, or the data of an HNVSD aren't. The offset is counted in the
     /// capture, from 0.
-    #[error("{0}")]
     Syntax(SyntaxFault),
     /// An element can't be read. `segment` is the number in the segment's head; elements count
     /// from 1, the head being element 1.
-    #[error("BadElement segment {segment} element {element}")]
     BadElement { segment: u16, element: usize },
     /// A second HIBPA version 3.
-    #[error("TwoBankParameters")]
     TwoBankParameters,
     /// No HIBPA version 3.
-    #[error("NoBankParameters")]
     NoBankParameters,
     /// No HIPINS version 1.
-    #[error("NoPinParameters")]
     NoPinParameters,
+}
+
+impl ParamFault {
+    /// What is wrong, and where.
+    pub fn text(&self) -> FaultText
+        ensures text { result ≡ param_text self.now }
+        ensures short { length result ≤ 68 }
+    {
+        match self {
+            ParamFault::Memory => FaultText::new("memory"),
+            ParamFault::Syntax(fault) => fault.text(),
+            ParamFault::BadElement { segment, element } => FaultText::numbered(
+                "BadElement segment ",
+                u64::from(*segment),
+                " element ",
+                *element as u64,
+            ),
+            ParamFault::TwoBankParameters => FaultText::new("TwoBankParameters"),
+            ParamFault::NoBankParameters => FaultText::new("NoBankParameters"),
+            ParamFault::NoPinParameters => FaultText::new("NoPinParameters"),
+        }
+    }
 }
 
 impl From<Memory> for ParamFault {

@@ -3,12 +3,12 @@ use Rattle.std.proofs.Common.{ℕ, ◌≡◌, ◌⊎◌, Bool, true, false, refl
 use Rattle.std.proofs.lemmas.Bool.{false≢true}
 use Rattle.std.specs.Prelude.{◌↔◌}
 use Rattle.fints_rules.specs.Causes.{MayBreak, barest}
-use Rattle.fints_rules.specs.Rules.{AccountNeedsMore, OrderNeedsMore, SegmentBreaks}
+use Rattle.fints_rules.specs.Rules.{AccountNeedsMore, SegmentBreaks}
 use Rattle.fints_rules.specs.SegmentFacts.{SegmentFactsValue}
 use Rattle.fints_rules.specs.declared.facts.MessageFacts.{MessageFacts}
 use Rattle.fints_rules.specs.declared.rule.Rule.{Rule}
 use Rattle.fints_rules.specs.declared.rule.Rule.TheVariants as rule
-use Rattle.fints_rules_permissions.specs.Permits.{Granted}
+use Rattle.fints_rules_permissions.specs.Permits.{Granted, OrderNeedsMore}
 
 module _ (granted : Granted) (s : SegmentFactsValue) (n : ℕ) where
   -- it does so in one of the barest
@@ -23,7 +23,7 @@ module _ (granted : Granted) (s : SegmentFactsValue) (n : ℕ) where
   in_barest f rule.Version same h = inl h
   in_barest f rule.Orders same h = inl h
   in_barest f rule.Listed same h = inl h
-  in_barest f rule.Signatures same (inl (is, more)) = inl (inl (is, subst (λ (k : ℕ). OrderNeedsMore granted.rows s k) same more))
+  in_barest f rule.Signatures same (inl (is, more)) = inl (inl (is, subst (λ (k : ℕ). OrderNeedsMore granted.rows s.kind s.version k) same more))
   in_barest f rule.Signatures same (inr (is, more)) = inl (inr (is, subst (λ (k : ℕ). AccountNeedsMore granted.rows granted.orders s k) same more))
   in_barest f rule.Account same h = inl h
   in_barest f rule.Tan same (inl (is, listed, none)) = inl (inl (is, listed, λ carried. elim carried [ inl h ↦ false≢true h | inr h ↦ false≢true h ]))

@@ -1,14 +1,14 @@
 -- Segments where they stand, and by their values.
-use Rattle.std.proofs.Common.{◌≡◌, ℕ, ◌<◌, ◌==◌, arith, Bool, ◌||◌, List, [], ◌∷◌, length, get_or, map, Some, None, Option, refl, ap, ◌∙◌, sym}
+use Rattle.std.proofs.Common.{◌≡◌, ℕ, ◌<◌, ◌==◌, arith, Bool, ◌||◌, List, [], ◌∷◌, length, drop, drop-drop, get_or, map, ◌+◌, Some, None, Option, refl, ap, ◌∙◌, sym}
 use Rattle.std.specs.Prelude.{slice_get, unwrap_or}
 use Rattle.std.specs.List.{list_any}
 use Rattle.std.specs.Str.{bytes_eq}
 use Rattle.std.proofs.lemmas.Bool.Decides.{nat_tests}
 use Rattle.std.proofs.lemmas.List.{get_or-map, length-map}
 use Rattle.std.proofs.lemmas.Option.{slice_get-get_or}
-use Rattle.fints_syntax_segments.specs.Spelling.{Spelled}
+use Rattle.fints_syntax_segments.specs.Spelling.{Spelled, item_of}
 use Rattle.fints_syntax_segments.specs.Segment.{values_of, head_of, item_value}
-use Rattle.fints_syntax_segments.specs.Values.{value_at}
+use Rattle.fints_syntax_segments.specs.Values.{value_at, values_at}
 use Rattle.fints_syntax_segments.specs.declared.item.Head.{Head}
 use Rattle.fints_syntax_segments.specs.declared.item.OwnedSegment.{OwnedSegment}
 use Rattle.fints_syntax.specs.ItemIs.{ItemIs, value_of_item}
@@ -18,6 +18,7 @@ use Rattle.fints_syntax.specs.declared.text.Item.{Item}
 use Rattle.fints_syntax.specs.declared.text.Item.TheVariants as items
 use Rattle.fints_rules_messages.specs.Messages.{MessageView}
 use Rattle.fints_rules.specs.Facts.{count_of, segment_facts, six_items}
+use Rattle.fints_rules.specs.Leading.{first_value}
 use Rattle.fints_rules_messages.proofs.ItemValues.{value_at-place, value-none, value-some}
 
 -- ---- heads
@@ -27,6 +28,11 @@ pub head_is : (tree : List (List Spelled)) (h : Head) → head_of (values_of tre
 head_is tree h e = ap (λ (o : Option Head). unwrap_or o no_head) e
 
 -- ---- values
+
+abbrev six_of : List (List ℕ) → List (List ℕ)
+six_of values =
+    get_or values 0 [] ∷ get_or values 1 [] ∷ get_or values 2 [] ∷ get_or values 3 [] ∷ get_or values 4 []
+    ∷ get_or values 5 [] ∷ []
 
 pub value_absent : (tree : List (List Spelled)) (e i : ℕ) → 1 < e → 0 < i → ItemIs None (place_of tree e i)
     → value_at (segment_of tree) e i ≡ []
@@ -57,6 +63,42 @@ six_whole (u ∷ v ∷ w ∷ x ∷ []) a b c d e f h = absurd (omega arith)
 six_whole (u ∷ v ∷ w ∷ x ∷ y ∷ []) a b c d e f h = absurd (omega arith)
 six_whole (u ∷ v ∷ w ∷ x ∷ y ∷ z ∷ []) a b c d e f h = refl
 six_whole (u ∷ v ∷ w ∷ x ∷ y ∷ z ∷ s ∷ ss) a b c d e f h = absurd (omega arith)
+
+-- the values of the items of element 2
+second_values : (tree : List (List Spelled))
+    → values_at (segment_of tree) 2 ≡ map item_value (map item_of (get_or tree 1 []))
+second_values [] = refl
+second_values (e ∷ []) = refl
+second_values (e ∷ f ∷ es) = refl
+
+-- a list's first six, one taken after the other
+firsts : (a : List Spelled)
+    → (first_value a ∷ first_value (drop 1 a) ∷ first_value (drop 2 a) ∷ first_value (drop 3 a)
+    ∷ first_value (drop 4 a) ∷ first_value (drop 5 a) ∷ [])
+    ≡ six_of (map item_value (map item_of a))
+firsts [] = refl
+firsts (s ∷ []) = refl
+firsts (s ∷ t ∷ []) = refl
+firsts (s ∷ t ∷ u ∷ []) = refl
+firsts (s ∷ t ∷ u ∷ v ∷ []) = refl
+firsts (s ∷ t ∷ u ∷ v ∷ w ∷ []) = refl
+firsts (s ∷ t ∷ u ∷ v ∷ w ∷ x ∷ ss) = refl
+
+drop_next : (n : ℕ) (a b c : List Spelled) → b ≡ drop n a → c ≡ drop 1 b → c ≡ drop (n + 1) a
+drop_next n a b c h g = g ∙ ap (drop 1) h ∙ drop-drop 1 n a
+
+pub six_taken : (tree : List (List Spelled)) (a b c d e f : List Spelled) → a ≡ get_or tree 1 []
+    → b ≡ drop 1 a → c ≡ drop 1 b → d ≡ drop 1 c → e ≡ drop 1 d → f ≡ drop 1 e
+    → (first_value a ∷ first_value b ∷ first_value c ∷ first_value d ∷ first_value e ∷ first_value f ∷ [])
+    ≡ six_items (segment_of tree)
+six_taken tree a b c d e f is two three four five six =
+    let third = drop_next 1 a b c two three in
+    let fourth = drop_next 2 a c d third four in
+    let fifth = drop_next 3 a d e fourth five in
+    let sixth = drop_next 4 a e f fifth six in
+    rw (two, third, fourth, fifth, sixth) (firsts a)
+    ∙ ap (λ (x : List Spelled). six_of (map item_value (map item_of x))) is
+    ∙ ap six_of (sym (second_values tree))
 
 -- ---- lists of segments
 

@@ -1,14 +1,12 @@
 -- Why a rule is broken at a segment: the parts of the rules' definitions, told apart. Words of private
 -- contracts and proofs alone stand last, under a heading.
-use Rattle.std.specs.Prelude.{◌≡◌, ◌≢◌, ◌≤◌, ℕ, Bool, false, List, [], Some, None, IsTrue}
+use Rattle.std.specs.Prelude.{◌≡◌, ℕ, Bool, false, None}
 use Rattle.fints_rules.specs.declared.facts.MessageFacts.{MessageFacts}
 use Rattle.fints_rules.specs.declared.rule.Rule.{Rule}
 use Rattle.fints_rules.specs.declared.rule.Rule.TheVariants as rule
-use Rattle.fints_rules.specs.Rules.{IsOrder, IsPlainOrder, BreaksOrders, BreaksListed, OrderNeedsMore, AccountNeedsMore, AccountIsLocked, CarriesTan, SendsTan, SubmitsOrder, TakesOneOrder, IsOneStep, NeedsTwoSteps, SegmentBreaks}
+use Rattle.fints_rules.specs.Rules.{BreaksListed, BreaksOrders, GoesOneStep, HasNoOrderRow, HasNoParameters, HasOtherVersion, LacksAccountSignatures, LacksSignatures, LacksTan, NamesLockedAccount, SegmentBreaks, SendsNoTan, SubmitsOneOfSeveral}
 use Rattle.fints_rules.specs.SegmentFacts.{SegmentFactsValue}
-use Rattle.fints_rules_permissions.specs.Kinds.{own_version}
-use Rattle.fints_rules_permissions.specs.Orders.{form_of}
-use Rattle.fints_rules_permissions.specs.Permits.{Granted, params_of, IsListedWithTan}
+use Rattle.fints_rules_permissions.specs.Permits.{Granted}
 use Rattle.fints_rules.specs.declared.causes.Cause.{Cause}
 use Rattle.fints_rules.specs.declared.causes.Cause.TheVariants as cause
 
@@ -29,26 +27,18 @@ cause_rule cause.NoOneStep = rule.Procedure
 
 -- what holds of a segment in a message, where the cause is this one
 abbrev pub IsBrokenBecause : Granted → MessageFacts → SegmentFactsValue → Cause → Type 0
-IsBrokenBecause granted f s cause.OtherVersion =
-    (version : ℕ) × (own_version s.kind ≡ Some version) × (s.version ≢ version)
-IsBrokenBecause granted f s cause.NoParameters =
-    IsOrder s × (params_of s.kind s.version granted.rows.orders ≡ [])
+IsBrokenBecause granted f s cause.OtherVersion = HasOtherVersion s
+IsBrokenBecause granted f s cause.NoParameters = HasNoParameters granted.rows s
 IsBrokenBecause granted f s cause.TooManyOrders = BreaksOrders granted.rows s
 IsBrokenBecause granted f s cause.Unlisted = BreaksListed granted.rows s
-IsBrokenBecause granted f s cause.OrderNeedsMore = IsOrder s × OrderNeedsMore granted.rows s f.signatures
-IsBrokenBecause granted f s cause.AccountNeedsMore =
-    IsPlainOrder s × AccountNeedsMore granted.rows granted.orders s f.signatures
-IsBrokenBecause granted f s cause.NoOrderRow =
-    IsPlainOrder s × (form_of granted.orders s.kind s.version ≡ None)
-IsBrokenBecause granted f s cause.AccountLocked =
-    IsPlainOrder s × AccountIsLocked granted.rows granted.orders s
-IsBrokenBecause granted f s cause.NoTan =
-    IsPlainOrder s × IsListedWithTan granted.rows.pins s.kind × (CarriesTan f → ⊥)
-IsBrokenBecause granted f s cause.NoTanSent = SendsTan s × (IsTrue f.has_tan → ⊥)
-IsBrokenBecause granted f s cause.OneOrderAtATime =
-    SubmitsOrder s × TakesOneOrder granted.rows s.version × (2 ≤ f.demanding)
-IsBrokenBecause granted f s cause.NoOneStep =
-    IsPlainOrder s × IsListedWithTan granted.rows.pins s.kind × IsOneStep f × NeedsTwoSteps granted.rows
+IsBrokenBecause granted f s cause.OrderNeedsMore = LacksSignatures granted.rows f s
+IsBrokenBecause granted f s cause.AccountNeedsMore = LacksAccountSignatures granted.rows granted.orders f s
+IsBrokenBecause granted f s cause.NoOrderRow = HasNoOrderRow granted.orders s
+IsBrokenBecause granted f s cause.AccountLocked = NamesLockedAccount granted.rows granted.orders s
+IsBrokenBecause granted f s cause.NoTan = LacksTan granted.rows f s
+IsBrokenBecause granted f s cause.NoTanSent = SendsNoTan f s
+IsBrokenBecause granted f s cause.OneOrderAtATime = SubmitsOneOfSeveral granted.rows f s
+IsBrokenBecause granted f s cause.NoOneStep = GoesOneStep granted.rows f s
 
 -- in some message with so many signatures the segment breaks the rule
 abbrev pub MayBreak : Granted → Rule → SegmentFactsValue → ℕ → Type 0

@@ -12,3 +12,4 @@ pub mod Judging
 pub mod Tallies
 pub mod Causes
 pub mod Laws
+pub mod Leading

@@ -1,12 +1,13 @@
 //! The values that rules ask of a segment of a message: the first six items of its element 2, copied once.
-ghost use Rattle.std.specs.Prelude.{◌≡◌, ◌<◌, IfOk, map};
+ghost use Rattle.std.specs.Prelude.{◌≡◌, ◌<◌, IfOk, drop, map};
 ghost use Rattle.std.specs.Str.{bytes_eq};
 ghost use Rattle.fints_syntax.specs.ItemIs.{value_of_item};
 ghost use Rattle.fints_syntax.specs.Owned.{segment_of, segments_of};
 ghost use Rattle.fints_syntax_segments.specs.Values.{value_at};
 ghost use Rattle.fints_rules.specs.Facts.{six_items};
+ghost use Rattle.fints_rules.specs.Leading.{first_value};
 
-use fints_syntax::{Bytes, Item, Memory, SegmentView};
+use fints_syntax::{Bytes, ElementItems, Item, Memory, SegmentView};
 use fints_syntax_segments::Valued;
 use std::alloc::Global;
 use std::marker::Model;
@@ -39,13 +40,13 @@ pub fn has_value(segment: &SegmentView<'_>, element: usize, item: usize, value: 
     }
 }
 
-// A copy of the value of an item of element 2; an absent one is empty.
-fn copied(alloc: Global, segment: &SegmentView<'_>, item: usize) -> Result<Bytes, Memory>
-    requires { 0 < item }
-    ensures { IfOk result (λ value. value ≡ value_at (segment_of segment.now) 2 item) }
+// A copy of the value of the next item; where none is left it is empty.
+fn copied(alloc: Global, items: &mut ElementItems<'_>) -> Result<Bytes, Memory>
+    ensures value { IfOk result (λ value. value ≡ first_value items.old) }
+    ensures rest { items.new ≡ drop 1 items.old }
 {
     let mut value = Vec::new(alloc);
-    match segment.item(2, item) {
+    match items.step() {
         None => Ok(Bytes::new(value)),
         Some(found) => {
             found.append_value(&mut value)?;
@@ -73,13 +74,14 @@ impl Leading {
     pub fn of(alloc: Global, segment: &SegmentView<'_>) -> Result<Leading, Memory>
         ensures { IfOk result (λ leading. leading ≡ six_items (segment_of segment.now)) }
     {
+        let mut items = segment.second_element();
         let values = [
-            copied(alloc, segment, 1)?,
-            copied(alloc, segment, 2)?,
-            copied(alloc, segment, 3)?,
-            copied(alloc, segment, 4)?,
-            copied(alloc, segment, 5)?,
-            copied(alloc, segment, 6)?,
+            copied(alloc, &mut items)?,
+            copied(alloc, &mut items)?,
+            copied(alloc, &mut items)?,
+            copied(alloc, &mut items)?,
+            copied(alloc, &mut items)?,
+            copied(alloc, &mut items)?,
         ];
         Ok(Leading { values })
     }

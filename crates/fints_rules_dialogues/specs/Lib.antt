@@ -2,3 +2,4 @@ pub mod Dialogues
 pub mod Auditing
 pub mod OwnParams
 pub mod Laws
+pub mod FaultText

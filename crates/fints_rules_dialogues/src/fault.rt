@@ -1,37 +1,57 @@
 //! Why bytes are no recorded dialogue.
-ghost use Rattle.std.specs.Prelude.{◌≡◌};
+ghost use Rattle.std.specs.Prelude.{◌≡◌, ◌≤◌, length};
+ghost use Rattle.fints_rules_dialogues.specs.FaultText.{dialogue_text};
 ghost use Rattle.fints_rules_dialogues.specs.declared.fault.DialogueFault.TheVariants as fault;
 
 use fints_params::ParamFault;
-use fints_syntax::Memory;
+use fints_syntax::{FaultText, Memory};
 use std::alloc::{AllocError, AllocFailed};
 use thiserror::Error;
 
 /// Why bytes are no recorded dialogue, or tell no parameters. The offsets are counted in the file,
 /// from 0.
 #[derive(Clone, Copy, Debug, PartialEq, Eq, Error)]
+#[error("{}", self.text())]
 pub enum DialogueFault {
     /// A growth was refused.
-    #[error("memory")]
     Memory,
     /// Nothing stands in the file but CR and LF.
-    #[error("NoMessage")]
     NoMessage,
     /// No message stands there: no HNHBK with the size in 12 digits, or fewer bytes than it says; or
     /// a message of the client ceases there to be one.
-    #[error("NotAMessage at {offset}")]
     NotAMessage { offset: usize },
     /// The message that begins there is the bank's where the client's is due, or the client's where
     /// the bank's is due.
-    #[error("NotInTurn at {offset}")]
     NotInTurn { offset: usize },
     /// The bank's answer that begins there is refused, by its feedback or as a capture of parameters.
     /// An offset in that fault is counted in the answer, from 0; want of memory is no such refusal.
-    #[error("answer at {start} {fault}")]
     Answer { start: usize, fault: ParamFault },
     /// No answer has a HIBPA version 3 and a HIPINS version 1.
-    #[error("NoParameters")]
     NoParameters,
+}
+
+impl DialogueFault {
+    /// What is wrong, and where.
+    pub fn text(&self) -> FaultText
+        ensures text { result ≡ dialogue_text self.now }
+        ensures short { length result ≤ 99 }
+    {
+        match self {
+            DialogueFault::Memory => FaultText::new("memory"),
+            DialogueFault::NoMessage => FaultText::new("NoMessage"),
+            DialogueFault::NotAMessage { offset } => {
+                FaultText::new("NotAMessage at ").number(*offset as u64)
+            }
+            DialogueFault::NotInTurn { offset } => {
+                FaultText::new("NotInTurn at ").number(*offset as u64)
+            }
+            DialogueFault::Answer { start, fault } => FaultText::new("answer at ")
+                .number(*start as u64)
+                .and(" ")
+                .and(fault.text().as_str()),
+            DialogueFault::NoParameters => FaultText::new("NoParameters"),
+        }
+    }
 }
 
 impl From<Memory> for DialogueFault {

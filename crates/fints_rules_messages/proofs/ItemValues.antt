@@ -29,7 +29,7 @@ item_in [] i = refl
 item_in (s ∷ ss) zero = refl
 item_in (s ∷ ss) (suc i) = item_in ss i
 
-value_in : (x : List Spelled) (i : ℕ)
+pub value_in : (x : List Spelled) (i : ℕ)
     → get_or (map item_value (map item_of x)) i [] ≡ item_value (or_empty (slice_get x i))
 value_in [] i = refl
 value_in (s ∷ ss) zero = refl

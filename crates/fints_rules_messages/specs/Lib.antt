@@ -4,3 +4,4 @@ pub mod Messages
 pub mod Read
 pub mod Front
 pub mod Laws
+pub mod FaultText

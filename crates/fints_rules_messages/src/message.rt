@@ -1,6 +1,7 @@
 //! Messages, as they are read.
-ghost use Rattle.std.specs.Prelude.{◌≡◌, ◌+◌, ◌<◌, ◌++◌, [], ◌∷◌, ℕ, length, Option, Some, IfOk, IfErr, IfSome, IfNone};
+ghost use Rattle.std.specs.Prelude.{◌≡◌, ◌+◌, ◌<◌, ◌≤◌, ◌++◌, [], ◌∷◌, ℕ, length, Option, Some, IfOk, IfErr, IfSome, IfNone};
 ghost use Rattle.fints_syntax.specs.Owned.{segment_of, segments_of};
+ghost use Rattle.fints_rules_messages.specs.FaultText.{judge_text};
 ghost use Rattle.fints_rules_messages.specs.Messages.{IsMessage, IsFirst, IsEnvelope, IsNumbered, CeasesAt};
 
 use crate::front::{Inner, Seal};
@@ -9,7 +10,7 @@ use crate::plain::read_tail;
 use crate::slip::{Slip, Unread};
 use crate::tail::Tail;
 use crate::values::number_at;
-use fints_syntax::{Memory, SegmentView};
+use fints_syntax::{FaultText, Memory, SegmentView};
 use fints_syntax_segments::{HNHBK_NUMBER, HNHBK_VERSION};
 use std::alloc::{AllocError, Global};
 use std::marker::Model;
@@ -123,16 +124,32 @@ impl<'a> Message<'a> {
 
 /// Why bytes could not be judged.
 #[derive(Clone, Copy, Debug, PartialEq, Eq, Error)]
+#[error("{}", self.text())]
 pub enum JudgeFault {
-    #[error("memory")]
     Memory,
     /// The bytes are no message. The offset, from 0, is that of the first outer segment that isn't
     /// read or can't stand at its place, or the end of the last one that can.
-    #[error("NotAMessage at {offset}")]
     NotAMessage { offset: usize },
     /// Of two messages, the bytes of the one before are none; the offset is that of `NotAMessage`.
-    #[error("NotAMessageBefore at {offset}")]
     NotAMessageBefore { offset: usize },
+}
+
+impl JudgeFault {
+    /// What is wrong, and where.
+    pub fn text(&self) -> FaultText
+        ensures text { result ≡ judge_text self.now }
+        ensures short { length result ≤ 41 }
+    {
+        match self {
+            JudgeFault::Memory => FaultText::new("memory"),
+            JudgeFault::NotAMessage { offset } => {
+                FaultText::new("NotAMessage at ").number(*offset as u64)
+            }
+            JudgeFault::NotAMessageBefore { offset } => {
+                FaultText::new("NotAMessageBefore at ").number(*offset as u64)
+            }
+        }
+    }
 }
 
 impl From<Memory> for JudgeFault {

@@ -12,3 +12,4 @@ pub mod Ranks
 pub mod LimitMaps
 pub mod Needs
 pub mod Tans
+pub mod FaultText

@@ -1,10 +1,11 @@
 -- What the rows of a capture permit an order, by its kind, its version and its account.
-use Rattle.std.specs.Prelude.{◌≡◌, ◌≢◌, ℕ, ◌<◌, ◌≤◌, Bool, true, ◌&&◌, ◌==◌, List, [], filter, Option, Some, None, Any, All, Contains}
+use Rattle.std.specs.Prelude.{◌≡◌, ◌≢◌, ℕ, ◌<◌, ◌≤◌, Bool, true, false, ◌&&◌, ◌==◌, List, [], filter, Option, Some, None, Any, All, Contains}
 use Rattle.std.specs.List.{list_any}
 use Rattle.std.specs.Str.{bytes_eq}
 use Rattle.fints_params.specs.Parameters.{Rows}
 use Rattle.fints_params.specs.declared.rows.OrderParam.{OrderParam}
 use Rattle.fints_params.specs.declared.rows.PinRow.{PinRow}
+use Rattle.fints_params.specs.declared.rows.TanRow.{TanRow}
 use Rattle.fints_params.specs.declared.rows.AccountRow.{AccountRow}
 use Rattle.fints_params.specs.declared.rows.Entry.{Entry}
 use Rattle.fints_params.specs.declared.rows.Usage.TheVariants as usage
@@ -51,7 +52,24 @@ abbrev pub LimitsAre : List OrderParam → Option Limits → Type 0
 LimitsAre rows None = rows ≡ []
 LimitsAre rows (Some limits) = IsLimits rows limits
 
+-- some row of the kind and version needs more signatures
+abbrev pub OrderNeedsMore : Rows → List ℕ → ℕ → ℕ → Type 0
+OrderNeedsMore rows kind version signatures =
+    Any (λ row. signatures < row.signatures) (params_of kind version rows.orders)
+
 -- ---- TAN
+
+-- some HITANS of the version takes one order at a time
+abbrev pub TakesOneOrder : List TanRow → ℕ → Type 0
+TakesOneOrder rows version = Any (λ row. (row.version ≡ version) × (row.several ≡ false)) rows
+
+-- some HITANS lets a TAN go with its order
+abbrev pub LetsOneStep : List TanRow → Type 0
+LetsOneStep rows = Any (λ row. row.one_step ≡ true) rows
+
+-- HITANS are there, and none lets a TAN go with its order
+abbrev pub NeedsTwoSteps : List TanRow → Type 0
+NeedsTwoSteps rows = (rows ≢ []) × (LetsOneStep rows → ⊥)
 
 abbrev pub IsListedKind : List PinRow → List ℕ → Type 0
 IsListedKind pins kind = Any (λ pin. pin.kind ≡ kind) pins

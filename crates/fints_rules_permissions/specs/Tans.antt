@@ -1,9 +1,10 @@
 -- The rows of HITANS as a table. Private contracts and the invariant of `Permissions` alone cite these words.
-use Rattle.std.specs.Prelude.{◌≡◌, ◌≢◌, ◌↔◌, ◌==◌, ◌&&◌, ℕ, Bool, not, true, IsTrue, List, [], Any}
+use Rattle.std.specs.Prelude.{◌≡◌, ◌↔◌, ◌==◌, ◌&&◌, ℕ, Bool, not, IsTrue, List}
 use Rattle.std.specs.BTreeSet.{contains}
 use Rattle.std.specs.List.{list_any}
 use Rattle.std.specs.Ordering.{nat_cmp}
 use Rattle.fints_params.specs.declared.rows.TanRow.{TanRow}
+use Rattle.fints_rules_permissions.specs.Permits.{NeedsTwoSteps}
 use Rattle.fints_rules_permissions.specs.declared.tans.TanTable.{TanTable}
 
 -- a row of the version that takes one order at a time
@@ -13,4 +14,4 @@ takes_one version row = (row.version == version) && not row.several
 -- the table has the versions that take one order at a time, and whether no row lets a TAN go with its order
 pub record HoldsTans (rows : List TanRow) (table : TanTable) : Type 0 where
   pub single : (version : ℕ) → contains nat_cmp table.single version ≡ list_any (takes_one version) rows
-  pub two_steps : IsTrue table.two_steps ↔ (rows ≢ []) × (Any (λ row. row.one_step ≡ true) rows → ⊥)
+  pub two_steps : IsTrue table.two_steps ↔ NeedsTwoSteps rows

@@ -5,12 +5,13 @@ ghost use Rattle.std.specs.Str.{bytes_eq};
 ghost use Rattle.toml.specs.Data.{array};
 ghost use Rattle.toml.specs.View.{view, table_view, items_view};
 ghost use Rattle.fints_rules_permissions.specs.declared.orders.TableFault.TheVariants.{Memory};
+ghost use Rattle.fints_rules_permissions.specs.FaultText.{table_text};
 ghost use Rattle.fints_rules_permissions.specs.Orders.{row_of, row_kind, account_form, AreRows, IsTableAt, DenotesTable, IsTableFault, form_of};
 ghost use Rattle.fints_rules_permissions.specs.OrderFaults.{IsEntryFault, IsFaultAt, IsTableIn, IsFaultIn};
 
 use crate::keys::{OrderKey, row_hashing, row_key};
 use crate::kinds::is_table_kind;
-use fints_syntax::{Kind, Memory};
+use fints_syntax::{FaultText, Kind, Memory};
 use fints_syntax_hashing::KeyedHashing;
 use fints_syntax_texts::document;
 use fints_syntax_texts::document::Unread;
@@ -44,21 +45,33 @@ pub struct OrderRow {
 
 /// Why a text is no order table. Rows count from 1.
 #[derive(Clone, Copy, Debug, PartialEq, Eq, Error)]
+#[error("{}", self.text())]
 pub enum TableFault {
     /// Over 1 MiB, no UTF-8, or refused by `toml` for another cause than memory.
-    #[error("NotToml")]
     NotToml,
     /// A key at the top other than `order`.
-    #[error("UnknownKey")]
     UnknownKey,
     /// An entry that is no row; 0 where `order` is no array, 1,001 where it has too many entries.
-    #[error("BadRow {row}")]
     BadRow { row: u16 },
     /// A row of a kind and version that an earlier row has.
-    #[error("TwoRows {row}")]
     TwoRows { row: u16 },
-    #[error("memory")]
     Memory,
+}
+
+impl TableFault {
+    /// What is wrong, and where.
+    pub fn text(&self) -> FaultText
+        ensures text { result ≡ table_text self.now }
+        ensures short { length result ≤ 28 }
+    {
+        match self {
+            TableFault::NotToml => FaultText::new("NotToml"),
+            TableFault::UnknownKey => FaultText::new("UnknownKey"),
+            TableFault::BadRow { row } => FaultText::new("BadRow ").number(u64::from(*row)),
+            TableFault::TwoRows { row } => FaultText::new("TwoRows ").number(u64::from(*row)),
+            TableFault::Memory => FaultText::new("memory"),
+        }
+    }
 }
 
 impl From<Memory> for TableFault {

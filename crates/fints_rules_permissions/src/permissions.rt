@@ -1,7 +1,7 @@
 //! What a bank permits, as look-ups in the rows of a capture and an order table.
-ghost use Rattle.std.specs.Prelude.{◌≡◌, ◌≢◌, ◌<◌, ◌↔◌, [], true, false, Any, IfOk, IsTrue};
+ghost use Rattle.std.specs.Prelude.{◌≡◌, ◌↔◌, IfOk, IsTrue};
 ghost use Rattle.fints_rules_permissions.specs.Orders.{form_of};
-ghost use Rattle.fints_rules_permissions.specs.Permits.{LimitsAre, params_of, DemandIs, IsLeastNeed, PermitIs, is_demanding, is_listed_with_tan};
+ghost use Rattle.fints_rules_permissions.specs.Permits.{LimitsAre, params_of, DemandIs, IsLeastNeed, NeedsTwoSteps, OrderNeedsMore, PermitIs, TakesOneOrder, is_demanding, is_listed_with_tan};
 
 use crate::account::AccountKey;
 use crate::keys::OrderKey;
@@ -112,16 +112,14 @@ impl<'a> Permissions<'a> {
 
     /// Whether some HITANS of a version takes one order at a time.
     pub fn takes_one_order(&self, version: u16) -> bool
-        ensures { IsTrue result
-            ↔ Any (λ row. (row.version ≡ version) × (row.several ≡ false)) self.now.rows.tans }
+        ensures { IsTrue result ↔ TakesOneOrder self.now.rows.tans version }
     {
         self.tans.takes_one(version)
     }
 
     /// Whether HITANS are there, and none lets a TAN go with its order.
     pub fn needs_two_steps(&self) -> bool
-        ensures { IsTrue result ↔ ((self.now.rows.tans ≢ [])
-            × (Any (λ row. row.one_step ≡ true) self.now.rows.tans → ⊥)) }
+        ensures { IsTrue result ↔ NeedsTwoSteps self.now.rows.tans }
     {
         self.tans.two_steps
     }
@@ -143,8 +141,7 @@ impl<'a> Permissions<'a> {
 
     /// Whether some row of a kind and version needs more signatures.
     pub fn needs_more(&self, kind: Kind, version: u16, signatures: usize) -> bool
-        ensures { IsTrue result
-            ↔ Any (λ row. signatures < row.signatures) (params_of kind version self.now.rows.orders) }
+        ensures { IsTrue result ↔ OrderNeedsMore self.now.rows kind version signatures }
     {
         match self.limits(kind, version) {
             None => false,

@@ -1,6 +1,7 @@
 //! Which HKTAN take one order at a time, and whether no TAN may go with its order.
-ghost use Rattle.std.specs.Prelude.{◌≡◌, ◌≢◌, ◌↔◌, [], ℕ, List, IfOk, IsTrue, true, false, Any};
+ghost use Rattle.std.specs.Prelude.{◌↔◌, List, IfOk, IsTrue};
 ghost use Rattle.fints_params.specs.declared.rows.TanRow.{TanRow as TanRowValue};
+ghost use Rattle.fints_rules_permissions.specs.Permits.{LetsOneStep, NeedsTwoSteps, TakesOneOrder};
 ghost use Rattle.fints_rules_permissions.specs.Tans.{HoldsTans};
 
 use fints_params::TanRow;
@@ -18,13 +19,13 @@ pub struct TanTable {
 }
 
 fn some_one_step(rows: &[TanRow]) -> bool
-    ensures { IsTrue result ↔ Any (λ row. row.one_step ≡ true) rows.now }
+    ensures { IsTrue result ↔ LetsOneStep rows.now }
 {
     rows.iter().any(|row| row.one_step)
 }
 
 fn needs_two_steps(rows: &[TanRow]) -> bool
-    ensures { IsTrue result ↔ ((rows.now ≢ []) × (Any (λ row. row.one_step ≡ true) rows.now → ⊥)) }
+    ensures { IsTrue result ↔ NeedsTwoSteps rows.now }
 {
     !rows.is_empty() && !some_one_step(rows)
 }
@@ -47,7 +48,7 @@ impl TanTable {
     /// Whether some row of the version takes one order at a time.
     pub fn takes_one(&self, version: u16) -> bool
         ensures { (rows : List TanRowValue) → HoldsTans rows self.now
-            → IsTrue result ↔ Any (λ row. (row.version ≡ version) × (row.several ≡ false)) rows }
+            → IsTrue result ↔ TakesOneOrder rows version }
     {
         self.single.contains(&version)
     }

@@ -6,3 +6,4 @@ pub mod Numbered
 pub mod Sound
 pub mod Laws
 pub mod RefusalLaws
+pub mod FaultText

@@ -1,6 +1,7 @@
 //! Accounts and TAN processes that a script leaves open.
-ghost use Rattle.std.specs.Prelude.{◌≡◌, slice_get};
+ghost use Rattle.std.specs.Prelude.{◌≡◌, ◌≤◌, length, slice_get};
 ghost use Rattle.std.specs.List.{list_all};
+ghost use Rattle.fints_script.specs.FaultText.{plan_text};
 ghost use Rattle.fints_script.specs.Plans.{is_literal, is_account_field, element_two, names_account, is_open_account, is_open_process, open_of, open_fault, faults_in_step, faults_in_steps};
 ghost use Rattle.fints_script_rows.specs.NamedFields.{is_account_at};
 
@@ -8,6 +9,7 @@ use crate::steps::Step;
 use fints_rules::{AccountForm, OrderTable};
 use fints_script_rows::{NamedField, is_account};
 use fints_script_templates::{Template, TemplateItem};
+use fints_syntax::FaultText;
 use thiserror::Error;
 
 /// What a segment leaves open.
@@ -20,13 +22,26 @@ pub enum Open {
 /// Why a script can't be planned with an order table. Steps count from 1, and segments as they are
 /// numbered in the message.
 #[derive(Clone, Copy, Debug, PartialEq, Eq, Error)]
+#[error("{}", self.text())]
 pub enum PlanFault {
     /// Element 2 of an order that names an account is neither literal nor one account field.
-    #[error("OpenAccount step {step} segment {segment}")]
     OpenAccount { step: usize, segment: usize },
     /// Element 2 of an HKTAN, the TAN process, isn't literal.
-    #[error("OpenProcess step {step} segment {segment}")]
     OpenProcess { step: usize, segment: usize },
+}
+
+impl PlanFault {
+    /// What is left open, and where.
+    pub fn text(&self) -> FaultText
+        ensures text { result ≡ plan_text self.now }
+        ensures short { length result ≤ 66 }
+    {
+        let (what, step, segment) = match self {
+            PlanFault::OpenAccount { step, segment } => ("OpenAccount step ", *step, *segment),
+            PlanFault::OpenProcess { step, segment } => ("OpenProcess step ", *step, *segment),
+        };
+        FaultText::numbered(what, step as u64, " segment ", segment as u64)
+    }
 }
 
 fn is_literal(item: &TemplateItem) -> bool

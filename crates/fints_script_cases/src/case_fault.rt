@@ -1,19 +1,32 @@
 //! Why a text is no case.
-ghost use Rattle.std.specs.Prelude.{◌≡◌};
+ghost use Rattle.std.specs.Prelude.{◌≡◌, ◌≤◌, length};
+ghost use Rattle.fints_script_cases.specs.FaultText.{case_text};
 ghost use Rattle.fints_script_cases.specs.declared.case_fault.CaseFault.TheVariants as faults;
 
-use fints_syntax::Memory;
+use fints_syntax::{FaultText, Memory};
 use thiserror::Error;
 
 /// Why a text is no case.
 #[derive(Clone, Copy, Debug, PartialEq, Eq, Error)]
+#[error("{}", self.text())]
 pub enum CaseFault {
     /// The first line that is no line of a case there; lines count from 1.
-    #[error("line {line}")]
     Bad { line: u32 },
     /// A growth was refused.
-    #[error("memory")]
     Memory,
+}
+
+impl CaseFault {
+    /// Which line is wrong.
+    pub fn text(&self) -> FaultText
+        ensures text { result ≡ case_text self.now }
+        ensures short { length result ≤ 25 }
+    {
+        match self {
+            CaseFault::Bad { line } => FaultText::new("line ").number(u64::from(*line)),
+            CaseFault::Memory => FaultText::new("memory"),
+        }
+    }
 }
 
 impl From<Memory> for CaseFault {

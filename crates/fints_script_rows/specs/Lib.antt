@@ -9,3 +9,4 @@ pub mod PartLaws
 pub mod FieldParts
 pub mod Places
 pub mod Laws
+pub mod FaultText

@@ -1,10 +1,11 @@
 //! What is wrong with a script.
-ghost use Rattle.std.specs.Prelude.{◌≡◌, Some};
+ghost use Rattle.std.specs.Prelude.{◌≡◌, ◌≤◌, length, Some};
+ghost use Rattle.fints_script_rows.specs.FaultText.{kind_name, script_text};
 ghost use Rattle.fints_script_rows.specs.Rows.{place_text};
 ghost use Rattle.fints_script_rows.specs.declared.fault.FaultKind.TheVariants as kinds;
 ghost use Rattle.fints_script_rows.specs.declared.fault.Place.TheVariants as places;
 
-use fints_syntax_segments::Memory;
+use fints_syntax_segments::{FaultText, Memory};
 use std::alloc::{AllocError, AllocFailed};
 use std::fmt;
 use std::fmt::{Display, Formatter, Write};
@@ -42,6 +43,29 @@ pub enum FaultKind {
     Limit,
 }
 
+impl FaultKind {
+    /// The name, as it is printed.
+    pub fn name(self) -> &'static str
+        ensures name { result.now ≡ kind_name self }
+        ensures short { length result.now ≤ 12 }
+    {
+        match self {
+            FaultKind::Memory => "Memory",
+            FaultKind::NotToml => "NotToml",
+            FaultKind::UnknownKey => "UnknownKey",
+            FaultKind::Missing => "Missing",
+            FaultKind::WrongKind => "WrongKind",
+            FaultKind::NotLatin1 => "NotLatin1",
+            FaultKind::BadHex => "BadHex",
+            FaultKind::Duplicate => "Duplicate",
+            FaultKind::NoSuchName => "NoSuchName",
+            FaultKind::BackwardJump => "BackwardJump",
+            FaultKind::BadPattern => "BadPattern",
+            FaultKind::Limit => "Limit",
+        }
+    }
+}
+
 impl From<Memory> for FaultKind {
     ghost from_gives = { λ _ kind. kind ≡ kinds.Memory };
 
@@ -68,26 +92,48 @@ pub enum Place {
     Step(u16),
 }
 
+impl Place {
+    /// What it is, and which.
+    pub fn text(&self) -> FaultText
+        ensures text { result ≡ place_text self.now }
+        ensures short { length result ≤ 27 }
+    {
+        match self {
+            Place::Top => FaultText::new("top"),
+            Place::Field(row) => FaultText::new("field ").number(u64::from(*row)),
+            Place::Signer(row) => FaultText::new("signer ").number(u64::from(*row)),
+            Place::Seal => FaultText::new("seal"),
+            Place::Step(row) => FaultText::new("step ").number(u64::from(*row)),
+        }
+    }
+}
+
 impl Display for Place {
     ghost output = { λ place. Some (place_text place) };
 
     fn fmt<W: Write>(&self, f: &mut Formatter<W>) -> fmt::Result {
-        match self {
-            Place::Top => write!(f, "top"),
-            Place::Field(row) => write!(f, "field {row}"),
-            Place::Signer(row) => write!(f, "signer {row}"),
-            Place::Seal => write!(f, "seal"),
-            Place::Step(row) => write!(f, "step {row}"),
-        }
+        f.write_str(self.text().as_str())
     }
 }
 
 /// A fault of a script, at its place.
 #[derive(Clone, Copy, Debug, PartialEq, Eq, Error)]
-#[error("{kind:?} {place}")]
+#[error("{}", self.text())]
 pub struct ScriptFault {
     pub kind: FaultKind,
     pub place: Place,
+}
+
+impl ScriptFault {
+    /// What is wrong, and where.
+    pub fn text(&self) -> FaultText
+        ensures text { result ≡ script_text self.now }
+        ensures short { length result ≤ 40 }
+    {
+        FaultText::new(self.kind.name())
+            .and(" ")
+            .and(self.place.text().as_str())
+    }
 }
 
 impl From<Memory> for ScriptFault {

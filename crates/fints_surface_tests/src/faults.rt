@@ -1,7 +1,7 @@
 //! Each fault of the surface is an error of its own: a `?` makes an `anyhow::Error` of it, which prints what
 //! the fault prints. The texts are those of the fault lines; those of streams are the faults' own.
 use fints_check::CertFault;
-use fints_cli::{Failure, Fault, LoadFault, ReadFault, WriteFault};
+use fints_cli::{Failure, Fault, Input, LoadFault, ReadFault, WriteFault};
 use fints_params::ParamFault;
 use fints_rules::{JudgeFault, TableFault};
 use fints_script::{CaseFault, FaultKind, Place, PlanFault, ScriptFault};
@@ -188,7 +188,7 @@ fn of_commands(rt: HostRuntime) -> Result<(), Fail> {
     assert!(rt;
         prints(
             alloc,
-            failed(Err(Failure::Unread("script"))),
+            failed(Err(Failure::Unread(Input::Script))),
             "read --script"
         )?
     );

@@ -1,5 +1,5 @@
 -- The head, from the first items that a cursor reads.
-use Rattle.std.proofs.Common.{◌≡◌, ◌≢◌, ℕ, ◌<◌, true, false, eqb, cond, List, [], ◌∷◌, ◌++◌, length, refl, ap, ◌∙◌, sym, arith, map}
+use Rattle.std.proofs.Common.{◌≡◌, ◌≢◌, ℕ, ◌<◌, true, false, eqb, cond, List, [], ◌∷◌, ◌++◌, length, drop, get_or, refl, ap, ◌∙◌, sym, arith, map}
 use Rattle.std.specs.List.{AllByRecursion}
 use Rattle.std.proofs.lemmas.Bool.{ne_eqb, eq-eqb}
 use Rattle.std.proofs.lemmas.List.{append-nil}
@@ -18,6 +18,14 @@ front_one : (end : ℕ) (e : List Spelled) (ts : List Token) → 0 < length e �
 front_one end [] ts some h = absurd (omega arith)
 front_one end (s ∷ []) ts some h = rw h refl
 front_one end (s ∷ t ∷ ss) ts some h = ap (λ (x : List Spelled). s ∷ x) (front_one end (t ∷ ss) ts (omega arith) h)
+
+-- what the items of element 2 are, after the head
+pub second_front : (es : List (List Spelled)) → AllByRecursion (λ e. 0 < length e) es
+    → front (segment_tokens (drop 1 es)) ≡ get_or es 1 []
+second_front [] h = refl
+second_front (e ∷ []) h = refl
+second_front (e ∷ f ∷ []) h = ap front (sym (append-nil (element_tokens 39 f))) ∙ front_one 39 f [] h.1.0 refl
+second_front (e ∷ f ∷ g ∷ es) h = front_one 43 f (segment_tokens (g ∷ es)) h.1.0 refl
 
 pub head_front : (es : List (List Spelled)) → AllByRecursion (λ e. 0 < length e) es
     → head_of (values_of es) ≡ head_from (front_values (segment_tokens es))

@@ -1,8 +1,9 @@
 //! Why bytes could not be read.
-ghost use Rattle.std.specs.Prelude.{◌≡◌};
+ghost use Rattle.std.specs.Prelude.{◌≡◌, ◌≤◌, length};
+ghost use Rattle.fints_syntax.specs.FaultText.{kind_name, syntax_text};
 ghost use Rattle.fints_syntax.specs.declared.fault.SyntaxKind.TheVariants as kind;
 
-use fints_syntax_segments::Memory;
+use fints_syntax_segments::{FaultText, Memory};
 use std::alloc::{AllocError, AllocFailed};
 use thiserror::Error;
 
@@ -25,12 +26,42 @@ pub enum SyntaxKind {
     Failed,
 }
 
+impl SyntaxKind {
+    /// The name, as it is printed.
+    pub fn name(self) -> &'static str
+        ensures name { result.now ≡ kind_name self }
+        ensures short { length result.now ≤ 14 }
+    {
+        match self {
+            SyntaxKind::Memory => "Memory",
+            SyntaxKind::BadBinary => "BadBinary",
+            SyntaxKind::TooLong => "TooLong",
+            SyntaxKind::Incomplete => "Incomplete",
+            SyntaxKind::BadHead => "BadHead",
+            SyntaxKind::CaptureTooLong => "CaptureTooLong",
+            SyntaxKind::Failed => "Failed",
+        }
+    }
+}
+
 /// A fault, with its offset in the bytes that were read, counted from 0.
 #[derive(Clone, Copy, Debug, PartialEq, Eq, Error)]
-#[error("{kind:?} at {offset}")]
+#[error("{}", self.text())]
 pub struct SyntaxFault {
     pub kind: SyntaxKind,
     pub offset: usize,
+}
+
+impl SyntaxFault {
+    /// What is wrong, and where.
+    pub fn text(&self) -> FaultText
+        ensures text { result ≡ syntax_text self.now }
+        ensures short { length result ≤ 38 }
+    {
+        FaultText::new(self.kind.name())
+            .and(" at ")
+            .number(self.offset as u64)
+    }
 }
 
 impl From<Memory> for SyntaxFault {

@@ -9,6 +9,7 @@ mod frames;
 mod item;
 mod kind;
 mod limits;
+mod text;
 mod writing;
 
 pub use bytes::Bytes;
@@ -22,4 +23,5 @@ pub use frames::{
 pub use item::{Elements, Head, OwnedItem, OwnedSegment};
 pub use kind::{Kind, is_frame_kind};
 pub use limits::{MAX_BYTES, MAX_ITEMS};
+pub use text::FaultText;
 pub use writing::{decimal_len, write_item, write_segment, written_binary_len, written_len};

@@ -1,8 +1,8 @@
-use Rattle.std.proofs.Common.{subst, refl, arith, inl, inr}
+use Rattle.std.proofs.Common.{[], ◌∙◌, sym, subst, refl, arith, inl, inr}
 use Rattle.std.specs.Prelude.{string_bytes}
 use Rattle.fints_cli_files.specs.Streams.{GetsPrefix}
 use Rattle.fints_cli.proofs.CutAnswers.{cut_answer}
-use Rattle.fints_cli.proofs.Faults.{failure_above, fault_under, memory_fault, write_fault}
+use Rattle.fints_cli.proofs.Faults.{failure_above, fails_with, first_under}
 use Rattle.fints_cli.specs.Responses.{Tells}
 use Rattle.fints_cli.proofs.responding.respond.Goals as goal
 
@@ -31,11 +31,14 @@ pub returns-in-Help-clause-says : goal.returns-in-Help-clause-says
 returns-in-Help-clause-says g c =
     rw c.in-Help.is
     (record {
-      beside = λ few none. elim c.deliver.ensures.statuses [ inl zero ↦ c.deliver.ensures.quiet zero | inr five ↦ absurd (omega (arith, few, five)) ];
+      beside = λ few. elim c.deliver.ensures.statuses [
+        | inl zero ↦ record { more = []; nothing_more = λ _. refl; said = c.deliver.ensures.quiet zero }
+        | inr five ↦ absurd (omega (arith, few, five))
+      ];
       usage = tt;
       line = λ two. elim c.deliver.ensures.statuses [
         | inl zero ↦ absurd (omega (arith, two, zero))
-        | inr five ↦ inr (write_fault _ _ _ _ _ (c.deliver.ensures.line five))
+        | inr five ↦ inr (inr (inl (five, c.deliver.ensures.line five)))
       ];
       memory = λ four. elim c.deliver.ensures.statuses [ inl zero ↦ absurd (omega (arith, four, zero)) | inr five ↦ absurd (omega (arith, four, five)) ];
     })
@@ -44,7 +47,7 @@ pub returns-in-Usage-clause-says : goal.returns-in-Usage-clause-says
 returns-in-Usage-clause-says g c =
     rw c.in-Usage.is
     (record {
-      beside = λ few none. absurd (omega (arith, few));
+      beside = λ few. absurd (omega (arith, few));
       usage = subst (Tells _ _ _ _) c.as_bytes-in-Usage.ensures.value c.tell.ensures;
       line = λ two. inl tt;
       memory = λ four. absurd (omega (arith, four));
@@ -54,9 +57,9 @@ pub returns-in-NoMemory-clause-says : goal.returns-in-NoMemory-clause-says
 returns-in-NoMemory-clause-says g c =
     rw c.in-NoMemory.is
     (record {
-      beside = λ few none. absurd (omega (arith, few, c.tell_memory.ensures.status));
+      beside = λ few. absurd (omega (arith, few, c.tell_memory.ensures.status));
       usage = tt;
-      line = λ two. inr (memory_fault _ _ _ _ _ c.tell_memory.ensures.line);
+      line = λ two. inr (inl tt);
       memory = λ four. c.tell_memory.ensures.line;
     })
 
@@ -64,11 +67,14 @@ pub returns-in-Ok-clause-says : goal.returns-in-Ok-clause-says
 returns-in-Ok-clause-says g c =
     rw c.in-Run.is
     (record {
-      beside = λ few none. elim c.respond_with.ensures.statuses [ inl same ↦ c.respond_with.ensures.beside same (c.in-Ok.ensures.no_reasons none) | inr five ↦ absurd (omega (arith, few, five)) ];
+      beside = λ few. elim c.respond_with.ensures.statuses [
+        | inl same ↦ first_under _ _ _ _ _ _ _ c.in-Ok.ensures.no_reasons (c.respond_with.ensures.beside same)
+        | inr five ↦ absurd (omega (arith, few, five))
+      ];
       usage = tt;
       line = λ two. elim c.respond_with.ensures.statuses [
         | inl same ↦ absurd (omega (arith, two, same, c.in-Ok.ensures.status))
-        | inr five ↦ inr (write_fault _ _ _ _ _ (c.respond_with.ensures.line five))
+        | inr five ↦ inr (inr (inl (five, c.respond_with.ensures.line five)))
       ];
       memory = λ four. elim c.respond_with.ensures.statuses [
         | inl same ↦ absurd (omega (arith, four, same, c.in-Ok.ensures.status))
@@ -80,8 +86,24 @@ pub returns-in-Err-clause-says : goal.returns-in-Err-clause-says
 returns-in-Err-clause-says g c =
     rw c.in-Run.is
     (record {
-      beside = λ few none. absurd (omega (arith, few, c.tell_refusal.ensures.status, failure_above c.in-Err.refusal.failure));
+      beside = λ few. absurd (omega (arith, few, c.tell_refusal.ensures.status, failure_above c.in-Err.refusal.failure));
       usage = tt;
-      line = λ two. inr (fault_under _ _ _ _ _ _ c.in-Err.ensures.unasked c.tell_refusal.ensures.line);
+      line = λ two. inr (inr (inr (
+        c.in-Err.refusal.failure,
+        (sym c.tell_refusal.ensures.status, c.in-Err.ensures.refused),
+        first_under _ _ _ _ _ _ _ c.in-Err.ensures.unasked c.tell_refusal.ensures.line,
+      )));
       memory = c.tell_refusal.ensures.memory;
     })
+
+pub returns-in-Err-clause-only_usage : goal.returns-in-Err-clause-only_usage
+returns-in-Err-clause-only_usage g c two =
+    inr (fails_with _ _ _ 2 c.in-Err.refusal.failure c.in-Run.is (sym c.tell_refusal.ensures.status ∙ two) c.in-Err.ensures.refused)
+
+pub returns-in-Err-clause-refused : goal.returns-in-Err-clause-refused
+returns-in-Err-clause-refused g c three =
+    fails_with _ _ _ 3 c.in-Err.refusal.failure c.in-Run.is (sym c.tell_refusal.ensures.status ∙ three) c.in-Err.ensures.refused
+
+pub returns-in-Err-clause-memory : goal.returns-in-Err-clause-memory
+returns-in-Err-clause-memory g c four =
+    inr (fails_with _ _ _ 4 c.in-Err.refusal.failure c.in-Run.is (sym c.tell_refusal.ensures.status ∙ four) c.in-Err.ensures.refused)

@@ -1,9 +1,10 @@
 use Rattle.fints_cli_commands.proofs.Counting.{at_most_five}
 use Rattle.fints_cli_commands.proofs.Reading.{of_exit}
 use Rattle.fints_cli_commands.proofs.Refusing.{unloaded_fails}
-use Rattle.std.proofs.Common.{arith, ◌≡◌, ◌≤◌, length}
+use Rattle.std.proofs.Common.{arith, sym, subst, ◌≡◌, ◌≤◌, length}
 use Rattle.fints_cli_words.specs.declared.requests.Paths.{Paths}
 use Rattle.fints_cli_words.specs.declared.requests.Request.{Request}
+use Rattle.fints_cli_commands.specs.Commands.{FailsFor, RefusesRequest}
 use Rattle.fints_cli_commands.specs.Loading.{files_at, paths_of}
 use Rattle.fints_cli_commands.proofs.commands.perform.Goals as goal
 
@@ -27,3 +28,10 @@ returns-in_err-params-clause-refused g c =
     let unread = c.in_err-params.ensures.unread in
     of_exit c.from_residual.result _ _ c.from_residual.ensures.1
     (unloaded_fails c.args.request.now _ _ _ _ (rw c.paths_of-paths.ensures at unread.follows) unread.unloaded)
+
+pub returns-clause-refused : goal.returns-clause-refused
+returns-clause-refused g c =
+    let holds = g.F.Files.holds c.args.files.now in
+    let refused : RefusesRequest c.args.request.now holds c.in-Err.field-0.fault =
+    c.in-Err.ensures.refused holds (rw c.paths_of-paths.ensures at c.in_ok-params.ensures.loaded) in
+    subst (FailsFor c.args.request.now holds) (sym c.refusal_of.ensures.failure) refused
