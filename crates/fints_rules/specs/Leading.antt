@@ -1,4 +1,4 @@
--- The values of items as they are spelled. Private contracts alone cite these words.
+-- The values of items as they are spelled. Only private contracts use these words.
 use Rattle.std.specs.Prelude.{ℕ, List, [], get_or, map}
 use Rattle.fints_syntax_segments.specs.Segment.{item_value}
 use Rattle.fints_syntax_segments.specs.Spelling.{Spelled, item_of}
