@@ -16,6 +16,11 @@ use fints_script_cases::CaseFault;
 use fints_syntax::Memory;
 use std::alloc::Global;
 
+const BEFORE_ANSWER: &str =
+    "this is an answer of the bank (HIRMG): --before is the client's message that --answer answers";
+
+const NO_CODE: &str = "this is no answer of the bank: it has no code in an HIRMG or HIRMS";
+
 // Why the bytes of a message are none, as it was said where they were read.
 fn unread_hint(alloc: Global, unread: Option<&str>) -> Told {
     match unread {
@@ -40,7 +45,9 @@ pub fn hint(alloc: Global, fault: &Fault, inputs: &Inputs<'_>) -> Result<Option<
         Fault::NoFinding { number } => finding_hint(alloc, *number),
         Fault::Certificate { line } => cert_hint(alloc, *line, inputs.certificate),
         Fault::Before { .. } | Fault::Message(_) => unread_hint(alloc, inputs.unread),
+        Fault::BeforeAnswer => told(alloc, BEFORE_ANSWER),
         Fault::Answer(fault) => params_hint(alloc, fault, inputs.answer),
+        Fault::NoCode => told(alloc, NO_CODE),
         Fault::Dialogue(fault) => dialogue_hint(alloc, fault, inputs.dialogue, inputs.unread),
         Fault::NotDraftable { message, segment } => {
             draft_hint(alloc, *message, *segment, inputs.dialogue)

@@ -1,9 +1,10 @@
 //! What no rule forbids and is still wrong in a recorded dialogue: notes on its messages and answers.
+use fints_cli_hints_reasons::after::{head_of, other_reference};
 use fints_cli_hints_words::places::written;
 use fints_cli_hints_words::quoting::Sample;
 use fints_rules::Message;
 use fints_rules_dialogues::{Answer, Exchange};
-use fints_syntax::{Memory, OwnedSegment, parse_number, parse_segment};
+use fints_syntax::{Memory, OwnedSegment};
 use std::alloc::Global;
 use std::fmt;
 use std::fmt::{Display, Formatter, Write};
@@ -80,14 +81,6 @@ fn add_note(text: &mut String, alloc: Global, place: usize, note: Note<'_>) -> R
 
 // ---- what is there, and what is due
 
-// The HNHBK of an answer.
-fn head_of(alloc: Global, answer: &Answer<'_>) -> Result<Option<OwnedSegment>, Memory> {
-    match parse_segment(answer.sent.bytes) {
-        Ok((first, _)) => Ok(Some(first.to_owned(alloc)?)),
-        Err(_) => Ok(None),
-    }
-}
-
 // What is due of the message at a place, from 1, by what stands before it.
 #[derive(Clone, Copy)]
 struct Due<'a> {
@@ -154,10 +147,6 @@ fn add_message(
     Ok(number)
 }
 
-fn spells(text: &[u8], number: u64) -> bool {
-    parse_number(text).is_some_and(|it| u64::from(it) == number)
-}
-
 // Adds the note on an answer whose reference is that of another message than the one of this number.
 fn add_answer(
     text: &mut String,
@@ -166,13 +155,8 @@ fn add_answer(
     number: u64,
     answer: &Answer<'_>,
 ) -> Result<(), Memory> {
-    let Some(head) = head_of(alloc, answer)? else {
-        return Ok(());
-    };
-    let (id, named) = (head.value(6, 1), head.value(6, 2));
-    let has_reference = !id.is_empty() || !named.is_empty();
-    if has_reference && !spells(named, number) {
-        add_note(text, alloc, place, Note::OtherReference(named, number))?;
+    if let Some(head) = other_reference(alloc, answer.sent.bytes, number)? {
+        add_note(text, alloc, place, Note::OtherReference(head.value(6, 2), number))?;
     }
     Ok(())
 }
@@ -232,7 +216,7 @@ impl Notes {
             add_answer(&mut self.text, alloc, self.place, number, answer)?;
             self.ended = self.ended || ends(answer);
             if self.place == 1 {
-                self.first = head_of(alloc, answer)?;
+                self.first = head_of(alloc, answer.sent.bytes)?;
             }
         }
         self.place = self.place.saturating_add(1);

@@ -1,4 +1,5 @@
 //! Why a message breaks the rules that `judge` names.
+use crate::after::add_notes;
 use crate::bank::{Bank, BankIndex};
 use crate::elements::Elements;
 use crate::kinds::Kinds;
@@ -178,9 +179,26 @@ fn lines_of(
     Ok(Some(text))
 }
 
+// These reasons, and after them the notes on a message after another one and the answer to that.
+fn with_notes(
+    alloc: Global,
+    reasons: Option<String>,
+    before: &Message<'_>,
+    answer: &[u8],
+    message: &Message<'_>,
+) -> Result<Option<String>, Memory> {
+    let mut text = reasons.unwrap_or_else(|| String::new(alloc));
+    add_notes(&mut text, alloc, before, answer, message)?;
+    if text.is_empty() {
+        return Ok(None);
+    }
+    Ok(Some(text))
+}
+
 /// The reasons of what a message breaks, in the order in which `judge` names it: a line for each rule, why
 /// it is broken and what to change; or one line where the message is a bank's answer, with no segment of a
-/// client. None where they aren't wanted, and where memory ran out. And the hint of bytes that are no message.
+/// client. After them are the notes on a message after another one. None where they aren't wanted, and
+/// where memory ran out. And the hint of bytes that are no message.
 #[derive(Drop)]
 pub struct JudgeReasons<'c> {
     alloc: Global,
@@ -223,6 +241,14 @@ impl JudgeObserver for JudgeReasons<'_> {
         if self.wanted {
             let lines = lines_of(self.alloc, self.capture, permissions, message, broken);
             self.text = lines.unwrap_or(None);
+        }
+    }
+
+    fn judged_after(&mut self, before: &Message<'_>, answer: &[u8], message: &Message<'_>) {
+        if self.wanted {
+            let reasons = self.text.take();
+            let noted = with_notes(self.alloc, reasons, before, answer, message);
+            self.text = noted.unwrap_or(None);
         }
     }
 }

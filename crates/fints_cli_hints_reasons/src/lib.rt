@@ -4,6 +4,7 @@
 #![tactic(auto)]
 
 mod accounts;
+pub mod after;
 pub mod bank;
 pub mod branches;
 pub mod elements;

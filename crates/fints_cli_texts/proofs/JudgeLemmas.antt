@@ -5,17 +5,17 @@ use Rattle.fints_params.specs.declared.fault.ParamFault.{ParamFault}
 use Rattle.fints_params.specs.declared.fault.ParamFault.TheVariants as params
 use Rattle.fints_params.specs.Faults.{IsMemoryOr}
 use Rattle.fints_params.specs.Parameters.{Rows}
-use Rattle.fints_params.specs.Captures.{IsCodeFault, IsCodesOf, IsParamsOf, IsParamFault, IsReadOf}
+use Rattle.fints_params.specs.Captures.{IsCodeFault, IsParamsOf, IsParamFault, IsReadOf}
 use Rattle.fints_rules_permissions.specs.declared.orders.TableFault.{TableFault}
 use Rattle.fints_rules_permissions.specs.declared.orders.TableFault.TheVariants as orders
 use Rattle.fints_rules_messages.specs.declared.message.JudgeFault.{JudgeFault}
 use Rattle.fints_rules_messages.specs.declared.message.JudgeFault.TheVariants as message
 use Rattle.fints_rules_permissions.specs.Orders.{IsTableFault}
-use Rattle.fints_cli_texts.specs.declared.fault.Fault.TheVariants.{Memory, Answer}
+use Rattle.fints_cli_texts.specs.declared.fault.Fault.TheVariants.{Memory, Answer, NoCode}
 use Rattle.fints_cli_texts.specs.Fault.{answer_fault_of, fault_of, order_fault_of, message_fault_of}
 use Rattle.fints_cli_texts.specs.Judge.{IsFirstRefusal, IsMessageRefusal}
 use Rattle.fints_cli_texts.specs.JudgeAfter.{IsAnswerRefusal, IsRefusalOfThree}
-use Rattle.fints_rules_messages.specs.Messages.{IsMessage, MessageView}
+use Rattle.fints_rules_dialogues.specs.Dialogues.{IsFromBank, IsFromClient}
 use Rattle.fints_rules_messages.specs.Read.{IsJudgeFault}
 
 -- what a call answers is what is read of the capture
@@ -52,13 +52,14 @@ message_refused bytes message.Memory h = tt
 message_refused bytes (message.NotAMessage offset) h = h
 message_refused bytes (message.NotAMessageBefore offset) h = absurd h
 
--- ---- of a message behind another one
+-- ---- of a message after another one
 
-pub answer_refused : (before answer bytes : List ℕ) (m : MessageView) (f : Fault) → IsMessage before m
+pub answer_refused : (before answer bytes : List ℕ) (f : Fault) → IsFromClient before
     → IsAnswerRefusal answer f → IsRefusalOfThree before answer bytes f
-answer_refused before answer bytes m Memory is p = tt
-answer_refused before answer bytes m (Answer f) is p = ((m, is), p)
-answer_refused before answer bytes m _ is p = absurd p
+answer_refused before answer bytes Memory client p = tt
+answer_refused before answer bytes (Answer f) client p = (client, p)
+answer_refused before answer bytes NoCode client p = (client, p)
+answer_refused before answer bytes _ client p = absurd p
 
 pub codes_refused : (answer : List ℕ) (f : ParamFault) → IsMemoryOr (IsCodeFault answer) f
     → IsAnswerRefusal answer (answer_fault_of f)
@@ -74,9 +75,8 @@ codes_refused answer params.NoBankParameters (inr p) = p
 codes_refused answer params.NoPinParameters (inl e) = absurd (cc)
 codes_refused answer params.NoPinParameters (inr p) = p
 
-pub judged_refused : (before answer bytes numbers : List ℕ) (m : MessageView) (f : JudgeFault)
-    → IsMessage before m → IsCodesOf answer numbers → IsJudgeFault bytes f
-    → IsRefusalOfThree before answer bytes (message_fault_of f)
-judged_refused before answer bytes numbers m message.Memory is of h = tt
-judged_refused before answer bytes numbers m (message.NotAMessage offset) is of h = (((m, is), (numbers, of)), h)
-judged_refused before answer bytes numbers m (message.NotAMessageBefore offset) is of h = absurd h
+pub judged_refused : (before answer bytes numbers : List ℕ) (f : JudgeFault) → IsFromClient before
+    → IsFromBank answer numbers → IsJudgeFault bytes f → IsRefusalOfThree before answer bytes (message_fault_of f)
+judged_refused before answer bytes numbers message.Memory client bank h = tt
+judged_refused before answer bytes numbers (message.NotAMessage offset) client bank h = ((client, (numbers, bank)), h)
+judged_refused before answer bytes numbers (message.NotAMessageBefore offset) client bank h = absurd h

@@ -38,8 +38,12 @@ pub enum Fault {
     Certificate { line: u32 },
     /// The bytes before a judged message are no message; the offset is that of `NotAMessage`.
     Before { offset: usize },
+    /// The message before a judged one is an answer of the bank.
+    BeforeAnswer,
     /// The bank's answer to the message before is refused; memory that ran out is no such refusal.
     Answer(ParamFault),
+    /// The bank's answer to the message before has no feedback code.
+    NoCode,
     /// The bytes are no message; memory that ran out is no such refusal.
     Message(JudgeFault),
     /// The bytes are no recorded dialogue, or it tells no parameters; want of memory is no such
@@ -82,7 +86,9 @@ impl Fault {
             Fault::Before { offset } => {
                 FaultText::new("before NotAMessage at ").number(*offset as u64)
             }
+            Fault::BeforeAnswer => FaultText::new("before Answer"),
             Fault::Answer(fault) => refused("answer ", &fault.text()),
+            Fault::NoCode => FaultText::new("answer NoCode"),
             Fault::Message(fault) => refused("message ", &fault.text()),
             Fault::Dialogue(fault) => refused("dialogue ", &fault.text()),
             Fault::NotDraftable { message, segment } => FaultText::numbered(

@@ -73,6 +73,9 @@ pub fn verdict(alloc: Global, broken: &[Broken]) -> Result<Reply, AllocError>
 pub trait JudgeObserver: UnreadObserver {
     /// Looks at the message, and at the rules that it breaks under these permissions.
     fn judged(&mut self, permissions: &Permissions<'_>, message: &Message<'_>, broken: &[Broken]);
+
+    /// Looks at the message before it, too, and at the bank's answer to that.
+    fn judged_after(&mut self, before: &Message<'_>, answer: &[u8], message: &Message<'_>);
 }
 
 impl JudgeObserver for Unobserved {
@@ -82,6 +85,8 @@ impl JudgeObserver for Unobserved {
         _message: &Message<'_>,
         _broken: &[Broken],
     ) {}
+
+    fn judged_after(&mut self, _before: &Message<'_>, _answer: &[u8], _message: &Message<'_>) {}
 }
 
 // The verdict on a message, by good parameters and a good order table.

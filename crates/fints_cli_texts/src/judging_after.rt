@@ -3,7 +3,8 @@ ghost use Rattle.std.specs.Prelude.{◌≡◌, ◌≤◌, ℕ, List, IfOk, IfErr
 ghost use Rattle.fints_params.specs.declared.fault.ParamFault.{ParamFault as ParamFaultValue};
 ghost use Rattle.fints_cli_texts.specs.Fault.{fault_of};
 ghost use Rattle.fints_rules_messages.specs.Messages.{IsMessage};
-ghost use Rattle.fints_params.specs.Captures.{IsCodesOf, IsReadOf};
+ghost use Rattle.fints_rules_dialogues.specs.Dialogues.{IsFromBank, IsFromClient};
+ghost use Rattle.fints_params.specs.Captures.{IsReadOf};
 ghost use Rattle.fints_cli_texts.specs.JudgeAfter.{IsAnswerRefusal, IsBeforeRefusal, IsJudgeAfterRefusal, IsRefusalOfThree, IsVerdictAfter, IsVerdictAfterBy};
 
 use crate::fault::{Fault, answer_fault};
@@ -11,20 +12,27 @@ use crate::judging::{JudgeObserver, verdict};
 use crate::reply::Reply;
 use fints_params::{Code, ParamFault, Params, feedback_codes};
 use fints_rules::{OrderTable, Permissions, judge_message_after};
+use fints_rules_dialogues::is_answer;
 use fints_rules_messages::{JudgeFault, Message, UnreadObserver, read_message_with};
 use std::alloc::Global;
 
-// The message before the judged one.
+// The client's message before the judged one.
 fn read_before<'a, O: UnreadObserver>(
     alloc: Global,
     before: &'a [u8],
     observer: &mut O,
 ) -> Result<Message<'a>, Fault>
     ensures message { IfOk result (λ m. IsMessage before.now m) }
+    ensures client { IfOk result (λ _. IsFromClient before.now) }
     ensures refused { IfErr result (λ f. IsBeforeRefusal before.now f) }
 {
     match read_message_with(alloc, before, observer) {
-        Ok(message) => Ok(message),
+        Ok(message) => {
+            if is_answer(&message) {
+                return Err(Fault::BeforeAnswer);
+            }
+            Ok(message)
+        }
         Err(fault) => match fault {
             JudgeFault::NotAMessage { offset } => Err(Fault::Before { offset }),
             _ => Err(Fault::Memory),
@@ -32,13 +40,18 @@ fn read_before<'a, O: UnreadObserver>(
     }
 }
 
-// The codes of the bank's answer to that message.
+// The codes of the bank's answer to that message, one at least.
 fn read_answer(alloc: Global, answer: &[u8]) -> Result<Vec<Code>, Fault>
-    ensures codes { IfOk result (λ codes. IsCodesOf answer.now codes.items) }
+    ensures codes { IfOk result (λ codes. IsFromBank answer.now codes.items) }
     ensures refused { IfErr result (λ f. IsAnswerRefusal answer.now f) }
 {
     match feedback_codes(alloc, answer) {
-        Ok(codes) => Ok(codes),
+        Ok(codes) => {
+            if codes.is_empty() {
+                return Err(Fault::NoCode);
+            }
+            Ok(codes)
+        }
         Err(fault) => Err(answer_fault(fault)),
     }
 }
@@ -63,6 +76,7 @@ fn judge_behind<O: JudgeObserver>(
     let read = read_message_with(alloc, message, observer)?;
     let broken = judge_message_after(alloc, permissions, &earlier, codes.as_slice(), &read)?;
     observer.judged(permissions, &read, broken.as_slice());
+    observer.judged_after(&earlier, answer, &read);
     let reply = verdict(alloc, broken.as_slice())?;
     Ok(reply)
 }
@@ -87,10 +101,10 @@ fn judge_after_with<O: JudgeObserver>(
     Ok(reply)
 }
 
-/// The rules that a message breaks after the message before it and the bank's answer to that, by
-/// what was read of a capture and an order table. The refusals come in this order: of the capture, of
-/// the order table, of the message before, of the answer, of the message. The codes of the answer are
-/// those of `feedback_codes`.
+/// The rules that a message breaks after the client's message before it and the bank's answer to that,
+/// by what was read of a capture and an order table. The refusals come in this order: of the capture, of
+/// the order table, of the message before, which is no answer of the bank, of the answer, which has a
+/// feedback code, of the message. The codes of the answer are those of `feedback_codes`.
 pub fn judge_after_read<O: JudgeObserver>(
     alloc: Global,
     params: Result<Params, ParamFault>,

@@ -66,9 +66,13 @@ pub record CutStopsAt (file : List ℕ) (offset : ℕ) : Type 0 where
 abbrev pub is_hirmg : OwnedSegment → Bool
 is_hirmg s = bytes_eq s.head.id (codes "HIRMG")
 
+-- an HIRMG is in its body, so it is an answer of the bank
+abbrev pub is_answer : MessageView → Bool
+is_answer m = list_any is_hirmg m.body
+
 -- a message of the client: no HIRMG is in its body
 abbrev pub IsFromClient : List ℕ → Type 0
-IsFromClient bytes = (m : MessageView) × IsMessage bytes m × (list_any is_hirmg m.body ≡ false)
+IsFromClient bytes = (m : MessageView) × IsMessage bytes m × (is_answer m ≡ false)
 
 -- an answer of the bank: it tells some codes
 abbrev pub IsFromBank : List ℕ → List ℕ → Type 0
@@ -130,7 +134,7 @@ IsFileFault file _ = ⊥
 abbrev pub IsClientFault : Sent → DialogueFault → Type 0
 IsClientFault m (fault.NotAMessage offset) = (at : ℕ) × CeasesAt m.bytes.now at × (offset ≡ m.start + at)
 IsClientFault m (fault.NotInTurn offset) =
-    (held : MessageView) × IsMessage m.bytes.now held × (list_any is_hirmg held.body ≡ true)
+    (held : MessageView) × IsMessage m.bytes.now held × (is_answer held ≡ true)
     × (offset ≡ m.start)
 IsClientFault m _ = ⊥
 

@@ -13,6 +13,6 @@ pub use auditing::{Audited, Observer, audit};
 pub use cutting::{Sent, cut};
 pub use fault::DialogueFault;
 pub use fints_rules_messages::{Unobserved, Unread, UnreadObserver};
-pub use reading::{Answer, Exchange};
+pub use reading::{Answer, Exchange, is_answer};
 pub use recording::{Recording, read_dialogue, read_dialogue_with};
 pub use telling::own_params;

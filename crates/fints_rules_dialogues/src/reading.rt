@@ -3,7 +3,7 @@ ghost use Rattle.std.specs.Prelude.{◌≡◌, ◌<◌, ◌+◌, ◌^◌, length
 ghost use Rattle.std.specs.List.{list_any};
 ghost use Rattle.fints_syntax.specs.Owned.{segment_of};
 ghost use Rattle.fints_rules_messages.specs.Messages.{IsMessage};
-ghost use Rattle.fints_rules_dialogues.specs.Dialogues.{is_hirmg, sents_in, IsFromClient, IsFromBank, IsClientFault, IsAnswerFault, IsExchangeFault, IsMemoryOrRefusal, EndsBelow, BeginsWithOne};
+ghost use Rattle.fints_rules_dialogues.specs.Dialogues.{is_answer, is_hirmg, sents_in, IsFromClient, IsFromBank, IsClientFault, IsAnswerFault, IsExchangeFault, IsMemoryOrRefusal, EndsBelow, BeginsWithOne};
 
 use crate::cutting::Sent;
 use crate::fault::DialogueFault;
@@ -40,8 +40,9 @@ fn some_hirmg(body: &[SegmentView<'_>]) -> bool
     body.iter().any(|segment| is_hirmg(segment))
 }
 
-fn has_hirmg(message: &Message<'_>) -> bool
-    ensures { result ≡ list_any is_hirmg message.now.body }
+/// Whether a message is an answer of the bank: an HIRMG is in its body (FinTS 3.0, Formals, feedback).
+pub fn is_answer(message: &Message<'_>) -> bool
+    ensures { result ≡ is_answer message.now }
 {
     some_hirmg(message.body())
 }
@@ -60,7 +61,7 @@ fn read_client<'a, O: UnreadObserver>(
     let offset = sent.start;
     match read_message_with(alloc, sent.bytes, observer) {
         Ok(message) => {
-            if has_hirmg(&message) {
+            if is_answer(&message) {
                 return Err(DialogueFault::NotInTurn { offset });
             }
             Ok(message)

@@ -18,6 +18,7 @@ returns-clause-judged g c =
     subst (λ (codes : List ℕ). IsJudgedAfter granted before codes message broken) c.as_slice.ensures.value
     (c.in_ok-broken.ensures before message c.in_ok-earlier.ensures.message c.in_ok-read.ensures.message) in
     record {
+      client = c.in_ok-earlier.ensures.client;
       numbers = numbers;
       answered = c.in_ok-codes.ensures.codes;
       broken = broken;
