@@ -3,6 +3,7 @@
 //! returns safely.
 #![tactic(auto)]
 
+mod captured;
 mod notes;
 mod reasons;
 mod refused;

@@ -170,14 +170,14 @@ fn ends(answer: &Answer<'_>) -> bool {
     answer.codes.iter().any(|code| code.number() == ENDED)
 }
 
-/// The notes on a dialogue, exchange by exchange.
+/// The notes on a recording, exchange by exchange. What is noted is of one dialogue.
 #[derive(Drop)]
 pub struct Notes {
     text: String,
     place: usize,
     // The number that is due.
     number: u64,
-    // HNHBK of the first answer, which gives the dialogue id.
+    // HNHBK of the first answer of the dialogue, which gives the dialogue id.
     first: Option<OwnedSegment>,
     // Whether an answer has ended the dialogue.
     ended: bool,
@@ -203,8 +203,18 @@ impl Notes {
         self.text.as_str()
     }
 
+    /// Where further notes on the next message go, after those of `add`.
+    pub fn text_mut(&mut self) -> &mut String {
+        &mut self.text
+    }
+
     /// Adds the notes on the next exchange.
     pub fn add(&mut self, alloc: Global, exchange: &Exchange<'_>) -> Result<(), Memory> {
+        if exchange.begins {
+            self.number = 1;
+            self.first = None;
+            self.ended = false;
+        }
         let due = Due {
             place: self.place,
             number: self.number,
@@ -215,7 +225,7 @@ impl Notes {
         if let Some(answer) = &exchange.answer {
             add_answer(&mut self.text, alloc, self.place, number, answer)?;
             self.ended = self.ended || ends(answer);
-            if self.place == 1 {
+            if exchange.begins {
                 self.first = head_of(alloc, answer.sent.bytes)?;
             }
         }

@@ -1,4 +1,5 @@
 //! Why the messages of a recorded dialogue break the rules that `audit` names.
+use crate::captured::CapturedNotes;
 use crate::notes::Notes;
 use fints_cli_hints_reasons::bank::{Bank, BankIndex};
 use fints_cli_hints_reasons::{Judged, add_reasons};
@@ -11,14 +12,14 @@ use fints_rules_messages::{Unread, UnreadObserver};
 use fints_syntax::Memory;
 use std::alloc::Global;
 
-// The first answer of a dialogue that has parameters; empty where there is none.
+// The first message of a recording that has parameters; empty where there is none.
 fn own_capture<'a>(alloc: Global, dialogue: &'a [u8]) -> &'a [u8] {
     let Ok(recording) = Recording::cut(alloc, dialogue) else {
         return &[];
     };
-    for answer in recording.messages().iter().skip(1).step_by(2) {
-        if Params::read(alloc, answer.bytes).is_ok() {
-            return answer.bytes;
+    for sent in recording.messages() {
+        if Params::read(alloc, sent.bytes).is_ok() {
+            return sent.bytes;
         }
     }
     &[]
@@ -33,18 +34,26 @@ pub enum Source<'c> {
     Dialogue(&'c [u8]),
 }
 
+// The capture in which the parameters were read.
+fn capture_of<'c>(alloc: Global, source: Source<'c>) -> &'c [u8] {
+    match source {
+        Source::Capture(capture) => capture,
+        Source::Dialogue(dialogue) => own_capture(alloc, dialogue),
+    }
+}
+
 // The rows of the parameters in order. The dialogue is looked at only where something of its parameters
 // was skipped.
 fn index_of(alloc: Global, params: &Params, source: Source<'_>) -> Result<BankIndex, Memory> {
     match source {
         Source::Capture(capture) => BankIndex::of(alloc, params, capture),
         Source::Dialogue(_) if params.skipped() == 0 => BankIndex::of(alloc, params, &[]),
-        Source::Dialogue(dialogue) => BankIndex::of(alloc, params, own_capture(alloc, dialogue)),
+        Source::Dialogue(_) => BankIndex::of(alloc, params, capture_of(alloc, source)),
     }
 }
 
 /// The reasons of what the client's messages of a dialogue break, in the order in which `audit` names them:
-/// a line for each rule, why it is broken and what to change; and then the notes on the dialogue. And the hint
+/// a line for each rule, why it is broken and what to change; and then the notes on its messages. And the hint
 /// of a message that is none.
 #[derive(Drop)]
 pub struct AuditReasons<'c> {
@@ -55,6 +64,7 @@ pub struct AuditReasons<'c> {
     index: Option<BankIndex>,
     reasons: String,
     notes: Notes,
+    captured: CapturedNotes,
     // Whether memory ran out.
     failed: bool,
     hint: UnreadHint,
@@ -70,6 +80,7 @@ impl<'c> AuditReasons<'c> {
             index: None,
             reasons: String::new(alloc),
             notes: Notes::new(alloc),
+            captured: CapturedNotes::new(alloc),
             failed: false,
             hint: UnreadHint::new(alloc, wanted),
         }
@@ -131,7 +142,16 @@ impl<'c> AuditReasons<'c> {
         broken: &[Broken],
     ) -> Result<(), Memory> {
         self.add_broken(permissions, exchange, broken)?;
-        self.notes.add(self.alloc, exchange)
+        let place = self.notes.place();
+        self.notes.add(self.alloc, exchange)?;
+        let is_signed = !exchange.message.openers().is_empty();
+        if is_signed && !self.captured.is_read() {
+            let capture = capture_of(self.alloc, self.source);
+            self.captured.read(self.alloc, capture)?;
+        }
+        let text = self.notes.text_mut();
+        self.captured
+            .add(text, self.alloc, place, permissions, exchange)
     }
 }
 

@@ -3,7 +3,7 @@
 use fints_cli_hints_segments::{front_hint, head_of, params_hint};
 use fints_cli_hints_words::places::{Told, line_at, told, told_at};
 use fints_cli_hints_words::quoting::Sample;
-use fints_params::ParamFault;
+use fints_params::{ParamFault, feedback_codes};
 use fints_rules_dialogues::{DialogueFault, Sent, cut};
 use fints_syntax::Memory;
 use std::alloc::Global;
@@ -19,25 +19,66 @@ const BEGIN: &str = "in a dialogue a message begins with HNHBK:1:3, and then its
 // A byte order mark.
 const MARK: &[u8] = b"\xef\xbb\xbf";
 
-// A message by its place among those of both sides, from 0.
+// What is due at a place in a recording: the client's message of this number, from 1, or the answer to it.
 #[derive(Clone, Copy)]
-struct Turn(usize);
+struct Turn {
+    number: usize,
+    answer: bool,
+}
+
+const FIRST: Turn = Turn {
+    number: 1,
+    answer: false,
+};
 
 impl Turn {
-    fn is_of_client(self) -> bool {
-        self.0 % 2 == 0
+    // What is due after a message: an answer, or one of the client.
+    fn after(self, is_answer: bool) -> Turn {
+        match (self.answer, is_answer) {
+            (false, _) => Turn {
+                number: self.number,
+                answer: true,
+            },
+            (true, true) => Turn {
+                number: self.number.saturating_add(1),
+                answer: false,
+            },
+            (true, false) => Turn {
+                number: self.number.saturating_add(1),
+                answer: true,
+            },
+        }
     }
 }
 
 impl Display for Turn {
     fn fmt<W: Write>(&self, f: &mut Formatter<W>) -> fmt::Result {
-        let number = (self.0 / 2).saturating_add(1);
-        if self.is_of_client() {
-            write!(f, "message {number}")
-        } else {
+        let number = self.number;
+        if self.answer {
             write!(f, "the answer to message {number}")
+        } else {
+            write!(f, "message {number}")
         }
     }
+}
+
+// Whether a message has a code, as answers do.
+fn has_code(alloc: Global, sent: &Sent<'_>) -> Result<bool, Memory> {
+    match feedback_codes(alloc, sent.bytes) {
+        Ok(codes) => Ok(!codes.is_empty()),
+        Err(ParamFault::Memory) => Err(Memory),
+        Err(_) => Ok(true),
+    }
+}
+
+// What is due after these messages.
+fn turn_after(alloc: Global, messages: &[Sent<'_>]) -> Result<Turn, Memory> {
+    let mut turn = FIRST;
+    for sent in messages {
+        let is_answer = turn.answer && has_code(alloc, sent)?;
+        turn = turn.after(is_answer);
+    }
+    Ok(turn)
 }
 
 // The messages of a file, where it can be cut.
@@ -108,24 +149,32 @@ fn uncut_hint(alloc: Global, file: &[u8], offset: usize) -> Told {
     };
     let rest = file.get(offset..).unwrap_or(&[]);
     if rest.starts_with(b"HNHBK:") {
-        return head_hint(alloc, Turn(before.len()), rest);
+        return head_hint(alloc, turn_after(alloc, before.as_slice())?, rest);
     }
     match before.last() {
         Some(last) => {
-            let turn = Turn(before.len().saturating_sub(1));
+            let front = before.get(..before.len().saturating_sub(1)).unwrap_or(&[]);
+            let turn = turn_after(alloc, front)?;
             last_hint(alloc, turn, file.get(last.start..).unwrap_or(&[]))
         }
         None => file_hint(alloc, rest),
     }
 }
 
-// Why a message of the client ceases at an offset to be one, as its reader says it: it is the last of the
-// client that begins there or before.
+// Why a message of the client ceases at an offset to be one, as its reader says it. It is the last message
+// that begins there or before, or where that is an answer the message before it, which ceases at its end.
 fn client_hint(alloc: Global, messages: &[Sent<'_>], offset: usize, unread: &str) -> Told {
-    let begun = messages.partition_point(|it| it.start <= offset);
-    let last = begun.saturating_sub(1);
-    let turn = Turn(last.saturating_sub(last % 2));
-    told(alloc, format_args!("{turn}: {unread}"))
+    let last = messages
+        .partition_point(|it| it.start <= offset)
+        .saturating_sub(1);
+    let inside = messages.get(last).is_some_and(|it| it.start < offset);
+    let turn = turn_after(alloc, messages.get(..last).unwrap_or(&[]))?;
+    let number = if turn.answer && inside {
+        turn.number.saturating_add(1)
+    } else {
+        turn.number
+    };
+    told(alloc, format_args!("message {number}: {unread}"))
 }
 
 fn no_message_hint(alloc: Global, file: &[u8], offset: usize, unread: Option<&str>) -> Told {
@@ -138,24 +187,33 @@ fn no_message_hint(alloc: Global, file: &[u8], offset: usize, unread: Option<&st
 
 // ---- what is out of turn, and answers
 
-// The message that begins at an offset, and its turn.
-fn sent_at<'a>(messages: &[Sent<'a>], start: usize) -> Option<(Turn, Sent<'a>)> {
-    let place = messages.iter().position(|it| it.start == start)?;
-    let sent = messages.get(place)?;
-    Some((Turn(place), *sent))
+// What is due where a message begins, and the message.
+fn sent_at<'a>(
+    alloc: Global,
+    messages: &[Sent<'a>],
+    start: usize,
+) -> Result<Option<(Turn, Sent<'a>)>, Memory> {
+    let Some(place) = messages.iter().position(|it| it.start == start) else {
+        return Ok(None);
+    };
+    let turn = turn_after(alloc, messages.get(..place).unwrap_or(&[]))?;
+    match messages.get(place) {
+        Some(sent) => Ok(Some((turn, *sent))),
+        None => Ok(None),
+    }
 }
 
 fn turn_hint(alloc: Global, file: &[u8], offset: usize) -> Told {
     let Some(messages) = cut_file(alloc, file)? else {
         return Ok(None);
     };
-    let Some((turn, _)) = sent_at(messages.as_slice(), offset) else {
+    let Some((turn, _)) = sent_at(alloc, messages.as_slice(), offset)? else {
         return Ok(None);
     };
-    let there = if turn.is_of_client() {
-        "an answer of the bank, since it has an HIRMG"
-    } else {
+    let there = if turn.answer {
         "no answer of the bank, since it has no code in an HIRMG or HIRMS"
+    } else {
+        "an answer of the bank, since it has an HIRMG"
     };
     told(
         alloc,
@@ -169,7 +227,7 @@ fn answer_hint(alloc: Global, file: &[u8], start: usize, fault: &ParamFault) -> 
     let Some(messages) = cut_file(alloc, file)? else {
         return Ok(None);
     };
-    let Some((turn, sent)) = sent_at(messages.as_slice(), start) else {
+    let Some((turn, sent)) = sent_at(alloc, messages.as_slice(), start)? else {
         return Ok(None);
     };
     let line = line_at(file, start);

@@ -7,6 +7,7 @@ use crate::lines::{Where, add_why};
 use crate::segment::{Seen, SegmentWhy};
 use crate::tans::NoTan;
 use crate::whole::{Before, Whole, WholeWhy, is_of_whole};
+use fints_cli_hints_captured::{Basis, Captured, Noted, Notes, add_captured_notes};
 use fints_cli_hints_segments::UnreadHint;
 use fints_cli_texts::JudgeObserver;
 use fints_rules::{Broken, Message, Permissions};
@@ -179,6 +180,34 @@ fn lines_of(
     Ok(Some(text))
 }
 
+// These reasons, and after them the notes on the message by what the capture says.
+fn with_captured_notes(
+    alloc: Global,
+    reasons: Option<String>,
+    capture: &[u8],
+    permissions: &Permissions<'_>,
+    message: &Message<'_>,
+) -> Result<Option<String>, Memory> {
+    if message.openers().is_empty() || is_answer(message) {
+        return Ok(reasons);
+    }
+    let captured = Captured::of(alloc, capture)?;
+    let basis = Basis {
+        captured: &captured,
+        allowed: captured.allowed.as_slice(),
+        permissions,
+    };
+    let mut text = reasons.unwrap_or_else(|| String::new(alloc));
+    let mut notes = Notes {
+        text: &mut text,
+        alloc,
+        called: "",
+        noted: &mut Noted::none(),
+    };
+    add_captured_notes(&mut notes, &basis, message)?;
+    Ok(Some(text))
+}
+
 // These reasons, and after them the notes on a message after another one and the answer to that.
 fn with_notes(
     alloc: Global,
@@ -189,16 +218,13 @@ fn with_notes(
 ) -> Result<Option<String>, Memory> {
     let mut text = reasons.unwrap_or_else(|| String::new(alloc));
     add_notes(&mut text, alloc, before, answer, message)?;
-    if text.is_empty() {
-        return Ok(None);
-    }
     Ok(Some(text))
 }
 
 /// The reasons of what a message breaks, in the order in which `judge` names it: a line for each rule, why
 /// it is broken and what to change; or one line where the message is a bank's answer, with no segment of a
-/// client. After them are the notes on a message after another one. None where they aren't wanted, and
-/// where memory ran out. And the hint of bytes that are no message.
+/// client. After them are the notes: by what the capture says, and on a message after another one. None
+/// where they aren't wanted, and where memory ran out. And the hint of bytes that are no message.
 #[derive(Drop)]
 pub struct JudgeReasons<'c> {
     alloc: Global,
@@ -221,7 +247,7 @@ impl<'c> JudgeReasons<'c> {
     }
 
     pub fn into_text(self) -> Option<String> {
-        self.text
+        self.text.filter(|text| !text.is_empty())
     }
 
     /// Why bytes are no message; none where they were one.
@@ -240,7 +266,10 @@ impl JudgeObserver for JudgeReasons<'_> {
     fn judged(&mut self, permissions: &Permissions<'_>, message: &Message<'_>, broken: &[Broken]) {
         if self.wanted {
             let lines = lines_of(self.alloc, self.capture, permissions, message, broken);
-            self.text = lines.unwrap_or(None);
+            let reasons = lines.unwrap_or(None);
+            let noted =
+                with_captured_notes(self.alloc, reasons, self.capture, permissions, message);
+            self.text = noted.unwrap_or(None);
         }
     }
 

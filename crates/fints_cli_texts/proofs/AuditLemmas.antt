@@ -1,5 +1,5 @@
 -- The lines of audited messages; and what refuses an input of `audit` is the refusal of the call.
-use Rattle.std.proofs.Common.{◌≡◌, ℕ, ◌+◌, ◌<◌, List, ◌∷◌, ◌++◌, length, get_or, drop, ap, ◌∙◌, sym, subst, append_assoc, inl, inr, None, Result, Ok, Err, IfErr}
+use Rattle.std.proofs.Common.{◌≡◌, ℕ, ◌+◌, ◌<◌, Bool, if◌then◌else◌, List, ◌∷◌, ◌++◌, length, get_or, drop, ap, ◌∙◌, sym, subst, append_assoc, inl, inr, None, Result, Ok, Err, IfErr}
 use Rattle.std.specs.Result.{IsErrAnd}
 use Rattle.std.proofs.lemmas.List.{drop_more}
 use Rattle.fints_params.specs.Parameters.{Rows}
@@ -20,22 +20,25 @@ use Rattle.fints_rules_dialogues.specs.Auditing.{AreAudited, ArePermitted}
 use Rattle.fints_rules_dialogues.proofs.Audits.{all_permitted}
 use Rattle.fints_cli_texts.proofs.Endings.{permitted_is_none}
 use Rattle.fints_cli_texts.proofs.JudgeLemmas.{orders_refused}
-use Rattle.fints_cli_texts.specs.Judge.{EndsPermitted}
+use Rattle.fints_cli_texts.specs.Judge.{verdict_status, EndsPermitted}
 use Rattle.fints_cli_texts.specs.declared.fault.Fault.{Fault}
 use Rattle.fints_cli_texts.specs.declared.fault.Fault.TheVariants.{Memory, Dialogue}
 use Rattle.fints_cli_texts.specs.Fault.{dialogue_fault_of, order_fault_of}
-use Rattle.fints_cli_texts.specs.Audit.{all_broken, audit_text, message_lines, lines_from, IsDialogueRefusal, IsAuditRefusal, IsOwnFault, IsOwnAuditRefusal}
+use Rattle.fints_cli_texts.specs.Audit.{all_broken, are_several, audit_text, dialogue_line, message_lines, lines_from, IsAuditBy, IsDialogueRefusal, IsAuditRefusal, IsOwnFault, IsOwnAuditRefusal}
 
 -- ---- lines
 
--- the lines of a message, and those that are left behind it
-pub line_more : (xs : List Audited) (i : ℕ) (a : Audited) (text : List ℕ) → i < length xs
+-- the lines of a message, and those that are left after it
+pub line_more : (xs : List Audited) (several : Bool) (d i : ℕ) (a : Audited) (text : List ℕ) → i < length xs
     → a ≡ get_or xs i a
-    → (text ++ message_lines (i + 1) a) ++ lines_from (i + 1 + 1) (drop (i + 1) xs)
-    ≡ text ++ lines_from (i + 1) (drop i xs)
-line_more xs i a text lt is =
-    append_assoc text (message_lines (i + 1) a) (lines_from (i + 1 + 1) (drop (i + 1) xs))
-    ∙ ap (λ ys. text ++ lines_from (i + 1) ys)
+    → ((text ++ dialogue_line several d a) ++ message_lines (i + 1) a)
+    ++ lines_from several (if a.begins then d + 1 else d) (i + 1 + 1) (drop (i + 1) xs)
+    ≡ text ++ lines_from several d (i + 1) (drop i xs)
+line_more xs several d i a text lt is =
+    let rest = lines_from several (if a.begins then d + 1 else d) (i + 1 + 1) (drop (i + 1) xs) in
+    ap (λ front. front ++ rest) (append_assoc text (dialogue_line several d a) (message_lines (i + 1) a))
+    ∙ append_assoc text (dialogue_line several d a ++ message_lines (i + 1) a) rest
+    ∙ ap (λ ys. text ++ lines_from several d (i + 1) ys)
     (sym (drop_more xs i a lt ∙ ap (λ x. x ∷ drop (i + 1) xs) (sym is)))
 
 -- where the text ends with `permitted`, each message is
@@ -44,7 +47,24 @@ pub audit_permits : (granted : Granted) (exchanges : List Exchange) (audited : L
     → ArePermitted granted exchanges
 audit_permits granted exchanges audited text are is ends =
     all_permitted granted None exchanges audited are
-    (permitted_is_none (all_broken audited) (lines_from 1 audited) text is ends)
+    (permitted_is_none (all_broken audited) (lines_from (are_several audited) 1 1 audited) text is ends)
+
+-- the text of audited messages is that of the audit by these rows and this order table
+pub audit_by : (made : Granted) (rows : Rows) (table : List OrderRow) (exchanges : List Exchange)
+    (audited : List Audited) (status : ℕ) (text : List ℕ) → made.rows ≡ rows → made.orders ≡ table
+    → AreAudited made exchanges audited → text ≡ audit_text audited → status ≡ verdict_status (all_broken audited)
+    → IsAuditBy rows table exchanges status text
+audit_by made rows table exchanges audited status text r o are text_is status_is =
+    let by : AreAudited (record { rows = rows; orders = table }) exchanges audited =
+    subst (λ (xs : Rows). AreAudited (record { rows = xs; orders = table }) exchanges audited) r
+    (subst (λ (xs : List OrderRow). AreAudited (record { rows = made.rows; orders = xs }) exchanges audited) o are) in
+    record {
+      audited = audited;
+      are = by;
+      text_is = text_is;
+      status_is = status_is;
+      permitted = audit_permits (record { rows = rows; orders = table }) exchanges audited text by text_is;
+    }
 
 -- ---- refusals
 

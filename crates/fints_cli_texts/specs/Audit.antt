@@ -1,7 +1,7 @@
 -- The text of `audit`: for each message of the client its number and its size, and then the rules that it
 -- breaks; in lines with LF at their ends. Words of private contracts come last, under a heading.
-use Rattle.std.specs.Prelude.{◌≡◌, ◌⊎◌, ℕ, ◌+◌, List, [], ◌∷◌, ◌++◌, length, codes}
-use Rattle.std.specs.List.{flat_map}
+use Rattle.std.specs.Prelude.{◌≡◌, ◌⊎◌, ℕ, ◌+◌, ◌&&◌, Bool, List, [], ◌∷◌, ◌++◌, length, drop, if◌then◌else◌, codes}
+use Rattle.std.specs.List.{flat_map, list_any}
 use Rattle.std.specs.Fmt.{decimal}
 use Rattle.fints_params.specs.Parameters.{Rows}
 use Rattle.fints_params.specs.Captures.{IsParamsOf}
@@ -28,16 +28,27 @@ message_lines n a =
     codes "message " ++ decimal n ++ codes " size " ++ decimal (length a.sent.bytes.now) ++ codes "\n"
     ++ flat_map broken_told a.broken.items
 
-abbrev pub lines_from : ℕ → List Audited → List ℕ
-lines_from n [] = []
-lines_from n (a ∷ more) = message_lines n a ++ lines_from (n + 1) more
+-- a message other than the first begins a dialogue
+abbrev pub are_several : List Audited → Bool
+are_several audited = list_any (λ a. a.begins) (drop 1 audited)
+
+-- where there are several dialogues, the line of the dialogue of a number, before its first message
+abbrev pub dialogue_line : Bool → ℕ → Audited → List ℕ
+dialogue_line several d a = if (several && a.begins) then codes "dialogue " ++ decimal d ++ codes "\n" else []
+
+-- the lines of messages from number n on; the next dialogue that begins has number d
+abbrev pub lines_from : Bool → ℕ → ℕ → List Audited → List ℕ
+lines_from several d n [] = []
+lines_from several d n (a ∷ more) =
+    (dialogue_line several d a ++ message_lines n a)
+    ++ lines_from several (if a.begins then d + 1 else d) (n + 1) more
 
 -- what all messages break
 abbrev pub all_broken : List Audited → List Broken
 all_broken audited = flat_map (λ a. a.broken.items) audited
 
 abbrev pub audit_text : List Audited → List ℕ
-audit_text audited = lines_from 1 audited ++ last_line (all_broken audited)
+audit_text audited = lines_from (are_several audited) 1 1 audited ++ last_line (all_broken audited)
 
 -- the status and the text tell the rules that the messages break, by these rows and this order table; where
 -- the text ends with `permitted`, each message is permitted after those before it

@@ -1,19 +1,23 @@
 //! The text of `audit`: the rules that the messages of a recorded dialogue break.
-ghost use Rattle.std.specs.Prelude.{◌≡◌, ◌≤◌, ◌<◌, ◌+◌, ◌++◌, ◌^◌, ℕ, List, OnOk, IfOk, IfErr, string_bytes};
-ghost use Rattle.std.specs.List.{flat_map};
+ghost use Rattle.std.specs.Prelude.{◌≡◌, ◌≤◌, ◌<◌, ◌+◌, ◌++◌, ◌^◌, ℕ, List, drop, OnOk, IfOk, IfErr, string_bytes};
+ghost use Rattle.std.specs.List.{flat_map, list_any, AllByRecursion};
 ghost use Rattle.fints_params.specs.declared.fault.ParamFault.{ParamFault as ParamFaultValue};
 ghost use Rattle.fints_params.specs.Captures.{IsReadOf};
-ghost use Rattle.fints_rules_dialogues.specs.Dialogues.{IsDialogueFault, IsMemoryOrRefusal, IsTurnFault};
+ghost use Rattle.fints_rules_dialogues.specs.Dialogues.{IsDialogueFault, IsExchange, IsMemoryOrRefusal, IsTurnFault};
+ghost use Rattle.fints_rules_dialogues.specs.declared.fault.DialogueFault.TheVariants as fault;
 ghost use Rattle.fints_cli_texts.specs.Fault.{fault_of};
 ghost use Rattle.fints_cli_texts.specs.Judge.{verdict_status};
-ghost use Rattle.fints_cli_texts.specs.Audit.{broken_told, message_lines, lines_from, all_broken, audit_text, IsAuditOf, IsOwnAuditOf, IsAuditRefusal, IsOwnAuditRefusal, IsOwnFault, IsRecordingAudit, IsFileAudit, IsOwnFileAudit};
+ghost use Rattle.fints_cli_texts.specs.Audit.{are_several, broken_told, dialogue_line, message_lines, lines_from, all_broken, audit_text, IsAuditBy, IsAuditOf, IsOwnAuditOf, IsAuditRefusal, IsOwnAuditRefusal, IsOwnFault, IsRecordingAudit, IsFileAudit, IsOwnFileAudit};
 
 use crate::fault::Fault;
 use crate::judging::{verdict_status, write_broken, write_last};
 use crate::reply::Reply;
 use fints_params::{ParamFault, Params};
 use fints_rules::{Broken, OrderTable, Permissions};
-use fints_rules_dialogues::{Audited, DialogueFault, Observer, Recording, audit, own_params};
+use fints_rules_dialogues::{
+    Audited, DialogueFault, Exchange, Observer, Recording, audit, audit_exchanges, own_params,
+    read_dialogue_with,
+};
 use itoa::Buffer;
 use std::alloc::{AllocError, Global};
 
@@ -49,13 +53,59 @@ fn write_message(text: &mut String, number: usize, audited: &Audited<'_>) -> Res
     write_all_told(text, audited.broken.as_slice())
 }
 
-fn write_messages(text: &mut String, audited: &[Audited<'_>]) -> Result<(), AllocError>
-    ensures { OnOk result (string_bytes text.new ≡ string_bytes text.old ++ lines_from 1 audited.now) }
+// The line of the dialogue of a number, before its first message, where there are several.
+fn write_dialogue(
+    text: &mut String,
+    several: bool,
+    number: usize,
+    audited: &Audited<'_>,
+) -> Result<(), AllocError>
+    ensures { OnOk result (string_bytes text.new
+        ≡ string_bytes text.old ++ dialogue_line several number audited.now) }
 {
+    if !several || !audited.begins {
+        return Ok(());
+    }
+    let mut digits = Buffer::new();
+    text.push_str("dialogue ")?;
+    text.push_str(digits.format(number))?;
+    text.push_str("\n")
+}
+
+fn write_messages(
+    text: &mut String,
+    several: bool,
+    audited: &[Audited<'_>],
+) -> Result<(), AllocError>
+    ensures { OnOk result (string_bytes text.new
+        ≡ string_bytes text.old ++ lines_from several 1 1 audited.now) }
+{
+    let mut dialogue: usize = 1;
     for (i, one) in audited.iter().enumerate() {
+        write_dialogue(text, several, dialogue, one)?;
         write_message(text, i + 1, one)?;
+        if one.begins {
+            dialogue += 1;
+        }
     }
     Ok(())
+}
+
+fn some_begins(audited: &[Audited<'_>]) -> bool
+    ensures { result ≡ list_any (λ a. a.begins) audited.now }
+{
+    audited.iter().any(|one| one.begins)
+}
+
+// Whether the messages are of several dialogues.
+fn are_several(audited: &[Audited<'_>]) -> bool
+    ensures { result ≡ are_several audited.now }
+{
+    if audited.is_empty() {
+        return false;
+    }
+    let (_, more) = audited.split_at(1);
+    some_begins(more)
 }
 
 // What all messages break.
@@ -76,12 +126,30 @@ fn audit_reply(alloc: Global, audited: &[Audited<'_>]) -> Result<Reply, AllocErr
 {
     let broken = all_broken(alloc, audited)?;
     let mut text = String::new(alloc);
-    write_messages(&mut text, audited)?;
+    write_messages(&mut text, are_several(audited), audited)?;
     write_last(&mut text, broken.as_slice())?;
     Ok(Reply {
         status: verdict_status(broken.as_slice()),
         text: text.into_bytes(),
     })
+}
+
+// The text of exchanges, by good parameters and a good order table.
+fn audit_read_exchanges<O: Observer>(
+    alloc: Global,
+    params: &Params,
+    orders: &OrderTable,
+    exchanges: &[Exchange<'_>],
+    observer: &mut O,
+) -> Result<Reply, DialogueFault>
+    ensures audited { IfOk result (λ reply. AllByRecursion IsExchange exchanges.now
+        → IsAuditBy params.now orders.now exchanges.now reply.status reply.text.items) }
+    ensures memory { IfErr result (λ f. f ≡ fault.Memory) }
+{
+    let permissions = Permissions::build(alloc, params, orders)?;
+    let audited = audit_exchanges(alloc, &permissions, exchanges, observer)?;
+    let reply = audit_reply(alloc, audited.as_slice())?;
+    Ok(reply)
 }
 
 // The text of a recording, by good parameters and a good order table.
@@ -118,8 +186,7 @@ fn audit_file<O: Observer>(
     audit_recording(alloc, params, orders, &recording, observer)
 }
 
-// The same by the dialogue's own parameters. These are looked for before its messages are read; so where
-// they are refused, the messages are still read for a refusal of theirs, which comes first.
+// The same by the parameters that the recording's own answers tell. A refusal of its messages comes first.
 fn audit_file_own<O: Observer>(
     alloc: Global,
     orders: &OrderTable,
@@ -130,14 +197,9 @@ fn audit_file_own<O: Observer>(
         IsOwnFileAudit orders.now file.now reply.status reply.text.items) }
     ensures refused { IfErr result (λ f. IsMemoryOrRefusal (IsOwnFault file.now) f) }
 {
-    let recording = Recording::cut(alloc, file)?;
-    match own_params(alloc, &recording) {
-        Ok(params) => audit_recording(alloc, &params, orders, &recording, observer),
-        Err(fault) => {
-            recording.exchanges(alloc, observer)?;
-            Err(fault)
-        }
-    }
+    let exchanges = read_dialogue_with(alloc, file, observer)?;
+    let params = own_params(alloc, exchanges.as_slice())?;
+    audit_read_exchanges(alloc, &params, orders, exchanges.as_slice(), observer)
 }
 
 /// The rules that the client's messages of a recorded dialogue break, by what was read of a capture and

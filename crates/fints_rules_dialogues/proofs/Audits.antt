@@ -1,8 +1,6 @@
 -- The messages of exchanges, as far as they are read and judged.
-use Rattle.std.proofs.Common.{◌≡◌, ℕ, ◌+◌, ◌≤◌, List, [], ◌∷◌, ◌++◌, length, drop, refl, ap, ◌∙◌, sym, subst, Option, Some, None}
-use Rattle.std.specs.Borrow.{Bor}
-use Rattle.std.specs.Prelude.{IfSome, option_copied}
-use Rattle.std.specs.List.{flat_map}
+use Rattle.std.proofs.Common.{◌≡◌, ℕ, ◌+◌, ◌≤◌, Bool, true, false, List, [], ◌∷◌, ◌++◌, length, drop, refl, sym, subst, if◌then◌else◌, Option, Some, None}
+use Rattle.std.specs.List.{AllByRecursion, flat_map}
 use Rattle.fints_rules_permissions.specs.Permits.{Granted}
 use Rattle.fints_rules.specs.declared.rule.Broken.{Broken}
 use Rattle.fints_rules.proofs.Unbroken.{permitted, permitted_after}
@@ -10,30 +8,19 @@ use Rattle.fints_rules_dialogues.specs.declared.auditing.Audited.{Audited}
 use Rattle.fints_rules_dialogues.specs.declared.cutting.Sent.{Sent}
 use Rattle.fints_rules_dialogues.specs.declared.fault.DialogueFault.{DialogueFault}
 use Rattle.fints_rules_dialogues.specs.declared.reading.Exchange.{Exchange}
-use Rattle.fints_rules_dialogues.specs.Dialogues.{sents_in, IsExchange, IsExchangeFault, IsMemoryOrRefusal, IsTurnFault, BeginsWithOne}
-use Rattle.fints_rules_dialogues.specs.Auditing.{codes_told, IsJudgedBehind, AreJudgedBehind, AreAudited, AreAuditedInTurn, IsPermittedNext, ArePermittedNext}
-use Rattle.fints_rules_dialogues.proofs.Turns.{AreReadSoFar, all_read, one_read, turn_refused}
+use Rattle.fints_rules_dialogues.specs.Dialogues.{last_of, sents_in, IsExchange, IsExchangeFault, IsMemoryOrRefusal, IsTurnFault, BeginsWithOne}
+use Rattle.fints_rules_dialogues.specs.Auditing.{before_in, codes_told, AreAudited, AreAuditedAfter, AreAuditedInTurn, ArePermittedNext, IsAuditedNext, IsExchangeOrNone, IsJudgedNext, IsPermittedNext}
+use Rattle.fints_rules_dialogues.proofs.Turns.{AreReadSoFar, all_read, last_of-more, one_read, turn_refused}
 
--- the last of the exchanges, or the one before them
-abbrev pub last_of : Option Exchange → List Exchange → Option Exchange
-last_of before [] = before
-last_of before (e ∷ es) = last_of (Some e) es
-
-last_of-more : (before : Option Exchange) (es : List Exchange) (e : Exchange)
-    → last_of before (es ++ e ∷ []) ≡ Some e
-last_of-more before [] e = refl
-last_of-more before (x ∷ es) e = last_of-more (Some x) es e
-
-judged_more : (granted : Granted) (before : Option Exchange) (es : List Exchange) (audited : List Audited)
+audited_more : (granted : Granted) (before : Option Exchange) (es : List Exchange) (audited : List Audited)
     (e : Exchange) (a : Audited)
-    → AreJudgedBehind granted before es audited → a.sent ≡ e.sent
-    → IsJudgedBehind granted (last_of before es) e.sent.bytes.now a.broken.items
-    → AreJudgedBehind granted before (es ++ e ∷ []) (audited ++ a ∷ [])
-judged_more granted before [] audited e a h same judged =
-    subst (λ xs. AreJudgedBehind granted before (e ∷ []) (xs ++ a ∷ [])) (sym h) (same, judged, refl)
-judged_more granted before (x ∷ es) [] e a h same judged = absurd h
-judged_more granted before (x ∷ es) (b ∷ more) e a (s, j, h) same judged =
-    (s, j, judged_more granted (Some x) es more e a h same judged)
+    → AreAuditedAfter granted before es audited → IsAuditedNext granted (last_of before es) e a
+    → AreAuditedAfter granted before (es ++ e ∷ []) (audited ++ a ∷ [])
+audited_more granted before [] audited e a h next =
+    subst (λ xs. AreAuditedAfter granted before (e ∷ []) (xs ++ a ∷ [])) (sym h) (next, refl)
+audited_more granted before (x ∷ es) [] e a h next = absurd h
+audited_more granted before (x ∷ es) (b ∷ more) e a (is, h) next =
+    (is, audited_more granted (Some x) es more e a h next)
 
 -- the exchanges so far, whose messages are judged, and the last of them
 pub record AreAuditedSoFar
@@ -41,20 +28,21 @@ pub record AreAuditedSoFar
     : Type 0 where
   pub exchanges : List Exchange
   pub read : AreReadSoFar messages at exchanges
-  pub judged : AreAudited granted exchanges audited
+  pub audited_are : AreAudited granted exchanges audited
   pub before_is : before ≡ last_of None exchanges
-  pub last : IfSome before IsExchange
+  pub last : IsExchangeOrNone before
 
 pub one_audited : (granted : Granted) (messages : List Sent) (at : ℕ) (before : Option Exchange)
     (audited : List Audited) (e : Exchange) (a : Audited)
-    → AreAuditedSoFar granted messages at before audited → BeginsWithOne (drop at messages) e
-    → a.sent ≡ e.sent → IsJudgedBehind granted before e.sent.bytes.now a.broken.items
+    → AreAuditedSoFar granted messages at before audited → BeginsWithOne before (drop at messages) e
+    → (IsExchangeOrNone before → IsExchange e → IsAuditedNext granted before e a)
     → AreAuditedSoFar granted messages (at + length (sents_in e)) (Some e) (audited ++ a ∷ [])
-one_audited granted messages at before audited e a h begins same judged = record {
+one_audited granted messages at before audited e a h begins next = record {
   exchanges = h.exchanges ++ e ∷ [];
-  read = one_read messages at h.exchanges e h.read begins;
-  judged = judged_more granted None h.exchanges audited e a h.judged same
-      (subst (λ (b : Option Exchange). IsJudgedBehind granted b e.sent.bytes.now a.broken.items) h.before_is judged);
+  read = one_read messages at h.exchanges e h.read
+      (subst (λ (b : Option Exchange). BeginsWithOne b (drop at messages) e) h.before_is begins);
+  audited_are = audited_more granted None h.exchanges audited e a h.audited_are
+      (subst (λ (b : Option Exchange). IsAuditedNext granted b e a) h.before_is (next h.last begins.1.exchange));
   before_is = sym (last_of-more None h.exchanges e);
   last = begins.1.exchange;
 }
@@ -63,23 +51,54 @@ pub all_audited : (granted : Granted) (messages : List Sent) (at : ℕ) (before 
     (audited : List Audited) → AreAuditedSoFar granted messages at before audited → length messages ≤ at
     → AreAuditedInTurn granted messages audited
 all_audited granted messages at before audited h le =
-    (h.exchanges, all_read messages at h.exchanges h.read le, h.judged)
+    (h.exchanges, all_read messages at h.exchanges h.read le, h.audited_are)
 
 pub audit_refused : (granted : Granted) (messages : List Sent) (at : ℕ) (before : Option Exchange)
     (audited : List Audited) (f : DialogueFault) → AreAuditedSoFar granted messages at before audited
-    → IsMemoryOrRefusal (IsExchangeFault (drop at messages)) f → IsMemoryOrRefusal (IsTurnFault messages) f
-audit_refused granted messages at before audited f h refused = turn_refused messages at h.exchanges f h.read refused
+    → IsMemoryOrRefusal (IsExchangeFault before (drop at messages)) f → IsMemoryOrRefusal (IsTurnFault messages) f
+audit_refused granted messages at before audited f h refused =
+    turn_refused messages at h.exchanges f h.read
+    (subst (λ (b : Option Exchange). IsMemoryOrRefusal (IsExchangeFault b (drop at messages)) f) h.before_is refused)
 
--- the exchange before, by a reference
-pub before_lent : (lent : Option (Bor Exchange)) (before : Option Exchange) → option_copied lent ≡ before
-    → IfSome before IsExchange → IfSome lent (λ e. IsExchange e.now)
-before_lent None before is h = tt
-before_lent (Some e) before is h = subst (λ b. IfSome b IsExchange) (sym is) h
+-- the exchange before in its dialogue is such, if there is one
+pub before_is_one : (before : Option Exchange) (e : Exchange) → IsExchangeOrNone before
+    → IsExchangeOrNone (before_in before e)
+before_is_one before e h = by_begins e.begins
+  where
+    by_begins : (b : Bool) → IsExchangeOrNone (if b then None else before)
+    by_begins true = tt
+    by_begins false = h
+
+-- ---- exchanges that are read
+
+-- where each is such, those before a place are audited, and the last of them is the one before
+abbrev pub AreAuditedUpTo : Granted → List Exchange → Option Exchange → List Audited → Type 0
+AreAuditedUpTo granted exchanges before audited =
+    AllByRecursion IsExchange exchanges
+    → (before ≡ last_of None exchanges) × IsExchangeOrNone before × AreAudited granted exchanges audited
+
+all_front : (es : List Exchange) (e : Exchange) → AllByRecursion IsExchange (es ++ e ∷ [])
+    → AllByRecursion IsExchange es × IsExchange e
+all_front [] e h = (tt, h.0)
+all_front (x ∷ es) e h = let rest = all_front es e h.1 in ((h.0, rest.0), rest.1)
+
+pub one_more : (granted : Granted) (es : List Exchange) (before : Option Exchange) (audited : List Audited)
+    (e : Exchange) (a : Audited) → AreAuditedUpTo granted es before audited
+    → (IsExchangeOrNone before → IsExchange e → IsAuditedNext granted before e a)
+    → AreAuditedUpTo granted (es ++ e ∷ []) (Some e) (audited ++ a ∷ [])
+one_more granted es before audited e a h next = λ each.
+    let parts = all_front es e each in
+    let so = h parts.0 in (
+      sym (last_of-more None es e),
+      parts.1,
+      audited_more granted None es audited e a so.2
+          (subst (λ (b : Option Exchange). IsAuditedNext granted b e a) so.0 (next so.1 parts.1)),
+    )
 
 -- ---- messages that break no rule
 
 permitted_next : (granted : Granted) (before : Option Exchange) (bytes : List ℕ) (broken : List Broken)
-    → IsJudgedBehind granted before bytes broken → broken ≡ [] → IsPermittedNext granted before bytes
+    → IsJudgedNext granted before bytes broken → broken ≡ [] → IsPermittedNext granted before bytes
 permitted_next granted None bytes broken h none = permitted granted bytes broken h none
 permitted_next granted (Some e) bytes broken h none =
     permitted_after granted e.sent.bytes.now (codes_told e.answer) bytes broken h none
@@ -94,12 +113,13 @@ rest_none (x ∷ xs) ys e = absurd cc
 
 -- where no message breaks a rule, each is permitted
 pub all_permitted : (granted : Granted) (before : Option Exchange) (es : List Exchange)
-    (audited : List Audited) → AreJudgedBehind granted before es audited
+    (audited : List Audited) → AreAuditedAfter granted before es audited
     → flat_map (λ (a : Audited). a.broken.items) audited ≡ [] → ArePermittedNext granted before es
 all_permitted granted before [] audited h none = tt
 all_permitted granted before (e ∷ es) [] h none = absurd h
-all_permitted granted before (e ∷ es) (a ∷ more) (s, j, h) none =
+all_permitted granted before (e ∷ es) (a ∷ more) (is, h) none =
     let rest = flat_map (λ (b : Audited). b.broken.items) more in (
-      permitted_next granted before e.sent.bytes.now a.broken.items j (first_none a.broken.items rest none),
+      permitted_next granted (before_in before e) e.sent.bytes.now a.broken.items is.judged
+          (first_none a.broken.items rest none),
       all_permitted granted (Some e) es more h (rest_none a.broken.items rest none),
     )

@@ -1,7 +1,5 @@
 -- A file is one dialogue at most, and has one first refusal at most, and never both.
 use Rattle.std.proofs.Common.{◌≡◌, ℕ, List, [], ◌∷◌, refl, ap, inl, inr}
-use Rattle.std.specs.List.{AllByRecursion}
-use Rattle.fints_syntax.specs.Capture.{IsBreak}
 use Rattle.fints_rules_dialogues.specs.declared.cutting.Sent.{Sent}
 use Rattle.fints_rules_dialogues.specs.declared.fault.DialogueFault.{DialogueFault}
 use Rattle.fints_rules_dialogues.specs.declared.fault.DialogueFault.TheVariants as fault

@@ -1,7 +1,6 @@
 -- The exchanges and the first refusal of messages: one of each at most, and never both.
-use Rattle.std.proofs.Common.{◌≡◌, ℕ, ◌+◌, Bool, true, false, Option, Some, None, List, [], ◌∷◌, ◌++◌, drop, map, refl, ap, ◌∙◌, sym, subst, arith, inl, inr}
+use Rattle.std.proofs.Common.{◌≡◌, ℕ, Bool, false, Option, Some, None, List, [], ◌∷◌, ◌++◌, drop, map, refl, ap, ◌∙◌, sym, subst, arith, inl, inr}
 use Rattle.std.proofs.lemmas.Bool.{false≢true}
-use Rattle.std.specs.List.{list_any}
 use Rattle.fints_params.specs.declared.fault.ParamFault.{ParamFault}
 use Rattle.fints_params.specs.Captures.{IsCodeFault, IsCodesOf}
 use Rattle.fints_params.proofs.OneMeaning.{no_codes_at_fault, one_code_fault, one_codes}
@@ -12,7 +11,7 @@ use Rattle.fints_rules_dialogues.specs.declared.fault.DialogueFault.{DialogueFau
 use Rattle.fints_rules_dialogues.specs.declared.fault.DialogueFault.TheVariants as fault
 use Rattle.fints_rules_dialogues.specs.declared.reading.Answer.{Answer}
 use Rattle.fints_rules_dialogues.specs.declared.reading.Exchange.{Exchange}
-use Rattle.fints_rules_dialogues.specs.Dialogues.{AreInTurn, BeginsWith, IsAnswerFault, IsBankAnswer, IsClientFault, IsExchange, IsExchangeFault, IsFromBank, IsFromClient, IsTurnFault, is_hirmg, sent_in, sents_in}
+use Rattle.fints_rules_dialogues.specs.Dialogues.{begins_after, is_answer, last_of, may_follow, may_follow_answer, sent_in, AreInTurnAfter, BeginsWith, IsAnswerFault, IsBankAnswer, IsClientFault, IsClientsNext, IsExchangeFault, IsFromBank, IsOutOfTurn, IsTurnFault, NoneAnswers}
 use Rattle.fints_rules_dialogues.specs.Laws.{answer_values, exchange_values}
 
 -- the messages stand at the same places and have the same bytes
@@ -48,6 +47,42 @@ all_back [] (n ∷ ns) h = absurd h
 all_back (m ∷ ms) [] h = absurd h
 all_back (m ∷ ms) (n ∷ ns) h = (sym h.0, sym h.1, all_back ms ns h.2)
 
+-- ---- what comes before
+
+-- the exchanges before are both none, or have the same answer
+abbrev pub Agree : Option Exchange → Option Exchange → Type 0
+Agree None None = Unit {0}
+Agree (Some e) (Some f) = answer_values e.answer ≡ answer_values f.answer
+Agree _ _ = ⊥
+
+agree_back : (b c : Option Exchange) → Agree b c → Agree c b
+agree_back None None h = tt
+agree_back (Some e) (Some f) h = sym h
+agree_back None (Some f) h = absurd h
+agree_back (Some e) None h = absurd h
+
+begins_alike : (b c : Option Exchange) (m : MessageView) → Agree b c → begins_after b m ≡ begins_after c m
+begins_alike None None m h = refl
+begins_alike (Some e) (Some f) m h = refl
+begins_alike None (Some f) m h = absurd h
+begins_alike (Some e) None m h = absurd h
+
+none_is_some : (a : Answer) → answer_values None ≡ answer_values (Some a) → ⊥
+none_is_some a h = cc
+
+answered_alike : (x y : Option Answer) (m : MessageView) → answer_values x ≡ answer_values y
+    → may_follow_answer x m ≡ may_follow_answer y m
+answered_alike None None m h = refl
+answered_alike (Some a) (Some b) m h = refl
+answered_alike None (Some b) m h = absurd (none_is_some b h)
+answered_alike (Some a) None m h = absurd (none_is_some a (sym h))
+
+follows_alike : (b c : Option Exchange) (m : MessageView) → Agree b c → may_follow b m ≡ may_follow c m
+follows_alike None None m h = refl
+follows_alike (Some e) (Some f) m h = answered_alike e.answer f.answer m h
+follows_alike None (Some f) m h = absurd h
+follows_alike (Some e) None m h = absurd h
+
 -- ---- one exchange
 
 record AreSameFronts (e f : Exchange) (r s : List Sent) : Type 0 where
@@ -70,202 +105,249 @@ same_codes a b start bytes h g =
     ∙ (ap (λ (xs : List ℕ). three b.sent.start xs a.codes.items) bytes
     ∙ ap (λ (xs : List ℕ). three b.sent.start b.sent.bytes.now xs) codes)
 
+-- what has no code is no answer
+no_code : (r s : List Sent) (b : Answer) → NoneAnswers r → IsFromBank b.sent.bytes.now b.codes.items
+    → AllSame r (b.sent ∷ s) → ⊥
+no_code [] s b none bank h = h
+no_code (m ∷ r) s b none bank h =
+    bank.1 (one_codes b.sent.bytes.now b.codes.items [] bank.0 (subst (λ (xs : List ℕ). IsCodesOf xs []) h.1 none))
+
 same_fronts : (e f : Exchange) (r s : List Sent) (x y : Option Answer) → e.answer ≡ x → f.answer ≡ y
-    → AllSame (e.sent ∷ (sent_in x ++ r)) (f.sent ∷ (sent_in y ++ s)) → (x ≡ None → r ≡ [])
-    → (y ≡ None → s ≡ []) → IsBankAnswer x → IsBankAnswer y → AreSameFronts e f r s
-same_fronts e f r s None None p q h last end bank other = record {
+    → AllSame (e.sent ∷ (sent_in x ++ r)) (f.sent ∷ (sent_in y ++ s)) → (x ≡ None → NoneAnswers r)
+    → (y ≡ None → NoneAnswers s) → IsBankAnswer x → IsBankAnswer y → AreSameFronts e f r s
+same_fronts e f r s None None p q h none other bank also = record {
   start = h.0;
   bytes = h.1;
   answers = ap answer_values (p ∙ sym q);
   rest = h.2;
 }
-same_fronts e f r s None (Some b) p q h last end bank other =
-    absurd (subst (λ (xs : List Sent). AllSame xs (b.sent ∷ s)) (last refl) h.2)
-same_fronts e f r s (Some a) None p q h last end bank other =
-    absurd (subst (λ (xs : List Sent). AllSame (a.sent ∷ r) xs) (end refl) h.2)
-same_fronts e f r s (Some a) (Some b) p q h last end bank other = record {
+same_fronts e f r s None (Some b) p q h none other bank also = absurd (no_code r s b (none refl) also h.2)
+same_fronts e f r s (Some a) None p q h none other bank also =
+    absurd (no_code s r a (other refl) bank (all_back (a.sent ∷ r) s h.2))
+same_fronts e f r s (Some a) (Some b) p q h none other bank also = record {
   start = h.0;
   bytes = h.1;
-  answers = ap answer_values p ∙ same_codes a b h.2.0 h.2.1 bank other ∙ sym (ap answer_values q);
+  answers = ap answer_values p ∙ same_codes a b h.2.0 h.2.1 bank also ∙ sym (ap answer_values q);
   rest = h.2.2;
 }
 
-one_front : (ms ns : List Sent) (e f : Exchange) (r s : List Sent) → AllSame ms ns → BeginsWith ms e r
-    → BeginsWith ns f s → AreSameFronts e f r s
-one_front ms ns e f r s h b c =
+one_front : (before past : Option Exchange) (ms ns : List Sent) (e f : Exchange) (r s : List Sent) → AllSame ms ns
+    → BeginsWith before ms e r → BeginsWith past ns f s → AreSameFronts e f r s
+one_front before past ms ns e f r s h b c =
     same_fronts e f r s e.answer f.answer refl refl
     (subst (λ (xs : List Sent). AllSame xs (f.sent ∷ (sent_in f.answer ++ s))) b.split
-    (subst (λ (ys : List Sent). AllSame ms ys) c.split h)) b.last c.last b.exchange.2 c.exchange.2
+    (subst (λ (ys : List Sent). AllSame ms ys) c.split h)) b.unanswered c.unanswered b.exchange.2 c.exchange.2
 
-abbrev four : ℕ → List ℕ → MessageView → Option (ℕ × List ℕ × List ℕ)
-    → ℕ × List ℕ × MessageView × Option (ℕ × List ℕ × List ℕ)
-four start bytes message answer = (start, bytes, message, answer)
+abbrev five : ℕ → List ℕ → MessageView → Option (ℕ × List ℕ × List ℕ) → Bool
+    → ℕ × List ℕ × MessageView × Option (ℕ × List ℕ × List ℕ) × Bool
+five start bytes message answer begins = (start, bytes, message, answer, begins)
 
-values_one : (e f : Exchange) (r s : List Sent) → IsExchange e → IsExchange f → AreSameFronts e f r s
+values_one : (before past : Option Exchange) (ms ns : List Sent) (e f : Exchange) (r s : List Sent)
+    → Agree before past → BeginsWith before ms e r → BeginsWith past ns f s → AreSameFronts e f r s
     → exchange_values e ≡ exchange_values f
-values_one e f r s h g same =
+values_one before past ms ns e f r s agree b c same =
     let message : e.message ≡ f.message =
-    one_message f.sent.bytes.now e.message f.message (subst (λ (xs : List ℕ). IsMessage xs e.message) same.bytes h.1) g.1 in
-    ap (λ (k : ℕ). four k e.sent.bytes.now e.message (answer_values e.answer)) same.start
-    ∙ (ap (λ (xs : List ℕ). four f.sent.start xs e.message (answer_values e.answer)) same.bytes
-    ∙ (ap (λ (v : MessageView). four f.sent.start f.sent.bytes.now v (answer_values e.answer)) message
-    ∙ ap (λ (a : Option (ℕ × List ℕ × List ℕ)). four f.sent.start f.sent.bytes.now f.message a) same.answers))
+    one_message f.sent.bytes.now e.message f.message
+    (subst (λ (xs : List ℕ). IsMessage xs e.message) same.bytes b.exchange.1) c.exchange.1 in
+    let begins : e.begins ≡ f.begins =
+    b.begins ∙ ap (begins_after before) message ∙ begins_alike before past f.message agree ∙ sym c.begins in
+    ap (λ (k : ℕ). five k e.sent.bytes.now e.message (answer_values e.answer) e.begins) same.start
+    ∙ (ap (λ (xs : List ℕ). five f.sent.start xs e.message (answer_values e.answer) e.begins) same.bytes
+    ∙ (ap (λ (v : MessageView). five f.sent.start f.sent.bytes.now v (answer_values e.answer) e.begins) message
+    ∙ (ap (λ (a : Option (ℕ × List ℕ × List ℕ)). five f.sent.start f.sent.bytes.now f.message a e.begins) same.answers
+    ∙ ap (λ (x : Bool). five f.sent.start f.sent.bytes.now f.message (answer_values f.answer) x) begins)))
 
 -- no exchange begins nothing
-not_none : (ns : List Sent) (f : Exchange) (s : List Sent) → AllSame [] ns → BeginsWith ns f s → ⊥
-not_none ns f s h c = subst (λ (ys : List Sent). AllSame [] ys) c.split h
+not_none : (past : Option Exchange) (ns : List Sent) (f : Exchange) (s : List Sent) → AllSame [] ns
+    → BeginsWith past ns f s → ⊥
+not_none past ns f s h c = subst (λ (ys : List Sent). AllSame [] ys) c.split h
 
-pub one_turn : (ms ns : List Sent) (es fs : List Exchange) → AllSame ms ns → AreInTurn ms es []
-    → AreInTurn ns fs [] → map exchange_values es ≡ map exchange_values fs
-one_turn ms ns [] [] h i j = refl
-one_turn ms ns [] (f ∷ fs) h i (s, c, j) =
-    absurd (not_none ns f s (subst (λ (xs : List Sent). AllSame xs ns) i h) c)
-one_turn ms ns (e ∷ es) [] h (r, b, i) j =
-    absurd (not_none ms e r (all_back ms [] (subst (λ (ys : List Sent). AllSame ms ys) j h)) b)
-one_turn ms ns (e ∷ es) (f ∷ fs) h (r, b, i) (s, c, j) =
-    let same = one_front ms ns e f r s h b c in
-    let first = values_one e f r s b.exchange c.exchange same in
-    let later = one_turn r s es fs same.rest i j in
+turn_one : (before past : Option Exchange) (ms ns : List Sent) (es fs : List Exchange) → Agree before past
+    → AllSame ms ns → AreInTurnAfter before ms es [] → AreInTurnAfter past ns fs []
+    → map exchange_values es ≡ map exchange_values fs
+turn_one before past ms ns [] [] agree h i j = refl
+turn_one before past ms ns [] (f ∷ fs) agree h i (s, c, j) =
+    absurd (not_none past ns f s (subst (λ (xs : List Sent). AllSame xs ns) i h) c)
+turn_one before past ms ns (e ∷ es) [] agree h (r, b, i) j =
+    absurd (not_none before ms e r (all_back ms [] (subst (λ (ys : List Sent). AllSame ms ys) j h)) b)
+turn_one before past ms ns (e ∷ es) (f ∷ fs) agree h (r, b, i) (s, c, j) =
+    let same = one_front before past ms ns e f r s h b c in
+    let first = values_one before past ms ns e f r s agree b c same in
+    let later = turn_one (Some e) (Some f) r s es fs same.answers same.rest i j in
     ap (λ x. x ∷ map exchange_values es) first ∙ ap (λ xs. exchange_values f ∷ xs) later
+
+pub one_turn : (ms ns : List Sent) (es fs : List Exchange) → AllSame ms ns → AreInTurnAfter None ms es []
+    → AreInTurnAfter None ns fs [] → map exchange_values es ≡ map exchange_values fs
+one_turn ms ns es fs h i j = turn_one None None ms ns es fs tt h i j
 
 -- ---- refusals of a message
 
 module _ (m n : Sent) (start : m.start ≡ n.start) (bytes : m.bytes.now ≡ n.bytes.now) where
-  -- what is a message of the client isn't refused
-  pub no_client : (f : DialogueFault) → IsClientFault m f → IsFromClient n.bytes.now → ⊥
-  no_client fault.Memory h g = absurd h
-  no_client fault.NoMessage h g = absurd h
-  no_client (fault.NotAMessage offset) h g =
-      one_stop_not_both n.bytes.now h.0 g.0 (subst (λ (xs : List ℕ). CeasesAt xs h.0) bytes h.1) g.1
-  no_client (fault.NotInTurn offset) h g =
-      let same : h.0 ≡ g.0 =
-      one_message n.bytes.now h.0 g.0 (subst (λ (xs : List ℕ). IsMessage xs h.0) bytes h.1) g.1 in
-      false≢true (sym (subst (λ (v : MessageView). list_any is_hirmg v.body ≡ false) (sym same) g.2) ∙ h.2)
-  no_client (fault.Answer at f) h g = absurd h
-  no_client fault.NoParameters h g = absurd h
+  module _ (before past : Option Exchange) (agree : Agree before past) where
+    out_or_next : (v : MessageView) → IsOutOfTurn before m.bytes.now → IsClientsNext past n.bytes.now v → ⊥
+    out_or_next v (held, is, inl answer) g =
+        let same : held ≡ v =
+        one_message n.bytes.now held v (subst (λ (xs : List ℕ). IsMessage xs held) bytes is) g.0 in
+        false≢true (sym (subst (λ (u : MessageView). is_answer u ≡ false) (sym same) g.1) ∙ answer)
+    out_or_next v (held, is, inr late) g =
+        let same : held ≡ v =
+        one_message n.bytes.now held v (subst (λ (xs : List ℕ). IsMessage xs held) bytes is) g.0 in
+        false≢true
+        (sym late ∙ follows_alike before past held agree ∙ (ap (may_follow past) same ∙ g.2))
 
-  pub one_client : (f g : DialogueFault) → IsClientFault m f → IsClientFault n g → f ≡ g
-  one_client (fault.NotAMessage o) (fault.NotAMessage p) h g =
-      let same : h.0 ≡ g.0 =
-      one_stop_place n.bytes.now h.0 g.0 (subst (λ (xs : List ℕ). CeasesAt xs h.0) bytes h.1) g.1 in
-      let place : o ≡ p = omega (arith, h.2, g.2, same, start) in
-      ap (λ (k : ℕ). fault.NotAMessage k) place
-  one_client (fault.NotAMessage o) (fault.NotInTurn p) h g =
-      absurd (one_stop_not_both n.bytes.now h.0 g.0 (subst (λ (xs : List ℕ). CeasesAt xs h.0) bytes h.1) g.1)
-  one_client (fault.NotInTurn o) (fault.NotAMessage p) h g =
-      absurd (one_stop_not_both n.bytes.now g.0 h.0 g.1 (subst (λ (xs : List ℕ). IsMessage xs h.0) bytes h.1))
-  one_client (fault.NotInTurn o) (fault.NotInTurn p) h g =
-      let place : o ≡ p = h.3 ∙ start ∙ sym g.3 in
-      ap (λ (k : ℕ). fault.NotInTurn k) place
-  one_client fault.Memory g h i = absurd h
-  one_client fault.NoMessage g h i = absurd h
-  one_client (fault.Answer at f) g h i = absurd h
-  one_client fault.NoParameters g h i = absurd h
-  one_client f fault.Memory h i = absurd i
-  one_client f fault.NoMessage h i = absurd i
-  one_client f (fault.Answer at k) h i = absurd i
-  one_client f fault.NoParameters h i = absurd i
+    -- what is the client's next message isn't refused
+    pub no_client : (f : DialogueFault) (v : MessageView) → IsClientFault before m f
+        → IsClientsNext past n.bytes.now v → ⊥
+    no_client fault.Memory v h g = absurd h
+    no_client fault.NoMessage v h g = absurd h
+    no_client (fault.NotAMessage offset) v h g =
+        one_stop_not_both n.bytes.now h.0 v (subst (λ (xs : List ℕ). CeasesAt xs h.0) bytes h.1) g.0
+    no_client (fault.NotInTurn offset) v h g = out_or_next v h.0 g
+    no_client (fault.Answer at f) v h g = absurd h
+    no_client fault.NoParameters v h g = absurd h
 
-  -- what is an answer of the bank isn't refused
-  pub no_answer : (f : DialogueFault) (numbers : List ℕ) → IsAnswerFault m f → IsFromBank n.bytes.now numbers → ⊥
-  no_answer fault.Memory numbers h g = absurd h
-  no_answer fault.NoMessage numbers h g = absurd h
-  no_answer (fault.NotAMessage offset) numbers h g = absurd h
-  no_answer (fault.NotInTurn offset) numbers h g =
-      g.1 (one_codes n.bytes.now numbers [] g.0 (subst (λ (xs : List ℕ). IsCodesOf xs []) bytes h.0))
-  no_answer (fault.Answer at f) numbers h g =
-      no_codes_at_fault n.bytes.now numbers f g.0 (subst (λ (xs : List ℕ). IsCodeFault xs f) bytes h.0)
-  no_answer fault.NoParameters numbers h g = absurd h
+    pub one_client : (f g : DialogueFault) → IsClientFault before m f → IsClientFault past n g → f ≡ g
+    one_client (fault.NotAMessage o) (fault.NotAMessage p) h g =
+        let same : h.0 ≡ g.0 =
+        one_stop_place n.bytes.now h.0 g.0 (subst (λ (xs : List ℕ). CeasesAt xs h.0) bytes h.1) g.1 in
+        let place : o ≡ p = omega (arith, h.2, g.2, same, start) in
+        ap (λ (k : ℕ). fault.NotAMessage k) place
+    one_client (fault.NotAMessage o) (fault.NotInTurn p) h g =
+        absurd (one_stop_not_both n.bytes.now h.0 g.0.0 (subst (λ (xs : List ℕ). CeasesAt xs h.0) bytes h.1) g.0.1)
+    one_client (fault.NotInTurn o) (fault.NotAMessage p) h g =
+        absurd (one_stop_not_both n.bytes.now g.0 h.0.0 g.1 (subst (λ (xs : List ℕ). IsMessage xs h.0.0) bytes h.0.1))
+    one_client (fault.NotInTurn o) (fault.NotInTurn p) h g =
+        let place : o ≡ p = h.1 ∙ start ∙ sym g.1 in
+        ap (λ (k : ℕ). fault.NotInTurn k) place
+    one_client fault.Memory g h i = absurd h
+    one_client fault.NoMessage g h i = absurd h
+    one_client (fault.Answer at f) g h i = absurd h
+    one_client fault.NoParameters g h i = absurd h
+    one_client f fault.Memory h i = absurd i
+    one_client f fault.NoMessage h i = absurd i
+    one_client f (fault.Answer at k) h i = absurd i
+    one_client f fault.NoParameters h i = absurd i
 
-  pub one_answer : (f g : DialogueFault) → IsAnswerFault m f → IsAnswerFault n g → f ≡ g
-  one_answer (fault.Answer at f) (fault.Answer to g) h i =
-      let same : f ≡ g = one_code_fault n.bytes.now f g (subst (λ (xs : List ℕ). IsCodeFault xs f) bytes h.0) i.0 in
-      let place : at ≡ to = h.1 ∙ start ∙ sym i.1 in
-      ap (λ (k : ℕ). fault.Answer k f) place ∙ ap (λ (x : ParamFault). fault.Answer to x) same
-  one_answer (fault.Answer at f) (fault.NotInTurn p) h i =
-      absurd (no_codes_at_fault n.bytes.now [] f i.0 (subst (λ (xs : List ℕ). IsCodeFault xs f) bytes h.0))
-  one_answer (fault.NotInTurn o) (fault.Answer to g) h i =
-      absurd (no_codes_at_fault n.bytes.now [] g (subst (λ (xs : List ℕ). IsCodesOf xs []) bytes h.0) i.0)
-  one_answer (fault.NotInTurn o) (fault.NotInTurn p) h i =
-      let place : o ≡ p = h.1 ∙ start ∙ sym i.1 in
-      ap (λ (k : ℕ). fault.NotInTurn k) place
-  one_answer fault.Memory g h i = absurd h
-  one_answer fault.NoMessage g h i = absurd h
-  one_answer (fault.NotAMessage o) g h i = absurd h
-  one_answer fault.NoParameters g h i = absurd h
-  one_answer f fault.Memory h i = absurd i
-  one_answer f fault.NoMessage h i = absurd i
-  one_answer f (fault.NotAMessage o) h i = absurd i
-  one_answer f fault.NoParameters h i = absurd i
+-- what tells codes isn't refused
+no_answer : (ms ns : List Sent) (b : Sent) (f : DialogueFault) (numbers : List ℕ) → AllSame ms (b ∷ ns)
+    → IsAnswerFault ms f → IsCodesOf b.bytes.now numbers → ⊥
+no_answer [] ns b f numbers same h g = same
+no_answer (m ∷ ms) ns b (fault.Answer at f) numbers same h g =
+    no_codes_at_fault b.bytes.now numbers f g (subst (λ (xs : List ℕ). IsCodeFault xs f) same.1 h.0)
+no_answer (m ∷ ms) ns b fault.Memory numbers same h g = h
+no_answer (m ∷ ms) ns b fault.NoMessage numbers same h g = h
+no_answer (m ∷ ms) ns b (fault.NotAMessage offset) numbers same h g = h
+no_answer (m ∷ ms) ns b (fault.NotInTurn offset) numbers same h g = h
+no_answer (m ∷ ms) ns b fault.NoParameters numbers same h g = h
+
+one_answer : (ms ns : List Sent) (f g : DialogueFault) → AllSame ms ns → IsAnswerFault ms f → IsAnswerFault ns g
+    → f ≡ g
+one_answer [] ns f g same h i = absurd h
+one_answer (m ∷ ms) [] f g same h i = absurd same
+one_answer (m ∷ ms) (n ∷ ns) (fault.Answer at f) (fault.Answer to g) same h i =
+    let one : f ≡ g = one_code_fault n.bytes.now f g (subst (λ (xs : List ℕ). IsCodeFault xs f) same.1 h.0) i.0 in
+    let place : at ≡ to = h.1 ∙ same.0 ∙ sym i.1 in
+    ap (λ (k : ℕ). fault.Answer k f) place ∙ ap (λ (x : ParamFault). fault.Answer to x) one
+one_answer (m ∷ ms) (n ∷ ns) fault.Memory g same h i = absurd h
+one_answer (m ∷ ms) (n ∷ ns) fault.NoMessage g same h i = absurd h
+one_answer (m ∷ ms) (n ∷ ns) (fault.NotAMessage o) g same h i = absurd h
+one_answer (m ∷ ms) (n ∷ ns) (fault.NotInTurn o) g same h i = absurd h
+one_answer (m ∷ ms) (n ∷ ns) fault.NoParameters g same h i = absurd h
+one_answer (m ∷ ms) (n ∷ ns) f fault.Memory same h i = absurd i
+one_answer (m ∷ ms) (n ∷ ns) f fault.NoMessage same h i = absurd i
+one_answer (m ∷ ms) (n ∷ ns) f (fault.NotAMessage o) same h i = absurd i
+one_answer (m ∷ ms) (n ∷ ns) f (fault.NotInTurn o) same h i = absurd i
+one_answer (m ∷ ms) (n ∷ ns) f fault.NoParameters same h i = absurd i
 
 -- ---- refusals of messages
 
-one_exchange : (r s : List Sent) (f g : DialogueFault) → AllSame r s → IsExchangeFault r f → IsExchangeFault s g
-    → f ≡ g
-one_exchange [] s f g h i j = absurd i
-one_exchange (m ∷ []) [] f g h i j = absurd h
-one_exchange (m ∷ []) (n ∷ []) f g h i j = one_client m n h.0 h.1 f g i j
-one_exchange (m ∷ []) (n ∷ b ∷ ns) f g h i j = absurd h.2
-one_exchange (m ∷ a ∷ ms) [] f g h i j = absurd h
-one_exchange (m ∷ a ∷ ms) (n ∷ []) f g h i j = absurd h.2
-one_exchange (m ∷ a ∷ ms) (n ∷ b ∷ ns) f g h (inl i) (inl j) = one_client m n h.0 h.1 f g i j
-one_exchange (m ∷ a ∷ ms) (n ∷ b ∷ ns) f g h (inl i) (inr j) = absurd (no_client m n h.0 h.1 f i j.0)
-one_exchange (m ∷ a ∷ ms) (n ∷ b ∷ ns) f g h (inr i) (inl j) = absurd (no_client n m (sym h.0) (sym h.1) g j i.0)
-one_exchange (m ∷ a ∷ ms) (n ∷ b ∷ ns) f g h (inr i) (inr j) = one_answer a b h.2.0 h.2.1 f g i.1 j.1
+one_exchange : (before past : Option Exchange) (r s : List Sent) (f g : DialogueFault) → Agree before past
+    → AllSame r s → IsExchangeFault before r f → IsExchangeFault past s g → f ≡ g
+one_exchange before past [] s f g agree h i j = absurd i
+one_exchange before past (m ∷ ms) [] f g agree h i j = absurd h
+one_exchange before past (m ∷ ms) (n ∷ ns) f g agree h (inl i) (inl j) =
+    one_client m n h.0 h.1 before past agree f g i j
+one_exchange before past (m ∷ ms) (n ∷ ns) f g agree h (inl i) (inr (v, next, j)) =
+    absurd (no_client m n h.0 h.1 before past agree f v i next)
+one_exchange before past (m ∷ ms) (n ∷ ns) f g agree h (inr (v, next, i)) (inl j) =
+    absurd (no_client n m (sym h.0) (sym h.1) past before (agree_back before past agree) g v j next)
+one_exchange before past (m ∷ ms) (n ∷ ns) f g agree h (inr i) (inr j) = one_answer ms ns f g h.2 i.2 j.2
+
+-- the messages after the client's aren't refused where one is the answer, or the first has no code
+no_second : (ms s : List Sent) (f : DialogueFault) (y : Option Answer) → IsBankAnswer y
+    → (y ≡ None → NoneAnswers s) → AllSame ms (sent_in y ++ s) → IsAnswerFault ms f → ⊥
+no_second ms s f (Some b) bank none h i = no_answer ms s b.sent f b.codes.items h i bank.0
+no_second [] s f None bank none h i = i
+no_second (m ∷ ms) [] f None bank none h i = h
+no_second (m ∷ ms) (n ∷ ns) f None bank none h i = no_answer (m ∷ ms) ns n f [] h i (none refl)
 
 -- messages that an exchange begins aren't refused there
-no_second : (a : Sent) (ms : List Sent) (f : DialogueFault) (s : List Sent) (y : Option Answer) → IsBankAnswer y
-    → (y ≡ None → s ≡ []) → AllSame (a ∷ ms) (sent_in y ++ s) → IsAnswerFault a f → ⊥
-no_second a ms f s None bank last h i = subst (λ (ys : List Sent). AllSame (a ∷ ms) ys) (last refl) h
-no_second a ms f s (Some b) bank last h i = no_answer a b.sent h.0 h.1 f b.codes.items i bank
+no_fault_at : (before past : Option Exchange) (r : List Sent) (f : DialogueFault) (y : Exchange) (s : List Sent)
+    → Agree before past → AllSame r (y.sent ∷ (sent_in y.answer ++ s)) → IsExchangeFault before r f
+    → IsClientsNext past y.sent.bytes.now y.message → IsBankAnswer y.answer → (y.answer ≡ None → NoneAnswers s) → ⊥
+no_fault_at before past [] f y s agree h i next bank none = i
+no_fault_at before past (m ∷ ms) f y s agree h (inl i) next bank none =
+    no_client m y.sent h.0 h.1 before past agree f y.message i next
+no_fault_at before past (m ∷ ms) f y s agree h (inr (v, is, i)) next bank none =
+    no_second ms s f y.answer bank none h.2 i
 
-no_fault_at : (r : List Sent) (f : DialogueFault) (y : Exchange) (s : List Sent)
-    → AllSame r (y.sent ∷ (sent_in y.answer ++ s)) → IsExchangeFault r f → IsExchange y
-    → (y.answer ≡ None → s ≡ []) → ⊥
-no_fault_at [] f y s h i e last = i
-no_fault_at (m ∷ []) f y s h i e last = no_client m y.sent h.0 h.1 f i e.0
-no_fault_at (m ∷ a ∷ ms) f y s h (inl i) e last = no_client m y.sent h.0 h.1 f i e.0
-no_fault_at (m ∷ a ∷ ms) f y s h (inr i) e last = no_second a ms f s y.answer e.2 last h.2 i.1
+-- the message of an exchange is the client's next one
+is_next : (before : Option Exchange) (ms : List Sent) (e : Exchange) (r : List Sent) → BeginsWith before ms e r
+    → IsClientsNext before e.sent.bytes.now e.message
+is_next before ms e r b =
+    let client = b.exchange.0 in
+    let same : client.0 ≡ e.message = one_message e.sent.bytes.now client.0 e.message client.1 b.exchange.1 in
+    (b.exchange.1, subst (λ (v : MessageView). is_answer v ≡ false) same client.2, b.follows)
 
-no_front : (r ns : List Sent) (f : DialogueFault) (y : Exchange) (s : List Sent) → AllSame r ns
-    → IsExchangeFault r f → BeginsWith ns y s → ⊥
-no_front r ns f y s h i c =
-    no_fault_at r f y s (subst (λ (ys : List Sent). AllSame r ys) c.split h) i c.exchange c.last
+no_front : (before past : Option Exchange) (r ns : List Sent) (f : DialogueFault) (y : Exchange) (s : List Sent)
+    → Agree before past → AllSame r ns → IsExchangeFault before r f → BeginsWith past ns y s → ⊥
+no_front before past r ns f y s agree h i c =
+    no_fault_at before past r f y s agree (subst (λ (ys : List Sent). AllSame r ys) c.split h) i
+    (is_next past ns y s c) c.exchange.2 c.unanswered
 
-turn_faults : (ms ns : List Sent) (es fs : List Exchange) (r s : List Sent) (f g : DialogueFault)
-    → AllSame ms ns → AreInTurn ms es r → AreInTurn ns fs s → IsExchangeFault r f → IsExchangeFault s g → f ≡ g
-turn_faults ms ns [] [] r s f g h i j p q =
-    one_exchange r s f g (subst (λ (ys : List Sent). AllSame r ys) j (subst (λ (xs : List Sent). AllSame xs ns) i h))
-    p q
-turn_faults ms ns [] (y ∷ fs) r s f g h i (u, c, j) p q =
-    absurd (no_front r ns f y u (subst (λ (xs : List Sent). AllSame xs ns) i h) p c)
-turn_faults ms ns (x ∷ es) [] r s f g h (t, b, i) j p q =
-    absurd (no_front s ms g x t (all_back ms s (subst (λ (ys : List Sent). AllSame ms ys) j h)) q b)
-turn_faults ms ns (x ∷ es) (y ∷ fs) r s f g h (t, b, i) (u, c, j) p q =
-    turn_faults t u es fs r s f g (one_front ms ns x y t u h b c).rest i j p q
+turn_faults : (before past : Option Exchange) (ms ns : List Sent) (es fs : List Exchange) (r s : List Sent)
+    (f g : DialogueFault) → Agree before past → AllSame ms ns → AreInTurnAfter before ms es r
+    → AreInTurnAfter past ns fs s → IsExchangeFault (last_of before es) r f → IsExchangeFault (last_of past fs) s g
+    → f ≡ g
+turn_faults before past ms ns [] [] r s f g agree h i j p q =
+    one_exchange before past r s f g agree
+    (subst (λ (ys : List Sent). AllSame r ys) j (subst (λ (xs : List Sent). AllSame xs ns) i h)) p q
+turn_faults before past ms ns [] (y ∷ fs) r s f g agree h i (u, c, j) p q =
+    absurd (no_front before past r ns f y u agree (subst (λ (xs : List Sent). AllSame xs ns) i h) p c)
+turn_faults before past ms ns (x ∷ es) [] r s f g agree h (t, b, i) j p q =
+    absurd (no_front past before s ms g x t (agree_back before past agree)
+    (all_back ms s (subst (λ (ys : List Sent). AllSame ms ys) j h)) q b)
+turn_faults before past ms ns (x ∷ es) (y ∷ fs) r s f g agree h (t, b, i) (u, c, j) p q =
+    let same = one_front before past ms ns x y t u h b c in
+    turn_faults (Some x) (Some y) t u es fs r s f g same.answers same.rest i j p q
 
 pub one_turn_fault : (ms ns : List Sent) (f g : DialogueFault) → AllSame ms ns → IsTurnFault ms f
     → IsTurnFault ns g → f ≡ g
-one_turn_fault ms ns f g h (es, r, i, p) (fs, s, j, q) = turn_faults ms ns es fs r s f g h i j p q
+one_turn_fault ms ns f g h (es, r, i, p) (fs, s, j, q) =
+    turn_faults None None ms ns es fs r s f g tt h i j p q
 
-turn_fault_no : (ms ns : List Sent) (es fs : List Exchange) (s : List Sent) (g : DialogueFault)
-    → AllSame ms ns → AreInTurn ms es [] → AreInTurn ns fs s → IsExchangeFault s g → ⊥
-turn_fault_no ms ns [] [] s g h i j q =
-    none s (subst (λ (ys : List Sent). AllSame [] ys) j (subst (λ (xs : List Sent). AllSame xs ns) i h)) q
-  where
-    none : (s : List Sent) → AllSame [] s → IsExchangeFault s g → ⊥
-    none [] h q = q
-    none (n ∷ ns) h q = h
-turn_fault_no ms ns [] (y ∷ fs) s g h i (u, c, j) q =
-    not_none ns y u (subst (λ (xs : List Sent). AllSame xs ns) i h) c
-turn_fault_no ms ns (x ∷ es) [] s g h (t, b, i) j q =
-    no_front s ms g x t (all_back ms s (subst (λ (ys : List Sent). AllSame ms ys) j h)) q b
-turn_fault_no ms ns (x ∷ es) (y ∷ fs) s g h (t, b, i) (u, c, j) q =
-    turn_fault_no t u es fs s g (one_front ms ns x y t u h b c).rest i j q
+none_at_fault : (before : Option Exchange) (s : List Sent) (g : DialogueFault) → AllSame [] s
+    → IsExchangeFault before s g → ⊥
+none_at_fault before [] g h q = q
+none_at_fault before (n ∷ ns) g h q = h
+
+turn_fault_no : (before past : Option Exchange) (ms ns : List Sent) (es fs : List Exchange) (s : List Sent)
+    (g : DialogueFault) → Agree before past → AllSame ms ns → AreInTurnAfter before ms es []
+    → AreInTurnAfter past ns fs s → IsExchangeFault (last_of past fs) s g → ⊥
+turn_fault_no before past ms ns [] [] s g agree h i j q =
+    none_at_fault past s g (subst (λ (ys : List Sent). AllSame [] ys) j (subst (λ (xs : List Sent). AllSame xs ns) i h)) q
+turn_fault_no before past ms ns [] (y ∷ fs) s g agree h i (u, c, j) q =
+    not_none past ns y u (subst (λ (xs : List Sent). AllSame xs ns) i h) c
+turn_fault_no before past ms ns (x ∷ es) [] s g agree h (t, b, i) j q =
+    no_front past before s ms g x t (agree_back before past agree)
+    (all_back ms s (subst (λ (ys : List Sent). AllSame ms ys) j h)) q b
+turn_fault_no before past ms ns (x ∷ es) (y ∷ fs) s g agree h (t, b, i) (u, c, j) q =
+    let same = one_front before past ms ns x y t u h b c in
+    turn_fault_no (Some x) (Some y) t u es fs s g same.answers same.rest i j q
 
 pub no_turn_at_fault : (ms ns : List Sent) (es : List Exchange) (g : DialogueFault) → AllSame ms ns
-    → AreInTurn ms es [] → IsTurnFault ns g → ⊥
-no_turn_at_fault ms ns es g h i (fs, s, j, q) = turn_fault_no ms ns es fs s g h i j q
+    → AreInTurnAfter None ms es [] → IsTurnFault ns g → ⊥
+no_turn_at_fault ms ns es g h i (fs, s, j, q) = turn_fault_no None None ms ns es fs s g tt h i j q
 
 -- no messages are refused so
 pub none_refused : (g : DialogueFault) → IsTurnFault [] g → ⊥

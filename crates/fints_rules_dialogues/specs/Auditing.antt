@@ -1,10 +1,11 @@
--- Which rules each message of the client breaks, after the message before it and the bank's answer to that.
-use Rattle.std.specs.Prelude.{◌≡◌, ℕ, List, [], ◌∷◌, Option, Some, None}
+-- Which rules each message of the client breaks, after the message before it in its dialogue and the bank's answer
+-- to that.
+use Rattle.std.specs.Prelude.{◌≡◌, ℕ, List, [], ◌∷◌, if◌then◌else◌, Option, Some, None}
 use Rattle.fints_rules.specs.declared.rule.Broken.{Broken}
 use Rattle.fints_rules.specs.Breaks.{IsJudged, IsJudgedAfter, Permitted, PermittedAfter}
 use Rattle.fints_rules_permissions.specs.Permits.{Granted}
 use Rattle.fints_rules_dialogues.specs.declared.auditing.Audited.{Audited}
-use Rattle.fints_rules_dialogues.specs.Dialogues.{AreInTurn}
+use Rattle.fints_rules_dialogues.specs.Dialogues.{AreInTurn, IsExchange}
 use Rattle.fints_rules_dialogues.specs.declared.cutting.Sent.{Sent}
 use Rattle.fints_rules_dialogues.specs.declared.reading.Answer.{Answer}
 use Rattle.fints_rules_dialogues.specs.declared.reading.Exchange.{Exchange}
@@ -13,25 +14,35 @@ abbrev pub codes_told : Option Answer → List ℕ
 codes_told None = []
 codes_told (Some a) = a.codes.items
 
--- these are the rules that the message breaks: the first by itself, another behind the exchange before it
-abbrev pub IsJudgedBehind : Granted → Option Exchange → List ℕ → List Broken → Type 0
-IsJudgedBehind granted None bytes broken = IsJudged granted bytes broken
-IsJudgedBehind granted (Some e) bytes broken =
+-- the exchange before this one in its dialogue, by the one before it in the file
+abbrev pub before_in : Option Exchange → Exchange → Option Exchange
+before_in before e = if e.begins then None else before
+
+-- these are the rules that the message breaks: the first of a dialogue by itself, another after the exchange before
+abbrev pub IsJudgedNext : Granted → Option Exchange → List ℕ → List Broken → Type 0
+IsJudgedNext granted None bytes broken = IsJudged granted bytes broken
+IsJudgedNext granted (Some e) bytes broken =
     IsJudgedAfter granted e.sent.bytes.now (codes_told e.answer) bytes broken
 
--- the same of the message of each exchange, of which the first stands behind that one
-abbrev pub AreJudgedBehind : Granted → Option Exchange → List Exchange → List Audited → Type 0
-AreJudgedBehind granted before [] audited = audited ≡ []
-AreJudgedBehind granted before (e ∷ es) [] = ⊥
-AreJudgedBehind granted before (e ∷ es) (a ∷ more) =
-    (a.sent ≡ e.sent) × IsJudgedBehind granted before e.sent.bytes.now a.broken.items
-    × AreJudgedBehind granted (Some e) es more
+-- the exchange is audited so: its message, whether it begins a dialogue, and the rules that it breaks
+pub record IsAuditedNext (granted : Granted) (before : Option Exchange) (e : Exchange) (a : Audited)
+    : Type 0 where
+  pub sent : a.sent ≡ e.sent
+  pub begins : a.begins ≡ e.begins
+  pub judged : IsJudgedNext granted (before_in before e) e.sent.bytes.now a.broken.items
 
--- the messages of a recorded dialogue, each with the rules that it breaks
+-- the same of each exchange, of which the first comes after that one
+abbrev pub AreAuditedAfter : Granted → Option Exchange → List Exchange → List Audited → Type 0
+AreAuditedAfter granted before [] audited = audited ≡ []
+AreAuditedAfter granted before (e ∷ es) [] = ⊥
+AreAuditedAfter granted before (e ∷ es) (a ∷ more) =
+    IsAuditedNext granted before e a × AreAuditedAfter granted (Some e) es more
+
+-- the messages of a recording, each with the rules that it breaks
 abbrev pub AreAudited : Granted → List Exchange → List Audited → Type 0
-AreAudited granted exchanges audited = AreJudgedBehind granted None exchanges audited
+AreAudited granted exchanges audited = AreAuditedAfter granted None exchanges audited
 
--- the bank permits the message: the first by itself, another after the exchange before it
+-- the bank permits the message: the first of a dialogue by itself, another after the exchange before
 abbrev pub IsPermittedNext : Granted → Option Exchange → List ℕ → Type 0
 IsPermittedNext granted None bytes = Permitted granted bytes
 IsPermittedNext granted (Some e) bytes = PermittedAfter granted e.sent.bytes.now (codes_told e.answer) bytes
@@ -40,13 +51,19 @@ IsPermittedNext granted (Some e) bytes = PermittedAfter granted e.sent.bytes.now
 abbrev pub ArePermittedNext : Granted → Option Exchange → List Exchange → Type 0
 ArePermittedNext granted before [] = Unit {0}
 ArePermittedNext granted before (e ∷ es) =
-    IsPermittedNext granted before e.sent.bytes.now × ArePermittedNext granted (Some e) es
+    IsPermittedNext granted (before_in before e) e.sent.bytes.now × ArePermittedNext granted (Some e) es
 
--- the bank permits each message of the client in a recorded dialogue, after those before it
+-- the bank permits each message of the client in a recording, after those before it in its dialogue
 abbrev pub ArePermitted : Granted → List Exchange → Type 0
 ArePermitted granted exchanges = ArePermittedNext granted None exchanges
 
--- the messages are those of a recorded dialogue, each of the client's with the rules that it breaks
+-- the messages are those of a recording, each of the client's with the rules that it breaks
 abbrev pub AreAuditedInTurn : Granted → List Sent → List Audited → Type 0
 AreAuditedInTurn granted messages audited =
     (exchanges : List Exchange) × AreInTurn messages exchanges [] × AreAudited granted exchanges audited
+
+-- ---- of private contracts and proofs only
+
+abbrev pub IsExchangeOrNone : Option Exchange → Type 0
+IsExchangeOrNone None = Unit {0}
+IsExchangeOrNone (Some e) = IsExchange e

@@ -1,9 +1,10 @@
--- What a recorded dialogue is: the messages of both sides as they were sent, with CR and LF before, between and
--- behind them; in turn, the client's first. Words of private contracts and proofs alone stand last, under a heading.
-use Rattle.std.specs.Prelude.{codes, ◌≡◌, ◌≢◌, ◌⊎◌, ℕ, ◌+◌, ◌<◌, ◌^◌, Bool, true, false, List, [], ◌∷◌, ◌++◌, length, Option, Some, None}
+-- What recorded dialogues are: the messages of both sides as they were sent, with CR and LF before, between and
+-- after them; in turn, the client's first. Last, under a heading, are the words of private contracts and proofs only.
+use Rattle.std.specs.Prelude.{codes, ◌≡◌, ◌≢◌, ◌⊎◌, ℕ, ◌+◌, ◌<◌, ◌^◌, ◌==◌, ◌&&◌, Bool, true, false, List, [], ◌∷◌, ◌++◌, length, Option, Some, None}
 use Rattle.std.specs.List.{AllByRecursion, list_any}
 use Rattle.std.specs.Str.{bytes_eq}
-use Rattle.fints_syntax_segments.specs.Number.{number_in}
+use Rattle.fints_syntax_segments.specs.Number.{number_in, number_of}
+use Rattle.fints_syntax_segments.specs.Values.{value_at}
 use Rattle.fints_syntax_segments.specs.declared.item.OwnedSegment.{OwnedSegment}
 use Rattle.fints_syntax.specs.Capture.{IsBreak}
 use Rattle.fints_params.specs.Captures.{IsCodesOf, IsCodeFault}
@@ -82,6 +83,32 @@ abbrev pub IsBankAnswer : Option Answer → Type 0
 IsBankAnswer None = Unit {0}
 IsBankAnswer (Some a) = IsFromBank a.sent.bytes.now a.codes.items
 
+-- ---- where a dialogue begins
+
+abbrev pub is_zero : Option ℕ → Bool
+is_zero None = false
+is_zero (Some n) = n == 0
+
+-- a message of the client with dialogue id 0 and number 1 opens a dialogue
+abbrev pub opens : MessageView → Bool
+opens m = is_zero (number_of (value_at m.first 4 1)) && m.number == 1
+
+-- the first message begins a dialogue, and so does each other one that opens one
+abbrev pub begins_after : Option Exchange → MessageView → Bool
+begins_after None m = true
+begins_after (Some before) m = opens m
+
+-- where the message before has no answer, its dialogue broke off: the next message opens another one
+abbrev pub may_follow_answer : Option Answer → MessageView → Bool
+may_follow_answer None m = opens m
+may_follow_answer (Some a) m = true
+
+abbrev pub may_follow : Option Exchange → MessageView → Bool
+may_follow None m = true
+may_follow (Some before) m = may_follow_answer before.answer m
+
+-- ---- exchanges
+
 -- a message of the client, and the bank's answer to it, if there is one
 abbrev pub IsExchange : Exchange → Type 0
 IsExchange e = IsFromClient e.sent.bytes.now × IsMessage e.sent.bytes.now e.message × IsBankAnswer e.answer
@@ -96,18 +123,31 @@ sent_in (Some a) = a.sent ∷ []
 abbrev pub sents_in : Exchange → List Sent
 sents_in e = e.sent ∷ sent_in e.answer
 
--- the messages begin with this exchange, and then there is the rest, but nothing behind one without an answer
-pub record BeginsWith (messages : List Sent) (e : Exchange) (rest : List Sent) : Type 0 where
+-- the first of the messages, if there is one, is no answer: it has no code
+abbrev pub NoneAnswers : List Sent → Type 0
+NoneAnswers [] = Unit {0}
+NoneAnswers (m ∷ ms) = IsCodesOf m.bytes.now []
+
+-- after that exchange, the messages begin with this one, and then there is the rest
+pub record BeginsWith (before : Option Exchange) (messages : List Sent) (e : Exchange) (rest : List Sent)
+    : Type 0 where
   pub exchange : IsExchange e
+  pub begins : e.begins ≡ begins_after before e.message
+  pub follows : may_follow before e.message ≡ true
   pub split : messages ≡ sents_in e ++ rest
-  pub last : e.answer ≡ None → rest ≡ []
+  pub unanswered : e.answer ≡ None → NoneAnswers rest
+
+-- after that exchange, they begin with these exchanges, and then there are more
+abbrev pub AreInTurnAfter : Option Exchange → List Sent → List Exchange → List Sent → Type 0
+AreInTurnAfter before messages [] more = messages ≡ more
+AreInTurnAfter before messages (e ∷ es) more =
+    (rest : List Sent) × BeginsWith before messages e rest × AreInTurnAfter (Some e) rest es more
 
 -- they begin with these exchanges, and then there are more
 abbrev pub AreInTurn : List Sent → List Exchange → List Sent → Type 0
-AreInTurn messages [] more = messages ≡ more
-AreInTurn messages (e ∷ es) more = (rest : List Sent) × BeginsWith messages e rest × AreInTurn rest es more
+AreInTurn messages exchanges more = AreInTurnAfter None messages exchanges more
 
--- the file is a recorded dialogue of these exchanges
+-- the file is a recording of these exchanges, of one dialogue or of several
 pub record IsDialogue (file : List ℕ) (exchanges : List Exchange) : Type 0 where
   pub messages : List Sent
   pub cut : IsCutFile file messages
@@ -130,41 +170,64 @@ IsFileFault file fault.NoMessage = AllByRecursion IsBreak file
 IsFileFault file (fault.NotAMessage offset) = CutStopsAt file offset
 IsFileFault file _ = ⊥
 
--- why a message isn't one of the client
-abbrev pub IsClientFault : Sent → DialogueFault → Type 0
-IsClientFault m (fault.NotAMessage offset) = (at : ℕ) × CeasesAt m.bytes.now at × (offset ≡ m.start + at)
-IsClientFault m (fault.NotInTurn offset) =
-    (held : MessageView) × IsMessage m.bytes.now held × (is_answer held ≡ true)
-    × (offset ≡ m.start)
-IsClientFault m _ = ⊥
+-- the bytes are a message of the client that may come after that exchange
+abbrev pub IsClientsNext : Option Exchange → List ℕ → MessageView → Type 0
+IsClientsNext before bytes m =
+    IsMessage bytes m × (is_answer m ≡ false) × (may_follow before m ≡ true)
 
--- why a message is no answer of the bank
-abbrev pub IsAnswerFault : Sent → DialogueFault → Type 0
-IsAnswerFault m (fault.Answer start f) = IsCodeFault m.bytes.now f × (start ≡ m.start)
-IsAnswerFault m (fault.NotInTurn offset) = IsCodesOf m.bytes.now [] × (offset ≡ m.start)
-IsAnswerFault m _ = ⊥
+-- they are an answer, or a message that can't come after that exchange
+abbrev pub IsOutOfTurn : Option Exchange → List ℕ → Type 0
+IsOutOfTurn before bytes =
+    (m : MessageView) × IsMessage bytes m × ((is_answer m ≡ true) ⊎ (may_follow before m ≡ false))
 
--- why the first of the messages, the client's, or the second, the bank's, is refused
-abbrev pub IsExchangeFault : List Sent → DialogueFault → Type 0
-IsExchangeFault [] f = ⊥
-IsExchangeFault (m ∷ []) f = IsClientFault m f
-IsExchangeFault (m ∷ a ∷ ms) f = IsClientFault m f ⊎ (IsFromClient m.bytes.now × IsAnswerFault a f)
+-- why a message isn't the client's next one
+abbrev pub IsClientFault : Option Exchange → Sent → DialogueFault → Type 0
+IsClientFault before m (fault.NotAMessage offset) = (at : ℕ) × CeasesAt m.bytes.now at × (offset ≡ m.start + at)
+IsClientFault before m (fault.NotInTurn offset) = IsOutOfTurn before m.bytes.now × (offset ≡ m.start)
+IsClientFault before m _ = ⊥
 
--- behind some exchanges a message is refused
+-- why the first of the messages after the client's can't be asked whether it is an answer
+abbrev pub IsAnswerFault : List Sent → DialogueFault → Type 0
+IsAnswerFault (m ∷ ms) (fault.Answer start f) = IsCodeFault m.bytes.now f × (start ≡ m.start)
+IsAnswerFault _ _ = ⊥
+
+-- after that exchange, why the first of the messages, the client's, or the one after it is refused
+abbrev pub IsExchangeFault : Option Exchange → List Sent → DialogueFault → Type 0
+IsExchangeFault before [] f = ⊥
+IsExchangeFault before (m ∷ ms) f =
+    IsClientFault before m f ⊎ ((held : MessageView) × IsClientsNext before m.bytes.now held × IsAnswerFault ms f)
+
+-- the last of the exchanges, or the one before them
+abbrev pub last_of : Option Exchange → List Exchange → Option Exchange
+last_of before [] = before
+last_of before (e ∷ es) = last_of (Some e) es
+
+-- after some exchanges a message is refused
 abbrev pub IsTurnFault : List Sent → DialogueFault → Type 0
 IsTurnFault messages f =
-    (front : List Exchange) × (rest : List Sent) × AreInTurn messages front rest × IsExchangeFault rest f
+    (front : List Exchange) × (rest : List Sent) × AreInTurn messages front rest
+    × IsExchangeFault (last_of None front) rest f
 
 -- the first refusal: of the file as a whole, or of its messages in their order
 abbrev pub IsDialogueFault : List ℕ → DialogueFault → Type 0
 IsDialogueFault file f =
     IsFileFault file f ⊎ ((messages : List Sent) × IsCutFile file messages × IsTurnFault messages f)
 
--- ---- of private contracts and proofs alone
+-- ---- of private contracts and proofs only
 
 -- each message ends where a machine's numbers still count
 abbrev pub EndsBelow : List Sent → Type 0
 EndsBelow messages = AllByRecursion (λ m. m.start + length m.bytes.now < 2 ^ 64) messages
 
-abbrev pub BeginsWithOne : List Sent → Exchange → Type 0
-BeginsWithOne messages e = (rest : List Sent) × BeginsWith messages e rest
+abbrev pub BeginsWithOne : Option Exchange → List Sent → Exchange → Type 0
+BeginsWithOne before messages e = (rest : List Sent) × BeginsWith before messages e rest
+
+-- the message is that answer, or it is none
+abbrev pub IsAnswerIn : Sent → Option Answer → Type 0
+IsAnswerIn m None = IsCodesOf m.bytes.now []
+IsAnswerIn m (Some a) = IsFromBank a.sent.bytes.now a.codes.items × (a.sent ≡ m)
+
+-- the same of the first of the messages, if there is one
+abbrev pub IsAnsweredBy : List Sent → Option Answer → Type 0
+IsAnsweredBy [] answer = answer ≡ None
+IsAnsweredBy (m ∷ ms) answer = IsAnswerIn m answer

@@ -1,5 +1,5 @@
 -- The laws of recorded dialogues. Each is the contract of a public function.
-use Rattle.std.specs.Prelude.{◌≡◌, ℕ, List, Option, Some, None, map}
+use Rattle.std.specs.Prelude.{◌≡◌, ℕ, Bool, List, Option, Some, None, map}
 use Rattle.fints_rules_messages.specs.Messages.{MessageView}
 use Rattle.fints_rules_dialogues.specs.declared.cutting.Sent.{Sent}
 use Rattle.fints_rules_dialogues.specs.declared.fault.DialogueFault.{DialogueFault}
@@ -19,11 +19,12 @@ abbrev pub answer_values : Option Answer → Option (ℕ × List ℕ × List ℕ
 answer_values None = None
 answer_values (Some a) = Some (a.sent.start, a.sent.bytes.now, a.codes.items)
 
--- where the message of an exchange stands, its bytes and what they are as a message, and the answer
-abbrev pub exchange_values : Exchange → ℕ × List ℕ × MessageView × Option (ℕ × List ℕ × List ℕ)
-exchange_values e = (e.sent.start, e.sent.bytes.now, e.message, answer_values e.answer)
+-- where the message of an exchange is, its bytes and what they are as a message, the answer, and whether it begins
+-- a dialogue
+abbrev pub exchange_values : Exchange → ℕ × List ℕ × MessageView × Option (ℕ × List ℕ × List ℕ) × Bool
+exchange_values e = (e.sent.start, e.sent.bytes.now, e.message, answer_values e.answer, e.begins)
 
--- a file is one dialogue at most: it has the same exchanges, at the same places
+-- a file is one recording at most: it has the same exchanges, at the same places
 abbrev pub OneDialogue : Type 0
 OneDialogue =
     (file : List ℕ) (a b : List Exchange) → IsDialogue file a → IsDialogue file b

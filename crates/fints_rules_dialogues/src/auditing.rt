@@ -1,7 +1,8 @@
-//! The rules that the messages of a recorded dialogue break.
-ghost use Rattle.std.specs.Prelude.{◌≡◌, IfOk, IfErr, IfSome, option_copied};
+//! The rules that the messages of a recording break.
+ghost use Rattle.std.specs.Prelude.{◌≡◌, IfOk, IfErr, option_copied};
+ghost use Rattle.std.specs.List.{AllByRecursion};
 ghost use Rattle.fints_rules_dialogues.specs.Dialogues.{IsExchange, IsMemoryOrRefusal, IsTurnFault};
-ghost use Rattle.fints_rules_dialogues.specs.Auditing.{codes_told, IsJudgedBehind, AreAuditedInTurn};
+ghost use Rattle.fints_rules_dialogues.specs.Auditing.{before_in, codes_told, AreAudited, AreAuditedInTurn, IsAuditedNext, IsExchangeOrNone, IsJudgedNext};
 
 use crate::cutting::Sent;
 use crate::fault::DialogueFault;
@@ -17,10 +18,12 @@ use std::alloc::Global;
 #[derive(Drop)]
 pub struct Audited<'a> {
     pub sent: Sent<'a>,
+    /// Whether it is the first of a dialogue.
+    pub begins: bool,
     pub broken: Vec<Broken>,
 }
 
-/// What looks on while a dialogue is audited. No contract says what it makes of it.
+/// What looks on while a recording is audited. No contract says what it makes of it.
 pub trait Observer: UnreadObserver {
     /// Looks at the next exchange, and at the rules that its message breaks under these permissions.
     fn observe(
@@ -50,17 +53,15 @@ fn codes_told<'e>(exchange: &'e Exchange<'_>) -> &'e [Code]
     }
 }
 
-// The rules that the message of an exchange breaks after the exchange before it.
-fn judge_behind(
+// The rules that the message of an exchange breaks after that one.
+fn judge_next(
     alloc: Global,
     permissions: &Permissions<'_>,
     before: Option<&Exchange<'_>>,
     exchange: &Exchange<'_>,
 ) -> Result<Vec<Broken>, Memory>
-    requires before { IfSome before (λ e. IsExchange e.now) }
-    requires exchange { IsExchange exchange.now }
-    ensures { IfOk result (λ broken. IsJudgedBehind permissions.now (option_copied before.entry)
-        exchange.now.sent.bytes.now broken.items) }
+    ensures { IfOk result (λ broken. IsExchangeOrNone (option_copied before.entry) → IsExchange exchange.now
+        → IsJudgedNext permissions.now (option_copied before.entry) exchange.now.sent.bytes.now broken.items) }
 {
     let message = &exchange.message;
     match before {
@@ -72,9 +73,40 @@ fn judge_behind(
     }
 }
 
-/// The rules that each message of the client breaks after the one before it and the bank's answer to
-/// that, in the order of the messages; P11 is judged within the dialogue. Each message is read once, and
-/// let go when the next one is judged. The refusal is that of `Recording::exchanges`.
+// The exchange before this one in its dialogue, by the one before it in the file.
+fn before_in<'b, 'e>(
+    before: Option<&'b Exchange<'e>>,
+    exchange: &Exchange<'_>,
+) -> Option<&'b Exchange<'e>>
+    ensures { option_copied result ≡ before_in (option_copied before.entry) exchange.now }
+{
+    if exchange.begins { None } else { before }
+}
+
+// The message of an exchange, with the rules that it breaks after the exchange before it in the file.
+fn audit_next<'a, O: Observer>(
+    alloc: Global,
+    permissions: &Permissions<'_>,
+    before: Option<&Exchange<'_>>,
+    exchange: &Exchange<'a>,
+    observer: &mut O,
+) -> Result<Audited<'a>, Memory>
+    ensures { IfOk result (λ audited. IsExchangeOrNone (option_copied before.entry) → IsExchange exchange.now
+        → IsAuditedNext permissions.now (option_copied before.entry) exchange.now audited) }
+{
+    let earlier = before_in(before, exchange);
+    let broken = judge_next(alloc, permissions, earlier, exchange)?;
+    observer.observe(permissions, exchange, broken.as_slice());
+    Ok(Audited {
+        sent: exchange.sent,
+        begins: exchange.begins,
+        broken,
+    })
+}
+
+/// The rules that each message of the client breaks after the one before it in its dialogue and the bank's
+/// answer to that, in the order of the messages; P11 is judged within each dialogue. Each message is read
+/// once, and let go when the next one is judged. The refusal is that of `Recording::exchanges`.
 pub fn audit<'a, O: Observer>(
     alloc: Global,
     permissions: &Permissions<'_>,
@@ -91,12 +123,31 @@ pub fn audit<'a, O: Observer>(
     let mut at = 0;
     while at < messages.len() {
         let (_, rest) = messages.split_at(at);
-        let exchange = read_exchange(alloc, rest, observer)?;
-        let broken = judge_behind(alloc, permissions, before.as_ref(), &exchange)?;
-        observer.observe(permissions, &exchange, broken.as_slice());
-        let sent = exchange.sent;
-        audited.push(Audited { sent, broken })?;
+        let earlier = before.as_ref();
+        let exchange = read_exchange(alloc, earlier, rest, observer)?;
+        let one = audit_next(alloc, permissions, earlier, &exchange, observer)?;
+        audited.push(one)?;
         at += message_count(&exchange);
+        before = Some(exchange);
+    }
+    Ok(audited)
+}
+
+/// The same of exchanges that are read.
+pub fn audit_exchanges<'a, O: Observer>(
+    alloc: Global,
+    permissions: &Permissions<'_>,
+    exchanges: &[Exchange<'a>],
+    observer: &mut O,
+) -> Result<Vec<Audited<'a>>, Memory>
+    ensures { IfOk result (λ audited. AllByRecursion IsExchange exchanges.now
+        → AreAudited permissions.now exchanges.now audited.items) }
+{
+    let mut audited = Vec::new(alloc);
+    let mut before: Option<&Exchange<'a>> = None;
+    for exchange in exchanges {
+        let one = audit_next(alloc, permissions, before, exchange, observer)?;
+        audited.push(one)?;
         before = Some(exchange);
     }
     Ok(audited)

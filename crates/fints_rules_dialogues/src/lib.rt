@@ -9,7 +9,7 @@ mod reading;
 mod recording;
 mod telling;
 
-pub use auditing::{Audited, Observer, audit};
+pub use auditing::{Audited, Observer, audit, audit_exchanges};
 pub use cutting::{Sent, cut};
 pub use fault::DialogueFault;
 pub use fints_rules_messages::{Unobserved, Unread, UnreadObserver};

@@ -1,9 +1,10 @@
 //! Exchanges: a message of the client with the bank's answer to it.
-ghost use Rattle.std.specs.Prelude.{◌≡◌, ◌<◌, ◌+◌, ◌^◌, length, IfOk, IfErr};
+ghost use Rattle.std.specs.Prelude.{◌≡◌, ◌<◌, ◌+◌, ◌^◌, ◌∷◌, [], length, IfOk, IfErr, option_copied};
 ghost use Rattle.std.specs.List.{list_any};
 ghost use Rattle.fints_syntax.specs.Owned.{segment_of};
-ghost use Rattle.fints_rules_messages.specs.Messages.{IsMessage};
-ghost use Rattle.fints_rules_dialogues.specs.Dialogues.{is_answer, is_hirmg, sents_in, IsFromClient, IsFromBank, IsClientFault, IsAnswerFault, IsExchangeFault, IsMemoryOrRefusal, EndsBelow, BeginsWithOne};
+ghost use Rattle.fints_syntax_segments.specs.Number.{number_of};
+ghost use Rattle.fints_syntax_segments.specs.Values.{value_at};
+ghost use Rattle.fints_rules_dialogues.specs.Dialogues.{begins_after, is_answer, is_hirmg, is_zero, may_follow, may_follow_answer, opens, sents_in, IsAnswerIn, IsAnsweredBy, IsClientsNext, IsClientFault, IsAnswerFault, IsExchangeFault, IsMemoryOrRefusal, EndsBelow, BeginsWithOne};
 
 use crate::cutting::Sent;
 use crate::fault::DialogueFault;
@@ -19,13 +20,15 @@ pub struct Answer<'a> {
     pub codes: Vec<Code>,
 }
 
-/// A message of the client, as it was sent and as it is read, and the bank's answer to it. Only the last
-/// message may have none.
+/// A message of the client, as it was sent and as it is read, and the bank's answer to it. The last
+/// message of a dialogue may have none.
 #[derive(Drop)]
 pub struct Exchange<'a> {
     pub sent: Sent<'a>,
     pub message: Message<'a>,
     pub answer: Option<Answer<'a>>,
+    /// Whether it is the first of a dialogue.
+    pub begins: bool,
 }
 
 fn is_hirmg(segment: &SegmentView<'_>) -> bool
@@ -47,21 +50,80 @@ pub fn is_answer(message: &Message<'_>) -> bool
     some_hirmg(message.body())
 }
 
+fn is_zero(number: Option<u32>) -> bool
+    ensures { result ≡ is_zero number }
+{
+    match number {
+        None => false,
+        Some(number) => number == 0,
+    }
+}
+
+// Whether the dialogue id in HNHBK is 0.
+fn has_no_id(first: &SegmentView<'_>) -> bool
+    ensures { result ≡ is_zero (number_of (value_at (segment_of first.now) 4 1)) }
+{
+    match first.item(4, 1) {
+        None => false,
+        Some(id) => is_zero(id.number()),
+    }
+}
+
+// Whether a message of the client opens a dialogue (FinTS 3.0, Formals, the initialisation of a dialogue).
+fn opens(message: &Message<'_>) -> bool
+    ensures { result ≡ opens message.now }
+{
+    has_no_id(message.first()) && message.number() == 1
+}
+
+// Whether the message begins a dialogue, where it comes after that exchange.
+fn begins_after(before: Option<&Exchange<'_>>, message: &Message<'_>) -> bool
+    ensures { result ≡ begins_after (option_copied before.entry) message.now }
+{
+    match before {
+        None => true,
+        Some(_) => opens(message),
+    }
+}
+
+fn may_follow_answer(answer: &Option<Answer<'_>>, message: &Message<'_>) -> bool
+    ensures { result ≡ may_follow_answer answer.now message.now }
+{
+    match answer {
+        None => opens(message),
+        Some(_) => true,
+    }
+}
+
+// Whether the message may come after that exchange.
+fn may_follow(before: Option<&Exchange<'_>>, message: &Message<'_>) -> bool
+    ensures { result ≡ may_follow (option_copied before.entry) message.now }
+{
+    match before {
+        None => true,
+        Some(earlier) => may_follow_answer(&earlier.answer, message),
+    }
+}
+
 // The message of the client that the sent one is.
 fn read_client<'a, O: UnreadObserver>(
     alloc: Global,
+    before: Option<&Exchange<'_>>,
     sent: &Sent<'a>,
     observer: &mut O,
 ) -> Result<Message<'a>, DialogueFault>
     requires { sent.now.start + length sent.now.bytes.now < 2 ^ 64 }
-    ensures message { IfOk result (λ m. IsMessage sent.now.bytes.now m) }
-    ensures client { IfOk result (λ _. IsFromClient sent.now.bytes.now) }
-    ensures refused { IfErr result (λ f. IsMemoryOrRefusal (IsClientFault sent.now) f) }
+    ensures client { IfOk result (λ m. IsClientsNext (option_copied before.entry) sent.now.bytes.now m) }
+    ensures refused { IfErr result
+        (λ f. IsMemoryOrRefusal (IsClientFault (option_copied before.entry) sent.now) f) }
 {
     let offset = sent.start;
     match read_message_with(alloc, sent.bytes, observer) {
         Ok(message) => {
             if is_answer(&message) {
+                return Err(DialogueFault::NotInTurn { offset });
+            }
+            if !may_follow(before, &message) {
                 return Err(DialogueFault::NotInTurn { offset });
             }
             Ok(message)
@@ -75,18 +137,17 @@ fn read_client<'a, O: UnreadObserver>(
     }
 }
 
-// The answer that the message is.
-fn read_answer<'a>(alloc: Global, sent: &Sent<'a>) -> Result<Answer<'a>, DialogueFault>
-    ensures answer { IfOk result (λ a. IsFromBank a.sent.bytes.now a.codes.items) }
-    ensures sent { IfOk result (λ a. a.sent ≡ sent.now) }
-    ensures refused { IfErr result (λ f. IsMemoryOrRefusal (IsAnswerFault sent.now) f) }
+// The answer that the message is. It is none where it has no code.
+fn read_answer<'a>(alloc: Global, sent: &Sent<'a>) -> Result<Option<Answer<'a>>, DialogueFault>
+    ensures answer { IfOk result (λ answer. IsAnswerIn sent.now answer) }
+    ensures refused { IfErr result (λ f. IsMemoryOrRefusal (IsAnswerFault (sent.now ∷ [])) f) }
 {
     match feedback_codes(alloc, sent.bytes) {
         Ok(codes) => {
             if codes.is_empty() {
-                return Err(DialogueFault::NotInTurn { offset: sent.start });
+                return Ok(None);
             }
-            Ok(Answer { sent: *sent, codes })
+            Ok(Some(Answer { sent: *sent, codes }))
         }
         Err(fault) => match fault {
             ParamFault::Memory => Err(DialogueFault::Memory),
@@ -98,31 +159,44 @@ fn read_answer<'a>(alloc: Global, sent: &Sent<'a>) -> Result<Answer<'a>, Dialogu
     }
 }
 
-/// The exchange at the front of the messages. Where the client's is none, the observer sees why.
+// The answer that the first of the messages is, if there is one.
+fn next_answer<'a>(
+    alloc: Global,
+    messages: &[Sent<'a>],
+) -> Result<Option<Answer<'a>>, DialogueFault>
+    ensures answer { IfOk result (λ answer. IsAnsweredBy messages.now answer) }
+    ensures refused { IfErr result (λ f. IsMemoryOrRefusal (IsAnswerFault messages.now) f) }
+{
+    match messages.first() {
+        None => Ok(None),
+        Some(next) => read_answer(alloc, next),
+    }
+}
+
+/// After that exchange, the exchange at the front of the messages. Where the client's is no message, the
+/// observer sees why.
 pub fn read_exchange<'a, O: UnreadObserver>(
     alloc: Global,
+    before: Option<&Exchange<'_>>,
     messages: &[Sent<'a>],
     observer: &mut O,
 ) -> Result<Exchange<'a>, DialogueFault>
     requires some { 0 < length messages.now }
     requires below { EndsBelow messages.now }
-    ensures exchange { IfOk result (λ e. BeginsWithOne messages.now e) }
-    ensures refused { IfErr result (λ f. IsMemoryOrRefusal (IsExchangeFault messages.now) f) }
+    ensures exchange { IfOk result (λ e. BeginsWithOne (option_copied before.entry) messages.now e) }
+    ensures refused { IfErr result
+        (λ f. IsMemoryOrRefusal (IsExchangeFault (option_copied before.entry) messages.now) f) }
 {
     let sent = messages[0];
-    let message = read_client(alloc, &sent, observer)?;
-    if messages.len() == 1 {
-        return Ok(Exchange {
-            sent,
-            message,
-            answer: None,
-        });
-    }
-    let answer = read_answer(alloc, &messages[1])?;
+    let message = read_client(alloc, before, &sent, observer)?;
+    let (_, rest) = messages.split_at(1);
+    let answer = next_answer(alloc, rest)?;
+    let begins = begins_after(before, &message);
     Ok(Exchange {
         sent,
         message,
-        answer: Some(answer),
+        answer,
+        begins,
     })
 }
 

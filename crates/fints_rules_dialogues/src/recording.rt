@@ -50,10 +50,12 @@ impl<'a> Recording<'a> {
         self.messages.as_slice()
     }
 
-    /// The exchanges: the 1st, 3rd, .. message is the client's, and the 2nd, 4th, .. the bank's. The
-    /// refusal is the first, message by message: one of the client that is none or has a HIRMG, one of
-    /// the bank whose feedback is refused or has no code (FinTS 3.0, Formals, messages and feedback).
-    /// Where one of the client is none, the observer sees why.
+    /// The exchanges: the first message is the client's, and then they come in turn; what has a feedback
+    /// code is the bank's answer. An answer may be missing where the recording ends, and where the next
+    /// message opens another dialogue: it has dialogue id 0 and number 1. The refusal is the first, message
+    /// by message: one of the client that is none, that has a HIRMG, or that comes where an answer is due;
+    /// one of the bank whose feedback is refused (FinTS 3.0, Formals, messages and feedback). Where one of
+    /// the client is none, the observer sees why.
     pub fn exchanges<O: UnreadObserver>(
         &self,
         alloc: Global,
@@ -67,7 +69,7 @@ impl<'a> Recording<'a> {
         let mut at = 0;
         while at < messages.len() {
             let (_, rest) = messages.split_at(at);
-            let exchange = read_exchange(alloc, rest, observer)?;
+            let exchange = read_exchange(alloc, exchanges.last(), rest, observer)?;
             at += message_count(&exchange);
             exchanges.push(exchange)?;
         }
@@ -75,8 +77,8 @@ impl<'a> Recording<'a> {
     }
 }
 
-/// The exchanges of a recorded dialogue. The refusal is the first, in this order: of the file as a whole,
-/// then message by message. Where a message of the client is none, the observer sees why.
+/// The exchanges of a recording, of one dialogue or of several. The refusal is the first, in this order: of
+/// the file as a whole, then message by message. Where a message of the client is none, the observer sees why.
 pub fn read_dialogue_with<'a, O: UnreadObserver>(
     alloc: Global,
     file: &'a [u8],
@@ -90,7 +92,7 @@ pub fn read_dialogue_with<'a, O: UnreadObserver>(
     recording.exchanges(alloc, observer)
 }
 
-/// The exchanges of a recorded dialogue, with the same refusals.
+/// The exchanges of a recording, with the same refusals.
 pub fn read_dialogue(alloc: Global, file: &[u8]) -> Result<Vec<Exchange<'_>>, DialogueFault>
     ensures dialogue { IfOk result (λ v. IsDialogue file.now v.items) }
     ensures each { IfOk result (λ v. AllByRecursion IsExchange v.items) }

@@ -1,8 +1,8 @@
 //! Recorded dialogues.
 use fints_rules::{Broken, OrderTable, Permissions};
 use fints_rules_dialogues::{
-    DialogueFault, Exchange, Observer, Recording, Unread, UnreadObserver, audit, own_params,
-    read_dialogue, read_dialogue_with,
+    DialogueFault, Exchange, Observer, Recording, Unread, UnreadObserver, audit, audit_exchanges,
+    is_answer, own_params, read_dialogue, read_dialogue_with,
 };
 use fints_samples::T;
 use std::test::Fail;
@@ -43,7 +43,8 @@ impl Observer for Counter {
 #[test]
 fn audited(rt: HostRuntime) -> Result<(), Fail> {
     let recording = Recording::cut(rt.alloc(), DIALOGUE)?;
-    let params = own_params(rt.alloc(), &recording)?;
+    let exchanges = read_dialogue(rt.alloc(), DIALOGUE)?;
+    let params = own_params(rt.alloc(), exchanges.as_slice())?;
     let orders = OrderTable::read(rt.alloc(), T)?;
     let permissions = Permissions::build(rt.alloc(), &params, &orders)?;
     let mut seen = NOTHING_SEEN;
@@ -51,11 +52,47 @@ fn audited(rt: HostRuntime) -> Result<(), Fail> {
     assert_eq!(rt; audited.len(), 1);
     for one in audited.iter() {
         assert!(rt; (one.sent.start, one.sent.bytes.len()) == (0, 55));
-        assert!(rt; one.broken.is_empty());
+        assert!(rt; one.begins && one.broken.is_empty());
     }
     assert_eq!(rt; seen.exchanges, 1);
     assert!(rt; seen.offset.is_none());
     Ok(())
+}
+
+// A message that begins a dialogue and has no answer, and one that begins another.
+const BROKEN_OFF: &[u8] =
+    b"HNHBK:1:3+000000000055+300+0+1'HKEND:2:1+0'HNHBS:3:1+1'HNHBK:1:3+000000000055+300+0+1'HKEND:2:1+0'HNHBS:3:1+1'";
+
+#[test]
+fn two_dialogues(rt: HostRuntime) -> Result<(), Fail> {
+    let with_params = read_dialogue(rt.alloc(), DIALOGUE)?;
+    let params = own_params(rt.alloc(), with_params.as_slice())?;
+    let orders = OrderTable::read(rt.alloc(), T)?;
+    let permissions = Permissions::build(rt.alloc(), &params, &orders)?;
+    let exchanges = read_dialogue(rt.alloc(), BROKEN_OFF)?;
+    assert_eq!(rt; exchanges.len(), 2);
+    for exchange in exchanges.iter() {
+        assert!(rt; exchange.begins && exchange.answer.is_none());
+        assert!(rt; !is_answer(&exchange.message));
+    }
+    let mut seen = NOTHING_SEEN;
+    let audited = audit_exchanges(rt.alloc(), &permissions, exchanges.as_slice(), &mut seen)?;
+    assert_eq!(rt; audited.len(), 2);
+    for one in audited.iter() {
+        assert!(rt; one.begins && one.broken.is_empty());
+    }
+    assert_eq!(rt; seen.exchanges, 2);
+    Ok(())
+}
+
+// The second message has number 2, so it opens no dialogue.
+const UNANSWERED: &[u8] =
+    b"HNHBK:1:3+000000000055+300+0+1'HKEND:2:1+0'HNHBS:3:1+1'HNHBK:1:3+000000000055+300+0+2'HKEND:2:1+0'HNHBS:3:1+2'";
+
+#[test]
+fn an_answer_is_missing(rt: HostRuntime) {
+    let fault = read_dialogue(rt.alloc(), UNANSWERED).err();
+    assert_eq!(rt; fault, Some(DialogueFault::NotInTurn { offset: 55 }));
 }
 
 #[test]

@@ -1,17 +1,24 @@
-use Rattle.std.proofs.Common.{refl, subst}
-use Rattle.fints_rules_dialogues.specs.declared.auditing.Audited.{Audited}
-use Rattle.fints_rules_dialogues.specs.Dialogues.{BeginsWithOne}
-use Rattle.fints_rules_dialogues.specs.Auditing.{IsJudgedBehind}
+use Rattle.std.proofs.Common.{List, Option, drop, subst}
+use Rattle.std.specs.Prelude.{option_copied}
+use Rattle.fints_rules_dialogues.specs.declared.cutting.Sent.{Sent}
+use Rattle.fints_rules_dialogues.specs.declared.reading.Exchange.{Exchange}
+use Rattle.fints_rules_dialogues.specs.Auditing.{IsAuditedNext, IsExchangeOrNone}
+use Rattle.fints_rules_dialogues.specs.Dialogues.{BeginsWithOne, IsExchange}
 use Rattle.fints_rules_dialogues.proofs.Audits.{one_audited}
 use Rattle.fints_rules_dialogues.proofs.auditing.audit.Goals as goal
 
 pub loop-at-preserved : goal.loop-at-preserved
 loop-at-preserved g c =
     let e = c.in_ok-exchange.exchange in
-    let a : Audited = record { sent = e.sent; broken = c.in_ok-broken.broken } in
+    let a = c.in_ok-one.one in
+    let granted = c.args.permissions.now in
+    let messages = c.messages-messages.result.now in
+    let same = c.as_ref-earlier.ensures.value in
+    let begins : BeginsWithOne (option_copied c.as_ref-earlier.result) (drop c.loop-at.at messages) e =
+    subst (λ (xs : List Sent). BeginsWithOne (option_copied c.as_ref-earlier.result) xs e) c.split_at.ensures.back
+    c.in_ok-exchange.ensures.exchange in
     rw (c.in_ok-push.ensures.items, c.message_count-at.ensures)
-    (one_audited c.args.permissions.now _ c.loop-at.at c.loop-at.before c.loop-at.audited.items e a
-    c.loop-at.invariant (subst (λ xs. BeginsWithOne xs e) c.split_at.ensures.back c.in_ok-exchange.ensures.exchange)
-    refl
-    (subst (λ b. IsJudgedBehind c.args.permissions.now b e.sent.bytes.now c.in_ok-broken.broken.items)
-    c.as_ref.ensures.value c.in_ok-broken.ensures))
+    (one_audited granted messages c.loop-at.at c.loop-at.before c.loop-at.audited.items e a c.loop-at.invariant
+    (subst (λ (b : Option Exchange). BeginsWithOne b (drop c.loop-at.at messages) e) same begins)
+    (subst (λ (b : Option Exchange). IsExchangeOrNone b → IsExchange e → IsAuditedNext granted b e a) same
+    c.in_ok-one.ensures))

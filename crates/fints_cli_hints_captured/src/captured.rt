@@ -1,0 +1,266 @@
+//! What a capture says beside its rows, as far as notes ask for it.
+use crate::days::day_of;
+use crate::formats::{Format, format_in};
+use crate::procedures::{Procedure, add_procedures};
+use fints_cli_hints_segments::data_of;
+use fints_syntax::{Kind, Memory, OwnedSegment, Placed, parse_number, parse_placed};
+use std::alloc::Global;
+
+/// The lengths of element 5 of the one HIPINS; 0 where one isn't given.
+#[derive(Clone, Copy)]
+pub struct Lengths {
+    pub least_pin: u32,
+    pub most_pin: u32,
+    pub most_tan: u32,
+}
+
+/// For how many days a parameter segment says that a bank keeps turnover.
+#[derive(Clone, Copy)]
+pub struct Kept {
+    pub kind: Kind,
+    pub version: u16,
+    pub days: u32,
+}
+
+/// What a capture says of TAN procedures, of the lengths of PIN and TAN, of formats and of days.
+#[derive(Drop)]
+pub struct Captured {
+    /// Whether each HITANS can be read.
+    pub readable: bool,
+    pub procedures: Vec<Procedure>,
+    /// Whether there is a HITANS, and each is of version 6 or 7 and lets no TAN go with its order.
+    pub two_steps: bool,
+    /// The functions that the last feedback 3920 allows the user; none where there is no such list.
+    pub allowed: Vec<u32>,
+    pub lengths: Option<Lengths>,
+    /// The formats of each HISPAS and of each other parameter segment, by its kind.
+    pub formats: Vec<(Kind, Format)>,
+    pub kept: Vec<Kept>,
+    // How many HIPINS version 1 there are.
+    pins: usize,
+}
+
+// The functions that an element of feedback allows the user (code 3920): its items from 4 on.
+fn add_allowed(allowed: &mut Vec<u32>, segment: &OwnedSegment) -> Result<(), Memory> {
+    for element in 2..segment.elements.len().saturating_add(2) {
+        let items = segment.items(element);
+        if items.value(1) == b"3920".as_slice() {
+            allowed.clear();
+            for item in 4..items.len().saturating_add(1) {
+                if let Some(function) = parse_number(items.value(item)) {
+                    allowed.push(function)?;
+                }
+            }
+        }
+    }
+    Ok(())
+}
+
+fn lengths_of(segment: &OwnedSegment) -> Lengths {
+    let number = |item: usize| parse_number(segment.items(5).value(item.max(1))).unwrap_or(0);
+    Lengths {
+        least_pin: number(1),
+        most_pin: number(2),
+        most_tan: number(3),
+    }
+}
+
+// How long turnover is kept, of the parameter segments that say it.
+fn kept_of(segment: &OwnedSegment) -> Option<Kept> {
+    let version = segment.head.version;
+    let element = if segment.is_named(b"HIKAZS", 5) {
+        4
+    } else if segment.is_named(b"HIKAZS", 6)
+        || segment.is_named(b"HIKAZS", 7)
+        || segment.is_named(b"HICAZS", 1)
+    {
+        5
+    } else {
+        return None;
+    };
+    Some(Kept {
+        kind: segment.head.id,
+        version,
+        days: parse_number(segment.value(element, 1))?,
+    })
+}
+
+// Whether it is the kind of a parameter segment: HIxxxS.
+fn is_parameter(kind: Kind) -> bool {
+    let id = kind.as_bytes();
+    id.len() == 6 && id.starts_with(b"HI") && id.ends_with(b"S")
+}
+
+fn add_formats(formats: &mut Vec<(Kind, Format)>, segment: &OwnedSegment) -> Result<(), Memory> {
+    let kind = segment.head.id;
+    for element in 2..segment.elements.len().saturating_add(2) {
+        let items = segment.items(element);
+        for item in 1..items.len().saturating_add(1) {
+            if let Some(format) = format_in(items.value(item)) {
+                formats.push((kind, format))?;
+            }
+        }
+    }
+    Ok(())
+}
+
+impl Captured {
+    fn nothing(alloc: Global) -> Captured {
+        Captured {
+            readable: true,
+            procedures: Vec::new(alloc),
+            two_steps: true,
+            allowed: Vec::new(alloc),
+            lengths: None,
+            formats: Vec::new(alloc),
+            kept: Vec::new(alloc),
+            pins: 0,
+        }
+    }
+
+    fn add_tans(&mut self, segment: &OwnedSegment) -> Result<(), Memory> {
+        let version = segment.head.version;
+        let is_late = version == 6 || version == 7;
+        if !is_late || segment.value(5, 1) != b"N".as_slice() {
+            self.two_steps = false;
+        }
+        if !add_procedures(&mut self.procedures, segment)? {
+            self.readable = false;
+        }
+        Ok(())
+    }
+
+    fn add(&mut self, segment: &OwnedSegment) -> Result<(), Memory> {
+        let id = segment.head.id;
+        if id.is(b"HITANS") {
+            return self.add_tans(segment);
+        }
+        if id.is(b"HIRMS") {
+            return add_allowed(&mut self.allowed, segment);
+        }
+        if segment.is_named(b"HIPINS", 1) {
+            self.pins = self.pins.saturating_add(1);
+            self.lengths = Some(lengths_of(segment));
+        }
+        if let Some(kept) = kept_of(segment) {
+            self.kept.push(kept)?;
+        }
+        add_formats(&mut self.formats, segment)
+    }
+
+    fn add_placed(&mut self, alloc: Global, placed: &Placed<'_>) -> Result<(), Memory> {
+        let kind = placed.segment.id();
+        if is_parameter(kind) || kind.is(b"HIRMS") {
+            self.add(&placed.segment.to_owned(alloc)?)?;
+        }
+        Ok(())
+    }
+
+    // Adds the segments of the data of an HNVSD.
+    fn add_data(&mut self, alloc: Global, data: &[u8]) -> Result<(), Memory> {
+        if let Ok(inner) = parse_placed(alloc, data) {
+            for placed in inner.iter() {
+                self.add_placed(alloc, placed)?;
+            }
+        }
+        Ok(())
+    }
+
+    fn add_outer(&mut self, alloc: Global, placed: &Placed<'_>) -> Result<(), Memory> {
+        match data_of(placed) {
+            Some(data) => self.add_data(alloc, data.bytes),
+            None => self.add_placed(alloc, placed),
+        }
+    }
+
+    /// What the capture says.
+    pub fn of(alloc: Global, capture: &[u8]) -> Result<Captured, Memory> {
+        let mut captured = Captured::nothing(alloc);
+        if let Ok(outer) = parse_placed(alloc, capture) {
+            for placed in outer.iter() {
+                captured.add_outer(alloc, placed)?;
+            }
+        }
+        if captured.pins != 1 {
+            captured.lengths = None;
+        }
+        if captured.procedures.is_empty() {
+            captured.two_steps = false;
+        }
+        Ok(captured)
+    }
+
+    /// Whether a procedure is listed.
+    pub fn lists(&self, function: u32) -> bool {
+        self.procedures.iter().any(|it| it.function == function)
+    }
+
+    /// For how many days the bank keeps turnover, the most that a parameter segment of this kind and version
+    /// says. None where none says it, or one says 0, which is no limit.
+    pub fn days(&self, id: &[u8], version: u16) -> Option<u32> {
+        let mut most = None;
+        for kept in self.kept.iter() {
+            if kept.kind.is(id) && kept.version == version {
+                if kept.days == 0 {
+                    return None;
+                }
+                most = most.max(Some(kept.days));
+            }
+        }
+        most
+    }
+}
+
+/// How many days a date is before another, both in eight digits.
+pub fn days_between(from: &[u8], to: &[u8]) -> Option<u32> {
+    day_of(to)?.checked_sub(day_of(from)?)
+}
+
+/// What an answer of the bank says that later messages of its dialogue must fit.
+#[derive(Drop)]
+pub struct Said {
+    /// The functions that its feedback 3920 allows the user.
+    pub allowed: Vec<u32>,
+    /// Its HITAN of versions 6 and 7, which give order references.
+    pub references: Vec<OwnedSegment>,
+}
+
+impl Said {
+    fn add_placed(&mut self, alloc: Global, placed: &Placed<'_>) -> Result<(), Memory> {
+        let kind = placed.segment.id();
+        if kind.is(b"HIRMS") {
+            add_allowed(&mut self.allowed, &placed.segment.to_owned(alloc)?)?;
+        }
+        let version = placed.segment.version();
+        if kind.is(b"HITAN") && (version == 6 || version == 7) {
+            self.references.push(placed.segment.to_owned(alloc)?)?;
+        }
+        Ok(())
+    }
+
+    fn add_data(&mut self, alloc: Global, data: &[u8]) -> Result<(), Memory> {
+        if let Ok(inner) = parse_placed(alloc, data) {
+            for placed in inner.iter() {
+                self.add_placed(alloc, placed)?;
+            }
+        }
+        Ok(())
+    }
+}
+
+/// What an answer says.
+pub fn said_in(alloc: Global, answer: &[u8]) -> Result<Said, Memory> {
+    let mut said = Said {
+        allowed: Vec::new(alloc),
+        references: Vec::new(alloc),
+    };
+    if let Ok(outer) = parse_placed(alloc, answer) {
+        for placed in outer.iter() {
+            match data_of(placed) {
+                Some(data) => said.add_data(alloc, data.bytes)?,
+                None => said.add_placed(alloc, placed)?,
+            }
+        }
+    }
+    Ok(said)
+}

@@ -1,0 +1,37 @@
+//! Dates as days, to tell how far two of them are apart.
+
+// The days before a month of a year that begins with March.
+fn days_before(month: u32) -> u32 {
+    (153 * month + 2) / 5
+}
+
+// The number that some digits spell; none for another byte.
+fn spelled(digits: &[u8]) -> Option<u32> {
+    let mut number: u32 = 0;
+    for digit in digits {
+        if !digit.is_ascii_digit() {
+            return None;
+        }
+        number = number
+            .saturating_mul(10)
+            .saturating_add(u32::from(digit.saturating_sub(b'0')));
+    }
+    Some(number)
+}
+
+/// The days from the first of March of the year 0 to a date, which is eight digits: year, month and day.
+/// None for another text, and for a month or a day that there isn't.
+pub fn day_of(date: &[u8]) -> Option<u32> {
+    if date.len() != 8 {
+        return None;
+    }
+    let year = spelled(date.get(..4)?)?;
+    let month = spelled(date.get(4..6)?)?;
+    let day = spelled(date.get(6..)?)?;
+    if !(1..=9999).contains(&year) || !(1..=12).contains(&month) || !(1..=31).contains(&day) {
+        return None;
+    }
+    let from_march = (month + 9) % 12;
+    let years = if month < 3 { year - 1 } else { year };
+    Some(365 * years + years / 4 - years / 100 + years / 400 + days_before(from_march) + day - 1)
+}

@@ -1,0 +1,16 @@
+//! Notes: what a capture says against a message, and no rule asks for. A false note is worse than none, so
+//! each is silent where a segment isn't as FinTS 3.0 describes it.
+#![tactic(auto)]
+
+mod captured;
+mod days;
+mod formats;
+mod lists;
+mod notes;
+mod noting;
+mod procedures;
+mod signed;
+
+pub use captured::{Captured, Said, said_in};
+pub use notes::{Noted, Notes};
+pub use noting::{Basis, add_captured_notes};

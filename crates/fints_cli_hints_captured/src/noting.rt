@@ -1,0 +1,355 @@
+//! Which notes there are on a message, by what a capture says.
+use crate::captured::{Captured, days_between};
+use crate::formats::{Format, format_element, format_in};
+use crate::notes::{Note, Notes};
+use crate::procedures::Procedure;
+use crate::signed::{date_of, first_of, function_of, has};
+use fints_rules::{Message, Permissions};
+use fints_syntax::{Kind, Memory, OwnedSegment};
+use std::alloc::Global;
+
+// The function that asks for no TAN procedure: one step.
+const ONE_STEP: u32 = 999;
+
+// ---- the procedure
+
+// The functions that are listed, in order and each once.
+fn functions_of(alloc: Global, procedures: &[Procedure]) -> Result<Vec<u32>, Memory> {
+    let mut functions = Vec::new(alloc);
+    for procedure in procedures {
+        functions.push(procedure.function)?;
+    }
+    functions.sort_unstable();
+    functions.dedup();
+    Ok(functions)
+}
+
+// That the procedure isn't listed, or not allowed to the user.
+fn add_function(
+    notes: &mut Notes<'_>,
+    captured: &Captured,
+    allowed: &[u32],
+    function: u32,
+) -> Result<(), Memory> {
+    if function == ONE_STEP || captured.procedures.is_empty() {
+        return Ok(());
+    }
+    if !captured.lists(function) {
+        let listed = functions_of(notes.alloc, captured.procedures.as_slice())?;
+        return notes.add(Note::Unlisted(function, listed.as_slice()));
+    }
+    if !allowed.is_empty() && !allowed.contains(&function) {
+        return notes.add(Note::NotAllowed(function, allowed));
+    }
+    Ok(())
+}
+
+// That an order demands a TAN, and goes in one step where the bank takes none so.
+fn add_one_step(
+    notes: &mut Notes<'_>,
+    captured: &Captured,
+    permissions: &Permissions<'_>,
+    message: &Message<'_>,
+) -> Result<(), Memory> {
+    if !captured.two_steps {
+        return Ok(());
+    }
+    match message
+        .body()
+        .iter()
+        .find(|it| permissions.is_demanding(it.id()))
+    {
+        Some(order) => notes.add(Note::OneStep(order.id())),
+        None => Ok(()),
+    }
+}
+
+// The version of a HITANS that lists the procedure; 0 where none does.
+fn version_of(captured: &Captured, function: u32) -> u16 {
+    let mut version = 0;
+    for procedure in captured.procedures.iter() {
+        if procedure.function == function {
+            version = version.max(procedure.version);
+        }
+    }
+    version
+}
+
+// That an initialisation has no HKTAN, where the procedure is one of HITANS 6 or later only.
+fn add_initialisation(
+    notes: &mut Notes<'_>,
+    captured: &Captured,
+    message: &Message<'_>,
+    function: u32,
+) -> Result<(), Memory> {
+    let is_initialisation =
+        has(message, b"HKIDN") && has(message, b"HKVVB") && !has(message, b"HKSYN");
+    let is_late = captured
+        .procedures
+        .iter()
+        .all(|it| it.function != function || it.version >= 6);
+    if is_initialisation && is_late && captured.lists(function) {
+        return notes.add(Note::NoTanOrder(version_of(captured, function), function));
+    }
+    Ok(())
+}
+
+// ---- HKTAN
+
+// The kind of the first segment of the body that is no HKTAN.
+fn other_kind(message: &Message<'_>) -> Option<Kind> {
+    let other = message.body().iter().find(|it| !it.id().is(b"HKTAN"))?;
+    Some(other.id())
+}
+
+// That element 3 names an order that the message doesn't hold.
+fn add_named(
+    notes: &mut Notes<'_>,
+    message: &Message<'_>,
+    order: &OwnedSegment,
+) -> Result<(), Memory> {
+    let (Some(named), Some(held)) = (Kind::parse(order.value(3, 1)), other_kind(message)) else {
+        return Ok(());
+    };
+    let is_order = named.as_bytes().starts_with(b"HK") || named.as_bytes().starts_with(b"DK");
+    let is_checked = has(message, b"HKVPP") || has(message, b"HKVPA");
+    if is_order && !is_checked && !has(message, named.as_bytes()) {
+        return notes.add(Note::OtherKind(named, held));
+    }
+    Ok(())
+}
+
+// That the TAN medium is missing, where the one procedure of that version demands it.
+fn add_medium(
+    notes: &mut Notes<'_>,
+    captured: &Captured,
+    message: &Message<'_>,
+    order: &OwnedSegment,
+    function: u32,
+) -> Result<(), Memory> {
+    let version = order.head.version;
+    let same = |it: &&Procedure| it.function == function && it.version == version;
+    let count = captured.procedures.iter().filter(same).count();
+    let needed = captured
+        .procedures
+        .iter()
+        .any(|it| it.function == function && it.version == version && it.needs_medium);
+    if count == 1 && needed && order.value(12, 1).is_empty() && !has(message, b"HKIDN") {
+        return notes.add(Note::NoMedium(version, function));
+    }
+    Ok(())
+}
+
+// What is wrong with the first HKTAN of the message.
+fn add_tan_order(
+    notes: &mut Notes<'_>,
+    captured: &Captured,
+    message: &Message<'_>,
+    order: &OwnedSegment,
+    function: u32,
+) -> Result<(), Memory> {
+    let version = order.head.version;
+    let of_version = captured
+        .procedures
+        .iter()
+        .any(|it| it.function == function && it.version == version);
+    if captured.readable && captured.lists(function) && !of_version {
+        let listed = version_of(captured, function);
+        notes.add(Note::OtherVersion(version, function, listed))?;
+    }
+    let is_late = version == 6 || version == 7;
+    if is_late && order.value(2, 1) == b"4".as_slice() {
+        add_named(notes, message, order)?;
+        if captured.readable {
+            add_medium(notes, captured, message, order, function)?;
+        }
+    }
+    Ok(())
+}
+
+// ---- orders
+
+// Whether a format is one of a parameter segment of this kind.
+fn lists_format(captured: &Captured, parameter: &[u8], format: Format) -> bool {
+    captured
+        .formats
+        .iter()
+        .any(|it| it.0.is(parameter) && it.1 == format)
+}
+
+// That the format of a SEPA order is listed nowhere, and others are.
+fn add_format(
+    notes: &mut Notes<'_>,
+    captured: &Captured,
+    order: &OwnedSegment,
+) -> Result<(), Memory> {
+    let Some(element) = format_element(order) else {
+        return Ok(());
+    };
+    let Some(format) = format_in(order.value(element.max(2), 1)) else {
+        return Ok(());
+    };
+    let Some(listed) = captured.formats.iter().find(|it| it.0.is(b"HISPAS")) else {
+        return Ok(());
+    };
+    let kind = order.head.id;
+    let own = parameter_of(kind);
+    if lists_format(captured, b"HISPAS", format) || lists_format(captured, &own, format) {
+        return Ok(());
+    }
+    notes.add(Note::OtherFormat(kind, format, listed.1))
+}
+
+// The identifier of the parameter segment of an order of five characters.
+fn parameter_of(kind: Kind) -> [u8; 6] {
+    let mut parameter = *b"HI...S";
+    for (i, byte) in kind.as_bytes().iter().enumerate().skip(2).take(3) {
+        if let Some(place) = parameter.get_mut(i) {
+            *place = *byte;
+        }
+    }
+    parameter
+}
+
+// The element of an order for turnover that has its first day, and the kind of its parameter segment.
+fn first_day_of(order: &OwnedSegment) -> Option<(usize, &'static [u8])> {
+    let version = order.head.version;
+    if order.head.id.is(b"HKKAZ") && (5..=7).contains(&version) {
+        return Some((4, b"HIKAZS"));
+    }
+    if order.is_named(b"HKCAZ", 1) {
+        return Some((5, b"HICAZS"));
+    }
+    None
+}
+
+// That an order asks for turnover of days that the bank doesn't keep.
+fn add_days(
+    notes: &mut Notes<'_>,
+    captured: &Captured,
+    order: &OwnedSegment,
+    opener: &OwnedSegment,
+) -> Result<(), Memory> {
+    let Some((element, parameter)) = first_day_of(order) else {
+        return Ok(());
+    };
+    let first = order.value(element.max(2), 1);
+    let (Some(days), Some(limit)) = (days_between(first, opener.value(9, 2)), Kind::parse(parameter))
+    else {
+        return Ok(());
+    };
+    match captured.days(parameter, order.head.version) {
+        Some(kept) if days > kept.saturating_add(1) => notes.add(Note::TooOld(
+            order.head.id,
+            first,
+            days,
+            limit,
+            kept,
+        )),
+        _ => Ok(()),
+    }
+}
+
+fn add_orders(
+    notes: &mut Notes<'_>,
+    captured: &Captured,
+    message: &Message<'_>,
+) -> Result<(), Memory> {
+    let Some(opener) = date_of(notes.alloc, message)? else {
+        return Ok(());
+    };
+    for order in message.body() {
+        if order.id().as_bytes().starts_with(b"HK") {
+            let order = order.to_owned(notes.alloc)?;
+            add_format(notes, captured, &order)?;
+            add_days(notes, captured, &order, &opener)?;
+        }
+    }
+    Ok(())
+}
+
+// ---- PIN and TAN
+
+// Whether each procedure says how long a TAN may be, and it is less.
+fn is_beyond_procedures(captured: &Captured, len: usize) -> bool {
+    captured.readable
+        && captured
+            .procedures
+            .iter()
+            .all(|it| it.longest > 0 && len > it.longest as usize)
+}
+
+// That a PIN or a TAN has a length that HIPINS excludes; nothing else is said of it.
+fn add_lengths(
+    notes: &mut Notes<'_>,
+    captured: &Captured,
+    end: &OwnedSegment,
+) -> Result<(), Memory> {
+    let Some(lengths) = captured.lengths else {
+        return Ok(());
+    };
+    let (pin, tan) = (end.value(4, 1).len(), end.value(4, 2).len());
+    if 0 < pin && pin < lengths.least_pin as usize {
+        notes.add(Note::TooShort("PIN", lengths.least_pin))?;
+    }
+    if 0 < lengths.most_pin && pin > lengths.most_pin as usize {
+        notes.add(Note::TooLong("PIN", lengths.most_pin))?;
+    }
+    let is_long = 0 < lengths.most_tan && tan > lengths.most_tan as usize;
+    if is_long && is_beyond_procedures(captured, tan) {
+        notes.add(Note::TooLong("TAN", lengths.most_tan))?;
+    }
+    Ok(())
+}
+
+// ---- all notes
+
+/// By what a message is noted.
+#[derive(Clone, Copy)]
+pub struct Basis<'b> {
+    pub captured: &'b Captured,
+    /// The functions that the last feedback 3920 allowed the user; none where there was none.
+    pub allowed: &'b [u32],
+    pub permissions: &'b Permissions<'b>,
+}
+
+fn add_by_function(
+    notes: &mut Notes<'_>,
+    basis: &Basis<'_>,
+    message: &Message<'_>,
+    function: u32,
+) -> Result<(), Memory> {
+    let captured = basis.captured;
+    if captured.readable {
+        add_function(notes, captured, basis.allowed, function)?;
+        if function == ONE_STEP {
+            add_one_step(notes, captured, basis.permissions, message)?;
+        }
+    }
+    match first_of(message, b"HKTAN") {
+        Some(order) => {
+            let order = order.to_owned(notes.alloc)?;
+            add_tan_order(notes, captured, message, &order, function)
+        }
+        None if captured.readable => add_initialisation(notes, captured, message, function),
+        None => Ok(()),
+    }
+}
+
+/// Adds the notes on a message that is signed by PIN and TAN.
+pub fn add_captured_notes(
+    notes: &mut Notes<'_>,
+    basis: &Basis<'_>,
+    message: &Message<'_>,
+) -> Result<(), Memory> {
+    let Some(function) = function_of(notes.alloc, message)? else {
+        return Ok(());
+    };
+    add_by_function(notes, basis, message, function)?;
+    add_orders(notes, basis.captured, message)?;
+    for end in message.ends() {
+        let end = end.to_owned(notes.alloc)?;
+        add_lengths(notes, basis.captured, &end)?;
+    }
+    Ok(())
+}

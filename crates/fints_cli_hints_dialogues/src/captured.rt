@@ -1,0 +1,158 @@
+//! The notes on the messages of a recording, by what its parameters and the bank's answers say.
+use fints_cli_hints_captured::{Basis, Captured, Noted, Notes, Said, add_captured_notes, said_in};
+use fints_cli_hints_words::places::written;
+use fints_rules::{Message, Permissions};
+use fints_rules_dialogues::{Answer, Exchange};
+use fints_syntax::{Memory, OwnedSegment};
+use std::alloc::Global;
+
+/// What was noted of a dialogue, and what the bank has said in it.
+#[derive(Drop)]
+pub struct CapturedNotes {
+    captured: Option<Captured>,
+    noted: Noted,
+    // Whether the note on an order reference was told.
+    referred: bool,
+    // The functions that the last feedback 3920 allows the user.
+    allowed: Vec<u32>,
+    // The HITAN that give order references.
+    references: Vec<OwnedSegment>,
+}
+
+// The first HKTAN of a message, of version 6 or 7.
+fn tan_order(alloc: Global, message: &Message<'_>) -> Result<Option<OwnedSegment>, Memory> {
+    for segment in message.body() {
+        if segment.id().is(b"HKTAN") && (segment.version() == 6 || segment.version() == 7) {
+            return Ok(Some(segment.to_owned(alloc)?));
+        }
+    }
+    Ok(None)
+}
+
+impl CapturedNotes {
+    pub fn new(alloc: Global) -> CapturedNotes {
+        CapturedNotes {
+            captured: None,
+            noted: Noted::none(),
+            referred: false,
+            allowed: Vec::new(alloc),
+            references: Vec::new(alloc),
+        }
+    }
+
+    /// Whether what the capture says was read.
+    pub fn is_read(&self) -> bool {
+        self.captured.is_some()
+    }
+
+    /// Reads what the capture says.
+    pub fn read(&mut self, alloc: Global, capture: &[u8]) -> Result<(), Memory> {
+        self.captured = Some(Captured::of(alloc, capture)?);
+        Ok(())
+    }
+
+    // Begins another dialogue.
+    fn begin(&mut self) {
+        self.noted = Noted::none();
+        self.referred = false;
+        self.allowed.clear();
+        self.references.clear();
+    }
+
+    // Whether the bank gave order references in this dialogue, and none is that of the HKTAN.
+    fn is_unknown_reference(&self, order: &OwnedSegment) -> bool {
+        let process = order.value(2, 1);
+        let refers = process == b"2".as_slice() || process == b"S".as_slice();
+        let reference = order.value(6, 1);
+        let given = |it: &OwnedSegment| it.value(4, 1) == reference;
+        refers
+            && !reference.is_empty()
+            && !self.references.is_empty()
+            && !self.references.iter().any(given)
+    }
+
+    fn add_message(
+        &mut self,
+        text: &mut String,
+        alloc: Global,
+        place: usize,
+        permissions: &Permissions<'_>,
+        message: &Message<'_>,
+    ) -> Result<(), Memory> {
+        let Some(captured) = &self.captured else {
+            return Ok(());
+        };
+        let called = written(alloc, format_args!("message {place}: "))?;
+        let basis = Basis {
+            captured,
+            allowed: self.allowed.as_slice(),
+            permissions,
+        };
+        let mut notes = Notes {
+            text,
+            alloc,
+            called: called.as_str(),
+            noted: &mut self.noted,
+        };
+        add_captured_notes(&mut notes, &basis, message)
+    }
+
+    // Adds the note on an order reference that the bank didn't give.
+    fn add_reference(
+        &mut self,
+        text: &mut String,
+        alloc: Global,
+        place: usize,
+        order: &OwnedSegment,
+    ) -> Result<(), Memory> {
+        if self.referred || !self.is_unknown_reference(order) {
+            return Ok(());
+        }
+        self.referred = true;
+        let line = written(
+            alloc,
+            format_args!(
+                "note: message {place}: element 6 of HKTAN is no order reference that a HITAN of this dialogue gave\n"
+            ),
+        )?;
+        text.push_str(line.as_str())?;
+        Ok(())
+    }
+
+    // Keeps what an answer says.
+    fn keep(&mut self, alloc: Global, answer: &Answer<'_>) -> Result<(), Memory> {
+        let Said {
+            allowed,
+            references,
+        } = said_in(alloc, answer.sent.bytes)?;
+        if !allowed.is_empty() {
+            self.allowed = allowed;
+        }
+        for reference in references {
+            self.references.push(reference)?;
+        }
+        Ok(())
+    }
+
+    /// Adds the notes on the next exchange, whose message has this place, from 1.
+    pub fn add(
+        &mut self,
+        text: &mut String,
+        alloc: Global,
+        place: usize,
+        permissions: &Permissions<'_>,
+        exchange: &Exchange<'_>,
+    ) -> Result<(), Memory> {
+        if exchange.begins {
+            self.begin();
+        }
+        self.add_message(text, alloc, place, permissions, &exchange.message)?;
+        if let Some(order) = tan_order(alloc, &exchange.message)? {
+            self.add_reference(text, alloc, place, &order)?;
+        }
+        match &exchange.answer {
+            Some(answer) => self.keep(alloc, answer),
+            None => Ok(()),
+        }
+    }
+}
