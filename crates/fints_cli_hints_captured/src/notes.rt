@@ -98,8 +98,11 @@ impl Display for Note<'_> {
                 "element 12 of HKTAN, the TAN medium, is empty, and HITANS {version} demands it for the procedure {function}"
             ),
             Note::OtherFormat(kind, format, listed) => {
-                let (kind, format, listed) =
-                    (Ascii(kind.as_bytes()), Ascii(&format), Ascii(&listed));
+                let (kind, format, listed) = (
+                    Ascii(kind.as_bytes()),
+                    Ascii(&format),
+                    Ascii(&listed),
+                );
                 write!(f, "{kind} has {format}, and HISPAS lists {listed}")
             }
             Note::TooOld(kind, first, days, limit, kept) => {

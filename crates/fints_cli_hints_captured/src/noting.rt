@@ -82,8 +82,9 @@ fn add_initialisation(
     message: &Message<'_>,
     function: u32,
 ) -> Result<(), Memory> {
-    let is_initialisation =
-        has(message, b"HKIDN") && has(message, b"HKVVB") && !has(message, b"HKSYN");
+    let is_initialisation = has(message, b"HKIDN")
+        && has(message, b"HKVVB")
+        && !has(message, b"HKSYN");
     let is_late = captured
         .procedures
         .iter()
@@ -130,10 +131,9 @@ fn add_medium(
     let version = order.head.version;
     let same = |it: &&Procedure| it.function == function && it.version == version;
     let count = captured.procedures.iter().filter(same).count();
-    let needed = captured
-        .procedures
-        .iter()
-        .any(|it| it.function == function && it.version == version && it.needs_medium);
+    let needed = captured.procedures.iter().any(|it| it.function == function
+        && it.version == version
+        && it.needs_medium);
     if count == 1 && needed && order.value(12, 1).is_empty() && !has(message, b"HKIDN") {
         return notes.add(Note::NoMedium(version, function));
     }
@@ -234,8 +234,10 @@ fn add_days(
         return Ok(());
     };
     let first = order.value(element.max(2), 1);
-    let (Some(days), Some(limit)) = (days_between(first, opener.value(9, 2)), Kind::parse(parameter))
-    else {
+    let (Some(days), Some(limit)) = (
+        days_between(first, opener.value(9, 2)),
+        Kind::parse(parameter),
+    ) else {
         return Ok(());
     };
     match captured.days(parameter, order.head.version) {

@@ -156,7 +156,12 @@ fn add_answer(
     answer: &Answer<'_>,
 ) -> Result<(), Memory> {
     if let Some(head) = other_reference(alloc, answer.sent.bytes, number)? {
-        add_note(text, alloc, place, Note::OtherReference(head.value(6, 2), number))?;
+        add_note(
+            text,
+            alloc,
+            place,
+            Note::OtherReference(head.value(6, 2), number),
+        )?;
     }
     Ok(())
 }

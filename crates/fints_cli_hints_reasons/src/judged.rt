@@ -267,8 +267,13 @@ impl JudgeObserver for JudgeReasons<'_> {
         if self.wanted {
             let lines = lines_of(self.alloc, self.capture, permissions, message, broken);
             let reasons = lines.unwrap_or(None);
-            let noted =
-                with_captured_notes(self.alloc, reasons, self.capture, permissions, message);
+            let noted = with_captured_notes(
+                self.alloc,
+                reasons,
+                self.capture,
+                permissions,
+                message,
+            );
             self.text = noted.unwrap_or(None);
         }
     }

@@ -72,31 +72,37 @@ pub begins_one : (before : Option Exchange) (messages : List Sent) (sent : Sent)
     → IsClientsNext before sent.bytes.now message → IsAnsweredBy rest answer
     → begins ≡ begins_after before message
     → BeginsWithOne before messages (record { sent = sent; message = message; answer = answer; begins = begins })
-begins_one before messages sent [] message None begins is next by same =
-    ([], record {
-      exchange = ((message, next.0, next.1), next.0, tt);
-      begins = same;
-      follows = next.2;
-      split = is;
-      unanswered = λ e. tt;
-    })
+begins_one before messages sent [] message None begins is next by same = (
+  [],
+  record {
+    exchange = ((message, next.0, next.1), next.0, tt);
+    begins = same;
+    follows = next.2;
+    split = is;
+    unanswered = λ e. tt;
+  },
+)
 begins_one before messages sent [] message (Some a) begins is next by same = absurd (cc)
-begins_one before messages sent (m ∷ ms) message None begins is next by same =
-    (m ∷ ms, record {
-      exchange = ((message, next.0, next.1), next.0, tt);
-      begins = same;
-      follows = next.2;
-      split = is;
-      unanswered = λ e. by;
-    })
-begins_one before messages sent (m ∷ ms) message (Some a) begins is next by same =
-    (ms, record {
-      exchange = ((message, next.0, next.1), next.0, by.0);
-      begins = same;
-      follows = next.2;
-      split = is ∙ ap (λ (x : Sent). sent ∷ x ∷ ms) (sym by.1);
-      unanswered = λ e. absurd (cc);
-    })
+begins_one before messages sent (m ∷ ms) message None begins is next by same = (
+  m ∷ ms,
+  record {
+    exchange = ((message, next.0, next.1), next.0, tt);
+    begins = same;
+    follows = next.2;
+    split = is;
+    unanswered = λ e. by;
+  },
+)
+begins_one before messages sent (m ∷ ms) message (Some a) begins is next by same = (
+  ms,
+  record {
+    exchange = ((message, next.0, next.1), next.0, by.0);
+    begins = same;
+    follows = next.2;
+    split = is ∙ ap (λ (x : Sent). sent ∷ x ∷ ms) (sym by.1);
+    unanswered = λ e. absurd (cc);
+  },
+)
 
 -- the exchanges so far, and where the rest of the messages begins
 pub record AreReadSoFar (messages : List Sent) (at : ℕ) (exchanges : List Exchange) : Type 0 where

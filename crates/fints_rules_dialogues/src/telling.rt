@@ -29,10 +29,7 @@ fn params_in(alloc: Global, answer: &Sent<'_>) -> Result<Option<Params>, Dialogu
 }
 
 // The parameters of the answer of an exchange, if it has them.
-fn params_of(
-    alloc: Global,
-    answer: &Option<Answer<'_>>,
-) -> Result<Option<Params>, DialogueFault>
+fn params_of(alloc: Global, answer: &Option<Answer<'_>>) -> Result<Option<Params>, DialogueFault>
     ensures found { IfOk result (λ told. IsFound answer.now told) }
     ensures refused { IfErr result (λ f. IsMemoryOrRefusal (IsTellingFault answer.now) f) }
 {
