@@ -182,7 +182,8 @@ IsOutOfTurn before bytes =
 
 -- why a message isn't the client's next one
 abbrev pub IsClientFault : Option Exchange → Sent → DialogueFault → Type 0
-IsClientFault before m (fault.NotAMessage offset) = (at : ℕ) × CeasesAt m.bytes.now at × (offset ≡ m.start + at)
+IsClientFault before m (fault.NotAMessage offset) =
+    (at : ℕ) × CeasesAt m.bytes.now at × (offset ≡ m.start + at)
 IsClientFault before m (fault.NotInTurn offset) = IsOutOfTurn before m.bytes.now × (offset ≡ m.start)
 IsClientFault before m _ = ⊥
 
@@ -195,7 +196,8 @@ IsAnswerFault _ _ = ⊥
 abbrev pub IsExchangeFault : Option Exchange → List Sent → DialogueFault → Type 0
 IsExchangeFault before [] f = ⊥
 IsExchangeFault before (m ∷ ms) f =
-    IsClientFault before m f ⊎ ((held : MessageView) × IsClientsNext before m.bytes.now held × IsAnswerFault ms f)
+    IsClientFault before m f
+    ⊎ ((held : MessageView) × IsClientsNext before m.bytes.now held × IsAnswerFault ms f)
 
 -- the last of the exchanges, or the one before them
 abbrev pub last_of : Option Exchange → List Exchange → Option Exchange

@@ -61,7 +61,8 @@ fn judge_next(
     exchange: &Exchange<'_>,
 ) -> Result<Vec<Broken>, Memory>
     ensures { IfOk result (λ broken. IsExchangeOrNone (option_copied before.entry) → IsExchange exchange.now
-        → IsJudgedNext permissions.now (option_copied before.entry) exchange.now.sent.bytes.now broken.items) }
+        → IsJudgedNext permissions.now (option_copied before.entry)
+        exchange.now.sent.bytes.now broken.items) }
 {
     let message = &exchange.message;
     match before {
