@@ -90,6 +90,8 @@ struct Due<'a> {
     given: Option<&'a [u8]>,
     /// Whether an answer has ended the dialogue.
     ended: bool,
+    /// Whether it is the first message that is signed and not sealed.
+    open: bool,
 }
 
 // ---- the notes on one message
@@ -138,7 +140,7 @@ fn add_message(
     if let Some(end) = other_end(alloc, message, id)? {
         add_note(text, alloc, place, Note::OtherEnd(end.value(2, 1), id))?;
     }
-    if message.seal().is_none() && !message.ends().is_empty() {
+    if due.open {
         add_note(text, alloc, place, Note::NotSealed)?;
     }
     if due.ended {
@@ -186,6 +188,12 @@ pub struct Notes {
     first: Option<OwnedSegment>,
     // Whether an answer has ended the dialogue.
     ended: bool,
+    // Whether a message of the dialogue is signed and not sealed.
+    open: bool,
+}
+
+fn is_open(message: &Message<'_>) -> bool {
+    message.seal().is_none() && !message.ends().is_empty()
 }
 
 impl Notes {
@@ -196,6 +204,7 @@ impl Notes {
             number: 1,
             first: None,
             ended: false,
+            open: false,
         }
     }
 
@@ -219,13 +228,17 @@ impl Notes {
             self.number = 1;
             self.first = None;
             self.ended = false;
+            self.open = false;
         }
+        let is_open = is_open(&exchange.message);
         let due = Due {
             place: self.place,
             number: self.number,
             given: self.first.as_ref().map(|it| it.value(4, 1)),
             ended: self.ended,
+            open: is_open && !self.open,
         };
+        self.open = self.open || is_open;
         let number = add_message(&mut self.text, alloc, &due, &exchange.message)?;
         if let Some(answer) = &exchange.answer {
             add_answer(&mut self.text, alloc, self.place, number, answer)?;
