@@ -148,6 +148,7 @@ impl Noted {
 
 /// Where the notes on a message go, and what the message is called there: with a colon and a blank after
 /// it, or nothing.
+#[derive(Drop)]
 pub struct Notes<'n> {
     pub text: &'n mut String,
     pub alloc: Global,
