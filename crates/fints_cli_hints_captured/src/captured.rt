@@ -195,6 +195,26 @@ impl Captured {
         self.procedures.iter().any(|it| it.function == function)
     }
 
+    /// Whether it is listed by a HITANS of this version.
+    pub fn lists_in(&self, function: u32, version: u16) -> bool {
+        self.procedures
+            .iter()
+            .any(|it| it.function == function && it.version == version)
+    }
+
+    /// Whether HKTAN of this version must name the medium of a procedure, which is listed once for it.
+    pub fn needs_medium(&self, function: u32, version: u16) -> bool {
+        let mut count: usize = 0;
+        let mut needed = false;
+        for it in self.procedures.iter() {
+            if it.function == function && it.version == version {
+                count = count.saturating_add(1);
+                needed = it.needs_medium;
+            }
+        }
+        count == 1 && needed
+    }
+
     /// For how many days the bank keeps turnover, the most that a parameter segment of this kind and version
     /// says. None where none says it, or one says 0, which is no limit.
     pub fn days(&self, id: &[u8], version: u16) -> Option<u32> {

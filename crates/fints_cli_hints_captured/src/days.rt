@@ -1,9 +1,7 @@
 //! Dates as days, to tell how far two of them are apart.
 
-// The days before a month of a year that begins with March.
-fn days_before(month: u32) -> u32 {
-    (153 * month + 2) / 5
-}
+// The days before each month of a year that begins with March.
+const BEFORE: [u32; 12] = [0, 31, 61, 92, 122, 153, 184, 214, 245, 275, 306, 337];
 
 // The number that some digits spell; none for another byte.
 fn spelled(digits: &[u8]) -> Option<u32> {
@@ -31,7 +29,21 @@ pub fn day_of(date: &[u8]) -> Option<u32> {
     if !(1..=9999).contains(&year) || !(1..=12).contains(&month) || !(1..=31).contains(&day) {
         return None;
     }
-    let from_march = (month + 9) % 12;
-    let years = if month < 3 { year - 1 } else { year };
-    Some(365 * years + years / 4 - years / 100 + years / 400 + days_before(from_march) + day - 1)
+    let from_march = month.saturating_add(9) % 12;
+    let before = *BEFORE.get(from_march as usize)?;
+    let years = if month < 3 {
+        year.saturating_sub(1)
+    } else {
+        year
+    };
+    let leap_days = (years / 4)
+        .saturating_sub(years / 100)
+        .saturating_add(years / 400);
+    Some(
+        years
+            .saturating_mul(365)
+            .saturating_add(leap_days)
+            .saturating_add(before)
+            .saturating_add(day.saturating_sub(1)),
+    )
 }

@@ -32,6 +32,11 @@ fn copied(bytes: &[u8]) -> Format {
     format
 }
 
+/// The bytes of a format.
+pub fn bytes_of(format: &Format) -> &[u8] {
+    format.as_slice()
+}
+
 /// The first format in a value; none where there is none.
 pub fn format_in(value: &[u8]) -> Option<Format> {
     for start in 0..value.len() {

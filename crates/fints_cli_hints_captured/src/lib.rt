@@ -12,5 +12,5 @@ mod procedures;
 mod signed;
 
 pub use captured::{Captured, Said, said_in};
-pub use notes::{Noted, Notes};
+pub use notes::Noted;
 pub use noting::{Basis, add_captured_notes};

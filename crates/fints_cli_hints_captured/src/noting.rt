@@ -1,9 +1,11 @@
 //! Which notes there are on a message, by what a capture says.
 use crate::captured::{Captured, days_between};
-use crate::formats::{Format, format_element, format_in};
-use crate::notes::{Note, Notes};
+use crate::formats::{Format, bytes_of, format_element, format_in};
+use crate::lists::{Ascii, Numbers};
+use crate::notes::{Noted, Notes, Which};
 use crate::procedures::Procedure;
 use crate::signed::{date_of, first_of, function_of, has};
+use fints_cli_hints_words::places::written;
 use fints_rules::{Message, Permissions};
 use fints_syntax::{Kind, Memory, OwnedSegment};
 use std::alloc::Global;
@@ -36,10 +38,24 @@ fn add_function(
     }
     if !captured.lists(function) {
         let listed = functions_of(notes.alloc, captured.procedures.as_slice())?;
-        return notes.add(Note::Unlisted(function, listed.as_slice()));
+        let listed = Numbers(listed.as_slice());
+        let what = written(
+            notes.alloc,
+            format_args!(
+                "element 3 of HNSHK is {function}, and no HITANS lists it: they list {listed}"
+            ),
+        )?;
+        return notes.add(Which::Unlisted, what.as_str());
     }
     if !allowed.is_empty() && !allowed.contains(&function) {
-        return notes.add(Note::NotAllowed(function, allowed));
+        let allowed = Numbers(allowed);
+        let what = written(
+            notes.alloc,
+            format_args!(
+                "element 3 of HNSHK is {function}, and the bank allows the user {allowed} (code 3920)"
+            ),
+        )?;
+        return notes.add(Which::NotAllowed, what.as_str());
     }
     Ok(())
 }
@@ -54,14 +70,20 @@ fn add_one_step(
     if !captured.two_steps {
         return Ok(());
     }
-    match message
-        .body()
-        .iter()
-        .find(|it| permissions.is_demanding(it.id()))
-    {
-        Some(order) => notes.add(Note::OneStep(order.id())),
-        None => Ok(()),
+    for order in message.body() {
+        let kind = order.id();
+        if permissions.is_demanding(kind) {
+            let kind = Ascii(kind.as_bytes());
+            let what = written(
+                notes.alloc,
+                format_args!(
+                    "element 3 of HNSHK is 999, {kind} demands a TAN (HIPINS), and each HITANS says N to one step"
+                ),
+            )?;
+            return notes.add(Which::OneStep, what.as_str());
+        }
     }
+    Ok(())
 }
 
 // The version of a HITANS that lists the procedure; 0 where none does.
@@ -90,7 +112,14 @@ fn add_initialisation(
         .iter()
         .all(|it| it.function != function || it.version >= 6);
     if is_initialisation && is_late && captured.lists(function) {
-        return notes.add(Note::NoTanOrder(version_of(captured, function), function));
+        let version = version_of(captured, function);
+        let what = written(
+            notes.alloc,
+            format_args!(
+                "the initialisation has no HKTAN of process 4, and HITANS {version} lists the procedure {function}"
+            ),
+        )?;
+        return notes.add(Which::NoTanOrder, what.as_str());
     }
     Ok(())
 }
@@ -115,7 +144,12 @@ fn add_named(
     let is_order = named.as_bytes().starts_with(b"HK") || named.as_bytes().starts_with(b"DK");
     let is_checked = has(message, b"HKVPP") || has(message, b"HKVPA");
     if is_order && !is_checked && !has(message, named.as_bytes()) {
-        return notes.add(Note::OtherKind(named, held));
+        let (named, held) = (Ascii(named.as_bytes()), Ascii(held.as_bytes()));
+        let what = written(
+            notes.alloc,
+            format_args!("element 3 of HKTAN is {named}, and the message holds {held}"),
+        )?;
+        return notes.add(Which::OtherKind, what.as_str());
     }
     Ok(())
 }
@@ -129,13 +163,15 @@ fn add_medium(
     function: u32,
 ) -> Result<(), Memory> {
     let version = order.head.version;
-    let same = |it: &&Procedure| it.function == function && it.version == version;
-    let count = captured.procedures.iter().filter(same).count();
-    let needed = captured.procedures.iter().any(|it| it.function == function
-        && it.version == version
-        && it.needs_medium);
-    if count == 1 && needed && order.value(12, 1).is_empty() && !has(message, b"HKIDN") {
-        return notes.add(Note::NoMedium(version, function));
+    let needed = captured.needs_medium(function, version);
+    if needed && order.value(12, 1).is_empty() && !has(message, b"HKIDN") {
+        let what = written(
+            notes.alloc,
+            format_args!(
+                "element 12 of HKTAN, the TAN medium, is empty, and HITANS {version} demands it for the procedure {function}"
+            ),
+        )?;
+        return notes.add(Which::NoMedium, what.as_str());
     }
     Ok(())
 }
@@ -149,13 +185,15 @@ fn add_tan_order(
     function: u32,
 ) -> Result<(), Memory> {
     let version = order.head.version;
-    let of_version = captured
-        .procedures
-        .iter()
-        .any(|it| it.function == function && it.version == version);
-    if captured.readable && captured.lists(function) && !of_version {
+    if captured.readable && captured.lists(function) && !captured.lists_in(function, version) {
         let listed = version_of(captured, function);
-        notes.add(Note::OtherVersion(version, function, listed))?;
+        let what = written(
+            notes.alloc,
+            format_args!(
+                "HKTAN has version {version}, and the procedure {function} is listed by HITANS {listed} and by none of that version"
+            ),
+        )?;
+        notes.add(Which::OtherVersion, what.as_str())?;
     }
     let is_late = version == 6 || version == 7;
     if is_late && order.value(2, 1) == b"4".as_slice() {
@@ -197,7 +235,16 @@ fn add_format(
     if lists_format(captured, b"HISPAS", format) || lists_format(captured, &own, format) {
         return Ok(());
     }
-    notes.add(Note::OtherFormat(kind, format, listed.1))
+    let (kind, format, listed) = (
+        Ascii(kind.as_bytes()),
+        Ascii(bytes_of(&format)),
+        Ascii(bytes_of(&listed.1)),
+    );
+    let what = written(
+        notes.alloc,
+        format_args!("{kind} has {format}, and HISPAS lists {listed}"),
+    )?;
+    notes.add(Which::OtherFormat, what.as_str())
 }
 
 // The identifier of the parameter segment of an order of five characters.
@@ -234,22 +281,25 @@ fn add_days(
         return Ok(());
     };
     let first = order.value(element.max(2), 1);
-    let (Some(days), Some(limit)) = (
-        days_between(first, opener.value(9, 2)),
-        Kind::parse(parameter),
-    ) else {
+    let Some(days) = days_between(first, opener.value(9, 2)) else {
         return Ok(());
     };
-    match captured.days(parameter, order.head.version) {
-        Some(kept) if days > kept.saturating_add(1) => notes.add(Note::TooOld(
-            order.head.id,
-            first,
-            days,
-            limit,
-            kept,
-        )),
-        _ => Ok(()),
+    let Some(kept) = captured.days(parameter, order.head.version) else {
+        return Ok(());
+    };
+    if days <= kept.saturating_add(1) {
+        return Ok(());
     }
+    let kind = order.head.id;
+    let (kind, limit) = (Ascii(kind.as_bytes()), Ascii(parameter));
+    let first = Ascii(first);
+    let what = written(
+        notes.alloc,
+        format_args!(
+            "{kind} asks from {first} on, {days} days before the date in HNSHK, and by {limit} the bank keeps {kept} days"
+        ),
+    )?;
+    notes.add(Which::TooOld, what.as_str())
 }
 
 fn add_orders(
@@ -281,6 +331,22 @@ fn is_beyond_procedures(captured: &Captured, len: usize) -> bool {
             .all(|it| it.longest > 0 && len > it.longest as usize)
 }
 
+fn add_short(notes: &mut Notes<'_>, least: u32) -> Result<(), Memory> {
+    let what = written(
+        notes.alloc,
+        format_args!("the PIN is shorter than the {least} characters of HIPINS"),
+    )?;
+    notes.add(Which::TooShort, what.as_str())
+}
+
+fn add_long(notes: &mut Notes<'_>, name: &str, most: u32) -> Result<(), Memory> {
+    let what = written(
+        notes.alloc,
+        format_args!("the {name} is longer than the {most} characters of HIPINS"),
+    )?;
+    notes.add(Which::TooLong, what.as_str())
+}
+
 // That a PIN or a TAN has a length that HIPINS excludes; nothing else is said of it.
 fn add_lengths(
     notes: &mut Notes<'_>,
@@ -292,14 +358,14 @@ fn add_lengths(
     };
     let (pin, tan) = (end.value(4, 1).len(), end.value(4, 2).len());
     if 0 < pin && pin < lengths.least_pin as usize {
-        notes.add(Note::TooShort("PIN", lengths.least_pin))?;
+        add_short(notes, lengths.least_pin)?;
     }
     if 0 < lengths.most_pin && pin > lengths.most_pin as usize {
-        notes.add(Note::TooLong("PIN", lengths.most_pin))?;
+        add_long(notes, "PIN", lengths.most_pin)?;
     }
     let is_long = 0 < lengths.most_tan && tan > lengths.most_tan as usize;
     if is_long && is_beyond_procedures(captured, tan) {
-        notes.add(Note::TooLong("TAN", lengths.most_tan))?;
+        add_long(notes, "TAN", lengths.most_tan)?;
     }
     Ok(())
 }
@@ -338,12 +404,7 @@ fn add_by_function(
     }
 }
 
-/// Adds the notes on a message that is signed by PIN and TAN.
-pub fn add_captured_notes(
-    notes: &mut Notes<'_>,
-    basis: &Basis<'_>,
-    message: &Message<'_>,
-) -> Result<(), Memory> {
+fn add_all(notes: &mut Notes<'_>, basis: &Basis<'_>, message: &Message<'_>) -> Result<(), Memory> {
     let Some(function) = function_of(notes.alloc, message)? else {
         return Ok(());
     };
@@ -353,5 +414,23 @@ pub fn add_captured_notes(
         let end = end.to_owned(notes.alloc)?;
         add_lengths(notes, basis.captured, &end)?;
     }
+    Ok(())
+}
+
+/// Adds the notes on a message that is signed by PIN and TAN, where they weren't told before. `called` is
+/// what the message is called, with a colon and a blank after it, or nothing.
+pub fn add_captured_notes(
+    text: &mut String,
+    alloc: Global,
+    called: &str,
+    noted: &mut Noted,
+    basis: &Basis<'_>,
+    message: &Message<'_>,
+) -> Result<(), Memory> {
+    let mut notes = Notes::new(alloc, called, *noted);
+    add_all(&mut notes, basis, message)?;
+    let (lines, told) = notes.into_parts();
+    text.push_str(lines.as_str())?;
+    *noted = told;
     Ok(())
 }

@@ -64,13 +64,11 @@ pub fn add_procedures(all: &mut Vec<Procedure>, segment: &OwnedSegment) -> Resul
         return Ok(false);
     };
     let items = segment.items(5);
-    let mut start = front;
-    while start < items.len() {
+    for start in (front..items.len()).step_by(size.max(1)) {
         let Some(procedure) = procedure_at(version, &items, start) else {
             return Ok(false);
         };
         all.push(procedure)?;
-        start = start.saturating_add(size);
     }
     Ok(true)
 }

@@ -1,5 +1,5 @@
 //! The notes on the messages of a recording, by what its parameters and the bank's answers say.
-use fints_cli_hints_captured::{Basis, Captured, Noted, Notes, Said, add_captured_notes, said_in};
+use fints_cli_hints_captured::{Basis, Captured, Noted, Said, add_captured_notes, said_in};
 use fints_cli_hints_words::places::written;
 use fints_rules::{Message, Permissions};
 use fints_rules_dialogues::{Answer, Exchange};
@@ -88,13 +88,8 @@ impl CapturedNotes {
             allowed: self.allowed.as_slice(),
             permissions,
         };
-        let mut notes = Notes {
-            text,
-            alloc,
-            called: called.as_str(),
-            noted: &mut self.noted,
-        };
-        add_captured_notes(&mut notes, &basis, message)
+        let noted = &mut self.noted;
+        add_captured_notes(text, alloc, called.as_str(), noted, &basis, message)
     }
 
     // Adds the note on an order reference that the bank didn't give.

@@ -7,7 +7,7 @@ use crate::lines::{Where, add_why};
 use crate::segment::{Seen, SegmentWhy};
 use crate::tans::NoTan;
 use crate::whole::{Before, Whole, WholeWhy, is_of_whole};
-use fints_cli_hints_captured::{Basis, Captured, Noted, Notes, add_captured_notes};
+use fints_cli_hints_captured::{Basis, Captured, Noted, add_captured_notes};
 use fints_cli_hints_segments::UnreadHint;
 use fints_cli_texts::JudgeObserver;
 use fints_rules::{Broken, Message, Permissions};
@@ -198,13 +198,8 @@ fn with_captured_notes(
         permissions,
     };
     let mut text = reasons.unwrap_or_else(|| String::new(alloc));
-    let mut notes = Notes {
-        text: &mut text,
-        alloc,
-        called: "",
-        noted: &mut Noted::none(),
-    };
-    add_captured_notes(&mut notes, &basis, message)?;
+    let mut noted = Noted::none();
+    add_captured_notes(&mut text, alloc, "", &mut noted, &basis, message)?;
     Ok(Some(text))
 }
 
