@@ -1,8 +1,8 @@
 #!/usr/bin/env python3
 """Drafts a script and a case from each recorded dialogue of the rows and the examples with the built
-program, runs them, and compares what is sent with what was recorded, byte for byte but for what HNVSK has
-behind its head and the size in HNHBK. No string of the script may be the value of a field, but for the
-dialogue's id.
+program, runs them, and compares what is sent with what was recorded, segment by segment: byte for byte but for
+what a client makes new for each message. No string of the script may be the value of a secret, and each comment
+is a fixed one, or an XML text that the segment after it has.
 
 Usage: tools/drafts.py
 """
@@ -44,20 +44,120 @@ def sent(text):
     return messages
 
 
-def bare(message):
-    """A message without the size in HNHBK and what HNVSK has behind its head."""
-    message = message[:10] + message[22:]
-    envelope = message.find(b"'HNVSD:999:1+")
-    seal = message.find(b"'HNVSK:998:3")
-    if seal < 0 or envelope < 0:
-        return message
-    return message[:seal + 12] + message[envelope:]
+def elements_of(text):
+    """The elements of a segment without its end, as lists of items: whether each is binary, and its value."""
+    elements, item, binary, at = [[]], b"", False, 0
+    while at <= len(text):
+        one = text[at:at + 1]
+        if one in (b"+", b":", b""):
+            elements[-1].append((binary, item))
+            item, binary = b"", False
+            if one == b"+":
+                elements.append([])
+        elif one == b"?":
+            at += 1
+            item += text[at:at + 1]
+        elif one == b"@" and not item:
+            size, _, rest = text[at + 1:].partition(b"@")
+            binary, item = True, rest[:int(size)]
+            at += 1 + len(size) + int(size)
+        else:
+            item += one
+        at += 1
+    return elements
+
+
+def segments_of(message):
+    """The segments of a message, without their ends."""
+    segments, start, at = [], 0, 0
+    while at < len(message):
+        size = re.match(rb"@(\d+)@", message[at:])
+        if message[at:at + 1] == b"?":
+            at += 1
+        elif size and message[at - 1:at] in (b"+", b":"):
+            at += size.end() - 1 + int(size[1])
+        elif message[at:at + 1] == b"'":
+            segments.append(message[start:at])
+            start = at + 1
+        at += 1
+    return segments
+
+
+# The items that a client makes new, by kind, element and item.
+RENEWED = {
+    b"HNHBK": {(2, 1)},
+    b"HNSHK": {(4, 1), (9, 2), (9, 3)},
+    b"HNSHA": {(2, 1), (4, 2)},
+    b"HKTAN": {(6, 1)},
+}
+
+
+def renewed_in(elements):
+    """The places of a segment that a client makes new; None where it makes none."""
+    kind, _, version = [value for _, value in elements[0]][:3]
+    process = elements[1][0][1] if len(elements) > 1 else b""
+    if kind == b"HKTAN" and (process not in (b"2", b"S") or int(version) < 5):
+        return None
+    return RENEWED.get(kind)
+
+
+def is_segment_alike(own, sent):
+    """Whether a segment is sent as it was recorded."""
+    if own == sent:
+        return True
+    one, other = elements_of(own), elements_of(sent)
+    kind = one[0][0][1]
+    if one[0] == other[0] and kind == b"HNVSK":
+        return True
+    if one[0] == other[0] and kind == b"HNVSD":
+        return are_alike(one[1][0][1], other[1][0][1]) and len(one) == len(other) == 2
+    places = renewed_in(one)
+    if places is None or [len(it) for it in one] != [len(it) for it in other]:
+        return False
+    for e, (items, others) in enumerate(zip(one, other), 1):
+        for i, (item, new) in enumerate(zip(items, others), 1):
+            if item != new and not ((e, i) in places and item[1] and new[1]):
+                return False
+    return True
+
+
+def are_alike(own, sent):
+    """Whether all segments are."""
+    one, other = segments_of(own), segments_of(sent)
+    return len(one) == len(other) and all(map(is_segment_alike, one, other))
+
+
+# The comments of a draft that don't depend on the dialogue, below its first lines.
+FIXED = (
+    r'  # Element 2 is an account: a field of class "account" lists those that it may be\.',
+    r"# note: element \d+ of HNVSK is another one in message \d+",
+    r"  # element \d+(, item \d+)?:",
+)
+
+
+def are_comments_known(script):
+    """Whether each comment of a draft is a fixed one, or a line of a text that the segment after it has."""
+    top, _, rest = script.partition("\n\n")
+    shown = []
+    for line in rest.split("\n"):
+        if line.startswith("  #   "):
+            shown.append(line[len("  #   "):])
+        elif line.lstrip().startswith("#"):
+            if not any(re.fullmatch(it, line) for it in FIXED):
+                return False
+        elif shown:
+            texts = [bytes.fromhex(it).decode("latin-1") for it in re.findall(r'"%([0-9a-f]*)"', line)]
+            lines = [it for text in texts if text.startswith("<") for it in text.replace("\r", "").removesuffix("\n").split("\n")]
+            if shown != lines:
+                return False
+            shown = []
+    return all(line.startswith("#") for line in top.split("\n"))
 
 
 def secrets(case):
-    """The values of the fields of a case, but that of the dialogue's id."""
-    values = re.findall(rb"^field (\S+) ([0-9a-f]+)$", case, re.M)
-    return [bytes.fromhex(value.decode()) for name, value in values if name != b"dialog"]
+    """The values of the fields of a case that are secrets."""
+    values = re.findall(rb"^field (?:bin)?(?:pin|tan|newpin|secret)\d* ([0-9a-f]+)$", case, re.M)
+    return [bytes.fromhex(value.decode()) for value in values]
 
 
 def is_replayed(path, room):
@@ -71,10 +171,10 @@ def is_replayed(path, room):
     (room / "script").write_bytes(script)
     (room / "case").write_bytes(case)
     status, text = call("run", "--orders", ORDERS, "--script", room / "script", "--case", room / "case")
-    own = [bare(message) for message in recorded(path.read_bytes())[::2]]
-    again = [bare(message) for message in sent(text)]
+    own, again = recorded(path.read_bytes())[::2], sent(text)
+    alike = len(own) == len(again) and all(map(are_alike, own, again))
     hidden = all(b'"%s"' % value not in script for value in secrets(case))
-    return status == 0 and own == again and hidden
+    return status == 0 and alike and hidden and are_comments_known(script.decode())
 
 
 def main():

@@ -1,11 +1,16 @@
 -- What a draft of a recorded dialogue is: the text of a script, and that of a case that has it send the client's
 -- messages once more.
-use Rattle.std.specs.Prelude.{codes, ◌≡◌, ◌≤◌, ◌+◌, ◌⊎◌, ℕ, List, [], ◌∷◌, ◌++◌, length, get_or, Option, Some, None, Bool, ◌==◌, IsTrue}
+use Rattle.std.specs.Prelude.{codes, ◌≡◌, ◌≢◌, ◌<◌, ◌≤◌, ◌+◌, ◌-◌, ◌⊎◌, ◌&&◌, ◌||◌, ℕ, nat_le, List, [], ◌∷◌, length, get_or, slice_get, Option, Some, None, Bool, true, false, ◌==◌, IsTrue}
 use Rattle.std.specs.Char.{is_ascii_alphanumeric}
 use Rattle.std.specs.List.{All, AllZip, flat_map, list_all, list_any}
+use Rattle.std.specs.Str.{bytes_eq}
 use Rattle.fints_syntax_segments.specs.Spelling.{Spelled}
-use Rattle.fints_syntax_segments.specs.Segment.{item_value, segment_bytes, IsSegment}
+use Rattle.fints_syntax_segments.specs.Segment.{item_value, segment_bytes}
+use Rattle.fints_syntax_segments.specs.Values.{is_named, items_in, value_at}
+use Rattle.fints_syntax_segments.specs.declared.frames.TheConstants.{HNVSD_NUMBER, HNVSD_VERSION}
+use Rattle.fints_syntax_segments.specs.declared.item.OwnedItem.TheVariants.{Bin}
 use Rattle.fints_syntax_segments.specs.declared.item.OwnedSegment.{OwnedSegment}
+use Rattle.fints_syntax.specs.Capture.{IsCapture}
 use Rattle.fints_syntax.specs.Owned.{segment_of}
 use Rattle.fints_rules_messages.specs.Messages.{MessageView, IsSealHead}
 use Rattle.fints_rules_permissions.specs.declared.orders.OrderRow.{OrderRow}
@@ -13,6 +18,9 @@ use Rattle.fints_rules_permissions.specs.Orders.{DenotesTable}
 use Rattle.fints_rules_dialogues.specs.declared.reading.Answer.{Answer}
 use Rattle.fints_rules_dialogues.specs.declared.reading.Exchange.{Exchange}
 use Rattle.fints_rules_dialogues.specs.Dialogues.{IsDialogue, IsDialogueFault}
+use Rattle.fints_script_fields.specs.declared.alphabet.Alphabet.{Alphabet}
+use Rattle.fints_script_fields.specs.declared.alphabet.Alphabet.TheVariants as alphabets
+use Rattle.fints_script_fields.specs.declared.counted.Text.{Text}
 use Rattle.fints_script_fields.specs.declared.field.Field.TheVariants as classes
 use Rattle.fints_script_rows.specs.declared.fields.NamedField.{NamedField}
 use Rattle.fints_script_cases.specs.Cases.{IsCaseOf}
@@ -32,29 +40,103 @@ use Rattle.fints_cli_texts.specs.declared.fault.Fault.TheVariants.{Memory, Order
 use Rattle.fints_cli_drafts.specs.declared.drafting.Drafted.{Drafted}
 use Rattle.fints_cli_drafts.specs.declared.drafting.Drafted.TheVariants.{Script, Case}
 
+-- ---- what a client makes new for each message
+
+-- an HKTAN of this process
+abbrev pub has_process : OwnedSegment → List ℕ → Bool
+has_process s process = bytes_eq s.head.id (codes "HKTAN") && bytes_eq (value_at s 2 1) process
+
+-- an HKTAN that goes on with an order submitted before: process 2 sends the TAN, process S asks for the release
+abbrev pub goes_on : OwnedSegment → Bool
+goes_on s = has_process s (codes "2") || has_process s (codes "S")
+
+-- Element 6 of such an HKTAN is the bank's reference of the order, from version 5 on.
+abbrev pub refers : OwnedSegment → Bool
+refers s = goes_on s && nat_le 5 s.head.version
+
+-- the segments that hold something that a client makes new
+abbrev pub is_renewable : OwnedSegment → Bool
+is_renewable s =
+    bytes_eq s.head.id (codes "HNHBK") || bytes_eq s.head.id (codes "HNSHK") || bytes_eq s.head.id (codes "HNSHA")
+    || refers s
+
+-- the item of an element that a client makes new: the size in HNHBK, the control reference in HNSHK and HNSHA, the
+-- date and the time in HNSHK, the TAN in HNSHA, and the reference of an order
+abbrev pub is_renewed : OwnedSegment → ℕ → ℕ → Bool
+is_renewed s element item =
+    (bytes_eq s.head.id (codes "HNHBK") && element == 2 && item == 1)
+    || (bytes_eq s.head.id (codes "HNSHK") && element == 4 && item == 1)
+    || (bytes_eq s.head.id (codes "HNSHK") && element == 9 && (item == 2 || item == 3))
+    || (bytes_eq s.head.id (codes "HNSHA") && element == 2 && item == 1)
+    || (bytes_eq s.head.id (codes "HNSHA") && element == 4 && item == 2)
+    || (refers s && element == 6 && item == 1)
+
 -- ---- a message sent once more
 
--- the text of an HNHBK is a size in 12 digits behind its head, and then this front
-pub record HasSizeBefore (text front : List ℕ) : Type 0 where
-  pub size : List ℕ
-  pub twelve : length size ≡ 12
-  pub text_is : text ≡ codes "HNHBK:1:3+" ++ (size ++ front)
+-- an item is the same in both, text or binary; or it is made new, and empty in neither
+abbrev pub IsItemAlike : OwnedSegment → OwnedSegment → ℕ → ℕ → Type 0
+IsItemAlike recorded sent element item =
+    (slice_get (items_in recorded element) (item - 1) ≡ slice_get (items_in sent element) (item - 1))
+    ⊎ (IsTrue (is_renewed recorded element item) × (value_at recorded element item ≢ [])
+    × (value_at sent element item ≢ []))
 
--- the bytes are such an HNHBK, some HNVSK, and the rest
-pub record IsSealedIn (bytes front rest : List ℕ) : Type 0 where
-  pub first : List (List Spelled)
-  pub seal : List (List Spelled)
-  pub is_first : IsSegment first
-  pub sized : HasSizeBefore (segment_bytes first) front
-  pub is_seal : IsSegment seal
-  pub seal_head : IsSealHead (segment_of seal)
-  pub text : bytes ≡ segment_bytes first ++ (segment_bytes seal ++ rest)
+-- the items of an element are so, one by one
+pub record IsElementAlike (recorded sent : OwnedSegment) (element : ℕ) : Type 0 where
+  pub count : length (items_in recorded element) ≡ length (items_in sent element)
+  pub each :
+      (item : ℕ) → 1 ≤ item → item < 1 + length (items_in recorded element)
+      → IsItemAlike recorded sent element item
 
--- a message is sent as it was recorded, byte for byte; or both are sealed, and differ in what HNVSK has behind its head, and
--- so in the size in HNHBK, and in nothing else
+-- two segments have the same head, without a reference number, and the same values but where they are made new
+pub record IsRenewal (recorded sent : OwnedSegment) : Type 0 where
+  pub renewable : IsTrue (is_renewable recorded)
+  pub id : IsTrue (bytes_eq recorded.head.id sent.head.id)
+  pub number : recorded.head.number ≡ sent.head.number
+  pub version : recorded.head.version ≡ sent.head.version
+  pub no_reference : (recorded.head.reference ≡ None) × (sent.head.reference ≡ None)
+  pub count : length recorded.elements ≡ length sent.elements
+  pub each :
+      (element : ℕ) → 2 ≤ element → element < 2 + length recorded.elements → IsElementAlike recorded sent element
+
+-- a segment is sent byte for byte; or it is an HNVSK, since a script has one for all messages; or it differs only in
+-- what is made new
+abbrev pub IsSegmentAlike : List (List Spelled) → List (List Spelled) → Type 0
+IsSegmentAlike recorded sent =
+    (segment_bytes sent ≡ segment_bytes recorded)
+    ⊎ (IsSealHead (segment_of recorded) × IsSealHead (segment_of sent))
+    ⊎ IsRenewal (segment_of recorded) (segment_of sent)
+
+-- the bytes are segments, each of which is sent so
+abbrev pub AreSegmentsAlike : List ℕ → List ℕ → Type 0
+AreSegmentsAlike recorded sent =
+    (own other : List (List (List Spelled))) × IsCapture recorded own × IsCapture sent other
+    × AllZip IsSegmentAlike own other
+
+-- an HNVSD, numbered 999, with this data and nothing more
+pub record IsEnvelopeOf (held : List ℕ) (s : OwnedSegment) : Type 0 where
+  pub kind : IsTrue (is_named s (codes "HNVSD") HNVSD_VERSION)
+  pub place : s.head.number ≡ HNVSD_NUMBER
+  pub element : length s.elements ≡ 1
+  pub item : length (items_in s 2) ≡ 1
+  pub held_is : slice_get (items_in s 2) 0 ≡ Some (Bin held)
+
+-- both are an HNVSD, and the segments in it are sent so
+pub record AreEnvelopesAlike (recorded sent : List (List Spelled)) : Type 0 where
+  pub own : List ℕ
+  pub other : List ℕ
+  pub is_own : IsEnvelopeOf own (segment_of recorded)
+  pub is_other : IsEnvelopeOf other (segment_of sent)
+  pub alike : AreSegmentsAlike own other
+
+abbrev pub IsOuterAlike : List (List Spelled) → List (List Spelled) → Type 0
+IsOuterAlike recorded sent = IsSegmentAlike recorded sent ⊎ AreEnvelopesAlike recorded sent
+
+-- a message is sent as it was recorded, byte for byte, but for what a client makes new, what HNVSK has after its
+-- head, and the lengths in HNHBK and HNVSD that follow
 abbrev pub IsSentAgain : List ℕ → List ℕ → Type 0
 IsSentAgain recorded sent =
-    (sent ≡ recorded) ⊎ ((front rest : List ℕ) × IsSealedIn recorded front rest × IsSealedIn sent front rest)
+    (own other : List (List (List Spelled))) × IsCapture recorded own × IsCapture sent other
+    × AllZip IsOuterAlike own other
 
 -- the client's messages are sent so, in order, and nothing else is
 abbrev pub AreSentAgain : List Exchange → List Sent → Type 0
@@ -90,10 +172,11 @@ pub record IsLastBlank (elements : List (List TemplateItem)) (place : ℕ) : Typ
   pub blank : All IsBlank (get_or elements place [])
   pub last : length elements ≤ place + 1
 
--- one item of letters and digits, as a control reference is, or no item
+-- one item of letters and digits, as a control reference is, or the value of a field, or no item
 abbrev pub IsReference : List TemplateItem → Type 0
 IsReference [] = Unit {0}
 IsReference (Literal item ∷ []) = IsTrue (list_all is_ascii_alphanumeric (item_value item))
+IsReference (Field place ∷ []) = Unit {0}
 IsReference _ = ⊥
 
 -- a signer's PIN and TAN are in element 4 of its HNSHA, and no part of them is in an element before it
@@ -106,25 +189,41 @@ pub record HasBlankPin (signer : Signer) : Type 0 where
 abbrev pub HasBlankNewPin : Template → Type 0
 HasBlankNewPin t = t.kind ≡ codes "HKPAE" → IsLastBlank t.elements 0
 
--- a field that lists none of its values
-abbrev pub IsUnlisted : NamedField → Type 0
-IsUnlisted f =
+abbrev pub is_latin : Alphabet → Bool
+is_latin alphabets.Latin = true
+is_latin _ = false
+
+abbrev pub is_digits : Alphabet → Bool
+is_digits alphabets.Digits = true
+is_digits _ = false
+
+-- the bounds of a text of a draft: those of a control reference, the dialogue's id, an order's reference and a secret,
+-- and of a date and a time
+abbrev pub is_draft_text : Text → Bool
+is_draft_text c =
+    (is_latin c.alphabet && c.min == 1 && (c.max == 14 || c.max == 30 || c.max == 35 || c.max == 99))
+    || (is_digits c.alphabet && (c.min == 8 && c.max == 8 || c.min == 6 && c.max == 6))
+
+-- a field of a draft: its bounds are constants of the standard, and it lists none of its values
+abbrev pub IsDraftField : NamedField → Type 0
+IsDraftField f =
     elim f.class [
-      | classes.Text c ↦ Unit {0}
-      | classes.Bin c ↦ Unit {0}
+      | classes.Text c ↦ IsTrue (is_draft_text c)
+      | classes.Bin c ↦ (c.min ≡ 1) × (c.max ≡ 99)
       | classes.OneOf c ↦ ⊥
       | classes.Account c ↦ ⊥
     ]
 
--- PIN, TAN and new PIN are values of fields, and the last elements of their segments; and no field lists its values
+-- PIN, TAN and new PIN are values of fields, and the last elements of their segments; and no field's bounds come from
+-- a recorded value
 pub record KeepsSecrets (script : ScriptValue) : Type 0 where
-  pub fields : All IsUnlisted script.fields
+  pub fields : All IsDraftField script.fields
   pub signers : All HasBlankPin script.signers
   pub steps : All (λ step. All HasBlankNewPin step.templates) script.steps
 
 -- ---- drafts
 
--- the texts of a script and of a case that replay the exchanges; no secret stands in the script
+-- the texts of a script and of a case that replay the exchanges; the script has no secret
 pub record IsDraft (exchanges : List Exchange) (script_text case_text : List ℕ) : Type 0 where
   pub script : ScriptValue
   pub values : List NamedValue

@@ -2,9 +2,10 @@
 ghost use Rattle.std.specs.Prelude.{◌≡◌, [], IsTrue, get_or};
 ghost use Rattle.std.specs.Char.{is_ascii_alphanumeric};
 ghost use Rattle.std.specs.List.{All, list_all};
-ghost use Rattle.fints_cli_drafts.specs.Drafts.{HasBlankNewPin, HasBlankPin, IsBlank, IsLastBlank, IsReference, IsUnlisted, KeepsSecrets};
+ghost use Rattle.fints_cli_drafts.specs.Drafts.{HasBlankNewPin, HasBlankPin, IsBlank, IsDraftField, IsLastBlank, IsReference, KeepsSecrets, is_digits, is_draft_text, is_latin};
 
 use fints_script::{Field, NamedField, Script, Signer, Template, TemplateElements, TemplateItem};
+use fints_script_fields::{Alphabet, Text};
 
 // Whether an item is a field, or empty.
 fn is_blank(item: &TemplateItem) -> bool
@@ -51,6 +52,7 @@ fn is_reference(items: &[TemplateItem]) -> bool
     match items {
         [] => true,
         [TemplateItem::Literal(item)] => is_plain(item.value()),
+        [TemplateItem::Field(_)] => true,
         _ => false,
     }
 }
@@ -83,17 +85,43 @@ fn are_blank_new_pins(templates: &[Template]) -> bool
     templates.iter().all(has_blank_new_pin)
 }
 
-fn is_unlisted(field: &NamedField) -> bool
-    ensures { IsTrue result → IsUnlisted field.now }
+fn is_latin(alphabet: Alphabet) -> bool
+    ensures { result ≡ is_latin alphabet }
 {
-    matches!(field.class, Field::Text(_) | Field::Bin(_))
+    matches!(alphabet, Alphabet::Latin)
+}
+
+fn is_digits(alphabet: Alphabet) -> bool
+    ensures { result ≡ is_digits alphabet }
+{
+    matches!(alphabet, Alphabet::Digits)
+}
+
+fn is_draft_text(text: &Text) -> bool
+    ensures { result ≡ is_draft_text text.now }
+{
+    (is_latin(text.alphabet)
+        && text.min == 1
+        && (text.max == 14 || text.max == 30 || text.max == 35 || text.max == 99))
+        || (is_digits(text.alphabet)
+            && (text.min == 8 && text.max == 8 || text.min == 6 && text.max == 6))
+}
+
+fn is_draft_field(field: &NamedField) -> bool
+    ensures { IsTrue result → IsDraftField field.now }
+{
+    match &field.class {
+        Field::Text(text) => is_draft_text(text),
+        Field::Bin(bin) => bin.min == 1 && bin.max == 99,
+        _ => false,
+    }
 }
 
 /// Whether PIN, TAN and new PIN are values of fields, and the last elements of their segments.
 pub fn keeps_secrets(script: &Script) -> bool
     ensures { IsTrue result → KeepsSecrets script.now }
 {
-    script.fields().iter().all(is_unlisted)
+    script.fields().iter().all(is_draft_field)
         && script.signers().iter().all(has_blank_pin)
         && script
             .steps()

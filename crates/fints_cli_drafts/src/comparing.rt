@@ -1,36 +1,101 @@
-//! Whether a message is sent again as it was recorded.
-ghost use Rattle.std.specs.Prelude.{◌≡◌, ◌++◌, IfSome, IsTrue};
-ghost use Rattle.fints_syntax_segments.specs.Segment.{segment_bytes};
+//! Whether a message is sent again as it was recorded, but for what a client makes new.
+ghost use Rattle.std.specs.Prelude.{◌≡◌, ◌≤◌, IfNone, IfOk, IfSome, IsTrue, None};
+ghost use Rattle.std.specs.Str.{bytes_eq};
+ghost use Rattle.std.specs.List.{AllZip};
+ghost use Rattle.fints_syntax_segments.specs.Lent.{item_of_ref};
+ghost use Rattle.fints_syntax.specs.Capture.{IsCapture};
 ghost use Rattle.fints_syntax.specs.Owned.{segment_of};
 ghost use Rattle.fints_rules_messages.specs.Messages.{IsSealHead};
-ghost use Rattle.fints_cli_drafts.specs.Drafts.{HasSizeBefore, IsSealedIn, IsSentAgain};
+ghost use Rattle.fints_cli_drafts.specs.Drafts.{AreEnvelopesAlike, AreSegmentsAlike, IsElementAlike, IsEnvelopeOf, IsItemAlike, IsOuterAlike, IsRenewal, IsSegmentAlike, IsSentAgain};
 
-use crate::place::Place;
-use fints_syntax::{Item, Memory, SegmentView, SyntaxFault, SyntaxKind, parse_all, parse_segment};
-use fints_syntax_segments::{HNVSK_NUMBER, HNVSK_VERSION};
+use crate::renewed::{is_renewable, is_renewed};
+use fints_syntax::{
+    Head, ItemRef, Memory, OwnedSegment, SegmentView, SyntaxFault, SyntaxKind, parse_all,
+};
+use fints_syntax_segments::{HNVSD_NUMBER, HNVSD_VERSION, HNVSK_NUMBER, HNVSK_VERSION};
 use std::alloc::Global;
 
-// A sealed message without the size in HNHBK and without HNVSK: HNHBK behind the size, and what follows
-// HNVSK.
-#[derive(Clone, Copy)]
-struct SealedParts<'a> {
-    front: &'a [u8],
-    rest: &'a [u8],
+/// Whether two items are the same, text or binary.
+pub fn is_same_item(one: &ItemRef<'_>, other: &ItemRef<'_>) -> bool
+    ensures { IsTrue result → item_of_ref one.now ≡ item_of_ref other.now }
+{
+    match (one, other) {
+        (ItemRef::Text(a), ItemRef::Text(b)) => *a == *b,
+        (ItemRef::Bin(a), ItemRef::Bin(b)) => *a == *b,
+        _ => false,
+    }
 }
 
-// HNHBK behind the size in 12 digits.
-fn behind_size<'a>(first: &SegmentView<'a>) -> Option<&'a [u8]>
-    ensures { IfSome result (λ front. HasSizeBefore (segment_bytes first.now) front.now) }
+// Whether an item is the same in both segments, or in none.
+fn has_same_item(own: &OwnedSegment, sent: &OwnedSegment, element: usize, item: usize) -> bool
+    requires element { 2 ≤ element }
+    requires item { 1 ≤ item }
+    ensures { IsTrue result → IsItemAlike own.now sent.now element item }
 {
-    let text = first.as_bytes();
-    if text.len() < 22 {
-        return None;
+    match (own.items(element).get(item), sent.items(element).get(item)) {
+        (Some(a), Some(b)) => is_same_item(&a, &b),
+        (None, None) => true,
+        _ => false,
     }
-    if !text.starts_with(b"HNHBK:1:3+") {
-        return None;
+}
+
+fn is_item_alike(own: &OwnedSegment, sent: &OwnedSegment, element: usize, item: usize) -> bool
+    requires element { 2 ≤ element }
+    requires item { 1 ≤ item }
+    ensures { IsTrue result → IsItemAlike own.now sent.now element item }
+{
+    if has_same_item(own, sent, element, item) {
+        return true;
     }
-    let (_, front) = text.split_at(22);
-    Some(front)
+    is_renewed(own, element, item)
+        && !own.value(element, item).is_empty()
+        && !sent.value(element, item).is_empty()
+}
+
+fn is_element_alike(own: &OwnedSegment, sent: &OwnedSegment, element: usize) -> bool
+    requires { 2 ≤ element }
+    ensures { IsTrue result → IsElementAlike own.now sent.now element }
+{
+    let count = own.items(element).len();
+    if sent.items(element).len() != count {
+        return false;
+    }
+    for i in 0..count {
+        if !is_item_alike(own, sent, element, i + 1) {
+            return false;
+        }
+    }
+    true
+}
+
+fn has_same_head(own: &Head, sent: &Head) -> bool
+    ensures { IsTrue result → IsTrue (bytes_eq own.now.id sent.now.id)
+        × (own.now.number ≡ sent.now.number) × (own.now.version ≡ sent.now.version)
+        × (own.now.reference ≡ None) × (sent.now.reference ≡ None) }
+{
+    own.id.is(sent.id.as_bytes())
+        && own.number == sent.number
+        && own.version == sent.version
+        && own.reference.is_none()
+        && sent.reference.is_none()
+}
+
+fn is_renewal(own: &OwnedSegment, sent: &OwnedSegment) -> bool
+    ensures { IsTrue result → IsRenewal own.now sent.now }
+{
+    if !is_renewable(own) || !has_same_head(&own.head, &sent.head) {
+        return false;
+    }
+    let count = own.elements.len();
+    if sent.elements.len() != count {
+        return false;
+    }
+    for i in 0..count {
+        if !is_element_alike(own, sent, i + 2) {
+            return false;
+        }
+    }
+    true
 }
 
 fn is_seal_head(segment: &SegmentView<'_>) -> bool
@@ -39,106 +104,134 @@ fn is_seal_head(segment: &SegmentView<'_>) -> bool
     segment.is_named(b"HNVSK", HNVSK_VERSION) && segment.number() == HNVSK_NUMBER
 }
 
-// The parts of a sealed message.
-fn sealed_parts(bytes: &[u8]) -> Option<SealedParts<'_>>
-    ensures { IfSome result (λ parts. IsSealedIn bytes.now parts.front.now parts.rest.now) }
+// Whether a segment is sent as it was recorded.
+fn is_segment_alike(
+    alloc: Global,
+    own: &SegmentView<'_>,
+    sent: &SegmentView<'_>,
+) -> Result<bool, Memory>
+    ensures { IfOk result (λ alike. IsTrue alike → IsSegmentAlike own.now sent.now) }
 {
-    let Ok((first, len)) = parse_segment(bytes) else {
-        return None;
-    };
-    let front = behind_size(&first)?;
-    let (_, behind) = bytes.split_at(len);
-    let Ok((seal, seal_len)) = parse_segment(behind) else {
-        return None;
-    };
-    if !is_seal_head(&seal) {
-        return None;
+    if sent.as_bytes() == own.as_bytes() {
+        return Ok(true);
     }
-    let (_, rest) = behind.split_at(seal_len);
-    Some(SealedParts { front, rest })
+    if is_seal_head(own) && is_seal_head(sent) {
+        return Ok(true);
+    }
+    let (own, sent) = (own.to_owned(alloc)?, sent.to_owned(alloc)?);
+    Ok(is_renewal(&own, &sent))
 }
 
-/// Whether a message is sent as it was recorded, but for what HNVSK has after its head.
-pub fn is_sent_again(recorded: &[u8], sent: &[u8]) -> bool
-    ensures { IsTrue result → IsSentAgain recorded.now sent.now }
+// The number of the first segment that isn't sent so; 0 where more is sent.
+fn other_segment(
+    alloc: Global,
+    own: &[SegmentView<'_>],
+    sent: &[SegmentView<'_>],
+) -> Result<Option<usize>, Memory>
+    ensures { IfOk result (λ other. IfNone other (AllZip IsSegmentAlike own.now sent.now)) }
 {
-    if sent == recorded {
-        return true;
+    for i in 0..own.len() {
+        if i >= sent.len() || !is_segment_alike(alloc, &own[i], &sent[i])? {
+            return Ok(Some(usize::from(own[i].number())));
+        }
     }
-    let (Some(own), Some(other)) = (sealed_parts(recorded), sealed_parts(sent)) else {
-        return false;
-    };
-    own.front == other.front && own.rest == other.rest
+    if own.len() != sent.len() {
+        return Ok(Some(0));
+    }
+    Ok(None)
 }
 
-// Whether a segment is sent as it was recorded, as far as that can be asked of it alone: HNVSK may be
-// another one, the data of HNVSD is asked of by itself, and the size in HNHBK hangs on both.
-fn is_alike(own: &SegmentView<'_>, other: &SegmentView<'_>) -> bool {
-    if own.as_bytes() == other.as_bytes() {
-        return true;
-    }
-    if own.id() != other.id() {
-        return false;
-    }
-    let kind = own.id();
-    if kind.is(b"HNVSK") || kind.is(b"HNVSD") {
-        return true;
-    }
-    match (behind_size(own), behind_size(other)) {
-        (Some(front), Some(sent)) => front == sent,
-        _ => false,
-    }
-}
-
-// The segments of a message as they stand in it; none where it is no list of them.
-fn views_of(alloc: Global, bytes: &[u8]) -> Result<Vec<SegmentView<'_>>, Memory> {
+// The segments of bytes, if they are a list of them.
+fn views_of(alloc: Global, bytes: &[u8]) -> Result<Option<Vec<SegmentView<'_>>>, Memory>
+    ensures { IfOk result (λ found. IfSome found (λ v. IsCapture bytes.now v.items)) }
+{
     match parse_all(alloc, bytes) {
-        Ok(views) => Ok(views),
+        Ok(views) => Ok(Some(views)),
         Err(
             SyntaxFault {
                 kind: SyntaxKind::Memory,
                 ..
             },
         ) => Err(Memory),
-        Err(_) => Ok(Vec::new(alloc)),
+        Err(_) => Ok(None),
     }
 }
 
-// The number of the first recorded segment that isn't sent so; 0 where more is sent.
-fn other_segment(own: &[SegmentView<'_>], sent: &[SegmentView<'_>]) -> Option<usize> {
-    for (i, segment) in own.iter().enumerate() {
-        match sent.get(i) {
-            Some(other) if is_alike(segment, other) => {}
-            _ => return Some(usize::from(segment.number())),
-        }
-    }
-    (own.len() < sent.len()).then_some(0)
+// The number of the first segment in the data of an HNVSD that isn't sent so; 0 where there is none.
+fn other_inside(alloc: Global, own: &[u8], sent: &[u8]) -> Result<Option<usize>, Memory>
+    ensures { IfOk result (λ other. IfNone other (AreSegmentsAlike own.now sent.now)) }
+{
+    let (Some(own), Some(sent)) = (views_of(alloc, own)?, views_of(alloc, sent)?) else {
+        return Ok(Some(0));
+    };
+    other_segment(alloc, own.as_slice(), sent.as_slice())
 }
 
-// The data of the HNVSD among the segments of a message.
-fn sealed_in<'a>(segments: &[SegmentView<'a>]) -> Option<&'a [u8]> {
-    let envelope = segments.iter().find(|own| own.id().is(b"HNVSD"))?;
-    match envelope.item(2, 1) {
-        Some(Item::Bin(data)) => Some(data),
+// The data of an HNVSD that has nothing more.
+fn sealed_in(segment: &OwnedSegment) -> Option<&[u8]>
+    ensures { IfSome result (λ held. IsEnvelopeOf held.now segment.now) }
+{
+    if !segment.is_named(b"HNVSD", HNVSD_VERSION) || segment.head.number != HNVSD_NUMBER {
+        return None;
+    }
+    if segment.elements.len() != 1 || segment.items(2).len() != 1 {
+        return None;
+    }
+    match segment.items(2).get(1) {
+        Some(ItemRef::Bin(data)) => Some(data),
         _ => None,
     }
 }
 
-/// The place of the first segment that isn't sent as it was recorded, in the message of a number.
-pub fn other_place(
+// The number of the segment that isn't sent as it was recorded: this one, or one in its data.
+fn other_in(
     alloc: Global,
-    recorded: &[u8],
-    sent: &[u8],
-    message: usize,
-) -> Result<Place, Memory> {
-    let (own, other) = (views_of(alloc, recorded)?, views_of(alloc, sent)?);
-    if let Some(segment) = other_segment(own.as_slice(), other.as_slice()) {
-        return Ok(Place { message, segment });
+    own: &SegmentView<'_>,
+    sent: &SegmentView<'_>,
+) -> Result<Option<usize>, Memory>
+    ensures { IfOk result (λ other. IfNone other (IsOuterAlike own.now sent.now)) }
+{
+    if is_segment_alike(alloc, own, sent)? {
+        return Ok(None);
     }
-    let (Some(data), Some(sent)) = (sealed_in(own.as_slice()), sealed_in(other.as_slice())) else {
-        return Ok(Place::whole(message));
+    let number = usize::from(own.number());
+    let (own, sent) = (own.to_owned(alloc)?, sent.to_owned(alloc)?);
+    match (sealed_in(&own), sealed_in(&sent)) {
+        (Some(data), Some(other)) => other_inside(alloc, data, other),
+        _ => Ok(Some(number)),
+    }
+}
+
+// The number of the first of the segments that isn't sent as it was recorded, or of one in its data; 0 where
+// more is sent.
+fn other_outer(
+    alloc: Global,
+    own: &[SegmentView<'_>],
+    sent: &[SegmentView<'_>],
+) -> Result<Option<usize>, Memory>
+    ensures { IfOk result (λ other. IfNone other (AllZip IsOuterAlike own.now sent.now)) }
+{
+    for i in 0..own.len() {
+        if i >= sent.len() {
+            return Ok(Some(usize::from(own[i].number())));
+        }
+        if let Some(number) = other_in(alloc, &own[i], &sent[i])? {
+            return Ok(Some(number));
+        }
+    }
+    if own.len() != sent.len() {
+        return Ok(Some(0));
+    }
+    Ok(None)
+}
+
+/// The number of the first segment of a message that isn't sent as it was recorded, if there is one; 0 where
+/// it is the message as a whole.
+pub fn other_sent(alloc: Global, recorded: &[u8], sent: &[u8]) -> Result<Option<usize>, Memory>
+    ensures { IfOk result (λ other. IfNone other (IsSentAgain recorded.now sent.now)) }
+{
+    let (Some(own), Some(sent)) = (views_of(alloc, recorded)?, views_of(alloc, sent)?) else {
+        return Ok(Some(0));
     };
-    let (own, other) = (views_of(alloc, data)?, views_of(alloc, sent)?);
-    let segment = other_segment(own.as_slice(), other.as_slice()).unwrap_or(0);
-    Ok(Place { message, segment })
+    other_outer(alloc, own.as_slice(), sent.as_slice())
 }

@@ -43,7 +43,7 @@ fn script_of(alloc: Global, sketch: &Sketch) -> Result<Script, Undrafted>
     }
 }
 
-// The case that a text stands for, read back.
+// The case that a text denotes, read back.
 fn case_of(alloc: Global, text: &[u8]) -> Result<Case, Undrafted>
     ensures { IfOk result (λ case. IsCaseOf text.now case.values case.answers.items) }
 {

@@ -1,10 +1,12 @@
 //! The elements of a recorded segment, as they are written in a script.
 ghost use Rattle.std.specs.Prelude.{◌≤◌};
 
+use crate::fields::{DraftFields, Purpose};
 use crate::place::{Place, Undrafted};
-use crate::secrets::{Secret, Secrets};
+use crate::renewed::refers;
 use crate::texts::write_item;
-use fints_syntax::{ItemRef, OwnedSegment};
+use fints_cli_texts::has_reference;
+use fints_syntax::{ElementRef, ItemRef, OwnedSegment};
 use std::alloc::Global;
 
 /// A recorded segment, with what is written of it for another reason than its bytes.
@@ -15,10 +17,19 @@ pub struct Written<'a> {
     pub dialogue_id: &'a [u8],
     /// The message, which counts from 1.
     pub message: usize,
+    /// The signature that it belongs to, from 1: an HNSHA belongs to the HNSHK with its control reference.
+    pub signature: usize,
+    /// The control reference in the HNSHK of that signature.
+    pub reference: &'a [u8],
+}
+
+// Whether each item of an element is empty.
+fn is_empty(items: &ElementRef<'_>) -> bool {
+    (0..items.len()).all(|i| items.value(i + 1).is_empty())
 }
 
 impl Written<'_> {
-    /// Where it stands in the dialogue.
+    /// Its place in the dialogue.
     pub fn place(&self) -> Place {
         Place {
             message: self.message,
@@ -26,20 +37,94 @@ impl Written<'_> {
         }
     }
 
-    // Whether the id of the dialogue stands at an item of an element, and is due there: in HKEND.
+    // Whether an item of an element is the id of the dialogue, and is due there: in HKEND.
     fn is_dialogue_id(&self, element: usize, item: usize) -> bool {
         self.segment.head.id.is(b"HKEND")
             && element == 2
             && item == 1
             && self.segment.value(2, 1) == self.dialogue_id
     }
+
+    // Whether an element that is no secret's may hold a part of one, as where a + is missing, or is written in
+    // a secret without an escape.
+    fn misplaces_secrets(&self) -> bool {
+        let segment = self.segment;
+        let count = segment.elements.len();
+        if segment.head.id.is(b"HNSHA") {
+            return count > 3 || !has_reference(segment) || !is_empty(&segment.items(3));
+        }
+        segment.head.id.is(b"HKPAE") && count > 1
+    }
+
+    // What an item of an HNSHA is.
+    fn purpose_in_end(&self, element: usize, item: usize) -> Option<Purpose> {
+        match (element, item) {
+            (2, 1) if self.segment.value(2, 1) == self.reference => {
+                Some(Purpose::Reference(self.signature))
+            }
+            (4, 1) => Some(Purpose::Pin),
+            (4, 2) => Some(Purpose::Tan(self.signature)),
+            (4, _) => Some(Purpose::FurtherSecret),
+            _ => None,
+        }
+    }
+
+    // What an item of an HNSHK is.
+    fn purpose_in_opener(&self, element: usize, item: usize) -> Option<Purpose> {
+        match (element, item) {
+            (4, 1) => Some(Purpose::Reference(self.signature)),
+            (9, 2) => Some(Purpose::Date),
+            (9, 3) => Some(Purpose::Time),
+            _ => None,
+        }
+    }
+
+    // What an item is, where it may be the value of a field; items and elements count from 1.
+    fn purpose(&self, element: usize, item: usize) -> Option<Purpose> {
+        let kind = self.segment.head.id;
+        if kind.is(b"HNSHK") {
+            return self.purpose_in_opener(element, item);
+        }
+        if kind.is(b"HNSHA") {
+            return self.purpose_in_end(element, item);
+        }
+        if kind.is(b"HKPAE") && element == 2 {
+            return Some(Purpose::NewPin);
+        }
+        if refers(self.segment) && element == 6 && item == 1 {
+            return Some(Purpose::OrderReference);
+        }
+        None
+    }
 }
 
-// Writes the string of an item, as a field where it is a secret.
+// Writes the string of an item as a field, where it may be the value of one, and answers whether it did.
+fn write_field(
+    alloc: Global,
+    text: &mut String,
+    fields: &mut DraftFields,
+    written: &Written<'_>,
+    element: usize,
+    item: usize,
+    found: &ItemRef<'_>,
+) -> Result<bool, Undrafted>
+    requires element { 2 ≤ element }
+    requires item { 1 ≤ item }
+{
+    if written.segment.value(element, item).is_empty() {
+        return Ok(false);
+    }
+    match written.purpose(element, item) {
+        Some(purpose) => fields.write(alloc, text, purpose, found, written.place()),
+        None => Ok(false),
+    }
+}
+
+// Writes the string of an item.
 fn write_string(
     alloc: Global,
     text: &mut String,
-    secrets: &mut Secrets,
+    fields: &mut DraftFields,
     written: &Written<'_>,
     element: usize,
     item: usize,
@@ -50,22 +135,21 @@ fn write_string(
     let Some(found) = written.segment.items(element).get(item) else {
         return Ok(());
     };
-    let is_empty = written.segment.value(element, item).is_empty();
-    match Secret::at(written.segment, element, item) {
-        Some(secret) if !is_empty => { secrets.write(alloc, text, secret, &found, written.place()) }
-        _ if written.is_dialogue_id(element, item) => {
-            text.push_str("\"$dialog\"")?;
-            Ok(())
-        }
-        _ => write_item(alloc, text, &found, written.place()),
+    if write_field(alloc, text, fields, written, element, item, &found)? {
+        return Ok(());
     }
+    if written.is_dialogue_id(element, item) {
+        text.push_str("\"$dialog\"")?;
+        return Ok(());
+    }
+    write_item(alloc, text, &found, written.place())
 }
 
 // Writes the strings of an element, with commas between.
 fn write_strings(
     alloc: Global,
     text: &mut String,
-    secrets: &mut Secrets,
+    fields: &mut DraftFields,
     written: &Written<'_>,
     element: usize,
 ) -> Result<(), Undrafted>
@@ -76,7 +160,7 @@ fn write_strings(
         if item > 0 {
             text.push_str(", ")?;
         }
-        write_string(alloc, text, secrets, written, element, item + 1)?;
+        write_string(alloc, text, fields, written, element, item + 1)?;
     }
     Ok(())
 }
@@ -85,17 +169,17 @@ fn write_strings(
 fn write_element(
     alloc: Global,
     text: &mut String,
-    secrets: &mut Secrets,
+    fields: &mut DraftFields,
     written: &Written<'_>,
     element: usize,
 ) -> Result<(), Undrafted>
     requires { 2 ≤ element }
 {
     if written.segment.items(element).len() == 1 {
-        return write_strings(alloc, text, secrets, written, element);
+        return write_strings(alloc, text, fields, written, element);
     }
     text.push('[')?;
-    write_strings(alloc, text, secrets, written, element)?;
+    write_strings(alloc, text, fields, written, element)?;
     text.push(']')?;
     Ok(())
 }
@@ -104,10 +188,10 @@ fn write_element(
 pub fn write_elements(
     alloc: Global,
     text: &mut String,
-    secrets: &mut Secrets,
+    fields: &mut DraftFields,
     written: &Written<'_>,
 ) -> Result<(), Undrafted> {
-    if Secret::is_misplaced(written.segment) {
+    if written.misplaces_secrets() {
         return Err(written.place().refused());
     }
     text.push('[')?;
@@ -115,7 +199,7 @@ pub fn write_elements(
         if i > 0 {
             text.push_str(", ")?;
         }
-        write_element(alloc, text, secrets, written, i + 2)?;
+        write_element(alloc, text, fields, written, i + 2)?;
     }
     text.push(']')?;
     Ok(())

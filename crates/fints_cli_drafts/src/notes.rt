@@ -1,16 +1,18 @@
 //! What a draft says in comments: what its reader may want to change.
 ghost use Rattle.std.specs.Prelude.{◌≤◌};
 
-use crate::recorded::has_process;
+use crate::comparing::is_same_item;
 use fints_rules::{AccountForm, OrderTable};
 use fints_syntax::{ElementRef, ItemRef, OwnedSegment};
 use std::alloc::AllocError;
 
-/// What stands at the top of a draft.
+/// The top of a draft.
 pub const OPENING: &str = "\
 # The draft of a script, from a recorded dialogue: its run with the case that `fints draft --case` prints
-# sends the recorded messages. What else stands as a text may be made a field, which has a value of its own
-# in each run: declare the field before the steps, and put its name in the place of the text, as in
+# sends the recorded messages. What a client makes new for each message is a field, and a run sends one value
+# of it in all messages: the control reference, the date and the time of a signature, the TAN, and the bank's
+# reference of an order. Any other text may be made a field, which has a value of its own in each run: declare
+# the field before the steps, and put its name in the place of the text, as in
 #
 #   [[field]]
 #   name = \"purpose\"
@@ -18,16 +20,12 @@ pub const OPENING: &str = "\
 #   min = 1
 #   max = 35
 #
-# and \"$purpose\". The time and the control reference of a signer's head and of the seal vary so, too.
+# and \"$purpose\". The time of the seal is such a text.
 ";
 
-// What stands over an order that names an account.
+// The comment before an order that names an account.
 const ACCOUNT: &str =
     "  # Element 2 is an account: a field of class \"account\" lists those that it may be.\n";
-
-// What stands over an HKTAN that goes on with an order.
-const REFERENCE: &str =
-    "  # The bank gave the order's reference in its HITAN: make it a field of class \"text\".\n";
 
 // Whether an order names an account, by the order table.
 fn names_account(orders: &OrderTable, segment: &OwnedSegment) -> bool {
@@ -37,7 +35,80 @@ fn names_account(orders: &OrderTable, segment: &OwnedSegment) -> bool {
     }
 }
 
-/// Writes what stands over a segment, if something does.
+// Whether a comment shows the data of a binary item: an XML text of ASCII, longer than 20 bytes.
+fn is_shown(data: &[u8]) -> bool {
+    let is_text = |b: &u8| (b' '..=b'~').contains(b) || matches!(*b, b'\t' | b'\n' | b'\r');
+    data.len() > 20 && data.first() == Some(&b'<') && data.iter().all(is_text)
+}
+
+// Writes the lines of a text as comments.
+fn write_lines(text: &mut String, data: &[u8]) -> Result<(), AllocError> {
+    let mut begins = true;
+    for b in data {
+        if begins {
+            text.push_str("  #   ")?;
+        }
+        begins = *b == b'\n';
+        if *b != b'\r' {
+            text.push(char::from(*b))?;
+        }
+    }
+    if begins {
+        return Ok(());
+    }
+    text.push('\n')
+}
+
+// Writes what a binary item of an element is, where it is an XML text.
+fn write_shown(
+    text: &mut String,
+    element: usize,
+    item: usize,
+    found: &ItemRef<'_>,
+) -> Result<(), AllocError> {
+    let ItemRef::Bin(data) = found else {
+        return Ok(());
+    };
+    if !is_shown(data) {
+        return Ok(());
+    }
+    if item == 1 {
+        writeln!(text, "  # element {element}:")?;
+    } else {
+        writeln!(text, "  # element {element}, item {item}:")?;
+    }
+    write_lines(text, data)
+}
+
+// Writes the XML texts of an element.
+fn write_element_notes(
+    text: &mut String,
+    segment: &OwnedSegment,
+    element: usize,
+) -> Result<(), AllocError>
+    requires { 2 ≤ element }
+{
+    let items = segment.items(element);
+    for i in 0..items.len() {
+        if let Some(found) = items.get(i + 1) {
+            write_shown(text, element, i + 1, &found)?;
+        }
+    }
+    Ok(())
+}
+
+// Writes the XML texts of a segment. A new PIN is none of them, whatever it is.
+fn write_xml_notes(text: &mut String, segment: &OwnedSegment) -> Result<(), AllocError> {
+    if segment.head.id.is(b"HKPAE") {
+        return Ok(());
+    }
+    for i in 0..segment.elements.len() {
+        write_element_notes(text, segment, i + 2)?;
+    }
+    Ok(())
+}
+
+/// Writes the comments before a segment of the body.
 pub fn write_segment_note(
     text: &mut String,
     orders: &OrderTable,
@@ -46,18 +117,7 @@ pub fn write_segment_note(
     if names_account(orders, segment) {
         text.push_str(ACCOUNT)?;
     }
-    if has_process(segment, b"2") || has_process(segment, b"S") {
-        text.push_str(REFERENCE)?;
-    }
-    Ok(())
-}
-
-fn is_same_item(one: &ItemRef<'_>, other: &ItemRef<'_>) -> bool {
-    match (one, other) {
-        (ItemRef::Text(a), ItemRef::Text(b)) => *a == *b,
-        (ItemRef::Bin(a), ItemRef::Bin(b)) => *a == *b,
-        _ => false,
-    }
+    write_xml_notes(text, segment)
 }
 
 // Whether an item, which counts from 1, is the same in both elements, or in none.

@@ -1,4 +1,4 @@
-//! Where in a recorded dialogue something stands that no draft sends.
+//! Places in a recorded dialogue of what no draft sends.
 ghost use Rattle.std.specs.Prelude.{◌≡◌};
 ghost use Rattle.fints_cli_drafts.specs.declared.place.Undrafted.TheVariants as undrafted;
 
@@ -13,7 +13,7 @@ pub struct Place {
     pub segment: usize,
 }
 
-/// Why there is no draft: want of memory, or what stands at a place.
+/// Why there is no draft: memory ran out, or no draft sends what is at a place.
 #[derive(Clone, Copy)]
 pub enum Undrafted {
     Memory,
@@ -31,7 +31,7 @@ impl Place {
         }
     }
 
-    /// The refusal of what stands there.
+    /// The refusal of what is there.
     pub fn refused(self) -> Undrafted {
         Undrafted::At(self)
     }

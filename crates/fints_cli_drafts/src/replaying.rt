@@ -1,8 +1,8 @@
 //! Whether a script and a case send a recorded dialogue once more.
-ghost use Rattle.std.specs.Prelude.{◌≡◌, ◌<◌, ◌++◌, IfNone, IfOk, IfSome, OnOk, length};
+ghost use Rattle.std.specs.Prelude.{◌≡◌, ◌++◌, IfNone, IfOk, OnOk};
 ghost use Rattle.fints_cli_drafts.specs.Drafts.{answers_of, answer_in, AreSentAgain, Replays};
 
-use crate::comparing::{is_sent_again, other_place};
+use crate::comparing::other_sent;
 use crate::place::{Place, Undrafted};
 use fints_params::Code;
 use fints_rules::OrderTable;
@@ -12,7 +12,7 @@ use fints_syntax::Memory;
 use fints_wire::{Sent, run};
 use std::alloc::{AllocError, Global};
 
-// Where the id of the dialogue stands, which is the one value that no field may be made for.
+// The place of the dialogue's id, the one value that no field may be made for.
 const DIALOGUE_ID: Place = Place {
     message: 2,
     segment: 1,
@@ -57,22 +57,8 @@ pub fn answers_of(alloc: Global, exchanges: &[Exchange<'_>]) -> Result<Vec<Answe
     Ok(answers)
 }
 
-// The first message that isn't sent as it was recorded, by its place, which counts from 0.
-fn first_other(exchanges: &[Exchange<'_>], sent: &[Sent]) -> Option<usize>
-    requires { length sent.now ≡ length exchanges.now }
-    ensures all { IfNone result (AreSentAgain exchanges.now sent.now) }
-    ensures within { IfSome result (λ i. i < length exchanges.now) }
-{
-    for i in 0..exchanges.len() {
-        if !is_sent_again(exchanges[i].sent.bytes, sent[i].bytes.as_slice()) {
-            return Some(i);
-        }
-    }
-    None
-}
-
 // The place of what isn't sent as it was recorded, if something isn't.
-fn other_sent(
+fn other_place(
     alloc: Global,
     exchanges: &[Exchange<'_>],
     sent: &[Sent],
@@ -82,12 +68,14 @@ fn other_sent(
     if sent.len() != exchanges.len() {
         return Ok(Some(Place::whole(sent.len() + 1)));
     }
-    let Some(i) = first_other(exchanges, sent) else {
-        return Ok(None);
-    };
-    let recorded = exchanges[i].sent.bytes;
-    let place = other_place(alloc, recorded, sent[i].bytes.as_slice(), i + 1)?;
-    Ok(Some(place))
+    for i in 0..exchanges.len() {
+        let other = other_sent(alloc, exchanges[i].sent.bytes, sent[i].bytes.as_slice())?;
+        if let Some(segment) = other {
+            let message = i + 1;
+            return Ok(Some(Place { message, segment }));
+        }
+    }
+    Ok(None)
 }
 
 // The plan of a script.
@@ -121,7 +109,7 @@ pub fn replay(
         return Err(DIALOGUE_ID.refused());
     }
     let sent = run(alloc, &plan, &case.values, case.answers.as_slice())?;
-    match other_sent(alloc, exchanges, sent.as_slice())? {
+    match other_place(alloc, exchanges, sent.as_slice())? {
         Some(place) => Err(place.refused()),
         None => Ok(()),
     }

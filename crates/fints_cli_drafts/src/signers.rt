@@ -1,13 +1,14 @@
-//! The signers of a draft: one for each pair of an HNSHK and an HNSHA that differs from the others.
+//! The signers of a draft: one for each pair of an HNSHK and an HNSHA that differs from the others, as a script
+//! writes them.
 use crate::elements::{Written, write_elements};
+use crate::fields::DraftFields;
 use crate::place::{Place, Undrafted};
 use crate::recorded::Recorded;
-use crate::secrets::Secrets;
 use crate::texts::write_number;
 use fints_script::limits::{MAX_SIGNATURES, MAX_SIGNERS};
 use std::alloc::{AllocError, Global};
 
-// A signer: its row behind its name, and the message in which it was met first.
+// A signer: its row after its name, and the message in which it was met first.
 #[derive(Drop)]
 struct SignerRow {
     row: String,
@@ -20,33 +21,37 @@ pub struct Signers {
     rows: Vec<SignerRow>,
 }
 
-// The row of the signer of a place in a message, behind its name, and where its HNSHK stands.
+// The row of the signer of a signature in a message, after its name, and where its HNSHK is. Signatures count
+// from 1.
 fn row_of(
     alloc: Global,
-    secrets: &mut Secrets,
+    fields: &mut DraftFields,
     recorded: &Recorded,
     message: usize,
-    place: usize,
+    signature: usize,
 ) -> Result<Option<SignerRow>, Undrafted> {
-    let Some((head, end)) = recorded.signature(place) else {
+    let Some((opener, end)) = recorded.signature(signature) else {
         return Ok(None);
     };
-    let dialogue_id = recorded.dialogue_id();
     let head = Written {
-        segment: head,
-        dialogue_id,
+        segment: opener,
+        dialogue_id: recorded.dialogue_id(),
         message,
+        signature,
+        reference: opener.value(4, 1),
     };
+    let owner = recorded.signature_of(signature, end);
     let end = Written {
         segment: end,
-        dialogue_id,
-        message,
+        signature: owner,
+        reference: recorded.reference(owner),
+        ..head
     };
     let mut row = String::new(alloc);
     row.push_str("head = ")?;
-    write_elements(alloc, &mut row, secrets, &head)?;
+    write_elements(alloc, &mut row, fields, &head)?;
     row.push_str("\nend = ")?;
-    write_elements(alloc, &mut row, secrets, &end)?;
+    write_elements(alloc, &mut row, fields, &end)?;
     row.push('\n')?;
     let met = head.place();
     Ok(Some(SignerRow { row, met }))
@@ -84,16 +89,16 @@ impl Signers {
         &mut self,
         alloc: Global,
         text: &mut String,
-        secrets: &mut Secrets,
+        fields: &mut DraftFields,
         recorded: &Recorded,
         message: usize,
     ) -> Result<(), Undrafted> {
-        for place in 0..MAX_SIGNATURES {
-            let Some(row) = row_of(alloc, secrets, recorded, message, place)? else {
+        for signature in 1..=MAX_SIGNATURES {
+            let Some(row) = row_of(alloc, fields, recorded, message, signature)? else {
                 return Ok(());
             };
             let number = self.number_of(row)?;
-            if place > 0 {
+            if signature > 1 {
                 text.push_str(", ")?;
             }
             text.push_str("\"signer")?;

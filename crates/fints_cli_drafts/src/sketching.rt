@@ -1,9 +1,9 @@
 //! The sketch of a draft: the text of its script, and the values of its case, before they are tried.
 use crate::elements::{Written, write_elements};
+use crate::fields::DraftFields;
 use crate::notes::{OPENING, write_seal_note};
 use crate::place::{Place, Undrafted};
 use crate::recorded::Recorded;
-use crate::secrets::Secrets;
 use crate::signers::Signers;
 use crate::steps::{Common, write_step};
 use crate::turns::{Turn, ways_of};
@@ -48,7 +48,7 @@ impl Seal {
     fn meet(
         &mut self,
         alloc: Global,
-        secrets: &mut Secrets,
+        fields: &mut DraftFields,
         recorded: Recorded,
         message: usize,
     ) -> Result<(), Undrafted> {
@@ -65,9 +65,11 @@ impl Seal {
             segment,
             dialogue_id: recorded.dialogue_id(),
             message,
+            signature: 1,
+            reference: &[],
         };
         self.row.push_str("\nseal = ")?;
-        write_elements(alloc, &mut self.row, secrets, &written)?;
+        write_elements(alloc, &mut self.row, fields, &written)?;
         self.row.push('\n')?;
         self.first = Some((recorded, message));
         Ok(())
@@ -84,7 +86,7 @@ pub struct Sketch {
 }
 
 impl Sketch {
-    /// Where in the dialogue stands what a place of the script was drafted from.
+    /// The place in the dialogue that a place of the script was drafted from.
     pub fn source(&self, place: fints_script::Place) -> Place {
         match place {
             fints_script::Place::Step(row) => Place::whole(usize::from(row)),
@@ -99,7 +101,7 @@ impl Sketch {
     }
 }
 
-// What each message of the client does with an order that demands a TAN.
+// What each message of the client does.
 fn turns_of(alloc: Global, exchanges: &[Exchange<'_>]) -> Result<Vec<Turn>, Memory> {
     let mut turns = Vec::new(alloc);
     for exchange in exchanges {
@@ -122,18 +124,18 @@ fn write_steps(
     for (i, exchange) in exchanges.iter().enumerate() {
         let message = i + 1;
         let recorded = Recorded::of(alloc, &exchange.message)?;
-        let ways = ways_of(turns.get(i..).unwrap_or(&[]), exchange, message);
+        let ways = ways_of(alloc, turns.as_slice(), i, exchange)?;
         write_step(alloc, text, common, orders, &recorded, message, &ways)?;
-        seal.meet(alloc, &mut common.secrets, recorded, message)?;
+        seal.meet(alloc, &mut common.fields, recorded, message)?;
     }
     Ok(())
 }
 
-// The values of the fields. The id of the dialogue is that of the second message; it stands nowhere
-// in a dialogue that has none.
+// The values of the fields. The id of the dialogue is that of the second message; a dialogue without one
+// has it nowhere.
 fn values_of(
     alloc: Global,
-    secrets: &Secrets,
+    fields: &DraftFields,
     exchanges: &[Exchange<'_>],
 ) -> Result<Values, Memory> {
     let mut values = Values::new(alloc);
@@ -147,7 +149,7 @@ fn values_of(
             values.push(dialog, first.value(4, 1))?;
         }
     }
-    secrets.add_values(alloc, &mut values)?;
+    fields.add_values(alloc, &mut values)?;
     Ok(values)
 }
 
@@ -157,13 +159,13 @@ fn joined(alloc: Global, common: &Common, seal: &Seal, steps: &str) -> Result<St
     text.push_str(OPENING)?;
     text.push_str(seal.row.as_str())?;
     text.push_str(seal.notes.as_str())?;
-    common.secrets.write_rows(&mut text)?;
+    common.fields.write_rows(&mut text)?;
     common.signers.write_rows(&mut text)?;
     text.push_str(steps)?;
     Ok(text)
 }
 
-/// The sketch of a dialogue. The order table says which orders name an account, of which comments tell.
+/// The sketch of a dialogue. Its comments say which orders name an account, by the order table.
 pub fn sketch_of(
     alloc: Global,
     orders: &OrderTable,
@@ -173,13 +175,13 @@ pub fn sketch_of(
         return Err(Place::whole(MAX_STEPS + 1).refused());
     }
     let mut common = Common {
-        secrets: Secrets::new(alloc),
+        fields: DraftFields::new(alloc),
         signers: Signers::new(alloc),
     };
     let mut seal = Seal::new(alloc);
     let mut steps = String::new(alloc);
     write_steps(alloc, &mut steps, &mut common, &mut seal, orders, exchanges)?;
-    let values = values_of(alloc, &common.secrets, exchanges)?;
+    let values = values_of(alloc, &common.fields, exchanges)?;
     let script = joined(alloc, &common, &seal, steps.as_str())?;
     let seal_met = seal.met();
     let Common { signers, .. } = common;

@@ -1,12 +1,12 @@
 //! The steps of a draft: one for each message of the client.
 use crate::elements::{Written, write_elements};
+use crate::fields::DraftFields;
 use crate::notes::write_segment_note;
 use crate::place::Undrafted;
 use crate::recorded::Recorded;
-use crate::secrets::Secrets;
 use crate::signers::Signers;
 use crate::texts::write_number;
-use crate::turns::{Ways, write_ways};
+use crate::turns::{Ways, write_name, write_ways};
 use fints_rules::OrderTable;
 use fints_syntax::OwnedSegment;
 use std::alloc::Global;
@@ -15,7 +15,7 @@ use std::alloc::Global;
 fn write_segment(
     alloc: Global,
     text: &mut String,
-    secrets: &mut Secrets,
+    fields: &mut DraftFields,
     orders: &OrderTable,
     written: &Written<'_>,
 ) -> Result<(), Undrafted> {
@@ -29,7 +29,7 @@ fn write_segment(
     write_number(text, usize::from(head.version))?;
     if !elements.is_empty() {
         text.push_str(", elements = ")?;
-        write_elements(alloc, text, secrets, written)?;
+        write_elements(alloc, text, fields, written)?;
     }
     text.push_str("},\n")?;
     Ok(())
@@ -39,7 +39,7 @@ fn write_segment(
 fn write_body(
     alloc: Global,
     text: &mut String,
-    secrets: &mut Secrets,
+    fields: &mut DraftFields,
     orders: &OrderTable,
     recorded: &Recorded,
     message: usize,
@@ -50,8 +50,10 @@ fn write_body(
             segment,
             dialogue_id: recorded.dialogue_id(),
             message,
+            signature: 1,
+            reference: &[],
         };
-        write_segment(alloc, text, secrets, orders, &written)?;
+        write_segment(alloc, text, fields, orders, &written)?;
     }
     text.push_str("]\n")?;
     Ok(())
@@ -60,7 +62,7 @@ fn write_body(
 /// What the steps of a draft have in common.
 #[derive(Drop)]
 pub struct Common {
-    pub secrets: Secrets,
+    pub fields: DraftFields,
     pub signers: Signers,
 }
 
@@ -74,19 +76,19 @@ pub fn write_step(
     message: usize,
     ways: &Ways,
 ) -> Result<(), Undrafted> {
-    let Common { secrets, signers } = common;
-    text.push_str("\n[[step]]\nname = \"m")?;
-    write_number(text, message)?;
-    text.push_str("\"\n")?;
+    let Common { fields, signers } = common;
+    text.push_str("\n[[step]]\nname = ")?;
+    write_name(text, message, recorded.kind())?;
+    text.push('\n')?;
     if recorded.seal().is_some() {
         text.push_str("sealed = true\n")?;
     }
-    if recorded.signature(0).is_some() {
+    if recorded.signature(1).is_some() {
         text.push_str("signers = [")?;
-        signers.write_names(alloc, text, secrets, recorded, message)?;
+        signers.write_names(alloc, text, fields, recorded, message)?;
         text.push_str("]\n")?;
     }
-    write_body(alloc, text, secrets, orders, recorded, message)?;
+    write_body(alloc, text, fields, orders, recorded, message)?;
     write_ways(text, ways)?;
     Ok(())
 }

@@ -1,15 +1,18 @@
 //! The ways of a draft: which step an answer of the bank has sent next.
-use crate::recorded::{Recorded, has_process};
+use crate::recorded::Recorded;
+use crate::renewed::{goes_on, has_process};
 use crate::texts::write_number;
 use fints_params::Code;
 use fints_rules_dialogues::Exchange;
 use fints_script_cases::digits_of;
+use fints_syntax::Kind;
 use std::alloc::{AllocError, Global};
 
 /// What a message of the client does with an order that demands a TAN (FinTS 3.0, Security PIN/TAN,
-/// HKTAN).
+/// HKTAN), and the kind by which it is known.
 #[derive(Clone, Copy)]
 pub struct Turn {
+    kind: Option<Kind>,
     /// It submits one: HKTAN of process 4.
     submits: bool,
     /// It goes on with one: HKTAN of process 2 sends the TAN, one of process S asks whether it was
@@ -23,113 +26,160 @@ impl Turn {
     pub fn of(recorded: &Recorded) -> Turn {
         let body = &recorded.body;
         Turn {
+            kind: recorded.kind(),
             submits: body.iter().any(|own| has_process(own, b"4")),
-            releases: body
-                .iter()
-                .any(|own| has_process(own, b"2") || has_process(own, b"S")),
+            releases: body.iter().any(goes_on),
             ends: body.iter().any(|own| own.head.id.is(b"HKEND")),
         }
     }
 }
 
-/// The branch of a step, and its default. A target is the message of a number, or the end.
+/// The step of a message, which counts from 1, by the kind by which the message is known.
 #[derive(Clone, Copy)]
-pub struct Ways {
-    pub branch: Option<(Code, Option<usize>)>,
-    pub default: Option<usize>,
+struct Target {
+    message: usize,
+    kind: Option<Kind>,
 }
+
+/// The branches of a step, one for each of the codes, and its default. A target is a step, or the end.
+#[derive(Drop)]
+pub struct Ways {
+    codes: Vec<Code>,
+    target: Option<Target>,
+    default: Option<Target>,
+}
+
+// The code by which a bank demands a TAN.
+const DEMANDING: u16 = 30;
 
 // The codes by which a bank asks for a TAN, or for a release elsewhere.
-const ASKING: [u16; 3] = [30, 3955, 3956];
+const ASKING: [u16; 3] = [DEMANDING, 3955, 3956];
 
-// The first of those codes that the answer of an exchange has.
-fn asking_code(exchange: &Exchange<'_>) -> Option<Code> {
-    let answer = exchange.answer.as_ref()?;
-    answer
-        .codes
-        .iter()
-        .copied()
-        .find(|code| ASKING.contains(&code.number()))
-}
-
-// The first of these messages that goes on with no order, where they begin with the one of a number.
-fn past_releases(turns: &[Turn], number: usize) -> Option<usize> {
-    let count = turns.iter().take_while(|turn| turn.releases).count();
-    if count == turns.len() {
-        return None;
-    }
-    Some(number.saturating_add(count))
-}
-
-// The ways of a step, by its turn and those behind it, of which the first has this number.
-fn ways_before(here: Turn, behind: &[Turn], number: usize, code: Option<Code>) -> Ways {
-    let next = Some(number);
-    let goes_on = behind.first().is_some_and(|turn| turn.releases);
-    let ends = behind.first().is_some_and(|turn| turn.ends);
-    match code {
-        Some(code) if goes_on => Ways {
-            branch: Some((code, next)),
-            default: past_releases(behind, number),
-        },
-        None if here.submits && !goes_on && !ends => Ways {
-            branch: Code::from_number(30).map(|code| (code, None)),
-            default: next,
-        },
-        _ => Ways {
-            branch: None,
-            default: next,
-        },
-    }
-}
-
-/// The ways of the step of an exchange, whose message has this number, by its turn and those behind it.
-/// Where the bank asked for a TAN or for a release elsewhere, and the next message goes on with the order, the
-/// code leads there and the default past it. Where an order was submitted, the next message does something
-/// else, and the bank asked for nothing, the code 0030 ends the run.
-pub fn ways_of(turns: &[Turn], exchange: &Exchange<'_>, number: usize) -> Ways {
-    match turns {
-        [here, behind @ ..] if !behind.is_empty() => {
-            ways_before(
-                *here,
-                behind,
-                number.saturating_add(1),
-                asking_code(exchange),
-            )
-        }
-        _ => Ways {
-            branch: None,
-            default: None,
-        },
-    }
-}
-
-fn write_target(text: &mut String, target: Option<usize>) -> Result<(), AllocError> {
-    let Some(message) = target else {
-        return text.push_str("\"stop\"");
+// Those of the codes by which the bank asked, each once.
+fn asking_codes(alloc: Global, exchange: &Exchange<'_>) -> Result<Vec<Code>, AllocError> {
+    let mut asking: Vec<Code> = Vec::new(alloc);
+    let Some(answer) = &exchange.answer else {
+        return Ok(asking);
     };
+    for code in answer.codes.iter() {
+        if ASKING.contains(&code.number()) && !asking.contains(code) {
+            asking.push(*code)?;
+        }
+    }
+    Ok(asking)
+}
+
+// The step of the message of a place, from 0 on, if there is one.
+fn target_at(turns: &[Turn], place: usize) -> Option<Target> {
+    let turn = turns.get(place)?;
+    Some(Target {
+        message: place.saturating_add(1),
+        kind: turn.kind,
+    })
+}
+
+// The step of the first message from a place on that goes on with no order.
+fn past_releases(turns: &[Turn], place: usize) -> Option<Target> {
+    let rest = turns.get(place..).unwrap_or(&[]);
+    let count = rest.iter().take_while(|turn| turn.releases).count();
+    target_at(turns, place.saturating_add(count))
+}
+
+// The code 0030, where a message submitted an order, and the next one neither goes on with it nor ends the
+// dialogue.
+fn unreleased(
+    alloc: Global,
+    here: Option<&Turn>,
+    next: Option<&Turn>,
+) -> Result<Vec<Code>, AllocError> {
+    let mut codes = Vec::new(alloc);
+    let submits = here.is_some_and(|turn| turn.submits);
+    if submits && next.is_some_and(|turn| !turn.releases && !turn.ends) {
+        if let Some(code) = Code::from_number(DEMANDING) {
+            codes.push(code)?;
+        }
+    }
+    Ok(codes)
+}
+
+/// The ways of the step of a place among the messages, from 0 on. Where the bank asked for a TAN or for a
+/// release elsewhere, and the next message goes on with the order, each code by which it asked leads there, and
+/// the default past it. Where an order was submitted, the next message does something else, and the bank asked
+/// for nothing, the code 0030 ends the run.
+pub fn ways_of(
+    alloc: Global,
+    turns: &[Turn],
+    place: usize,
+    exchange: &Exchange<'_>,
+) -> Result<Ways, AllocError> {
+    let next = place.saturating_add(1);
+    let asking = asking_codes(alloc, exchange)?;
+    if !asking.is_empty() && turns.get(next).is_some_and(|turn| turn.releases) {
+        return Ok(Ways {
+            codes: asking,
+            target: target_at(turns, next),
+            default: past_releases(turns, next),
+        });
+    }
+    let codes = if asking.is_empty() {
+        unreleased(alloc, turns.get(place), turns.get(next))?
+    } else {
+        Vec::new(alloc)
+    };
+    Ok(Ways {
+        codes,
+        target: None,
+        default: target_at(turns, next),
+    })
+}
+
+/// Writes the name of the step of a message: its number, and the kind by which it is known.
+pub fn write_name(text: &mut String, message: usize, kind: Option<Kind>) -> Result<(), AllocError> {
     text.push_str("\"m")?;
     write_number(text, message)?;
-    text.push_str("\"")
+    if let Some(kind) = kind {
+        text.push('-')?;
+        for b in kind.as_bytes() {
+            text.push(char::from(b.to_ascii_lowercase()))?;
+        }
+    }
+    text.push('"')
 }
 
-fn write_code(text: &mut String, code: Code) -> Result<(), AllocError> {
+fn write_target(text: &mut String, target: Option<Target>) -> Result<(), AllocError> {
+    match target {
+        None => text.push_str("\"stop\""),
+        Some(target) => write_name(text, target.message, target.kind),
+    }
+}
+
+fn write_branch(text: &mut String, code: Code, target: Option<Target>) -> Result<(), AllocError> {
+    text.push_str("{on = \"")?;
     for digit in digits_of(code) {
         text.push(char::from(digit))?;
     }
-    Ok(())
+    text.push_str("\", to = ")?;
+    write_target(text, target)?;
+    text.push('}')
 }
 
-/// Writes the branch and the default of a step.
+fn write_branches(text: &mut String, ways: &Ways) -> Result<(), AllocError> {
+    text.push_str("branches = [")?;
+    for (i, code) in ways.codes.iter().enumerate() {
+        if i > 0 {
+            text.push_str(", ")?;
+        }
+        write_branch(text, *code, ways.target)?;
+    }
+    text.push_str("]\n")
+}
+
+/// Writes the branches and the default of a step.
 pub fn write_ways(text: &mut String, ways: &Ways) -> Result<(), AllocError> {
-    if let Some((code, target)) = ways.branch {
-        text.push_str("branches = [{on = \"")?;
-        write_code(text, code)?;
-        text.push_str("\", to = ")?;
-        write_target(text, target)?;
-        text.push_str("}]\n")?;
+    if !ways.codes.is_empty() {
+        write_branches(text, ways)?;
     }
     text.push_str("default = ")?;
     write_target(text, ways.default)?;
-    text.push('\n')?;
-    Ok(())
+    text.push('\n')
 }

@@ -16,7 +16,7 @@ exit_refused : {T : Type 0} (r : Result T Fault) (e : Fault) (P : Fault → Type
 exit_refused (Ok v) e P is p = tt
 exit_refused (Err f) e P is p = subst P (sym is) p
 
--- what refuses a dialogue behind a good order table refuses its draft
+-- what refuses a dialogue after a good order table refuses its draft
 dialogue_refused : (text dialogue : List ℕ) (table : List OrderRow) (f : DialogueFault)
     → DenotesTable text table
     → IsMemoryOrRefusal (IsDialogueFault dialogue) f → IsDraftRefusal text dialogue (dialogue_fault_of f)
