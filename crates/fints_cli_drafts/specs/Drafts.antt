@@ -42,9 +42,12 @@ use Rattle.fints_cli_drafts.specs.declared.drafting.Drafted.TheVariants.{Script,
 
 -- ---- what a client makes new for each message
 
+abbrev pub is_of : OwnedSegment → List ℕ → Bool
+is_of s kind = bytes_eq s.head.id kind
+
 -- an HKTAN of this process
 abbrev pub has_process : OwnedSegment → List ℕ → Bool
-has_process s process = bytes_eq s.head.id (codes "HKTAN") && bytes_eq (value_at s 2 1) process
+has_process s process = is_of s (codes "HKTAN") && bytes_eq (value_at s 2 1) process
 
 -- an HKTAN that goes on with an order submitted before: process 2 sends the TAN, process S asks for the release
 abbrev pub goes_on : OwnedSegment → Bool
@@ -56,19 +59,17 @@ refers s = goes_on s && nat_le 5 s.head.version
 
 -- the segments that hold something that a client makes new
 abbrev pub is_renewable : OwnedSegment → Bool
-is_renewable s =
-    bytes_eq s.head.id (codes "HNHBK") || bytes_eq s.head.id (codes "HNSHK") || bytes_eq s.head.id (codes "HNSHA")
-    || refers s
+is_renewable s = is_of s (codes "HNHBK") || is_of s (codes "HNSHK") || is_of s (codes "HNSHA") || refers s
 
 -- the item of an element that a client makes new: the size in HNHBK, the control reference in HNSHK and HNSHA, the
 -- date and the time in HNSHK, the TAN in HNSHA, and the reference of an order
 abbrev pub is_renewed : OwnedSegment → ℕ → ℕ → Bool
 is_renewed s element item =
-    (bytes_eq s.head.id (codes "HNHBK") && element == 2 && item == 1)
-    || (bytes_eq s.head.id (codes "HNSHK") && element == 4 && item == 1)
-    || (bytes_eq s.head.id (codes "HNSHK") && element == 9 && (item == 2 || item == 3))
-    || (bytes_eq s.head.id (codes "HNSHA") && element == 2 && item == 1)
-    || (bytes_eq s.head.id (codes "HNSHA") && element == 4 && item == 2)
+    (is_of s (codes "HNHBK") && element == 2 && item == 1)
+    || (is_of s (codes "HNSHK") && element == 4 && item == 1)
+    || (is_of s (codes "HNSHK") && element == 9 && (item == 2 || item == 3))
+    || (is_of s (codes "HNSHA") && element == 2 && item == 1)
+    || (is_of s (codes "HNSHA") && element == 4 && item == 2)
     || (refers s && element == 6 && item == 1)
 
 -- ---- a message sent once more
@@ -96,7 +97,7 @@ pub record IsRenewal (recorded sent : OwnedSegment) : Type 0 where
   pub no_reference : (recorded.head.reference ≡ None) × (sent.head.reference ≡ None)
   pub count : length recorded.elements ≡ length sent.elements
   pub each :
-      (element : ℕ) → 2 ≤ element → element < 2 + length recorded.elements → IsElementAlike recorded sent element
+      (e : ℕ) → 2 ≤ e → e < 2 + length recorded.elements → IsElementAlike recorded sent e
 
 -- a segment is sent byte for byte; or it is an HNVSK, since a script has one for all messages; or it differs only in
 -- what is made new
