@@ -1,10 +1,12 @@
 //! Recorded dialogues.
+use fints_params::Params;
 use fints_rules::{Broken, OrderTable, Permissions};
 use fints_rules_dialogues::{
     DialogueFault, Exchange, Observer, Recording, Unread, UnreadObserver, audit, audit_exchanges,
     is_answer, own_params, read_dialogue, read_dialogue_with,
 };
 use fints_samples::T;
+use std::alloc::Global;
 use std::test::Fail;
 
 // The end of a dialogue, and an answer that tells parameters.
@@ -40,22 +42,44 @@ impl Observer for Counter {
     }
 }
 
+// The parameters in the answers of a recording.
+fn own_params_of(alloc: Global, file: &[u8]) -> Result<Params, Fail> {
+    let exchanges = read_dialogue(alloc, file)?;
+    Ok(own_params(alloc, exchanges.as_slice())?)
+}
+
+// Whether the one message of a recording begins a dialogue, has 55 bytes, and breaks nothing.
+fn audits_one(
+    alloc: Global,
+    permissions: &Permissions<'_>,
+    recording: &Recording<'_>,
+) -> Result<bool, Fail> {
+    let mut seen = NOTHING_SEEN;
+    let audited = audit(alloc, permissions, recording, &mut seen)?;
+    let is_seen = seen.exchanges == 1 && seen.offset.is_none();
+    Ok(match audited.as_slice() {
+        [one] => {
+            is_seen
+                && (one.sent.start, one.sent.bytes.len()) == (0, 55)
+                && one.begins
+                && one.broken.is_empty()
+        }
+        _ => false,
+    })
+}
+
+// The same under these parameters.
+fn audits_one_by(alloc: Global, params: &Params, file: &[u8]) -> Result<bool, Fail> {
+    let orders = OrderTable::read(alloc, T)?;
+    let permissions = Permissions::build(alloc, params, &orders)?;
+    let recording = Recording::cut(alloc, file)?;
+    audits_one(alloc, &permissions, &recording)
+}
+
 #[test]
 fn audited(rt: HostRuntime) -> Result<(), Fail> {
-    let recording = Recording::cut(rt.alloc(), DIALOGUE)?;
-    let exchanges = read_dialogue(rt.alloc(), DIALOGUE)?;
-    let params = own_params(rt.alloc(), exchanges.as_slice())?;
-    let orders = OrderTable::read(rt.alloc(), T)?;
-    let permissions = Permissions::build(rt.alloc(), &params, &orders)?;
-    let mut seen = NOTHING_SEEN;
-    let audited = audit(rt.alloc(), &permissions, &recording, &mut seen)?;
-    assert_eq!(rt; audited.len(), 1);
-    for one in audited.iter() {
-        assert!(rt; (one.sent.start, one.sent.bytes.len()) == (0, 55));
-        assert!(rt; one.begins && one.broken.is_empty());
-    }
-    assert_eq!(rt; seen.exchanges, 1);
-    assert!(rt; seen.offset.is_none());
+    let params = own_params_of(rt.alloc(), DIALOGUE)?;
+    assert!(rt; audits_one_by(rt.alloc(), &params, DIALOGUE)?);
     Ok(())
 }
 
@@ -63,25 +87,49 @@ fn audited(rt: HostRuntime) -> Result<(), Fail> {
 const BROKEN_OFF: &[u8] =
     b"HNHBK:1:3+000000000055+300+0+1'HKEND:2:1+0'HNHBS:3:1+1'HNHBK:1:3+000000000055+300+0+1'HKEND:2:1+0'HNHBS:3:1+1'";
 
+// Whether two exchanges begin a dialogue each, and their messages break nothing.
+fn audits_two(
+    alloc: Global,
+    permissions: &Permissions<'_>,
+    exchanges: &[Exchange<'_>],
+) -> Result<bool, Fail> {
+    let mut seen = NOTHING_SEEN;
+    let audited = audit_exchanges(alloc, permissions, exchanges, &mut seen)?;
+    Ok(match audited.as_slice() {
+        [one, other] => {
+            seen.exchanges == 2
+                && one.begins
+                && one.broken.is_empty()
+                && other.begins
+                && other.broken.is_empty()
+        }
+        _ => false,
+    })
+}
+
+// The same under these parameters.
+fn audits_two_by(alloc: Global, params: &Params, exchanges: &[Exchange<'_>]) -> Result<bool, Fail> {
+    let orders = OrderTable::read(alloc, T)?;
+    let permissions = Permissions::build(alloc, params, &orders)?;
+    audits_two(alloc, &permissions, exchanges)
+}
+
 #[test]
 fn two_dialogues(rt: HostRuntime) -> Result<(), Fail> {
-    let with_params = read_dialogue(rt.alloc(), DIALOGUE)?;
-    let params = own_params(rt.alloc(), with_params.as_slice())?;
-    let orders = OrderTable::read(rt.alloc(), T)?;
-    let permissions = Permissions::build(rt.alloc(), &params, &orders)?;
+    let params = own_params_of(rt.alloc(), DIALOGUE)?;
+    let exchanges = read_dialogue(rt.alloc(), BROKEN_OFF)?;
+    assert!(rt; audits_two_by(rt.alloc(), &params, exchanges.as_slice())?);
+    Ok(())
+}
+
+#[test]
+fn unanswered_exchanges(rt: HostRuntime) -> Result<(), Fail> {
     let exchanges = read_dialogue(rt.alloc(), BROKEN_OFF)?;
     assert_eq!(rt; exchanges.len(), 2);
     for exchange in exchanges.iter() {
         assert!(rt; exchange.begins && exchange.answer.is_none());
         assert!(rt; !is_answer(&exchange.message));
     }
-    let mut seen = NOTHING_SEEN;
-    let audited = audit_exchanges(rt.alloc(), &permissions, exchanges.as_slice(), &mut seen)?;
-    assert_eq!(rt; audited.len(), 2);
-    for one in audited.iter() {
-        assert!(rt; one.begins && one.broken.is_empty());
-    }
-    assert_eq!(rt; seen.exchanges, 2);
     Ok(())
 }
 
