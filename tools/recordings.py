@@ -1,0 +1,292 @@
+#!/usr/bin/env python3
+"""Makes recordings of dialogues, and compares what `fints audit` prints of them with what docs/formats.md says.
+The reference here knows how a file is cut, whose a message is, where a dialogue begins, and which answer has the
+parameters. Which rules one message breaks it asks of `fints judge`, by a capture, and with the message before and
+the answer between them where there are two in a dialogue. Some recordings are spoiled: an answer or a message is
+left out, two are exchanged, a byte is another one, the file is cut off.
+
+Usage: tools/recordings.py [--count N] [--first SEED] [--program PATH]
+"""
+import argparse
+import pathlib
+import random
+import re
+import subprocess
+import sys
+import tempfile
+from concurrent.futures import ThreadPoolExecutor
+
+TOP = pathlib.Path(__file__).resolve().parent.parent
+PROGRAM = TOP / "crates" / "fints" / "out" / "fints"
+ORDERS = TOP / "examples" / "orders-all.toml"
+
+# ---- Recordings.
+
+BANK = [
+    b"HIBPA:%d:3+12+280:10020030+Bank+3+1+300+0",
+    b"HISALS:%d:4+3+1",
+    b"HISALS:%d:7+1+1",
+    b"HICCSS:%d:1+1+1+0",
+    b"HITANS:%d:6+1+1+0+J:N:0:921:2:tan:tan::tan:6:1:tan:256:J:2:N:0:0:N:J:00:2:N:1",
+    b"HIPINS:%d:1+1+1+0+5:38:6:::HKSAL:N:HKCCS:J:HKKAZ:J:HKIDN:N:HKVVB:N:HKEND:N:HKTAN:N:HKSPA:N",
+]
+USER = [
+    b"HIUPA:%d:4+erika01+3+0",
+    b"HIUPD:%d:6+4711003::280:10020030+DE97100200300004711003+erika01+1+EUR+Erika++Giro++HKSAL:1+HKCCS:1+HKSPA:1",
+    b"HIUPD:%d:6+4711001::280:10020030+DE54100200300004711001+erika01+1+EUR+Erika++Giro++HKSAL:1+HKKAZ:2",
+]
+ACCOUNTS = [
+    b"DE97100200300004711003:BEISDEFFXXX:4711003::280:10020030",
+    b"DE54100200300004711001:BEISDEFFXXX:4711001::280:10020030",
+]
+
+
+def message(number, dialogue, segments, answer=False):
+    """A message of these segments, whose numbers are made."""
+    body = b"".join((it % i if b"%d" in it else it) + b"'" for i, it in enumerate(segments, 2))
+    last = b"HNHBS:%d:1+%d'" % (len(segments) + 2, number)
+    tail = b"+300+%s+%d" % (dialogue, number) + (b"+%s:%d" % (dialogue, number) if answer else b"") + b"'"
+    size = len(b"HNHBK:1:3+") + 12 + len(tail) + len(body) + len(last)
+    return b"HNHBK:1:3+%012d" % size + tail + body + last
+
+
+def signed(rng, orders):
+    """The orders between an HNSHK and an HNSHA; the reference is another one each time."""
+    reference = b"%d" % rng.randrange(1, 99999)
+    function = rng.choice([b"921", b"921", b"999"])
+    opener = b"HNSHK:%%d:4+PIN:2+%s+%s+1+1+1::7A2F09+1+1:20260105:091502+1:999:1+6:10:16+280:10020030:erika01:S:0:0"
+    tan = rng.choice([b"", b"", b":123456"])
+    return [opener % (function, reference), *orders, b"HNSHA:%%d:2+%s++12345%s" % (reference, tan)]
+
+
+def orders_of(rng):
+    """The orders of a message in the midst of a dialogue."""
+    account = rng.choice(ACCOUNTS)
+    choices = [
+        [b"HKSAL:%%d:7+%s+N" % account],
+        [b"HKSAL:%%d:7+%s+N" % account, b"HKTAN:%d:6+4+HKSAL"],
+        [b"HKCCS:%%d:1+%s+urn?:pain.001.001.03+@3@<a>" % account, b"HKTAN:%d:6+4+HKCCS"],
+        [b"HKCCS:%%d:1+%s+urn?:pain.001.001.03+@3@<a>" % account],
+        [b"HKTAN:%d:6+2++++ref1+N"],
+        [b"HKSPA:%d:1"],
+        [b"HKXYZ:%d:1+x"],
+        [b"HKSAL:%%d:7+%s+N" % account] * 2,
+    ]
+    return rng.choice(choices[1:3] * 2 + choices)
+
+
+def dialogue(rng, parameters):
+    """The messages of a dialogue in their order; its first answer may have parameters."""
+    name, count = b"D%d" % rng.randrange(1, 999), rng.randrange(1, 5)
+    messages = []
+    for number in range(1, count + 1):
+        orders = [b"HKIDN:%d:2+280:10020030+erika01+7A2F09+1", b"HKVVB:%d:3+0+0+0+fints+1"] if number == 1 else orders_of(rng)
+        if number == count > 1 and rng.random() < 0.5:
+            orders = [b"HKEND:%%d:1+%s" % name]
+        own = b"0" if number == 1 else name
+        messages.append(message(number, own, signed(rng, orders)))
+        codes = rng.sample([b"0030", b"0030", b"0020", b"3955", b"3076"], rng.randrange(1, 3))
+        told = [b"HIRMG:%d:2+0010::OK", b"HIRMS:%d:2:4+" + b"+".join(it + b"::Note" for it in codes)]
+        tells = parameters if number == 1 else [it for it in (BANK, USER) if rng.random() < 0.1]
+        answer = message(number, name, told + [it for part in tells for it in part], True)
+        if number < count or rng.random() < 0.7:
+            messages.append(answer)
+    return messages
+
+
+def spoiled(rng, messages):
+    """The bytes of a recording, of which some are changed."""
+    kind = rng.choice(["left out", "exchanged", "byte", "cut off", "twice", "joined"])
+    at = rng.randrange(len(messages))
+    if kind == "left out":
+        del messages[at]
+    elif kind == "exchanged" and at:
+        messages[at - 1], messages[at] = messages[at], messages[at - 1]
+    elif kind == "twice":
+        messages.insert(at, messages[at])
+    file = b"\r\n".join(messages) if kind == "joined" else b"".join(messages)
+    if kind == "byte" and file:
+        place = rng.randrange(len(file))
+        file = file[:place] + rng.choice([b"'", b"+", b":", b"?", b"@", b"0", b"A"]) + file[place + 1 :]
+    if kind == "cut off":
+        file = file[: rng.randrange(len(file) + 1)]
+    return file
+
+
+def recording(seed):
+    """A recording, and whether its parameters come by --params."""
+    rng, messages = random.Random(seed), []
+    for _ in range(rng.randrange(1, 4)):
+        parameters = [it for it in (BANK, USER) if rng.random() < 0.8]
+        messages += dialogue(rng, parameters)
+    file = spoiled(rng, messages) if rng.random() < 0.3 else rng.choice([b"", b"\r\n", b"\n"]).join(messages)
+    return file, rng.random() < 0.3
+
+
+# ---- What docs/formats.md says of them.
+
+
+class Refused(Exception):
+    """The refusal of a recording, as its line says it."""
+
+
+def call(*words):
+    """The status, the output and the errors of the program."""
+    done = subprocess.run([PROGRAM, *words], capture_output=True, timeout=60)
+    return done.returncode, done.stdout.decode(), done.stderr.decode()
+
+
+def cut(file):
+    """The messages of a file, each with its offset."""
+    messages, at = [], 0
+    while True:
+        while file[at : at + 1] in (b"\r", b"\n"):
+            at += 1
+        if at == len(file):
+            return messages
+        head = re.match(rb"HNHBK:1:3\+(\d{12})\+", file[at:])
+        size = int(head[1]) if head else 0
+        if size < 23 or at + size > len(file):
+            raise Refused(f"dialogue NotAMessage at {at}")
+        messages.append((at, file[at : at + size]))
+        at += size
+
+
+class Files:
+    """Files that the program reads, in a folder."""
+
+    def __init__(self, room):
+        self.room = pathlib.Path(room)
+
+    def put(self, name, data):
+        """The path of a file of these bytes."""
+        path = self.room / name
+        path.write_bytes(data)
+        return path
+
+
+CAPTURE = b"".join((it % i if b"%d" in it else it) + b"'" for i, it in enumerate([*BANK, *USER], 1))
+
+
+def client_fault(files, at, data):
+    """Refuses what is no message."""
+    status, _, errors = call("show", "--message", files.put("one", data))
+    found = re.match(r"error: message NotAMessage at (\d+)\n", errors)
+    if status:
+        raise Refused(f"dialogue NotAMessage at {at + int(found[1])}")
+
+
+def is_answer(data):
+    """Whether a message that can be read has an HIRMG; the recordings here are plain."""
+    return b"'HIRMG:" in data
+
+
+ANY = message(1, b"0", [b"HKEND:%d:1+0"])
+
+
+def has_codes(files, at, data):
+    """Whether a message has a feedback code, as `judge` says of an answer."""
+    files.put("params", CAPTURE)
+    files.put("any", ANY)
+    words = ["judge", "--params", files.room / "params", "--orders", ORDERS, "--before", files.room / "any"]
+    _, _, errors = call(*words, "--answer", files.put("one", data), "--message", files.room / "any")
+    if errors == "error: answer NoCode\n":
+        return False
+    if errors:
+        raise Refused(f"dialogue answer at {at}")
+    return True
+
+
+def exchanges(files, messages):
+    """The exchanges of a recording: message, answer or None, whether it begins a dialogue."""
+    found, place = [], 0
+    while place < len(messages):
+        at, data = messages[place]
+        client_fault(files, at, data)
+        _, _, name, number = re.match(rb"HNHBK:1:3\+(\d+)\+(\d+)\+([^+']*)\+(\d+)", data).groups()
+        opens = re.fullmatch(rb"0+", name) is not None and int(number) == 1
+        if is_answer(data) or found and found[-1][1] is None and not opens:
+            raise Refused(f"dialogue NotInTurn at {at}")
+        answer = None
+        if place + 1 < len(messages):
+            answer = messages[place + 1] if has_codes(files, *messages[place + 1]) else None
+        found.append(((at, data), answer, opens or not found))
+        place += 1 if answer is None else 2
+    return found
+
+
+def own_capture(files, found):
+    """The first answer with both HIBPA 3 and HIPINS 1."""
+    for _, answer, _ in found:
+        if answer is None:
+            continue
+        status, _, errors = call("show", "--params", files.put("one", answer[1]))
+        if status == 0:
+            return answer[1]
+        if errors not in ("error: params NoBankParameters\n", "error: params NoPinParameters\n"):
+            raise Refused(f"dialogue answer at {answer[0]}")
+    raise Refused("dialogue NoParameters")
+
+
+def audited(files, file, capture):
+    """What `audit` prints of a recording, and its status."""
+    found = exchanges(files, cut(file))
+    if not found:
+        raise Refused("dialogue NoMessage")
+    params = files.put("capture", own_capture(files, found) if capture is None else capture)
+    several, dialogues, broken, lines = sum(it[2] for it in found) > 1, 0, 0, []
+    for i, ((_, data), _, begins) in enumerate(found):
+        dialogues += begins
+        if begins and several:
+            lines.append(f"dialogue {dialogues}")
+        lines.append(f"message {i + 1} size {len(data)}")
+        words = ["judge", "--params", params, "--orders", ORDERS]
+        if not begins:
+            words += ["--before", files.put("before", found[i - 1][0][1]), "--answer", files.put("answer", found[i - 1][1][1])]
+        _, verdict, _ = call(*words, "--message", files.put("message", data))
+        rules = verdict.splitlines()[:-1]
+        lines += [f"broken {it}" for it in rules]
+        broken += len(rules)
+    lines.append(f"broken {broken}" if broken else "permitted")
+    return int(broken > 0), "\n".join(lines) + "\n"
+
+
+def compared(seed):
+    """What the reference says of a recording, and what is wrong with its audit; None where nothing is."""
+    file, by_capture = recording(seed)
+    with tempfile.TemporaryDirectory() as room:
+        files = Files(room)
+        words = ["audit", "--orders", ORDERS, "--dialogue", files.put("dialogue", file)]
+        words += ["--params", files.put("params", CAPTURE)] if by_capture else []
+        status, printed, errors = call(*words)
+        try:
+            wanted = audited(files, file, CAPTURE if by_capture else None)
+        except Refused as why:
+            good = (status, printed) == (3, "") and re.match(rf"error: {why}\b", errors)
+            return str(why), None if good else f"seed {seed}: wanted {why}, and {status}: {errors}{printed}"
+        good = (status, printed, errors) == (*wanted, "")
+        return wanted[1], None if good else f"seed {seed}: wanted {wanted}, and {status}: {errors}{printed}"
+
+
+def main():
+    global PROGRAM
+    words = argparse.ArgumentParser(description=__doc__, formatter_class=argparse.RawDescriptionHelpFormatter)
+    words.add_argument("--count", type=int, default=300, metavar="N")
+    words.add_argument("--first", type=int, default=1, metavar="SEED")
+    words.add_argument("--program", type=pathlib.Path, default=PROGRAM)
+    given = words.parse_args()
+    PROGRAM = given.program
+    if not PROGRAM.exists():
+        sys.exit(f"recordings: {PROGRAM} isn't built")
+    with ThreadPoolExecutor() as lanes:
+        all_of = list(lanes.map(compared, range(given.first, given.first + given.count)))
+    found = [wrong for _, wrong in all_of if wrong]
+    count = lambda pattern: sum(re.search(pattern, said, re.M) is not None for said, _ in all_of)
+    print(*found, sep="\n", end="\n" if found else "", file=sys.stderr)
+    print(f"recordings: {count('^dialogue [A-Z]')} refused, {count('^dialogue 2$')} of several dialogues, {count('P11')} break P11")
+    print(f"recordings: {given.count - len(found)} audited as the reference says, {len(found)} otherwise")
+    sys.exit(1 if found else 0)
+
+
+if __name__ == "__main__":
+    main()
