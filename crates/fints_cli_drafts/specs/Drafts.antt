@@ -6,8 +6,9 @@ use Rattle.std.specs.List.{All, AllZip, flat_map, list_all, list_any}
 use Rattle.std.specs.Str.{bytes_eq}
 use Rattle.fints_syntax_segments.specs.Spelling.{Spelled}
 use Rattle.fints_syntax_segments.specs.Segment.{item_value, segment_bytes}
-use Rattle.fints_syntax_segments.specs.Values.{is_named, items_in, value_at}
+use Rattle.fints_syntax_segments.specs.Values.{is_named, item_at, items_in, value_at}
 use Rattle.fints_syntax_segments.specs.declared.frames.TheConstants.{HNVSD_NUMBER, HNVSD_VERSION}
+use Rattle.fints_syntax_segments.specs.declared.item.OwnedItem.{OwnedItem}
 use Rattle.fints_syntax_segments.specs.declared.item.OwnedItem.TheVariants.{Bin}
 use Rattle.fints_syntax_segments.specs.declared.item.OwnedSegment.{OwnedSegment}
 use Rattle.fints_syntax.specs.Capture.{IsCapture}
@@ -74,19 +75,17 @@ is_renewed s element item =
 
 -- ---- a message sent once more
 
--- an item is the same in both, text or binary; or it is made new, and empty in neither
-abbrev pub IsItemAlike : OwnedSegment → OwnedSegment → ℕ → ℕ → Type 0
-IsItemAlike recorded sent element item =
-    (slice_get (items_in recorded element) (item - 1) ≡ slice_get (items_in sent element) (item - 1))
-    ⊎ (IsTrue (is_renewed recorded element item) × (value_at recorded element item ≢ [])
-    × (value_at sent element item ≢ []))
+-- two items are the same, text or binary; or they are made new, and neither is empty
+abbrev pub AreAlikeItems : Bool → OwnedItem → OwnedItem → Type 0
+AreAlikeItems renewed one other =
+    (one ≡ other) ⊎ (IsTrue renewed × (item_value one ≢ []) × (item_value other ≢ []))
 
 -- the items of an element are so, one by one
 pub record IsElementAlike (recorded sent : OwnedSegment) (element : ℕ) : Type 0 where
   pub count : length (items_in recorded element) ≡ length (items_in sent element)
   pub each :
-      (item : ℕ) → 1 ≤ item → item < 1 + length (items_in recorded element)
-      → IsItemAlike recorded sent element item
+      (i : ℕ) → 1 ≤ i → i < 1 + length (items_in recorded element)
+      → AreAlikeItems (is_renewed recorded element i) (item_at recorded element i) (item_at sent element i)
 
 -- two segments have the same head, without a reference number, and the same values but where they are made new
 pub record IsRenewal (recorded sent : OwnedSegment) : Type 0 where

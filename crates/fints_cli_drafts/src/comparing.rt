@@ -1,12 +1,13 @@
 //! Whether a message is sent again as it was recorded, but for what a client makes new.
-ghost use Rattle.std.specs.Prelude.{◌≡◌, ◌≤◌, IfNone, IfOk, IfSome, IsTrue, None};
+ghost use Rattle.std.specs.Prelude.{◌≡◌, ◌==◌, ◌≤◌, IfNone, IfOk, IfSome, IsTrue, None, length};
 ghost use Rattle.std.specs.Str.{bytes_eq};
 ghost use Rattle.std.specs.List.{AllZip};
 ghost use Rattle.fints_syntax_segments.specs.Lent.{item_of_ref};
+ghost use Rattle.fints_syntax_segments.specs.Segment.{item_value};
 ghost use Rattle.fints_syntax.specs.Capture.{IsCapture};
 ghost use Rattle.fints_syntax.specs.Owned.{segment_of};
 ghost use Rattle.fints_rules_messages.specs.Messages.{IsSealHead};
-ghost use Rattle.fints_cli_drafts.specs.Drafts.{AreEnvelopesAlike, AreSegmentsAlike, IsElementAlike, IsEnvelopeOf, IsItemAlike, IsOuterAlike, IsRenewal, IsSegmentAlike, IsSentAgain};
+ghost use Rattle.fints_cli_drafts.specs.Drafts.{AreAlikeItems, AreSegmentsAlike, IsElementAlike, IsEnvelopeOf, IsOuterAlike, IsRenewal, IsSegmentAlike, IsSentAgain};
 
 use crate::renewed::{is_renewable, is_renewed};
 use fints_syntax::{
@@ -26,42 +27,36 @@ pub fn is_same_item(one: &ItemRef<'_>, other: &ItemRef<'_>) -> bool
     }
 }
 
-// Whether an item is the same in both segments, or in none.
-fn has_same_item(own: &OwnedSegment, sent: &OwnedSegment, element: usize, item: usize) -> bool
-    requires element { 2 ≤ element }
-    requires item { 1 ≤ item }
-    ensures { IsTrue result → IsItemAlike own.now sent.now element item }
+/// Whether the value of an item is empty.
+pub fn is_empty(item: &ItemRef<'_>) -> bool
+    ensures { result ≡ (length (item_value (item_of_ref item.now)) == 0) }
 {
-    match (own.items(element).get(item), sent.items(element).get(item)) {
-        (Some(a), Some(b)) => is_same_item(&a, &b),
-        (None, None) => true,
-        _ => false,
+    match item {
+        ItemRef::Text(value) => value.is_empty(),
+        ItemRef::Bin(value) => value.is_empty(),
     }
 }
 
-fn is_item_alike(own: &OwnedSegment, sent: &OwnedSegment, element: usize, item: usize) -> bool
-    requires element { 2 ≤ element }
-    requires item { 1 ≤ item }
-    ensures { IsTrue result → IsItemAlike own.now sent.now element item }
+// Whether two items are the same, or both are made new and not empty.
+fn is_item_alike(own: &ItemRef<'_>, sent: &ItemRef<'_>, renewed: bool) -> bool
+    ensures { IsTrue result → AreAlikeItems renewed (item_of_ref own.now) (item_of_ref sent.now) }
 {
-    if has_same_item(own, sent, element, item) {
-        return true;
-    }
-    is_renewed(own, element, item)
-        && !own.value(element, item).is_empty()
-        && !sent.value(element, item).is_empty()
+    is_same_item(own, sent) || (renewed && !is_empty(own) && !is_empty(sent))
 }
 
 fn is_element_alike(own: &OwnedSegment, sent: &OwnedSegment, element: usize) -> bool
     requires { 2 ≤ element }
     ensures { IsTrue result → IsElementAlike own.now sent.now element }
 {
-    let count = own.items(element).len();
-    if sent.items(element).len() != count {
+    let (items, others) = (own.items(element), sent.items(element));
+    if others.len() != items.len() {
         return false;
     }
-    for i in 0..count {
-        if !is_item_alike(own, sent, element, i + 1) {
+    for i in 0..items.len() {
+        let (Some(one), Some(other)) = (items.get(i + 1), others.get(i + 1)) else {
+            return false;
+        };
+        if !is_item_alike(&one, &other, is_renewed(own, element, i + 1)) {
             return false;
         }
     }

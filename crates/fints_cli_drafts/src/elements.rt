@@ -1,6 +1,7 @@
 //! The elements of a recorded segment, as they are written in a script.
 ghost use Rattle.std.specs.Prelude.{◌≤◌};
 
+use crate::comparing::is_empty;
 use crate::fields::{DraftFields, Purpose};
 use crate::place::{Place, Undrafted};
 use crate::renewed::refers;
@@ -24,7 +25,7 @@ pub struct Written<'a> {
 }
 
 // Whether each item of an element is empty.
-fn is_empty(items: &ElementRef<'_>) -> bool {
+fn are_empty(items: &ElementRef<'_>) -> bool {
     (0..items.len()).all(|i| items.value(i + 1).is_empty())
 }
 
@@ -51,7 +52,7 @@ impl Written<'_> {
         let segment = self.segment;
         let count = segment.elements.len();
         if segment.head.id.is(b"HNSHA") {
-            return count > 3 || !has_reference(segment) || !is_empty(&segment.items(3));
+            return count > 3 || !has_reference(segment) || !are_empty(&segment.items(3));
         }
         segment.head.id.is(b"HKPAE") && count > 1
     }
@@ -107,11 +108,8 @@ fn write_field(
     element: usize,
     item: usize,
     found: &ItemRef<'_>,
-) -> Result<bool, Undrafted>
-    requires element { 2 ≤ element }
-    requires item { 1 ≤ item }
-{
-    if written.segment.value(element, item).is_empty() {
+) -> Result<bool, Undrafted> {
+    if is_empty(found) {
         return Ok(false);
     }
     match written.purpose(element, item) {

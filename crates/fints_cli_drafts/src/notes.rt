@@ -83,12 +83,9 @@ fn write_shown(
 // Writes the XML texts of an element.
 fn write_element_notes(
     text: &mut String,
-    segment: &OwnedSegment,
+    items: &ElementRef<'_>,
     element: usize,
-) -> Result<(), AllocError>
-    requires { 2 ≤ element }
-{
-    let items = segment.items(element);
+) -> Result<(), AllocError> {
     for i in 0..items.len() {
         if let Some(found) = items.get(i + 1) {
             write_shown(text, element, i + 1, &found)?;
@@ -103,7 +100,7 @@ fn write_xml_notes(text: &mut String, segment: &OwnedSegment) -> Result<(), Allo
         return Ok(());
     }
     for i in 0..segment.elements.len() {
-        write_element_notes(text, segment, i + 2)?;
+        write_element_notes(text, &segment.elements.items(i), i + 2)?;
     }
     Ok(())
 }
