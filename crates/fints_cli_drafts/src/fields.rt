@@ -54,14 +54,6 @@ impl Purpose {
         }
     }
 
-    // The place of its signature.
-    fn signature(self) -> usize {
-        match self {
-            Purpose::Reference(place) | Purpose::Tan(place) => place,
-            _ => 1,
-        }
-    }
-
     // The class of its field where it was sent as a text, and the least and the most bytes of a value. They
     // are those of the standard: nothing in them comes from a recorded value.
     fn bounds(self) -> (&'static str, usize, usize) {
@@ -118,11 +110,6 @@ impl DraftField {
             && (purpose.has_one_field(binary) || self.value.as_slice() == value)
     }
 
-    // Whether its number is one of those that fields of a purpose have.
-    fn counts_with(&self, purpose: Purpose, binary: bool) -> bool {
-        self.binary == binary && self.purpose.word() == purpose.word()
-    }
-
     // Writes its name. One that serves for all values of the first signature has no number.
     fn write_name(&self, text: &mut String) -> Result<(), AllocError> {
         if self.binary {
@@ -165,12 +152,13 @@ impl DraftFields {
     // The number of a new field.
     fn next_number(&self, purpose: Purpose, binary: bool) -> usize {
         if purpose.has_one_field(binary) {
-            return purpose.signature();
+            return match purpose {
+                Purpose::Reference(place) | Purpose::Tan(place) => place,
+                _ => 1,
+            };
         }
-        let earlier = self
-            .fields
-            .iter()
-            .filter(|field| field.counts_with(purpose, binary));
+        let earlier = self.fields.iter().filter(|field| field.binary == binary
+            && field.purpose.word() == purpose.word());
         earlier.count() + 1
     }
 
