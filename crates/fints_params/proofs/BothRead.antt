@@ -1,18 +1,23 @@
 -- Rows and codes of the same segments.
-use Rattle.std.proofs.Common.{◌≡◌, ◌≢◌, ℕ, List, [], ◌∷◌, ◌++◌, ap, ◌∙◌, sym, subst, inl, inr, refl, Option, Some, None, Result, Ok, Err, IfOk, Bool, true, false}
+use Rattle.std.proofs.Common.{◌≡◌, ◌≢◌, ◌⊎◌, ℕ, List, [], ◌∷◌, ◌++◌, ap, ◌∙◌, sym, subst, inl, inr, refl, Option, Some, None, Result, Ok, Err, IfOk, IfErr, Bool, true, false, if◌then◌else◌}
+use Rattle.std.specs.List.{filter}
 use Rattle.std.specs.Option.{is_some}
+use Rattle.std.specs.Result.{result_ok}
 use Rattle.fints_syntax.specs.Owned.{segments_of}
 use Rattle.fints_syntax_segments.specs.declared.item.OwnedSegment.{OwnedSegment}
 use Rattle.fints_params.specs.declared.fault.ParamFault.{ParamFault}
-use Rattle.fints_params.specs.declared.fault.ParamFault.TheVariants.{Memory}
+use Rattle.fints_params.specs.declared.fault.ParamFault.TheVariants.{Memory, NoBankParameters, NoPinParameters}
 use Rattle.fints_params.specs.declared.gathered.Gathered.{Gathered}
-use Rattle.fints_params.specs.Captures.{IsParamsOf, IsParamFault, IsCodesOf, IsCodeFault}
+use Rattle.fints_params.specs.Captures.{IsParamsOf, IsParamFault, IsCodesOf, IsCodeFault, LacksParams, TellsBank}
 use Rattle.fints_params.specs.Faults.{IsMemoryOr}
 use Rattle.fints_params.specs.Feedback.{is_feedback, feedback_fault}
 use Rattle.fints_params.specs.Glancing.{IsGlanced}
 use Rattle.fints_params.specs.declared.both.Both.{Both}
 use Rattle.fints_params.specs.Opened.{OpenTo, AreSegmentsOf}
-use Rattle.fints_params.specs.Parameters.{Rows, IsRowsOf, end_fault}
+use Rattle.fints_params.specs.Parameters.{Rows, BankRows, IsRowsOf, end_fault, joined, user_in}
+use Rattle.fints_params.specs.Bank.{is_bank}
+use Rattle.fints_params.specs.Pins.{is_pins}
+use Rattle.fints_params.specs.Reading.{is_empty}
 use Rattle.fints_params.specs.Refused.{IsFirstRefused, values_in}
 use Rattle.fints_params.specs.Steps.{StopsIn}
 use Rattle.fints_params.specs.Taken.{IsGathered, IsBothSoFar, ParamsSoFar, CodesSoFar, CodesRead}
@@ -88,3 +93,39 @@ pub codes_ended : (segments : List OwnedSegment) (refused : Option ParamFault) (
     → CodesSoFar segments numbers
 codes_ended segments None numbers n h = h
 codes_ended segments (Some f) numbers n h = absurd (n f refl)
+
+-- ---- by parts
+
+same_some : {A : Type 0} (x y : A) → Some x ≡ Some y → x ≡ y
+same_some x y e = cc
+
+ends : (bank pins : Bool) (f : ParamFault)
+    → (if bank then Some NoBankParameters else (if pins then Some NoPinParameters else None)) ≡ Some f
+    → (f ≡ NoBankParameters) ⊎ (f ≡ NoPinParameters)
+ends true pins f e = inl (sym (same_some _ _ e))
+ends false true f e = inr (sym (same_some _ _ e))
+ends false false f e = absurd cc
+
+lacking : (segments : List OwnedSegment) (f : ParamFault) → end_fault segments ≡ Some f
+    → (f ≡ NoBankParameters) ⊎ (f ≡ NoPinParameters)
+lacking segments f e = ends (is_empty (filter is_bank segments)) (is_empty (filter is_pins segments)) f e
+
+lacks : (capture : List ℕ) (segments : List OwnedSegment) (g : Gathered) (f : ParamFault)
+    → AreSegmentsOf capture segments → ParamsSoFar segments g → end_fault segments ≡ Some f
+    → LacksParams capture
+lacks capture segments g f o h e =
+    let fault = missing capture segments g f o h e in
+    elim (lacking segments f e) [
+      | inl is ↦ inl (subst (IsParamFault capture) is fault)
+      | inr is ↦ inr (subst (IsParamFault capture) is fault)
+    ]
+
+pub bank_told : (capture : List ℕ) (segments : List OwnedSegment) (g : Gathered)
+    (r : Result BankRows ParamFault) → AreSegmentsOf capture segments → ParamsSoFar segments g
+    → IfOk r (λ b. (ss : List OwnedSegment) → IsGathered ss g → end_fault ss ≡ None)
+    → IfOk r (λ b. (ss : List OwnedSegment) → IsGathered ss g → IsRowsOf ss (joined b (user_in ss)))
+    → IfErr r (λ f. (ss : List OwnedSegment) → IsGathered ss g → end_fault ss ≡ Some f)
+    → TellsBank capture (result_ok r)
+bank_told capture segments g (Ok b) o h complete are lacking =
+    (joined b (user_in segments), params_of capture segments g _ o h (complete segments h.rows) (are segments h.rows), refl)
+bank_told capture segments g (Err f) o h complete are lacking = lacks capture segments g f o h (lacking segments h.rows)

@@ -1,13 +1,14 @@
 -- What a capture tells: the rows or the codes of its segments, opened, of which each can be read. Then why it tells nothing.
-use Rattle.std.specs.Prelude.{◌≡◌, ◌⊎◌, ℕ, List, [], Some, None, Result, Ok, Err}
+use Rattle.std.specs.Prelude.{◌≡◌, ◌⊎◌, ℕ, List, [], Some, None, Option, Result, Ok, Err}
 use Rattle.std.specs.List.{AllByRecursion, filter}
 use Rattle.fints_syntax_segments.specs.declared.item.OwnedSegment.{OwnedSegment}
 use Rattle.fints_params.specs.declared.both.ParamsAndCodes.{ParamsAndCodes}
 use Rattle.fints_params.specs.declared.fault.ParamFault.{ParamFault}
+use Rattle.fints_params.specs.declared.fault.ParamFault.TheVariants.{NoBankParameters, NoPinParameters}
 use Rattle.fints_params.specs.Faults.{IsMemoryOr}
 use Rattle.fints_params.specs.Feedback.{bad_code, codes_in, feedback_fault}
 use Rattle.fints_params.specs.Opened.{AreSegmentsOf}
-use Rattle.fints_params.specs.Parameters.{Rows, IsRowsOf, bad_element, fault_after, end_fault}
+use Rattle.fints_params.specs.Parameters.{Rows, BankRows, UserRows, IsRowsOf, bank_rows, user_told, bad_element, fault_after, end_fault}
 use Rattle.fints_params.specs.Pins.{is_pins}
 use Rattle.fints_params.specs.Refused.{NoneRefused, IsRefusedOf}
 
@@ -34,6 +35,21 @@ IsParamFault capture f =
     IsRefusedOf fault_after capture f
     ⊎ ((segments : List OwnedSegment) × AreSegmentsOf capture segments × NoneRefused fault_after segments
     × (end_fault segments ≡ Some f))
+
+-- it is refused only since a HIBPA or a HIPINS is missing
+abbrev pub LacksParams : List ℕ → Type 0
+LacksParams capture = IsParamFault capture NoBankParameters ⊎ IsParamFault capture NoPinParameters
+
+-- what a capture tells of the bank, where no part of that is missing
+abbrev pub TellsBank : List ℕ → Option BankRows → Type 0
+TellsBank capture None = LacksParams capture
+TellsBank capture (Some told) = (rows : Rows) × IsParamsOf capture rows × (told ≡ bank_rows rows)
+
+-- what it tells of the user, where some segment is a HIUPA or a HIUPD
+abbrev pub TellsUser : List ℕ → Option UserRows → Type 0
+TellsUser capture told =
+    (segments : List OwnedSegment) × AreSegmentsOf capture segments × NoneRefused fault_after segments
+    × (told ≡ user_told segments)
 
 -- what is answered where the parameters of a capture are read
 abbrev pub IsReadOf : List ℕ → Result Rows ParamFault → Type 0

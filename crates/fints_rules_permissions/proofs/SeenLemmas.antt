@@ -105,11 +105,17 @@ seen_entry rows account kind s some among key =
       ap (λ (t : Seen). t.signatures) at.is,
     )
 
-pub least_need : (rows : Rows) (account : Account) (kind : List ℕ) (needs : List Seen) (o : Option ℕ)
-    → (account ≡ nobody → ⊥) → IsPermutation (seen_in rows.accounts) needs
-    → IsLeastOf (key_of account kind) needs o → IsLeastNeed rows account kind o
-least_need rows account kind needs None some p h = λ e i. h _ (Contains-permutation _ _ _ p (entry_seen rows account kind e i)) refl
-least_need rows account kind needs (Some n) some p h' =
-    let ((s, among, key, is), h) = h' in
-    let (e, entry, same) = seen_entry rows account kind s some (Contains-permutation _ _ _ (IsPermutation-sym _ _ p) among) key in
-    ((e, entry, same ∙ is), λ x i. h _ (Contains-permutation _ _ _ p (entry_seen rows account kind x i)) refl)
+-- the least among the same entries in another order
+pub least_of : (key : Key) (all needs : List Seen) (o : Option ℕ) → IsPermutation all needs
+    → IsLeastOf key needs o → IsLeastOf key all o
+least_of key all needs None p h = λ s among. h s (Contains-permutation _ _ _ p among)
+least_of key all needs (Some n) p ((s, among, key_is, is), least) =
+    ((s, Contains-permutation _ _ _ (IsPermutation-sym _ _ p) among, key_is, is), λ x i. least x (Contains-permutation _ _ _ p i))
+
+pub least_need : (rows : Rows) (account : Account) (kind : List ℕ) (o : Option ℕ)
+    → (account ≡ nobody → ⊥) → IsLeastOf (key_of account kind) (seen_in rows.accounts) o
+    → IsLeastNeed rows account kind o
+least_need rows account kind None some h = λ e i. h _ (entry_seen rows account kind e i) refl
+least_need rows account kind (Some n) some ((s, among, key, is), h) =
+    let (e, entry, same) = seen_entry rows account kind s some among key in
+    ((e, entry, same ∙ is), λ x i. h _ (entry_seen rows account kind x i) refl)

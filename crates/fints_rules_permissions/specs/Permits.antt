@@ -2,7 +2,7 @@
 use Rattle.std.specs.Prelude.{◌≡◌, ◌≢◌, ℕ, ◌<◌, ◌≤◌, Bool, true, false, ◌&&◌, ◌==◌, List, [], filter, Option, Some, None, Any, All, Contains}
 use Rattle.std.specs.List.{list_any}
 use Rattle.std.specs.Str.{bytes_eq}
-use Rattle.fints_params.specs.Parameters.{Rows}
+use Rattle.fints_params.specs.Parameters.{Rows, BankRows, UserRows, joined}
 use Rattle.fints_params.specs.declared.rows.OrderParam.{OrderParam}
 use Rattle.fints_params.specs.declared.rows.PinRow.{PinRow}
 use Rattle.fints_params.specs.declared.rows.TanRow.{TanRow}
@@ -23,6 +23,15 @@ use Rattle.fints_rules_permissions.specs.Kinds.{is_plain_order}
 pub record Granted : Type 0 where
   pub rows : Rows
   pub orders : List OrderRow
+
+-- what its part of the bank stands for: the bank's rows of a capture, and an order table's
+pub record BankGranted : Type 0 where
+  pub rows : BankRows
+  pub orders : List OrderRow
+
+-- both, for a user
+abbrev pub granted : BankGranted → UserRows → Granted
+granted bank user = record { rows = joined bank.rows user; orders = bank.orders }
 
 -- ---- limits
 

@@ -9,6 +9,7 @@ pub mod laws;
 mod limits;
 mod needs;
 mod orders;
+mod parts;
 mod permissions;
 mod tans;
 
@@ -17,4 +18,5 @@ pub use fints_syntax::Memory;
 pub use keys::OrderKey;
 pub use limits::{Demand, Limits};
 pub use orders::{AccountForm, MAX_ROWS, OrderRow, OrderTable, TableFault};
+pub use parts::{BankPermissions, UserPermissions};
 pub use permissions::{Permissions, Permit};

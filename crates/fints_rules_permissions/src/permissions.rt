@@ -1,19 +1,18 @@
 //! What a bank permits, as look-ups in the rows of a capture and an order table.
 ghost use Rattle.std.specs.Prelude.{◌≡◌, ◌↔◌, IfOk, IsTrue};
 ghost use Rattle.fints_rules_permissions.specs.Orders.{form_of};
-ghost use Rattle.fints_rules_permissions.specs.Permits.{LimitsAre, params_of, DemandIs, IsLeastNeed, NeedsTwoSteps, OrderNeedsMore, PermitIs, TakesOneOrder, is_demanding, is_listed_with_tan};
+ghost use Rattle.fints_rules_permissions.specs.Permits.{LimitsAre, params_of, DemandIs, IsLeastNeed, NeedsTwoSteps, OrderNeedsMore, PermitIs, TakesOneOrder, granted, is_demanding, is_listed_with_tan};
 
 use crate::account::AccountKey;
-use crate::keys::OrderKey;
 use crate::kinds::is_plain_order;
-use crate::limits::{Demand, LimitMap, Limits, PinMap, limit_map, pin_map};
-use crate::needs::Needs;
+use crate::limits::{Demand, Limits};
 use crate::orders::{AccountForm, OrderTable};
-use crate::tans::TanTable;
-use fints_params::{BankRow, Params, TanRow, Usage};
+use crate::parts::{BankPermissions, UserPermissions};
+use fints_params::{AccountRow, BankRow, OrderParam, Params, TanRow, Usage};
 use fints_syntax::{Kind, Memory};
 use std::alloc::Global;
 use std::marker::Model;
+use std::rc::Rc;
 
 /// Whether an account permits an order.
 #[derive(Clone, Copy, PartialEq, Eq)]
@@ -29,33 +28,16 @@ pub enum Permit {
 /// both. Its look-ups take no memory.
 #[derive(Drop)]
 pub struct Permissions<'a> {
-    params: &'a Params,
-    orders: &'a OrderTable,
-    limits: LimitMap,
-    pins: PinMap,
-    needs: Needs<'a>,
-    tans: TanTable,
+    bank: Rc<BankPermissions<'a>>,
+    user: Rc<UserPermissions<'a>>,
 }
 
 impl<'a> Model for Permissions<'a> {
-    ghost use Rattle.fints_rules_permissions.specs.Permits.{Granted};
+    ghost use Rattle.fints_rules_permissions.specs.Permits.{Granted, granted};
 
     ghost Value = { Granted };
 
-    ghost use Rattle.indexmap.specs.IndexMap.{get};
-    ghost use Rattle.std.specs.List.Sorted.{IsPermutation};
-    ghost use Rattle.std.specs.Str.{bytes_eq};
-    ghost use Rattle.fints_rules_permissions.specs.LimitMaps.{HoldsLimits, HoldsPins};
-    ghost use Rattle.fints_rules_permissions.specs.OrderKeys.{key_eq};
-    ghost use Rattle.fints_rules_permissions.specs.Needs.{seen_in};
-    ghost use Rattle.fints_rules_permissions.specs.Tans.{HoldsTans};
-
-    ghost view = { λ p. record { rows = p.params.now; orders = p.orders.now } };
-
-    ghost invariant = { λ p. HoldsLimits p.params.now.orders (get key_eq p.limits)
-        × HoldsPins p.params.now.pins (get bytes_eq p.pins)
-        × IsPermutation (seen_in p.params.now.accounts) p.needs
-        × HoldsTans p.params.now.tans p.tans };
+    ghost view = { λ p. granted p.bank.value p.user.value };
 }
 
 impl<'a> Permissions<'a> {
@@ -68,67 +50,79 @@ impl<'a> Permissions<'a> {
         ensures rows { IfOk result (λ p. p.rows ≡ params.now) }
         ensures orders { IfOk result (λ p. p.orders ≡ orders.now) }
     {
-        let limits = limit_map(alloc, params.orders())?;
-        let pins = pin_map(alloc, params.pins())?;
-        let needs = Needs::of(alloc, params.accounts())?;
-        let tans = TanTable::of(alloc, params.tans())?;
-        Ok(Permissions {
-            params,
-            orders,
-            limits,
-            pins,
-            needs,
-            tans,
-        })
+        let bank = BankPermissions::of(alloc, params.of_bank(), orders)?;
+        let user = UserPermissions::of(alloc, params.of_user())?;
+        Ok(Permissions::join(Rc::new(alloc, bank)?, Rc::new(alloc, user)?))
     }
 
-    /// The parameters that they come from.
-    pub fn params(&self) -> &Params
-        ensures { result.now ≡ self.now.rows }
+    /// The permissions of a bank for a user. Both may come from other captures, and may be shared.
+    pub fn join(bank: Rc<BankPermissions<'a>>, user: Rc<UserPermissions<'a>>) -> Permissions<'a>
+        ensures { result ≡ granted bank.entry.value user.entry.value }
     {
-        self.params
+        Permissions { bank, user }
+    }
+
+    /// What the parameter segments allow, in the order of the capture.
+    pub fn params(&self) -> &[OrderParam]
+        ensures { result.now ≡ self.now.rows.orders }
+    {
+        self.bank.params().orders()
+    }
+
+    /// The accounts of the user, in the order of the capture.
+    pub fn accounts(&self) -> &[AccountRow]
+        ensures { result.now ≡ self.now.rows.accounts }
+    {
+        self.user.accounts()
+    }
+
+    /// What was skipped of the bank's capture.
+    pub fn skipped(&self) -> u32
+        ensures { result ≡ self.now.rows.skipped }
+    {
+        self.bank.params().skipped()
     }
 
     /// The order table that they come from.
     pub fn orders(&self) -> &OrderTable
         ensures { result.now ≡ self.now.orders }
     {
-        self.orders
+        self.bank.orders()
     }
 
     /// The bank's own row.
     pub fn bank(&self) -> &BankRow
         ensures { result.now ≡ self.now.rows.bank }
     {
-        self.params.bank()
+        self.bank.params().bank()
     }
 
     /// What HITANS says of the TAN procedures.
     pub fn tans(&self) -> &[TanRow]
         ensures { result.now ≡ self.now.rows.tans }
     {
-        self.params.tans()
+        self.bank.params().tans()
     }
 
     /// Whether some HITANS of a version takes one order at a time.
     pub fn takes_one_order(&self, version: u16) -> bool
         ensures { IsTrue result ↔ TakesOneOrder self.now.rows.tans version }
     {
-        self.tans.takes_one(version)
+        self.bank.takes_one_order(version)
     }
 
     /// Whether HITANS are there, and none lets a TAN go with its order.
     pub fn needs_two_steps(&self) -> bool
         ensures { IsTrue result ↔ NeedsTwoSteps self.now.rows.tans }
     {
-        self.tans.two_steps
+        self.bank.needs_two_steps()
     }
 
     /// How an order names its account, where the table has the order.
     pub fn form(&self, kind: Kind, version: u16) -> Option<AccountForm>
         ensures { result ≡ form_of self.now.orders kind version }
     {
-        self.orders.form(kind, version)
+        self.bank.orders().form(kind, version)
     }
 
     /// The limits of a kind and version, where the capture has a row of them: of all such rows the
@@ -136,7 +130,7 @@ impl<'a> Permissions<'a> {
     pub fn limits(&self, kind: Kind, version: u16) -> Option<Limits>
         ensures { LimitsAre (params_of kind version self.now.rows.orders) result }
     {
-        self.limits.get(&OrderKey { kind, version }).copied()
+        self.bank.limits(kind, version)
     }
 
     /// Whether some row of a kind and version needs more signatures.
@@ -153,11 +147,7 @@ impl<'a> Permissions<'a> {
     pub fn demand(&self, kind: Kind) -> Demand
         ensures { DemandIs self.now.rows.pins kind result }
     {
-        match self.pins.get(&kind) {
-            None => Demand::Unlisted,
-            Some(false) => Demand::No,
-            Some(true) => Demand::Tan,
-        }
+        self.bank.demand(kind)
     }
 
     fn is_listed_with_tan(&self, kind: Kind) -> bool
@@ -182,7 +172,7 @@ impl<'a> Permissions<'a> {
         ensures { IsLeastNeed self.now.rows account.now kind result }
     {
         match account.need_key(&kind) {
-            Some(key) => self.needs.least(&key),
+            Some(key) => self.user.least(&key),
             None => None,
         }
     }
@@ -194,7 +184,7 @@ impl<'a> Permissions<'a> {
         match self.least_need(kind, account) {
             Some(need) if need as usize <= signatures => Permit::Allowed,
             Some(_) => Permit::MoreSignatures,
-            None => match self.params.usage() {
+            None => match self.user.usage() {
                 Usage::Locked => Permit::Refused,
                 Usage::Unsaid => Permit::Allowed,
             },

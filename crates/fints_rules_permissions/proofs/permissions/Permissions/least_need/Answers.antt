@@ -1,5 +1,4 @@
 use Rattle.std.proofs.Common.{subst}
-use Rattle.std.specs.List.Sorted.{IsPermutation}
 use Rattle.fints_rules_permissions.specs.Needs.{IsLeastOf, seen_in}
 use Rattle.fints_rules_permissions.proofs.SeenLemmas.{least_need}
 use Rattle.fints_rules_permissions.proofs.permissions.Permissions.least_need.Goals as goal
@@ -7,6 +6,7 @@ use Rattle.fints_rules_permissions.proofs.permissions.Permissions.least_need.Goa
 pub returns-in-Some : goal.returns-in-Some
 returns-in-Some c =
     let is = c.in-Some.ensures in
-    let held : IsPermutation (seen_in c.args.self.now.rows.accounts) c.self.inside.needs = rw (← c.self.view_is) c.self.invariant.2 in
-    least_need c.args.self.now.rows c.args.account.now c.args.kind c.self.inside.needs c.least.result is.1
-    held (subst (λ k. IsLeastOf k c.self.inside.needs c.least.result) is.0 c.least.ensures)
+    let accounts = c.args.self.now.rows.accounts in
+    let least : IsLeastOf _ (seen_in accounts) c.least.result = rw (← c.self.view_is, ← c.deref.ensures) c.least.ensures in
+    least_need c.args.self.now.rows c.args.account.now c.args.kind c.least.result is.1
+    (subst (λ k. IsLeastOf k (seen_in accounts) c.least.result) is.0 least)

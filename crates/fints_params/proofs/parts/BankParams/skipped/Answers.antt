@@ -1,5 +1,5 @@
 use Rattle.std.proofs.Common.{rules}
-use Rattle.fints_params.proofs.params.Params.usage.Goals as goal
+use Rattle.fints_params.proofs.parts.BankParams.skipped.Goals as goal
 
 pub returns : goal.returns
 returns c = search rules
