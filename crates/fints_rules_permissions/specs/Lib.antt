@@ -13,3 +13,4 @@ pub mod LimitMaps
 pub mod Needs
 pub mod Tans
 pub mod FaultText
+pub mod Parts

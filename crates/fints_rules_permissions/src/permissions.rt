@@ -1,6 +1,7 @@
 //! What a bank permits, as look-ups in the rows of a capture and an order table.
 ghost use Rattle.std.specs.Prelude.{◌≡◌, ◌↔◌, IfOk, IsTrue};
 ghost use Rattle.fints_rules_permissions.specs.Orders.{form_of};
+ghost use Rattle.fints_rules_permissions.specs.Parts.{part_in};
 ghost use Rattle.fints_rules_permissions.specs.Permits.{LimitsAre, params_of, DemandIs, IsLeastNeed, NeedsTwoSteps, OrderNeedsMore, PermitIs, TakesOneOrder, granted, is_demanding, is_listed_with_tan};
 
 use crate::account::AccountKey;
@@ -12,7 +13,6 @@ use fints_params::{AccountRow, BankRow, OrderParam, Params, TanRow, Usage};
 use fints_syntax::{Kind, Memory};
 use std::alloc::Global;
 use std::marker::Model;
-use std::rc::Rc;
 
 /// Whether an account permits an order.
 #[derive(Clone, Copy, PartialEq, Eq)]
@@ -24,20 +24,39 @@ pub enum Permit {
     MoreSignatures,
 }
 
+// A part that is held, or that is shared with other permissions.
+#[derive(Drop)]
+enum Part<'a, T> {
+    Held(T),
+    Shared(&'a T),
+}
+
+impl<'a, T> Part<'a, T> {
+    fn get(&self) -> &T
+        ensures { result.now ≡ part_in self.now }
+    {
+        match self {
+            Part::Held(part) => part,
+            Part::Shared(part) => *part,
+        }
+    }
+}
+
 /// What a bank permits, by its captured parameters and an order table; a contract sees the rows of
 /// both. Its look-ups take no memory.
 #[derive(Drop)]
 pub struct Permissions<'a> {
-    bank: Rc<BankPermissions<'a>>,
-    user: Rc<UserPermissions<'a>>,
+    bank: Part<'a, BankPermissions<'a>>,
+    user: Part<'a, UserPermissions<'a>>,
 }
 
 impl<'a> Model for Permissions<'a> {
+    ghost use Rattle.fints_rules_permissions.specs.Parts.{part_in};
     ghost use Rattle.fints_rules_permissions.specs.Permits.{Granted, granted};
 
     ghost Value = { Granted };
 
-    ghost view = { λ p. granted p.bank.value p.user.value };
+    ghost view = { λ p. granted (part_in p.bank) (part_in p.user) };
 }
 
 impl<'a> Permissions<'a> {
@@ -52,77 +71,83 @@ impl<'a> Permissions<'a> {
     {
         let bank = BankPermissions::of(alloc, params.of_bank(), orders)?;
         let user = UserPermissions::of(alloc, params.of_user())?;
-        Ok(Permissions::join(Rc::new(alloc, bank)?, Rc::new(alloc, user)?))
+        Ok(Permissions {
+            bank: Part::Held(bank),
+            user: Part::Held(user),
+        })
     }
 
-    /// The permissions of a bank for a user. Both may come from other captures, and may be shared.
-    pub fn join(bank: Rc<BankPermissions<'a>>, user: Rc<UserPermissions<'a>>) -> Permissions<'a>
-        ensures { result ≡ granted bank.entry.value user.entry.value }
+    /// The permissions of a bank for a user, whose parameters may come from other captures.
+    pub fn of(bank: &'a BankPermissions<'a>, user: &'a UserPermissions<'a>) -> Permissions<'a>
+        ensures { result ≡ granted bank.now user.now }
     {
-        Permissions { bank, user }
+        Permissions {
+            bank: Part::Shared(bank),
+            user: Part::Shared(user),
+        }
     }
 
     /// What the parameter segments allow, in the order of the capture.
     pub fn params(&self) -> &[OrderParam]
         ensures { result.now ≡ self.now.rows.orders }
     {
-        self.bank.params().orders()
+        self.bank.get().params().orders()
     }
 
     /// The accounts of the user, in the order of the capture.
     pub fn accounts(&self) -> &[AccountRow]
         ensures { result.now ≡ self.now.rows.accounts }
     {
-        self.user.accounts()
+        self.user.get().accounts()
     }
 
     /// What was skipped of the bank's capture.
     pub fn skipped(&self) -> u32
         ensures { result ≡ self.now.rows.skipped }
     {
-        self.bank.params().skipped()
+        self.bank.get().params().skipped()
     }
 
     /// The order table that they come from.
     pub fn orders(&self) -> &OrderTable
         ensures { result.now ≡ self.now.orders }
     {
-        self.bank.orders()
+        self.bank.get().orders()
     }
 
     /// The bank's own row.
     pub fn bank(&self) -> &BankRow
         ensures { result.now ≡ self.now.rows.bank }
     {
-        self.bank.params().bank()
+        self.bank.get().params().bank()
     }
 
     /// What HITANS says of the TAN procedures.
     pub fn tans(&self) -> &[TanRow]
         ensures { result.now ≡ self.now.rows.tans }
     {
-        self.bank.params().tans()
+        self.bank.get().params().tans()
     }
 
     /// Whether some HITANS of a version takes one order at a time.
     pub fn takes_one_order(&self, version: u16) -> bool
         ensures { IsTrue result ↔ TakesOneOrder self.now.rows.tans version }
     {
-        self.bank.takes_one_order(version)
+        self.bank.get().takes_one_order(version)
     }
 
     /// Whether HITANS are there, and none lets a TAN go with its order.
     pub fn needs_two_steps(&self) -> bool
         ensures { IsTrue result ↔ NeedsTwoSteps self.now.rows.tans }
     {
-        self.bank.needs_two_steps()
+        self.bank.get().needs_two_steps()
     }
 
     /// How an order names its account, where the table has the order.
     pub fn form(&self, kind: Kind, version: u16) -> Option<AccountForm>
         ensures { result ≡ form_of self.now.orders kind version }
     {
-        self.bank.orders().form(kind, version)
+        self.bank.get().orders().form(kind, version)
     }
 
     /// The limits of a kind and version, where the capture has a row of them: of all such rows the
@@ -130,7 +155,7 @@ impl<'a> Permissions<'a> {
     pub fn limits(&self, kind: Kind, version: u16) -> Option<Limits>
         ensures { LimitsAre (params_of kind version self.now.rows.orders) result }
     {
-        self.bank.limits(kind, version)
+        self.bank.get().limits(kind, version)
     }
 
     /// Whether some row of a kind and version needs more signatures.
@@ -147,7 +172,7 @@ impl<'a> Permissions<'a> {
     pub fn demand(&self, kind: Kind) -> Demand
         ensures { DemandIs self.now.rows.pins kind result }
     {
-        self.bank.demand(kind)
+        self.bank.get().demand(kind)
     }
 
     fn is_listed_with_tan(&self, kind: Kind) -> bool
@@ -172,7 +197,7 @@ impl<'a> Permissions<'a> {
         ensures { IsLeastNeed self.now.rows account.now kind result }
     {
         match account.need_key(&kind) {
-            Some(key) => self.user.least(&key),
+            Some(key) => self.user.get().least(&key),
             None => None,
         }
     }
@@ -184,7 +209,7 @@ impl<'a> Permissions<'a> {
         match self.least_need(kind, account) {
             Some(need) if need as usize <= signatures => Permit::Allowed,
             Some(_) => Permit::MoreSignatures,
-            None => match self.user.usage() {
+            None => match self.user.get().usage() {
                 Usage::Locked => Permit::Refused,
                 Usage::Unsaid => Permit::Allowed,
             },

@@ -7,6 +7,6 @@ pub returns-in-Some : goal.returns-in-Some
 returns-in-Some c =
     let is = c.in-Some.ensures in
     let accounts = c.args.self.now.rows.accounts in
-    let least : IsLeastOf _ (seen_in accounts) c.least.result = rw (← c.self.view_is, ← c.deref.ensures) c.least.ensures in
+    let least : IsLeastOf _ (seen_in accounts) c.least.result = rw (← c.self.view_is, ← c.get.ensures) c.least.ensures in
     least_need c.args.self.now.rows c.args.account.now c.args.kind c.least.result is.1
     (subst (λ k. IsLeastOf k (seen_in accounts) c.least.result) is.0 least)
