@@ -197,7 +197,7 @@ pub fn answer_audit_own(
         dialogue,
         ..
     } = contents;
-    let source = Source::Dialogue(dialogue.as_slice());
+    let source = Source::Answers;
     let mut reasons = AuditReasons::new(alloc, hints, source);
     match audit_own(alloc, orders.as_slice(), dialogue.as_slice(), &mut reasons) {
         Ok(reply) => Ok(Answered {

@@ -1,15 +1,18 @@
 //! The notes on the messages of a recording, by what its parameters and the bank's answers say.
+use crate::sources::Capture;
 use fints_cli_hints_captured::{Basis, Captured, Noted, Said, add_captured_notes, said_in};
 use fints_cli_hints_words::places::written;
 use fints_rules::{Message, Permissions};
 use fints_rules_dialogues::{Answer, Exchange};
 use fints_syntax::{Memory, OwnedSegment};
 use std::alloc::Global;
+use std::collections::BTreeMap;
 
 /// What was noted of a dialogue, and what the bank has said in it.
 #[derive(Drop)]
 pub struct CapturedNotes {
-    captured: Option<Captured>,
+    // What each capture says, by its place in the recording.
+    captured: BTreeMap<usize, Captured>,
     noted: Noted,
     // Whether the note on an order reference was told.
     referred: bool,
@@ -32,23 +35,12 @@ fn tan_order(alloc: Global, message: &Message<'_>) -> Result<Option<OwnedSegment
 impl CapturedNotes {
     pub fn new(alloc: Global) -> CapturedNotes {
         CapturedNotes {
-            captured: None,
+            captured: BTreeMap::new(alloc),
             noted: Noted::none(),
             referred: false,
             allowed: Vec::new(alloc),
             references: Vec::new(alloc),
         }
-    }
-
-    /// Whether what the capture says was read.
-    pub fn is_read(&self) -> bool {
-        self.captured.is_some()
-    }
-
-    /// Reads what the capture says.
-    pub fn read(&mut self, alloc: Global, capture: &[u8]) -> Result<(), Memory> {
-        self.captured = Some(Captured::of(alloc, capture)?);
-        Ok(())
     }
 
     // Begins another dialogue.
@@ -71,15 +63,24 @@ impl CapturedNotes {
             && !self.references.iter().any(given)
     }
 
+    // Adds the notes on a message that is signed, by the capture by which it is judged.
     fn add_message(
         &mut self,
         text: &mut String,
         alloc: Global,
         place: usize,
+        source: Capture<'_>,
         permissions: &Permissions<'_>,
         message: &Message<'_>,
     ) -> Result<(), Memory> {
-        let Some(captured) = &self.captured else {
+        if message.openers().is_empty() {
+            return Ok(());
+        }
+        if !self.captured.contains_key(&source.place) {
+            let captured = Captured::of(alloc, source.bytes)?;
+            self.captured.insert(source.place, captured)?;
+        }
+        let Some(captured) = self.captured.get(&source.place) else {
             return Ok(());
         };
         let called = written(alloc, format_args!("message {place}: "))?;
@@ -129,19 +130,21 @@ impl CapturedNotes {
         Ok(())
     }
 
-    /// Adds the notes on the next exchange, whose message has this place, from 1.
+    /// Adds the notes on the next exchange, whose message has this place, from 1, and is judged by this
+    /// capture.
     pub fn add(
         &mut self,
         text: &mut String,
         alloc: Global,
         place: usize,
+        source: Capture<'_>,
         permissions: &Permissions<'_>,
         exchange: &Exchange<'_>,
     ) -> Result<(), Memory> {
         if exchange.begins {
             self.begin();
         }
-        self.add_message(text, alloc, place, permissions, &exchange.message)?;
+        self.add_message(text, alloc, place, source, permissions, &exchange.message)?;
         if let Some(order) = tan_order(alloc, &exchange.message)? {
             self.add_reference(text, alloc, place, &order)?;
         }

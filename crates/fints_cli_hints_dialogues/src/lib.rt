@@ -7,8 +7,10 @@ mod captured;
 mod notes;
 mod reasons;
 mod refused;
+mod sources;
 mod undrafted;
 
-pub use reasons::{AuditReasons, Source};
+pub use reasons::AuditReasons;
 pub use refused::dialogue_hint;
+pub use sources::Source;
 pub use undrafted::draft_hint;

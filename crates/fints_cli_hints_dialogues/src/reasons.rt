@@ -1,55 +1,25 @@
 //! Why the messages of a recorded dialogue break the rules that `audit` names.
 use crate::captured::CapturedNotes;
 use crate::notes::Notes;
-use fints_cli_hints_reasons::bank::{Bank, BankIndex};
-use fints_cli_hints_reasons::{Judged, add_reasons};
+use crate::sources::{Indexes, Source, capture_of};
 use fints_cli_hints_segments::UnreadHint;
 use fints_cli_hints_words::places::written;
-use fints_params::Params;
-use fints_rules::{Broken, Permissions};
-use fints_rules_dialogues::{Exchange, Observer, Recording};
+use fints_rules::{AccountForm, Broken, Message, Permissions};
+use fints_rules_dialogues::{Exchange, Observer, ToldIn};
 use fints_rules_messages::{Unread, UnreadObserver};
 use fints_syntax::Memory;
 use std::alloc::Global;
 
-// The first message of a recording that has parameters; empty where there is none.
-fn own_capture<'a>(alloc: Global, dialogue: &'a [u8]) -> &'a [u8] {
-    let Ok(recording) = Recording::cut(alloc, dialogue) else {
-        return &[];
-    };
-    for sent in recording.messages() {
-        if Params::read(alloc, sent.bytes).is_ok() {
-            return sent.bytes;
-        }
-    }
-    &[]
-}
-
-/// Where the parameters of an audit were read.
-#[derive(Clone, Copy)]
-pub enum Source<'c> {
-    /// In a capture.
-    Capture(&'c [u8]),
-    /// In an answer of the dialogue itself.
-    Dialogue(&'c [u8]),
-}
-
-// The capture in which the parameters were read.
-fn capture_of<'c>(alloc: Global, source: Source<'c>) -> &'c [u8] {
-    match source {
-        Source::Capture(capture) => capture,
-        Source::Dialogue(dialogue) => own_capture(alloc, dialogue),
-    }
-}
-
-// The rows of the parameters in order. The dialogue is looked at only where something of its parameters
-// was skipped.
-fn index_of(alloc: Global, params: &Params, source: Source<'_>) -> Result<BankIndex, Memory> {
-    match source {
-        Source::Capture(capture) => BankIndex::of(alloc, params, capture),
-        Source::Dialogue(_) if params.skipped() == 0 => BankIndex::of(alloc, params, &[]),
-        Source::Dialogue(_) => BankIndex::of(alloc, params, capture_of(alloc, source)),
-    }
+// Whether an order of the message names an account.
+fn names_account(permissions: &Permissions<'_>, message: &Message<'_>) -> bool {
+    message
+        .body()
+        .iter()
+        .any(|it| match permissions.form(it.id(), it.version()) {
+            Some(AccountForm::National) => true,
+            Some(AccountForm::International) => true,
+            _ => false,
+        })
 }
 
 /// The reasons of what the client's messages of a dialogue break, in the order in which `audit` names them:
@@ -60,11 +30,12 @@ pub struct AuditReasons<'c> {
     alloc: Global,
     wanted: bool,
     source: Source<'c>,
-    // That of the bank, from the first message on that breaks a rule.
-    index: Option<BankIndex>,
+    indexes: Indexes,
     reasons: String,
     notes: Notes,
     captured: CapturedNotes,
+    // Whether it was noted of the dialogue that no answer tells the user's accounts.
+    unknown: bool,
     // Whether memory ran out.
     failed: bool,
     hint: UnreadHint,
@@ -77,10 +48,11 @@ impl<'c> AuditReasons<'c> {
             alloc,
             wanted,
             source,
-            index: None,
+            indexes: Indexes::new(alloc),
             reasons: String::new(alloc),
             notes: Notes::new(alloc),
             captured: CapturedNotes::new(alloc),
+            unknown: false,
             failed: false,
             hint: UnreadHint::new(alloc, wanted),
         }
@@ -109,49 +81,70 @@ impl<'c> AuditReasons<'c> {
     fn add_broken(
         &mut self,
         permissions: &Permissions<'_>,
+        told_in: ToldIn<'_>,
         exchange: &Exchange<'_>,
         broken: &[Broken],
     ) -> Result<(), Memory> {
         if broken.is_empty() {
             return Ok(());
         }
-        let index = match self.index.take() {
-            Some(index) => index,
-            None => index_of(self.alloc, permissions.params(), self.source)?,
-        };
-        let bank = Bank {
-            permissions,
-            index: &index,
-        };
         let number = self.notes.place();
         let called = written(self.alloc, format_args!("message {number}"))?;
-        let judged = Judged {
-            bank: &bank,
-            called: called.as_str(),
-            message: &exchange.message,
-        };
-        add_reasons(&mut self.reasons, self.alloc, &judged, broken)?;
-        self.index = Some(index);
+        self.indexes.add(
+            &mut self.reasons,
+            self.alloc,
+            permissions,
+            capture_of(self.source, told_in),
+            told_in,
+            called.as_str(),
+            &exchange.message,
+            broken,
+        )
+    }
+
+    // Adds the note that no answer tells the user's accounts, at the first order of a dialogue that names one.
+    fn add_unknown(
+        &mut self,
+        permissions: &Permissions<'_>,
+        told_in: ToldIn<'_>,
+        exchange: &Exchange<'_>,
+    ) -> Result<(), Memory> {
+        if exchange.begins {
+            self.unknown = false;
+        }
+        if self.unknown || told_in.user.is_some() || !self.source.is_own() {
+            return Ok(());
+        }
+        if !names_account(permissions, &exchange.message) {
+            return Ok(());
+        }
+        self.unknown = true;
+        let place = self.notes.place();
+        let line = written(
+            self.alloc,
+            format_args!(
+                "note: message {place}: no answer tells the user's accounts (HIUPD), so P9 and P8 don't ask for them: hand over a capture by --params\n"
+            ),
+        )?;
+        self.notes.text_mut().push_str(line.as_str())?;
         Ok(())
     }
 
     fn add(
         &mut self,
         permissions: &Permissions<'_>,
+        told_in: ToldIn<'_>,
         exchange: &Exchange<'_>,
         broken: &[Broken],
     ) -> Result<(), Memory> {
-        self.add_broken(permissions, exchange, broken)?;
+        self.add_broken(permissions, told_in, exchange, broken)?;
+        self.add_unknown(permissions, told_in, exchange)?;
         let place = self.notes.place();
         self.notes.add(self.alloc, exchange)?;
-        let is_signed = !exchange.message.openers().is_empty();
-        if is_signed && !self.captured.is_read() {
-            let capture = capture_of(self.alloc, self.source);
-            self.captured.read(self.alloc, capture)?;
-        }
+        let capture = capture_of(self.source, told_in);
         let text = self.notes.text_mut();
         self.captured
-            .add(text, self.alloc, place, permissions, exchange)
+            .add(text, self.alloc, place, capture, permissions, exchange)
     }
 }
 
@@ -165,11 +158,12 @@ impl Observer for AuditReasons<'_> {
     fn observe(
         &mut self,
         permissions: &Permissions<'_>,
+        told_in: ToldIn<'_>,
         exchange: &Exchange<'_>,
         broken: &[Broken],
     ) {
         if self.wanted && !self.failed {
-            self.failed = self.add(permissions, exchange, broken).is_err();
+            self.failed = self.add(permissions, told_in, exchange, broken).is_err();
         }
     }
 }

@@ -1,6 +1,6 @@
 //! What a bank permits, with its rows in orders in which one is found without a walk over all.
 use fints_cli_hints_segments::skipped_segments;
-use fints_params::{AccountRow, OrderParam, Params};
+use fints_params::{AccountRow, OrderParam};
 use fints_rules::{OrderTable, Permissions};
 use fints_syntax::{Kind, Memory};
 use std::alloc::Global;
@@ -53,9 +53,13 @@ fn versions_in(alloc: Global, rows: &[OrderParam]) -> Result<Vec<(Kind, u16)>, M
 
 // The parameter segments of a capture that can't be read, in order. The capture is looked at only where
 // its reader skipped something.
-fn skipped_in(alloc: Global, params: &Params, capture: &[u8]) -> Result<Vec<(Kind, u16)>, Memory> {
+fn skipped_in(
+    alloc: Global,
+    permissions: &Permissions<'_>,
+    capture: &[u8],
+) -> Result<Vec<(Kind, u16)>, Memory> {
     let mut sorted = Vec::new(alloc);
-    if params.skipped() == 0 {
+    if permissions.skipped() == 0 {
         return Ok(sorted);
     }
     for segment in skipped_segments(alloc, capture)?.as_slice() {
@@ -72,33 +76,48 @@ fn of_kind(sorted: &[(Kind, u16)], kind: Kind) -> &[(Kind, u16)] {
     sorted.get(from..to).unwrap_or(&[])
 }
 
-/// The rows of a bank's parameters in these orders.
+/// The parameter segments of a bank, in order.
 #[derive(Drop)]
 pub struct BankIndex {
-    // The places of the accounts, in order of what names them.
-    by_iban: Vec<usize>,
-    by_national: Vec<usize>,
     versions: Vec<(Kind, u16)>,
     skipped: Vec<(Kind, u16)>,
 }
 
 impl BankIndex {
-    /// That of these parameters, which were read in the capture.
-    pub fn of(alloc: Global, params: &Params, capture: &[u8]) -> Result<BankIndex, Memory> {
+    /// Those of a bank whose parameters were read in the capture.
+    pub fn of(
+        alloc: Global,
+        permissions: &Permissions<'_>,
+        capture: &[u8],
+    ) -> Result<BankIndex, Memory> {
         Ok(BankIndex {
-            by_iban: by_iban(alloc, params.accounts())?,
-            by_national: by_national(alloc, params.accounts())?,
-            versions: versions_in(alloc, params.orders())?,
-            skipped: skipped_in(alloc, params, capture)?,
+            versions: versions_in(alloc, permissions.params())?,
+            skipped: skipped_in(alloc, permissions, capture)?,
         })
     }
 }
 
-/// The accounts of a capture, by what names them.
+/// The places of a user's accounts, in order of what names them.
+#[derive(Drop)]
+pub struct AccountIndex {
+    by_iban: Vec<usize>,
+    by_national: Vec<usize>,
+}
+
+impl AccountIndex {
+    pub fn of(alloc: Global, permissions: &Permissions<'_>) -> Result<AccountIndex, Memory> {
+        Ok(AccountIndex {
+            by_iban: by_iban(alloc, permissions.accounts())?,
+            by_national: by_national(alloc, permissions.accounts())?,
+        })
+    }
+}
+
+/// The accounts of a user, by what names them.
 #[derive(Clone, Copy)]
 pub struct Accounts<'a> {
     rows: &'a [AccountRow],
-    index: &'a BankIndex,
+    index: &'a AccountIndex,
 }
 
 impl Accounts<'_> {
@@ -139,21 +158,18 @@ impl Accounts<'_> {
 pub struct Bank<'a> {
     pub permissions: &'a Permissions<'a>,
     pub index: &'a BankIndex,
+    pub accounts: &'a AccountIndex,
 }
 
 impl Bank<'_> {
-    pub fn params(&self) -> &Params {
-        self.permissions.params()
-    }
-
     pub fn orders(&self) -> &OrderTable {
         self.permissions.orders()
     }
 
     pub fn accounts(&self) -> Accounts<'_> {
         Accounts {
-            rows: self.permissions.params().accounts(),
-            index: self.index,
+            rows: self.permissions.accounts(),
+            index: self.accounts,
         }
     }
 

@@ -1,6 +1,6 @@
 //! Why a message breaks the rules that `judge` names.
 use crate::after::add_notes;
-use crate::bank::{Bank, BankIndex};
+use crate::bank::{AccountIndex, Bank, BankIndex};
 use crate::elements::Elements;
 use crate::kinds::Kinds;
 use crate::lines::{Where, add_why};
@@ -93,7 +93,7 @@ fn add_whole(
         before: Before::Message,
     };
     let why = WholeWhy {
-        bank: judged.bank.params().bank(),
+        bank: judged.bank.permissions.bank(),
         whole: &whole,
         rule: broken.rule,
     };
@@ -165,10 +165,12 @@ fn lines_of(
     if is_answer(message) {
         return Ok(Some(answer_line(alloc)?));
     }
-    let index = BankIndex::of(alloc, permissions.params(), capture)?;
+    let index = BankIndex::of(alloc, permissions, capture)?;
+    let accounts = AccountIndex::of(alloc, permissions)?;
     let bank = Bank {
         permissions,
         index: &index,
+        accounts: &accounts,
     };
     let judged = Judged {
         bank: &bank,

@@ -5,7 +5,7 @@ use crate::notes::add_notes;
 use crate::steps::{figures_of, step_at};
 use fints_check::{Finding, Report};
 use fints_check_reach::branch_to;
-use fints_cli_hints_reasons::bank::{Bank, BankIndex};
+use fints_cli_hints_reasons::bank::{AccountIndex, Bank, BankIndex};
 use fints_cli_hints_reasons::branches::BranchOf;
 use fints_cli_hints_reasons::elements::{Elements, Filled};
 use fints_cli_hints_reasons::kinds::Kinds;
@@ -110,7 +110,7 @@ fn add_whole(
         before,
     };
     let why = WholeWhy {
-        bank: found.bank.params().bank(),
+        bank: found.bank.permissions.bank(),
         whole: &whole,
         rule,
     };
@@ -237,10 +237,12 @@ fn lines_of(alloc: Global, capture: &[u8], report: &Report<'_>) -> Result<String
     let mut text = String::new(alloc);
     if !report.findings().is_empty() {
         let permissions = report.permissions();
-        let index = BankIndex::of(alloc, permissions.params(), capture)?;
+        let index = BankIndex::of(alloc, permissions, capture)?;
+        let accounts = AccountIndex::of(alloc, permissions)?;
         let bank = Bank {
             permissions,
             index: &index,
+            accounts: &accounts,
         };
         add_findings(&mut text, alloc, &bank, report)?;
     }

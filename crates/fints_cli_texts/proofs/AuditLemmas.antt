@@ -16,7 +16,7 @@ use Rattle.fints_rules_dialogues.specs.declared.reading.Exchange.{Exchange}
 use Rattle.fints_rules_dialogues.specs.Dialogues.{IsCutFile, IsDialogue, IsDialogueFault, IsFileFault, IsMemoryOrRefusal, IsTurnFault}
 use Rattle.fints_rules_dialogues.specs.OwnParams.{IsOwnParamsFault}
 use Rattle.fints_rules_permissions.specs.Permits.{Granted}
-use Rattle.fints_rules_dialogues.specs.Auditing.{AreAudited, ArePermitted}
+use Rattle.fints_rules_dialogues.specs.Auditing.{AreAudited, ArePermitted, same_for}
 use Rattle.fints_rules_dialogues.proofs.Audits.{all_permitted}
 use Rattle.fints_cli_texts.proofs.Endings.{permitted_is_none}
 use Rattle.fints_cli_texts.proofs.JudgeLemmas.{orders_refused}
@@ -24,7 +24,7 @@ use Rattle.fints_cli_texts.specs.Judge.{verdict_status, EndsPermitted}
 use Rattle.fints_cli_texts.specs.declared.fault.Fault.{Fault}
 use Rattle.fints_cli_texts.specs.declared.fault.Fault.TheVariants.{Memory, Dialogue}
 use Rattle.fints_cli_texts.specs.Fault.{dialogue_fault_of, order_fault_of}
-use Rattle.fints_cli_texts.specs.Audit.{all_broken, are_several, audit_text, dialogue_line, message_lines, lines_from, IsAuditBy, IsDialogueRefusal, IsAuditRefusal, IsOwnFault, IsOwnAuditRefusal}
+use Rattle.fints_cli_texts.specs.Audit.{all_broken, are_several, audit_text, dialogue_line, granted_by, message_lines, lines_from, IsAuditBy, IsDialogueRefusal, IsAuditRefusal, IsOwnFault, IsOwnAuditRefusal}
 
 -- ---- lines
 
@@ -42,29 +42,36 @@ line_more xs several d i a text lt is =
     (sym (drop_more xs i a lt ∙ ap (λ x. x ∷ drop (i + 1) xs) (sym is)))
 
 -- where the text ends with `permitted`, each message is
-pub audit_permits : (granted : Granted) (exchanges : List Exchange) (audited : List Audited) (text : List ℕ)
+audit_permits : (granted : List Granted) (exchanges : List Exchange) (audited : List Audited) (text : List ℕ)
     → AreAudited granted exchanges audited → text ≡ audit_text audited → EndsPermitted text
     → ArePermitted granted exchanges
 audit_permits granted exchanges audited text are is ends =
     all_permitted granted None exchanges audited are
     (permitted_is_none (all_broken audited) (lines_from (are_several audited) 1 1 audited) text is ends)
 
--- the text of audited messages is that of the audit by these rows and this order table
+-- the text of audited messages is that of the audit by their permissions
+pub audit_each : (granted : List Granted) (exchanges : List Exchange) (audited : List Audited) (status : ℕ)
+    (text : List ℕ) → AreAudited granted exchanges audited → text ≡ audit_text audited
+    → status ≡ verdict_status (all_broken audited) → IsAuditBy granted exchanges status text
+audit_each granted exchanges audited status text are text_is status_is = record {
+  audited = audited;
+  are = are;
+  text_is = text_is;
+  status_is = status_is;
+  permitted = audit_permits granted exchanges audited text are text_is;
+}
+
+-- the same by these rows and this order table
 pub audit_by : (made : Granted) (rows : Rows) (table : List OrderRow) (exchanges : List Exchange)
     (audited : List Audited) (status : ℕ) (text : List ℕ) → made.rows ≡ rows → made.orders ≡ table
-    → AreAudited made exchanges audited → text ≡ audit_text audited → status ≡ verdict_status (all_broken audited)
-    → IsAuditBy rows table exchanges status text
+    → AreAudited (same_for made exchanges) exchanges audited → text ≡ audit_text audited
+    → status ≡ verdict_status (all_broken audited)
+    → IsAuditBy (granted_by rows table exchanges) exchanges status text
 audit_by made rows table exchanges audited status text r o are text_is status_is =
-    let by : AreAudited (record { rows = rows; orders = table }) exchanges audited =
-    subst (λ (xs : Rows). AreAudited (record { rows = xs; orders = table }) exchanges audited) r
-    (subst (λ (xs : List OrderRow). AreAudited (record { rows = made.rows; orders = xs }) exchanges audited) o are) in
-    record {
-      audited = audited;
-      are = by;
-      text_is = text_is;
-      status_is = status_is;
-      permitted = audit_permits (record { rows = rows; orders = table }) exchanges audited text by text_is;
-    }
+    let by : AreAudited (granted_by rows table exchanges) exchanges audited =
+    subst (λ (xs : Rows). AreAudited (granted_by xs table exchanges) exchanges audited) r
+    (subst (λ (xs : List OrderRow). AreAudited (granted_by made.rows xs exchanges) exchanges audited) o are) in
+    audit_each (granted_by rows table exchanges) exchanges audited status text by text_is status_is
 
 -- ---- refusals
 

@@ -7,14 +7,15 @@ use Rattle.fints_params.specs.Parameters.{Rows}
 use Rattle.fints_params.specs.Captures.{IsParamsOf}
 use Rattle.fints_rules_permissions.specs.declared.orders.OrderRow.{OrderRow}
 use Rattle.fints_rules_permissions.specs.Orders.{DenotesTable}
+use Rattle.fints_rules_permissions.specs.Permits.{Granted}
 use Rattle.fints_rules.specs.declared.rule.Broken.{Broken}
 use Rattle.fints_rules_dialogues.specs.declared.auditing.Audited.{Audited}
 use Rattle.fints_rules_dialogues.specs.declared.cutting.Sent.{Sent}
 use Rattle.fints_rules_dialogues.specs.declared.fault.DialogueFault.{DialogueFault}
 use Rattle.fints_rules_dialogues.specs.declared.reading.Exchange.{Exchange}
 use Rattle.fints_rules_dialogues.specs.Dialogues.{AreInTurn, IsDialogue, IsDialogueFault}
-use Rattle.fints_rules_dialogues.specs.OwnParams.{TellsParams, IsOwnParamsFault}
-use Rattle.fints_rules_dialogues.specs.Auditing.{AreAudited, ArePermitted}
+use Rattle.fints_rules_dialogues.specs.OwnParams.{GrantsEach, IsOwnParamsFault}
+use Rattle.fints_rules_dialogues.specs.Auditing.{AreAudited, ArePermitted, same_for}
 use Rattle.fints_cli_texts.specs.Judge.{broken_line, last_line, verdict_status, EndsPermitted, IsFirstRefusal, IsTableRefusal}
 use Rattle.fints_cli_texts.specs.declared.fault.Fault.{Fault}
 use Rattle.fints_cli_texts.specs.declared.fault.Fault.TheVariants.{Memory, Orders, Dialogue}
@@ -50,18 +51,21 @@ all_broken audited = flat_map (λ a. a.broken.items) audited
 abbrev pub audit_text : List Audited → List ℕ
 audit_text audited = lines_from (are_several audited) 1 1 audited ++ last_line (all_broken audited)
 
--- the status and the text tell the rules that the messages break, by these rows and this order table; where
--- the text ends with `permitted`, each message is permitted after those before it
-pub record IsAuditBy (rows : Rows) (table : List OrderRow) (exchanges : List Exchange) (status : ℕ)
-    (text : List ℕ)
+-- the status and the text name the rules that the messages break, each by its own permissions; where the text
+-- ends with `permitted`, each message is permitted after those before it
+pub record IsAuditBy (granted : List Granted) (exchanges : List Exchange) (status : ℕ) (text : List ℕ)
     : Type 0 where
   pub audited : List Audited
-  pub are : AreAudited (record { rows = rows; orders = table }) exchanges audited
+  pub are : AreAudited granted exchanges audited
   pub text_is : text ≡ audit_text audited
   pub status_is : status ≡ verdict_status (all_broken audited)
-  pub permitted : EndsPermitted text → ArePermitted (record { rows = rows; orders = table }) exchanges
+  pub permitted : EndsPermitted text → ArePermitted granted exchanges
 
--- they tell them of the dialogue, by the capture and the text of an order table
+-- all messages are judged by these rows and this order table
+abbrev pub granted_by : Rows → List OrderRow → List Exchange → List Granted
+granted_by rows table exchanges = same_for (record { rows = rows; orders = table }) exchanges
+
+-- they name them of the dialogue, by the capture and the text of an order table
 pub record IsAuditOf (params orders dialogue : List ℕ) (status : ℕ) (text : List ℕ) : Type 0 where
   pub rows : Rows
   pub table : List OrderRow
@@ -69,17 +73,17 @@ pub record IsAuditOf (params orders dialogue : List ℕ) (status : ℕ) (text : 
   pub rows_are : IsParamsOf params rows
   pub table_is : DenotesTable orders table
   pub dialogue_is : IsDialogue dialogue exchanges
-  pub audit : IsAuditBy rows table exchanges status text
+  pub audit : IsAuditBy (granted_by rows table exchanges) exchanges status text
 
--- they tell them by the parameters of the dialogue's own answers
+-- they name them by the parameters of the dialogue's own answers
 pub record IsOwnAuditOf (orders dialogue : List ℕ) (status : ℕ) (text : List ℕ) : Type 0 where
-  pub rows : Rows
   pub table : List OrderRow
   pub exchanges : List Exchange
+  pub granted : List Granted
   pub table_is : DenotesTable orders table
   pub dialogue_is : IsDialogue dialogue exchanges
-  pub rows_are : TellsParams exchanges rows
-  pub audit : IsAuditBy rows table exchanges status text
+  pub granted_are : GrantsEach table exchanges granted
+  pub audit : IsAuditBy granted exchanges status text
 
 -- want of memory, or the refusal of the dialogue
 abbrev pub IsDialogueRefusal : List ℕ → Fault → Type 0
@@ -91,7 +95,7 @@ IsDialogueRefusal dialogue _ = ⊥
 abbrev pub IsAuditRefusal : List ℕ → List ℕ → List ℕ → Fault → Type 0
 IsAuditRefusal params orders dialogue = IsFirstRefusal params orders (IsDialogueRefusal dialogue)
 
--- the dialogue is refused, or it is one and its answers tell no parameters
+-- the dialogue is refused, or it is one and an answer is refused as a capture, or the bank of a message tells no parameters
 abbrev pub IsOwnFault : List ℕ → DialogueFault → Type 0
 IsOwnFault dialogue f =
     IsDialogueFault dialogue f
@@ -110,15 +114,17 @@ IsOwnAuditRefusal orders dialogue _ = ⊥
 -- the status and the text name the rules that the messages of a recording break
 abbrev pub IsRecordingAudit : Rows → List OrderRow → List Sent → ℕ → List ℕ → Type 0
 IsRecordingAudit rows table messages status text =
-    (exchanges : List Exchange) × AreInTurn messages exchanges [] × IsAuditBy rows table exchanges status text
+    (exchanges : List Exchange) × AreInTurn messages exchanges []
+    × IsAuditBy (granted_by rows table exchanges) exchanges status text
 
 -- they name those that the messages of the dialogue in a file break
 abbrev pub IsFileAudit : Rows → List OrderRow → List ℕ → ℕ → List ℕ → Type 0
 IsFileAudit rows table file status text =
-    (exchanges : List Exchange) × IsDialogue file exchanges × IsAuditBy rows table exchanges status text
+    (exchanges : List Exchange) × IsDialogue file exchanges
+    × IsAuditBy (granted_by rows table exchanges) exchanges status text
 
 -- the same by the parameters of the dialogue's own answers
 abbrev pub IsOwnFileAudit : List OrderRow → List ℕ → ℕ → List ℕ → Type 0
 IsOwnFileAudit table file status text =
-    (exchanges : List Exchange) × (rows : Rows) × IsDialogue file exchanges × TellsParams exchanges rows
-    × IsAuditBy rows table exchanges status text
+    (exchanges : List Exchange) × (granted : List Granted) × IsDialogue file exchanges
+    × GrantsEach table exchanges granted × IsAuditBy granted exchanges status text

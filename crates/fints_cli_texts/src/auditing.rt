@@ -1,13 +1,12 @@
 //! The text of `audit`: the rules that the messages of a recorded dialogue break.
 ghost use Rattle.std.specs.Prelude.{◌≡◌, ◌≤◌, ◌<◌, ◌+◌, ◌++◌, ◌^◌, ℕ, List, drop, OnOk, IfOk, IfErr, string_bytes};
-ghost use Rattle.std.specs.List.{flat_map, list_any, AllByRecursion};
+ghost use Rattle.std.specs.List.{flat_map, list_any};
 ghost use Rattle.fints_params.specs.declared.fault.ParamFault.{ParamFault as ParamFaultValue};
 ghost use Rattle.fints_params.specs.Captures.{IsReadOf};
-ghost use Rattle.fints_rules_dialogues.specs.Dialogues.{IsDialogueFault, IsExchange, IsMemoryOrRefusal, IsTurnFault};
-ghost use Rattle.fints_rules_dialogues.specs.declared.fault.DialogueFault.TheVariants as fault;
+ghost use Rattle.fints_rules_dialogues.specs.Dialogues.{IsDialogueFault, IsMemoryOrRefusal, IsTurnFault};
 ghost use Rattle.fints_cli_texts.specs.Fault.{fault_of};
 ghost use Rattle.fints_cli_texts.specs.Judge.{verdict_status};
-ghost use Rattle.fints_cli_texts.specs.Audit.{are_several, broken_told, dialogue_line, message_lines, lines_from, all_broken, audit_text, IsAuditBy, IsAuditOf, IsOwnAuditOf, IsAuditRefusal, IsOwnAuditRefusal, IsOwnFault, IsRecordingAudit, IsFileAudit, IsOwnFileAudit};
+ghost use Rattle.fints_cli_texts.specs.Audit.{are_several, broken_told, dialogue_line, message_lines, lines_from, all_broken, audit_text, IsAuditOf, IsOwnAuditOf, IsAuditRefusal, IsOwnAuditRefusal, IsOwnFault, IsRecordingAudit, IsFileAudit, IsOwnFileAudit};
 
 use crate::fault::Fault;
 use crate::judging::{verdict_status, write_broken, write_last};
@@ -15,8 +14,7 @@ use crate::reply::Reply;
 use fints_params::{ParamFault, Params};
 use fints_rules::{Broken, OrderTable, Permissions};
 use fints_rules_dialogues::{
-    Audited, DialogueFault, Exchange, Observer, Recording, audit, audit_exchanges, own_params,
-    read_dialogue_with,
+    Audited, DialogueFault, Observer, Recording, audit, audit_exchanges, read_dialogue_with,
 };
 use itoa::Buffer;
 use std::alloc::{AllocError, Global};
@@ -134,24 +132,6 @@ fn audit_reply(alloc: Global, audited: &[Audited<'_>]) -> Result<Reply, AllocErr
     })
 }
 
-// The text of exchanges, by good parameters and a good order table.
-fn audit_read_exchanges<O: Observer>(
-    alloc: Global,
-    params: &Params,
-    orders: &OrderTable,
-    exchanges: &[Exchange<'_>],
-    observer: &mut O,
-) -> Result<Reply, DialogueFault>
-    ensures audited { IfOk result (λ reply. AllByRecursion IsExchange exchanges.now
-        → IsAuditBy params.now orders.now exchanges.now reply.status reply.text.items) }
-    ensures memory { IfErr result (λ f. f ≡ fault.Memory) }
-{
-    let permissions = Permissions::build(alloc, params, orders)?;
-    let audited = audit_exchanges(alloc, &permissions, exchanges, observer)?;
-    let reply = audit_reply(alloc, audited.as_slice())?;
-    Ok(reply)
-}
-
 // The text of a recording, by good parameters and a good order table.
 fn audit_recording<O: Observer>(
     alloc: Global,
@@ -198,8 +178,9 @@ fn audit_file_own<O: Observer>(
     ensures refused { IfErr result (λ f. IsMemoryOrRefusal (IsOwnFault file.now) f) }
 {
     let exchanges = read_dialogue_with(alloc, file, observer)?;
-    let params = own_params(alloc, exchanges.as_slice())?;
-    audit_read_exchanges(alloc, &params, orders, exchanges.as_slice(), observer)
+    let audited = audit_exchanges(alloc, orders, exchanges.as_slice(), observer)?;
+    let reply = audit_reply(alloc, audited.as_slice())?;
+    Ok(reply)
 }
 
 /// The rules that the client's messages of a recorded dialogue break, by what was read of a capture and

@@ -60,6 +60,10 @@ pub take_here : {X : Type 0} (xs : List X) (i : ℕ) (x : X) → i < length xs �
     → take (i + 1) xs ≡ take i xs ++ x ∷ []
 take_here xs i x lt is = take_more xs i x lt ∙ ap (λ y. take i xs ++ y ∷ []) (sym is)
 
+pub drop_here : {X : Type 0} (xs : List X) (i : ℕ) (x : X) → i < length xs → x ≡ get_or xs i x
+    → drop i xs ≡ x ∷ drop (i + 1) xs
+drop_here xs i x lt is = drop_more xs i x lt ∙ ap (λ y. y ∷ drop (i + 1) xs) (sym is)
+
 -- the first of the messages, and those after it
 pub first_of_all : (messages : List Sent) (d : Sent) (rest : List Sent) → 0 < length messages
     → rest ≡ drop 1 messages → messages ≡ slice_index_or messages 0 d ∷ rest

@@ -1,5 +1,8 @@
 pub mod Dialogues
-pub mod Auditing
+pub mod Nearest
+pub mod Parties
 pub mod OwnParams
+pub mod Sources
+pub mod Auditing
 pub mod Laws
 pub mod FaultText

@@ -1,74 +1,111 @@
--- The parameters that a recorded dialogue tells itself: those of the first answer that has a HIBPA 3 and a HIPINS 1.
--- Words of private contracts and proofs alone stand last, under a heading.
-use Rattle.std.specs.Prelude.{◌≡◌, ◌≢◌, ◌⊎◌, ℕ, List, ◌∷◌, ◌++◌, Option, Some, None}
-use Rattle.std.specs.List.{AllByRecursion}
-use Rattle.fints_params.specs.declared.fault.ParamFault.TheVariants.{NoBankParameters, NoPinParameters}
-use Rattle.fints_params.specs.Parameters.{Rows}
-use Rattle.fints_params.specs.Captures.{IsParamsOf, IsParamFault}
+-- The parameters that a recording tells itself: each message of the client is judged by those that the bank told
+-- last before it. Words of private contracts and proofs alone stand last, under a heading.
+use Rattle.std.specs.Prelude.{◌≡◌, ◌⊎◌, ℕ, ◌&&◌, Bool, List, [], ◌∷◌, ◌++◌, map, Option, Some, None}
+use Rattle.std.specs.List.{AllByRecursion, AllZip}
+use Rattle.std.specs.Option.{is_some, option_and_then, option_map, unwrap_or}
+use Rattle.fints_params.specs.Captures.{TellsBank, TellsUser}
+use Rattle.fints_params.specs.Parameters.{BankRows, UserRows, fault_after, joined, unknown_user}
+use Rattle.fints_params.specs.Refused.{IsRefusedOf}
+use Rattle.fints_rules_permissions.specs.Permits.{Granted}
+use Rattle.fints_rules_permissions.specs.declared.orders.OrderRow.{OrderRow}
+use Rattle.fints_rules_dialogues.specs.Nearest.{nearest}
+use Rattle.fints_rules_dialogues.specs.Parties.{parties, same_bank, same_customer}
 use Rattle.fints_rules_dialogues.specs.declared.cutting.Sent.{Sent}
 use Rattle.fints_rules_dialogues.specs.declared.fault.DialogueFault.{DialogueFault}
 use Rattle.fints_rules_dialogues.specs.declared.fault.DialogueFault.TheVariants as fault
+use Rattle.fints_rules_dialogues.specs.declared.parties.Party.{Party}
 use Rattle.fints_rules_dialogues.specs.declared.reading.Answer.{Answer}
 use Rattle.fints_rules_dialogues.specs.declared.reading.Exchange.{Exchange}
 
--- the bytes are refused as a capture for this alone, that a HIBPA or a HIPINS is missing
-abbrev pub LacksParams : List ℕ → Type 0
-LacksParams bytes = IsParamFault bytes NoBankParameters ⊎ IsParamFault bytes NoPinParameters
+-- whose an exchange is, and what its answer tells of the bank and of the user
+pub record HeardRows : Type 0 where
+  pub party : Party
+  pub bank : Option BankRows
+  pub user : Option UserRows
 
--- no answer is there, or one without parameters
-abbrev pub AnswerTellsNone : Option Answer → Type 0
-AnswerTellsNone None = Unit {0}
-AnswerTellsNone (Some a) = LacksParams a.sent.bytes.now
+-- ---- what each answer tells
 
-abbrev pub TellsNone : Exchange → Type 0
-TellsNone e = AnswerTellsNone e.answer
+-- no answer tells nothing
+abbrev pub AnswerTells : Option Answer → Option BankRows → Option UserRows → Type 0
+AnswerTells None bank user = (bank ≡ None) × (user ≡ None)
+AnswerTells (Some a) bank user = TellsBank a.sent.bytes.now bank × TellsUser a.sent.bytes.now user
 
-abbrev pub AnswerTells : Rows → Option Answer → Type 0
-AnswerTells rows None = ⊥
-AnswerTells rows (Some a) = IsParamsOf a.sent.bytes.now rows
+-- the same of each exchange of a recording
+pub record AreHeard (exchanges : List Exchange) (heard : List HeardRows) : Type 0 where
+  pub parties_are : map (λ h. h.party) heard ≡ parties exchanges
+  pub told : AllZip (λ e h. AnswerTells e.answer h.bank h.user) exchanges heard
 
--- the first answer with parameters tells these rows
-pub record TellsParams (exchanges : List Exchange) (rows : Rows) : Type 0 where
-  pub front : List Exchange
-  pub at : Exchange
-  pub back : List Exchange
-  pub split : exchanges ≡ front ++ at ∷ back
-  pub before : AllByRecursion TellsNone front
-  pub tells : AnswerTells rows at.answer
+-- ---- by which parameters a message is judged
+
+-- the other exchange is of the same bank, and its answer tells the bank's parameters
+abbrev pub tells_bank : Party → HeardRows → Bool
+tells_bank party other = same_bank other.party party && is_some other.bank
+
+-- it is of the same bank and customer, and its answer tells the user's parameters
+abbrev pub tells_user : Party → HeardRows → Bool
+tells_user party other = same_customer other.party party && is_some other.user
+
+-- The bank's parameters are those that were told last before the message, or where none were, those that are told
+-- first after it. The user's are found in the same way; where nobody tells them, nothing is known of the user.
+abbrev pub bank_for : List HeardRows → HeardRows → List HeardRows → Option BankRows
+bank_for before h after = option_and_then (λ x. x.bank) (nearest (tells_bank h.party) before (h ∷ after))
+
+abbrev pub user_for : List HeardRows → HeardRows → List HeardRows → UserRows
+user_for before h after =
+    unwrap_or (option_and_then (λ x. x.user) (nearest (tells_user h.party) before (h ∷ after))) unknown_user
+
+-- by what a message is judged with an order table, where its bank tells some parameters
+abbrev pub granted_for : List OrderRow → List HeardRows → HeardRows → List HeardRows → Option Granted
+granted_for orders before h after =
+    option_map (λ bank. record { rows = joined bank (user_for before h after); orders = orders })
+    (bank_for before h after)
+
+-- the same for the message of each exchange after those
+abbrev pub granted_after : List OrderRow → List HeardRows → List HeardRows → List (Option Granted)
+granted_after orders before [] = []
+granted_after orders before (h ∷ hs) = granted_for orders before h hs ∷ granted_after orders (before ++ h ∷ []) hs
+
+abbrev pub granted_each : List OrderRow → List HeardRows → List (Option Granted)
+granted_each orders heard = granted_after orders [] heard
+
+-- with an order table, the recording tells these permissions for the message of each exchange
+pub record GrantsEach (orders : List OrderRow) (exchanges : List Exchange) (granted : List Granted)
+    : Type 0 where
+  pub heard : List HeardRows
+  pub are : AreHeard exchanges heard
+  pub granted_are : map Some granted ≡ granted_each orders heard
+
+-- ---- refusals
 
 -- why the message is refused as a capture, other than for what is missing
 abbrev pub IsCaptureFault : Sent → DialogueFault → Type 0
-IsCaptureFault m (fault.Answer start f) =
-    IsParamFault m.bytes.now f × (f ≢ NoBankParameters) × (f ≢ NoPinParameters) × (start ≡ m.start)
+IsCaptureFault m (fault.Answer start f) = IsRefusedOf fault_after m.bytes.now f × (start ≡ m.start)
 IsCaptureFault m _ = ⊥
 
--- why the answer is refused as a capture, other than for what is missing
 abbrev pub IsTellingFault : Option Answer → DialogueFault → Type 0
 IsTellingFault None f = ⊥
 IsTellingFault (Some a) f = IsCaptureFault a.sent f
 
--- before any answer tells parameters one is refused
-pub record IsRefusedBefore (exchanges : List Exchange) (f : DialogueFault) : Type 0 where
+-- the answer isn't refused as a capture
+abbrev pub IsTold : Exchange → Type 0
+IsTold e = (bank : Option BankRows) × (user : Option UserRows) × AnswerTells e.answer bank user
+
+-- the first answer that is refused as a capture
+pub record IsRefusedAnswer (exchanges : List Exchange) (f : DialogueFault) : Type 0 where
   pub front : List Exchange
   pub at : Exchange
   pub back : List Exchange
   pub split : exchanges ≡ front ++ at ∷ back
-  pub before : AllByRecursion TellsNone front
+  pub before : AllByRecursion IsTold front
   pub refused : IsTellingFault at.answer f
 
--- the first refusal of an answer as a capture, or that none has parameters
+-- the bank of some message tells no parameters
+abbrev pub LacksBank : List HeardRows → Type 0
+LacksBank heard =
+    (before after : List HeardRows) × (h : HeardRows) × (heard ≡ before ++ h ∷ after) × (bank_for before h after ≡ None)
+
+-- the first refusal of an answer as a capture, or that some message's bank tells no parameters
 abbrev pub IsOwnParamsFault : List Exchange → DialogueFault → Type 0
 IsOwnParamsFault exchanges f =
-    IsRefusedBefore exchanges f ⊎ ((f ≡ fault.NoParameters) × AllByRecursion TellsNone exchanges)
-
--- ---- of private contracts and proofs alone
-
--- what a look for parameters in bytes finds
-abbrev pub IsFoundIn : List ℕ → Option Rows → Type 0
-IsFoundIn bytes None = LacksParams bytes
-IsFoundIn bytes (Some rows) = IsParamsOf bytes rows
-
--- the same in an answer
-abbrev pub IsFound : Option Answer → Option Rows → Type 0
-IsFound answer None = AnswerTellsNone answer
-IsFound answer (Some rows) = AnswerTells rows answer
+    IsRefusedAnswer exchanges f
+    ⊎ ((heard : List HeardRows) × AreHeard exchanges heard × LacksBank heard × (f ≡ fault.NoParameters))

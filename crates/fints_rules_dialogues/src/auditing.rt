@@ -1,15 +1,19 @@
 //! The rules that the messages of a recording break.
-ghost use Rattle.std.specs.Prelude.{◌≡◌, IfOk, IfErr, option_copied};
+ghost use Rattle.std.specs.Prelude.{◌≡◌, length, IfOk, IfErr, option_copied};
 ghost use Rattle.std.specs.List.{AllByRecursion};
 ghost use Rattle.fints_rules_dialogues.specs.Dialogues.{IsExchange, IsMemoryOrRefusal, IsTurnFault};
-ghost use Rattle.fints_rules_dialogues.specs.Auditing.{before_in, codes_told, AreAudited, AreAuditedInTurn, IsAuditedNext, IsExchangeOrNone, IsJudgedNext};
+ghost use Rattle.fints_rules_dialogues.specs.Auditing.{before_in, codes_told, AreAudited, AreAuditedInTurn, IsAuditedNext, IsExchangeOrNone, IsJudgedNext, IsOwnAudit};
+ghost use Rattle.fints_rules_dialogues.specs.OwnParams.{IsOwnParamsFault};
+ghost use Rattle.fints_rules_dialogues.specs.Sources.{granted_in};
 
 use crate::cutting::Sent;
 use crate::fault::DialogueFault;
+use crate::own_params::OwnParams;
 use crate::reading::{Exchange, message_count, read_exchange};
 use crate::recording::Recording;
+use crate::sources::{Basis, OwnPermissions, ToldIn};
 use fints_params::Code;
-use fints_rules::{Broken, Permissions, judge_message, judge_message_after};
+use fints_rules::{Broken, OrderTable, Permissions, judge_message, judge_message_after};
 use fints_rules_messages::{Unobserved, UnreadObserver};
 use fints_syntax::Memory;
 use std::alloc::Global;
@@ -25,10 +29,12 @@ pub struct Audited<'a> {
 
 /// What looks on while a recording is audited. No contract says what it makes of it.
 pub trait Observer: UnreadObserver {
-    /// Looks at the next exchange, and at the rules that its message breaks under these permissions.
+    /// Looks at the next exchange, and at the rules that its message breaks under these permissions, which
+    /// these answers tell.
     fn observe(
         &mut self,
         permissions: &Permissions<'_>,
+        told_in: ToldIn<'_>,
         exchange: &Exchange<'_>,
         broken: &[Broken],
     );
@@ -38,6 +44,7 @@ impl Observer for Unobserved {
     fn observe(
         &mut self,
         _permissions: &Permissions<'_>,
+        _told_in: ToldIn<'_>,
         _exchange: &Exchange<'_>,
         _broken: &[Broken],
     ) {}
@@ -84,10 +91,17 @@ fn before_in<'b, 'e>(
     if exchange.begins { None } else { before }
 }
 
+// The parameters are of a capture that is handed in.
+const HANDED_IN: ToldIn<'static> = ToldIn {
+    bank: None,
+    user: None,
+};
+
 // The message of an exchange, with the rules that it breaks after the exchange before it in the file.
 fn audit_next<'a, O: Observer>(
     alloc: Global,
     permissions: &Permissions<'_>,
+    told_in: ToldIn<'_>,
     before: Option<&Exchange<'_>>,
     exchange: &Exchange<'a>,
     observer: &mut O,
@@ -97,7 +111,7 @@ fn audit_next<'a, O: Observer>(
 {
     let earlier = before_in(before, exchange);
     let broken = judge_next(alloc, permissions, earlier, exchange)?;
-    observer.observe(permissions, exchange, broken.as_slice());
+    observer.observe(permissions, told_in, exchange, broken.as_slice());
     Ok(Audited {
         sent: exchange.sent,
         begins: exchange.begins,
@@ -126,7 +140,7 @@ pub fn audit<'a, O: Observer>(
         let (_, rest) = messages.split_at(at);
         let earlier = before.as_ref();
         let exchange = read_exchange(alloc, earlier, rest, observer)?;
-        let one = audit_next(alloc, permissions, earlier, &exchange, observer)?;
+        let one = audit_next(alloc, permissions, HANDED_IN, earlier, &exchange, observer)?;
         audited.push(one)?;
         at += message_count(&exchange);
         before = Some(exchange);
@@ -134,22 +148,52 @@ pub fn audit<'a, O: Observer>(
     Ok(audited)
 }
 
-/// The same of exchanges that are read.
-pub fn audit_exchanges<'a, O: Observer>(
+// The same of exchanges that are read, each message by its own permissions.
+fn audit_each<'a, O: Observer>(
     alloc: Global,
-    permissions: &Permissions<'_>,
+    bases: &[Basis<'_>],
     exchanges: &[Exchange<'a>],
     observer: &mut O,
 ) -> Result<Vec<Audited<'a>>, Memory>
-    ensures { IfOk result (λ audited. AllByRecursion IsExchange exchanges.now
-        → AreAudited permissions.now exchanges.now audited.items) }
+    ensures { IfOk result (λ audited. length bases.now ≡ length exchanges.now
+        → AllByRecursion IsExchange exchanges.now
+        → AreAudited (granted_in bases.now) exchanges.now audited.items) }
 {
     let mut audited = Vec::new(alloc);
     let mut before: Option<&Exchange<'a>> = None;
-    for exchange in exchanges {
-        let one = audit_next(alloc, permissions, before, exchange, observer)?;
+    for i in 0..bases.len().min(exchanges.len()) {
+        let (basis, exchange) = (&bases[i], &exchanges[i]);
+        let permissions = &basis.permissions;
+        let one = audit_next(
+            alloc,
+            permissions,
+            basis.told_in,
+            before,
+            exchange,
+            observer,
+        )?;
         audited.push(one)?;
         before = Some(exchange);
     }
+    Ok(audited)
+}
+
+/// The same by the parameters that the recording's own answers tell, each message by those that were told
+/// last before it (`OwnPermissions::each`). The refusal is that of `OwnParams::of`, or that the bank of some
+/// message tells no parameters.
+pub fn audit_exchanges<'a, O: Observer>(
+    alloc: Global,
+    orders: &OrderTable,
+    exchanges: &[Exchange<'a>],
+    observer: &mut O,
+) -> Result<Vec<Audited<'a>>, DialogueFault>
+    ensures audited { IfOk result (λ audited. AllByRecursion IsExchange exchanges.now
+        → IsOwnAudit orders.now exchanges.now audited.items) }
+    ensures refused { IfErr result (λ f. IsMemoryOrRefusal (IsOwnParamsFault exchanges.now) f) }
+{
+    let own = OwnParams::of(alloc, exchanges)?;
+    let permissions = OwnPermissions::of(alloc, &own, orders)?;
+    let bases = permissions.each(alloc)?;
+    let audited = audit_each(alloc, bases.as_slice(), exchanges, observer)?;
     Ok(audited)
 }

@@ -1,14 +1,19 @@
-use Rattle.std.proofs.Common.{take}
-use Rattle.std.specs.Prelude.{option_copied}
-use Rattle.fints_rules_dialogues.proofs.Audits.{one_more}
-use Rattle.fints_rules_dialogues.proofs.Turns.{take_here}
+use Rattle.std.proofs.Common.{◌≡◌, Some, map, sym, ap, ◌∙◌}
+use Rattle.fints_rules_dialogues.specs.Auditing.{AreAudited}
+use Rattle.fints_rules_dialogues.specs.OwnParams.{granted_each}
+use Rattle.fints_rules_dialogues.specs.Sources.{OwnGranted, granted_in}
+use Rattle.fints_rules_dialogues.proofs.SourceLemmas.{as_many}
 use Rattle.fints_rules_dialogues.proofs.auditing.audit_exchanges.Goals as goal
 
-pub loop-exchange-preserved : goal.loop-exchange-preserved
-loop-exchange-preserved g c =
-    let xs = c.args.exchanges.now in
-    let i = c.loop-exchange.exchange-index in
-    let e = c.exchange-item.result in
-    rw (c.in_ok-push.ensures.items, take_here xs i e c.loop-exchange-test.true c.exchange-item.is)
-    (one_more c.args.permissions.now (take i xs) (option_copied c.loop-exchange.before) c.loop-exchange.audited.items e
-    c.in_ok-one.one c.loop-exchange.invariant c.in_ok-one.ensures)
+pub returns-clause-audited : goal.returns-clause-audited
+returns-clause-audited g c each =
+    let heard = c.in_ok-own.own in
+    let exchanges = c.args.exchanges.now in
+    let orders = c.args.orders.now in
+    let bases = c.in_ok-bases.bases.items in
+    let granted : map Some (granted_in bases) ≡ granted_each orders heard =
+    c.in_ok-bases.ensures.granted ∙ ap (λ (own : OwnGranted). granted_each own.orders own.heard) c.in_ok-permissions.ensures in
+    let long = as_many orders exchanges heard bases c.in_ok-own.ensures.heard granted in
+    let audited : AreAudited (granted_in bases) exchanges c.in_ok-audited.audited.items =
+    rw (sym c.as_slice.ensures.value) (c.in_ok-audited.ensures (rw c.as_slice.ensures.value long) each) in
+    (granted_in bases, record { heard = heard; are = c.in_ok-own.ensures.heard; granted_are = granted }, audited)

@@ -1,0 +1,14 @@
+use Rattle.std.proofs.Common.{List, ap, ◌∙◌}
+use Rattle.fints_rules_dialogues.specs.declared.auditing.Audited.{Audited}
+use Rattle.fints_cli_texts.specs.Audit.{all_broken, audit_text}
+use Rattle.fints_cli_texts.specs.Judge.{verdict_status}
+use Rattle.fints_cli_texts.proofs.AuditLemmas.{audit_each}
+use Rattle.fints_cli_texts.proofs.auditing.audit_file_own.Goals as goal
+
+pub returns-clause-audited : goal.returns-clause-audited
+returns-clause-audited g c =
+    let audited = c.in_ok-audited.audited.items in
+    let text = c.in_ok-reply.ensures.text ∙ ap audit_text c.as_slice-2.ensures.value in
+    let status =
+    c.in_ok-reply.ensures.status ∙ ap (λ (all : List Audited). verdict_status (all_broken all)) c.as_slice-2.ensures.value in
+    ?

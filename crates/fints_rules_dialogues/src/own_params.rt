@@ -1,0 +1,158 @@
+//! What the bank's answers in a recording tell of banks and users.
+ghost use Rattle.std.specs.Prelude.{◌≡◌, IfOk, IfErr};
+ghost use Rattle.fints_params.specs.Captures.{TellsBank, TellsUser};
+ghost use Rattle.fints_params.specs.Parameters.{unknown_user};
+ghost use Rattle.fints_rules_dialogues.specs.Dialogues.{IsMemoryOrRefusal};
+ghost use Rattle.fints_rules_dialogues.specs.OwnParams.{AnswerTells, AreHeard, IsCaptureFault, IsRefusedAnswer, IsTellingFault};
+
+use crate::cutting::Sent;
+use crate::fault::DialogueFault;
+use crate::parties::{Party, first_party, next_party};
+use crate::reading::{Answer, Exchange};
+use fints_params::{BankParams, ParamFault, Told, UserParams, told_in};
+use std::alloc::Global;
+use std::marker::Model;
+use std::rc::Rc;
+
+/// Whose an exchange is, and what its answer tells; a contract sees the rows.
+#[derive(Drop)]
+pub struct Heard<'a> {
+    party: Rc<Party>,
+    told: Told,
+    // The answer that tells it.
+    answer: Option<Sent<'a>>,
+}
+
+impl<'a> Model for Heard<'a> {
+    ghost use Rattle.fints_rules_dialogues.specs.OwnParams.{HeardRows};
+
+    ghost Value = { HeardRows };
+
+    ghost view = { λ h. record { party = h.party.value; bank = h.told.bank; user = h.told.user } };
+}
+
+impl<'a> Heard<'a> {
+    /// Whose the exchange is.
+    pub fn party(&self) -> &Party
+        ensures { result.now ≡ self.now.party }
+    {
+        &self.party
+    }
+
+    /// What the answer tells of the bank.
+    pub fn bank(&self) -> &Option<BankParams>
+        ensures { result.now ≡ self.now.bank }
+    {
+        &self.told.bank
+    }
+
+    /// What it tells of the user.
+    pub fn user(&self) -> &Option<UserParams>
+        ensures { result.now ≡ self.now.user }
+    {
+        &self.told.user
+    }
+
+    /// The answer. No contract says so.
+    pub fn answer(&self) -> Option<Sent<'a>> {
+        self.answer
+    }
+}
+
+// What a message of the bank tells.
+fn told_in_sent(alloc: Global, sent: &Sent<'_>) -> Result<Told, DialogueFault>
+    ensures bank { IfOk result (λ told. TellsBank sent.now.bytes.now told.bank) }
+    ensures user { IfOk result (λ told. TellsUser sent.now.bytes.now told.user) }
+    ensures refused { IfErr result (λ f. IsMemoryOrRefusal (IsCaptureFault sent.now) f) }
+{
+    match told_in(alloc, sent.bytes) {
+        Ok(told) => Ok(told),
+        Err(fault) => match fault {
+            ParamFault::Memory => Err(DialogueFault::Memory),
+            _ => Err(DialogueFault::Answer {
+                start: sent.start,
+                fault,
+            }),
+        },
+    }
+}
+
+// What the answer of an exchange tells; nothing where there is none.
+fn told_by(alloc: Global, answer: &Option<Answer<'_>>) -> Result<Told, DialogueFault>
+    ensures told { IfOk result (λ told. AnswerTells answer.now told.bank told.user) }
+    ensures refused { IfErr result (λ f. IsMemoryOrRefusal (IsTellingFault answer.now) f) }
+{
+    match answer {
+        None => Ok(Told {
+            bank: None,
+            user: None,
+        }),
+        Some(answer) => told_in_sent(alloc, &answer.sent),
+    }
+}
+
+// Where the answer of an exchange is.
+fn sent_in<'a>(answer: &Option<Answer<'a>>) -> Option<Sent<'a>> {
+    match answer {
+        None => None,
+        Some(answer) => Some(answer.sent),
+    }
+}
+
+/// What the answers of a recording tell, exchange by exchange; a contract sees the rows.
+#[derive(Drop)]
+pub struct OwnParams<'a> {
+    heard: Vec<Heard<'a>>,
+    unknown: UserParams,
+}
+
+impl<'a> Model for OwnParams<'a> {
+    ghost use Rattle.std.specs.Prelude.{◌≡◌, List};
+    ghost use Rattle.fints_params.specs.Parameters.{unknown_user};
+    ghost use Rattle.fints_rules_dialogues.specs.OwnParams.{HeardRows};
+
+    ghost Value = { List HeardRows };
+
+    ghost view = { λ own. own.heard.items };
+
+    ghost invariant = { λ own. own.unknown ≡ unknown_user };
+}
+
+impl<'a> OwnParams<'a> {
+    /// What the answers of the exchanges tell. The refusal is that of the first answer that is refused as a
+    /// capture for something else than what is missing.
+    pub fn of(alloc: Global, exchanges: &[Exchange<'a>]) -> Result<OwnParams<'a>, DialogueFault>
+        ensures heard { IfOk result (λ own. AreHeard exchanges.now own) }
+        ensures refused { IfErr result (λ f. IsMemoryOrRefusal (IsRefusedAnswer exchanges.now) f) }
+    {
+        let mut heard = Vec::new(alloc);
+        let mut party = first_party(alloc, exchanges)?;
+        for exchange in exchanges {
+            party = next_party(alloc, party, exchange)?;
+            let told = told_by(alloc, &exchange.answer)?;
+            heard.push(Heard {
+                party: party.clone()?,
+                told,
+                answer: sent_in(&exchange.answer),
+            })?;
+        }
+        Ok(OwnParams {
+            heard,
+            unknown: UserParams::unknown(alloc),
+        })
+    }
+
+    /// Whose each exchange is, and what its answer tells.
+    pub fn heard(&self) -> &[Heard<'a>]
+        ensures { result.now ≡ self.now }
+    {
+        self.heard.as_slice()
+    }
+
+    /// Those of a user of whom no answer tells anything.
+    pub fn unknown(&self) -> &UserParams
+        ensures { result.now ≡ unknown_user }
+    {
+        &self.unknown
+    }
+}
