@@ -2,8 +2,8 @@
 use fints_params::Params;
 use fints_rules::{Broken, OrderTable, Permissions};
 use fints_rules_dialogues::{
-    DialogueFault, Exchange, Observer, Recording, Unread, UnreadObserver, audit, audit_exchanges,
-    is_answer, own_params, read_dialogue, read_dialogue_with,
+    Audited, DialogueFault, Exchange, Observer, OwnParams, Recording, ToldIn, Unread,
+    UnreadObserver, audit, audit_exchanges, is_answer, read_dialogue, read_dialogue_with,
 };
 use fints_samples::T;
 use std::alloc::Global;
@@ -35,17 +35,12 @@ impl Observer for Counter {
     fn observe(
         &mut self,
         _permissions: &Permissions<'_>,
+        _told_in: ToldIn<'_>,
         _exchange: &Exchange<'_>,
         _broken: &[Broken],
     ) {
         self.exchanges = self.exchanges.saturating_add(1);
     }
-}
-
-// The parameters in the answers of a recording.
-fn own_params_of(alloc: Global, file: &[u8]) -> Result<Params, Fail> {
-    let exchanges = read_dialogue(alloc, file)?;
-    Ok(own_params(alloc, exchanges.as_slice())?)
 }
 
 // Whether the one message of a recording begins a dialogue, has 55 bytes, and breaks nothing.
@@ -76,9 +71,13 @@ fn audits_one_by(alloc: Global, params: &Params, file: &[u8]) -> Result<bool, Fa
     audits_one(alloc, &permissions, &recording)
 }
 
+// The bank's parameters, as a capture.
+const CAPTURE: &[u8] =
+    b"HIBPA:1:3+12+280:10020030+Bank+1+1+300+0'HIPINS:2:1+1+1+0+5:38:6:::HKSAL:N'";
+
 #[test]
 fn audited(rt: HostRuntime) -> Result<(), Fail> {
-    let params = own_params_of(rt.alloc(), DIALOGUE)?;
+    let params = Params::read(rt.alloc(), CAPTURE)?;
     assert!(rt; audits_one_by(rt.alloc(), &params, DIALOGUE)?);
     Ok(())
 }
@@ -87,38 +86,48 @@ fn audited(rt: HostRuntime) -> Result<(), Fail> {
 const BROKEN_OFF: &[u8] =
     b"HNHBK:1:3+000000000055+300+0+1'HKEND:2:1+0'HNHBS:3:1+1'HNHBK:1:3+000000000055+300+0+1'HKEND:2:1+0'HNHBS:3:1+1'";
 
-// Whether two exchanges begin a dialogue each, and their messages break nothing.
-fn audits_two(
-    alloc: Global,
-    permissions: &Permissions<'_>,
-    exchanges: &[Exchange<'_>],
-) -> Result<bool, Fail> {
-    let mut seen = NOTHING_SEEN;
-    let audited = audit_exchanges(alloc, permissions, exchanges, &mut seen)?;
-    Ok(match audited.as_slice() {
-        [one, other] => {
-            seen.exchanges == 2
-                && one.begins
-                && one.broken.is_empty()
-                && other.begins
-                && other.broken.is_empty()
-        }
-        _ => false,
-    })
-}
-
-// The same under these parameters.
-fn audits_two_by(alloc: Global, params: &Params, exchanges: &[Exchange<'_>]) -> Result<bool, Fail> {
+// What breaks which rules, by the parameters of the recording itself.
+fn audited_by_own<'a>(alloc: Global, exchanges: &[Exchange<'a>]) -> Result<Vec<Audited<'a>>, Fail> {
     let orders = OrderTable::read(alloc, T)?;
-    let permissions = Permissions::build(alloc, params, &orders)?;
-    audits_two(alloc, &permissions, exchanges)
+    let mut seen = NOTHING_SEEN;
+    let audited = audit_exchanges(alloc, &orders, exchanges, &mut seen)?;
+    if seen.exchanges == exchanges.len() {
+        Ok(audited)
+    } else {
+        Ok(Vec::new(alloc))
+    }
 }
 
 #[test]
-fn two_dialogues(rt: HostRuntime) -> Result<(), Fail> {
-    let params = own_params_of(rt.alloc(), DIALOGUE)?;
+fn own_parameters(rt: HostRuntime) -> Result<(), Fail> {
+    let exchanges = read_dialogue(rt.alloc(), DIALOGUE)?;
+    let audited = audited_by_own(rt.alloc(), exchanges.as_slice())?;
+    assert_eq!(rt; audited.len(), 1);
+    for one in audited.iter() {
+        assert!(rt; one.begins && one.broken.is_empty());
+    }
+    Ok(())
+}
+
+#[test]
+fn no_parameters(rt: HostRuntime) -> Result<(), Fail> {
     let exchanges = read_dialogue(rt.alloc(), BROKEN_OFF)?;
-    assert!(rt; audits_two_by(rt.alloc(), &params, exchanges.as_slice())?);
+    let orders = OrderTable::read(rt.alloc(), T)?;
+    let mut seen = NOTHING_SEEN;
+    let refused = audit_exchanges(rt.alloc(), &orders, exchanges.as_slice(), &mut seen).err();
+    assert_eq!(rt; refused, Some(DialogueFault::NoParameters));
+    Ok(())
+}
+
+#[test]
+fn what_answers_tell(rt: HostRuntime) -> Result<(), Fail> {
+    let exchanges = read_dialogue(rt.alloc(), DIALOGUE)?;
+    let own = OwnParams::of(rt.alloc(), exchanges.as_slice())?;
+    assert_eq!(rt; own.heard().len(), 1);
+    for heard in own.heard() {
+        assert!(rt; heard.bank().is_some() && heard.user().is_none());
+        assert!(rt; heard.party().customer.as_slice().is_empty());
+    }
     Ok(())
 }
 

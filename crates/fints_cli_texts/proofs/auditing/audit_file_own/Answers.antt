@@ -7,8 +7,17 @@ use Rattle.fints_cli_texts.proofs.auditing.audit_file_own.Goals as goal
 
 pub returns-clause-audited : goal.returns-clause-audited
 returns-clause-audited g c =
+    let exchanges = c.in_ok-exchanges.exchanges.items in
     let audited = c.in_ok-audited.audited.items in
     let text = c.in_ok-reply.ensures.text ∙ ap audit_text c.as_slice-2.ensures.value in
     let status =
-    c.in_ok-reply.ensures.status ∙ ap (λ (all : List Audited). verdict_status (all_broken all)) c.as_slice-2.ensures.value in
-    ?
+    c.in_ok-reply.ensures.status
+    ∙ ap (λ (all : List Audited). verdict_status (all_broken all)) c.as_slice-2.ensures.value in
+    let judged = rw c.as_slice.ensures.value at c.in_ok-audited.ensures.audited in
+    let (granted, by, are) = judged c.in_ok-exchanges.ensures.each in (
+      exchanges,
+      granted,
+      c.in_ok-exchanges.ensures.dialogue,
+      by,
+      audit_each granted exchanges audited c.in_ok-reply.reply.status c.in_ok-reply.reply.text.items are text status,
+    )
