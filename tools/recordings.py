@@ -1,9 +1,10 @@
 #!/usr/bin/env python3
 """Makes recordings of dialogues, and compares what `fints audit` prints of them with what docs/formats.md says.
-The reference here knows how a file is cut, whose a message is, where a dialogue begins, and which answer has the
-parameters. Which rules one message breaks it asks of `fints judge`, by a capture, and with the message before and
-the answer between them where there are two in a dialogue. Some recordings are spoiled: an answer or a message is
-left out, two are exchanged, a byte is another one, the file is cut off.
+The reference here knows how a file is cut, whose a message is, where a dialogue begins, and which answers tell the
+parameters by which a message is judged: those of its bank, and those of its customer. Which rules one message
+breaks it asks of `fints judge`, by a capture that it puts together of these answers, and with the message before
+and the answer between them where there are two in a dialogue. Some recordings are spoiled: an answer or a message
+is left out, two are exchanged, a byte is another one, the file is cut off.
 
 Usage: tools/recordings.py [--count N] [--first SEED] [--program PATH]
 """
@@ -35,6 +36,21 @@ USER = [
     b"HIUPD:%d:6+4711003::280:10020030+DE97100200300004711003+erika01+1+EUR+Erika++Giro++HKSAL:1+HKCCS:1+HKSPA:1",
     b"HIUPD:%d:6+4711001::280:10020030+DE54100200300004711001+erika01+1+EUR+Erika++Giro++HKSAL:1+HKKAZ:2",
 ]
+# Banks and users tell other parameters in the course of time.
+OTHER_BANKS = [
+    BANK,
+    [b"HIBPA:%d:3+12+280:10020030+Bank+1+1+300+0", *BANK[1:2], *BANK[3:]],
+    [*BANK[:5], b"HIPINS:%d:1+1+1+0+5:38:6:::HKSAL:J:HKCCS:N:HKIDN:N:HKVVB:N:HKEND:N:HKTAN:N:HKSPA:N"],
+]
+OTHER_USERS = [
+    USER,
+    USER[:2],
+    [b"HIUPA:%d:4+erika01+4+1"],
+    [USER[0], b"HIUPD:%d:6+4711003::280:10020030+DE97100200300004711003+erika01+1+EUR+Erika++Giro++HKSAL:2+HKCCS:1"],
+    USER[1:2],
+]
+BANKS = [b"280:10020030", b"280:10020030", b"280:20030040"]
+CUSTOMERS = [b"erika01", b"erika01", b"max02"]
 ACCOUNTS = [
     b"DE97100200300004711003:BEISDEFFXXX:4711003::280:10020030",
     b"DE54100200300004711001:BEISDEFFXXX:4711001::280:10020030",
@@ -78,16 +94,18 @@ def orders_of(rng):
 def dialogue(rng, parameters):
     """The messages of a dialogue in their order; its first answer may have parameters."""
     name, count = b"D%d" % rng.randrange(1, 999), rng.randrange(1, 5)
-    messages = []
+    messages, party = [], b"HKIDN:%%d:2+%s+%s+7A2F09+1" % (rng.choice(BANKS), rng.choice(CUSTOMERS))
     for number in range(1, count + 1):
-        orders = [b"HKIDN:%d:2+280:10020030+erika01+7A2F09+1", b"HKVVB:%d:3+0+0+0+fints+1"] if number == 1 else orders_of(rng)
+        first = [party, b"HKVVB:%d:3+0+0+0+fints+1"] if rng.random() < 0.9 else [b"HKVVB:%d:3+0+0+0+fints+1"]
+        orders = first if number == 1 else orders_of(rng)
         if number == count > 1 and rng.random() < 0.5:
             orders = [b"HKEND:%%d:1+%s" % name]
         own = b"0" if number == 1 else name
         messages.append(message(number, own, signed(rng, orders)))
         codes = rng.sample([b"0030", b"0030", b"0020", b"3955", b"3076"], rng.randrange(1, 3))
         told = [b"HIRMG:%d:2+0010::OK", b"HIRMS:%d:2:4+" + b"+".join(it + b"::Note" for it in codes)]
-        tells = parameters if number == 1 else [it for it in (BANK, USER) if rng.random() < 0.1]
+        later = [rng.choice(it) for it in (OTHER_BANKS, OTHER_USERS) if rng.random() < 0.25]
+        tells = parameters if number == 1 else later
         answer = message(number, name, told + [it for part in tells for it in part], True)
         if number < count or rng.random() < 0.7:
             messages.append(answer)
@@ -117,7 +135,7 @@ def recording(seed):
     """A recording, and whether its parameters come by --params."""
     rng, messages = random.Random(seed), []
     for _ in range(rng.randrange(1, 4)):
-        parameters = [it for it in (BANK, USER) if rng.random() < 0.8]
+        parameters = [rng.choice(it) for it in (OTHER_BANKS, OTHER_USERS) if rng.random() < 0.7]
         messages += dialogue(rng, parameters)
     file = spoiled(rng, messages) if rng.random() < 0.3 else rng.choice([b"", b"\r\n", b"\n"]).join(messages)
     return file, rng.random() < 0.3
@@ -215,17 +233,72 @@ def exchanges(files, messages):
     return found
 
 
-def own_capture(files, found):
-    """The first answer with both HIBPA 3 and HIPINS 1."""
-    for _, answer, _ in found:
-        if answer is None:
-            continue
-        status, _, errors = call("show", "--params", files.put("one", answer[1]))
-        if status == 0:
-            return answer[1]
-        if errors not in ("error: params NoBankParameters\n", "error: params NoPinParameters\n"):
-            raise Refused(f"dialogue answer at {answer[0]}")
-    raise Refused("dialogue NoParameters")
+def segments(data):
+    """The segments of a text, which are cut at apostrophes without an escape and outside of binary items."""
+    found, start, at = [], 0, 0
+    while at < len(data):
+        binary = re.match(rb"@(\d+)@", data[at:])
+        if binary:
+            at += len(binary[0]) + int(binary[1])
+        elif data[at : at + 1] == b"?":
+            at += 2
+        elif data[at : at + 1] == b"'":
+            at += 1
+            found.append(data[start:at].lstrip(b"\r\n"))
+            start = at
+        else:
+            at += 1
+    return found
+
+
+def is_of_user(segment):
+    """Whether a segment is HIUPA 4 or HIUPD 6."""
+    return re.match(rb"HIUPA:\d+:4[:+']|HIUPD:\d+:6[:+']", segment) is not None
+
+
+def told(files, answer):
+    """Which segments an answer tells of the bank, if it does, and which of the user."""
+    status, _, errors = call("show", "--params", files.put("one", answer[1]))
+    if status and errors not in ("error: params NoBankParameters\n", "error: params NoPinParameters\n"):
+        raise Refused(f"dialogue answer at {answer[0]}")
+    all_of = segments(answer[1])
+    return None if status else [it for it in all_of if not is_of_user(it)], [it for it in all_of if is_of_user(it)]
+
+
+def party_in(data):
+    """The bank and the customer of the first HKIDN, by the values of their items."""
+    for it in segments(data):
+        if it.startswith(b"HKIDN:"):
+            elements = [[re.sub(rb"\?(.)", rb"\1", item) for item in re.split(rb"(?<!\?):", element)] for element in re.split(rb"(?<!\?)\+", it[:-1])]
+            bank = (elements[1] + [b""])[:2] if len(elements) > 1 else [b"", b""]
+            return tuple(bank), elements[2][0] if len(elements) > 2 else b""
+    return None
+
+
+def nearest(passes, place, count):
+    """The last place before this one that passes, or else the first one from there on."""
+    before = [i for i in range(place) if passes(i)]
+    after = [i for i in range(place, count) if passes(i)]
+    return before[-1] if before else after[0] if after else None
+
+
+def own_captures(files, found):
+    """The capture by which each message is judged."""
+    tells = [told(files, answer) if answer else (None, []) for _, answer, _ in found]
+    named = [party_in(data) for (_, data), _, _ in found]
+    first = next((it for it in named if it), ((b"", b""), b""))
+    parties = []
+    for it in named:
+        parties.append(it or (parties[-1] if parties else first))
+    captures = []
+    for place in range(len(found)):
+        bank = nearest(lambda i: tells[i][0] and parties[i][0] == parties[place][0], place, len(found))
+        user = nearest(lambda i: tells[i][1] and parties[i] == parties[place], place, len(found))
+        if bank is None:
+            raise Refused("dialogue NoParameters")
+        rest = [b"HIUPA:1:4+x+3+1'"] if user is None else tells[user][1]
+        captures.append(b"".join(tells[bank][0] + rest))
+    return captures
 
 
 def audited(files, file, capture):
@@ -233,14 +306,14 @@ def audited(files, file, capture):
     found = exchanges(files, cut(file))
     if not found:
         raise Refused("dialogue NoMessage")
-    params = files.put("capture", own_capture(files, found) if capture is None else capture)
+    captures = own_captures(files, found) if capture is None else [capture] * len(found)
     several, dialogues, broken, lines = sum(it[2] for it in found) > 1, 0, 0, []
     for i, ((_, data), _, begins) in enumerate(found):
         dialogues += begins
         if begins and several:
             lines.append(f"dialogue {dialogues}")
         lines.append(f"message {i + 1} size {len(data)}")
-        words = ["judge", "--params", params, "--orders", ORDERS]
+        words = ["judge", "--params", files.put("capture", captures[i]), "--orders", ORDERS]
         if not begins:
             words += ["--before", files.put("before", found[i - 1][0][1]), "--answer", files.put("answer", found[i - 1][1][1])]
         _, verdict, _ = call(*words, "--message", files.put("message", data))

@@ -1,5 +1,5 @@
 -- The parameters that a recording tells itself: each message of the client is judged by those that the bank told
--- last before it. Words of private contracts and proofs alone stand last, under a heading.
+-- last before it (FinTS 3.0, Formals, bank and user parameter data).
 use Rattle.std.specs.Prelude.{◌≡◌, ◌⊎◌, ℕ, ◌&&◌, Bool, List, [], ◌∷◌, ◌++◌, map, Option, Some, None}
 use Rattle.std.specs.List.{AllByRecursion, AllZip}
 use Rattle.std.specs.Option.{is_some, option_and_then, option_map, unwrap_or}
@@ -63,7 +63,8 @@ granted_for orders before h after =
 -- the same for the message of each exchange after those
 abbrev pub granted_after : List OrderRow → List HeardRows → List HeardRows → List (Option Granted)
 granted_after orders before [] = []
-granted_after orders before (h ∷ hs) = granted_for orders before h hs ∷ granted_after orders (before ++ h ∷ []) hs
+granted_after orders before (h ∷ hs) =
+    granted_for orders before h hs ∷ granted_after orders (before ++ h ∷ []) hs
 
 abbrev pub granted_each : List OrderRow → List HeardRows → List (Option Granted)
 granted_each orders heard = granted_after orders [] heard
@@ -102,7 +103,8 @@ pub record IsRefusedAnswer (exchanges : List Exchange) (f : DialogueFault) : Typ
 -- the bank of some message tells no parameters
 abbrev pub LacksBank : List HeardRows → Type 0
 LacksBank heard =
-    (before after : List HeardRows) × (h : HeardRows) × (heard ≡ before ++ h ∷ after) × (bank_for before h after ≡ None)
+    (before after : List HeardRows) × (h : HeardRows) × (heard ≡ before ++ h ∷ after)
+    × (bank_for before h after ≡ None)
 
 -- the first refusal of an answer as a capture, or that some message's bank tells no parameters
 abbrev pub IsOwnParamsFault : List Exchange → DialogueFault → Type 0

@@ -1,4 +1,5 @@
--- Maps from parties to what was told nearest. Private contracts and the model of `OwnPermissions` alone cite these words.
+-- Maps from parties to what was told nearest. Only private contracts and the model
+-- of `OwnPermissions` cite these words.
 use Rattle.std.specs.Prelude.{◌≡◌, ◌&&◌, Bool, List, [], ◌∷◌, map, Option}
 use Rattle.std.specs.Borrow.{Bor}
 use Rattle.std.specs.List.{AllByRecursion}
@@ -37,12 +38,14 @@ abbrev pub IsKeyOf : Side → Party → Key → Type 0
 IsKeyOf Bank party key =
     (key.country.now ≡ party.country) × (key.code.now ≡ party.code) × (key.customer.now ≡ [])
 IsKeyOf User party key =
-    (key.country.now ≡ party.country) × (key.code.now ≡ party.code) × (key.customer.now ≡ party.customer)
+    (key.country.now ≡ party.country) × (key.code.now ≡ party.code)
+    × (key.customer.now ≡ party.customer)
 
 abbrev pub key_cmp : Key → Key → Ordering
 key_cmp a b =
     ordering_then (slice_cmp nat_cmp a.country.now b.country.now)
-    (ordering_then (slice_cmp nat_cmp a.code.now b.code.now) (slice_cmp nat_cmp a.customer.now b.customer.now))
+    (ordering_then (slice_cmp nat_cmp a.code.now b.code.now)
+    (slice_cmp nat_cmp a.customer.now b.customer.now))
 
 -- what is permitted by what an exchange's answer tells
 pub record IsGranting (orders : List OrderRow) (g : Granting) : Type 0 where

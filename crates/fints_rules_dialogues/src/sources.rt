@@ -160,7 +160,8 @@ fn basis_at<'g, 'a>(
 ) -> Result<Basis<'g>, DialogueFault>
     ensures granted { IfOk result (λ basis. (orders : List OrderRowValue) (before after : List GrantingValue)
         → IsAtPlace orders before granting.now after banks.now users.now → unknown.now ≡ unknown_user
-        → Some basis.permissions ≡ granted_for orders (heard_in before) granting.now.heard.now (heard_in after)) }
+        → Some basis.permissions
+        ≡ granted_for orders (heard_in before) granting.now.heard.now (heard_in after)) }
     ensures refused { IfErr result (λ f. (f ≡ fault.NoParameters)
         × ((orders : List OrderRowValue) (before after : List GrantingValue)
         → IsAtPlace orders before granting.now after banks.now users.now
