@@ -17,11 +17,6 @@ last_push : {A : Type 0} (p : A → Bool) (xs : List A) (x : A)
 last_push p [] x = sym (or_none _)
 last_push p (y ∷ xs) x = ap (λ o. option_or o (if p y then Some y else None)) (last_push p xs x) ∙ or_three _ (last_in p xs) _
 
-if_or : {A : Type 0} (b : Bool) (x : A) (o : Option A)
-    → option_or (if b then Some x else None) o ≡ (if b then Some x else o)
-if_or true x o = refl
-if_or false x o = refl
-
 pass_or : {A : Type 0} (b : Bool) (x : A) (l f : Option A)
     → option_or (option_or (if b then Some x else None) l) f
     ≡ (if b then Some x else option_or l (if b then Some x else f))

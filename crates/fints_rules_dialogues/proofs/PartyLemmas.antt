@@ -1,10 +1,10 @@
 -- The party of an exchange, by those before it and those after it.
-use Rattle.std.proofs.Common.{◌≡◌, ◌∙◌, ap, sym, refl, Bool, true, false, List, [], ◌∷◌, ◌++◌, map, if◌then◌else◌, Option, Some, None}
+use Rattle.std.proofs.Common.{◌≡◌, ◌∙◌, ap, sym, refl, Bool, true, false, List, [], ◌∷◌, ◌++◌, if◌then◌else◌, Option, Some, None}
 use Rattle.std.specs.Option.{is_some, option_and_then, option_map, unwrap_or}
 use Rattle.fints_syntax_segments.specs.Spelling.{Spelled}
 use Rattle.fints_syntax_segments.specs.declared.item.OwnedSegment.{OwnedSegment}
 use Rattle.fints_syntax.specs.Owned.{segment_of, segments_of}
-use Rattle.fints_rules_dialogues.specs.Nearest.{first_in, nearest}
+use Rattle.fints_rules_dialogues.specs.Nearest.{first_in}
 use Rattle.fints_rules_dialogues.specs.Parties.{is_hkidn, names_party, nobody, party_at, party_in, party_named}
 use Rattle.fints_rules_dialogues.specs.declared.parties.Party.{Party}
 use Rattle.fints_rules_dialogues.specs.declared.reading.Exchange.{Exchange}

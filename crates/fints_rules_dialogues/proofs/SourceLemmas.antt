@@ -76,13 +76,6 @@ noted true true g o e = refl
 noted false true g o e = refl
 noted same false g o e = absurd (let k : false ≡ true = e in cc)
 
--- what it has where nothing was told
-pub unnoted : (same told : Bool) (g : Granting) (o : Option Granting) → told ≡ false
-    → o ≡ (if (same && told) then Some g else o)
-unnoted same true g o e = absurd (let k : true ≡ false = e in cc)
-unnoted true false g o e = refl
-unnoted false false g o e = refl
-
 -- ---- what is permitted at a place
 
 abbrev grant : List OrderRow → BankRows → BankGranted

@@ -1,6 +1,6 @@
 -- The parameters that a recording tells itself: each message of the client is judged by those that the bank told
 -- last before it (FinTS 3.0, Formals, bank and user parameter data).
-use Rattle.std.specs.Prelude.{◌≡◌, ◌⊎◌, ℕ, ◌&&◌, Bool, List, [], ◌∷◌, ◌++◌, map, Option, Some, None}
+use Rattle.std.specs.Prelude.{◌≡◌, ◌⊎◌, ◌&&◌, Bool, List, [], ◌∷◌, ◌++◌, map, Option, Some, None}
 use Rattle.std.specs.List.{AllByRecursion, AllZip}
 use Rattle.std.specs.Option.{is_some, option_and_then, option_map, unwrap_or}
 use Rattle.fints_params.specs.Captures.{TellsBank, TellsUser}

@@ -1,5 +1,5 @@
 -- Whose an exchange is: the bank and the customer that HKIDN names (FinTS 3.0, Formals, identification).
-use Rattle.std.specs.Prelude.{codes, ℕ, ◌&&◌, Bool, List, [], ◌∷◌, ◌++◌, Option}
+use Rattle.std.specs.Prelude.{codes, ◌&&◌, Bool, List, [], ◌∷◌, ◌++◌, Option}
 use Rattle.std.specs.Option.{is_some, option_and_then, option_map, unwrap_or}
 use Rattle.std.specs.Str.{bytes_eq}
 use Rattle.fints_syntax_segments.specs.Values.{value_at}

@@ -1,7 +1,7 @@
 use Rattle.std.proofs.Common.{take, drop, ◌+◌, ◌≤◌, length}
 use Rattle.std.proofs.lemmas.List.{drop_all, take_all}
 use Rattle.std.proofs.lemmas.Result.{err_from_is_err_and}
-use Rattle.fints_rules_dialogues.proofs.OwnLemmas.{IsHeardSoFar, all_heard, answer_refused, one_heard}
+use Rattle.fints_rules_dialogues.proofs.OwnLemmas.{all_heard, answer_refused, one_heard}
 use Rattle.fints_rules_dialogues.proofs.Turns.{drop_here, split_here, take_here}
 use Rattle.fints_rules_dialogues.proofs.own_params.OwnParams.of.Goals as goal
 
