@@ -2,8 +2,8 @@
 use fints_params::Params;
 use fints_rules::{Broken, OrderTable, Permissions};
 use fints_rules_dialogues::{
-    Audited, DialogueFault, Exchange, Observer, OwnParams, Recording, ToldIn, Unread,
-    UnreadObserver, audit, audit_exchanges, is_answer, read_dialogue, read_dialogue_with,
+    Audited, DialogueFault, Exchange, Observer, OwnParams, OwnPermissions, Recording, ToldIn,
+    Unread, UnreadObserver, audit, audit_exchanges, is_answer, read_dialogue, read_dialogue_with,
 };
 use fints_samples::T;
 use std::alloc::Global;
@@ -79,6 +79,22 @@ const CAPTURE: &[u8] =
 fn audited(rt: HostRuntime) -> Result<(), Fail> {
     let params = Params::read(rt.alloc(), CAPTURE)?;
     assert!(rt; audits_one_by(rt.alloc(), &params, DIALOGUE)?);
+    Ok(())
+}
+
+#[test]
+fn permissions_of_each(rt: HostRuntime) -> Result<(), Fail> {
+    let exchanges = read_dialogue(rt.alloc(), DIALOGUE)?;
+    let own = OwnParams::of(rt.alloc(), exchanges.as_slice())?;
+    let orders = OrderTable::read(rt.alloc(), T)?;
+    let permissions = OwnPermissions::of(rt.alloc(), &own, &orders)?;
+    let bases = permissions.each(rt.alloc())?;
+    assert_eq!(rt; bases.len(), 1);
+    for basis in bases.iter() {
+        assert!(rt; basis.permissions.accounts().is_empty());
+        assert_eq!(rt; basis.permissions.bank().kinds, 1);
+        assert!(rt; basis.told_in.bank.is_some() && basis.told_in.user.is_none());
+    }
     Ok(())
 }
 

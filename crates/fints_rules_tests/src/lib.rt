@@ -10,6 +10,8 @@ mod feeding;
 #[cfg(test)]
 mod hashing;
 #[cfg(test)]
+mod parts;
+#[cfg(test)]
 mod permissions;
 #[cfg(test)]
 mod reading;
