@@ -9,6 +9,7 @@ mod reasons;
 mod refused;
 mod sources;
 mod undrafted;
+mod untold;
 
 pub use reasons::AuditReasons;
 pub use refused::dialogue_hint;

@@ -12,14 +12,11 @@ use std::alloc::Global;
 
 // Whether an order of the message names an account.
 fn names_account(permissions: &Permissions<'_>, message: &Message<'_>) -> bool {
-    message
-        .body()
-        .iter()
-        .any(|it| match permissions.form(it.id(), it.version()) {
-            Some(AccountForm::National) => true,
-            Some(AccountForm::International) => true,
-            _ => false,
-        })
+    message.body().iter().any(|it| match permissions.form(it.id(), it.version()) {
+        Some(AccountForm::National) => true,
+        Some(AccountForm::International) => true,
+        _ => false,
+    })
 }
 
 /// The reasons of what the client's messages of a dialogue break, in the order in which `audit` names them:

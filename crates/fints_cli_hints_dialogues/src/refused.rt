@@ -1,5 +1,6 @@
 //! What the refusal of a recorded dialogue is about. Where a file can't be cut into messages nothing is shown
 //! of what stands there, since it may be a PIN or a TAN, but the head of a message.
+use crate::untold::parameters_hint;
 use fints_cli_hints_segments::{front_hint, head_of, params_hint};
 use fints_cli_hints_words::places::{Told, line_at, told, told_at};
 use fints_cli_hints_words::quoting::Sample;
@@ -241,9 +242,6 @@ fn answer_hint(alloc: Global, file: &[u8], start: usize, fault: &ParamFault) -> 
 const NO_MESSAGE: &str =
     "the file has no message: it holds the client's messages and the bank's answers in turn, the client's first";
 
-const NO_PARAMETERS: &str =
-    "no answer has both HIBPA version 3 and HIPINS version 1, the bank's parameters: record the dialogue from its initialisation on, or hand over a capture by --params";
-
 /// What the refusal of a recorded dialogue is about; `unread` says why a message of the client is none, where
 /// its reader found that.
 pub fn dialogue_hint(
@@ -258,6 +256,6 @@ pub fn dialogue_hint(
         DialogueFault::NotAMessage { offset } => no_message_hint(alloc, file, *offset, unread),
         DialogueFault::NotInTurn { offset } => turn_hint(alloc, file, *offset),
         DialogueFault::Answer { start, fault } => answer_hint(alloc, file, *start, fault),
-        DialogueFault::NoParameters => told(alloc, NO_PARAMETERS),
+        DialogueFault::NoParameters => parameters_hint(alloc, file),
     }
 }

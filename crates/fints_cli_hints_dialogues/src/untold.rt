@@ -1,0 +1,85 @@
+//! Why a recording tells no parameters for one of its messages.
+use fints_cli_hints_words::places::{Told, told};
+use fints_cli_hints_words::quoting::Sample;
+use fints_rules_dialogues::{Heard, OwnParams, Party, read_dialogue};
+use fints_syntax::Memory;
+use std::alloc::Global;
+use std::fmt;
+use std::fmt::{Display, Formatter, Write};
+
+const ADVICE: &str =
+    "has both HIBPA version 3 and HIPINS version 1, the bank's parameters: record the dialogue from its initialisation on, or hand over a capture by --params";
+
+// The bank of the message of a number tells no parameters, and another bank does.
+#[derive(Clone, Copy)]
+struct OtherBank<'a> {
+    number: usize,
+    party: &'a Party,
+}
+
+impl Display for OtherBank<'_> {
+    fn fmt<W: Write>(&self, f: &mut Formatter<W>) -> fmt::Result {
+        let country = Sample(self.party.country.as_slice());
+        let code = Sample(self.party.code.as_slice());
+        let number = self.number;
+        write!(
+            f,
+            "message {number} is for the bank of country {country} and code {code} (HKIDN, element 2), and no answer in a dialogue with it {ADVICE}"
+        )
+    }
+}
+
+// What names a bank.
+fn bank_of<'h>(heard: &'h Heard<'_>) -> (&'h [u8], &'h [u8]) {
+    let party = heard.party();
+    (party.country.as_slice(), party.code.as_slice())
+}
+
+// The banks that tell their parameters, in order.
+fn banks_told<'h>(
+    alloc: Global,
+    heard: &'h [Heard<'_>],
+) -> Result<Vec<(&'h [u8], &'h [u8])>, Memory> {
+    let mut banks = Vec::new(alloc);
+    for one in heard {
+        if one.bank().is_some() {
+            banks.push(bank_of(one))?;
+        }
+    }
+    banks.sort_unstable();
+    Ok(banks)
+}
+
+// The first message whose bank tells no parameters, where another one does.
+fn first_untold<'h>(
+    alloc: Global,
+    heard: &'h [Heard<'_>],
+) -> Result<Option<OtherBank<'h>>, Memory> {
+    let banks = banks_told(alloc, heard)?;
+    if banks.is_empty() {
+        return Ok(None);
+    }
+    for (i, one) in heard.iter().enumerate() {
+        if banks.binary_search(&bank_of(one)).is_err() {
+            return Ok(Some(OtherBank {
+                number: i + 1,
+                party: one.party(),
+            }));
+        }
+    }
+    Ok(None)
+}
+
+/// Why the parameters are missing by which a message of the recording is to be judged.
+pub fn parameters_hint(alloc: Global, file: &[u8]) -> Told {
+    let Ok(exchanges) = read_dialogue(alloc, file) else {
+        return Ok(None);
+    };
+    let Ok(own) = OwnParams::of(alloc, exchanges.as_slice()) else {
+        return Ok(None);
+    };
+    match first_untold(alloc, own.heard())? {
+        Some(other) => told(alloc, other),
+        None => told(alloc, format_args!("no answer {ADVICE}")),
+    }
+}
