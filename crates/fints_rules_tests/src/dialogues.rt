@@ -82,19 +82,32 @@ fn audited(rt: HostRuntime) -> Result<(), Fail> {
     Ok(())
 }
 
+// Whether there is one message, which is judged by a bank that permits one kind of orders, and by no account.
+fn are_of_one(alloc: Global, permissions: &OwnPermissions<'_>) -> Result<bool, Fail> {
+    let bases = permissions.each(alloc)?;
+    Ok(match bases.as_slice() {
+        [basis] => {
+            basis.permissions.accounts().is_empty()
+                && basis.permissions.bank().kinds == 1
+                && basis.told_in.bank.is_some()
+                && basis.told_in.user.is_none()
+        }
+        _ => false,
+    })
+}
+
+// The same of exchanges.
+fn are_of_one_by(alloc: Global, own: &OwnParams<'_>) -> Result<bool, Fail> {
+    let orders = OrderTable::read(alloc, T)?;
+    let permissions = OwnPermissions::of(alloc, own, &orders)?;
+    are_of_one(alloc, &permissions)
+}
+
 #[test]
 fn permissions_of_each(rt: HostRuntime) -> Result<(), Fail> {
     let exchanges = read_dialogue(rt.alloc(), DIALOGUE)?;
     let own = OwnParams::of(rt.alloc(), exchanges.as_slice())?;
-    let orders = OrderTable::read(rt.alloc(), T)?;
-    let permissions = OwnPermissions::of(rt.alloc(), &own, &orders)?;
-    let bases = permissions.each(rt.alloc())?;
-    assert_eq!(rt; bases.len(), 1);
-    for basis in bases.iter() {
-        assert!(rt; basis.permissions.accounts().is_empty());
-        assert_eq!(rt; basis.permissions.bank().kinds, 1);
-        assert!(rt; basis.told_in.bank.is_some() && basis.told_in.user.is_none());
-    }
+    assert!(rt; are_of_one_by(rt.alloc(), &own)?);
     Ok(())
 }
 
