@@ -221,7 +221,7 @@ def exchanges(files, messages):
     while place < len(messages):
         at, data = messages[place]
         client_fault(files, at, data)
-        _, _, name, number = re.match(rb"HNHBK:1:3\+(\d+)\+(\d+)\+([^+']*)\+(\d+)", data).groups()
+        _, _, name, number = re.match(rb"HNHBK:1:3\+(\d+)\+([^+']*)\+([^+']*)\+(\d+)", data).groups()
         opens = re.fullmatch(rb"0+", name) is not None and int(number) == 1
         if is_answer(data) or found and found[-1][1] is None and not opens:
             raise Refused(f"dialogue NotInTurn at {at}")
