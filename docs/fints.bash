@@ -5,14 +5,15 @@ _fints() {
     show) words="--hints --params --message --help" files="--params --message" numbers="" ;;
     judge) words="--hints --params --orders --before --answer --message --help" files="--params --orders --before --answer --message" numbers="" ;;
     audit) words="--hints --params --orders --dialogue --help" files="--params --orders --dialogue" numbers="" ;;
-    draft) words="--hints --orders --dialogue --case --help" files="--orders --dialogue" numbers="" ;;
+    record) words="--dialogue --hints --help" files="--dialogue" numbers="" ;;
+    draft) words="--hints --orders --dialogue --part --case --help" files="--orders --dialogue" numbers="--part" ;;
     check) words="--hints --params --orders --script --help" files="--params --orders --script" numbers="" ;;
     explain) words="--hints --params --orders --script --finding --help" files="--params --orders --script" numbers="--finding" ;;
     certify) words="--hints --params --orders --script --help" files="--params --orders --script" numbers="" ;;
     verify) words="--hints --params --orders --script --cert --help" files="--params --orders --script --cert" numbers="" ;;
     run) words="--hints --orders --script --case --message --help" files="--orders --script --case" numbers="--message" ;;
     draw) words="--hints --params --orders --script --help" files="--params --orders --script" numbers="" ;;
-    *) words="show judge audit draft check explain certify verify run draw help --hints --help --version" ;;
+    *) words="show judge audit record draft check explain certify verify run draw help --hints --help --version" ;;
     esac
     case " $files " in
     *" $before "*)

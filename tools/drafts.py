@@ -1,7 +1,7 @@
 #!/usr/bin/env python3
 """Drafts a script and a case from each recorded dialogue of the rows and the examples with the built
-program, runs them, and compares what is sent with what was recorded, segment by segment: byte for byte but for
-what a client makes new for each message. No string of the script may be the value of a secret, and each comment
+program, of a recording with several dialogues from each of them, runs them, and compares what is sent with what
+was recorded, segment by segment: byte for byte but for what a client makes new for each message. No string of the script may be the value of a secret, and each comment
 is a fixed one, or an XML text that the segment after it has.
 
 Usage: tools/drafts.py
@@ -24,13 +24,33 @@ def call(*words):
 
 
 def recorded(dialogue):
-    """The messages of a recorded dialogue, of both sides."""
-    messages, rest = [], dialogue.lstrip(b"\r\n")
-    while rest:
-        size = int(rest[10:22])
-        messages.append(rest[:size])
-        rest = rest[size:].lstrip(b"\r\n")
+    """The messages of a recorded dialogue, of both sides; they are raw here, with other bytes between or none."""
+    messages, at = [], dialogue.find(b"HNHBK:1:3+")
+    while at >= 0:
+        size = int(dialogue[at + 10 : at + 22])
+        messages.append(dialogue[at : at + size])
+        at = dialogue.find(b"HNHBK:1:3+", at + size)
     return messages
+
+
+def head_of(message):
+    """The elements of a message's HNHBK, from the dialogue's id on."""
+    return message.split(b"'", 1)[0].split(b"+")[3:]
+
+
+def parts_of(dialogue):
+    """The client's messages of each dialogue of a recording, without what was written twice. What has feedback is an
+    answer."""
+    parts, before = [], b""
+    for message in recorded(dialogue):
+        is_copy, before = message == before, message
+        if is_copy or re.search(rb"HIRM[GS]:\d", message):
+            continue
+        head = head_of(message)
+        if not parts or (head[0].strip(b"0"), head[1].lstrip(b"0")) == (b"", b"1"):
+            parts.append([])
+        parts[-1].append(message)
+    return parts
 
 
 def sent(text):
@@ -160,10 +180,10 @@ def secrets(case):
     return [bytes.fromhex(value.decode()) for value in values]
 
 
-def is_replayed(path, room):
-    """Whether the draft of a dialogue sends it; None where there is no draft."""
-    status, script = call("draft", "--dialogue", path)
-    case_status, case = call("draft", "--dialogue", path, "--case")
+def is_replayed(path, room, words, own):
+    """Whether the draft of a dialogue sends the client's messages; None where there is no draft."""
+    status, script = call("draft", "--dialogue", path, *words)
+    case_status, case = call("draft", "--dialogue", path, *words, "--case")
     if status != case_status:
         return False
     if status != 0:
@@ -171,7 +191,7 @@ def is_replayed(path, room):
     (room / "script").write_bytes(script)
     (room / "case").write_bytes(case)
     status, text = call("run", "--orders", ORDERS, "--script", room / "script", "--case", room / "case")
-    own, again = recorded(path.read_bytes())[::2], sent(text)
+    again = sent(text)
     alike = len(own) == len(again) and all(map(are_alike, own, again))
     hidden = all(b'"%s"' % value not in script for value in secrets(case))
     return status == 0 and alike and hidden and are_comments_known(script.decode())
@@ -185,7 +205,11 @@ def main():
     counts = {True: 0, False: 0, None: 0}
     with tempfile.TemporaryDirectory() as room:
         for path in paths:
-            replayed = is_replayed(path, pathlib.Path(room))
+            parts = parts_of(path.read_bytes())
+            tried = [is_replayed(path, pathlib.Path(room), [], parts[0] if len(parts) == 1 else [])]
+            if len(parts) > 1:
+                tried += [is_replayed(path, pathlib.Path(room), ["--part", str(n)], own) for n, own in enumerate(parts, 1)]
+            replayed = False if False in tried else True if True in tried else None
             counts[replayed] += 1
             if replayed is False:
                 print(f"drafts: {path}: the draft sends something else", file=sys.stderr)

@@ -1,14 +1,16 @@
 #!/usr/bin/env python3
 """Makes recordings of dialogues, and compares what `fints audit` prints of them with what docs/formats.md says.
-The reference here knows how a file is cut, whose a message is, where a dialogue begins, and which answers tell the
+The reference here finds the messages of a file, raw, in UTF-8 and in base64, and knows which of them are passed over:
+copies, unsealed twins, and what a logger changed. It knows whose a message is, where a dialogue begins, and which answers tell the
 parameters by which a message is judged: those of its bank, and those of its customer. Which rules one message
 breaks it asks of `fints judge`, by a capture that it puts together of these answers, and with the message before
 and the answer between them where there are two in a dialogue. Some recordings are spoiled: an answer or a message
-is left out, two are exchanged, a byte is another one, the file is cut off.
+is left out, two are exchanged, a byte is another one, the file is cut off. What `fints record` prints is compared too.
 
 Usage: tools/recordings.py [--count N] [--first SEED] [--program PATH]
 """
 import argparse
+import base64
 import pathlib
 import random
 import re
@@ -85,7 +87,7 @@ def orders_of(rng):
         [b"HKCCS:%%d:1+%s+urn?:pain.001.001.03+@3@<a>" % account],
         [b"HKTAN:%d:6+2++++ref1+N"],
         [b"HKSPA:%d:1"],
-        [b"HKXYZ:%d:1+x"],
+        [b"HKXYZ:%d:1+M\xfcller"],
         [b"HKSAL:%%d:7+%s+N" % account] * 2,
     ]
     return rng.choice(choices[1:3] * 2 + choices)
@@ -103,7 +105,7 @@ def dialogue(rng, parameters):
         own = b"0" if number == 1 else name
         messages.append(message(number, own, signed(rng, orders)))
         codes = rng.sample([b"0030", b"0030", b"0020", b"3955", b"3076"], rng.randrange(1, 3))
-        told = [b"HIRMG:%d:2+0010::OK", b"HIRMS:%d:2:4+" + b"+".join(it + b"::Note" for it in codes)]
+        told = [rng.choice([b"HIRMG:%d:2+0010::OK", b"HIRMG:%d:2+0010::Nachricht ausgef\xfchrt"]), b"HIRMS:%d:2:4+" + b"+".join(it + b"::Note" for it in codes)]
         later = [rng.choice(it) for it in (OTHER_BANKS, OTHER_USERS) if rng.random() < 0.25]
         tells = parameters if number == 1 else later
         answer = message(number, name, told + [it for part in tells for it in part], True)
@@ -131,13 +133,83 @@ def spoiled(rng, messages):
     return file
 
 
+def sealed(message):
+    """The same message with its inner segments in an HNVSD."""
+    first, *inner, last = segments(message)
+    data = b"".join(inner)
+    rest = first[22:] + b"HNVSK:998:3+PIN:1+998+1'HNVSD:999:1+@%d@" % len(data) + data + b"'" + last
+    return b"HNHBK:1:3+%012d" % (22 + len(rest)) + rest
+
+
+def is_client(message):
+    return b"HIRMG:" not in message
+
+
+def logged(rng, messages):
+    """The messages as loggers write them: some twice, some sealed beside the unsealed one, some changed beside it."""
+    written = []
+    for it in messages:
+        kind = rng.choice(["once", "once", "twice", "sealed", "twins", "twins the other way", "changed"])
+        if kind == "twice":
+            written += [it, it]
+        elif kind == "sealed" and is_client(it):
+            written.append(sealed(it))
+        elif kind == "twins" and is_client(it):
+            written += [it, sealed(it)]
+        elif kind == "twins the other way" and is_client(it):
+            written += [sealed(it), it]
+        elif kind == "changed":
+            wrong = it[:10] + b"%012d" % (len(it) + rng.randrange(1, 40)) + it[22:]
+            written += rng.choice([[it, wrong], [wrong, it], [it, wrong, wrong]])
+        else:
+            written.append(it)
+    return written
+
+
+def wrapped(text, rng):
+    """Base64 in lines, with a break that JSON escapes or not."""
+    size, gap = rng.choice([20, 64, 76]), rng.choice([b"\n", b"\r\n", b"\\n", b"\\r\\n"])
+    return gap.join(text[i : i + size] for i in range(0, len(text), size))
+
+
+def in_json(text, rng):
+    """Base64 as JSON escapes it."""
+    text = text.replace(b"/", rng.choice([b"/", b"\\/", b"\\u002f"]))
+    return text.replace(b"+", rng.choice([b"+", b"\\u002b", b"\\u002B"]))
+
+
+def in_file(rng, messages):
+    """A file with the messages in one form or in several, and something between them."""
+    file = []
+    for i, it in enumerate(messages):
+        kind = rng.choice(["raw", "raw", "utf-8", "base64", "lines", "json", "without padding"])
+        code = base64.b64encode(it)
+        if kind == "raw":
+            text = it
+        elif kind == "utf-8":
+            text = it.decode("latin-1").encode("utf-8")
+        elif kind == "lines":
+            text = wrapped(code, rng)
+        elif kind == "json":
+            text = b'{"body": "' + in_json(code, rng) + b'"}'
+        else:
+            text = code if kind == "base64" else code.rstrip(b"=")
+        file += [rng.choice([b"", b"12:00:%02d send " % (i % 60), b"<< "]), text, rng.choice([b"\n", b"\r\n", b" end\n"])]
+    return b"".join(file)
+
+
 def recording(seed):
     """A recording, and whether its parameters come by --params."""
     rng, messages = random.Random(seed), []
     for _ in range(rng.randrange(1, 4)):
         parameters = [rng.choice(it) for it in (OTHER_BANKS, OTHER_USERS) if rng.random() < 0.7]
         messages += dialogue(rng, parameters)
-    file = spoiled(rng, messages) if rng.random() < 0.3 else rng.choice([b"", b"\r\n", b"\n"]).join(messages)
+    if rng.random() < 0.5:
+        file = in_file(rng, logged(rng, messages))
+        if rng.random() < 0.2:
+            file = file[: rng.randrange(len(file) + 1)]
+    else:
+        file = spoiled(rng, messages) if rng.random() < 0.3 else rng.choice([b"", b"\r\n", b"\n"]).join(messages)
     return file, rng.random() < 0.3
 
 
@@ -151,23 +223,150 @@ class Refused(Exception):
 def call(*words):
     """The status, the output and the errors of the program."""
     done = subprocess.run([PROGRAM, *words], capture_output=True, timeout=60)
-    return done.returncode, done.stdout.decode(), done.stderr.decode()
+    return done.returncode, done.stdout.decode("latin-1"), done.stderr.decode()
 
 
-def cut(file):
-    """The messages of a file, each with its offset."""
-    messages, at = [], 0
-    while True:
-        while file[at : at + 1] in (b"\r", b"\n"):
+PLAIN, CODED = b"HNHBK:1:3+", b"SE5IQks6"
+UNIT = re.compile(rb"(?:[\r\n \t]|\\[rnt])*(?:([A-Za-z0-9+/])|\\(/)|\\u002([bBfF]))")
+END = re.compile(rb"HNHBS:\d{1,3}:1\+\d{1,5}'\Z")
+# In a note: something is passed over.
+PASSED = re.compile(r"passed over: .*[1-9]")
+
+
+def own_part(file, at, mark):
+    """The file from a place up to the next mark behind its first byte."""
+    end = file.find(mark, at + 1)
+    return file[at:] if end < 0 else file[at:end]
+
+
+def latin(text, count):
+    """The first characters of a text in UTF-8, as bytes of ISO 8859-1, and how many bytes they take."""
+    out, at = bytearray(), 0
+    while len(out) < count:
+        first, second = text[at : at + 1], text[at + 1 : at + 2]
+        if first and first[0] < 128:
+            out += first
             at += 1
-        if at == len(file):
-            return messages
-        head = re.match(rb"HNHBK:1:3\+(\d{12})\+", file[at:])
-        size = int(head[1]) if head else 0
-        if size < 23 or at + size > len(file):
-            raise Refused(f"dialogue NotAMessage at {at}")
-        messages.append((at, file[at : at + size]))
-        at += size
+        elif first in (b"\xc2", b"\xc3") and second and 128 <= second[0] < 192:
+            out += (first + second).decode("utf-8").encode("latin-1")
+            at += 2
+        else:
+            return None, 0
+    return bytes(out), at
+
+
+def letters(text, count):
+    """The bytes, so many, of the first letters of base64, and how many bytes of the text these take."""
+    found, at = bytearray(), 0
+    while len(found) < (4 * count + 2) // 3:
+        unit = UNIT.match(text, at)
+        if not unit:
+            return None, 0
+        plain, slash, number = unit.groups()
+        found += plain or slash or (b"+" if number in b"bB" else b"/")
+        at = unit.end()
+    return base64.b64decode(bytes(found) + b"A" * (-len(found) % 4))[:count], at
+
+
+def said(data):
+    """The size that HNHBK says."""
+    head = re.match(rb"HNHBK:1:3\+(\d{12})\+", data)
+    return int(head[1]) if head else None
+
+
+def standing(file, at):
+    """What is at a place: a form, the message and how long it is there; or None where one begins and none comes."""
+    if file.startswith(PLAIN, at):
+        size = said(file[at : at + 23])
+        if size is None:
+            return "nothing", b"", 1
+        raw = file[at : at + size]
+        if len(raw) == size and END.search(raw):
+            return "raw", raw, size
+        data, taken = latin(own_part(file, at, PLAIN), size)
+        if data and END.search(data) and said(data) == size:
+            return "utf-8", data, taken
+        return None, b"", 1
+    if file.startswith(CODED, at):
+        own = own_part(file, at, CODED)
+        head, _ = letters(own, 24)
+        size = said(head) if head else None
+        if size is None:
+            return "nothing", b"", 1
+        data, taken = letters(own, size)
+        if data and END.search(data) and said(data) == size:
+            return "base64", data, taken
+        return None, b"", 1
+    return "nothing", b"", 1
+
+
+def head_of(data):
+    """HNHBK behind its size, of the first 128 bytes up to the first apostrophe."""
+    return data[23:128].split(b"'")[0]
+
+
+def is_sealed(data):
+    return data[23 + len(head_of(data)) :].startswith(b"'HNVSK:")
+
+
+def kinds(data):
+    """The kinds of the inner segments of a message."""
+    inner = segments(data)[1:-1]
+    if is_sealed(data):
+        inner = segments(re.match(rb"HNVSD:\d+:\d+\+@\d+@(.*)'\Z", inner[1], re.S)[1])
+    return [it.split(b":")[0] for it in inner]
+
+
+def are_twins(files, one, other):
+    """Whether two messages are one, sealed and unsealed."""
+    if head_of(one) != head_of(other) or is_sealed(one) == is_sealed(other):
+        return False
+    if any(call("show", "--message", files.put("twin", it))[0] for it in (one, other)):
+        return False
+    return kinds(one) == kinds(other)
+
+
+def finds(file):
+    """What is in a file, leftmost first: offset, form, message and the head of what begins there."""
+    found, at = [], 0
+    while at < len(file):
+        form, data, taken = standing(file, at)
+        if form != "nothing":
+            found.append((at, form, data, head_of(data if form else file[at:])))
+        at += taken
+    return found
+
+
+def cut(files, file):
+    """The messages of a file, each with its offset, and the note on them."""
+    found = finds(file)
+    for i, (at, form, _, head) in enumerate(found):
+        if form is None:
+            run = [j for j in range(len(found)) if all(found[k][3] == head for k in range(min(i, j), max(i, j) + 1))]
+            if all(found[j][1] is None for j in run):
+                raise Refused(f"dialogue NotAMessage at {at}")
+    if not found:
+        raise Refused("dialogue NoMessage")
+    kept, copies, twins, changed = [], 0, 0, 0
+    for at, form, data, _ in found:
+        if form is None:
+            changed += 1
+            continue
+        while kept and is_sealed(data) and are_twins(files, data, kept[-1][2]):
+            kept.pop()
+            twins += 1
+        if kept and kept[-1][2] == data:
+            copies += 1
+        elif kept and is_sealed(kept[-1][2]) and are_twins(files, kept[-1][2], data):
+            twins += 1
+        else:
+            kept.append((at, form, data))
+    forms = ", ".join(f"{sum(it[1] == form for it in kept)} {form}" for form in ("raw", "utf-8", "base64"))
+    note = (
+        f"note: {len(kept)} messages ({forms}); passed over: {copies} written twice, "
+        f"{twins} unsealed beside a sealed one, {changed} whose size doesn't fit\n"
+    )
+    return [(at, data) for at, _, data in kept], note
 
 
 class Files:
@@ -265,9 +464,15 @@ def told(files, answer):
     return None if status else [it for it in all_of if not is_of_user(it)], [it for it in all_of if is_of_user(it)]
 
 
+def opened(data):
+    """A message without its seal."""
+    seal = re.search(rb"'HNVSD:\d+:\d+\+@(\d+)@", data)
+    return data[seal.end() : seal.end() + int(seal[1])] if seal else data
+
+
 def party_in(data):
     """The bank and the customer of the first HKIDN, by the values of their items."""
-    for it in segments(data):
+    for it in segments(opened(data)):
         if it.startswith(b"HKIDN:"):
             elements = [[re.sub(rb"\?(.)", rb"\1", item) for item in re.split(rb"(?<!\?):", element)] for element in re.split(rb"(?<!\?)\+", it[:-1])]
             bank = (elements[1] + [b""])[:2] if len(elements) > 1 else [b"", b""]
@@ -301,11 +506,9 @@ def own_captures(files, found):
     return captures
 
 
-def audited(files, file, capture):
-    """What `audit` prints of a recording, and its status."""
-    found = exchanges(files, cut(file))
-    if not found:
-        raise Refused("dialogue NoMessage")
+def audited(files, messages, capture):
+    """What `audit` prints of messages, and its status."""
+    found = exchanges(files, messages)
     captures = own_captures(files, found) if capture is None else [capture] * len(found)
     several, dialogues, broken, lines = sum(it[2] for it in found) > 1, 0, 0, []
     for i, ((_, data), _, begins) in enumerate(found):
@@ -332,13 +535,23 @@ def compared(seed):
         words = ["audit", "--orders", ORDERS, "--dialogue", files.put("dialogue", file)]
         words += ["--params", files.put("params", CAPTURE)] if by_capture else []
         status, printed, errors = call(*words)
+        record = call("record", "--dialogue", files.room / "dialogue")
         try:
-            wanted = audited(files, file, CAPTURE if by_capture else None)
+            messages, note = cut(files, file)
+        except Refused as why:
+            good = (status, printed) == (3, "") and errors == f"error: {why}\n" and record == (3, "", errors)
+            return str(why), None if good else f"seed {seed}: wanted {why}, and {status}: {errors}{printed}"
+        text = b"".join(data for _, data in messages).decode("latin-1")
+        if record != (0, text, note):
+            return note, f"seed {seed}: wanted {note} and another record: {record[2]}"
+        try:
+            wanted = audited(files, messages, CAPTURE if by_capture else None)
         except Refused as why:
             good = (status, printed) == (3, "") and re.match(rf"error: {why}\b", errors)
             return str(why), None if good else f"seed {seed}: wanted {why}, and {status}: {errors}{printed}"
-        good = (status, printed, errors) == (*wanted, "")
-        return wanted[1], None if good else f"seed {seed}: wanted {wanted}, and {status}: {errors}{printed}"
+        wanted = (*wanted, note if PASSED.search(note) else "")
+        good = (status, printed, errors) == wanted
+        return note + wanted[1], None if good else f"seed {seed}: wanted {wanted}, and {status}: {errors}{printed}"
 
 
 def main():
@@ -357,6 +570,8 @@ def main():
     count = lambda pattern: sum(re.search(pattern, said, re.M) is not None for said, _ in all_of)
     print(*found, sep="\n", end="\n" if found else "", file=sys.stderr)
     print(f"recordings: {count('^dialogue [A-Z]')} refused, {count('^dialogue 2$')} of several dialogues, {count('P11')} break P11")
+    passed = [count(f"(?<!\\d)[1-9]\\d* {it}") for it in ("utf-8", "base64", "written twice", "unsealed", "whose size")]
+    print("recordings: {} have UTF-8, {} base64, {} copies, {} twins, {} changed messages".format(*passed))
     print(f"recordings: {given.count - len(found)} audited as the reference says, {len(found)} otherwise")
     sys.exit(1 if found else 0)
 

@@ -5,7 +5,7 @@ use Rattle.std.proofs.lemmas.Bool.Decides.{nat_tests}
 use Rattle.fints_cli_files.specs.Streams.{one_more}
 use Rattle.fints_cli.proofs.Writes.{gets-more, gets-then-cut}
 use Rattle.std.specs.Prelude.{codes}
-use Rattle.fints_cli_texts.specs.declared.fault.Fault.TheVariants.{Memory, NoFinding, NoMessage}
+use Rattle.fints_cli_texts.specs.declared.fault.Fault.TheVariants.{Memory, NoFinding, NoMessage, NoPart}
 use Rattle.fints_cli_words.specs.declared.requests.Asked.{Asked}
 use Rattle.fints_cli_words.specs.declared.requests.Asked.TheVariants.{Run}
 use Rattle.fints_cli_words.specs.declared.requests.Request.{Request}
@@ -37,6 +37,7 @@ module _ (old new : Option (List ℕ)) (lost lost_after : ℕ) where
   memory_first A (Input Memory) four told = record { more = []; nothing_more = λ _. refl; said = told }
   memory_first A (Input (NoMessage number)) four told = absurd (omega (arith, four))
   memory_first A (Input (NoFinding number)) four told = absurd (omega (arith, four))
+  memory_first A (Input (NoPart number)) four told = absurd (omega (arith, four))
   memory_first A (Input _) four told = absurd (omega (arith, four))
   memory_first A (Unread input) four told = absurd (omega (arith, four))
 
@@ -75,5 +76,6 @@ pub failure_above : (f : Failure) → 2 ≤ failure_status f
 failure_above (Input Memory) = omega arith
 failure_above (Input (NoMessage number)) = omega arith
 failure_above (Input (NoFinding number)) = omega arith
+failure_above (Input (NoPart number)) = omega arith
 failure_above (Input _) = omega arith
 failure_above (Unread input) = omega arith

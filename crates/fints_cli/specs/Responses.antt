@@ -2,14 +2,12 @@
 use Rattle.std.specs.Prelude.{codes, ◌≡◌, ◌≤◌, ◌⊎◌, ℕ, true, false, List, [], ◌∷◌, ◌++◌, Option, string_bytes}
 use Rattle.fints_cli_files.specs.Streams.{ReadCounts, Gets, GetsNothing, GetsPrefix, one_more}
 use Rattle.fints_cli_files.specs.Loading.{NoneFailed}
-use Rattle.fints_cli_words.specs.declared.requests.Command.{Command}
-use Rattle.fints_cli_words.specs.declared.requests.Command.TheVariants.{DraftCase}
 use Rattle.fints_cli_words.specs.declared.requests.Request.{Request}
 use Rattle.fints_cli_words.specs.declared.requests.Asked.{Asked}
 use Rattle.fints_cli_words.specs.declared.requests.Asked.TheVariants.{Help, Usage, NoMemory, Run}
 use Rattle.fints_cli_commands.specs.declared.failing.Failure.{Failure}
 use Rattle.fints_cli_commands.specs.Loading.{files_of, AreWithin, FollowsReading}
-use Rattle.fints_cli_commands.specs.Commands.{failure_status, AnswersTo, FailsFor}
+use Rattle.fints_cli_commands.specs.Commands.{failure_status, AnswersTo, FailsFor, IsNoteOf}
 use Rattle.fints_cli_commands.specs.FailureText.{failure_text}
 
 -- the status and the text are what was asked for: the help, or the request's answer, for which no file is longer than its limit
@@ -102,18 +100,10 @@ memory_line = codes "error: memory" ++ 10 ∷ []
 abbrev pub write_line : List ℕ
 write_line = codes "error: write" ++ 10 ∷ []
 
-abbrev pub secrets_line : List ℕ
-secrets_line = codes "note: this case holds the PIN and the TANs of the dialogue" ++ 10 ∷ []
-
--- what is said beside the answer of a command: that a drafted case holds secrets, and nothing beside another answer
-abbrev pub line_beside : Command → List ℕ
-line_beside DraftCase = secrets_line
-line_beside _ = []
-
--- what is said beside what was asked for
-abbrev pub text_beside : Asked → List ℕ
-text_beside (Run request) = line_beside request.command
-text_beside _ = []
+-- what is said beside what was asked for, whether hints are wanted or not
+abbrev pub IsBeside : Asked → (List ℕ → Option (List ℕ)) → List ℕ → Type 0
+IsBeside (Run request) holds note = IsNoteOf request holds note
+IsBeside _ holds note = note ≡ []
 
 -- a stream got the text, or a prefix of it, after which a write failed; where the text is empty, nothing was written
 abbrev pub SaysText : List ℕ → (old new : Option (List ℕ)) (lost lost_after : ℕ) → Type 0
@@ -162,13 +152,19 @@ abbrev pub SaysUnwritten : ℕ → (old new : Option (List ℕ)) (lost lost_afte
 SaysUnwritten status old new lost lost_after =
     (status ≡ 5) × Tells old new lost lost_after write_line
 
+-- the note beside the answer is said, and then reasons and notes
+abbrev pub SaysBeside : Asked → (List ℕ → Option (List ℕ)) → (old new : Option (List ℕ))
+    (lost lost_after : ℕ) → Type 0
+SaysBeside asked holds old new lost lost_after =
+    (note : List ℕ) × IsBeside asked holds note × SaysFirst (AsksNoHint asked) note old new lost lost_after
+
 -- What the errors got. Up to status 1 that is what is said beside the answer, and then reasons and notes. From 2 on it is the
 -- usage of a bad command line, the line of an output that failed, or the line of a failure that the request has, and then
 -- a hint. Reasons, notes and hints come only where they are asked for. Where memory ran out, there is its line only.
 pub record SaysWhy (asked : Asked) (holds : List ℕ → Option (List ℕ)) (status : ℕ) (old new : Option (List ℕ))
     (lost lost_after : ℕ)
     : Type 0 where
-  pub beside : status ≤ 1 → SaysFirst (AsksNoHint asked) (text_beside asked) old new lost lost_after
+  pub beside : status ≤ 1 → SaysBeside asked holds old new lost lost_after
   pub usage : TellsUsage asked old new lost lost_after
   pub line : 2 ≤ status
       → IsUsage asked

@@ -1,17 +1,17 @@
 //! From words to a status: the answer of a command on the output, and what it says on the errors.
-ghost use Rattle.std.specs.Prelude.{◌≡◌, ◌≤◌, ◌+◌, ◌*◌, ◌++◌, ◌⊎◌, ℕ, List, [], None, OnOk, OnErr};
+ghost use Rattle.std.specs.Prelude.{◌≡◌, ◌≤◌, ◌+◌, ◌*◌, ◌++◌, ◌⊎◌, ℕ, List, [], None, OnOk, OnErr, string_bytes};
 ghost use Rattle.fints_cli_files.specs.Streams.{Gets, GetsNothing, GetsPrefix, one_more};
 ghost use Rattle.fints_cli_files.specs.Loading.{MAX_READS, NoneFailed};
 ghost use Rattle.fints_cli_words.specs.Requests.{built_in_request};
 ghost use Rattle.fints_cli_words.specs.declared.requests.Asked.{Asked};
 ghost use Rattle.fints_cli_words.specs.declared.requests.Asked.TheVariants as asked;
 ghost use Rattle.fints_cli_commands.specs.Commands.{failure_status};
-ghost use Rattle.fints_cli.specs.Responses.{IsAnswered, IsCutOff, IsResponse, RanOut, IsUntold, SaysText, IsUsage, FailsToRead, FailsWith, FilesAreWithin, SaysFirst, SaysWhy, Tells, told_line, fault_line, line_beside, memory_line, write_line};
+ghost use Rattle.fints_cli.specs.Responses.{IsAnswered, IsCutOff, IsResponse, RanOut, IsUntold, SaysText, IsUsage, FailsToRead, FailsWith, FilesAreWithin, SaysFirst, SaysWhy, Tells, told_line, fault_line, memory_line, write_line};
 
 use crate::emitting::emit;
 use fints_cli_commands::{Answered, Refusal, perform};
 use fints_cli_files::{Files, Out, WriteFault};
-use fints_cli_words::{Asked, Command, Request, read_words};
+use fints_cli_words::{Asked, read_words};
 use std::alloc::Global;
 
 // Writes a text to the errors; a fault there changes nothing.
@@ -95,18 +95,7 @@ fn deliver<O: Out, E: Out>(text: &[u8], status: u8, out: &mut O, err: &mut E) ->
     status
 }
 
-// What is said beside the answer of a request: that a drafted case holds PIN and TAN.
-#[tactic(auto, unfolding(crate::specs::Responses::secrets_line))]
-fn line_beside(request: &Request<'_>) -> &'static [u8]
-    ensures { result.now ≡ line_beside request.now.command }
-{
-    match request.command {
-        Command::DraftCase => { b"note: this case holds the PIN and the TANs of the dialogue\n" }
-        _ => b"",
-    }
-}
-
-// Writes what is said beside an answer, and then reasons and notes.
+// Writes the note beside an answer, and then reasons and notes.
 fn emit_beside<E: Out>(line: &[u8], reasons: &[u8], err: &mut E) -> Result<(), WriteFault>
     ensures written { OnOk result (Gets (E.told err.old) (E.told err.new) (line.now ++ reasons.now)) }
     ensures fine { OnOk result (E.failed_calls err.new ≡ E.failed_calls err.old) }
@@ -135,7 +124,7 @@ fn say<E: Out>(text: &[u8], err: &mut E)
     }
 }
 
-// Says what is beside an answer, and then reasons and notes, if there is any.
+// Says the note beside an answer, and then reasons and notes, if there is any.
 fn tell_beside<E: Out>(line: &[u8], reasons: &[u8], err: &mut E)
     ensures { SaysText (line.now ++ reasons.now) (E.told err.old) (E.told err.new)
         (E.failed_calls err.old) (E.failed_calls err.new) }
@@ -156,12 +145,7 @@ fn reasons_of(answered: &Answered) -> &[u8]
 }
 
 // Writes the answer to the output, and then to the errors what is said beside it.
-fn respond_with<O: Out, E: Out>(
-    request: &Request<'_>,
-    answered: &Answered,
-    out: &mut O,
-    err: &mut E,
-) -> u8
+fn respond_with<O: Out, E: Out>(answered: &Answered, out: &mut O, err: &mut E) -> u8
     requires { answered.now.reply.status ≤ 1 }
     ensures statuses { (result ≡ answered.now.reply.status) ⊎ (result ≡ 5) }
     ensures written { result ≡ answered.now.reply.status
@@ -170,7 +154,7 @@ fn respond_with<O: Out, E: Out>(
     ensures cut { result ≡ 5 → GetsPrefix (O.told out.old) (O.told out.new) answered.now.reply.text.items }
     ensures failed { result ≡ 5 → O.failed_calls out.new ≡ one_more (O.failed_calls out.old) }
     ensures beside { result ≡ answered.now.reply.status
-        → SaysFirst (answered.now.reasons ≡ None) (line_beside request.now.command)
+        → SaysFirst (answered.now.reasons ≡ None) (string_bytes answered.now.note)
         (E.told err.old) (E.told err.new) (E.failed_calls err.old) (E.failed_calls err.new) }
     ensures line { result ≡ 5
         → Tells (E.told err.old) (E.told err.new) (E.failed_calls err.old)
@@ -179,7 +163,7 @@ fn respond_with<O: Out, E: Out>(
     let reply = &answered.reply;
     let status = deliver(reply.text.as_slice(), reply.status, out, err);
     if status != 5 {
-        tell_beside(line_beside(request), reasons_of(answered), err);
+        tell_beside(answered.note.as_bytes(), reasons_of(answered), err);
     }
     status
 }
@@ -222,7 +206,7 @@ pub fn respond<F: Files, O: Out, E: Out>(
         }
         Asked::NoMemory => tell_memory(err),
         Asked::Run(request) => match perform(alloc, request, files) {
-            Ok(answered) => respond_with(request, &answered, out, err),
+            Ok(answered) => respond_with(&answered, out, err),
             Err(refusal) => tell_refusal(&refusal, err),
         },
     }

@@ -37,6 +37,7 @@ few commands.Judge = omega arith
 few commands.JudgeAfter = omega arith
 few commands.Audit = omega arith
 few commands.AuditOwn = omega arith
+few commands.Record = omega arith
 few commands.Draft = omega arith
 few commands.DraftCase = omega arith
 few commands.Check = omega arith

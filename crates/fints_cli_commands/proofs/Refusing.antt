@@ -48,6 +48,7 @@ memory_refuses commands.Audit paths number holds =
     three (bytes_at holds paths.params) (bytes_at holds paths.orders) (bytes_at holds paths.dialogue)
 memory_refuses commands.AuditOwn paths number holds =
     two (bytes_at holds paths.orders) (bytes_at holds paths.dialogue)
+memory_refuses commands.Record paths number holds = one (bytes_at holds paths.dialogue)
 memory_refuses commands.Draft paths number holds =
     two (bytes_at holds paths.orders) (bytes_at holds paths.dialogue)
 memory_refuses commands.DraftCase paths number holds =
@@ -75,6 +76,7 @@ has_files commands.Judge request holds before after option is h = tt
 has_files commands.JudgeAfter request holds before after option is h = tt
 has_files commands.Audit request holds before after option is h = tt
 has_files commands.AuditOwn request holds before after option is h = tt
+has_files commands.Record request holds before after option is h = tt
 has_files commands.Draft request holds before after option is h = tt
 has_files commands.DraftCase request holds before after option is h = tt
 has_files commands.Check request holds before after option is h = tt

@@ -1,13 +1,13 @@
 -- What the commands answer, and why they have no answer.
-use Rattle.std.specs.Prelude.{◌≡◌, ℕ, Bool, true, false, List, Option, None, Some, IfSome}
+use Rattle.std.specs.Prelude.{◌≡◌, ℕ, Bool, false, List, [], ◌++◌, Option, None, Some, IfSome}
 use Rattle.std.specs.Borrow.{Bor}
 use Rattle.fints_cli_texts.specs.declared.fault.Fault.{Fault}
-use Rattle.fints_cli_texts.specs.declared.fault.Fault.TheVariants.{Memory, NoFinding, NoMessage}
+use Rattle.fints_cli_texts.specs.declared.fault.Fault.TheVariants.{Memory, NoFinding, NoMessage, NoPart}
 use Rattle.fints_cli_commands.specs.declared.failing.Failure.{Failure}
 use Rattle.fints_cli_commands.specs.declared.failing.Failure.TheVariants.{Input, Unread}
 use Rattle.fints_cli_commands.specs.declared.failing.Refusal.{Refusal}
 use Rattle.fints_cli_words.specs.declared.requests.Command.{Command}
-use Rattle.fints_cli_words.specs.declared.requests.Command.TheVariants.{BuiltIn, Show, ShowMessage, Judge, JudgeAfter, Audit, AuditOwn, Draft, DraftCase, Check, Explain, Certify, Verify, Draw, DrawFound}
+use Rattle.fints_cli_words.specs.declared.requests.Command.TheVariants.{BuiltIn, Show, ShowMessage, Judge, JudgeAfter, Audit, AuditOwn, Record, Draft, DraftCase, Check, Explain, Certify, Verify, Draw, DrawFound}
 use Rattle.fints_cli_words.specs.declared.requests.Command.TheVariants as commands
 use Rattle.fints_cli_words.specs.declared.requests.Paths.{Paths}
 use Rattle.fints_cli_words.specs.declared.requests.Request.{Request}
@@ -19,7 +19,10 @@ use Rattle.fints_cli_texts.specs.Judge.{IsVerdictOf, IsMessageRefusal, IsJudgeRe
 use Rattle.fints_cli_texts.specs.JudgeAfter.{IsJudgeAfterRefusal, IsVerdictAfter}
 use Rattle.fints_cli_texts.specs.Audit.{IsAuditOf, IsOwnAuditOf, IsAuditRefusal, IsOwnAuditRefusal}
 use Rattle.fints_cli_drawings.specs.Drawn.{no_orders, IsDrawnOf, IsPictureOf}
-use Rattle.fints_cli_drafts.specs.Drafts.{IsDraftOf, IsDraftRefusal}
+use Rattle.fints_rules_logs.specs.Kept.{IsLog, LogValue}
+use Rattle.fints_cli_commands.specs.Notes.{secrets_note, HasDraft, IsDrafted}
+use Rattle.fints_cli_records.specs.Record.{log_note, record_note, IsRecordOf, IsRecordRefusal}
+use Rattle.fints_cli_drafts.specs.Drafts.{IsDraftRefusal}
 use Rattle.fints_cli_drafts.specs.declared.drafting.Drafted.{Drafted}
 use Rattle.fints_cli_drafts.specs.declared.drafting.Drafted.TheVariants as drafts
 use Rattle.fints_cli_scripts.specs.Plans.{IsPlanRefusal}
@@ -29,16 +32,17 @@ use Rattle.fints_cli_scripts.specs.declared.telling.Wanted.TheVariants.{Report, 
 use Rattle.fints_cli_scripts.specs.RunText.{IsRunOf, IsRunRefusal}
 use Rattle.fints_cli_scripts.specs.Verified.{IsUnverified, IsVerifiedOf}
 
--- 2 for a message that a run doesn't reach or a finding that isn't there, 3 for a refused input,
--- 4 for want of memory, 5 for a file that couldn't be read
+-- 2 for a message that a run doesn't reach, a finding or a dialogue that isn't there, 3 for a refused input,
+-- 4 where memory ran out, 5 for a file that couldn't be read
 abbrev pub failure_status : Failure → ℕ
 failure_status (Input Memory) = 4
 failure_status (Input (NoMessage number)) = 2
 failure_status (Input (NoFinding number)) = 2
+failure_status (Input (NoPart number)) = 2
 failure_status (Input _) = 3
 failure_status (Unread input) = 5
 
--- a hint stands only where it is asked for
+-- there is a hint only where it is asked for
 abbrev pub HintsIfAsked : Bool → Refusal → Type 0
 HintsIfAsked asked refusal = asked ≡ false → refusal.hint ≡ None
 
@@ -64,6 +68,10 @@ OfMessage holds paths P =
 abbrev pub OfDialogue : Held → Paths → (List ℕ → List ℕ → List ℕ → Type 0) → Type 0
 OfDialogue holds paths P =
     IfAll (bytes_at holds paths.params) (bytes_at holds paths.orders) (bytes_at holds paths.dialogue) P
+
+-- this holds of the recorded dialogue
+abbrev pub OfRecording : Held → Paths → (List ℕ → Type 0) → Type 0
+OfRecording holds paths P = IfSome (bytes_at holds paths.dialogue) P
 
 -- this holds of the order table and the recorded dialogue
 abbrev pub OfOwnDialogue : Held → Paths → (List ℕ → List ℕ → Type 0) → Type 0
@@ -97,10 +105,12 @@ AnswersBy Audit paths number holds status text =
     OfDialogue holds paths (λ capture table dialogue. IsAuditOf capture table dialogue status text)
 AnswersBy AuditOwn paths number holds status text =
     OfOwnDialogue holds paths (λ table dialogue. IsOwnAuditOf table dialogue status text)
+AnswersBy Record paths number holds status text =
+    (status ≡ 0) × IfSome (bytes_at holds paths.dialogue) (λ dialogue. IsRecordOf dialogue text)
 AnswersBy Draft paths number holds status text =
-    (status ≡ 0) × IfSome (bytes_at holds paths.dialogue) (λ dialogue. IsDraftOf drafts.Script dialogue text)
+    (status ≡ 0) × OfRecording holds paths (λ dialogue. IsDrafted drafts.Script number dialogue text)
 AnswersBy DraftCase paths number holds status text =
-    (status ≡ 0) × IfSome (bytes_at holds paths.dialogue) (λ dialogue. IsDraftOf drafts.Case dialogue text)
+    (status ≡ 0) × OfRecording holds paths (λ dialogue. IsDrafted drafts.Case number dialogue text)
 AnswersBy Check paths number holds status text =
     OfScript holds paths (λ capture table script. IsToldOf Report capture table script status text)
 AnswersBy Explain paths number holds status text =
@@ -140,10 +150,12 @@ RefusesBy Audit paths number holds fault =
     OfDialogue holds paths (λ capture table dialogue. IsAuditRefusal capture table dialogue fault)
 RefusesBy AuditOwn paths number holds fault =
     OfOwnDialogue holds paths (λ table dialogue. IsOwnAuditRefusal table dialogue fault)
+RefusesBy Record paths number holds fault =
+    IfSome (bytes_at holds paths.dialogue) (λ dialogue. IsRecordRefusal dialogue fault)
 RefusesBy Draft paths number holds fault =
-    OfOwnDialogue holds paths (λ table dialogue. IsDraftRefusal table dialogue fault)
+    OfOwnDialogue holds paths (λ table dialogue. IsDraftRefusal table number dialogue fault)
 RefusesBy DraftCase paths number holds fault =
-    OfOwnDialogue holds paths (λ table dialogue. IsDraftRefusal table dialogue fault)
+    OfOwnDialogue holds paths (λ table dialogue. IsDraftRefusal table number dialogue fault)
 RefusesBy Check paths number holds fault =
     OfScript holds paths (λ capture table script. IsTellRefusal Report capture table script fault)
 RefusesBy Explain paths number holds fault =
@@ -174,3 +186,27 @@ HasFiles _ = Unit {0}
 abbrev pub FailsFor : Request → Held → Failure → Type 0
 FailsFor request holds (Input fault) = RefusesRequest request holds fault
 FailsFor request holds (Unread input) = HasFiles request.command
+
+-- this note is of the log in the recording, where its bytes are told
+abbrev pub OfLog : Held → Paths → (LogValue → List ℕ) → List ℕ → Type 0
+OfLog holds paths note_on note =
+    (log : LogValue) × OfRecording holds paths (λ dialogue. IsLog dialogue log)
+    × (note ≡ note_on log)
+
+-- it is said beside a draft: what the recording passes over, and that a case holds a secret where it does
+abbrev pub OfDraft : Held → Paths → Bool → Drafted → Option ℕ → List ℕ → Type 0
+OfDraft holds paths hints drafted number note =
+    (secret : Bool) × OfLog holds paths (λ log. log_note hints log ++ secrets_note drafted secret) note
+    × OfRecording holds paths (λ dialogue. HasDraft drafted number dialogue secret)
+
+-- what is said beside the answer of a command, whether hints are wanted or not
+abbrev pub IsNoteBy : Command → Paths → Option ℕ → Bool → Held → List ℕ → Type 0
+IsNoteBy Audit paths number hints holds note = OfLog holds paths (log_note hints) note
+IsNoteBy AuditOwn paths number hints holds note = OfLog holds paths (log_note hints) note
+IsNoteBy Record paths number hints holds note = OfLog holds paths record_note note
+IsNoteBy Draft paths number hints holds note = OfDraft holds paths hints drafts.Script number note
+IsNoteBy DraftCase paths number hints holds note = OfDraft holds paths hints drafts.Case number note
+IsNoteBy _ paths number hints holds note = note ≡ []
+
+abbrev pub IsNoteOf : Request → Held → List ℕ → Type 0
+IsNoteOf request holds note = IsNoteBy request.command request.paths request.number request.hints holds note

@@ -1,9 +1,12 @@
 //! What each command answers with reasons, of what was loaded of its files.
-ghost use Rattle.std.specs.Prelude.{◌≡◌, ◌≤◌, ℕ, List, IfOk, IfErr};
+ghost use Rattle.std.specs.Prelude.{◌≡◌, ◌≤◌, ◌++◌, ℕ, List, [], IfOk, IfErr, string_bytes};
 ghost use Rattle.fints_params.specs.Captures.{IsReadOf, IsBothReadOf};
-ghost use Rattle.fints_cli_drafts.specs.Drafts.{IsDraftOf, IsDraftRefusal};
+ghost use Rattle.fints_cli_commands.specs.Notes.{secrets_note, IsDraftWithNote, IsNoteOfLog};
+ghost use Rattle.fints_cli_drafts.specs.Drafts.{IsDraftRefusal};
 ghost use Rattle.fints_cli_drawings.specs.Drawn.{no_orders, IsDrawnOf, IsPictureOf};
-ghost use Rattle.fints_cli_texts.specs.Audit.{IsAuditOf, IsAuditRefusal, IsOwnAuditOf, IsOwnAuditRefusal};
+ghost use Rattle.fints_cli_texts.specs.Audit.{IsAuditOf, IsAuditRefusal, IsLogReadOf, IsOwnAuditOf, IsOwnAuditRefusal};
+ghost use Rattle.fints_cli_texts.specs.declared.fault.Fault.TheVariants as faults;
+ghost use Rattle.fints_cli_records.specs.Record.{IsLogNote, IsRecordNote, IsRecordOf, IsRecordRefusal};
 ghost use Rattle.fints_cli_scripts.specs.Plans.{IsPlanRefusal};
 ghost use Rattle.fints_cli_scripts.specs.RunText.{IsRunOf, IsRunRefusal};
 ghost use Rattle.fints_cli_scripts.specs.Told.{IsRefused, IsTellRefusal, IsToldOf};
@@ -15,35 +18,78 @@ ghost use Rattle.fints_cli_texts.specs.ShowMessage.{IsShownMessage};
 
 use crate::failing::Refused;
 use crate::loading::Contents;
-use fints_cli_drafts::{Drafted, draft_read};
+use fints_cli_drafts::{DraftText, Drafted, draft_read};
 use fints_cli_drawings::{draw_read, draw_script};
 use fints_cli_hints_dialogues::{AuditReasons, Source};
 use fints_cli_hints_reasons::JudgeReasons;
 use fints_cli_hints_segments::{UnreadHint, skipped_notes};
 use fints_cli_hints_verdicts::{ReportReasons, VerifyReason};
+use fints_cli_records::{Record, log_note, record_read};
 use fints_cli_scripts::{Wanted, run_case, tell_read, verify_read};
 use fints_cli_texts::{
-    Reply, audit_own, audit_read, judge_after_read, judge_read, show_message_with, show_read,
+    Fault, Reply, audit_own, audit_read, judge_after_read, judge_read, show_message_with, show_read,
 };
 use fints_params::{ParamFault, Params};
-use std::alloc::Global;
+use fints_rules_dialogues::{DialogueFault, Log, read_log};
+use std::alloc::{AllocError, Global};
 
-/// The answer of a command, and what is printed beside it where hints are wanted: the reasons of what is
-/// broken, the notes on a script or a dialogue, and those on what is skipped of a capture, a line each.
+/// The answer of a command, and what is printed beside it: the note, whether hints are wanted or not; and where they
+/// are, the reasons of what is broken, the notes on a script or a dialogue, and those on what is skipped of a
+/// capture, a line each.
 #[derive(Drop)]
 pub struct Answered {
     pub reply: Reply,
+    pub note: String,
     pub reasons: Option<String>,
 }
 
-// An answer with status 0 and without reasons.
-fn text_only(text: Vec<u8>) -> Answered
+// An answer with status 0 and with nothing beside it.
+fn text_only(alloc: Global, text: Vec<u8>) -> Answered
     ensures status { result.reply.status ≡ 0 }
     ensures text { result.reply.text ≡ text }
+    ensures note { string_bytes result.note ≡ [] }
 {
     Answered {
         reply: Reply { status: 0, text },
+        note: String::new(alloc),
         reasons: None,
+    }
+}
+
+// What is read of the recorded dialogue.
+fn log_of(alloc: Global, contents: &Contents) -> Result<Log<'_>, DialogueFault>
+    ensures { IsLogReadOf contents.now.dialogue.items result }
+{
+    read_log(alloc, contents.dialogue.as_slice())
+}
+
+// That a case holds a secret.
+#[tactic(auto, unfolding(crate::specs::Notes::secrets_line))]
+fn secrets_note(drafted: Drafted, has_secret: bool) -> &'static str
+    ensures { result.now ≡ secrets_note drafted has_secret }
+{
+    match drafted {
+        Drafted::Case if has_secret =>
+            "note: this case holds the PIN and the TANs of the dialogue\n",
+        _ => "",
+    }
+}
+
+// What is said of the log in a recording beside an answer; nothing of what is no log.
+fn note_of(
+    alloc: Global,
+    log: &Result<Log<'_>, DialogueFault>,
+    hints: bool,
+) -> Result<String, Fault>
+    ensures note { IfOk result (λ note. IsNoteOfLog hints log.now (string_bytes note)) }
+    ensures refused { IfErr result (λ fault. fault ≡ faults.Memory) }
+{
+    match log {
+        Ok(log) => match log_note(alloc, log, hints) {
+            Ok(note) => Ok(note),
+            Err(AllocError) => Err(Fault::Memory),
+        },
+        Err(_) => Ok(String::new(alloc)),
     }
 }
 
@@ -52,6 +98,7 @@ pub fn answer_show(alloc: Global, contents: &Contents, hints: bool) -> Result<An
     ensures status { IfOk result (λ it. it.reply.status ≡ 0) }
     ensures shown { IfOk result (λ it. (capture : List ℕ) → IsBothReadOf capture contents.now.shown.told
         → IsShowOf capture it.reply.text.items) }
+    ensures note { IfOk result (λ it. string_bytes it.note ≡ []) }
     ensures refused { IfErr result (λ r. (capture : List ℕ) → IsBothReadOf capture contents.now.shown.told
         → IsMemoryOrShowFault capture r.fault) }
 {
@@ -63,6 +110,7 @@ pub fn answer_show(alloc: Global, contents: &Contents, hints: bool) -> Result<An
     };
     Ok(Answered {
         reply: Reply { status: 0, text },
+        note: String::new(alloc),
         reasons,
     })
 }
@@ -78,6 +126,7 @@ pub fn answer_judge(
     ensures judged { IfOk result (λ it. (capture : List ℕ) → IsReadOf capture params
         → IsVerdictOf capture contents.now.orders.items contents.now.message.items
         it.reply.status it.reply.text.items) }
+    ensures note { IfOk result (λ it. string_bytes it.note ≡ []) }
     ensures refused { IfErr result (λ r. (capture : List ℕ) → IsReadOf capture params
         → IsJudgeRefusal capture contents.now.orders.items contents.now.message.items r.fault) }
 {
@@ -96,6 +145,7 @@ pub fn answer_judge(
     ) {
         Ok(reply) => Ok(Answered {
             reply,
+            note: String::new(alloc),
             reasons: reasons.into_text(),
         }),
         Err(fault) => Err(Refused {
@@ -116,6 +166,7 @@ pub fn answer_judge_after(
     ensures judged { IfOk result (λ it. (capture : List ℕ) → IsReadOf capture params
         → IsVerdictAfter capture contents.now.orders.items contents.now.before.items
         contents.now.answer.items contents.now.message.items it.reply.status it.reply.text.items) }
+    ensures note { IfOk result (λ it. string_bytes it.note ≡ []) }
     ensures refused { IfErr result (λ r. (capture : List ℕ) → IsReadOf capture params
         → IsJudgeAfterRefusal capture contents.now.orders.items contents.now.before.items
         contents.now.answer.items contents.now.message.items r.fault) }
@@ -132,6 +183,7 @@ pub fn answer_judge_after(
     ) {
         Ok(reply) => Ok(Answered {
             reply,
+            note: String::new(alloc),
             reasons: reasons.into_text(),
         }),
         Err(fault) => Err(Refused {
@@ -152,25 +204,23 @@ pub fn answer_audit(
     ensures audited { IfOk result (λ it. (capture : List ℕ) → IsReadOf capture params
         → IsAuditOf capture contents.now.orders.items contents.now.dialogue.items
         it.reply.status it.reply.text.items) }
+    ensures note { IfOk result (λ it. IsLogNote hints contents.now.dialogue.items (string_bytes it.note)) }
     ensures refused { IfErr result (λ r. (capture : List ℕ) → IsReadOf capture params
         → IsAuditRefusal capture contents.now.orders.items contents.now.dialogue.items r.fault) }
 {
-    let Contents {
-        orders,
-        dialogue,
-        ..
-    } = contents;
+    let log = log_of(alloc, contents);
     let source = Source::Capture(contents.capture.as_slice());
     let mut reasons = AuditReasons::new(alloc, hints, source);
     match audit_read(
         alloc,
         params,
-        orders.as_slice(),
-        dialogue.as_slice(),
+        contents.orders.as_slice(),
+        &log,
         &mut reasons,
     ) {
         Ok(reply) => Ok(Answered {
             reply,
+            note: note_of(alloc, &log, hints)?,
             reasons: reasons.into_text(),
         }),
         Err(fault) => Err(Refused {
@@ -189,19 +239,16 @@ pub fn answer_audit_own(
     ensures status { IfOk result (λ it. it.reply.status ≤ 1) }
     ensures audited { IfOk result (λ it. IsOwnAuditOf contents.now.orders.items contents.now.dialogue.items
         it.reply.status it.reply.text.items) }
+    ensures note { IfOk result (λ it. IsLogNote hints contents.now.dialogue.items (string_bytes it.note)) }
     ensures refused { IfErr result (λ r.
         IsOwnAuditRefusal contents.now.orders.items contents.now.dialogue.items r.fault) }
 {
-    let Contents {
-        orders,
-        dialogue,
-        ..
-    } = contents;
-    let source = Source::Answers;
-    let mut reasons = AuditReasons::new(alloc, hints, source);
-    match audit_own(alloc, orders.as_slice(), dialogue.as_slice(), &mut reasons) {
+    let log = log_of(alloc, contents);
+    let mut reasons = AuditReasons::new(alloc, hints, Source::Answers);
+    match audit_own(alloc, contents.orders.as_slice(), &log, &mut reasons) {
         Ok(reply) => Ok(Answered {
             reply,
+            note: note_of(alloc, &log, hints)?,
             reasons: reasons.into_text(),
         }),
         Err(fault) => Err(Refused {
@@ -223,6 +270,7 @@ pub fn answer_check(
     ensures told { IfOk result (λ it. (capture : List ℕ) → IsReadOf capture params
         → IsToldOf wanted capture contents.now.orders.items contents.now.script.items
         it.reply.status it.reply.text.items) }
+    ensures note { IfOk result (λ it. string_bytes it.note ≡ []) }
     ensures refused { IfErr result (λ r. (capture : List ℕ) → IsReadOf capture params
         → IsTellRefusal wanted capture contents.now.orders.items contents.now.script.items r.fault) }
 {
@@ -238,6 +286,7 @@ pub fn answer_check(
     )?;
     Ok(Answered {
         reply,
+        note: String::new(alloc),
         reasons: reasons.into_text(),
     })
 }
@@ -253,6 +302,7 @@ pub fn answer_draw(
     ensures drawn { IfOk result (λ it. (capture : List ℕ) → IsReadOf capture params
         → IsDrawnOf capture contents.now.orders.items contents.now.script.items
         it.reply.status it.reply.text.items) }
+    ensures note { IfOk result (λ it. string_bytes it.note ≡ []) }
     ensures refused { IfErr result (λ r. (capture : List ℕ) → IsReadOf capture params
         → IsRefused capture contents.now.orders.items contents.now.script.items r.fault) }
 {
@@ -267,6 +317,7 @@ pub fn answer_draw(
     )?;
     Ok(Answered {
         reply,
+        note: String::new(alloc),
         reasons: reasons.into_text(),
     })
 }
@@ -282,6 +333,7 @@ pub fn answer_verify(
     ensures told { IfOk result (λ it. (capture : List ℕ) → IsReadOf capture params
         → IsVerifiedOf capture contents.now.orders.items contents.now.script.items
         contents.now.certificate.items it.reply.status it.reply.text.items) }
+    ensures note { IfOk result (λ it. string_bytes it.note ≡ []) }
     ensures refused { IfErr result (λ r. (capture : List ℕ) → IsReadOf capture params
         → IsUnverified capture contents.now.orders.items contents.now.script.items
         contents.now.certificate.items r.fault) }
@@ -297,6 +349,7 @@ pub fn answer_verify(
     )?;
     Ok(Answered {
         reply,
+        note: String::new(alloc),
         reasons: reason.into_text(),
     })
 }
@@ -309,11 +362,12 @@ pub fn answer_show_message(
 ) -> Result<Answered, Refused>
     ensures status { IfOk result (λ it. it.reply.status ≡ 0) }
     ensures shown { IfOk result (λ it. IsShownMessage contents.now.message.items it.reply.text.items) }
+    ensures note { IfOk result (λ it. string_bytes it.note ≡ []) }
     ensures refused { IfErr result (λ r. IsMessageRefusal contents.now.message.items r.fault) }
 {
     let mut hint = UnreadHint::new(alloc, hints);
     match show_message_with(alloc, contents.message.as_slice(), &mut hint) {
-        Ok(text) => Ok(text_only(text)),
+        Ok(text) => Ok(text_only(alloc, text)),
         Err(fault) => Err(Refused {
             fault,
             unread: hint.into_text(),
@@ -321,33 +375,68 @@ pub fn answer_show_message(
     }
 }
 
-/// What is drafted of a dialogue.
+/// The messages that are in a file, and beside them how many they are, and what is passed over.
+pub fn answer_record(alloc: Global, contents: &Contents) -> Result<Answered, Refused>
+    ensures status { IfOk result (λ it. it.reply.status ≡ 0) }
+    ensures recorded { IfOk result (λ it. IsRecordOf contents.now.dialogue.items it.reply.text.items) }
+    ensures note { IfOk result (λ it. IsRecordNote contents.now.dialogue.items (string_bytes it.note)) }
+    ensures refused { IfErr result (λ r. IsRecordRefusal contents.now.dialogue.items r.fault) }
+{
+    let log = log_of(alloc, contents);
+    let Record { text, note } = record_read(alloc, &log)?;
+    Ok(Answered {
+        reply: Reply { status: 0, text },
+        note,
+        reasons: None,
+    })
+}
+
+// What is said beside a text of a draft: of the log, and that the case holds a secret.
+fn draft_note(
+    alloc: Global,
+    log: &Result<Log<'_>, DialogueFault>,
+    hints: bool,
+    drafted: Drafted,
+    has_secret: bool,
+) -> Result<String, Fault>
+    ensures note { IfOk result (λ note. (of_log : List ℕ) × IsNoteOfLog hints log.now of_log
+        × (string_bytes note ≡ of_log ++ secrets_note drafted has_secret)) }
+    ensures refused { IfErr result (λ fault. fault ≡ faults.Memory) }
+{
+    let mut note = note_of(alloc, log, hints)?;
+    note.push_str(secrets_note(drafted, has_secret))?;
+    Ok(note)
+}
+
+/// What is drafted of a dialogue: that of the number in the recording, or of the whole recording.
 pub fn answer_draft(
     alloc: Global,
     contents: &Contents,
+    number: Option<u32>,
     drafted: Drafted,
     hints: bool,
 ) -> Result<Answered, Refused>
     ensures status { IfOk result (λ it. it.reply.status ≡ 0) }
-    ensures drafted { IfOk result (λ it.
-        IsDraftOf drafted contents.now.dialogue.items it.reply.text.items) }
+    ensures drafted { IfOk result (λ it. IsDraftWithNote hints drafted number contents.now.dialogue.items
+        it.reply.text.items (string_bytes it.note)) }
     ensures refused { IfErr result (λ r.
-        IsDraftRefusal contents.now.orders.items contents.now.dialogue.items r.fault) }
+        IsDraftRefusal contents.now.orders.items number contents.now.dialogue.items r.fault) }
 {
-    let Contents {
-        orders,
-        dialogue,
-        ..
-    } = contents;
+    let log = log_of(alloc, contents);
     let mut hint = UnreadHint::new(alloc, hints);
     match draft_read(
         alloc,
-        orders.as_slice(),
-        dialogue.as_slice(),
+        contents.orders.as_slice(),
+        &log,
+        number,
         drafted,
         &mut hint,
     ) {
-        Ok(text) => Ok(text_only(text)),
+        Ok(DraftText { text, has_secret }) => Ok(Answered {
+            reply: Reply { status: 0, text },
+            note: draft_note(alloc, &log, hints, drafted, has_secret)?,
+            reasons: None,
+        }),
         Err(fault) => Err(Refused {
             fault,
             unread: hint.into_text(),
@@ -364,6 +453,7 @@ pub fn answer_run(
     ensures status { IfOk result (λ it. it.reply.status ≡ 0) }
     ensures run { IfOk result (λ it. IsRunOf contents.now.orders.items contents.now.script.items
         contents.now.case.items message it.reply.text.items) }
+    ensures note { IfOk result (λ it. string_bytes it.note ≡ []) }
     ensures refused { IfErr result (λ r. IsRunRefusal contents.now.orders.items
         contents.now.script.items contents.now.case.items message r.fault) }
 {
@@ -380,15 +470,16 @@ pub fn answer_run(
         case.as_slice(),
         message,
     )?;
-    Ok(text_only(text))
+    Ok(text_only(alloc, text))
 }
 
 /// The picture of a script.
 pub fn answer_draw_script(alloc: Global, contents: &Contents) -> Result<Answered, Refused>
     ensures status { IfOk result (λ it. it.reply.status ≡ 0) }
     ensures drawn { IfOk result (λ it. IsPictureOf contents.now.script.items it.reply.text.items) }
+    ensures note { IfOk result (λ it. string_bytes it.note ≡ []) }
     ensures refused { IfErr result (λ r. IsPlanRefusal no_orders contents.now.script.items r.fault) }
 {
     let text = draw_script(alloc, contents.script.as_slice())?;
-    Ok(text_only(text))
+    Ok(text_only(alloc, text))
 }

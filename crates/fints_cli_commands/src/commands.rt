@@ -1,5 +1,5 @@
 //! The commands: what each answers, of the files that it names.
-ghost use Rattle.std.specs.Prelude.{◌≡◌, ◌≤◌, ◌+◌, ◌*◌, false, None, IfOk, IfErr};
+ghost use Rattle.std.specs.Prelude.{◌≡◌, ◌≤◌, ◌+◌, ◌*◌, false, None, IfOk, IfErr, string_bytes};
 ghost use Rattle.fints_cli_commands.specs.BuiltIn as texts;
 ghost use Rattle.fints_cli_scripts.specs.Told.{IsToldOf, IsTellRefusal};
 ghost use Rattle.fints_cli_scripts.specs.declared.telling.Wanted.TheVariants as wants;
@@ -7,11 +7,11 @@ ghost use Rattle.fints_cli_commands.specs.Loading.{files_of, paths_of as paths_r
 ghost use Rattle.fints_cli_commands.specs.Loading.{AreWithin, FollowsReading, Held};
 ghost use Rattle.fints_cli_commands.specs.Loaded.{IsLoaded};
 ghost use Rattle.fints_cli_files.specs.Loading.{MAX_READS, NoneFailed};
-ghost use Rattle.fints_cli_commands.specs.Commands.{cases_wanted, failure_status, AnswersTo, FailsFor, HintsIfAsked, RefusesRequest};
+ghost use Rattle.fints_cli_commands.specs.Commands.{cases_wanted, failure_status, AnswersTo, FailsFor, HintsIfAsked, IsNoteOf, RefusesRequest};
 
 use crate::answering::{
     Answered, answer_audit, answer_audit_own, answer_check, answer_draft, answer_draw,
-    answer_draw_script, answer_judge, answer_judge_after, answer_run, answer_show,
+    answer_draw_script, answer_judge, answer_judge_after, answer_record, answer_run, answer_show,
     answer_show_message, answer_verify,
 };
 use crate::built_in;
@@ -63,6 +63,9 @@ fn answer(
     ensures answers { IfOk result (λ it.
         (holds : Held) → IsLoaded (paths_read request.now) holds params contents.now
         → AnswersTo request.now holds it.reply.status it.reply.text.items) }
+    ensures note { IfOk result (λ it.
+        (holds : Held) → IsLoaded (paths_read request.now) holds params contents.now
+        → IsNoteOf request.now holds (string_bytes it.note)) }
     ensures refused { IfErr result (λ r.
         (holds : Held) → IsLoaded (paths_read request.now) holds params contents.now
         → RefusesRequest request.now holds r.fault) }
@@ -73,6 +76,7 @@ fn answer(
             let reply = tell_built_in(alloc)?;
             Ok(Answered {
                 reply,
+                note: String::new(alloc),
                 reasons: None,
             })
         }
@@ -82,8 +86,9 @@ fn answer(
         Command::JudgeAfter => answer_judge_after(alloc, params, contents, hints),
         Command::Audit => answer_audit(alloc, params, contents, hints),
         Command::AuditOwn => answer_audit_own(alloc, contents, hints),
-        Command::Draft => answer_draft(alloc, contents, Drafted::Script, hints),
-        Command::DraftCase => answer_draft(alloc, contents, Drafted::Case, hints),
+        Command::Record => answer_record(alloc, contents),
+        Command::Draft => answer_draft(alloc, contents, request.number, Drafted::Script, hints),
+        Command::DraftCase => answer_draft(alloc, contents, request.number, Drafted::Case, hints),
         Command::Check => answer_check(alloc, params, contents, Wanted::Report, hints),
         Command::Explain => {
             answer_check(alloc, params, contents, cases_wanted(request.number), hints)
@@ -106,6 +111,7 @@ pub fn perform<F: Files>(
     ensures status { IfOk result (λ it. it.reply.status ≤ 1) }
     ensures answers { IfOk result (λ it.
         AnswersTo request.now (F.holds files.old) it.reply.status it.reply.text.items) }
+    ensures note { IfOk result (λ it. IsNoteOf request.now (F.holds files.old) (string_bytes it.note)) }
     ensures refused { IfErr result (λ r. FailsFor request.now (F.holds files.old) r.failure) }
     ensures read { IfOk result (λ _. NoneFailed (F.reads files.old) (F.reads files.new)) }
     ensures within { IfOk result (λ _. AreWithin (files_of request.now) (F.holds files.old)) }
@@ -122,9 +128,19 @@ pub fn perform<F: Files>(
     let paths = paths_of(request);
     let Loaded { params, contents } = load_all(alloc, files, &paths, request.hints)?;
     match answer(alloc, request, params, &contents) {
-        Ok(Answered { reply, reasons }) => {
+        Ok(
+            Answered {
+                reply,
+                note,
+                reasons,
+            },
+        ) => {
             let reasons = if request.hints { reasons } else { None };
-            Ok(Answered { reply, reasons })
+            Ok(Answered {
+                reply,
+                note,
+                reasons,
+            })
         }
         Err(Refused { fault, unread }) => {
             let inputs = contents.inputs(unread.as_ref().map(|text| text.as_str()));

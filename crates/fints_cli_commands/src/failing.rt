@@ -26,9 +26,9 @@ pub enum Failure {
 }
 
 impl Failure {
-    /// The status of a command that ends so: 2 for a message that a run doesn't reach or a finding
-    /// that isn't there, 3 for a refused input, 4 where memory ran out, and 5 for a file that couldn't
-    /// be read.
+    /// The status of a command that ends so: 2 for a message that a run doesn't reach, a finding or a
+    /// dialogue that isn't there, 3 for a refused input, 4 where memory ran out, and 5 for a file that
+    /// couldn't be read.
     pub fn status(&self) -> u8
         ensures { result ≡ failure_status self.now }
     {
@@ -36,6 +36,7 @@ impl Failure {
             Failure::Input(Fault::Memory) => 4,
             Failure::Input(Fault::NoMessage { .. }) => 2,
             Failure::Input(Fault::NoFinding { .. }) => 2,
+            Failure::Input(Fault::NoPart { .. }) => 2,
             Failure::Input(_) => 3,
             Failure::Unread(_) => 5,
         }

@@ -19,6 +19,7 @@ use Rattle.fints_rules_permissions.specs.Orders.{DenotesTable}
 use Rattle.fints_rules_dialogues.specs.declared.reading.Answer.{Answer}
 use Rattle.fints_rules_dialogues.specs.declared.reading.Exchange.{Exchange}
 use Rattle.fints_rules_dialogues.specs.Dialogues.{IsDialogue, IsDialogueFault}
+use Rattle.fints_rules_dialogues.specs.Parts.{IsPart, LacksDialogue}
 use Rattle.fints_script_fields.specs.declared.alphabet.Alphabet.{Alphabet}
 use Rattle.fints_script_fields.specs.declared.alphabet.Alphabet.TheVariants as alphabets
 use Rattle.fints_script_fields.specs.declared.counted.Text.{Text}
@@ -37,7 +38,7 @@ use Rattle.fints_wire.specs.Runs.{Run}
 use Rattle.fints_wire.specs.declared.dialogue.Sent.{Sent}
 use Rattle.fints_cli_texts.specs.Judge.{IsTableRefusal}
 use Rattle.fints_cli_texts.specs.declared.fault.Fault.{Fault}
-use Rattle.fints_cli_texts.specs.declared.fault.Fault.TheVariants.{Memory, Orders, Dialogue, NotDraftable}
+use Rattle.fints_cli_texts.specs.declared.fault.Fault.TheVariants.{Memory, Orders, Dialogue, NoPart, NotDraftable}
 use Rattle.fints_cli_drafts.specs.declared.drafting.Drafted.{Drafted}
 use Rattle.fints_cli_drafts.specs.declared.drafting.Drafted.TheVariants.{Script, Case}
 
@@ -221,29 +222,54 @@ pub record KeepsSecrets (script : ScriptValue) : Type 0 where
   pub signers : All HasBlankPin script.signers
   pub steps : All (λ step. All HasBlankNewPin step.templates) script.steps
 
+-- a field with the bounds of a secret
+abbrev pub is_secret_field : NamedField → Bool
+is_secret_field f =
+    elim f.class [
+      | classes.Text c ↦ c.max == 99
+      | classes.Bin c ↦ true
+      | classes.OneOf c ↦ false
+      | classes.Account c ↦ false
+    ]
+
+-- a case of the script holds a PIN, a TAN or a new PIN
+abbrev pub has_secret : ScriptValue → Bool
+has_secret script = list_any is_secret_field script.fields
+
 -- ---- drafts
 
--- the texts of a script and of a case that replay the exchanges; the script has no secret
-pub record IsDraft (exchanges : List Exchange) (script_text case_text : List ℕ) : Type 0 where
+-- the texts of a script and of a case that replay the exchanges; the script has no secret; and whether the case has
+-- one
+pub record IsDraft (exchanges : List Exchange) (script_text case_text : List ℕ) (secret : Bool) : Type 0 where
   pub script : ScriptValue
   pub values : List NamedValue
   pub denotes : Denotes script_text script
   pub case : IsCaseOf case_text values (answers_of exchanges)
   pub replays : Replays exchanges script values
   pub secrets : KeepsSecrets script
+  pub secret_is : secret ≡ has_secret script
 
 abbrev pub drafted_text : Drafted → List ℕ → List ℕ → List ℕ
 drafted_text Script script case = script
 drafted_text Case script case = case
 
--- the text is the wanted one of a draft of the dialogue
-pub record IsDraftOf (drafted : Drafted) (dialogue text : List ℕ) : Type 0 where
-  pub exchanges : List Exchange
+-- the text is the wanted one of a draft of the dialogue of a number among the exchanges, or of all of them; and
+-- whether the case of the draft has a secret
+pub record IsPartDraft (drafted : Drafted) (number : Option ℕ) (exchanges : List Exchange) (text : List ℕ)
+    (secret : Bool)
+    : Type 0 where
+  pub own : List Exchange
   pub script : List ℕ
   pub case : List ℕ
-  pub dialogue_is : IsDialogue dialogue exchanges
-  pub draft : IsDraft exchanges script case
+  pub part : IsPart exchanges number own
+  pub draft : IsDraft own script case secret
   pub text_is : text ≡ drafted_text drafted script case
+
+-- the same of a recording
+abbrev pub IsDraftOf : Drafted → Option ℕ → List ℕ → List ℕ → Bool → Type 0
+IsDraftOf drafted number dialogue text secret =
+    (exchanges : List Exchange) × IsDialogue dialogue exchanges
+    × IsPartDraft drafted number exchanges text secret
 
 abbrev pub has_number : ℕ → OwnedSegment → Bool
 has_number number s = s.head.number == number
@@ -261,20 +287,28 @@ IsPlaceIn exchanges message segment =
     ⊎ ((e : Exchange) × (numbered exchanges message ≡ Some e)
     × ((segment ≡ 0) ⊎ HasSegment e.message segment))
 
--- why exchanges have no draft: what no draft sends is there, or memory ran out
-abbrev pub IsUndrafted : List Exchange → Fault → Type 0
-IsUndrafted exchanges Memory = Unit {0}
-IsUndrafted exchanges (NotDraftable message segment) = IsPlaceIn exchanges message segment
-IsUndrafted exchanges _ = ⊥
+-- why exchanges have no draft: there is no dialogue of the number, what no draft sends is there, or memory ran out
+abbrev pub IsUndrafted : List Exchange → Option ℕ → Fault → Type 0
+IsUndrafted exchanges number Memory = Unit {0}
+IsUndrafted exchanges number (NoPart n) = (number ≡ Some n) × LacksDialogue exchanges n
+IsUndrafted exchanges number (NotDraftable message segment) = IsPlaceIn exchanges message segment
+IsUndrafted exchanges number _ = ⊥
+
+-- a text is a good order table
+abbrev pub IsTable : List ℕ → Type 0
+IsTable orders = (table : List OrderRow) × DenotesTable orders table
 
 -- why there is no draft of a dialogue, with the text of an order table: the first refusal, of the order table or of the
--- dialogue; or that no draft was found, or memory ran out
-abbrev pub IsDraftRefusal : List ℕ → List ℕ → Fault → Type 0
-IsDraftRefusal orders dialogue Memory = Unit {0}
-IsDraftRefusal orders dialogue (Orders f) = IsTableRefusal orders f
-IsDraftRefusal orders dialogue (Dialogue f) =
-    ((table : List OrderRow) × DenotesTable orders table) × IsDialogueFault dialogue f
-IsDraftRefusal orders dialogue (NotDraftable message segment) =
-    ((table : List OrderRow) × DenotesTable orders table)
+-- dialogue; or that the recording has no dialogue of the number; or that no draft was found, or memory ran out
+abbrev pub IsDraftRefusal : List ℕ → Option ℕ → List ℕ → Fault → Type 0
+IsDraftRefusal orders number dialogue Memory = Unit {0}
+IsDraftRefusal orders number dialogue (Orders f) = IsTableRefusal orders f
+IsDraftRefusal orders number dialogue (Dialogue f) = IsTable orders × IsDialogueFault dialogue f
+IsDraftRefusal orders number dialogue (NoPart n) =
+    IsTable orders
+    × ((exchanges : List Exchange) × IsDialogue dialogue exchanges × (number ≡ Some n)
+    × LacksDialogue exchanges n)
+IsDraftRefusal orders number dialogue (NotDraftable message segment) =
+    IsTable orders
     × ((exchanges : List Exchange) × IsDialogue dialogue exchanges × IsPlaceIn exchanges message segment)
-IsDraftRefusal orders dialogue _ = ⊥
+IsDraftRefusal orders number dialogue _ = ⊥

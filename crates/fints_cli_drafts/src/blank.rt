@@ -1,8 +1,8 @@
 //! Whether a script keeps PIN and TAN out of its text.
 ghost use Rattle.std.specs.Prelude.{◌≡◌, [], IsTrue, get_or};
 ghost use Rattle.std.specs.Char.{is_ascii_alphanumeric};
-ghost use Rattle.std.specs.List.{All, list_all};
-ghost use Rattle.fints_cli_drafts.specs.Drafts.{HasBlankNewPin, HasBlankPin, IsBlank, IsDraftField, IsLastBlank, IsReference, KeepsSecrets, is_digits, is_draft_text, is_latin};
+ghost use Rattle.std.specs.List.{All, list_all, list_any};
+ghost use Rattle.fints_cli_drafts.specs.Drafts.{HasBlankNewPin, HasBlankPin, IsBlank, IsDraftField, IsLastBlank, IsReference, KeepsSecrets, has_secret, is_digits, is_draft_text, is_latin, is_secret_field};
 
 use fints_script::{Field, NamedField, Script, Signer, Template, TemplateElements, TemplateItem};
 use fints_script_fields::{Alphabet, Text};
@@ -115,6 +115,23 @@ fn is_draft_field(field: &NamedField) -> bool
         Field::Bin(bin) => bin.min == 1 && bin.max == 99,
         _ => false,
     }
+}
+
+fn is_secret_field(field: &NamedField) -> bool
+    ensures { result ≡ is_secret_field field.now }
+{
+    match &field.class {
+        Field::Text(text) => text.max == 99,
+        Field::Bin(_) => true,
+        _ => false,
+    }
+}
+
+/// Whether a case of the script holds a PIN, a TAN or a new PIN.
+pub fn has_secret(script: &Script) -> bool
+    ensures { result ≡ has_secret script.now }
+{
+    script.fields().iter().any(is_secret_field)
 }
 
 /// Whether PIN, TAN and new PIN are values of fields, and the last elements of their segments.

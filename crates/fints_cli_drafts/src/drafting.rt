@@ -1,17 +1,18 @@
 //! Drafts of recorded dialogues, each tried before it is handed out.
-ghost use Rattle.std.specs.Prelude.{◌≡◌, IfErr, IfOk, IsTrue, string_bytes};
+ghost use Rattle.std.specs.Prelude.{◌≡◌, ℕ, List, Option, IfErr, IfOk, IsOk, IsTrue, string_bytes};
+ghost use Rattle.fints_cli_texts.specs.Audit.{IsLogReadOf};
 ghost use Rattle.fints_script.specs.Scripts.{Denotes};
 ghost use Rattle.fints_script_cases.specs.Cases.{IsCaseOf};
-ghost use Rattle.fints_cli_drafts.specs.Drafts.{answers_of, drafted_text, IsDraft, IsDraftOf, IsDraftRefusal, IsUndrafted};
+ghost use Rattle.fints_cli_drafts.specs.Drafts.{answers_of, drafted_text, IsDraft, IsDraftOf, IsDraftRefusal, IsPartDraft, IsUndrafted};
 
-use crate::blank::keeps_secrets;
+use crate::blank::{has_secret, keeps_secrets};
 use crate::place::{Place, Undrafted};
 use crate::replaying::{answers_of, replay};
 use crate::sketching::{Sketch, sketch_of};
 use crate::within::place_within;
-use fints_cli_texts::Fault;
+use fints_cli_texts::{Fault, good_log};
 use fints_rules::OrderTable;
-use fints_rules_dialogues::{Exchange, read_dialogue_with};
+use fints_rules_dialogues::{DialogueFault, Exchange, Log, Part, part_of, read_dialogue_with};
 use fints_rules_messages::UnreadObserver;
 use fints_script::{Answer, Case, CaseFault, FaultKind, Script, Values};
 use std::alloc::Global;
@@ -23,11 +24,19 @@ pub enum Drafted {
     Case,
 }
 
-// A draft: the text of its script, and that of its case.
+/// A text of a draft, and whether the draft's case holds a PIN, a TAN or a new PIN.
+#[derive(Drop)]
+pub struct DraftText {
+    pub text: Vec<u8>,
+    pub has_secret: bool,
+}
+
+// A draft: the text of its script, and that of its case; and whether that holds a secret.
 #[derive(Drop)]
 struct Draft {
     script: Vec<u8>,
     case: Vec<u8>,
+    has_secret: bool,
 }
 
 // The script of a sketch, read back.
@@ -101,7 +110,8 @@ fn tried(
     exchanges: &[Exchange<'_>],
     sketch: Sketch,
 ) -> Result<Draft, Undrafted>
-    ensures { IfOk result (λ draft. IsDraft exchanges.now draft.script.items draft.case.items) }
+    ensures { IfOk result (λ draft. IsDraft exchanges.now draft.script.items draft.case.items
+        draft.has_secret) }
 {
     let script = script_of(alloc, &sketch)?;
     if !keeps_secrets(&script) {
@@ -117,76 +127,93 @@ fn tried(
     Ok(Draft {
         script: text.into_bytes(),
         case,
+        has_secret: has_secret(&script),
     })
 }
 
-fn draft_of(
-    alloc: Global,
-    orders: &OrderTable,
-    exchanges: &[Exchange<'_>],
-) -> Result<Draft, Undrafted>
-    ensures { IfOk result (λ draft. IsDraft exchanges.now draft.script.items draft.case.items) }
+// The draft of a part of a recording.
+fn draft_of(alloc: Global, orders: &OrderTable, part: &Part<'_, '_>) -> Result<Draft, Undrafted>
+    ensures { IfOk result (λ draft. IsDraft part.now.exchanges.now draft.script.items draft.case.items
+        draft.has_secret) }
 {
-    let sketch = sketch_of(alloc, orders, exchanges)?;
-    tried(alloc, orders, exchanges, sketch)
+    let sketch = sketch_of(alloc, orders, *part)?;
+    tried(alloc, orders, part.exchanges, sketch)
 }
 
-// The refusal of a dialogue without a draft.
-fn refusal_of(exchanges: &[Exchange<'_>], undrafted: Undrafted) -> Fault
-    ensures { IsUndrafted exchanges.now result }
+// The refusal where a part of a recording has no draft, with the place in the recording.
+fn refusal_of(exchanges: &[Exchange<'_>], before: usize, undrafted: Undrafted) -> Fault
+    ensures { (number : Option ℕ) → IsUndrafted exchanges.now number result }
 {
     match undrafted {
         Undrafted::Memory => Fault::Memory,
         Undrafted::At(place) => {
-            let Place { message, segment } = place_within(exchanges, place);
+            let Place { message, segment } = place_within(exchanges, place.after(before));
             Fault::NotDraftable { message, segment }
         }
     }
 }
 
-// The draft of a dialogue, or where it has something that no draft sends.
-fn draft_or_refusal(
+// The wanted text of a draft.
+fn text_of(draft: Draft, drafted: Drafted) -> DraftText
+    ensures text { result.text.items ≡ drafted_text drafted draft.script.items draft.case.items }
+    ensures secret { result.has_secret ≡ draft.has_secret }
+{
+    let Draft {
+        script,
+        case,
+        has_secret,
+    } = draft;
+    let text = match drafted {
+        Drafted::Script => script,
+        Drafted::Case => case,
+    };
+    DraftText { text, has_secret }
+}
+
+// The wanted text of the draft of a part.
+fn draft_part(
     alloc: Global,
     orders: &OrderTable,
     exchanges: &[Exchange<'_>],
-) -> Result<Draft, Fault>
-    ensures draft { IfOk result (λ draft. IsDraft exchanges.now draft.script.items draft.case.items) }
-    ensures refused { IfErr result (λ f. IsUndrafted exchanges.now f) }
+    number: Option<u32>,
+    drafted: Drafted,
+) -> Result<DraftText, Fault>
+    ensures draft { IfOk result (λ it. IsPartDraft drafted number exchanges.now it.text.items it.has_secret) }
+    ensures refused { IfErr result (λ f. IsUndrafted exchanges.now number f) }
 {
-    match draft_of(alloc, orders, exchanges) {
-        Ok(draft) => Ok(draft),
-        Err(undrafted) => Err(refusal_of(exchanges, undrafted)),
-    }
-}
-
-// The wanted text of a draft.
-fn text_of(draft: Draft, drafted: Drafted) -> Vec<u8>
-    ensures { result.items ≡ drafted_text drafted draft.script.items draft.case.items }
-{
-    let Draft { script, case } = draft;
-    match drafted {
-        Drafted::Script => script,
-        Drafted::Case => case,
+    let Some(part) = part_of(exchanges, number) else {
+        return Err(Fault::NoPart {
+            number: number.unwrap_or(0),
+        });
+    };
+    match draft_of(alloc, orders, &part) {
+        Ok(draft) => Ok(text_of(draft, drafted)),
+        Err(undrafted) => Err(refusal_of(exchanges, part.before, undrafted)),
     }
 }
 
 /// The script that sends the client's messages of a recorded dialogue once more, or the case that has it
-/// do so. In comments the script says which orders name an account, by the text of an order table. Of
-/// the refusals that of the order table comes first, then that of the dialogue, and then that no draft
-/// was found, with the first segment that would be sent otherwise. Where a message of the client is none,
-/// the observer sees why.
+/// do so, by what was read of a file; of the dialogue of a number, which counts from 1, or else of the whole
+/// recording. In comments the script says which orders name an account, by the text of an order table. Of
+/// the refusals that of the order table comes first, then that of the recording, then that it has no dialogue
+/// of the number, and then that no draft was found, with the first segment that would be sent otherwise.
+/// Where a message of the client is none, the observer sees why.
 pub fn draft_read<O: UnreadObserver>(
     alloc: Global,
     orders: &[u8],
-    dialogue: &[u8],
+    log: &Result<Log<'_>, DialogueFault>,
+    number: Option<u32>,
     drafted: Drafted,
     observer: &mut O,
-) -> Result<Vec<u8>, Fault>
-    ensures draft { IfOk result (λ text. IsDraftOf drafted dialogue.now text.items) }
-    ensures refused { IfErr result (λ f. IsDraftRefusal orders.now dialogue.now f) }
+) -> Result<DraftText, Fault>
+    ensures draft { IfOk result (λ it. (dialogue : List ℕ) → IsLogReadOf dialogue log.now
+        → IsDraftOf drafted number dialogue it.text.items it.has_secret) }
+    ensures refused { IfErr result (λ f. (dialogue : List ℕ) → IsLogReadOf dialogue log.now
+        → IsDraftRefusal orders.now number dialogue f) }
+    ensures log { IfOk result (λ _. IsOk log.now) }
 {
     let orders = OrderTable::read(alloc, orders)?;
-    let exchanges = read_dialogue_with(alloc, dialogue, observer)?;
-    let draft = draft_or_refusal(alloc, &orders, exchanges.as_slice())?;
-    Ok(text_of(draft, drafted))
+    let log = good_log(log)?;
+    let exchanges = read_dialogue_with(alloc, log, observer)?;
+    draft_part(alloc, &orders, exchanges.as_slice(), number, drafted)
 }

@@ -19,4 +19,4 @@ mod texts;
 mod turns;
 mod within;
 
-pub use drafting::{Drafted, draft_read};
+pub use drafting::{DraftText, Drafted, draft_read};

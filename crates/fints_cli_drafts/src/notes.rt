@@ -27,14 +27,6 @@ pub const OPENING: &str = "\
 const ACCOUNT: &str =
     "  # Element 2 is an account: a field of class \"account\" lists those that it may be.\n";
 
-// Whether an order names an account, by the order table.
-fn names_account(orders: &OrderTable, segment: &OwnedSegment) -> bool {
-    match orders.form(segment.head.id, segment.head.version) {
-        Some(AccountForm::National | AccountForm::International) => true,
-        Some(AccountForm::Nameless) | None => false,
-    }
-}
-
 // Whether a comment shows the data of a binary item: an XML text of ASCII, longer than 20 bytes.
 fn is_shown(data: &[u8]) -> bool {
     let is_text = |b: &u8| (b' '..=b'~').contains(b) || matches!(*b, b'\t' | b'\n' | b'\r');
@@ -111,7 +103,11 @@ pub fn write_segment_note(
     orders: &OrderTable,
     segment: &OwnedSegment,
 ) -> Result<(), AllocError> {
-    if names_account(orders, segment) {
+    let form = orders.form(segment.head.id, segment.head.version);
+    if matches!(
+        form,
+        Some(AccountForm::National | AccountForm::International)
+    ) {
         text.push_str(ACCOUNT)?;
     }
     write_xml_notes(text, segment)

@@ -31,6 +31,17 @@ impl Place {
         }
     }
 
+    /// The same place of a recording in which this many messages of the client come before the dialogue.
+    pub fn after(self, before: usize) -> Place {
+        if self.message == 0 {
+            return self;
+        }
+        Place {
+            message: self.message.saturating_add(before),
+            segment: self.segment,
+        }
+    }
+
     /// The refusal of what is there.
     pub fn refused(self) -> Undrafted {
         Undrafted::At(self)

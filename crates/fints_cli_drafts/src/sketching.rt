@@ -8,7 +8,7 @@ use crate::signers::Signers;
 use crate::steps::{Common, write_step};
 use crate::turns::{Turn, ways_of};
 use fints_rules::OrderTable;
-use fints_rules_dialogues::Exchange;
+use fints_rules_dialogues::{Exchange, Part};
 use fints_script::limits::MAX_STEPS;
 use fints_script::{Name, Values};
 use fints_syntax_segments::{HNVSK_NUMBER, Memory};
@@ -25,30 +25,11 @@ struct Seal {
 }
 
 impl Seal {
-    fn new(alloc: Global) -> Seal {
-        Seal {
-            first: None,
-            row: String::new(alloc),
-            notes: String::new(alloc),
-        }
-    }
-
-    // Where it was met.
-    fn met(&self) -> Place {
-        match &self.first {
-            None => Place::whole(0),
-            Some((_, message)) => Place {
-                message: *message,
-                segment: usize::from(HNVSK_NUMBER),
-            },
-        }
-    }
-
     // Looks at the HNVSK of a message.
     fn meet(
         &mut self,
         alloc: Global,
-        fields: &mut DraftFields,
+        common: &mut Common,
         recorded: Recorded,
         message: usize,
     ) -> Result<(), Undrafted> {
@@ -57,7 +38,8 @@ impl Seal {
         };
         if let Some((first, _)) = &self.first {
             if let Some(seal) = first.seal() {
-                write_seal_note(&mut self.notes, seal, segment, message)?;
+                let number = common.number_of(message);
+                write_seal_note(&mut self.notes, seal, segment, number)?;
             }
             return Ok(());
         }
@@ -69,7 +51,7 @@ impl Seal {
             reference: &[],
         };
         self.row.push_str("\nseal = ")?;
-        write_elements(alloc, &mut self.row, fields, &written)?;
+        write_elements(alloc, &mut self.row, &mut common.fields, &written)?;
         self.row.push('\n')?;
         self.first = Some((recorded, message));
         Ok(())
@@ -126,7 +108,7 @@ fn write_steps(
         let recorded = Recorded::of(alloc, &exchange.message)?;
         let ways = ways_of(alloc, turns.as_slice(), i, exchange)?;
         write_step(alloc, text, common, orders, &recorded, message, &ways)?;
-        seal.meet(alloc, &mut common.fields, recorded, message)?;
+        seal.meet(alloc, common, recorded, message)?;
     }
     Ok(())
 }
@@ -165,25 +147,38 @@ fn joined(alloc: Global, common: &Common, seal: &Seal, steps: &str) -> Result<St
     Ok(text)
 }
 
-/// The sketch of a dialogue. Its comments say which orders name an account, by the order table.
+/// The sketch of a part of a recording. Its comments say which orders name an account, by the order table. The
+/// steps are named by the numbers of their messages in the recording; places count the messages of the part.
 pub fn sketch_of(
     alloc: Global,
     orders: &OrderTable,
-    exchanges: &[Exchange<'_>],
+    part: Part<'_, '_>,
 ) -> Result<Sketch, Undrafted> {
+    let exchanges = part.exchanges;
     if exchanges.len() > MAX_STEPS {
         return Err(Place::whole(MAX_STEPS + 1).refused());
     }
     let mut common = Common {
         fields: DraftFields::new(alloc),
         signers: Signers::new(alloc),
+        before: part.before,
     };
-    let mut seal = Seal::new(alloc);
+    let mut seal = Seal {
+        first: None,
+        row: String::new(alloc),
+        notes: String::new(alloc),
+    };
     let mut steps = String::new(alloc);
     write_steps(alloc, &mut steps, &mut common, &mut seal, orders, exchanges)?;
     let values = values_of(alloc, &common.fields, exchanges)?;
     let script = joined(alloc, &common, &seal, steps.as_str())?;
-    let seal_met = seal.met();
+    let seal_met = match &seal.first {
+        None => Place::whole(0),
+        Some((_, message)) => Place {
+            message: *message,
+            segment: usize::from(HNVSK_NUMBER),
+        },
+    };
     let Common { signers, .. } = common;
     Ok(Sketch {
         script,

@@ -64,9 +64,18 @@ fn write_body(
 pub struct Common {
     pub fields: DraftFields,
     pub signers: Signers,
+    /// How many messages of the client come before the dialogue in the recording.
+    pub before: usize,
 }
 
-/// Writes the step of a message, which counts from 1.
+impl Common {
+    /// The number in the recording of a message of the dialogue.
+    pub fn number_of(&self, message: usize) -> usize {
+        message.saturating_add(self.before)
+    }
+}
+
+/// Writes the step of a message, which counts from 1 in its dialogue.
 pub fn write_step(
     alloc: Global,
     text: &mut String,
@@ -76,9 +85,14 @@ pub fn write_step(
     message: usize,
     ways: &Ways,
 ) -> Result<(), Undrafted> {
-    let Common { fields, signers } = common;
+    let number = common.number_of(message);
+    let Common {
+        fields,
+        signers,
+        before,
+    } = common;
     text.push_str("\n[[step]]\nname = ")?;
-    write_name(text, message, recorded.kind())?;
+    write_name(text, number, recorded.kind())?;
     text.push('\n')?;
     if recorded.seal().is_some() {
         text.push_str("sealed = true\n")?;
@@ -89,6 +103,6 @@ pub fn write_step(
         text.push_str("]\n")?;
     }
     write_body(alloc, text, fields, orders, recorded, message)?;
-    write_ways(text, ways)?;
+    write_ways(text, ways, *before)?;
     Ok(())
 }

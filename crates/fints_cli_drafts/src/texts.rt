@@ -26,19 +26,12 @@ fn write_characters(text: &mut String, value: &[u8]) -> Result<(), AllocError> {
     Ok(())
 }
 
-// Whether a text would be read as a field, as hex digits or as another text.
-fn is_marked(value: &[u8]) -> bool {
-    match value.first() {
-        Some(b) => *b == b'$' || *b == b'%' || *b == b'=',
-        None => false,
-    }
-}
-
 fn write_literal(text: &mut String, value: &[u8], place: Place) -> Result<(), Undrafted> {
     if !value.iter().all(|b| Alphabet::Latin.has(*b)) {
         return Err(place.refused());
     }
-    if is_marked(value) {
+    // It would be read as a field, as hex digits or as another text.
+    if matches!(value.first(), Some(b'$' | b'%' | b'=')) {
         text.push('=')?;
     }
     write_characters(text, value)?;

@@ -146,40 +146,50 @@ pub fn write_name(text: &mut String, message: usize, kind: Option<Kind>) -> Resu
     text.push('"')
 }
 
-fn write_target(text: &mut String, target: Option<Target>) -> Result<(), AllocError> {
+fn write_target(
+    text: &mut String,
+    target: Option<Target>,
+    before: usize,
+) -> Result<(), AllocError> {
     match target {
         None => text.push_str("\"stop\""),
-        Some(target) => write_name(text, target.message, target.kind),
+        Some(target) => write_name(text, target.message.saturating_add(before), target.kind),
     }
 }
 
-fn write_branch(text: &mut String, code: Code, target: Option<Target>) -> Result<(), AllocError> {
+fn write_branch(
+    text: &mut String,
+    code: Code,
+    target: Option<Target>,
+    before: usize,
+) -> Result<(), AllocError> {
     text.push_str("{on = \"")?;
     for digit in digits_of(code) {
         text.push(char::from(digit))?;
     }
     text.push_str("\", to = ")?;
-    write_target(text, target)?;
+    write_target(text, target, before)?;
     text.push('}')
 }
 
-fn write_branches(text: &mut String, ways: &Ways) -> Result<(), AllocError> {
+fn write_branches(text: &mut String, ways: &Ways, before: usize) -> Result<(), AllocError> {
     text.push_str("branches = [")?;
     for (i, code) in ways.codes.iter().enumerate() {
         if i > 0 {
             text.push_str(", ")?;
         }
-        write_branch(text, *code, ways.target)?;
+        write_branch(text, *code, ways.target, before)?;
     }
     text.push_str("]\n")
 }
 
-/// Writes the branches and the default of a step.
-pub fn write_ways(text: &mut String, ways: &Ways) -> Result<(), AllocError> {
+/// Writes the branches and the default of a step, where this many messages of the client come before the dialogue
+/// in the recording.
+pub fn write_ways(text: &mut String, ways: &Ways, before: usize) -> Result<(), AllocError> {
     if !ways.codes.is_empty() {
-        write_branches(text, ways)?;
+        write_branches(text, ways, before)?;
     }
     text.push_str("default = ")?;
-    write_target(text, ways.default)?;
+    write_target(text, ways.default, before)?;
     text.push('\n')
 }

@@ -6,7 +6,7 @@ use crate::findings::finding_hint;
 use crate::orders::orders_hint;
 use crate::plans::plan_hint;
 use crate::runs::run_hint;
-use fints_cli_hints_dialogues::{dialogue_hint, draft_hint};
+use fints_cli_hints_dialogues::{dialogue_hint, draft_hint, part_hint};
 use fints_cli_hints_scripts::script_hint;
 use fints_cli_hints_segments::params_hint;
 use fints_cli_hints_words::inputs::Inputs;
@@ -52,5 +52,6 @@ pub fn hint(alloc: Global, fault: &Fault, inputs: &Inputs<'_>) -> Result<Option<
         Fault::NotDraftable { message, segment } => {
             draft_hint(alloc, *message, *segment, inputs.dialogue)
         }
+        Fault::NoPart { .. } => part_hint(alloc, inputs.dialogue),
     }
 }

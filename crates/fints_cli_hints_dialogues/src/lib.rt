@@ -4,6 +4,7 @@
 #![tactic(auto)]
 
 mod captured;
+mod lost;
 mod notes;
 mod reasons;
 mod refused;
@@ -14,4 +15,4 @@ mod untold;
 pub use reasons::AuditReasons;
 pub use refused::dialogue_hint;
 pub use sources::Source;
-pub use undrafted::draft_hint;
+pub use undrafted::{draft_hint, part_hint};

@@ -1,24 +1,14 @@
-//! What the refusal of a recorded dialogue is about. Where a file can't be cut into messages nothing is shown
-//! of what stands there, since it may be a PIN or a TAN, but the head of a message.
+//! What the refusal of a recorded dialogue is about.
+use crate::lost::lost_hint;
 use crate::untold::parameters_hint;
-use fints_cli_hints_segments::{front_hint, head_of, params_hint};
+use fints_cli_hints_segments::params_hint;
 use fints_cli_hints_words::places::{Told, line_at, told, told_at};
-use fints_cli_hints_words::quoting::Sample;
 use fints_params::{ParamFault, feedback_codes};
-use fints_rules_dialogues::{DialogueFault, Sent, cut};
+use fints_rules_dialogues::{DialogueFault, Log, Recording, Sent, read_log};
 use fints_syntax::Memory;
 use std::alloc::Global;
 use std::fmt;
 use std::fmt::{Display, Formatter, Write};
-
-// What a message of a dialogue begins with; its size follows.
-const FRONT: &[u8] = b"HNHBK:1:3+";
-
-// The same in words, as a hint says it.
-const BEGIN: &str = "in a dialogue a message begins with HNHBK:1:3, and then its size in 12 digits";
-
-// A byte order mark.
-const MARK: &[u8] = b"\xef\xbb\xbf";
 
 // What is due at a place in a recording: the client's message of this number, from 1, or the answer to it.
 #[derive(Clone, Copy)]
@@ -82,85 +72,16 @@ fn turn_after(alloc: Global, messages: &[Sent<'_>]) -> Result<Turn, Memory> {
     Ok(turn)
 }
 
-// The messages of a file, where it can be cut.
-fn cut_file(alloc: Global, file: &[u8]) -> Result<Option<Vec<Sent<'_>>>, Memory> {
-    match cut(alloc, file) {
-        Ok(messages) => Ok(Some(messages)),
+// The log that a file is, if it is one.
+fn log_of(alloc: Global, file: &[u8]) -> Result<Option<Log<'_>>, Memory> {
+    match read_log(alloc, file) {
+        Ok(log) => Ok(Some(log)),
         Err(DialogueFault::Memory) => Err(Memory),
         Err(_) => Ok(None),
     }
 }
 
 // ---- what is no message
-
-// Why the bytes, which begin with an HNHBK, can't be cut off as a message.
-fn head_hint(alloc: Global, turn: Turn, bytes: &[u8]) -> Told {
-    if bytes.starts_with(FRONT) {
-        return told_at(alloc, format_args!("{turn}: "), front_hint(alloc, bytes)?);
-    }
-    match head_of(bytes) {
-        Some(head) => {
-            let head = Sample(head);
-            told(
-                alloc,
-                format_args!("{turn}: it begins with {head}; {BEGIN}"),
-            )
-        }
-        None => told(alloc, format_args!("{turn}: {BEGIN}")),
-    }
-}
-
-// Where the next message begins behind the front of one.
-fn next_front(bytes: &[u8]) -> Option<usize> {
-    for at in 1..bytes.len() {
-        if bytes.get(at..).unwrap_or(&[]).starts_with(FRONT) {
-            return Some(at);
-        }
-    }
-    None
-}
-
-// What the last message that could be cut off says of its size, and how many bytes there are of it.
-fn last_hint(alloc: Global, turn: Turn, bytes: &[u8]) -> Told {
-    let (len, end) = match next_front(bytes) {
-        Some(len) => (len, "the next HNHBK"),
-        None => (bytes.len(), "the end of the file"),
-    };
-    let text = front_hint(alloc, bytes.get(..len).unwrap_or(&[]))?;
-    told_at(alloc, format_args!("{turn}, up to {end}: "), text)
-}
-
-// Why no message can be cut off at the front of a file, which begins with no HNHBK.
-fn file_hint(alloc: Global, file: &[u8]) -> Told {
-    match next_front(file) {
-        Some(len) if !file.starts_with(MARK) => told(
-            alloc,
-            format_args!(
-                "before the first HNHBK:1:3 stand {len} other bytes: remove them, or add what is missing of the message"
-            ),
-        ),
-        _ => told_at(alloc, "message 1: ", front_hint(alloc, file)?),
-    }
-}
-
-// Why no message can be cut off at an offset, where one is due.
-fn uncut_hint(alloc: Global, file: &[u8], offset: usize) -> Told {
-    let Some(before) = cut_file(alloc, file.get(..offset).unwrap_or(&[]))? else {
-        return Ok(None);
-    };
-    let rest = file.get(offset..).unwrap_or(&[]);
-    if rest.starts_with(b"HNHBK:") {
-        return head_hint(alloc, turn_after(alloc, before.as_slice())?, rest);
-    }
-    match before.last() {
-        Some(last) => {
-            let front = before.get(..before.len().saturating_sub(1)).unwrap_or(&[]);
-            let turn = turn_after(alloc, front)?;
-            last_hint(alloc, turn, file.get(last.start..).unwrap_or(&[]))
-        }
-        None => file_hint(alloc, rest),
-    }
-}
 
 // Why a message of the client ceases at an offset to be one, as its reader says it. It is the last message
 // that begins there or before, or where that is an answer the message before it, which ceases at its end.
@@ -179,10 +100,13 @@ fn client_hint(alloc: Global, messages: &[Sent<'_>], offset: usize, unread: &str
 }
 
 fn no_message_hint(alloc: Global, file: &[u8], offset: usize, unread: Option<&str>) -> Told {
-    match (cut_file(alloc, file)?, unread) {
-        (Some(messages), Some(text)) => client_hint(alloc, messages.as_slice(), offset, text),
-        (Some(_), None) => Ok(None),
-        (None, _) => uncut_hint(alloc, file, offset),
+    let Some(log) = log_of(alloc, file)? else {
+        return lost_hint(alloc, file, offset);
+    };
+    let recording = Recording::of(alloc, &log)?;
+    match unread {
+        Some(text) => client_hint(alloc, recording.messages(), offset, text),
+        None => Ok(None),
     }
 }
 
@@ -205,10 +129,11 @@ fn sent_at<'a>(
 }
 
 fn turn_hint(alloc: Global, file: &[u8], offset: usize) -> Told {
-    let Some(messages) = cut_file(alloc, file)? else {
+    let Some(log) = log_of(alloc, file)? else {
         return Ok(None);
     };
-    let Some((turn, _)) = sent_at(alloc, messages.as_slice(), offset)? else {
+    let recording = Recording::of(alloc, &log)?;
+    let Some((turn, _)) = sent_at(alloc, recording.messages(), offset)? else {
         return Ok(None);
     };
     let there = if turn.answer {
@@ -225,10 +150,11 @@ fn turn_hint(alloc: Global, file: &[u8], offset: usize) -> Told {
 }
 
 fn answer_hint(alloc: Global, file: &[u8], start: usize, fault: &ParamFault) -> Told {
-    let Some(messages) = cut_file(alloc, file)? else {
+    let Some(log) = log_of(alloc, file)? else {
         return Ok(None);
     };
-    let Some((turn, sent)) = sent_at(alloc, messages.as_slice(), start)? else {
+    let recording = Recording::of(alloc, &log)?;
+    let Some((turn, sent)) = sent_at(alloc, recording.messages(), start)? else {
         return Ok(None);
     };
     let line = line_at(file, start);
@@ -240,7 +166,7 @@ fn answer_hint(alloc: Global, file: &[u8], start: usize, fault: &ParamFault) -> 
 }
 
 const NO_MESSAGE: &str =
-    "the file has no message: it holds the client's messages and the bank's answers in turn, the client's first";
+    "no message begins in the file: one begins with HNHBK:1:3 and its size in 12 digits, or with SE5IQks6, the same in base64";
 
 /// What the refusal of a recorded dialogue is about; `unread` says why a message of the client is none, where
 /// its reader found that.

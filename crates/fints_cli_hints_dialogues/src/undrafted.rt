@@ -1,7 +1,7 @@
 //! What the refusal of a draft is about: what no script sends as it was recorded.
 use fints_cli_hints_words::places::{Told, told};
 use fints_params::sealed_data;
-use fints_rules_dialogues::cut;
+use fints_rules_dialogues::{Exchange, read_dialogue, read_log};
 use fints_syntax::{Kind, Memory, OwnedSegment, SegmentView, parse_all};
 use std::alloc::Global;
 
@@ -64,14 +64,23 @@ fn kind_of(alloc: Global, bytes: &[u8], number: usize) -> Result<Option<Kind>, M
 
 // What a script sends at a segment of a message of the client.
 fn segment_hint(alloc: Global, message: usize, segment: usize, file: &[u8]) -> Told {
-    let Ok(messages) = cut(alloc, file) else {
+    let Ok(log) = read_log(alloc, file) else {
         return Ok(None);
     };
-    let place = message.saturating_sub(1).saturating_mul(2);
-    let Some(sent) = messages.get(place) else {
+    let Ok(exchanges) = read_dialogue(alloc, &log) else {
         return Ok(None);
     };
-    let Some(kind) = kind_of(alloc, sent.bytes, segment)? else {
+    let Some(exchange) = exchanges.get(message.saturating_sub(1)) else {
+        return Ok(None);
+    };
+    if segment == 1 && message > 1 && exchange.begins {
+        let number = dialogues_in(exchanges.get(..message).unwrap_or(&[]));
+        return told(
+            alloc,
+            format_args!("message {message} begins dialogue {number}: draft it by --part {number}"),
+        );
+    }
+    let Some(kind) = kind_of(alloc, exchange.sent.bytes, segment)? else {
         return Ok(None);
     };
     let why = sent_as(kind);
@@ -79,6 +88,28 @@ fn segment_hint(alloc: Global, message: usize, segment: usize, file: &[u8]) -> T
         alloc,
         format_args!("message {message}, segment {segment} ({kind}): {why}"),
     )
+}
+
+// How many dialogues the exchanges begin.
+fn dialogues_in(exchanges: &[Exchange<'_>]) -> usize {
+    exchanges.iter().filter(|it| it.begins).count()
+}
+
+/// How many dialogues a recording has.
+pub fn part_hint(alloc: Global, file: &[u8]) -> Told {
+    let Ok(log) = read_log(alloc, file) else {
+        return Ok(None);
+    };
+    let Ok(exchanges) = read_dialogue(alloc, &log) else {
+        return Ok(None);
+    };
+    match dialogues_in(exchanges.as_slice()) {
+        1 => told(alloc, "the recording has one dialogue"),
+        count => told(
+            alloc,
+            format_args!("the recording has {count} dialogues, which `audit` numbers"),
+        ),
+    }
 }
 
 /// What the refusal of a draft is about. The client's messages count from 1, and a segment has the number in

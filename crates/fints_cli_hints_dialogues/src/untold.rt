@@ -1,7 +1,7 @@
 //! Why a recording tells no parameters for one of its messages.
 use fints_cli_hints_words::places::{Told, told};
 use fints_cli_hints_words::quoting::Sample;
-use fints_rules_dialogues::{Heard, OwnParams, Party, read_dialogue};
+use fints_rules_dialogues::{Heard, OwnParams, Party, read_dialogue, read_log};
 use fints_syntax::Memory;
 use std::alloc::Global;
 use std::fmt;
@@ -72,7 +72,10 @@ fn first_untold<'h>(
 
 /// Why the parameters are missing by which a message of the recording is to be judged.
 pub fn parameters_hint(alloc: Global, file: &[u8]) -> Told {
-    let Ok(exchanges) = read_dialogue(alloc, file) else {
+    let Ok(log) = read_log(alloc, file) else {
+        return Ok(None);
+    };
+    let Ok(exchanges) = read_dialogue(alloc, &log) else {
         return Ok(None);
     };
     let Ok(own) = OwnParams::of(alloc, exchanges.as_slice()) else {

@@ -6,14 +6,14 @@ use Rattle.fints_params.specs.Parameters.{Rows}
 use Rattle.fints_params.specs.Captures.{IsParamsOf}
 use Rattle.fints_rules_permissions.specs.declared.orders.OrderRow.{OrderRow}
 use Rattle.fints_rules_permissions.specs.declared.orders.TableFault.{TableFault}
-use Rattle.fints_rules_permissions.specs.declared.orders.TableFault.TheVariants as orders
 use Rattle.fints_rules_permissions.specs.Orders.{DenotesTable, IsTableFault}
 use Rattle.fints_rules_dialogues.specs.declared.auditing.Audited.{Audited}
-use Rattle.fints_rules_dialogues.specs.declared.cutting.Sent.{Sent}
+use Rattle.fints_rules_dialogues.specs.declared.messages.Sent.{Sent}
 use Rattle.fints_rules_dialogues.specs.declared.fault.DialogueFault.{DialogueFault}
 use Rattle.fints_rules_dialogues.specs.declared.fault.DialogueFault.TheVariants as dialogues
 use Rattle.fints_rules_dialogues.specs.declared.reading.Exchange.{Exchange}
-use Rattle.fints_rules_dialogues.specs.Dialogues.{IsCutFile, IsDialogue, IsDialogueFault, IsFileFault, IsMemoryOrRefusal, IsTurnFault}
+use Rattle.fints_rules_logs.specs.Kept.{IsLog, LogValue}
+use Rattle.fints_rules_dialogues.specs.Dialogues.{AreSent, IsDialogueFault, IsDialogueOf, IsFileFault, IsMemoryOrRefusal, IsTurnFault, IsTurnFaultOf}
 use Rattle.fints_rules_dialogues.specs.OwnParams.{IsOwnParamsFault}
 use Rattle.fints_rules_permissions.specs.Permits.{Granted}
 use Rattle.fints_rules_dialogues.specs.Auditing.{AreAudited, ArePermitted, same_for}
@@ -24,7 +24,7 @@ use Rattle.fints_cli_texts.specs.Judge.{verdict_status, EndsPermitted}
 use Rattle.fints_cli_texts.specs.declared.fault.Fault.{Fault}
 use Rattle.fints_cli_texts.specs.declared.fault.Fault.TheVariants.{Memory, Dialogue}
 use Rattle.fints_cli_texts.specs.Fault.{dialogue_fault_of, order_fault_of}
-use Rattle.fints_cli_texts.specs.Audit.{all_broken, are_several, audit_text, dialogue_line, granted_by, message_lines, lines_from, IsAuditBy, IsDialogueRefusal, IsAuditRefusal, IsOwnFault, IsOwnAuditRefusal}
+use Rattle.fints_cli_texts.specs.Audit.{all_broken, are_several, audit_text, dialogue_line, granted_by, message_lines, lines_from, IsAuditBy, IsAuditOf, IsDialogueRefusal, IsAuditRefusal, IsLogAudit, IsLogReadOf, IsOwnAuditOf, IsOwnFault, IsOwnAuditRefusal, IsOwnLogAudit, IsOwnLogFault}
 
 -- ---- lines
 
@@ -131,17 +131,65 @@ own_refused table dialogue orders (dialogues.Answer start f) h (inr p) = ((order
 own_refused table dialogue orders dialogues.NoParameters h (inl e) = absurd (cc)
 own_refused table dialogue orders dialogues.NoParameters h (inr p) = ((orders, h), p)
 
--- what refuses the dialogue, and what refuses its parameters where it is one
-pub dialogue_first : (dialogue : List ℕ) (f : DialogueFault) → IsMemoryOrRefusal (IsDialogueFault dialogue) f
-    → IsMemoryOrRefusal (IsOwnFault dialogue) f
-dialogue_first dialogue f (inl e) = inl e
-dialogue_first dialogue f (inr p) = inr (inl p)
+-- what refuses the messages of a log, and what refuses their parameters where they are a dialogue
+pub dialogue_first : (log : LogValue) (f : DialogueFault) → IsMemoryOrRefusal (IsTurnFaultOf log) f
+    → IsMemoryOrRefusal (IsOwnLogFault log) f
+dialogue_first log f (inl e) = inl e
+dialogue_first log f (inr p) = inr (inl p)
 
-pub params_last : (dialogue : List ℕ) (exchanges : List Exchange) (f : DialogueFault)
-    → IsDialogue dialogue exchanges → IsMemoryOrRefusal (IsOwnParamsFault exchanges) f
+pub params_last : (log : LogValue) (exchanges : List Exchange) (f : DialogueFault)
+    → IsDialogueOf log exchanges → IsMemoryOrRefusal (IsOwnParamsFault exchanges) f
+    → IsMemoryOrRefusal (IsOwnLogFault log) f
+params_last log exchanges f is (inl e) = inl e
+params_last log exchanges f is (inr p) = inr (inr (exchanges, is, p))
+
+-- what refuses the file, and what refuses the log that it is
+pub own_file_first : (dialogue : List ℕ) (f : DialogueFault) → IsMemoryOrRefusal (IsFileFault dialogue) f
     → IsMemoryOrRefusal (IsOwnFault dialogue) f
-params_last dialogue exchanges f is (inl e) = inl e
-params_last dialogue exchanges f is (inr p) = inr (inr (exchanges, is, p))
+own_file_first dialogue f (inl e) = inl e
+own_file_first dialogue f (inr p) = inr (inl (inl p))
+
+pub own_log_last : (dialogue : List ℕ) (log : LogValue) (f : DialogueFault) → IsLog dialogue log
+    → IsMemoryOrRefusal (IsOwnLogFault log) f → IsMemoryOrRefusal (IsOwnFault dialogue) f
+own_log_last dialogue log f is (inl e) = inl e
+own_log_last dialogue log f is (inr (inl p)) = inr (inl (inr (log, is, p)))
+own_log_last dialogue log f is (inr (inr (exchanges, of, p))) = inr (inr (exchanges, (log, is, of), p))
+
+-- what was read of a file
+pub log_read : (dialogue : List ℕ) (read : Result LogValue DialogueFault) (log : LogValue) → read ≡ Ok log
+    → IsLogReadOf dialogue read → IsLog dialogue log
+log_read dialogue read log is h = subst (IsLogReadOf dialogue) is h
+
+pub log_unread : (dialogue : List ℕ) (read : Result LogValue DialogueFault) (f : DialogueFault) → read ≡ Err f
+    → IsLogReadOf dialogue read → IsMemoryOrRefusal (IsFileFault dialogue) f
+log_unread dialogue read f is h = subst (IsLogReadOf dialogue) is h
+
+-- the audit of a log is that of the file
+pub log_audited : (capture orders dialogue : List ℕ) (rows : Rows) (table : List OrderRow) (log : LogValue)
+    (status : ℕ) (text : List ℕ) → IsParamsOf capture rows → DenotesTable orders table → IsLog dialogue log
+    → IsLogAudit rows table log status text → IsAuditOf capture orders dialogue status text
+log_audited capture orders dialogue rows table log status text p t is (exchanges, of, by) = record {
+  rows = rows;
+  table = table;
+  exchanges = exchanges;
+  rows_are = p;
+  table_is = t;
+  dialogue_is = (log, is, of);
+  audit = by;
+}
+
+pub own_log_audited : (orders dialogue : List ℕ) (table : List OrderRow) (log : LogValue) (status : ℕ)
+    (text : List ℕ) → DenotesTable orders table → IsLog dialogue log → IsOwnLogAudit table log status text
+    → IsOwnAuditOf orders dialogue status text
+own_log_audited orders dialogue table log status text t is (exchanges, granted, of, by, audit) = record {
+  table = table;
+  exchanges = exchanges;
+  granted = granted;
+  table_is = t;
+  dialogue_is = (log, is, of);
+  granted_are = by;
+  audit = audit;
+}
 
 -- what refuses the file, and what refuses its messages
 pub file_first : (dialogue : List ℕ) (f : DialogueFault) → IsMemoryOrRefusal (IsFileFault dialogue) f
@@ -149,7 +197,12 @@ pub file_first : (dialogue : List ℕ) (f : DialogueFault) → IsMemoryOrRefusal
 file_first dialogue f (inl e) = inl e
 file_first dialogue f (inr p) = inr (inl p)
 
-pub turns_last : (dialogue : List ℕ) (messages : List Sent) (f : DialogueFault) → IsCutFile dialogue messages
-    → IsMemoryOrRefusal (IsTurnFault messages) f → IsMemoryOrRefusal (IsDialogueFault dialogue) f
-turns_last dialogue messages f cut (inl e) = inl e
-turns_last dialogue messages f cut (inr p) = inr (inr (messages, cut, p))
+pub turns_last : (log : LogValue) (messages : List Sent) (f : DialogueFault) → AreSent log messages
+    → IsMemoryOrRefusal (IsTurnFault messages) f → IsMemoryOrRefusal (IsTurnFaultOf log) f
+turns_last log messages f sent (inl e) = inl e
+turns_last log messages f sent (inr p) = inr (messages, sent, p)
+
+pub log_turns_last : (dialogue : List ℕ) (log : LogValue) (f : DialogueFault) → IsLog dialogue log
+    → IsMemoryOrRefusal (IsTurnFaultOf log) f → IsMemoryOrRefusal (IsDialogueFault dialogue) f
+log_turns_last dialogue log f is (inl e) = inl e
+log_turns_last dialogue log f is (inr p) = inr (inr (log, is, p))

@@ -1,6 +1,6 @@
 -- What refuses an input of `judge` is the refusal of the call.
 use Rattle.fints_cli_texts.specs.declared.fault.Fault.{Fault}
-use Rattle.std.proofs.Common.{ℕ, List, Result, Ok, Err, IfOk, IfErr, inl, inr}
+use Rattle.std.proofs.Common.{ℕ, ◌≡◌, ◌≤◌, List, [], ◌∷◌, Result, Ok, Err, IfOk, IfErr, arith, inl, inr}
 use Rattle.fints_params.specs.declared.fault.ParamFault.{ParamFault}
 use Rattle.fints_params.specs.declared.fault.ParamFault.TheVariants as params
 use Rattle.fints_params.specs.Faults.{IsMemoryOr}
@@ -10,11 +10,13 @@ use Rattle.fints_rules_permissions.specs.declared.orders.TableFault.{TableFault}
 use Rattle.fints_rules_permissions.specs.declared.orders.TableFault.TheVariants as orders
 use Rattle.fints_rules_messages.specs.declared.message.JudgeFault.{JudgeFault}
 use Rattle.fints_rules_messages.specs.declared.message.JudgeFault.TheVariants as message
-use Rattle.fints_rules_permissions.specs.Orders.{IsTableFault}
-use Rattle.fints_cli_texts.specs.declared.fault.Fault.TheVariants.{Memory, Answer, NoCode}
+use Rattle.fints_rules_permissions.specs.Orders.{DenotesTable, IsTableFault}
+use Rattle.fints_rules_permissions.specs.declared.orders.OrderRow.{OrderRow}
+use Rattle.fints_rules.specs.declared.rule.Broken.{Broken}
+use Rattle.fints_cli_texts.specs.declared.fault.Fault.TheVariants.{Memory, Params, Orders, Before, BeforeAnswer, Answer, NoCode, Message}
 use Rattle.fints_cli_texts.specs.Fault.{answer_fault_of, fault_of, order_fault_of, message_fault_of}
-use Rattle.fints_cli_texts.specs.Judge.{IsFirstRefusal, IsMessageRefusal}
-use Rattle.fints_cli_texts.specs.JudgeAfter.{IsAnswerRefusal, IsRefusalOfThree}
+use Rattle.fints_cli_texts.specs.Judge.{IsFirstRefusal, IsJudgeRefusal, IsMessageRefusal, verdict_status}
+use Rattle.fints_cli_texts.specs.JudgeAfter.{IsAnswerRefusal, IsJudgeAfterRefusal, IsRefusalOfThree}
 use Rattle.fints_rules_dialogues.specs.Dialogues.{IsFromBank, IsFromClient}
 use Rattle.fints_rules_messages.specs.Read.{IsJudgeFault}
 
@@ -52,7 +54,41 @@ message_refused bytes message.Memory h = tt
 message_refused bytes (message.NotAMessage offset) h = h
 message_refused bytes (message.NotAMessageBefore offset) h = absurd h
 
+-- a verdict's status is 0 or 1
+pub small_status : (broken : List Broken) (status : ℕ) → status ≡ verdict_status broken → status ≤ 1
+small_status [] status e = omega arith
+small_status (b ∷ bs) status e = omega arith
+
+-- where the capture and the order table are good, the refusal of the message is that of the call
+pub judge_refused : (capture text bytes : List ℕ) (rows : Rows) (table : List OrderRow) (f : Fault)
+    → IsParamsOf capture rows → DenotesTable text table → IsMessageRefusal bytes f
+    → IsJudgeRefusal capture text bytes f
+judge_refused capture text bytes rows table Memory h t p = tt
+judge_refused capture text bytes rows table (Params f) h t p = absurd p
+judge_refused capture text bytes rows table (Orders f) h t p = absurd p
+judge_refused capture text bytes rows table (Message f) h t p =
+    (record { rows = rows; table = table; rows_are = h; table_is = t }, p)
+judge_refused capture text bytes rows table _ h t p = absurd p
+
 -- ---- of a message after another one
+
+pub three_refused : (capture text before answer bytes : List ℕ) (rows : Rows) (table : List OrderRow) (f : Fault)
+    → IsParamsOf capture rows → DenotesTable text table → IsRefusalOfThree before answer bytes f
+    → IsJudgeAfterRefusal capture text before answer bytes f
+three_refused capture text before answer bytes rows table Memory h t p = tt
+three_refused capture text before answer bytes rows table (Params f) h t p = absurd p
+three_refused capture text before answer bytes rows table (Orders f) h t p = absurd p
+three_refused capture text before answer bytes rows table (Before n) h t p =
+    (record { rows = rows; table = table; rows_are = h; table_is = t }, p)
+three_refused capture text before answer bytes rows table BeforeAnswer h t p =
+    (record { rows = rows; table = table; rows_are = h; table_is = t }, p)
+three_refused capture text before answer bytes rows table (Answer f) h t p =
+    (record { rows = rows; table = table; rows_are = h; table_is = t }, p)
+three_refused capture text before answer bytes rows table NoCode h t p =
+    (record { rows = rows; table = table; rows_are = h; table_is = t }, p)
+three_refused capture text before answer bytes rows table (Message f) h t p =
+    (record { rows = rows; table = table; rows_are = h; table_is = t }, p)
+three_refused capture text before answer bytes rows table _ h t p = absurd p
 
 pub answer_refused : (before answer bytes : List ℕ) (f : Fault) → IsFromClient before
     → IsAnswerRefusal answer f → IsRefusalOfThree before answer bytes f

@@ -1,6 +1,6 @@
 -- The text of `audit`: for each message of the client its number and its size, and then the rules that it
 -- breaks; in lines with LF at their ends. Words of private contracts come last, under a heading.
-use Rattle.std.specs.Prelude.{◌≡◌, ◌⊎◌, ℕ, ◌+◌, ◌&&◌, Bool, List, [], ◌∷◌, ◌++◌, length, drop, if◌then◌else◌, codes}
+use Rattle.std.specs.Prelude.{◌≡◌, ◌⊎◌, Result, Ok, Err, ℕ, ◌+◌, ◌&&◌, Bool, List, [], ◌∷◌, ◌++◌, length, drop, if◌then◌else◌, codes}
 use Rattle.std.specs.List.{flat_map, list_any}
 use Rattle.std.specs.Fmt.{decimal}
 use Rattle.fints_params.specs.Parameters.{Rows}
@@ -10,10 +10,11 @@ use Rattle.fints_rules_permissions.specs.Orders.{DenotesTable}
 use Rattle.fints_rules_permissions.specs.Permits.{Granted}
 use Rattle.fints_rules.specs.declared.rule.Broken.{Broken}
 use Rattle.fints_rules_dialogues.specs.declared.auditing.Audited.{Audited}
-use Rattle.fints_rules_dialogues.specs.declared.cutting.Sent.{Sent}
+use Rattle.fints_rules_dialogues.specs.declared.messages.Sent.{Sent}
 use Rattle.fints_rules_dialogues.specs.declared.fault.DialogueFault.{DialogueFault}
 use Rattle.fints_rules_dialogues.specs.declared.reading.Exchange.{Exchange}
-use Rattle.fints_rules_dialogues.specs.Dialogues.{AreInTurn, IsDialogue, IsDialogueFault}
+use Rattle.fints_rules_logs.specs.Kept.{IsLog, LogValue}
+use Rattle.fints_rules_dialogues.specs.Dialogues.{AreInTurn, IsDialogue, IsDialogueFault, IsDialogueOf, IsFileFault, IsMemoryOrRefusal, IsTurnFaultOf}
 use Rattle.fints_rules_dialogues.specs.OwnParams.{GrantsEach, IsOwnParamsFault}
 use Rattle.fints_rules_dialogues.specs.Auditing.{AreAudited, ArePermitted, same_for}
 use Rattle.fints_cli_texts.specs.Judge.{broken_line, last_line, verdict_status, EndsPermitted, IsFirstRefusal, IsTableRefusal}
@@ -43,6 +44,11 @@ lines_from several d n [] = []
 lines_from several d n (a ∷ more) =
     (dialogue_line several d a ++ message_lines n a)
     ++ lines_from several (if a.begins then d + 1 else d) (n + 1) more
+
+-- what was read of a file: the log that it is, or why it is none
+abbrev pub IsLogReadOf : List ℕ → Result LogValue DialogueFault → Type 0
+IsLogReadOf file (Ok log) = IsLog file log
+IsLogReadOf file (Err f) = IsMemoryOrRefusal (IsFileFault file) f
 
 -- what all messages break
 abbrev pub all_broken : List Audited → List Broken
@@ -117,14 +123,20 @@ IsRecordingAudit rows table messages status text =
     (exchanges : List Exchange) × AreInTurn messages exchanges []
     × IsAuditBy (granted_by rows table exchanges) exchanges status text
 
--- they name those that the messages of the dialogue in a file break
-abbrev pub IsFileAudit : Rows → List OrderRow → List ℕ → ℕ → List ℕ → Type 0
-IsFileAudit rows table file status text =
-    (exchanges : List Exchange) × IsDialogue file exchanges
+-- they name those that the messages of the dialogue in a log break
+abbrev pub IsLogAudit : Rows → List OrderRow → LogValue → ℕ → List ℕ → Type 0
+IsLogAudit rows table log status text =
+    (exchanges : List Exchange) × IsDialogueOf log exchanges
     × IsAuditBy (granted_by rows table exchanges) exchanges status text
 
 -- the same by the parameters of the dialogue's own answers
-abbrev pub IsOwnFileAudit : List OrderRow → List ℕ → ℕ → List ℕ → Type 0
-IsOwnFileAudit table file status text =
-    (exchanges : List Exchange) × (granted : List Granted) × IsDialogue file exchanges
+abbrev pub IsOwnLogAudit : List OrderRow → LogValue → ℕ → List ℕ → Type 0
+IsOwnLogAudit table log status text =
+    (exchanges : List Exchange) × (granted : List Granted) × IsDialogueOf log exchanges
     × GrantsEach table exchanges granted × IsAuditBy granted exchanges status text
+
+-- the messages of a log are refused, or an answer as a capture, or the bank of a message tells no parameters
+abbrev pub IsOwnLogFault : LogValue → DialogueFault → Type 0
+IsOwnLogFault log f =
+    IsTurnFaultOf log f
+    ⊎ ((exchanges : List Exchange) × IsDialogueOf log exchanges × IsOwnParamsFault exchanges f)

@@ -30,3 +30,4 @@ fault_text (faults.Message f) = codes "message " ++ judge_text f
 fault_text (faults.Dialogue f) = codes "dialogue " ++ dialogue_text f
 fault_text (faults.NotDraftable message segment) =
     codes "dialogue NotDraftable message " ++ (decimal message ++ (codes " segment " ++ decimal segment))
+fault_text (faults.NoPart number) = codes "draft NoPart " ++ decimal number

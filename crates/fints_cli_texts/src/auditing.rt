@@ -1,12 +1,12 @@
 //! The text of `audit`: the rules that the messages of a recorded dialogue break.
-ghost use Rattle.std.specs.Prelude.{◌≡◌, ◌≤◌, ◌<◌, ◌+◌, ◌++◌, ◌^◌, ℕ, List, drop, OnOk, IfOk, IfErr, string_bytes};
+ghost use Rattle.std.specs.Prelude.{◌≡◌, ◌≤◌, ◌<◌, ◌+◌, ◌++◌, ◌^◌, ℕ, List, drop, IsOk, OnOk, IfOk, IfErr, string_bytes};
 ghost use Rattle.std.specs.List.{flat_map, list_any};
 ghost use Rattle.fints_params.specs.declared.fault.ParamFault.{ParamFault as ParamFaultValue};
 ghost use Rattle.fints_params.specs.Captures.{IsReadOf};
-ghost use Rattle.fints_rules_dialogues.specs.Dialogues.{IsDialogueFault, IsMemoryOrRefusal, IsTurnFault};
+ghost use Rattle.fints_rules_dialogues.specs.Dialogues.{IsMemoryOrRefusal, IsTurnFault, IsTurnFaultOf};
 ghost use Rattle.fints_cli_texts.specs.Fault.{fault_of};
 ghost use Rattle.fints_cli_texts.specs.Judge.{verdict_status};
-ghost use Rattle.fints_cli_texts.specs.Audit.{are_several, broken_told, dialogue_line, message_lines, lines_from, all_broken, audit_text, IsAuditOf, IsOwnAuditOf, IsAuditRefusal, IsOwnAuditRefusal, IsOwnFault, IsRecordingAudit, IsFileAudit, IsOwnFileAudit};
+ghost use Rattle.fints_cli_texts.specs.Audit.{are_several, broken_told, dialogue_line, message_lines, lines_from, all_broken, audit_text, IsAuditOf, IsOwnAuditOf, IsAuditRefusal, IsOwnAuditRefusal, IsLogReadOf, IsRecordingAudit, IsLogAudit, IsOwnLogAudit, IsOwnLogFault};
 
 use crate::fault::Fault;
 use crate::judging::{verdict_status, write_broken, write_last};
@@ -14,7 +14,7 @@ use crate::reply::Reply;
 use fints_params::{ParamFault, Params};
 use fints_rules::{Broken, OrderTable, Permissions};
 use fints_rules_dialogues::{
-    Audited, DialogueFault, Observer, Recording, audit, audit_exchanges, read_dialogue_with,
+    Audited, DialogueFault, Log, Observer, Recording, audit, audit_exchanges, read_dialogue_with,
 };
 use itoa::Buffer;
 use std::alloc::{AllocError, Global};
@@ -150,54 +150,69 @@ fn audit_recording<O: Observer>(
     Ok(reply)
 }
 
-// The text of the dialogue in a file, by good parameters and a good order table.
-fn audit_file<O: Observer>(
+// The text of the dialogue in a log, by good parameters and a good order table.
+fn audit_log<O: Observer>(
     alloc: Global,
     params: &Params,
     orders: &OrderTable,
-    file: &[u8],
+    log: &Log<'_>,
     observer: &mut O,
 ) -> Result<Reply, DialogueFault>
     ensures audited { IfOk result (λ reply.
-        IsFileAudit params.now orders.now file.now reply.status reply.text.items) }
-    ensures refused { IfErr result (λ f. IsMemoryOrRefusal (IsDialogueFault file.now) f) }
+        IsLogAudit params.now orders.now log.now reply.status reply.text.items) }
+    ensures refused { IfErr result (λ f. IsMemoryOrRefusal (IsTurnFaultOf log.now) f) }
 {
-    let recording = Recording::cut(alloc, file)?;
+    let recording = Recording::of(alloc, log)?;
     audit_recording(alloc, params, orders, &recording, observer)
 }
 
 // The same by the parameters that the recording's own answers tell. A refusal of its messages comes first.
-fn audit_file_own<O: Observer>(
+fn audit_log_own<O: Observer>(
     alloc: Global,
     orders: &OrderTable,
-    file: &[u8],
+    log: &Log<'_>,
     observer: &mut O,
 ) -> Result<Reply, DialogueFault>
     ensures audited { IfOk result (λ reply.
-        IsOwnFileAudit orders.now file.now reply.status reply.text.items) }
-    ensures refused { IfErr result (λ f. IsMemoryOrRefusal (IsOwnFault file.now) f) }
+        IsOwnLogAudit orders.now log.now reply.status reply.text.items) }
+    ensures refused { IfErr result (λ f. IsMemoryOrRefusal (IsOwnLogFault log.now) f) }
 {
-    let exchanges = read_dialogue_with(alloc, file, observer)?;
+    let exchanges = read_dialogue_with(alloc, log, observer)?;
     let audited = audit_exchanges(alloc, orders, exchanges.as_slice(), observer)?;
     let reply = audit_reply(alloc, audited.as_slice())?;
     Ok(reply)
 }
 
-/// The rules that the client's messages of a recorded dialogue break, by what was read of a capture and
-/// an order table. Of the refusals that of the capture comes first, then that of the order table, then
-/// that of the dialogue.
+/// The log that was read, or why the file is none.
+pub fn good_log<'l, 'a>(
+    log: &'l Result<Log<'a>, DialogueFault>,
+) -> Result<&'l Log<'a>, DialogueFault>
+    ensures log { IfOk result (λ it. log.now ≡ Ok it.now) }
+    ensures refused { IfErr result (λ f. log.now ≡ Err f) }
+{
+    match log {
+        Ok(log) => Ok(log),
+        Err(fault) => Err(*fault),
+    }
+}
+
+/// The rules that the client's messages of a recorded dialogue break, by what was read of a capture, an
+/// order table and a log. Of the refusals that of the capture comes first, then that of the order table,
+/// then that of the dialogue.
 pub fn audit_read<O: Observer>(
     alloc: Global,
     params: Result<Params, ParamFault>,
     orders: &[u8],
-    dialogue: &[u8],
+    log: &Result<Log<'_>, DialogueFault>,
     observer: &mut O,
 ) -> Result<Reply, Fault>
     ensures status { IfOk result (λ reply. reply.status ≤ 1) }
-    ensures audited { IfOk result (λ reply. (capture : List ℕ) → IsReadOf capture params
-        → IsAuditOf capture orders.now dialogue.now reply.status reply.text.items) }
-    ensures refused { IfErr result (λ f. (capture : List ℕ) → IsReadOf capture params
-        → IsAuditRefusal capture orders.now dialogue.now f) }
+    ensures audited { IfOk result (λ reply. (capture dialogue : List ℕ) → IsReadOf capture params
+        → IsLogReadOf dialogue log.now
+        → IsAuditOf capture orders.now dialogue reply.status reply.text.items) }
+    ensures refused { IfErr result (λ f. (capture dialogue : List ℕ) → IsReadOf capture params
+        → IsLogReadOf dialogue log.now → IsAuditRefusal capture orders.now dialogue f) }
+    ensures log { IfOk result (λ _. IsOk log.now) }
     ensures params_first { (f : ParamFaultValue) → params ≡ Err f → result ≡ Err (fault_of f) }
 {
     let params = match params {
@@ -205,7 +220,8 @@ pub fn audit_read<O: Observer>(
         Err(fault) => return Err(Fault::from(fault)),
     };
     let orders = OrderTable::read(alloc, orders)?;
-    let reply = audit_file(alloc, &params, &orders, dialogue, observer)?;
+    let log = good_log(log)?;
+    let reply = audit_log(alloc, &params, &orders, log, observer)?;
     Ok(reply)
 }
 
@@ -214,15 +230,18 @@ pub fn audit_read<O: Observer>(
 pub fn audit_own<O: Observer>(
     alloc: Global,
     orders: &[u8],
-    dialogue: &[u8],
+    log: &Result<Log<'_>, DialogueFault>,
     observer: &mut O,
 ) -> Result<Reply, Fault>
     ensures status { IfOk result (λ reply. reply.status ≤ 1) }
-    ensures audited { IfOk result (λ reply.
-        IsOwnAuditOf orders.now dialogue.now reply.status reply.text.items) }
-    ensures refused { IfErr result (λ f. IsOwnAuditRefusal orders.now dialogue.now f) }
+    ensures audited { IfOk result (λ reply. (dialogue : List ℕ) → IsLogReadOf dialogue log.now
+        → IsOwnAuditOf orders.now dialogue reply.status reply.text.items) }
+    ensures refused { IfErr result (λ f. (dialogue : List ℕ) → IsLogReadOf dialogue log.now
+        → IsOwnAuditRefusal orders.now dialogue f) }
+    ensures log { IfOk result (λ _. IsOk log.now) }
 {
     let orders = OrderTable::read(alloc, orders)?;
-    let reply = audit_file_own(alloc, &orders, dialogue, observer)?;
+    let log = good_log(log)?;
+    let reply = audit_log_own(alloc, &orders, log, observer)?;
     Ok(reply)
 }

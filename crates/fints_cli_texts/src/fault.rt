@@ -53,6 +53,8 @@ pub enum Fault {
     /// client's messages count from 1, and the segment has the number in its head: 0 is the message as
     /// a whole, and message 0 the dialogue.
     NotDraftable { message: usize, segment: usize },
+    /// The recording has no dialogue of this number; numbers count from 1.
+    NoPart { number: u32 },
 }
 
 // A word that says which input is refused, and then why.
@@ -97,6 +99,7 @@ impl Fault {
                 " segment ",
                 *segment as u64,
             ),
+            Fault::NoPart { number } => FaultText::new("draft NoPart ").number(u64::from(*number)),
         }
     }
 }

@@ -2,7 +2,7 @@
 ghost use Rattle.std.specs.Prelude.{◌≡◌, ◌≤◌, ◌++◌, ℕ, List, OnOk, IfOk, IfErr, string_bytes};
 ghost use Rattle.fints_params.specs.declared.fault.ParamFault.{ParamFault as ParamFaultValue};
 ghost use Rattle.fints_cli_texts.specs.Fault.{fault_of};
-ghost use Rattle.fints_params.specs.Captures.{IsReadOf};
+ghost use Rattle.fints_params.specs.Captures.{IsParamsOf, IsReadOf};
 ghost use Rattle.std.specs.List.{flat_map};
 ghost use Rattle.fints_cli_texts.specs.Judge.{broken_line, last_line, verdict_text, verdict_status, IsVerdictBy, IsVerdictOf, IsMessageRefusal, IsJudgeRefusal};
 
@@ -89,8 +89,26 @@ impl JudgeObserver for Unobserved {
     fn judged_after(&mut self, _before: &Message<'_>, _answer: &[u8], _message: &Message<'_>) {}
 }
 
-// The verdict on a message, by good parameters and a good order table.
+// The verdict on a message, by what a bank permits.
 #[tactic(auto, using(crate::proofs::JudgeLemmas::message_refused))]
+fn judge_by<O: JudgeObserver>(
+    alloc: Global,
+    permissions: &Permissions<'_>,
+    message: &[u8],
+    observer: &mut O,
+) -> Result<Reply, Fault>
+    ensures judged { IfOk result (λ reply.
+        IsVerdictBy permissions.now.rows permissions.now.orders message.now reply.status reply.text.items) }
+    ensures refused { IfErr result (λ f. IsMessageRefusal message.now f) }
+{
+    let read = read_message_with(alloc, message, observer)?;
+    let broken = fints_rules::judge_message(alloc, permissions, &read)?;
+    observer.judged(permissions, &read, broken.as_slice());
+    let reply = verdict(alloc, broken.as_slice())?;
+    Ok(reply)
+}
+
+// The same, by good parameters and a good order table.
 fn judge_with<O: JudgeObserver>(
     alloc: Global,
     params: &Params,
@@ -103,11 +121,26 @@ fn judge_with<O: JudgeObserver>(
     ensures refused { IfErr result (λ f. IsMessageRefusal message.now f) }
 {
     let permissions = Permissions::build(alloc, params, orders)?;
-    let read = read_message_with(alloc, message, observer)?;
-    let broken = fints_rules::judge_message(alloc, &permissions, &read)?;
-    observer.judged(&permissions, &read, broken.as_slice());
-    let reply = verdict(alloc, broken.as_slice())?;
-    Ok(reply)
+    judge_by(alloc, &permissions, message, observer)
+}
+
+// The same, by good parameters and the text of an order table.
+#[tactic(auto, using(crate::proofs::JudgeLemmas::orders_refused))]
+fn judge_under<O: JudgeObserver>(
+    alloc: Global,
+    params: &Params,
+    orders: &[u8],
+    message: &[u8],
+    observer: &mut O,
+) -> Result<Reply, Fault>
+    ensures status { IfOk result (λ reply. reply.status ≤ 1) }
+    ensures judged { IfOk result (λ reply. (capture : List ℕ) → IsParamsOf capture params.now
+        → IsVerdictOf capture orders.now message.now reply.status reply.text.items) }
+    ensures refused { IfErr result (λ f. (capture : List ℕ) → IsParamsOf capture params.now
+        → IsJudgeRefusal capture orders.now message.now f) }
+{
+    let orders = OrderTable::read(alloc, orders)?;
+    judge_with(alloc, params, &orders, message, observer)
 }
 
 /// The rules that a message breaks, by what was read of a capture and an order table. Of the refusals
@@ -130,9 +163,7 @@ pub fn judge_read<O: JudgeObserver>(
         Ok(params) => params,
         Err(fault) => return Err(Fault::from(fault)),
     };
-    let orders = OrderTable::read(alloc, orders)?;
-    let reply = judge_with(alloc, &params, &orders, message, observer)?;
-    Ok(reply)
+    judge_under(alloc, &params, orders, message, observer)
 }
 
 /// The rules that a message breaks, by a capture and an order table, with the same refusals.

@@ -4,7 +4,7 @@ ghost use Rattle.fints_params.specs.declared.fault.ParamFault.{ParamFault as Par
 ghost use Rattle.fints_cli_texts.specs.Fault.{fault_of};
 ghost use Rattle.fints_rules_messages.specs.Messages.{IsMessage};
 ghost use Rattle.fints_rules_dialogues.specs.Dialogues.{IsFromBank, IsFromClient};
-ghost use Rattle.fints_params.specs.Captures.{IsReadOf};
+ghost use Rattle.fints_params.specs.Captures.{IsParamsOf, IsReadOf};
 ghost use Rattle.fints_cli_texts.specs.JudgeAfter.{IsAnswerRefusal, IsBeforeRefusal, IsJudgeAfterRefusal, IsRefusalOfThree, IsVerdictAfter, IsVerdictAfterBy};
 
 use crate::fault::{Fault, answer_fault};
@@ -97,8 +97,28 @@ fn judge_after_with<O: JudgeObserver>(
     ensures refused { IfErr result (λ f. IsRefusalOfThree before.now answer.now message.now f) }
 {
     let permissions = Permissions::build(alloc, params, orders)?;
-    let reply = judge_behind(alloc, &permissions, before, answer, message, observer)?;
-    Ok(reply)
+    judge_behind(alloc, &permissions, before, answer, message, observer)
+}
+
+// The same, by good parameters and the text of an order table.
+#[tactic(auto, using(crate::proofs::JudgeLemmas::orders_refused))]
+fn judge_after_under<O: JudgeObserver>(
+    alloc: Global,
+    params: &Params,
+    orders: &[u8],
+    before: &[u8],
+    answer: &[u8],
+    message: &[u8],
+    observer: &mut O,
+) -> Result<Reply, Fault>
+    ensures status { IfOk result (λ reply. reply.status ≤ 1) }
+    ensures judged { IfOk result (λ reply. (capture : List ℕ) → IsParamsOf capture params.now
+        → IsVerdictAfter capture orders.now before.now answer.now message.now reply.status reply.text.items) }
+    ensures refused { IfErr result (λ f. (capture : List ℕ) → IsParamsOf capture params.now
+        → IsJudgeAfterRefusal capture orders.now before.now answer.now message.now f) }
+{
+    let orders = OrderTable::read(alloc, orders)?;
+    judge_after_with(alloc, params, &orders, before, answer, message, observer)
 }
 
 /// The rules that a message breaks after the client's message before it and the bank's answer to that,
@@ -125,7 +145,5 @@ pub fn judge_after_read<O: JudgeObserver>(
         Ok(params) => params,
         Err(fault) => return Err(Fault::from(fault)),
     };
-    let orders = OrderTable::read(alloc, orders)?;
-    let reply = judge_after_with(alloc, &params, &orders, before, answer, message, observer)?;
-    Ok(reply)
+    judge_after_under(alloc, &params, orders, before, answer, message, observer)
 }

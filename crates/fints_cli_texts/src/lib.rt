@@ -11,7 +11,7 @@ mod reply;
 mod showing;
 mod showing_message;
 
-pub use auditing::{audit_own, audit_read};
+pub use auditing::{audit_own, audit_read, good_log};
 pub use fault::Fault;
 pub use fints_rules_messages::Unobserved;
 pub use judging::{

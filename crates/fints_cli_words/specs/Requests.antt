@@ -48,6 +48,7 @@ reads commands.Audit Orders = true
 reads commands.Audit Dialogue = true
 reads commands.AuditOwn Orders = true
 reads commands.AuditOwn Dialogue = true
+reads commands.Record Dialogue = true
 reads commands.Draft Orders = true
 reads commands.Draft Dialogue = true
 reads commands.DraftCase Orders = true

@@ -77,7 +77,12 @@ const ANSWER: Choice = Choice::Beside(
 
 const MESSAGE: Choice = Choice::File(Input::Message, "The message");
 
-const DIALOGUE: Choice = Choice::File(Input::Dialogue, "The recorded dialogue");
+const DIALOGUE: Choice = Choice::File(Input::Dialogue, "The recorded dialogue, or a log with it");
+
+const LOG: Choice = Choice::File(
+    Input::Dialogue,
+    "The log of a client, or any file with messages in it",
+);
 
 const OTHER_PARAMS: Choice = Choice::Optional(
     Input::Params,
@@ -93,6 +98,8 @@ const REPLAYING: Choice = Choice::Flag(
     "case",
     "The case that sends the recorded messages, with PIN and TAN",
 );
+
+const PART: Choice = Choice::Number("part", "Only dialogue N of the recording");
 
 const SENT: Choice = Choice::Number("message", "Only the bytes of message N");
 
@@ -114,7 +121,7 @@ pub struct Described {
 }
 
 /// The commands.
-pub const COMMANDS: [Described; 10] = [
+pub const COMMANDS: [Described; 11] = [
     Described {
         name: "show",
         command: Command::Show,
@@ -134,10 +141,16 @@ pub const COMMANDS: [Described; 10] = [
         options: &[OTHER_PARAMS, ORDERS, DIALOGUE],
     },
     Described {
+        name: "record",
+        command: Command::Record,
+        about: "Prints the messages that are in a file, raw, in UTF-8 or in base64: a recorded dialogue",
+        options: &[LOG],
+    },
+    Described {
         name: "draft",
         command: Command::Draft,
         about: "Drafts a script that sends the messages of a recorded dialogue once more",
-        options: &[OTHER_ORDERS, DIALOGUE, REPLAYING],
+        options: &[OTHER_ORDERS, DIALOGUE, PART, REPLAYING],
     },
     Described {
         name: "check",

@@ -22,7 +22,10 @@ pub enum Command {
     Audit,
     /// The same, by the parameters in the dialogue's own answers.
     AuditOwn,
-    /// A script that sends the client's messages of a recorded dialogue once more.
+    /// The messages that are in a file.
+    Record,
+    /// A script that sends the client's messages of a recorded dialogue once more, or only those of the dialogue of
+    /// the number.
     Draft,
     /// The case that has that script send them.
     DraftCase,
@@ -120,6 +123,7 @@ impl Command {
                 Input::Params | Input::Orders | Input::Before | Input::Answer | Input::Message
             ),
             Command::Audit => matches!(input, Input::Params | Input::Orders | Input::Dialogue),
+            Command::Record => matches!(input, Input::Dialogue),
             Command::AuditOwn | Command::Draft | Command::DraftCase => {
                 matches!(input, Input::Orders | Input::Dialogue)
             }
@@ -190,7 +194,8 @@ impl<'a> Paths<'a> {
 pub struct Request<'a> {
     pub command: Command,
     pub paths: Paths<'a>,
-    /// That of a finding for `Explain`, and of a message for `Run`; both count from 1.
+    /// That of a finding for `Explain`, of a message for `Run`, and of a dialogue for `Draft` and `DraftCase`; all
+    /// count from 1.
     pub number: Option<u32>,
     pub hints: bool,
 }

@@ -6,7 +6,7 @@ use Rattle.fints_rules_permissions.specs.Permits.{Granted}
 use Rattle.fints_rules.specs.declared.rule.Broken.{Broken}
 use Rattle.fints_rules.proofs.Unbroken.{permitted, permitted_after}
 use Rattle.fints_rules_dialogues.specs.declared.auditing.Audited.{Audited}
-use Rattle.fints_rules_dialogues.specs.declared.cutting.Sent.{Sent}
+use Rattle.fints_rules_dialogues.specs.declared.messages.Sent.{Sent}
 use Rattle.fints_rules_dialogues.specs.declared.fault.DialogueFault.{DialogueFault}
 use Rattle.fints_rules_dialogues.specs.declared.reading.Exchange.{Exchange}
 use Rattle.fints_rules_dialogues.specs.Dialogues.{last_of, sents_in, IsExchange, IsExchangeFault, IsMemoryOrRefusal, IsTurnFault, BeginsWithOne}

@@ -1,11 +1,10 @@
-pub mod Sizes
-pub mod Cuts
+pub mod SentLemmas
 pub mod Turns
 pub mod NearestLemmas
 pub mod PartyLemmas
 pub mod OwnLemmas
 pub mod SourceLemmas
 pub mod Audits
-pub mod OneStop
 pub mod OneTurn
 pub mod OneDialogue
+pub mod OneAudit

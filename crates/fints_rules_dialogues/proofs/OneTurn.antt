@@ -6,7 +6,7 @@ use Rattle.fints_params.specs.Captures.{IsCodeFault, IsCodesOf}
 use Rattle.fints_params.proofs.OneMeaning.{no_codes_at_fault, one_code_fault, one_codes}
 use Rattle.fints_rules_messages.specs.Messages.{CeasesAt, IsMessage, MessageView}
 use Rattle.fints_rules_messages.proofs.LawLemmas.{one_message, one_stop_not_both, one_stop_place}
-use Rattle.fints_rules_dialogues.specs.declared.cutting.Sent.{Sent}
+use Rattle.fints_rules_dialogues.specs.declared.messages.Sent.{Sent}
 use Rattle.fints_rules_dialogues.specs.declared.fault.DialogueFault.{DialogueFault}
 use Rattle.fints_rules_dialogues.specs.declared.fault.DialogueFault.TheVariants as fault
 use Rattle.fints_rules_dialogues.specs.declared.reading.Answer.{Answer}
@@ -21,13 +21,13 @@ AllSame [] (n ∷ ns) = ⊥
 AllSame (m ∷ ms) [] = ⊥
 AllSame (m ∷ ms) (n ∷ ns) = (m.start ≡ n.start) × (m.bytes.now ≡ n.bytes.now) × AllSame ms ns
 
-apart : {X : Type 0} (y : X) (ys : List X) → [] ≡ y ∷ ys → ⊥
+pub apart : {X : Type 0} (y : X) (ys : List X) → [] ≡ y ∷ ys → ⊥
 apart y ys e = cc
 
-head_is : {X : Type 0} (x y : X) (xs ys : List X) → x ∷ xs ≡ y ∷ ys → x ≡ y
+pub head_is : {X : Type 0} (x y : X) (xs ys : List X) → x ∷ xs ≡ y ∷ ys → x ≡ y
 head_is x y xs ys e = cc
 
-tail_is : {X : Type 0} (x y : X) (xs ys : List X) → x ∷ xs ≡ y ∷ ys → xs ≡ ys
+pub tail_is : {X : Type 0} (x y : X) (xs ys : List X) → x ∷ xs ≡ y ∷ ys → xs ≡ ys
 tail_is x y xs ys e = ap (drop 1) e
 
 pub all_same : (a b : List Sent) → map (λ (m : Sent). m.start) a ≡ map (λ (m : Sent). m.start) b
@@ -67,7 +67,7 @@ begins_alike (Some e) (Some f) m h = refl
 begins_alike None (Some f) m h = absurd h
 begins_alike (Some e) None m h = absurd h
 
-none_is_some : (a : Answer) → answer_values None ≡ answer_values (Some a) → ⊥
+pub none_is_some : (a : Answer) → answer_values None ≡ answer_values (Some a) → ⊥
 none_is_some a h = cc
 
 answered_alike : (x y : Option Answer) (m : MessageView) → answer_values x ≡ answer_values y

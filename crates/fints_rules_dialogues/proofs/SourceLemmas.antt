@@ -15,9 +15,8 @@ use Rattle.fints_rules_permissions.specs.Permits.{BankGranted, Granted, granted}
 use Rattle.fints_rules_permissions.specs.declared.orders.OrderRow.{OrderRow}
 use Rattle.fints_rules_dialogues.specs.Nearest.{nearest}
 use Rattle.fints_rules_dialogues.specs.OwnParams.{AreHeard, HeardRows, LacksBank, bank_for, granted_after, granted_each, granted_for, tells_bank, tells_user, user_for}
-use Rattle.fints_rules_dialogues.specs.Sources.{HoldsNearest, IsAtPlace, IsGranting, IsKeyOf, got, granted_in, heard_in, key_cmp, same, tells}
+use Rattle.fints_rules_dialogues.specs.Sources.{HoldsNearest, IsAtPlace, IsGranting, IsKeyOf, bank_of, got, heard_in, key_cmp, same, tells, user_of}
 use Rattle.fints_rules_dialogues.specs.declared.parties.Party.{Party}
-use Rattle.fints_rules_dialogues.specs.declared.sources.Basis.{Basis}
 use Rattle.fints_rules_dialogues.specs.declared.sources.Granting.{Granting}
 use Rattle.fints_rules_dialogues.specs.declared.sources.Key.{Key}
 use Rattle.fints_rules_dialogues.specs.declared.sources.Side.{Side}
@@ -82,25 +81,25 @@ abbrev grant : List OrderRow → BankRows → BankGranted
 grant orders rows = record { rows = rows; orders = orders }
 
 bank_held : (orders : List OrderRow) (o : Option Granting) → HoldsOf (IsGranting orders) o
-    → option_and_then (λ g. g.bank) o
+    → option_and_then bank_of o
     ≡ option_map (grant orders) (option_and_then (λ h. h.bank) (option_map (λ g. g.heard.now) o))
 bank_held orders None h = refl
 bank_held orders (Some g) h = h.bank
 
 user_held : (orders : List OrderRow) (o : Option Granting) → HoldsOf (IsGranting orders) o
-    → option_and_then (λ g. g.user) o ≡ option_and_then (λ h. h.user) (option_map (λ g. g.heard.now) o)
+    → option_and_then user_of o ≡ option_and_then (λ h. h.user) (option_map (λ g. g.heard.now) o)
 user_held orders None h = refl
 user_held orders (Some g) h = h.user
 
 -- the bank's part, by the rows that are told
 pub bank_found : (orders : List OrderRow) (before : List Granting) (g : Granting) (after : List Granting)
     (party : Party) → party ≡ g.heard.now.party → AllByRecursion (IsGranting orders) before → AllByRecursion (IsGranting orders) (g ∷ after)
-    → option_and_then (λ x. x.bank) (nearest (λ x. tells Bank party x.heard.now) before (g ∷ after))
+    → option_and_then bank_of (nearest (λ x. tells Bank party x.heard.now) before (g ∷ after))
     ≡ option_map (grant orders) (bank_for (heard_in before) g.heard.now (heard_in after))
 bank_found orders before g after party is h k =
     let t : HeardRows → Bool = tells_bank g.heard.now.party in
     let found = nearest (λ (x : Granting). t x.heard.now) before (g ∷ after) in
-    ap (λ p. option_and_then (λ x. x.bank) (nearest (λ (x : Granting). tells Bank p x.heard.now) before (g ∷ after))) is
+    ap (λ p. option_and_then bank_of (nearest (λ (x : Granting). tells Bank p x.heard.now) before (g ∷ after))) is
     ∙ bank_held orders found (nearest_holds (IsGranting orders) (λ x. t x.heard.now) before (g ∷ after) h k)
     ∙ ap (λ o. option_map (grant orders) (option_and_then (λ (x : HeardRows). x.bank) o))
     (sym (nearest_of_map t (λ (x : Granting). x.heard.now) before (g ∷ after)))
@@ -109,18 +108,18 @@ pub user_found : (orders : List OrderRow) (before : List Granting) (g : Granting
     (party : Party) (unknown : UserRows) → party ≡ g.heard.now.party → unknown ≡ unknown_user
     → AllByRecursion (IsGranting orders) before → AllByRecursion (IsGranting orders) (g ∷ after)
     → unwrap_or
-    (option_and_then (λ x. x.user) (nearest (λ x. tells User party x.heard.now) before (g ∷ after)))
+    (option_and_then user_of (nearest (λ x. tells User party x.heard.now) before (g ∷ after)))
     unknown
     ≡ user_for (heard_in before) g.heard.now (heard_in after)
 user_found orders before g after party unknown is none h k =
     let t : HeardRows → Bool = tells_user g.heard.now.party in
     let found = nearest (λ (x : Granting). t x.heard.now) before (g ∷ after) in
     ap (λ (u : UserRows).
-    unwrap_or (option_and_then (λ x. x.user) (nearest (λ (x : Granting). tells User party x.heard.now) before (g ∷ after)))
+    unwrap_or (option_and_then user_of (nearest (λ (x : Granting). tells User party x.heard.now) before (g ∷ after)))
     u)
     none
     ∙ ap (λ o. unwrap_or o unknown_user)
-    (ap (λ p. option_and_then (λ x. x.user) (nearest (λ (x : Granting). tells User p x.heard.now) before (g ∷ after))) is
+    (ap (λ p. option_and_then user_of (nearest (λ (x : Granting). tells User p x.heard.now) before (g ∷ after))) is
     ∙ user_held orders found (nearest_holds (IsGranting orders) (λ x. t x.heard.now) before (g ∷ after) h k)
     ∙ ap (λ o. option_and_then (λ (x : HeardRows). x.user) o)
     (sym (nearest_of_map t (λ (x : Granting). x.heard.now) before (g ∷ after))))
@@ -148,11 +147,11 @@ user_or (Some u) unknown = refl
 
 -- those in front are granted, and the maps have what is nearest at the place after them
 pub record AreGrantedSoFar (orders : List OrderRow) (all before after : List Granting)
-    (banks users : BTreeMap Key (Bor Granting)) (bases : List Basis) : Type 0 where
+    (banks users : BTreeMap Key (Bor Granting)) (bases : List Granted) : Type 0 where
   pub banks_are : HoldsNearest Bank before after banks
   pub users_are : HoldsNearest User before after users
   pub granted_are :
-      map Some (granted_in bases) ++ granted_after orders (heard_in before) (heard_in after)
+      map Some bases ++ granted_after orders (heard_in before) (heard_in after)
       ≡ granted_each orders (heard_in all)
 
 -- a map after one more is noted in it
@@ -171,25 +170,22 @@ nearest_noted side before g after old new h n = λ party key is.
     ∙ sym (nearest_step t before g after)
 
 pub one_granted : (orders : List OrderRow) (all before : List Granting) (g : Granting) (after : List Granting)
-    (banks users banks' users' : BTreeMap Key (Bor Granting)) (bases : List Basis) (basis : Basis)
+    (banks users banks' users' : BTreeMap Key (Bor Granting)) (bases : List Granted) (basis : Granted)
     → AreGrantedSoFar orders all before (g ∷ after) banks users bases
-    → Some basis.permissions ≡ granted_for orders (heard_in before) g.heard.now (heard_in after)
+    → Some basis ≡ granted_for orders (heard_in before) g.heard.now (heard_in after)
     → IsNoted Bank g banks banks' → IsNoted User g users users'
     → AreGrantedSoFar orders all (before ++ g ∷ []) after banks' users' (bases ++ basis ∷ [])
 one_granted orders all before g after banks users banks' users' bases basis h is bank user =
-    let permissions = granted_in bases in
-    let p = basis.permissions in
     let rest : List HeardRows → List (Option Granted) = λ front. granted_after orders front (heard_in after) in
     let front = heard_in before ++ g.heard.now ∷ [] in
     record {
       banks_are = nearest_noted Bank before g after banks banks' h.banks_are bank;
       users_are = nearest_noted User before g after users users' h.users_are user;
       granted_are =
-          ap (λ (xs : List Granted). map Some xs ++ rest (heard_in (before ++ g ∷ []))) (map-append (λ (b : Basis). b.permissions) bases (basis ∷ []))
-          ∙ ap (λ (xs : List (Option Granted)). xs ++ rest (heard_in (before ++ g ∷ []))) (map-append Some permissions (p ∷ []))
-          ∙ append_assoc (map Some permissions) (Some p ∷ []) (rest (heard_in (before ++ g ∷ [])))
-          ∙ ap (λ xs. map Some permissions ++ Some p ∷ rest xs) (map-append (λ (x : Granting). x.heard.now) before (g ∷ []))
-          ∙ ap (λ o. map Some permissions ++ o ∷ rest front) is
+          ap (λ (xs : List (Option Granted)). xs ++ rest (heard_in (before ++ g ∷ []))) (map-append Some bases (basis ∷ []))
+          ∙ append_assoc (map Some bases) (Some basis ∷ []) (rest (heard_in (before ++ g ∷ [])))
+          ∙ ap (λ xs. map Some bases ++ Some basis ∷ rest xs) (map-append (λ (x : Granting). x.heard.now) before (g ∷ []))
+          ∙ ap (λ o. map Some bases ++ o ∷ rest front) is
           ∙ h.granted_are;
     }
 
@@ -198,9 +194,9 @@ no_more [] = refl
 no_more (x ∷ xs) = ap (λ ys. x ∷ ys) (no_more xs)
 
 pub all_granted : (orders : List OrderRow) (all : List Granting) (banks users : BTreeMap Key (Bor Granting))
-    (bases : List Basis) → AreGrantedSoFar orders all all [] banks users bases
-    → map Some (granted_in bases) ≡ granted_each orders (heard_in all)
-all_granted orders all banks users bases h = sym (no_more (map Some (granted_in bases))) ∙ h.granted_are
+    (bases : List Granted) → AreGrantedSoFar orders all all [] banks users bases
+    → map Some bases ≡ granted_each orders (heard_in all)
+all_granted orders all banks users bases h = sym (no_more (map Some bases)) ∙ h.granted_are
 
 pub all_split : {A : Type 0} (P : A → Type 0) (xs ys : List A) → AllByRecursion P (xs ++ ys)
     → AllByRecursion P xs × AllByRecursion P ys
@@ -209,7 +205,7 @@ all_split P (x ∷ xs) ys h = let rest = all_split P xs ys h.1 in ((h.0, rest.0)
 
 -- each granting is right, so the place of one is
 pub at_place : (orders : List OrderRow) (all before : List Granting) (g : Granting) (after : List Granting)
-    (banks users : BTreeMap Key (Bor Granting)) (bases : List Basis)
+    (banks users : BTreeMap Key (Bor Granting)) (bases : List Granted)
     → all ≡ before ++ g ∷ after → AllByRecursion (IsGranting orders) all
     → AreGrantedSoFar orders all before (g ∷ after) banks users bases
     → IsAtPlace orders before g after banks users
@@ -241,13 +237,12 @@ told_long [] (y ∷ ys) all = absurd all
 told_long (x ∷ xs) [] all = absurd all
 told_long (x ∷ xs) (y ∷ ys) (first, all) = ap suc (told_long xs ys all)
 
-pub as_many : (orders : List OrderRow) (exchanges : List Exchange) (heard : List HeardRows) (bases : List Basis)
-    → AreHeard exchanges heard → map Some (granted_in bases) ≡ granted_each orders heard
+pub as_many : (orders : List OrderRow) (exchanges : List Exchange) (heard : List HeardRows) (bases : List Granted)
+    → AreHeard exchanges heard → map Some bases ≡ granted_each orders heard
     → length bases ≡ length exchanges
 as_many orders exchanges heard bases are granted =
     let told = told_long exchanges heard are.told in
     let long = each_long orders [] heard in
-    let mapped = length-map (granted_in bases) Some in
-    let given = length-map bases (λ b. b.permissions) in
+    let mapped = length-map bases Some in
     let same = ap length granted in
-    omega (arith, told, long, mapped, given, same)
+    omega (arith, told, long, mapped, same)

@@ -1,5 +1,5 @@
 -- The exchanges of messages, as far as they are read.
-use Rattle.std.proofs.Common.{◌≡◌, ℕ, zero, suc, ◌+◌, ◌<◌, ◌≤◌, ◌^◌, List, [], ◌∷◌, ◌++◌, length, get_or, take, drop, refl, ap, ◌∙◌, sym, subst, arith, inl, inr, Option, None, Some, Bool, ◌-◌}
+use Rattle.std.proofs.Common.{◌≡◌, ℕ, zero, suc, ◌+◌, ◌<◌, ◌≤◌, List, [], ◌∷◌, ◌++◌, length, get_or, take, drop, refl, ap, ◌∙◌, sym, subst, arith, inl, inr, Option, None, Some, Bool, ◌-◌}
 use Rattle.std.specs.List.{AllByRecursion}
 use Rattle.std.specs.Prelude.{slice_get, slice_index_or}
 use Rattle.std.proofs.lemmas.List.{length-append, length-drop, drop-drop, drop_all, drop_at, drop_more, take-append-drop, take_more}
@@ -8,12 +8,12 @@ use Rattle.fints_params.specs.declared.fault.ParamFault.{ParamFault}
 use Rattle.fints_params.specs.declared.fault.ParamFault.TheVariants as params
 use Rattle.fints_params.specs.Captures.{IsCodeFault}
 use Rattle.fints_params.specs.Faults.{IsMemoryOr as IsReadFault}
-use Rattle.fints_rules_dialogues.specs.declared.cutting.Sent.{Sent}
+use Rattle.fints_rules_dialogues.specs.declared.messages.Sent.{Sent}
 use Rattle.fints_rules_dialogues.specs.declared.fault.DialogueFault.{DialogueFault}
 use Rattle.fints_rules_dialogues.specs.declared.fault.DialogueFault.TheVariants as fault
 use Rattle.fints_rules_dialogues.specs.declared.reading.Answer.{Answer}
 use Rattle.fints_rules_dialogues.specs.declared.reading.Exchange.{Exchange}
-use Rattle.fints_rules_dialogues.specs.Dialogues.{begins_after, CutsInto, IsAnsweredBy, IsClientsNext, IsCutFile, last_of, sents_in, AreInTurn, AreInTurnAfter, IsExchange, IsAnswerFault, IsExchangeFault, IsTurnFault, IsMemoryOrRefusal, EndsBelow, BeginsWith, BeginsWithOne}
+use Rattle.fints_rules_dialogues.specs.Dialogues.{begins_after, IsAnsweredBy, IsClientsNext, last_of, sents_in, AreInTurn, AreInTurnAfter, IsExchange, IsAnswerFault, IsExchangeFault, IsTurnFault, IsMemoryOrRefusal, BeginsWith, BeginsWithOne}
 
 pub all_drop : {X : Type 0} (P : X → Type 0) (n : ℕ) (xs : List X) → AllByRecursion P xs
     → AllByRecursion P (drop n xs)
@@ -128,21 +128,6 @@ one_read messages at es e h (left, begins) =
 pub all_read : (messages : List Sent) (at : ℕ) (es : List Exchange) → AreReadSoFar messages at es
     → length messages ≤ at → AreInTurn messages es []
 all_read messages at es h le = subst (AreInTurn messages es) (drop_all at messages le) h.in_turn
-
--- each message of a file ends within it
-ends_within : (at : ℕ) (bytes : List ℕ) (ms : List Sent) (more : List ℕ) → CutsInto at bytes ms more
-    → at + length bytes < 2 ^ 64 → EndsBelow ms
-ends_within at bytes [] more h lt = tt
-ends_within at bytes (m ∷ ms) more (rest, s, h) lt =
-    let e : length bytes ≡ length s.gap + (length m.bytes.now + length rest) =
-    omega (arith, ap length s.text, length-append s.gap (m.bytes.now ++ rest), length-append m.bytes.now rest) in (
-      omega (arith, lt, e, s.start_is),
-      ends_within (m.start + length m.bytes.now) rest ms more h (omega (arith, lt, e, s.start_is)),
-    )
-
-pub cut_ends : (file : List ℕ) (messages : List Sent) → IsCutFile file messages → length file < 2 ^ 64
-    → EndsBelow messages
-cut_ends file messages (tail, breaks, h) lt = ends_within 0 file messages tail h (omega (arith, lt))
 
 -- what refuses the exchange where the rest of the messages begins
 pub turn_refused : (messages : List Sent) (at : ℕ) (es : List Exchange) (f : DialogueFault)

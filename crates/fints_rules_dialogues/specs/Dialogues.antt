@@ -1,15 +1,15 @@
--- What recorded dialogues are: the messages of both sides as they were sent, with CR and LF before, between and
--- after them; in turn, the client's first. Last, under a heading, are the words of private contracts and proofs only.
-use Rattle.std.specs.Prelude.{codes, ◌≡◌, ◌≢◌, ◌⊎◌, ℕ, ◌+◌, ◌<◌, ◌^◌, ◌==◌, ◌&&◌, Bool, true, false, List, [], ◌∷◌, ◌++◌, length, Option, Some, None}
+-- What recorded dialogues are: the messages of both sides as they were sent, in turn, the client's first. Last, under a heading, are the words of private contracts and proofs only.
+use Rattle.std.specs.Prelude.{codes, ◌≡◌, ◌≢◌, ◌⊎◌, ℕ, ◌+◌, ◌<◌, ◌^◌, ◌==◌, ◌&&◌, Bool, true, false, List, [], ◌∷◌, ◌++◌, length, map, Option, Some, None}
 use Rattle.std.specs.List.{AllByRecursion, list_any}
 use Rattle.std.specs.Str.{bytes_eq}
-use Rattle.fints_syntax_segments.specs.Number.{number_in, number_of}
+use Rattle.fints_syntax_segments.specs.Number.{number_of}
 use Rattle.fints_syntax_segments.specs.Values.{value_at}
 use Rattle.fints_syntax_segments.specs.declared.item.OwnedSegment.{OwnedSegment}
-use Rattle.fints_syntax.specs.Capture.{IsBreak}
 use Rattle.fints_params.specs.Captures.{IsCodesOf, IsCodeFault}
+use Rattle.fints_rules_logs.specs.Kept.{IsLog, IsLogFault, LogValue}
+use Rattle.fints_rules_logs.specs.declared.fault.LogFault.TheVariants as log
 use Rattle.fints_rules_messages.specs.Messages.{MessageView, IsMessage, CeasesAt}
-use Rattle.fints_rules_dialogues.specs.declared.cutting.Sent.{Sent}
+use Rattle.fints_rules_dialogues.specs.declared.messages.Sent.{Sent}
 use Rattle.fints_rules_dialogues.specs.declared.fault.DialogueFault.{DialogueFault}
 use Rattle.fints_rules_dialogues.specs.declared.fault.DialogueFault.TheVariants as fault
 use Rattle.fints_rules_dialogues.specs.declared.reading.Answer.{Answer}
@@ -17,50 +17,11 @@ use Rattle.fints_rules_dialogues.specs.declared.reading.Exchange.{Exchange}
 
 -- ---- the messages of a file
 
--- the bytes begin with HNHBK 3, number 1, whose second element tells this size in 12 digits
-pub record SaysSize (bytes : List ℕ) (size : ℕ) : Type 0 where
-  pub digits : List ℕ
-  pub more : List ℕ
-  pub text : bytes ≡ codes "HNHBK:1:3+" ++ (digits ++ (codes "+" ++ more))
-  pub size_is : number_in 12 12 digits ≡ Some size
-
--- they are as many as they say
-abbrev pub IsSized : List ℕ → Type 0
-IsSized bytes = SaysSize bytes (length bytes)
-
--- the bytes, which stand at this offset, are line breaks, a message, and the rest
-pub record Stands (at : ℕ) (bytes : List ℕ) (m : Sent) (rest : List ℕ) : Type 0 where
-  pub gap : List ℕ
-  pub breaks : AllByRecursion IsBreak gap
-  pub sized : IsSized m.bytes.now
-  pub start_is : m.start ≡ at + length gap
-  pub text : bytes ≡ gap ++ (m.bytes.now ++ rest)
-
--- the bytes, which stand at this offset, begin with these messages, and then there is more
-abbrev pub CutsInto : ℕ → List ℕ → List Sent → List ℕ → Type 0
-CutsInto at bytes [] more = bytes ≡ more
-CutsInto at bytes (m ∷ ms) more =
-    (rest : List ℕ) × Stands at bytes m rest × CutsInto (m.start + length m.bytes.now) rest ms more
-
--- the file is these messages, with line breaks before, between and behind them
-abbrev pub IsCutFile : List ℕ → List Sent → Type 0
-IsCutFile file messages = (tail : List ℕ) × AllByRecursion IsBreak tail × CutsInto 0 file messages tail
-
--- no bytes at the front are as many as they say
-abbrev pub NoneStands : List ℕ → Type 0
-NoneStands bytes = (m more : List ℕ) → IsSized m → bytes ≡ m ++ more → ⊥
-
--- behind some messages and line breaks, at this offset, a byte stands that begins no message and is no line break
-pub record CutStopsAt (file : List ℕ) (offset : ℕ) : Type 0 where
-  pub messages : List Sent
-  pub gap : List ℕ
-  pub first : ℕ
-  pub more : List ℕ
-  pub cut : CutsInto 0 file messages (gap ++ first ∷ more)
-  pub breaks : AllByRecursion IsBreak gap
-  pub no_break : IsBreak first → ⊥
-  pub offset_is : offset + (1 + length more) ≡ length file
-  pub none : NoneStands (first ∷ more)
+-- these are the messages of a log: at the same offsets, with the same bytes
+abbrev pub AreSent : LogValue → List Sent → Type 0
+AreSent log messages =
+    (map (λ m. m.start) messages ≡ map (λ f. f.start) log.kept)
+    × (map (λ m. m.bytes.now) messages ≡ map (λ f. f.bytes) log.kept)
 
 -- ---- whose a message is
 
@@ -147,27 +108,25 @@ AreInTurnAfter before messages (e ∷ es) more =
 abbrev pub AreInTurn : List Sent → List Exchange → List Sent → Type 0
 AreInTurn messages exchanges more = AreInTurnAfter None messages exchanges more
 
--- the file is a recording of these exchanges, of one dialogue or of several
-pub record IsDialogue (file : List ℕ) (exchanges : List Exchange) : Type 0 where
+-- the messages of a log are those of these exchanges, of one dialogue or of several
+pub record IsDialogueOf (log : LogValue) (exchanges : List Exchange) : Type 0 where
   pub messages : List Sent
-  pub cut : IsCutFile file messages
-  pub some : messages ≢ []
+  pub sent : AreSent log messages
   pub in_turn : AreInTurn messages exchanges []
+
+-- the file is a recording of these exchanges
+abbrev pub IsDialogue : List ℕ → List Exchange → Type 0
+IsDialogue file exchanges = (log : LogValue) × IsLog file log × IsDialogueOf log exchanges
 
 -- ---- refusals
 
 abbrev pub IsMemoryOrRefusal : (DialogueFault → Type 0) → DialogueFault → Type 0
 IsMemoryOrRefusal P f = (f ≡ fault.Memory) ⊎ P f
 
--- the place where the cut stops
-abbrev pub IsCutFault : List ℕ → DialogueFault → Type 0
-IsCutFault file (fault.NotAMessage offset) = CutStopsAt file offset
-IsCutFault file _ = ⊥
-
--- why the file can't be cut, or has no message
+-- why the file is no log
 abbrev pub IsFileFault : List ℕ → DialogueFault → Type 0
-IsFileFault file fault.NoMessage = AllByRecursion IsBreak file
-IsFileFault file (fault.NotAMessage offset) = CutStopsAt file offset
+IsFileFault file fault.NoMessage = IsLogFault file log.NoMessage
+IsFileFault file (fault.NotAMessage offset) = IsLogFault file (log.NotAMessage offset)
 IsFileFault file _ = ⊥
 
 -- the bytes are a message of the client that may come after that exchange
@@ -210,10 +169,14 @@ IsTurnFault messages f =
     (front : List Exchange) × (rest : List Sent) × AreInTurn messages front rest
     × IsExchangeFault (last_of None front) rest f
 
+-- the same of the messages of a log
+abbrev pub IsTurnFaultOf : LogValue → DialogueFault → Type 0
+IsTurnFaultOf log f = (messages : List Sent) × AreSent log messages × IsTurnFault messages f
+
 -- the first refusal: of the file as a whole, or of its messages in their order
 abbrev pub IsDialogueFault : List ℕ → DialogueFault → Type 0
 IsDialogueFault file f =
-    IsFileFault file f ⊎ ((messages : List Sent) × IsCutFile file messages × IsTurnFault messages f)
+    IsFileFault file f ⊎ ((log : LogValue) × IsLog file log × IsTurnFaultOf log f)
 
 -- ---- of private contracts and proofs only
 

@@ -1,18 +1,14 @@
 -- The laws of recorded dialogues. Each is the contract of a public function.
 use Rattle.std.specs.Prelude.{◌≡◌, ℕ, Bool, List, Option, Some, None, map}
 use Rattle.fints_rules_messages.specs.Messages.{MessageView}
-use Rattle.fints_rules_dialogues.specs.declared.cutting.Sent.{Sent}
+use Rattle.fints_rules_permissions.specs.declared.orders.OrderRow.{OrderRow}
+use Rattle.fints_rules_dialogues.specs.declared.auditing.Audited.{Audited}
 use Rattle.fints_rules_dialogues.specs.declared.fault.DialogueFault.{DialogueFault}
 use Rattle.fints_rules_dialogues.specs.declared.reading.Answer.{Answer}
 use Rattle.fints_rules_dialogues.specs.declared.reading.Exchange.{Exchange}
-use Rattle.fints_rules_dialogues.specs.Dialogues.{IsCutFile, IsDialogue, IsDialogueFault}
-
--- a file is cut in one way at most: at the same offsets, into the same messages
-abbrev pub OneCut : Type 0
-OneCut =
-    (file : List ℕ) (a b : List Sent) → IsCutFile file a → IsCutFile file b
-    → (map (λ m. m.start) a ≡ map (λ m. m.start) b)
-    × (map (λ m. m.bytes.now) a ≡ map (λ m. m.bytes.now) b)
+use Rattle.fints_rules_dialogues.specs.Auditing.{IsOwnAudit}
+use Rattle.fints_rules_dialogues.specs.Dialogues.{IsDialogue, IsDialogueFault}
+use Rattle.fints_rules_dialogues.specs.OwnParams.{IsOwnParamsFault}
 
 -- where an answer stands, its bytes and its codes
 abbrev pub answer_values : Option Answer → Option (ℕ × List ℕ × List ℕ)
@@ -40,3 +36,10 @@ abbrev pub NoDialogueAtFault : Type 0
 NoDialogueAtFault =
     (file : List ℕ) (exchanges : List Exchange) (f : DialogueFault) → IsDialogue file exchanges
     → IsDialogueFault file f → ⊥
+
+-- a file that is a recording is never audited by the parameters in its own answers and refused for them
+abbrev pub NoAuditAtFault : Type 0
+NoAuditAtFault =
+    (file : List ℕ) (orders : List OrderRow) (a b : List Exchange) (audited : List Audited)
+    (f : DialogueFault) → IsDialogue file a → IsDialogue file b → IsOwnAudit orders a audited
+    → IsOwnParamsFault b f → ⊥

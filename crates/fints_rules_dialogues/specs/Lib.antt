@@ -1,6 +1,7 @@
 pub mod Dialogues
 pub mod Nearest
 pub mod Parties
+pub mod Parts
 pub mod OwnParams
 pub mod Sources
 pub mod Auditing

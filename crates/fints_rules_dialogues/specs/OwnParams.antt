@@ -10,7 +10,7 @@ use Rattle.fints_rules_permissions.specs.Permits.{Granted}
 use Rattle.fints_rules_permissions.specs.declared.orders.OrderRow.{OrderRow}
 use Rattle.fints_rules_dialogues.specs.Nearest.{nearest}
 use Rattle.fints_rules_dialogues.specs.Parties.{parties, same_bank, same_customer}
-use Rattle.fints_rules_dialogues.specs.declared.cutting.Sent.{Sent}
+use Rattle.fints_rules_dialogues.specs.declared.messages.Sent.{Sent}
 use Rattle.fints_rules_dialogues.specs.declared.fault.DialogueFault.{DialogueFault}
 use Rattle.fints_rules_dialogues.specs.declared.fault.DialogueFault.TheVariants as fault
 use Rattle.fints_rules_dialogues.specs.declared.parties.Party.{Party}

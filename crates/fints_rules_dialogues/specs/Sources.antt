@@ -8,13 +8,13 @@ use Rattle.std.specs.Option.{is_some, option_map}
 use Rattle.std.specs.Cmp.Lexicographic.{slice_cmp}
 use Rattle.std.specs.Ordering.{nat_cmp, ordering_then}
 use Rattle.std.specs.declared.cmp.Ordering.{Ordering}
-use Rattle.fints_rules_permissions.specs.Permits.{Granted}
+use Rattle.fints_params.specs.Parameters.{UserRows}
+use Rattle.fints_rules_permissions.specs.Permits.{BankGranted}
 use Rattle.fints_rules_permissions.specs.declared.orders.OrderRow.{OrderRow}
 use Rattle.fints_rules_dialogues.specs.Nearest.{nearest}
 use Rattle.fints_rules_dialogues.specs.OwnParams.{HeardRows}
 use Rattle.fints_rules_dialogues.specs.Parties.{same_bank, same_customer}
 use Rattle.fints_rules_dialogues.specs.declared.parties.Party.{Party}
-use Rattle.fints_rules_dialogues.specs.declared.sources.Basis.{Basis}
 use Rattle.fints_rules_dialogues.specs.declared.sources.Granting.{Granting}
 use Rattle.fints_rules_dialogues.specs.declared.sources.Key.{Key}
 use Rattle.fints_rules_dialogues.specs.declared.sources.Side.{Side}
@@ -47,10 +47,17 @@ key_cmp a b =
     (ordering_then (slice_cmp nat_cmp a.code.now b.code.now)
     (slice_cmp nat_cmp a.customer.now b.customer.now))
 
+-- what a granting holds of the bank and of the user
+abbrev pub bank_of : Granting → Option BankGranted
+bank_of g = option_map (λ b. b.value) g.bank
+
+abbrev pub user_of : Granting → Option UserRows
+user_of g = option_map (λ u. u.value) g.user
+
 -- what is permitted by what an exchange's answer tells
 pub record IsGranting (orders : List OrderRow) (g : Granting) : Type 0 where
-  pub bank : g.bank ≡ option_map (λ rows. record { rows = rows; orders = orders }) g.heard.now.bank
-  pub user : g.user ≡ g.heard.now.user
+  pub bank : bank_of g ≡ option_map (λ rows. record { rows = rows; orders = orders }) g.heard.now.bank
+  pub user : user_of g ≡ g.heard.now.user
 
 -- what a map has at a key
 abbrev pub got : BTreeMap Key (Bor Granting) → Key → Option Granting
@@ -69,9 +76,6 @@ pub record OwnGranted : Type 0 where
 
 abbrev pub heard_in : List Granting → List HeardRows
 heard_in all = map (λ g. g.heard.now) all
-
-abbrev pub granted_in : List Basis → List Granted
-granted_in bases = map (λ b. b.permissions) bases
 
 -- the maps have what is nearest at the place of the exchange, and each granting is right
 pub record IsAtPlace (orders : List OrderRow) (before : List Granting) (g : Granting) (after : List Granting)

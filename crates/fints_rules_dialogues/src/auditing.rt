@@ -4,10 +4,9 @@ ghost use Rattle.std.specs.List.{AllByRecursion};
 ghost use Rattle.fints_rules_dialogues.specs.Dialogues.{IsExchange, IsMemoryOrRefusal, IsTurnFault};
 ghost use Rattle.fints_rules_dialogues.specs.Auditing.{before_in, codes_told, AreAudited, AreAuditedInTurn, IsAuditedNext, IsExchangeOrNone, IsJudgedNext, IsOwnAudit};
 ghost use Rattle.fints_rules_dialogues.specs.OwnParams.{IsOwnParamsFault};
-ghost use Rattle.fints_rules_dialogues.specs.Sources.{granted_in};
 
-use crate::cutting::Sent;
 use crate::fault::DialogueFault;
+use crate::messages::Sent;
 use crate::own_params::OwnParams;
 use crate::reading::{Exchange, message_count, read_exchange};
 use crate::recording::Recording;
@@ -157,17 +156,17 @@ fn audit_each<'a, O: Observer>(
 ) -> Result<Vec<Audited<'a>>, Memory>
     ensures { IfOk result (λ audited. length bases.now ≡ length exchanges.now
         → AllByRecursion IsExchange exchanges.now
-        → AreAudited (granted_in bases.now) exchanges.now audited.items) }
+        → AreAudited bases.now exchanges.now audited.items) }
 {
     let mut audited = Vec::new(alloc);
     let mut before: Option<&Exchange<'a>> = None;
     for i in 0..bases.len().min(exchanges.len()) {
         let (basis, exchange) = (&bases[i], &exchanges[i]);
-        let permissions = &basis.permissions;
+        let permissions = basis.permissions();
         let one = audit_next(
             alloc,
-            permissions,
-            basis.told_in,
+            &permissions,
+            basis.told_in(),
             before,
             exchange,
             observer,

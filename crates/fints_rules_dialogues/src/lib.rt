@@ -2,21 +2,24 @@
 #![tactic(auto)]
 
 mod auditing;
-mod cutting;
 mod fault;
 pub mod laws;
+mod messages;
 mod own_params;
 mod parties;
+mod parts;
 mod reading;
 mod recording;
 mod sources;
 
 pub use auditing::{Audited, Observer, audit, audit_exchanges};
-pub use cutting::{Sent, cut};
 pub use fault::DialogueFault;
+pub use fints_rules_logs::Log;
 pub use fints_rules_messages::{Unobserved, Unread, UnreadObserver};
+pub use messages::{Sent, read_log};
 pub use own_params::{Heard, OwnParams};
 pub use parties::Party;
+pub use parts::{Part, part_of};
 pub use reading::{Answer, Exchange, is_answer};
 pub use recording::{Recording, read_dialogue, read_dialogue_with};
 pub use sources::{Basis, OwnPermissions, ToldIn};

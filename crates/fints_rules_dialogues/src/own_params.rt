@@ -1,34 +1,63 @@
 //! What the bank's answers in a recording tell of banks and users.
-ghost use Rattle.std.specs.Prelude.{◌≡◌, IfOk, IfErr};
+ghost use Rattle.std.specs.Prelude.{◌≡◌, IfOk, IfErr, option_copied};
+ghost use Rattle.std.specs.Option.{option_map};
 ghost use Rattle.fints_params.specs.Captures.{TellsBank, TellsUser};
 ghost use Rattle.fints_params.specs.Parameters.{unknown_user};
 ghost use Rattle.fints_rules_dialogues.specs.Dialogues.{IsMemoryOrRefusal};
 ghost use Rattle.fints_rules_dialogues.specs.OwnParams.{AnswerTells, AreHeard, IsCaptureFault, IsRefusedAnswer, IsTellingFault};
 
-use crate::cutting::Sent;
 use crate::fault::DialogueFault;
+use crate::messages::Sent;
 use crate::parties::{Party, first_party, next_party};
 use crate::reading::{Answer, Exchange};
 use fints_params::{BankParams, ParamFault, Told, UserParams, told_in};
+use fints_syntax::Memory;
 use std::alloc::Global;
 use std::marker::Model;
 use std::rc::Rc;
+
+/// What is there, in a box.
+pub fn boxed<T: Drop>(alloc: Global, one: Option<T>) -> Result<Option<Box<T>>, Memory>
+    ensures { IfOk result (λ o. option_map (λ b. b.value) o ≡ one) }
+{
+    match one {
+        None => Ok(None),
+        Some(one) => Ok(Some(Box::new(alloc, one)?)),
+    }
+}
+
+/// What is in the box, if there is one.
+pub fn boxed_in<T>(one: &Option<Box<T>>) -> Option<&T>
+    ensures { option_copied result ≡ option_map (λ b. b.value) one.now }
+{
+    match one {
+        None => None,
+        Some(one) => Some(one.as_ref()),
+    }
+}
 
 /// Whose an exchange is, and what its answer tells; a contract sees the rows.
 #[derive(Drop)]
 pub struct Heard<'a> {
     party: Rc<Party>,
-    told: Told,
+    // Most answers have no parameters, so those of one are in a box.
+    bank: Option<Box<BankParams>>,
+    user: Option<Box<UserParams>>,
     // The answer that tells it.
     answer: Option<Sent<'a>>,
 }
 
 impl<'a> Model for Heard<'a> {
+    ghost use Rattle.std.specs.Option.{option_map};
     ghost use Rattle.fints_rules_dialogues.specs.OwnParams.{HeardRows};
 
     ghost Value = { HeardRows };
 
-    ghost view = { λ h. record { party = h.party.value; bank = h.told.bank; user = h.told.user } };
+    ghost view = { λ h. record {
+      party = h.party.value;
+      bank = option_map (λ b. b.value) h.bank;
+      user = option_map (λ u. u.value) h.user;
+    } };
 }
 
 impl<'a> Heard<'a> {
@@ -40,17 +69,17 @@ impl<'a> Heard<'a> {
     }
 
     /// What the answer tells of the bank.
-    pub fn bank(&self) -> &Option<BankParams>
-        ensures { result.now ≡ self.now.bank }
+    pub fn bank(&self) -> Option<&BankParams>
+        ensures { option_copied result ≡ self.now.bank }
     {
-        &self.told.bank
+        boxed_in(&self.bank)
     }
 
     /// What it tells of the user.
-    pub fn user(&self) -> &Option<UserParams>
-        ensures { result.now ≡ self.now.user }
+    pub fn user(&self) -> Option<&UserParams>
+        ensures { option_copied result ≡ self.now.user }
     {
-        &self.told.user
+        boxed_in(&self.user)
     }
 
     /// The answer. No contract says so.
@@ -89,6 +118,25 @@ fn told_by(alloc: Global, answer: &Option<Answer<'_>>) -> Result<Told, DialogueF
         }),
         Some(answer) => told_in_sent(alloc, &answer.sent),
     }
+}
+
+// Whose an exchange is, with what its answer tells.
+fn heard_of<'a>(
+    alloc: Global,
+    party: Rc<Party>,
+    told: Told,
+    answer: Option<Sent<'a>>,
+) -> Result<Heard<'a>, Memory>
+    ensures { IfOk result (λ h.
+        h ≡ record { party = party.value; bank = told.bank; user = told.user }) }
+{
+    let Told { bank, user } = told;
+    Ok(Heard {
+        party,
+        bank: boxed(alloc, bank)?,
+        user: boxed(alloc, user)?,
+        answer,
+    })
 }
 
 // Where the answer of an exchange is.
@@ -130,11 +178,8 @@ impl<'a> OwnParams<'a> {
         for exchange in exchanges {
             party = next_party(alloc, party, exchange)?;
             let told = told_by(alloc, &exchange.answer)?;
-            heard.push(Heard {
-                party: party.clone()?,
-                told,
-                answer: sent_in(&exchange.answer),
-            })?;
+            let answer = sent_in(&exchange.answer);
+            heard.push(heard_of(alloc, party.clone()?, told, answer)?)?;
         }
         Ok(OwnParams {
             heard,

@@ -6,8 +6,8 @@ ghost use Rattle.fints_syntax_segments.specs.Number.{number_of};
 ghost use Rattle.fints_syntax_segments.specs.Values.{value_at};
 ghost use Rattle.fints_rules_dialogues.specs.Dialogues.{begins_after, is_answer, is_hirmg, is_zero, may_follow, may_follow_answer, opens, sents_in, IsAnswerIn, IsAnsweredBy, IsClientsNext, IsClientFault, IsAnswerFault, IsExchangeFault, IsMemoryOrRefusal, EndsBelow, BeginsWithOne};
 
-use crate::cutting::Sent;
 use crate::fault::DialogueFault;
+use crate::messages::Sent;
 use fints_params::{Code, ParamFault, feedback_codes};
 use fints_rules_messages::{JudgeFault, Message, UnreadObserver, read_message_with};
 use fints_syntax::SegmentView;

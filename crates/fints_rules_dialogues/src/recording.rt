@@ -1,16 +1,18 @@
-//! Recorded dialogues: files that are cut into the messages of both sides.
-ghost use Rattle.std.specs.Prelude.{◌≡◌, ◌≢◌, ◌<◌, ℕ, List, [], length, IfOk, IfErr};
+//! Recorded dialogues: the messages of both sides, in turn.
+ghost use Rattle.std.specs.Prelude.{◌≡◌, ◌≢◌, [], IfOk, IfErr};
 ghost use Rattle.std.specs.List.{AllByRecursion};
-ghost use Rattle.fints_rules_dialogues.specs.Dialogues.{IsExchange, IsFileFault, IsTurnFault, AreInTurn, IsCutFile, IsDialogue, IsDialogueFault, IsMemoryOrRefusal, EndsBelow};
+ghost use Rattle.fints_rules_dialogues.specs.Dialogues.{IsExchange, IsTurnFault, IsTurnFaultOf, AreInTurn, AreSent, IsDialogueOf, IsMemoryOrRefusal, EndsBelow};
 
-use crate::cutting::{Sent, cut};
 use crate::fault::DialogueFault;
+use crate::messages::{Sent, sents_of};
 use crate::reading::{Exchange, message_count, read_exchange};
+use fints_rules_logs::Log;
 use fints_rules_messages::{Unobserved, UnreadObserver};
+use fints_syntax::Memory;
 use std::alloc::Global;
 use std::marker::Model;
 
-/// A file that is cut into messages, one at least; a contract sees them.
+/// The messages of a log, one at least; a contract sees them.
 #[derive(Drop)]
 pub struct Recording<'a> {
     messages: Vec<Sent<'a>>,
@@ -19,7 +21,7 @@ pub struct Recording<'a> {
 impl<'a> Model for Recording<'a> {
     ghost use Rattle.std.specs.Prelude.{◌≢◌, List, []};
     ghost use Rattle.fints_rules_dialogues.specs.Dialogues.{EndsBelow};
-    ghost use Rattle.fints_rules_dialogues.specs.declared.cutting.Sent.{Sent as SentValue};
+    ghost use Rattle.fints_rules_dialogues.specs.declared.messages.Sent.{Sent as SentValue};
 
     ghost Value = { List SentValue };
 
@@ -29,15 +31,11 @@ impl<'a> Model for Recording<'a> {
 }
 
 impl<'a> Recording<'a> {
-    /// The messages of a file. The refusal is where it can't be cut, or that it has no message.
-    pub fn cut(alloc: Global, file: &'a [u8]) -> Result<Recording<'a>, DialogueFault>
-        ensures cut { IfOk result (λ messages. IsCutFile file.now messages) }
-        ensures refused { IfErr result (λ f. IsMemoryOrRefusal (IsFileFault file.now) f) }
+    /// The messages of a log.
+    pub fn of(alloc: Global, log: &'a Log<'_>) -> Result<Recording<'a>, Memory>
+        ensures { IfOk result (λ messages. AreSent log.now messages) }
     {
-        let messages = cut(alloc, file)?;
-        if messages.is_empty() {
-            return Err(DialogueFault::NoMessage);
-        }
+        let messages = sents_of(alloc, log)?;
         Ok(Recording { messages })
     }
 
@@ -77,26 +75,29 @@ impl<'a> Recording<'a> {
     }
 }
 
-/// The exchanges of a recording, of one dialogue or of several. The refusal is the first, in this order: of
-/// the file as a whole, then message by message. Where a message of the client is none, the observer sees why.
+/// The exchanges of a log, of one dialogue or of several. The refusal is the first, message by message. Where a
+/// message of the client is none, the observer sees why.
 pub fn read_dialogue_with<'a, O: UnreadObserver>(
     alloc: Global,
-    file: &'a [u8],
+    log: &'a Log<'_>,
     observer: &mut O,
 ) -> Result<Vec<Exchange<'a>>, DialogueFault>
-    ensures dialogue { IfOk result (λ v. IsDialogue file.now v.items) }
+    ensures dialogue { IfOk result (λ v. IsDialogueOf log.now v.items) }
     ensures each { IfOk result (λ v. AllByRecursion IsExchange v.items) }
-    ensures refused { IfErr result (λ f. IsMemoryOrRefusal (IsDialogueFault file.now) f) }
+    ensures refused { IfErr result (λ f. IsMemoryOrRefusal (IsTurnFaultOf log.now) f) }
 {
-    let recording = Recording::cut(alloc, file)?;
+    let recording = Recording::of(alloc, log)?;
     recording.exchanges(alloc, observer)
 }
 
-/// The exchanges of a recording, with the same refusals.
-pub fn read_dialogue(alloc: Global, file: &[u8]) -> Result<Vec<Exchange<'_>>, DialogueFault>
-    ensures dialogue { IfOk result (λ v. IsDialogue file.now v.items) }
+/// The exchanges of a log, with the same refusals.
+pub fn read_dialogue<'a>(
+    alloc: Global,
+    log: &'a Log<'_>,
+) -> Result<Vec<Exchange<'a>>, DialogueFault>
+    ensures dialogue { IfOk result (λ v. IsDialogueOf log.now v.items) }
     ensures each { IfOk result (λ v. AllByRecursion IsExchange v.items) }
-    ensures refused { IfErr result (λ f. IsMemoryOrRefusal (IsDialogueFault file.now) f) }
+    ensures refused { IfErr result (λ f. IsMemoryOrRefusal (IsTurnFaultOf log.now) f) }
 {
-    read_dialogue_with(alloc, file, &mut Unobserved)
+    read_dialogue_with(alloc, log, &mut Unobserved)
 }

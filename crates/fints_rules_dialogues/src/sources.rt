@@ -5,7 +5,7 @@ ghost use Rattle.fints_params.specs.Parameters.{unknown_user};
 ghost use Rattle.fints_rules_permissions.specs.declared.orders.OrderRow.{OrderRow as OrderRowValue};
 ghost use Rattle.fints_rules_dialogues.specs.Dialogues.{IsMemoryOrRefusal};
 ghost use Rattle.fints_rules_dialogues.specs.OwnParams.{LacksBank, bank_for, granted_each, granted_for};
-ghost use Rattle.fints_rules_dialogues.specs.Sources.{IsAtPlace, IsGranting, IsKeyOf, HoldsNearest, got, granted_in, heard_in, is_told, tells};
+ghost use Rattle.fints_rules_dialogues.specs.Sources.{IsAtPlace, IsGranting, IsKeyOf, HoldsNearest, bank_of, got, heard_in, is_told, tells, user_of};
 ghost use Rattle.fints_rules_dialogues.specs.declared.fault.DialogueFault.TheVariants as fault;
 ghost use Rattle.fints_rules_dialogues.specs.declared.parties.Party.{Party as PartyValue};
 ghost use Rattle.fints_rules_dialogues.specs.declared.sources.Granting.{Granting as GrantingValue};
@@ -13,9 +13,9 @@ ghost use Rattle.fints_rules_dialogues.specs.declared.sources.Key.{Key as KeyVal
 ghost use Rattle.fints_rules_dialogues.specs.declared.sources.Side.TheVariants.{Bank, User};
 ghost use Rattle.fints_rules_dialogues.specs.Nearest.{nearest};
 
-use crate::cutting::Sent;
 use crate::fault::DialogueFault;
-use crate::own_params::{Heard, OwnParams};
+use crate::messages::Sent;
+use crate::own_params::{Heard, OwnParams, boxed, boxed_in};
 use crate::parties::Party;
 use fints_rules_permissions::{BankPermissions, OrderTable, Permissions, UserPermissions};
 use fints_syntax::Memory;
@@ -30,12 +30,12 @@ pub enum Side {
     User,
 }
 
-/// What an exchange and its answer permit.
+/// What an exchange and its answer permit. Most answers have no parameters, so what one permits is in a box.
 #[derive(Drop)]
 pub struct Granting<'a> {
     heard: &'a Heard<'a>,
-    bank: Option<BankPermissions<'a>>,
-    user: Option<UserPermissions<'a>>,
+    bank: Option<Box<BankPermissions<'a>>>,
+    user: Option<Box<UserPermissions<'a>>>,
 }
 
 /// What is the same of all exchanges that share what is told: the bank's country and code, and where it is told
@@ -55,11 +55,34 @@ pub struct ToldIn<'a> {
     pub user: Option<Sent<'a>>,
 }
 
-/// By what a message is judged, and which answers tell it.
+/// By what a message is judged, and which answers tell it; a contract sees what is permitted.
 #[derive(Drop)]
 pub struct Basis<'g> {
-    pub permissions: Permissions<'g>,
-    pub told_in: ToldIn<'g>,
+    bank: &'g BankPermissions<'g>,
+    user: &'g UserPermissions<'g>,
+    told_in: ToldIn<'g>,
+}
+
+impl<'g> Model for Basis<'g> {
+    ghost use Rattle.fints_rules_permissions.specs.Permits.{Granted, granted};
+
+    ghost Value = { Granted };
+
+    ghost view = { λ b. granted b.bank.now b.user.now };
+}
+
+impl<'g> Basis<'g> {
+    /// What is permitted.
+    pub fn permissions(&self) -> Permissions<'g>
+        ensures { result ≡ self.now }
+    {
+        Permissions::of(self.bank, self.user)
+    }
+
+    /// The answers. No contract says which.
+    pub fn told_in(&self) -> ToldIn<'g> {
+        self.told_in
+    }
 }
 
 type Sources<'g, 'a> = BTreeMap<Key<'g>, &'g Granting<'a>>;
@@ -122,11 +145,11 @@ fn first_sources<'g, 'a>(
 // What the bank permits that is the nearest of the party.
 fn bank_at<'g, 'a>(banks: &Sources<'g, 'a>, party: &'g Party) -> Option<&'g BankPermissions<'a>>
     ensures { (before after : List GrantingValue) → HoldsNearest Bank before after banks.now
-        → option_copied result ≡ option_and_then (λ g. g.bank)
+        → option_copied result ≡ option_and_then bank_of
         (nearest (λ g. tells Bank party.now g.heard.now) before after) }
 {
     match banks.get(&key_of(Side::Bank, party)) {
-        Some(granting) => granting.bank.as_ref(),
+        Some(granting) => boxed_in(&granting.bank),
         None => None,
     }
 }
@@ -134,11 +157,11 @@ fn bank_at<'g, 'a>(banks: &Sources<'g, 'a>, party: &'g Party) -> Option<&'g Bank
 // What the user is permitted who is the nearest of the party, if there is one.
 fn user_at<'g, 'a>(users: &Sources<'g, 'a>, party: &'g Party) -> Option<&'g UserPermissions<'a>>
     ensures { (before after : List GrantingValue) → HoldsNearest User before after users.now
-        → option_copied result ≡ option_and_then (λ g. g.user)
+        → option_copied result ≡ option_and_then user_of
         (nearest (λ g. tells User party.now g.heard.now) before after) }
 {
     match users.get(&key_of(Side::User, party)) {
-        Some(granting) => granting.user.as_ref(),
+        Some(granting) => boxed_in(&granting.user),
         None => None,
     }
 }
@@ -160,8 +183,7 @@ fn basis_at<'g, 'a>(
 ) -> Result<Basis<'g>, DialogueFault>
     ensures granted { IfOk result (λ basis. (orders : List OrderRowValue) (before after : List GrantingValue)
         → IsAtPlace orders before granting.now after banks.now users.now → unknown.now ≡ unknown_user
-        → Some basis.permissions
-        ≡ granted_for orders (heard_in before) granting.now.heard.now (heard_in after)) }
+        → Some basis ≡ granted_for orders (heard_in before) granting.now.heard.now (heard_in after)) }
     ensures refused { IfErr result (λ f. (f ≡ fault.NoParameters)
         × ((orders : List OrderRowValue) (before after : List GrantingValue)
         → IsAtPlace orders before granting.now after banks.now users.now
@@ -171,7 +193,8 @@ fn basis_at<'g, 'a>(
     match bank_at(banks, party) {
         None => Err(DialogueFault::NoParameters),
         Some(bank) => Ok(Basis {
-            permissions: Permissions::of(bank, user_at(users, party).unwrap_or(unknown)),
+            bank,
+            user: user_at(users, party).unwrap_or(unknown),
             told_in: ToldIn {
                 bank: answer_at(banks, Side::Bank, party),
                 user: answer_at(users, Side::User, party),
@@ -197,7 +220,11 @@ fn granting_of<'a>(
         Some(params) => Some(UserPermissions::of(alloc, params)?),
         None => None,
     };
-    Ok(Granting { heard, bank, user })
+    Ok(Granting {
+        heard,
+        bank: boxed(alloc, bank)?,
+        user: boxed(alloc, user)?,
+    })
 }
 
 /// What the answers of a recording permit, by an order table; a contract sees the rows that they tell.
@@ -250,7 +277,7 @@ impl<'a> OwnPermissions<'a> {
     /// accounts, and nothing can be said of orders that aren't listed. The refusal is that the bank of some
     /// message tells no parameters.
     pub fn each<'g>(&'g self, alloc: Global) -> Result<Vec<Basis<'g>>, DialogueFault>
-        ensures granted { IfOk result (λ v. map Some (granted_in v.items)
+        ensures granted { IfOk result (λ v. map Some v.items
             ≡ granted_each self.now.orders self.now.heard) }
         ensures refused { IfErr result
             (λ f. IsMemoryOrRefusal (λ f. LacksBank self.now.heard × (f ≡ fault.NoParameters)) f) }

@@ -2,8 +2,9 @@
 use fints_params::Params;
 use fints_rules::{Broken, OrderTable, Permissions};
 use fints_rules_dialogues::{
-    Audited, DialogueFault, Exchange, Observer, OwnParams, OwnPermissions, Recording, ToldIn,
+    Audited, DialogueFault, Exchange, Log, Observer, OwnParams, OwnPermissions, Recording, ToldIn,
     Unread, UnreadObserver, audit, audit_exchanges, is_answer, read_dialogue, read_dialogue_with,
+    read_log,
 };
 use fints_samples::T;
 use std::alloc::Global;
@@ -63,12 +64,18 @@ fn audits_one(
     })
 }
 
+// The same of a file.
+fn audits_one_in(alloc: Global, permissions: &Permissions<'_>, file: &[u8]) -> Result<bool, Fail> {
+    let log = read_log(alloc, file)?;
+    let recording = Recording::of(alloc, &log)?;
+    audits_one(alloc, permissions, &recording)
+}
+
 // The same under these parameters.
 fn audits_one_by(alloc: Global, params: &Params, file: &[u8]) -> Result<bool, Fail> {
     let orders = OrderTable::read(alloc, T)?;
     let permissions = Permissions::build(alloc, params, &orders)?;
-    let recording = Recording::cut(alloc, file)?;
-    audits_one(alloc, &permissions, &recording)
+    audits_one_in(alloc, &permissions, file)
 }
 
 // The bank's parameters, as a capture.
@@ -82,16 +89,19 @@ fn audited(rt: HostRuntime) -> Result<(), Fail> {
     Ok(())
 }
 
-// Whether there is one message, which is judged by a bank that permits one kind of orders, and by no account.
+// Whether a message is judged by a bank that permits one kind of orders, and by no account.
+fn is_of_bank(permissions: &Permissions<'_>, told_in: ToldIn<'_>) -> bool {
+    permissions.accounts().is_empty()
+        && permissions.bank().kinds == 1
+        && told_in.bank.is_some()
+        && told_in.user.is_none()
+}
+
+// Whether there is one message, which is judged so.
 fn are_of_one(alloc: Global, permissions: &OwnPermissions<'_>) -> Result<bool, Fail> {
     let bases = permissions.each(alloc)?;
     Ok(match bases.as_slice() {
-        [basis] => {
-            basis.permissions.accounts().is_empty()
-                && basis.permissions.bank().kinds == 1
-                && basis.told_in.bank.is_some()
-                && basis.told_in.user.is_none()
-        }
+        [basis] => is_of_bank(&basis.permissions(), basis.told_in()),
         _ => false,
     })
 }
@@ -103,17 +113,23 @@ fn are_of_one_by(alloc: Global, own: &OwnParams<'_>) -> Result<bool, Fail> {
     are_of_one(alloc, &permissions)
 }
 
+// The same of a recording.
+fn are_of_one_in(alloc: Global, log: &Log<'_>) -> Result<bool, Fail> {
+    let exchanges = read_dialogue(alloc, log)?;
+    let own = OwnParams::of(alloc, exchanges.as_slice())?;
+    are_of_one_by(alloc, &own)
+}
+
 #[test]
 fn permissions_of_each(rt: HostRuntime) -> Result<(), Fail> {
-    let exchanges = read_dialogue(rt.alloc(), DIALOGUE)?;
-    let own = OwnParams::of(rt.alloc(), exchanges.as_slice())?;
-    assert!(rt; are_of_one_by(rt.alloc(), &own)?);
+    let log = read_log(rt.alloc(), DIALOGUE)?;
+    assert!(rt; are_of_one_in(rt.alloc(), &log)?);
     Ok(())
 }
 
 // A message that begins a dialogue and has no answer, and one that begins another.
 const BROKEN_OFF: &[u8] =
-    b"HNHBK:1:3+000000000055+300+0+1'HKEND:2:1+0'HNHBS:3:1+1'HNHBK:1:3+000000000055+300+0+1'HKEND:2:1+0'HNHBS:3:1+1'";
+    b"HNHBK:1:3+000000000055+300+0+1'HKEND:2:1+0'HNHBS:3:1+1'HNHBK:1:3+000000000055+300+0+1'HKEND:2:1+7'HNHBS:3:1+1'";
 
 // What breaks which rules, by the parameters of the recording itself.
 fn audited_by_own<'a>(alloc: Global, exchanges: &[Exchange<'a>]) -> Result<Vec<Audited<'a>>, Fail> {
@@ -127,46 +143,79 @@ fn audited_by_own<'a>(alloc: Global, exchanges: &[Exchange<'a>]) -> Result<Vec<A
     }
 }
 
+// Whether there is one message, which begins a dialogue and breaks nothing.
+fn begins_one(alloc: Global, log: &Log<'_>) -> Result<bool, Fail> {
+    let exchanges = read_dialogue(alloc, log)?;
+    let audited = audited_by_own(alloc, exchanges.as_slice())?;
+    Ok(match audited.as_slice() {
+        [one] => one.begins && one.broken.is_empty(),
+        _ => false,
+    })
+}
+
 #[test]
 fn own_parameters(rt: HostRuntime) -> Result<(), Fail> {
-    let exchanges = read_dialogue(rt.alloc(), DIALOGUE)?;
-    let audited = audited_by_own(rt.alloc(), exchanges.as_slice())?;
-    assert_eq!(rt; audited.len(), 1);
-    for one in audited.iter() {
-        assert!(rt; one.begins && one.broken.is_empty());
-    }
+    let log = read_log(rt.alloc(), DIALOGUE)?;
+    assert!(rt; begins_one(rt.alloc(), &log)?);
     Ok(())
+}
+
+// Why the messages aren't audited by the parameters of the recording itself.
+fn refused_by_own(
+    alloc: Global,
+    exchanges: &[Exchange<'_>],
+) -> Result<Option<DialogueFault>, Fail> {
+    let orders = OrderTable::read(alloc, T)?;
+    let mut seen = NOTHING_SEEN;
+    Ok(audit_exchanges(alloc, &orders, exchanges, &mut seen).err())
 }
 
 #[test]
 fn no_parameters(rt: HostRuntime) -> Result<(), Fail> {
-    let exchanges = read_dialogue(rt.alloc(), BROKEN_OFF)?;
-    let orders = OrderTable::read(rt.alloc(), T)?;
-    let mut seen = NOTHING_SEEN;
-    let refused = audit_exchanges(rt.alloc(), &orders, exchanges.as_slice(), &mut seen).err();
+    let log = read_log(rt.alloc(), BROKEN_OFF)?;
+    let exchanges = read_dialogue(rt.alloc(), &log)?;
+    let refused = refused_by_own(rt.alloc(), exchanges.as_slice())?;
     assert_eq!(rt; refused, Some(DialogueFault::NoParameters));
     Ok(())
 }
 
+// Whether the one answer tells of the bank alone, in a dialogue without a customer.
+fn tells_of_the_bank(own: &OwnParams<'_>) -> bool {
+    match own.heard() {
+        [heard] => {
+            heard.bank().is_some()
+                && heard.user().is_none()
+                && heard.party().customer.as_slice().is_empty()
+        }
+        _ => false,
+    }
+}
+
+fn tells_of_the_bank_in(alloc: Global, log: &Log<'_>) -> Result<bool, Fail> {
+    let exchanges = read_dialogue(alloc, log)?;
+    let own = OwnParams::of(alloc, exchanges.as_slice())?;
+    Ok(tells_of_the_bank(&own))
+}
+
 #[test]
 fn what_answers_tell(rt: HostRuntime) -> Result<(), Fail> {
-    let exchanges = read_dialogue(rt.alloc(), DIALOGUE)?;
-    let own = OwnParams::of(rt.alloc(), exchanges.as_slice())?;
-    assert_eq!(rt; own.heard().len(), 1);
-    for heard in own.heard() {
-        assert!(rt; heard.bank().is_some() && heard.user().is_none());
-        assert!(rt; heard.party().customer.as_slice().is_empty());
-    }
+    let log = read_log(rt.alloc(), DIALOGUE)?;
+    assert!(rt; tells_of_the_bank_in(rt.alloc(), &log)?);
     Ok(())
+}
+
+// Whether an exchange begins a dialogue, with a message of the client that has no answer.
+fn is_unanswered(exchange: &Exchange<'_>) -> bool {
+    exchange.begins && exchange.answer.is_none() && !is_answer(&exchange.message)
 }
 
 #[test]
 fn unanswered_exchanges(rt: HostRuntime) -> Result<(), Fail> {
-    let exchanges = read_dialogue(rt.alloc(), BROKEN_OFF)?;
-    assert_eq!(rt; exchanges.len(), 2);
+    let log = read_log(rt.alloc(), BROKEN_OFF)?;
+    let exchanges = read_dialogue(rt.alloc(), &log)?;
+    assert!(rt; exchanges.len() == 2);
     for exchange in exchanges.iter() {
-        assert!(rt; exchange.begins && exchange.answer.is_none());
-        assert!(rt; !is_answer(&exchange.message));
+        assert!(rt; is_unanswered(exchange));
     }
     Ok(())
 }
@@ -176,25 +225,27 @@ const UNANSWERED: &[u8] =
     b"HNHBK:1:3+000000000055+300+0+1'HKEND:2:1+0'HNHBS:3:1+1'HNHBK:1:3+000000000055+300+0+2'HKEND:2:1+0'HNHBS:3:1+2'";
 
 #[test]
-fn an_answer_is_missing(rt: HostRuntime) {
-    let fault = read_dialogue(rt.alloc(), UNANSWERED).err();
+fn an_answer_is_missing(rt: HostRuntime) -> Result<(), Fail> {
+    let log = read_log(rt.alloc(), UNANSWERED)?;
+    let fault = read_dialogue(rt.alloc(), &log).err();
     assert_eq!(rt; fault, Some(DialogueFault::NotInTurn { offset: 55 }));
+    Ok(())
 }
 
 #[test]
 fn exchanges(rt: HostRuntime) -> Result<(), Fail> {
-    let exchanges = read_dialogue(rt.alloc(), DIALOGUE)?;
-    assert_eq!(rt; exchanges.len(), 1);
+    let log = read_log(rt.alloc(), DIALOGUE)?;
+    let exchanges = read_dialogue(rt.alloc(), &log)?;
+    assert!(rt; exchanges.len() == 1);
     for exchange in exchanges.iter() {
-        assert_eq!(rt; exchange.message.number(), 1);
-        assert!(rt; exchange.answer.is_some());
+        assert!(rt; exchange.message.number() == 1 && exchange.answer.is_some());
     }
     Ok(())
 }
 
 #[test]
 fn no_dialogue(rt: HostRuntime) {
-    let fault = read_dialogue(rt.alloc(), b"\r\n").err();
+    let fault = read_log(rt.alloc(), b"\r\n").err();
     assert_eq!(rt; fault, Some(DialogueFault::NoMessage));
 }
 
@@ -202,9 +253,11 @@ fn no_dialogue(rt: HostRuntime) {
 const MISNUMBERED: &[u8] = b"\nHNHBK:1:3+000000000055+300+0+1'HKEND:3:1+0'HNHBS:3:1+1'";
 
 #[test]
-fn an_unread_message(rt: HostRuntime) {
+fn an_unread_message(rt: HostRuntime) -> Result<(), Fail> {
+    let log = read_log(rt.alloc(), MISNUMBERED)?;
     let mut seen = NOTHING_SEEN;
-    let fault = read_dialogue_with(rt.alloc(), MISNUMBERED, &mut seen).err();
+    let fault = read_dialogue_with(rt.alloc(), &log, &mut seen).err();
     assert_eq!(rt; fault, Some(DialogueFault::NotAMessage { offset: 32 }));
     assert_eq!(rt; seen.offset, Some(31));
+    Ok(())
 }

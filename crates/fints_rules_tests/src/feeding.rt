@@ -39,21 +39,37 @@ const UNFINISHED: &[Piece] = &[(b"HNVSD:999:1+@5@HI", b"", &[])];
 
 const UNFINISHED_LINE: &[Piece] = &[(b"\nHNVSD:999:1+@5@HI", b"", &[])];
 
+const PIECES: [(&[Piece], Option<SyntaxFault>); 4] = [
+    (CUT, None),
+    (SEALED, None),
+    (UNFINISHED, INCOMPLETE_AT_0),
+    (UNFINISHED_LINE, INCOMPLETE_AT_1),
+];
+
+const INCOMPLETE_AT_0: Option<SyntaxFault> = Some(SyntaxFault {
+    kind: SyntaxKind::Incomplete,
+    offset: 0,
+});
+
+const INCOMPLETE_AT_1: Option<SyntaxFault> = Some(SyntaxFault {
+    kind: SyntaxKind::Incomplete,
+    offset: 1,
+});
+
+// Whether a piece gives these segments at these places.
+fn gives(alloc: Global, feeder: &mut Feeder, piece: &Piece) -> Result<bool, Fail> {
+    let (piece, segments, places) = piece;
+    let fed = feeder.feed(piece)?;
+    let found = written(alloc, fed.as_slice())?;
+    Ok(found.as_slice() == *segments && feeder.take_places().as_slice() == *places)
+}
+
 #[test]
 fn pieces(rt: HostRuntime) -> Result<(), Fail> {
-    let rows = [
-        (CUT, None),
-        (SEALED, None),
-        (UNFINISHED, fault(SyntaxKind::Incomplete, 0)),
-        (UNFINISHED_LINE, fault(SyntaxKind::Incomplete, 1)),
-    ];
-    for (pieces, end) in rows {
+    for (pieces, end) in PIECES {
         let mut feeder = Feeder::new(rt.alloc());
-        for (piece, segments, places) in pieces {
-            let fed = feeder.feed(piece)?;
-            let found = written(rt.alloc(), fed.as_slice())?;
-            assert!(rt; found.as_slice() == *segments);
-            assert!(rt; feeder.take_places().as_slice() == *places);
+        for piece in pieces {
+            assert!(rt; gives(rt.alloc(), &mut feeder, piece)?);
         }
         assert!(rt; feeder.finish().err() == end);
     }
@@ -61,14 +77,13 @@ fn pieces(rt: HostRuntime) -> Result<(), Fail> {
 }
 
 #[test]
-fn fault_is_kept(rt: HostRuntime) -> Result<(), Fail> {
+fn fault_is_kept(rt: HostRuntime) {
     let mut feeder = Feeder::new(rt.alloc());
     let first = feeder.feed(b"HKEND:2:1+@x'").err();
     assert_eq!(rt; first, fault(SyntaxKind::BadBinary, 10));
     let (again, places) = (feeder.feed(b"").err(), feeder.take_places().len());
     let kept = fault(SyntaxKind::Failed, 10);
     assert!(rt; (again, places, feeder.finish().err()) == (kept, 0, kept));
-    Ok(())
 }
 
 // Feeds a piece, and tells how many segments are whole by it.
@@ -121,12 +136,20 @@ fn long_piece(rt: HostRuntime) -> Result<(), Fail> {
     Ok(())
 }
 
+// Whether 4 MiB of line feeds are no segment.
+fn fed_to_the_limit(feeder: &mut Feeder) -> Result<bool, SyntaxFault> {
+    for _ in 0..1024 {
+        if feed(feeder, &[b'\n'; 4096])? != 0 {
+            return Ok(false);
+        }
+    }
+    Ok(true)
+}
+
 #[test]
 fn too_long_stream(rt: HostRuntime) -> Result<(), Fail> {
     let mut feeder = Feeder::new(rt.alloc());
-    for _ in 0..1024 {
-        assert!(rt; feed(&mut feeder, &[b'\n'; 4096])? == 0);
-    }
+    assert!(rt; fed_to_the_limit(&mut feeder)?);
     let limit = 4_194_304;
     let passed = feeder.feed(b"\n").err();
     assert_eq!(rt; passed, fault(SyntaxKind::CaptureTooLong, limit));

@@ -2,6 +2,8 @@
 #![tactic(auto)]
 
 #[cfg(test)]
+mod accounts;
+#[cfg(test)]
 mod captures;
 #[cfg(test)]
 mod dialogues;
@@ -9,6 +11,8 @@ mod dialogues;
 mod feeding;
 #[cfg(test)]
 mod hashing;
+#[cfg(test)]
+mod logs;
 #[cfg(test)]
 mod parts;
 #[cfg(test)]

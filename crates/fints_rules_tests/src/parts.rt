@@ -43,12 +43,10 @@ fn permit(permissions: &Permissions<'_>, order: Kind, number: &[u8]) -> Permit {
     permissions.permit(order, &AccountKey::of(AccountForm::National, items), 1)
 }
 
-// What the bank permits on an account that the user has, and on another one.
-fn permits(alloc: Global, bank: &BankParams, user: &UserParams) -> Result<(Permit, Permit), Fail> {
-    let orders = OrderTable::read(alloc, T)?;
-    let bank = BankPermissions::of(alloc, bank, &orders)?;
-    let user = UserPermissions::of(alloc, user)?;
-    let permissions = Permissions::of(&bank, &user);
+type Permits = (Permit, Permit);
+
+// What is permitted on an account that the user has, and on another one.
+fn permits_by(permissions: &Permissions<'_>) -> Result<Permits, Fail> {
     let order = Kind::parse(b"HKSAL").ok_or("kind")?;
     let limits = Limits {
         orders: 2,
@@ -58,15 +56,49 @@ fn permits(alloc: Global, bank: &BankParams, user: &UserParams) -> Result<(Permi
         return Ok((Permit::MoreSignatures, Permit::MoreSignatures));
     }
     Ok((
-        permit(&permissions, order, b"1234567"),
-        permit(&permissions, order, b"7654321"),
+        permit(permissions, order, b"1234567"),
+        permit(permissions, order, b"7654321"),
     ))
+}
+
+// The same by what the bank permits, and by parameters of the user.
+fn permits_to(
+    alloc: Global,
+    bank: &BankPermissions<'_>,
+    user: &UserParams,
+) -> Result<Permits, Fail> {
+    let user = UserPermissions::of(alloc, user)?;
+    permits_by(&Permissions::of(bank, &user))
+}
+
+// The same by parameters of both.
+fn permits_under(
+    alloc: Global,
+    orders: &OrderTable,
+    bank: &BankParams,
+    user: &UserParams,
+) -> Result<Permits, Fail> {
+    let bank = BankPermissions::of(alloc, bank, orders)?;
+    permits_to(alloc, &bank, user)
+}
+
+fn permits(alloc: Global, bank: &BankParams, user: &UserParams) -> Result<Permits, Fail> {
+    let orders = OrderTable::read(alloc, T)?;
+    permits_under(alloc, &orders, bank, user)
+}
+
+fn bank(alloc: Global) -> Result<BankParams, Fail> {
+    Ok(told_in(alloc, BANK)?.bank.ok_or("bank")?)
+}
+
+fn user(alloc: Global) -> Result<UserParams, Fail> {
+    Ok(told_in(alloc, USER)?.user.ok_or("user")?)
 }
 
 #[test]
 fn permitted_by_both(rt: HostRuntime) -> Result<(), Fail> {
-    let bank = told_in(rt.alloc(), BANK)?.bank.ok_or("bank")?;
-    let user = told_in(rt.alloc(), USER)?.user.ok_or("user")?;
+    let bank = bank(rt.alloc())?;
+    let user = user(rt.alloc())?;
     let found = permits(rt.alloc(), &bank, &user)?;
     assert!(rt; found == (Permit::Allowed, Permit::Refused));
     Ok(())
@@ -74,7 +106,7 @@ fn permitted_by_both(rt: HostRuntime) -> Result<(), Fail> {
 
 #[test]
 fn permitted_to_an_unknown_user(rt: HostRuntime) -> Result<(), Fail> {
-    let bank = told_in(rt.alloc(), BANK)?.bank.ok_or("bank")?;
+    let bank = bank(rt.alloc())?;
     let found = permits(rt.alloc(), &bank, &UserParams::unknown(rt.alloc()))?;
     assert!(rt; found == (Permit::Allowed, Permit::Allowed));
     Ok(())

@@ -32,7 +32,7 @@ returns-in-Help-clause-says g c =
     rw c.in-Help.is
     (record {
       beside = λ few. elim c.deliver.ensures.statuses [
-        | inl zero ↦ record { more = []; nothing_more = λ _. refl; said = c.deliver.ensures.quiet zero }
+        | inl zero ↦ ([], refl, record { more = []; nothing_more = λ _. refl; said = c.deliver.ensures.quiet zero })
         | inr five ↦ absurd (omega (arith, few, five))
       ];
       usage = tt;
@@ -68,7 +68,7 @@ returns-in-Ok-clause-says g c =
     rw c.in-Run.is
     (record {
       beside = λ few. elim c.respond_with.ensures.statuses [
-        | inl same ↦ first_under _ _ _ _ _ _ _ c.in-Ok.ensures.no_reasons (c.respond_with.ensures.beside same)
+        | inl same ↦ (_, c.in-Ok.ensures.note, first_under _ _ _ _ _ _ _ c.in-Ok.ensures.no_reasons (c.respond_with.ensures.beside same))
         | inr five ↦ absurd (omega (arith, few, five))
       ];
       usage = tt;

@@ -1,5 +1,11 @@
+use Rattle.fints_cli_commands.proofs.Notes.{log_noted}
 use Rattle.fints_cli_commands.proofs.answering.answer_audit.Goals as goal
 
-pub returns-in-Err-clause-refused : goal.returns-in-Err-clause-refused
-returns-in-Err-clause-refused c =
-    rw (c.as_slice-2.ensures.value, c.as_slice-3.ensures.value) at c.in-Err.ensures.refused
+pub returns-clause-refused : goal.returns-clause-refused
+returns-clause-refused c =
+    λ capture read. rw c.as_slice-2.ensures.value at (c.in-Err.ensures.refused capture c.args.contents.now.dialogue.items read c.log_of-log.ensures)
+
+pub returns-in-Ok-clause-note : goal.returns-in-Ok-clause-note
+returns-in-Ok-clause-note c =
+    log_noted c.args.hints c.args.contents.now.dialogue.items _ c.log_of-log.result c.in-Ok.ensures.log c.log_of-log.ensures
+    c.in_ok-note_of-in-Ok.ensures.note

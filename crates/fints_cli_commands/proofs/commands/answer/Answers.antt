@@ -1,5 +1,8 @@
-use Rattle.std.proofs.Common.{refl, IfSome}
+use Rattle.std.proofs.Common.{refl, IfSome, ◌≡◌, string_bytes}
 use Rattle.std.proofs.lemmas.Result.{IfErr-weaker, IfOk-weaker}
+use Rattle.fints_rules_logs.specs.Kept.{IsLog}
+use Rattle.fints_cli_drafts.specs.declared.drafting.Drafted.TheVariants as drafts
+use Rattle.fints_cli_commands.specs.Notes.{HasDraft, IsDrafted, IsDraftWithNote}
 use Rattle.fints_cli_drawings.specs.Drawn.{IsDrawnOf}
 use Rattle.fints_cli_texts.specs.Audit.{IsAuditRefusal}
 use Rattle.fints_cli_scripts.specs.RunText.{IsRunRefusal}
@@ -13,6 +16,7 @@ use Rattle.fints_cli_words.specs.declared.requests.Command.TheVariants as comman
 use Rattle.fints_cli_commands.specs.Commands.{IfBoth, cases_wanted}
 use Rattle.fints_cli_commands.specs.Loading.{bytes_at}
 use Rattle.fints_cli_commands.proofs.OfRequest as of_request
+use Rattle.fints_cli_commands.proofs.Notes.{from_both}
 use Rattle.fints_cli_commands.proofs.Reading.{of_file}
 use Rattle.fints_cli_commands.proofs.commands.answer.Goals as goal
 
@@ -170,3 +174,112 @@ returns-in-DrawFound-clause-refused c =
     (λ x y z. IsRefused x y z refused.fault)
     refl refl refl h))
     c.answer_draw.ensures.refused
+
+pub returns-in-Show-clause-note : goal.returns-in-Show-clause-note
+returns-in-Show-clause-note c =
+    IfOk-weaker c.answer_show.result _ _ (λ it h holds loaded. rw c.in-Show.is h) c.answer_show.ensures.note
+
+pub returns-in-ShowMessage-clause-note : goal.returns-in-ShowMessage-clause-note
+returns-in-ShowMessage-clause-note c =
+    IfOk-weaker c.answer_show_message.result _ _ (λ it h holds loaded. rw c.in-ShowMessage.is h) c.answer_show_message.ensures.note
+
+pub returns-in-Judge-clause-note : goal.returns-in-Judge-clause-note
+returns-in-Judge-clause-note c =
+    IfOk-weaker c.answer_judge.result _ _ (λ it h holds loaded. rw c.in-Judge.is h) c.answer_judge.ensures.note
+
+pub returns-in-JudgeAfter-clause-note : goal.returns-in-JudgeAfter-clause-note
+returns-in-JudgeAfter-clause-note c =
+    IfOk-weaker c.answer_judge_after.result _ _ (λ it h holds loaded. rw c.in-JudgeAfter.is h) c.answer_judge_after.ensures.note
+
+pub returns-in-Check-clause-note : goal.returns-in-Check-clause-note
+returns-in-Check-clause-note c =
+    IfOk-weaker c.answer_check.result _ _ (λ it h holds loaded. rw c.in-Check.is h) c.answer_check.ensures.note
+
+pub returns-in-Explain-clause-note : goal.returns-in-Explain-clause-note
+returns-in-Explain-clause-note c =
+    IfOk-weaker c.answer_check-in-Explain.result _ _ (λ it h holds loaded. rw c.in-Explain.is h) c.answer_check-in-Explain.ensures.note
+
+pub returns-in-Certify-clause-note : goal.returns-in-Certify-clause-note
+returns-in-Certify-clause-note c =
+    IfOk-weaker c.answer_check-in-Certify.result _ _ (λ it h holds loaded. rw c.in-Certify.is h) c.answer_check-in-Certify.ensures.note
+
+pub returns-in-Verify-clause-note : goal.returns-in-Verify-clause-note
+returns-in-Verify-clause-note c =
+    IfOk-weaker c.answer_verify.result _ _ (λ it h holds loaded. rw c.in-Verify.is h) c.answer_verify.ensures.note
+
+pub returns-in-Run-clause-note : goal.returns-in-Run-clause-note
+returns-in-Run-clause-note c =
+    IfOk-weaker c.answer_run.result _ _ (λ it h holds loaded. rw c.in-Run.is h) c.answer_run.ensures.note
+
+pub returns-in-Draw-clause-note : goal.returns-in-Draw-clause-note
+returns-in-Draw-clause-note c =
+    IfOk-weaker c.answer_draw_script.result _ _ (λ it h holds loaded. rw c.in-Draw.is h) c.answer_draw_script.ensures.note
+
+pub returns-in-DrawFound-clause-note : goal.returns-in-DrawFound-clause-note
+returns-in-DrawFound-clause-note c =
+    IfOk-weaker c.answer_draw.result _ _ (λ it h holds loaded. rw c.in-DrawFound.is h) c.answer_draw.ensures.note
+
+pub returns-in-Audit-clause-note : goal.returns-in-Audit-clause-note
+returns-in-Audit-clause-note c =
+    IfOk-weaker c.answer_audit.result _ _ (λ it h holds loaded. rw c.in-Audit.is
+    (let file = of_request.dialogue c.args.request.now holds _ _ loaded commands.Audit c.in-Audit.is refl in
+    (h.0, of_file (λ d. IsLog d h.0) _ _ file h.1, h.2)))
+    c.answer_audit.ensures.note
+
+pub returns-in-AuditOwn-clause-note : goal.returns-in-AuditOwn-clause-note
+returns-in-AuditOwn-clause-note c =
+    IfOk-weaker c.answer_audit_own.result _ _ (λ it h holds loaded. rw c.in-AuditOwn.is
+    (let file = of_request.dialogue c.args.request.now holds _ _ loaded commands.AuditOwn c.in-AuditOwn.is refl in
+    (h.0, of_file (λ d. IsLog d h.0) _ _ file h.1, h.2)))
+    c.answer_audit_own.ensures.note
+
+pub returns-in-Record-clause-note : goal.returns-in-Record-clause-note
+returns-in-Record-clause-note c =
+    IfOk-weaker c.answer_record.result _ _ (λ it h holds loaded. rw c.in-Record.is
+    (let file = of_request.dialogue c.args.request.now holds _ _ loaded commands.Record c.in-Record.is refl in
+    (h.0, of_file (λ d. IsLog d h.0) _ _ file h.1, h.2)))
+    c.answer_record.ensures.note
+
+pub returns-in-Draft-clause-note : goal.returns-in-Draft-clause-note
+returns-in-Draft-clause-note c =
+    IfOk-weaker c.answer_draft.result _ _ (λ it h holds loaded. rw c.in-Draft.is
+    (let file = of_request.dialogue c.args.request.now holds _ _ loaded commands.Draft c.in-Draft.is refl in (
+      h.secret,
+      (h.log, of_file (λ d. IsLog d h.log) _ _ file h.log_is, h.note_is),
+      of_file (λ d. HasDraft drafts.Script c.args.request.now.number d h.secret) _ _ file (it.reply.text.items, h.draft),
+    )))
+    c.answer_draft.ensures.drafted
+
+pub returns-in-Draft-clause-answers : goal.returns-in-Draft-clause-answers
+returns-in-Draft-clause-answers c =
+    from_both c.answer_draft.result (λ it. it.reply.status ≡ 0)
+    (λ it. IsDraftWithNote c.args.request.now.hints drafts.Script c.args.request.now.number
+    c.args.contents.now.dialogue.items it.reply.text.items (string_bytes it.note))
+    _ (λ it zero h holds loaded. rw c.in-Draft.is
+    (let file = of_request.dialogue c.args.request.now holds _ _ loaded commands.Draft c.in-Draft.is refl in (
+      zero,
+      of_file (λ d. IsDrafted drafts.Script c.args.request.now.number d it.reply.text.items) _ _ file (h.secret, h.draft),
+    )))
+    c.answer_draft.ensures.status c.answer_draft.ensures.drafted
+
+pub returns-in-DraftCase-clause-note : goal.returns-in-DraftCase-clause-note
+returns-in-DraftCase-clause-note c =
+    IfOk-weaker c.answer_draft-in-DraftCase.result _ _ (λ it h holds loaded. rw c.in-DraftCase.is
+    (let file = of_request.dialogue c.args.request.now holds _ _ loaded commands.DraftCase c.in-DraftCase.is refl in (
+      h.secret,
+      (h.log, of_file (λ d. IsLog d h.log) _ _ file h.log_is, h.note_is),
+      of_file (λ d. HasDraft drafts.Case c.args.request.now.number d h.secret) _ _ file (it.reply.text.items, h.draft),
+    )))
+    c.answer_draft-in-DraftCase.ensures.drafted
+
+pub returns-in-DraftCase-clause-answers : goal.returns-in-DraftCase-clause-answers
+returns-in-DraftCase-clause-answers c =
+    from_both c.answer_draft-in-DraftCase.result (λ it. it.reply.status ≡ 0)
+    (λ it. IsDraftWithNote c.args.request.now.hints drafts.Case c.args.request.now.number
+    c.args.contents.now.dialogue.items it.reply.text.items (string_bytes it.note))
+    _ (λ it zero h holds loaded. rw c.in-DraftCase.is
+    (let file = of_request.dialogue c.args.request.now holds _ _ loaded commands.DraftCase c.in-DraftCase.is refl in (
+      zero,
+      of_file (λ d. IsDrafted drafts.Case c.args.request.now.number d it.reply.text.items) _ _ file (h.secret, h.draft),
+    )))
+    c.answer_draft-in-DraftCase.ensures.status c.answer_draft-in-DraftCase.ensures.drafted

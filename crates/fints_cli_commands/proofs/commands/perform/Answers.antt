@@ -35,3 +35,11 @@ returns-clause-refused g c =
     let refused : RefusesRequest c.args.request.now holds c.in-Err.field-0.fault =
     c.in-Err.ensures.refused holds (rw c.paths_of-paths.ensures at c.in_ok-params.ensures.loaded) in
     subst (FailsFor c.args.request.now holds) (sym c.refusal_of.ensures.failure) refused
+
+pub returns-in-Ok-clause-answers : goal.returns-in-Ok-clause-answers
+returns-in-Ok-clause-answers g c =
+    c.in-Ok.ensures.answers (g.F.Files.holds c.args.files.now) (rw c.paths_of-paths.ensures at c.in_ok-params.ensures.loaded)
+
+pub returns-in-Ok-clause-note : goal.returns-in-Ok-clause-note
+returns-in-Ok-clause-note g c =
+    c.in-Ok.ensures.note (g.F.Files.holds c.args.files.now) (rw c.paths_of-paths.ensures at c.in_ok-params.ensures.loaded)

@@ -1,4 +1,5 @@
 use Rattle.std.proofs.Common.{sym, subst}
+use Rattle.std.proofs.lemmas.Result.{IfErr-weaker, IfOk-weaker}
 use Rattle.fints_params.specs.Captures.{IsReadOf}
 use Rattle.fints_cli_texts.specs.JudgeAfter.{IsJudgeAfterRefusal, IsRefusalOfThree}
 use Rattle.fints_cli_texts.proofs.JudgeLemmas.{params_refused}
@@ -10,3 +11,15 @@ returns-in-Err-clause-refused g c =
     (params_refused capture c.args.orders.now
     (IsRefusalOfThree c.args.before.now c.args.answer.now c.args.message.now) c.in-Err.fault
     (subst (IsReadOf capture) c.in-Err.is read))
+
+pub returns-clause-judged : goal.returns-clause-judged
+returns-clause-judged g c =
+    IfOk-weaker c.judge_after_under.result _ _
+    (λ reply judged capture read. judged capture (subst (IsReadOf capture) c.in-Ok.is read))
+    c.judge_after_under.ensures.judged
+
+pub returns-clause-refused : goal.returns-clause-refused
+returns-clause-refused g c =
+    IfErr-weaker c.judge_after_under.result _ _
+    (λ f refused capture read. refused capture (subst (IsReadOf capture) c.in-Ok.is read))
+    c.judge_after_under.ensures.refused

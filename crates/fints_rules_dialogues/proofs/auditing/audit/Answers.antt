@@ -1,6 +1,6 @@
 use Rattle.std.proofs.Common.{List, Option, drop, subst}
 use Rattle.std.specs.Prelude.{option_copied}
-use Rattle.fints_rules_dialogues.specs.declared.cutting.Sent.{Sent}
+use Rattle.fints_rules_dialogues.specs.declared.messages.Sent.{Sent}
 use Rattle.fints_rules_dialogues.specs.declared.reading.Exchange.{Exchange}
 use Rattle.fints_rules_dialogues.specs.Auditing.{IsAuditedNext, IsExchangeOrNone}
 use Rattle.fints_rules_dialogues.specs.Dialogues.{BeginsWithOne, IsExchange}

@@ -1,8 +1,9 @@
-use Rattle.std.proofs.Common.{arith, length, take, ◌<◌, ◌≤◌, ◌∷◌, []}
+use Rattle.std.proofs.Common.{arith, length, take, ◌<◌, ◌≤◌, subst}
 use Rattle.std.specs.Prelude.{option_copied}
-use Rattle.std.proofs.lemmas.List.{map-append, take_all}
-use Rattle.fints_rules_dialogues.specs.Sources.{granted_in}
-use Rattle.fints_rules_dialogues.specs.declared.sources.Basis.{Basis}
+use Rattle.std.proofs.lemmas.List.{take_all}
+use Rattle.fints_rules_permissions.specs.Permits.{Granted}
+use Rattle.fints_rules_dialogues.specs.Auditing.{IsAuditedNext, IsExchangeOrNone}
+use Rattle.fints_rules_dialogues.specs.Dialogues.{IsExchange}
 use Rattle.fints_rules_dialogues.proofs.Audits.{one_more}
 use Rattle.fints_rules_dialogues.proofs.Turns.{take_here}
 use Rattle.fints_rules_dialogues.proofs.auditing.audit_each.Goals as goal
@@ -21,10 +22,11 @@ loop-i-preserved g c =
       take_here exchanges i e second c.index-exchanges-i.is,
       take_here bases i b first
           c.index-bases-i.is,
-      map-append (λ (x : Basis). x.permissions) (take i bases) (b ∷ []),
     )
-    (one_more (granted_in (take i bases)) (take i exchanges) (option_copied c.loop-i.before) c.loop-i.audited.items
-    b.permissions e c.in_ok-one.one c.loop-i.invariant c.in_ok-one.ensures)
+    (one_more (take i bases) (take i exchanges) (option_copied c.loop-i.before) c.loop-i.audited.items
+    b e c.in_ok-one.one c.loop-i.invariant
+    (subst (λ (g : Granted). IsExchangeOrNone (option_copied c.loop-i.before) → IsExchange e
+    → IsAuditedNext g (option_copied c.loop-i.before) e c.in_ok-one.one) c.permissions-permissions.ensures c.in_ok-one.ensures))
 
 pub returns : goal.returns
 returns g c long each =

@@ -1,4 +1,4 @@
-use Rattle.std.proofs.Common.{◌∙◌, ap, refl, ◌∷◌, Some}
+use Rattle.std.proofs.Common.{◌∙◌, ap, refl, ◌∷◌}
 use Rattle.std.specs.Option.{unwrap_or}
 use Rattle.fints_rules_dialogues.proofs.SourceLemmas.{bank_found, both_found, none_told, user_found, user_or}
 use Rattle.fints_rules_dialogues.proofs.sources.basis_at.Goals as goal
@@ -24,4 +24,4 @@ returns-in-Some-clause-granted c orders before after at unknown =
     ∙ user_or c.user_at.result c.args.unknown
     ∙ ap (λ o. unwrap_or o c.args.unknown.now) (c.user_at.ensures before (g ∷ after) at.users_are)
     ∙ user_found orders before g after party c.args.unknown.now c.party-party.ensures unknown at.each_before at.each_after in
-    ap Some c.of.ensures ∙ both_found orders _ c.in-Some.bank.now c.unwrap_or.result.now _ bank user
+    both_found orders _ c.in-Some.bank.now c.unwrap_or.result.now _ bank user

@@ -12,7 +12,7 @@ loop-exchange-preserved c =
     let e = c.exchange-item.result in
     let so_far = rw (drop_here xs i e c.loop-exchange-test.true c.exchange-item.is) at c.loop-exchange.invariant in
     let next = c.in_ok-party-2.ensures (take i xs) (drop (i + 1) xs) so_far.party_is in
-    rw (c.in_ok-push.ensures.items, take_here xs i e c.loop-exchange-test.true c.exchange-item.is, c.in_ok-clone.ensures.cases)
+    rw (c.in_ok-push.ensures.items, take_here xs i e c.loop-exchange-test.true c.exchange-item.is, c.in_ok-heard_of.ensures, c.in_ok-clone.ensures.cases)
     (one_heard xs (take i xs) e (drop (i + 1) xs) c.loop-exchange.party.value c.in_ok-party-2.party.value
     c.loop-exchange.heard.items c.in_ok-told.told.bank c.in_ok-told.told.user so_far next c.in_ok-told.ensures.told)
 

@@ -1,7 +1,7 @@
 use Rattle.std.proofs.Common.{List, Option, drop, subst}
 use Rattle.std.specs.Prelude.{option_copied}
 use Rattle.std.proofs.lemmas.Result.{err_from_is_err_and}
-use Rattle.fints_rules_dialogues.specs.declared.cutting.Sent.{Sent}
+use Rattle.fints_rules_dialogues.specs.declared.messages.Sent.{Sent}
 use Rattle.fints_rules_dialogues.specs.declared.reading.Exchange.{Exchange}
 use Rattle.fints_rules_dialogues.specs.Dialogues.{BeginsWithOne, IsExchangeFault, IsMemoryOrRefusal, IsTurnFault}
 use Rattle.fints_rules_dialogues.proofs.Turns.{last_in, one_read, turn_refused}

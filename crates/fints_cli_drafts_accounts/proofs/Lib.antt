@@ -1,0 +1,5 @@
+pub mod FillLemmas
+pub mod ListLemmas
+pub mod OtherLemmas
+pub mod StepLemmas
+pub mod TextLemmas

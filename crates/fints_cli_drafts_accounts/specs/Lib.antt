@@ -1,0 +1,3 @@
+pub mod Accounts
+pub mod Recorded
+pub mod Walks

@@ -1,0 +1,3 @@
+pub mod ApartLemmas
+pub mod AgainLaws
+pub mod NoteLemmas

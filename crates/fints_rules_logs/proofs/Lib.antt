@@ -1,0 +1,14 @@
+pub mod Sizes
+pub mod UnitLemmas
+pub mod WrittenLemmas
+pub mod RawLemmas
+pub mod MarkLemmas
+pub mod FrontLemmas
+pub mod ScanLemmas
+pub mod KeepLemmas
+pub mod KindLemmas
+pub mod LostLemmas
+pub mod LogLemmas
+pub mod ScanLaws
+pub mod KeptLaws
+pub mod LogLaws
