@@ -1,8 +1,10 @@
 #!/usr/bin/env python3
 """Drafts a script and a case from each recorded dialogue of the rows and the examples with the built
 program, of a recording with several dialogues from each of them, runs them, and compares what is sent with what
-was recorded, segment by segment: byte for byte but for what a client makes new for each message. No string of the script may be the value of a secret, and each comment
-is a fixed one, or an XML text that the segment after it has.
+was recorded, segment by segment: byte for byte but for what a client makes new for each message. No string of the
+script may be the value of a secret, and each comment is a fixed one, or an XML text that the segment after it has.
+Each is drafted without an order table and with that of all orders. With it each account that a field lists is one of
+the user's, and no run of a permitted recording's draft breaks P8 or P9 by the bank's own answer.
 
 Usage: tools/drafts.py
 """
@@ -11,10 +13,12 @@ import re
 import subprocess
 import sys
 import tempfile
+import tomllib
 
 TOP = pathlib.Path(__file__).resolve().parent.parent
 PROGRAM = TOP / "crates" / "fints" / "out" / "fints"
 ORDERS = TOP / "rows" / "inputs" / "orders.toml"
+ALL_ORDERS = TOP / "examples" / "orders-all.toml"
 
 
 def call(*words):
@@ -150,6 +154,8 @@ def are_alike(own, sent):
 # The comments of a draft that don't depend on the dialogue, below its first lines.
 FIXED = (
     r'  # Element 2 is an account: a field of class "account" lists those that it may be\.',
+    r"  # Left out of its accounts: \d+ for which the bank doesn't permit it \(P8, P9\)\.",
+    r"  # Left out of its accounts: \d+ more, since a field lists at most 100\.",
     r"# note: element \d+ of HNVSK is another one in message \d+",
     r"  # element \d+(, item \d+)?:",
 )
@@ -180,6 +186,47 @@ def secrets(case):
     return [bytes.fromhex(value.decode()) for value in values]
 
 
+def inner_segments(message):
+    """The segments of a message, and those that an HNVSD in it holds, as elements of items."""
+    for segment in map(elements_of, segments_of(message)):
+        yield segment
+        if segment[0][0][1] == b"HNVSD":
+            yield from inner_segments(segment[1][0][1])
+
+
+def accounts_in(messages):
+    """The accounts of the user that messages tell: number, subaccount, country and bank, and IBAN."""
+    for segment in (it for message in messages for it in inner_segments(message) if it[0][0][1] == b"HIUPD"):
+        values = [[value.decode("latin-1") for _, value in items] for items in segment[:3]]
+        yield (values[1] + [""] * 4)[:4], (values[2] if len(values) > 2 else [""])[0]
+
+
+def is_account(value, national, iban):
+    """Whether a listed value is this account, as a national one or with IBAN and BIC."""
+    forms = [national, [iban, *value[1:2], *national]]
+    return any(len(value) <= len(form) and all(a in ("", b) for a, b in zip(value, form)) and any(value) for form in forms)
+
+
+def are_accounts_known(script, messages):
+    """Whether each account that a field lists is one of the user's."""
+    fields = [it for it in tomllib.loads(script.decode()).get("field", []) if it["class"] == "account"]
+    accounts = list(accounts_in(messages))
+    return all(any(is_account(value, *it) for it in accounts) for field in fields for value in field["values"])
+
+
+def is_permitted_again(path, room, script):
+    """Whether no run of the draft of a permitted recording breaks P8 or P9, by an answer that tells all parameters."""
+    if call("audit", "--orders", ALL_ORDERS, "--dialogue", path)[0] != 0:
+        return True
+    for message in recorded(path.read_bytes()):
+        kinds = {it[0][0][1] for it in inner_segments(message)}
+        if {b"HIBPA", b"HIPINS", b"HIUPA"} <= kinds:
+            (room / "capture").write_bytes(message)
+            status, text = call("check", "--params", room / "capture", "--orders", ALL_ORDERS, "--script", script)
+            return status <= 1 and not re.search(rb"\bP[89]\b", text)
+    return True
+
+
 def is_replayed(path, room, words, own):
     """Whether the draft of a dialogue sends the client's messages; None where there is no draft."""
     status, script = call("draft", "--dialogue", path, *words)
@@ -190,11 +237,13 @@ def is_replayed(path, room, words, own):
         return None
     (room / "script").write_bytes(script)
     (room / "case").write_bytes(case)
-    status, text = call("run", "--orders", ORDERS, "--script", room / "script", "--case", room / "case")
+    orders = ALL_ORDERS if "--orders" in words else ORDERS
+    status, text = call("run", "--orders", orders, "--script", room / "script", "--case", room / "case")
     again = sent(text)
     alike = len(own) == len(again) and all(map(are_alike, own, again))
     hidden = all(b'"%s"' % value not in script for value in secrets(case))
-    return status == 0 and alike and hidden and are_comments_known(script.decode())
+    known = are_accounts_known(script, recorded(path.read_bytes())) and is_permitted_again(path, room, room / "script")
+    return status == 0 and alike and hidden and known and are_comments_known(script.decode())
 
 
 def main():
@@ -206,9 +255,11 @@ def main():
     with tempfile.TemporaryDirectory() as room:
         for path in paths:
             parts = parts_of(path.read_bytes())
-            tried = [is_replayed(path, pathlib.Path(room), [], parts[0] if len(parts) == 1 else [])]
+            asked = [([], parts[0] if len(parts) == 1 else [])]
             if len(parts) > 1:
-                tried += [is_replayed(path, pathlib.Path(room), ["--part", str(n)], own) for n, own in enumerate(parts, 1)]
+                asked += [(["--part", str(n)], own) for n, own in enumerate(parts, 1)]
+            asked += [([*words, "--orders", ALL_ORDERS], own) for words, own in asked]
+            tried = [is_replayed(path, pathlib.Path(room), words, own) for words, own in asked]
             replayed = False if False in tried else True if True in tried else None
             counts[replayed] += 1
             if replayed is False:

@@ -108,9 +108,11 @@ AnswersBy AuditOwn paths number holds status text =
 AnswersBy Record paths number holds status text =
     (status ≡ 0) × IfSome (bytes_at holds paths.dialogue) (λ dialogue. IsRecordOf dialogue text)
 AnswersBy Draft paths number holds status text =
-    (status ≡ 0) × OfRecording holds paths (λ dialogue. IsDrafted drafts.Script number dialogue text)
+    (status ≡ 0) × OfOwnDialogue holds paths (λ table dialogue.
+    IsDrafted drafts.Script number table dialogue text)
 AnswersBy DraftCase paths number holds status text =
-    (status ≡ 0) × OfRecording holds paths (λ dialogue. IsDrafted drafts.Case number dialogue text)
+    (status ≡ 0) × OfOwnDialogue holds paths (λ table dialogue.
+    IsDrafted drafts.Case number table dialogue text)
 AnswersBy Check paths number holds status text =
     OfScript holds paths (λ capture table script. IsToldOf Report capture table script status text)
 AnswersBy Explain paths number holds status text =
@@ -197,7 +199,7 @@ OfLog holds paths note_on note =
 abbrev pub OfDraft : Held → Paths → Bool → Drafted → Option ℕ → List ℕ → Type 0
 OfDraft holds paths hints drafted number note =
     (secret : Bool) × OfLog holds paths (λ log. log_note hints log ++ secrets_note drafted secret) note
-    × OfRecording holds paths (λ dialogue. HasDraft drafted number dialogue secret)
+    × OfOwnDialogue holds paths (λ table dialogue. HasDraft drafted number table dialogue secret)
 
 -- what is said beside the answer of a command, whether hints are wanted or not
 abbrev pub IsNoteBy : Command → Paths → Option ℕ → Bool → Held → List ℕ → Type 0

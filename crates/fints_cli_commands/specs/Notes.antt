@@ -16,23 +16,25 @@ abbrev pub secrets_note : Drafted → Bool → List ℕ
 secrets_note drafts.Case true = secrets_line
 secrets_note _ _ = []
 
--- the text is a draft of the recording
-abbrev pub IsDrafted : Drafted → Option ℕ → List ℕ → List ℕ → Type 0
-IsDrafted drafted number dialogue text = (secret : Bool) × IsDraftOf drafted number dialogue text secret
+-- the text is a draft of the recording with the order table
+abbrev pub IsDrafted : Drafted → Option ℕ → List ℕ → List ℕ → List ℕ → Type 0
+IsDrafted drafted number table dialogue text =
+    (secret : Bool) × IsDraftOf table drafted number dialogue text secret
 
--- the recording has a draft, whose case has a secret or not
-abbrev pub HasDraft : Drafted → Option ℕ → List ℕ → Bool → Type 0
-HasDraft drafted number dialogue secret = (text : List ℕ) × IsDraftOf drafted number dialogue text secret
+-- the recording has a draft with the order table, whose case has a secret or not
+abbrev pub HasDraft : Drafted → Option ℕ → List ℕ → List ℕ → Bool → Type 0
+HasDraft drafted number table dialogue secret =
+    (text : List ℕ) × IsDraftOf table drafted number dialogue text secret
 
--- the text is a draft of the recording; and beside it is said what the recording passes over, and that a case holds a
--- secret where it does
+-- the text is a draft of the recording with the order table; and beside it is said what the recording passes over,
+-- and that a case holds a secret where it does
 pub record IsDraftWithNote (wanted : Bool) (drafted : Drafted) (number : Option ℕ)
-    (dialogue text note : List ℕ)
+    (table dialogue text note : List ℕ)
     : Type 0 where
   pub log : LogValue
   pub secret : Bool
   pub log_is : IsLog dialogue log
-  pub draft : IsDraftOf drafted number dialogue text secret
+  pub draft : IsDraftOf table drafted number dialogue text secret
   pub note_is : note ≡ log_note wanted log ++ secrets_note drafted secret
 
 -- ---- of private contracts only

@@ -417,8 +417,8 @@ pub fn answer_draft(
     hints: bool,
 ) -> Result<Answered, Refused>
     ensures status { IfOk result (λ it. it.reply.status ≡ 0) }
-    ensures drafted { IfOk result (λ it. IsDraftWithNote hints drafted number contents.now.dialogue.items
-        it.reply.text.items (string_bytes it.note)) }
+    ensures drafted { IfOk result (λ it. IsDraftWithNote hints drafted number contents.now.orders.items
+        contents.now.dialogue.items it.reply.text.items (string_bytes it.note)) }
     ensures refused { IfErr result (λ r.
         IsDraftRefusal contents.now.orders.items number contents.now.dialogue.items r.fault) }
 {

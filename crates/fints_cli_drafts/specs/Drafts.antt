@@ -1,19 +1,11 @@
 -- What a draft of a recorded dialogue is: the text of a script, and that of a case that has it send the client's
 -- messages once more.
-use Rattle.std.specs.Prelude.{codes, ◌≡◌, ◌≢◌, ◌<◌, ◌≤◌, ◌+◌, ◌-◌, ◌⊎◌, ◌&&◌, ◌||◌, ℕ, nat_le, List, [], ◌∷◌, length, get_or, slice_get, Option, Some, None, Bool, true, false, ◌==◌, IsTrue}
+use Rattle.std.specs.Prelude.{codes, ◌≡◌, ◌≤◌, ◌+◌, ◌⊎◌, ◌&&◌, ◌||◌, ℕ, List, [], ◌∷◌, length, get_or, Option, Some, None, Bool, true, false, ◌==◌, IsTrue}
 use Rattle.std.specs.Char.{is_ascii_alphanumeric}
 use Rattle.std.specs.List.{All, AllZip, flat_map, list_all, list_any}
-use Rattle.std.specs.Str.{bytes_eq}
-use Rattle.fints_syntax_segments.specs.Spelling.{Spelled}
-use Rattle.fints_syntax_segments.specs.Segment.{item_value, segment_bytes}
-use Rattle.fints_syntax_segments.specs.Values.{is_named, item_at, items_in, value_at}
-use Rattle.fints_syntax_segments.specs.declared.frames.TheConstants.{HNVSD_NUMBER, HNVSD_VERSION}
-use Rattle.fints_syntax_segments.specs.declared.item.OwnedItem.{OwnedItem}
-use Rattle.fints_syntax_segments.specs.declared.item.OwnedItem.TheVariants.{Bin}
+use Rattle.fints_syntax_segments.specs.Segment.{item_value}
 use Rattle.fints_syntax_segments.specs.declared.item.OwnedSegment.{OwnedSegment}
-use Rattle.fints_syntax.specs.Capture.{IsCapture}
-use Rattle.fints_syntax.specs.Owned.{segment_of}
-use Rattle.fints_rules_messages.specs.Messages.{MessageView, IsSealHead}
+use Rattle.fints_rules_messages.specs.Messages.{MessageView}
 use Rattle.fints_rules_permissions.specs.declared.orders.OrderRow.{OrderRow}
 use Rattle.fints_rules_permissions.specs.Orders.{DenotesTable}
 use Rattle.fints_rules_dialogues.specs.declared.reading.Answer.{Answer}
@@ -23,6 +15,7 @@ use Rattle.fints_rules_dialogues.specs.Parts.{IsPart, LacksDialogue}
 use Rattle.fints_script_fields.specs.declared.alphabet.Alphabet.{Alphabet}
 use Rattle.fints_script_fields.specs.declared.alphabet.Alphabet.TheVariants as alphabets
 use Rattle.fints_script_fields.specs.declared.counted.Text.{Text}
+use Rattle.fints_script_fields.specs.declared.field.Field.{Field as FieldClass}
 use Rattle.fints_script_fields.specs.declared.field.Field.TheVariants as classes
 use Rattle.fints_script_rows.specs.declared.fields.NamedField.{NamedField}
 use Rattle.fints_script_cases.specs.Cases.{IsCaseOf}
@@ -39,105 +32,13 @@ use Rattle.fints_wire.specs.declared.dialogue.Sent.{Sent}
 use Rattle.fints_cli_texts.specs.Judge.{IsTableRefusal}
 use Rattle.fints_cli_texts.specs.declared.fault.Fault.{Fault}
 use Rattle.fints_cli_texts.specs.declared.fault.Fault.TheVariants.{Memory, Orders, Dialogue, NoPart, NotDraftable}
+use Rattle.fints_cli_drafts_accounts.specs.Offers.{IsOffer}
+use Rattle.fints_cli_drafts_accounts.specs.declared.listing.AccountList.{AccountList}
+use Rattle.fints_cli_drafts_alike.specs.Alike.{IsSentAgain}
 use Rattle.fints_cli_drafts.specs.declared.drafting.Drafted.{Drafted}
 use Rattle.fints_cli_drafts.specs.declared.drafting.Drafted.TheVariants.{Script, Case}
 
--- ---- what a client makes new for each message
-
-abbrev pub is_of : OwnedSegment → List ℕ → Bool
-is_of s kind = bytes_eq s.head.id kind
-
--- an HKTAN of this process
-abbrev pub has_process : OwnedSegment → List ℕ → Bool
-has_process s process = is_of s (codes "HKTAN") && bytes_eq (value_at s 2 1) process
-
--- an HKTAN that goes on with an order submitted before: process 2 sends the TAN, process S asks for the release
-abbrev pub goes_on : OwnedSegment → Bool
-goes_on s = has_process s (codes "2") || has_process s (codes "S")
-
--- Element 6 of such an HKTAN is the bank's reference of the order, from version 5 on.
-abbrev pub refers : OwnedSegment → Bool
-refers s = goes_on s && nat_le 5 s.head.version
-
--- the segments that hold something that a client makes new
-abbrev pub is_renewable : OwnedSegment → Bool
-is_renewable s = is_of s (codes "HNHBK") || is_of s (codes "HNSHK") || is_of s (codes "HNSHA") || refers s
-
--- the item of an element that a client makes new: the size in HNHBK, the control reference in HNSHK and HNSHA, the
--- date and the time in HNSHK, the TAN in HNSHA, and the reference of an order
-abbrev pub is_renewed : OwnedSegment → ℕ → ℕ → Bool
-is_renewed s element item =
-    (is_of s (codes "HNHBK") && element == 2 && item == 1)
-    || (is_of s (codes "HNSHK") && element == 4 && item == 1)
-    || (is_of s (codes "HNSHK") && element == 9 && (item == 2 || item == 3))
-    || (is_of s (codes "HNSHA") && element == 2 && item == 1)
-    || (is_of s (codes "HNSHA") && element == 4 && item == 2)
-    || (refers s && element == 6 && item == 1)
-
--- ---- a message sent once more
-
--- two items are the same, text or binary; or they are made new, and neither is empty
-abbrev pub AreAlikeItems : Bool → OwnedItem → OwnedItem → Type 0
-AreAlikeItems renewed one other =
-    (one ≡ other) ⊎ (IsTrue renewed × (item_value one ≢ []) × (item_value other ≢ []))
-
--- the items of an element are so, one by one
-pub record IsElementAlike (recorded sent : OwnedSegment) (element : ℕ) : Type 0 where
-  pub count : length (items_in recorded element) ≡ length (items_in sent element)
-  pub each :
-      (i : ℕ) → 1 ≤ i → i < 1 + length (items_in recorded element)
-      → AreAlikeItems (is_renewed recorded element i) (item_at recorded element i) (item_at sent element i)
-
--- two segments have the same head, without a reference number, and the same values but where they are made new
-pub record IsRenewal (recorded sent : OwnedSegment) : Type 0 where
-  pub renewable : IsTrue (is_renewable recorded)
-  pub id : IsTrue (bytes_eq recorded.head.id sent.head.id)
-  pub number : recorded.head.number ≡ sent.head.number
-  pub version : recorded.head.version ≡ sent.head.version
-  pub no_reference : (recorded.head.reference ≡ None) × (sent.head.reference ≡ None)
-  pub count : length recorded.elements ≡ length sent.elements
-  pub each :
-      (e : ℕ) → 2 ≤ e → e < 2 + length recorded.elements → IsElementAlike recorded sent e
-
--- a segment is sent byte for byte; or it is an HNVSK, since a script has one for all messages; or it differs only in
--- what is made new
-abbrev pub IsSegmentAlike : List (List Spelled) → List (List Spelled) → Type 0
-IsSegmentAlike recorded sent =
-    (segment_bytes sent ≡ segment_bytes recorded)
-    ⊎ (IsSealHead (segment_of recorded) × IsSealHead (segment_of sent))
-    ⊎ IsRenewal (segment_of recorded) (segment_of sent)
-
--- the bytes are segments, each of which is sent so
-abbrev pub AreSegmentsAlike : List ℕ → List ℕ → Type 0
-AreSegmentsAlike recorded sent =
-    (own other : List (List (List Spelled))) × IsCapture recorded own × IsCapture sent other
-    × AllZip IsSegmentAlike own other
-
--- an HNVSD, numbered 999, with this data and nothing more
-pub record IsEnvelopeOf (held : List ℕ) (s : OwnedSegment) : Type 0 where
-  pub kind : IsTrue (is_named s (codes "HNVSD") HNVSD_VERSION)
-  pub place : s.head.number ≡ HNVSD_NUMBER
-  pub element : length s.elements ≡ 1
-  pub item : length (items_in s 2) ≡ 1
-  pub held_is : slice_get (items_in s 2) 0 ≡ Some (Bin held)
-
--- both are an HNVSD, and the segments in it are sent so
-pub record AreEnvelopesAlike (recorded sent : List (List Spelled)) : Type 0 where
-  pub own : List ℕ
-  pub other : List ℕ
-  pub is_own : IsEnvelopeOf own (segment_of recorded)
-  pub is_other : IsEnvelopeOf other (segment_of sent)
-  pub alike : AreSegmentsAlike own other
-
-abbrev pub IsOuterAlike : List (List Spelled) → List (List Spelled) → Type 0
-IsOuterAlike recorded sent = IsSegmentAlike recorded sent ⊎ AreEnvelopesAlike recorded sent
-
--- a message is sent as it was recorded, byte for byte, but for what a client makes new, what HNVSK has after its
--- head, and the lengths in HNHBK and HNVSD that follow
-abbrev pub IsSentAgain : List ℕ → List ℕ → Type 0
-IsSentAgain recorded sent =
-    (own other : List (List (List Spelled))) × IsCapture recorded own × IsCapture sent other
-    × AllZip IsOuterAlike own other
+-- ---- a dialogue sent once more
 
 -- the client's messages are sent so, in order, and nothing else is
 abbrev pub AreSentAgain : List Exchange → List Sent → Type 0
@@ -205,20 +106,25 @@ is_draft_text c =
     (is_latin c.alphabet && c.min == 1 && (c.max == 14 || c.max == 30 || c.max == 35 || c.max == 99))
     || (is_digits c.alphabet && (c.min == 8 && c.max == 8 || c.min == 6 && c.max == 6))
 
--- a field of a draft: its bounds are constants of the standard, and it lists none of its values
-abbrev pub IsDraftField : NamedField → Type 0
-IsDraftField f =
-    elim f.class [
-      | classes.Text c ↦ IsTrue (is_draft_text c)
-      | classes.Bin c ↦ (c.min ≡ 1) × (c.max ≡ 99)
-      | classes.OneOf c ↦ ⊥
-      | classes.Account c ↦ ⊥
-    ]
+-- the accounts that some order of the recording may name by the parameters of its message
+abbrev pub AreAccounts : List OrderRow → List Exchange → List (List (List ℕ)) → Type 0
+AreAccounts orders recording values =
+    (list : AccountList) × IsOffer orders recording list × (list.values.items ≡ values)
+
+-- the class of a field of a draft: its bounds are constants of the standard; or it lists accounts of this kind
+abbrev pub IsDraftClass : (List (List (List ℕ)) → Type 0) → FieldClass → Type 0
+IsDraftClass Lists (classes.Text c) = IsTrue (is_draft_text c)
+IsDraftClass Lists (classes.Bin c) = (c.min ≡ 1) × (c.max ≡ 99)
+IsDraftClass Lists (classes.OneOf c) = ⊥
+IsDraftClass Lists (classes.Account c) = Lists c.values
+
+abbrev pub IsDraftField : (List (List (List ℕ)) → Type 0) → NamedField → Type 0
+IsDraftField Lists f = IsDraftClass Lists f.class
 
 -- PIN, TAN and new PIN are values of fields, and the last elements of their segments; and no field's bounds come from
 -- a recorded value
-pub record KeepsSecrets (script : ScriptValue) : Type 0 where
-  pub fields : All IsDraftField script.fields
+pub record KeepsSecrets (Lists : List (List (List ℕ)) → Type 0) (script : ScriptValue) : Type 0 where
+  pub fields : All (IsDraftField Lists) script.fields
   pub signers : All HasBlankPin script.signers
   pub steps : All (λ step. All HasBlankNewPin step.templates) script.steps
 
@@ -238,15 +144,17 @@ has_secret script = list_any is_secret_field script.fields
 
 -- ---- drafts
 
--- the texts of a script and of a case that replay the exchanges; the script has no secret; and whether the case has
--- one
-pub record IsDraft (exchanges : List Exchange) (script_text case_text : List ℕ) (secret : Bool) : Type 0 where
+-- the texts of a script and of a case that replay the exchanges of a recording; the script has no secret, and lists
+-- accounts by the order table and the parameters that the recording tells; and whether the case has a secret
+pub record IsDraft (orders : List OrderRow) (recording exchanges : List Exchange)
+    (script_text case_text : List ℕ) (secret : Bool)
+    : Type 0 where
   pub script : ScriptValue
   pub values : List NamedValue
   pub denotes : Denotes script_text script
   pub case : IsCaseOf case_text values (answers_of exchanges)
   pub replays : Replays exchanges script values
-  pub secrets : KeepsSecrets script
+  pub secrets : KeepsSecrets (AreAccounts orders recording) script
   pub secret_is : secret ≡ has_secret script
 
 abbrev pub drafted_text : Drafted → List ℕ → List ℕ → List ℕ
@@ -255,21 +163,22 @@ drafted_text Case script case = case
 
 -- the text is the wanted one of a draft of the dialogue of a number among the exchanges, or of all of them; and
 -- whether the case of the draft has a secret
-pub record IsPartDraft (drafted : Drafted) (number : Option ℕ) (exchanges : List Exchange) (text : List ℕ)
-    (secret : Bool)
+pub record IsPartDraft (orders : List OrderRow) (drafted : Drafted) (number : Option ℕ)
+    (exchanges : List Exchange) (text : List ℕ) (secret : Bool)
     : Type 0 where
   pub own : List Exchange
   pub script : List ℕ
   pub case : List ℕ
   pub part : IsPart exchanges number own
-  pub draft : IsDraft own script case secret
+  pub draft : IsDraft orders exchanges own script case secret
   pub text_is : text ≡ drafted_text drafted script case
 
--- the same of a recording
-abbrev pub IsDraftOf : Drafted → Option ℕ → List ℕ → List ℕ → Bool → Type 0
-IsDraftOf drafted number dialogue text secret =
-    (exchanges : List Exchange) × IsDialogue dialogue exchanges
-    × IsPartDraft drafted number exchanges text secret
+-- the same of the texts of an order table and of a recording
+abbrev pub IsDraftOf : List ℕ → Drafted → Option ℕ → List ℕ → List ℕ → Bool → Type 0
+IsDraftOf orders drafted number dialogue text secret =
+    (table : List OrderRow) × (exchanges : List Exchange)
+    × DenotesTable orders table × IsDialogue dialogue exchanges
+    × IsPartDraft table drafted number exchanges text secret
 
 abbrev pub has_number : ℕ → OwnedSegment → Bool
 has_number number s = s.head.number == number

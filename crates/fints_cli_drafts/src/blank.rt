@@ -2,8 +2,10 @@
 ghost use Rattle.std.specs.Prelude.{◌≡◌, [], IsTrue, get_or};
 ghost use Rattle.std.specs.Char.{is_ascii_alphanumeric};
 ghost use Rattle.std.specs.List.{All, list_all, list_any};
+ghost use Rattle.fints_cli_drafts_accounts.specs.Offers.{AreOffered};
 ghost use Rattle.fints_cli_drafts.specs.Drafts.{HasBlankNewPin, HasBlankPin, IsBlank, IsDraftField, IsLastBlank, IsReference, KeepsSecrets, has_secret, is_digits, is_draft_text, is_latin, is_secret_field};
 
+use fints_cli_drafts_accounts::{AccountList, are_offered};
 use fints_script::{Field, NamedField, Script, Signer, Template, TemplateElements, TemplateItem};
 use fints_script_fields::{Alphabet, Text};
 
@@ -107,13 +109,14 @@ fn is_draft_text(text: &Text) -> bool
             && (text.min == 8 && text.max == 8 || text.min == 6 && text.max == 6))
 }
 
-fn is_draft_field(field: &NamedField) -> bool
-    ensures { IsTrue result → IsDraftField field.now }
+fn is_draft_field(lists: &[AccountList], field: &NamedField) -> bool
+    ensures { IsTrue result → IsDraftField (AreOffered lists.now) field.now }
 {
     match &field.class {
         Field::Text(text) => is_draft_text(text),
         Field::Bin(bin) => bin.min == 1 && bin.max == 99,
-        _ => false,
+        Field::OneOf(_) => false,
+        Field::Account(account) => are_offered(lists, account.values.as_slice()),
     }
 }
 
@@ -134,11 +137,15 @@ pub fn has_secret(script: &Script) -> bool
     script.fields().iter().any(is_secret_field)
 }
 
-/// Whether PIN, TAN and new PIN are values of fields, and the last elements of their segments.
-pub fn keeps_secrets(script: &Script) -> bool
-    ensures { IsTrue result → KeepsSecrets script.now }
+/// Whether PIN, TAN and new PIN are values of fields, and the last elements of their segments; and each list of
+/// accounts is one of these.
+pub fn keeps_secrets(lists: &[AccountList], script: &Script) -> bool
+    ensures { IsTrue result → KeepsSecrets (AreOffered lists.now) script.now }
 {
-    script.fields().iter().all(is_draft_field)
+    script
+        .fields()
+        .iter()
+        .all(|field| is_draft_field(lists, field))
         && script.signers().iter().all(has_blank_pin)
         && script
             .steps()

@@ -1,15 +1,20 @@
 //! Drafts of recorded dialogues, each tried before it is handed out.
-ghost use Rattle.std.specs.Prelude.{◌≡◌, ℕ, List, Option, IfErr, IfOk, IsOk, IsTrue, string_bytes};
+ghost use Rattle.std.specs.Prelude.{◌≡◌, ℕ, All, List, Option, IfErr, IfOk, IsOk, IsTrue, string_bytes};
 ghost use Rattle.fints_cli_texts.specs.Audit.{IsLogReadOf};
 ghost use Rattle.fints_script.specs.Scripts.{Denotes};
 ghost use Rattle.fints_script_cases.specs.Cases.{IsCaseOf};
+ghost use Rattle.fints_rules_permissions.specs.declared.orders.OrderRow.{OrderRow as OrderRowValue};
+ghost use Rattle.fints_rules_dialogues.specs.declared.reading.Exchange.{Exchange as ExchangeValue};
+ghost use Rattle.fints_cli_drafts_accounts.specs.Offers.{IsOffer};
 ghost use Rattle.fints_cli_drafts.specs.Drafts.{answers_of, drafted_text, IsDraft, IsDraftOf, IsDraftRefusal, IsPartDraft, IsUndrafted};
 
 use crate::blank::{has_secret, keeps_secrets};
 use crate::place::{Place, Undrafted};
 use crate::replaying::{answers_of, replay};
 use crate::sketching::{Sketch, sketch_of};
+use crate::steps::Orders;
 use crate::within::place_within;
+use fints_cli_drafts_accounts::offers_of;
 use fints_cli_texts::{Fault, good_log};
 use fints_rules::OrderTable;
 use fints_rules_dialogues::{DialogueFault, Exchange, Log, Part, part_of, read_dialogue_with};
@@ -106,15 +111,16 @@ fn case_text(
 // The draft of a sketch, once it was tried: its script is read back and sends what was recorded.
 fn tried(
     alloc: Global,
-    orders: &OrderTable,
+    orders: &Orders<'_>,
     exchanges: &[Exchange<'_>],
     sketch: Sketch,
 ) -> Result<Draft, Undrafted>
-    ensures { IfOk result (λ draft. IsDraft exchanges.now draft.script.items draft.case.items
-        draft.has_secret) }
+    ensures { IfOk result (λ draft. (table : List OrderRowValue) (recording : List ExchangeValue)
+        → All (IsOffer table recording) orders.now.offers.now.lists.items
+        → IsDraft table recording exchanges.now draft.script.items draft.case.items draft.has_secret) }
 {
     let script = script_of(alloc, &sketch)?;
-    if !keeps_secrets(&script) {
+    if !keeps_secrets(orders.offers.lists.as_slice(), &script) {
         return Err(Place::whole(0).refused());
     }
     let Sketch {
@@ -123,7 +129,7 @@ fn tried(
         ..
     } = sketch;
     let (case, read) = case_text(alloc, values, exchanges)?;
-    replay(alloc, orders, exchanges, &script, &read)?;
+    replay(alloc, orders.table, exchanges, &script, &read)?;
     Ok(Draft {
         script: text.into_bytes(),
         case,
@@ -132,12 +138,22 @@ fn tried(
 }
 
 // The draft of a part of a recording.
-fn draft_of(alloc: Global, orders: &OrderTable, part: &Part<'_, '_>) -> Result<Draft, Undrafted>
-    ensures { IfOk result (λ draft. IsDraft part.now.exchanges.now draft.script.items draft.case.items
-        draft.has_secret) }
+fn draft_of(
+    alloc: Global,
+    table: &OrderTable,
+    exchanges: &[Exchange<'_>],
+    part: &Part<'_, '_>,
+) -> Result<Draft, Undrafted>
+    ensures { IfOk result (λ draft. IsDraft table.now exchanges.now part.now.exchanges.now
+        draft.script.items draft.case.items draft.has_secret) }
 {
-    let sketch = sketch_of(alloc, orders, *part)?;
-    tried(alloc, orders, part.exchanges, sketch)
+    let offers = offers_of(alloc, table, exchanges, part)?;
+    let orders = Orders {
+        table,
+        offers: &offers,
+    };
+    let sketch = sketch_of(alloc, &orders, *part)?;
+    tried(alloc, &orders, part.exchanges, sketch)
 }
 
 // The refusal where a part of a recording has no draft, with the place in the recording.
@@ -178,7 +194,8 @@ fn draft_part(
     number: Option<u32>,
     drafted: Drafted,
 ) -> Result<DraftText, Fault>
-    ensures draft { IfOk result (λ it. IsPartDraft drafted number exchanges.now it.text.items it.has_secret) }
+    ensures draft { IfOk result (λ it. IsPartDraft orders.now drafted number exchanges.now it.text.items
+        it.has_secret) }
     ensures refused { IfErr result (λ f. IsUndrafted exchanges.now number f) }
 {
     let Some(part) = part_of(exchanges, number) else {
@@ -186,7 +203,7 @@ fn draft_part(
             number: number.unwrap_or(0),
         });
     };
-    match draft_of(alloc, orders, &part) {
+    match draft_of(alloc, orders, exchanges, &part) {
         Ok(draft) => Ok(text_of(draft, drafted)),
         Err(undrafted) => Err(refusal_of(exchanges, part.before, undrafted)),
     }
@@ -207,7 +224,7 @@ pub fn draft_read<O: UnreadObserver>(
     observer: &mut O,
 ) -> Result<DraftText, Fault>
     ensures draft { IfOk result (λ it. (dialogue : List ℕ) → IsLogReadOf dialogue log.now
-        → IsDraftOf drafted number dialogue it.text.items it.has_secret) }
+        → IsDraftOf orders.now drafted number dialogue it.text.items it.has_secret) }
     ensures refused { IfErr result (λ f. (dialogue : List ℕ) → IsLogReadOf dialogue log.now
         → IsDraftRefusal orders.now number dialogue f) }
     ensures log { IfOk result (λ _. IsOk log.now) }

@@ -1,11 +1,12 @@
 //! The elements of a recorded segment, as they are written in a script.
 ghost use Rattle.std.specs.Prelude.{◌≤◌};
 
-use crate::comparing::is_empty;
 use crate::fields::{DraftFields, Purpose};
 use crate::place::{Place, Undrafted};
-use crate::renewed::refers;
+use crate::recorded::Recorded;
 use crate::texts::write_item;
+use fints_cli_drafts_accounts::Offer;
+use fints_cli_drafts_alike::{is_empty, refers};
 use fints_cli_texts::has_reference;
 use fints_syntax::{ElementRef, ItemRef, OwnedSegment};
 use std::alloc::Global;
@@ -22,6 +23,8 @@ pub struct Written<'a> {
     pub signature: usize,
     /// The control reference in the HNSHK of that signature.
     pub reference: &'a [u8],
+    /// The list of its account, and the text of the account, where it is an order that has one.
+    pub account: Option<(Offer, &'a [u8])>,
 }
 
 // Whether each item of an element is empty.
@@ -29,7 +32,19 @@ fn are_empty(items: &ElementRef<'_>) -> bool {
     (0..items.len()).all(|i| items.value(i + 1).is_empty())
 }
 
-impl Written<'_> {
+impl<'a> Written<'a> {
+    /// A segment of a message outside signatures, without an account.
+    pub fn new(recorded: &'a Recorded, message: usize, segment: &'a OwnedSegment) -> Written<'a> {
+        Written {
+            segment,
+            dialogue_id: recorded.dialogue_id(),
+            message,
+            signature: 1,
+            reference: &[],
+            account: None,
+        }
+    }
+
     /// Its place in the dialogue.
     pub fn place(&self) -> Place {
         Place {
@@ -173,6 +188,9 @@ fn write_element(
 ) -> Result<(), Undrafted>
     requires { 2 ≤ element }
 {
+    if let (2, Some((offer, account))) = (element, written.account) {
+        return fields.write_account(alloc, text, offer, account, written.place());
+    }
     if written.segment.items(element).len() == 1 {
         return write_strings(alloc, text, fields, written, element);
     }

@@ -1,6 +1,9 @@
-//! The fields of a draft: what a client makes new for each message, and its secrets. Neither is a text of the
-//! script (FinTS 3.0, Formals, HNSHK and HNSHA; Security PIN/TAN, HNSHA, HKPAE and HKTAN).
+//! The fields of a draft: what a client makes new for each message, and its secrets, neither of which is a text
+//! of the script (FinTS 3.0, Formals, HNSHK and HNSHA; Security PIN/TAN, HNSHA, HKPAE and HKTAN); and the accounts
+//! of orders.
 use crate::place::{Place, Undrafted};
+use crate::texts::write_account;
+use fints_cli_drafts_accounts::{Offer, Offers};
 use fints_script::limits::MAX_FIELDS;
 use fints_script::{Name, Values};
 use fints_script_fields::Alphabet;
@@ -22,6 +25,8 @@ pub enum Purpose {
     NewPin,
     /// The bank's reference of an order.
     OrderReference,
+    /// An account of a list, by the place of the list among all, from 0.
+    Account(usize),
 }
 
 impl Purpose {
@@ -36,7 +41,7 @@ impl Purpose {
     // Whether one field serves for all its values, so that a run sends the first of them in each message.
     fn has_one_field(self, binary: bool) -> bool {
         match self {
-            Purpose::Pin | Purpose::FurtherSecret | Purpose::NewPin => false,
+            Purpose::Pin | Purpose::FurtherSecret | Purpose::NewPin | Purpose::Account(_) => false,
             _ => !binary,
         }
     }
@@ -51,11 +56,13 @@ impl Purpose {
             Purpose::FurtherSecret => "secret",
             Purpose::NewPin => "newpin",
             Purpose::OrderReference => "orderref",
+            Purpose::Account(_) => "account",
         }
     }
 
     // The class of its field where it was sent as a text, and the least and the most bytes of a value. They
-    // are those of the standard: nothing in them comes from a recorded value.
+    // are those of the standard: nothing in them comes from a recorded value. An account has the length of a
+    // listed one.
     fn bounds(self) -> (&'static str, usize, usize) {
         match self {
             Purpose::Reference(_) => ("text", 1, 14),
@@ -65,6 +72,7 @@ impl Purpose {
                 ("text", 1, 99)
             }
             Purpose::OrderReference => ("text", 1, 35),
+            Purpose::Account(_) => ("account", 1, usize::MAX),
         }
     }
 
@@ -123,17 +131,35 @@ impl DraftField {
         write!(text, "{number}")
     }
 
-    // Writes its row.
-    fn write_row(&self, text: &mut String) -> Result<(), AllocError> {
+    // Writes the rest of its row: its class, and which values it has.
+    fn write_class(&self, text: &mut String, offers: &Offers) -> Result<(), AllocError> {
+        if let Purpose::Account(place) = self.purpose {
+            text.push_str("class = \"account\"\n")?;
+            return write_lists(text, offers, place);
+        }
         let (class, least, most) = self.purpose.bounds();
         let class = if self.binary { "bin" } else { class };
-        write!(text, "\n[[field]]\nname = \"")?;
-        self.write_name(text)?;
-        write!(
-            text,
-            "\"\nclass = \"{class}\"\nmin = {least}\nmax = {most}\n"
-        )
+        write!(text, "class = \"{class}\"\nmin = {least}\nmax = {most}\n")
     }
+
+    // Writes its row.
+    fn write_row(&self, text: &mut String, offers: &Offers) -> Result<(), AllocError> {
+        text.push_str("\n[[field]]\nname = \"")?;
+        self.write_name(text)?;
+        text.push_str("\"\n")?;
+        self.write_class(text, offers)
+    }
+}
+
+// Writes the accounts of a list, one in a line.
+fn write_lists(text: &mut String, offers: &Offers, place: usize) -> Result<(), AllocError> {
+    text.push_str("values = [\n")?;
+    if let Some(list) = offers.lists.get(place) {
+        for account in list.values.iter() {
+            write_account(text, account.items())?;
+        }
+    }
+    text.push_str("]\n")
 }
 
 /// The fields that were met, in the order of their first use.
@@ -192,6 +218,16 @@ impl DraftFields {
         Ok(self.fields.len() - 1)
     }
 
+    // Writes the string of an item: the name of the field of a place.
+    fn write_use(&self, text: &mut String, place: usize) -> Result<(), AllocError> {
+        let Some(field) = self.fields.get(place) else {
+            return Ok(());
+        };
+        text.push_str("\"$")?;
+        field.write_name(text)?;
+        text.push('"')
+    }
+
     /// Writes the string of an item, the name of its field, and answers whether it did: what no value of the
     /// field can be is a text of the script, and where it is a secret there is no draft.
     pub fn write(
@@ -211,18 +247,29 @@ impl DraftFields {
             };
         }
         let found = self.place_of(alloc, purpose, item, place)?;
-        if let Some(field) = self.fields.get(found) {
-            text.push_str("\"$")?;
-            field.write_name(text)?;
-            text.push('"')?;
-        }
+        self.write_use(text, found)?;
         Ok(true)
     }
 
+    /// Writes the string of an account: the name of the field with its list.
+    pub fn write_account(
+        &mut self,
+        alloc: Global,
+        text: &mut String,
+        offer: Offer,
+        account: &[u8],
+        place: Place,
+    ) -> Result<(), Undrafted> {
+        let purpose = Purpose::Account(offer.list);
+        let found = self.place_of(alloc, purpose, &ItemRef::Text(account), place)?;
+        self.write_use(text, found)?;
+        Ok(())
+    }
+
     /// Writes the rows of the fields.
-    pub fn write_rows(&self, text: &mut String) -> Result<(), AllocError> {
+    pub fn write_rows(&self, text: &mut String, offers: &Offers) -> Result<(), AllocError> {
         for field in &self.fields {
-            field.write_row(text)?;
+            field.write_row(text, offers)?;
         }
         Ok(())
     }

@@ -3,14 +3,12 @@
 #![tactic(auto)]
 
 mod blank;
-mod comparing;
 mod drafting;
 mod elements;
 mod fields;
 mod notes;
 mod place;
 mod recorded;
-mod renewed;
 mod replaying;
 mod signers;
 mod sketching;

@@ -1,8 +1,10 @@
 //! What a draft says in comments: what its reader may want to change.
 ghost use Rattle.std.specs.Prelude.{◌≤◌};
 
-use crate::comparing::is_same_item;
+use fints_cli_drafts_accounts::Offer;
+use fints_cli_drafts_alike::is_same_item;
 use fints_rules::{AccountForm, OrderTable};
+use fints_script_fields::MAX_VALUES;
 use fints_syntax::{ElementRef, ItemRef, OwnedSegment};
 use std::alloc::AllocError;
 
@@ -97,8 +99,30 @@ fn write_xml_notes(text: &mut String, segment: &OwnedSegment) -> Result<(), Allo
     Ok(())
 }
 
-/// Writes the comments before a segment of the body.
-pub fn write_segment_note(
+// Writes how many accounts of the user aren't in the list of an order.
+fn write_offer_note(text: &mut String, offer: Offer) -> Result<(), AllocError> {
+    let Offer {
+        left_out,
+        further,
+        ..
+    } = offer;
+    if left_out > 0 {
+        writeln!(
+            text,
+            "  # Left out of its accounts: {left_out} for which the bank doesn't permit it (P8, P9)."
+        )?;
+    }
+    if further > 0 {
+        writeln!(
+            text,
+            "  # Left out of its accounts: {further} more, since a field lists at most {MAX_VALUES}."
+        )?;
+    }
+    Ok(())
+}
+
+// Writes that an order names an account, where it does and isn't offered a list.
+fn write_account_note(
     text: &mut String,
     orders: &OrderTable,
     segment: &OwnedSegment,
@@ -109,6 +133,20 @@ pub fn write_segment_note(
         Some(AccountForm::National | AccountForm::International)
     ) {
         text.push_str(ACCOUNT)?;
+    }
+    Ok(())
+}
+
+/// Writes the comments before a segment of the body.
+pub fn write_segment_note(
+    text: &mut String,
+    orders: &OrderTable,
+    segment: &OwnedSegment,
+    offer: Option<Offer>,
+) -> Result<(), AllocError> {
+    match offer {
+        Some(offer) => write_offer_note(text, offer)?,
+        None => write_account_note(text, orders, segment)?,
     }
     write_xml_notes(text, segment)
 }

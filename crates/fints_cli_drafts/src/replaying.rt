@@ -2,8 +2,8 @@
 ghost use Rattle.std.specs.Prelude.{◌≡◌, ◌++◌, IfNone, IfOk, OnOk};
 ghost use Rattle.fints_cli_drafts.specs.Drafts.{answers_of, answer_in, AreSentAgain, Replays};
 
-use crate::comparing::other_sent;
 use crate::place::{Place, Undrafted};
+use fints_cli_drafts_alike::other_sent;
 use fints_params::Code;
 use fints_rules::OrderTable;
 use fints_rules_dialogues::Exchange;

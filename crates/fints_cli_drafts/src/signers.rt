@@ -34,11 +34,9 @@ fn row_of(
         return Ok(None);
     };
     let head = Written {
-        segment: opener,
-        dialogue_id: recorded.dialogue_id(),
-        message,
         signature,
         reference: opener.value(4, 1),
+        ..Written::new(recorded, message, opener)
     };
     let owner = recorded.signature_of(signature, end);
     let end = Written {

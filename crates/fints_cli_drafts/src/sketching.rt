@@ -5,9 +5,9 @@ use crate::notes::{OPENING, write_seal_note};
 use crate::place::{Place, Undrafted};
 use crate::recorded::Recorded;
 use crate::signers::Signers;
-use crate::steps::{Common, write_step};
+use crate::steps::{Common, Orders, write_step};
 use crate::turns::{Turn, ways_of};
-use fints_rules::OrderTable;
+use fints_cli_drafts_accounts::Offers;
 use fints_rules_dialogues::{Exchange, Part};
 use fints_script::limits::MAX_STEPS;
 use fints_script::{Name, Values};
@@ -43,13 +43,7 @@ impl Seal {
             }
             return Ok(());
         }
-        let written = Written {
-            segment,
-            dialogue_id: recorded.dialogue_id(),
-            message,
-            signature: 1,
-            reference: &[],
-        };
+        let written = Written::new(&recorded, message, segment);
         self.row.push_str("\nseal = ")?;
         write_elements(alloc, &mut self.row, &mut common.fields, &written)?;
         self.row.push('\n')?;
@@ -99,7 +93,7 @@ fn write_steps(
     text: &mut String,
     common: &mut Common,
     seal: &mut Seal,
-    orders: &OrderTable,
+    orders: &Orders<'_>,
     exchanges: &[Exchange<'_>],
 ) -> Result<(), Undrafted> {
     let turns = turns_of(alloc, exchanges)?;
@@ -136,22 +130,29 @@ fn values_of(
 }
 
 // The text of the script, of its parts.
-fn joined(alloc: Global, common: &Common, seal: &Seal, steps: &str) -> Result<String, AllocError> {
+fn joined(
+    alloc: Global,
+    common: &Common,
+    seal: &Seal,
+    offers: &Offers,
+    steps: &str,
+) -> Result<String, AllocError> {
     let mut text = String::new(alloc);
     text.push_str(OPENING)?;
     text.push_str(seal.row.as_str())?;
     text.push_str(seal.notes.as_str())?;
-    common.fields.write_rows(&mut text)?;
+    common.fields.write_rows(&mut text, offers)?;
     common.signers.write_rows(&mut text)?;
     text.push_str(steps)?;
     Ok(text)
 }
 
-/// The sketch of a part of a recording. Its comments say which orders name an account, by the order table. The
-/// steps are named by the numbers of their messages in the recording; places count the messages of the part.
+/// The sketch of a part of a recording. The account of an order is a field where there is a list for it, and else
+/// a comment says which orders name one. The steps are named by the numbers of their messages in the recording;
+/// places count the messages of the part.
 pub fn sketch_of(
     alloc: Global,
-    orders: &OrderTable,
+    orders: &Orders<'_>,
     part: Part<'_, '_>,
 ) -> Result<Sketch, Undrafted> {
     let exchanges = part.exchanges;
@@ -171,7 +172,7 @@ pub fn sketch_of(
     let mut steps = String::new(alloc);
     write_steps(alloc, &mut steps, &mut common, &mut seal, orders, exchanges)?;
     let values = values_of(alloc, &common.fields, exchanges)?;
-    let script = joined(alloc, &common, &seal, steps.as_str())?;
+    let script = joined(alloc, &common, &seal, orders.offers, steps.as_str())?;
     let seal_met = match &seal.first {
         None => Place::whole(0),
         Some((_, message)) => Place {

@@ -7,20 +7,29 @@ use crate::recorded::Recorded;
 use crate::signers::Signers;
 use crate::texts::write_number;
 use crate::turns::{Ways, write_name, write_ways};
+use fints_cli_drafts_accounts::Offers;
 use fints_rules::OrderTable;
 use fints_syntax::OwnedSegment;
 use std::alloc::Global;
+
+/// What is known of the orders of a dialogue: how they name accounts, and which accounts they may name.
+#[derive(Clone, Copy)]
+pub struct Orders<'o> {
+    pub table: &'o OrderTable,
+    pub offers: &'o Offers,
+}
 
 // Writes a segment of the body, with its comment.
 fn write_segment(
     alloc: Global,
     text: &mut String,
     fields: &mut DraftFields,
-    orders: &OrderTable,
+    orders: &Orders<'_>,
     written: &Written<'_>,
 ) -> Result<(), Undrafted> {
     let OwnedSegment { head, elements } = written.segment;
-    write_segment_note(text, orders, written.segment)?;
+    let offer = written.account.map(|(offer, _)| offer);
+    write_segment_note(text, orders.table, written.segment, offer)?;
     text.push_str("  {kind = \"")?;
     for b in head.id.as_bytes() {
         text.push(char::from(*b))?;
@@ -40,18 +49,15 @@ fn write_body(
     alloc: Global,
     text: &mut String,
     fields: &mut DraftFields,
-    orders: &OrderTable,
+    orders: &Orders<'_>,
     recorded: &Recorded,
     message: usize,
 ) -> Result<(), Undrafted> {
     text.push_str("segments = [\n")?;
-    for segment in recorded.body.iter() {
+    for (i, segment) in recorded.body.iter().enumerate() {
         let written = Written {
-            segment,
-            dialogue_id: recorded.dialogue_id(),
-            message,
-            signature: 1,
-            reference: &[],
+            account: orders.offers.account_of(message, i),
+            ..Written::new(recorded, message, segment)
         };
         write_segment(alloc, text, fields, orders, &written)?;
     }
@@ -80,7 +86,7 @@ pub fn write_step(
     alloc: Global,
     text: &mut String,
     common: &mut Common,
-    orders: &OrderTable,
+    orders: &Orders<'_>,
     recorded: &Recorded,
     message: usize,
     ways: &Ways,

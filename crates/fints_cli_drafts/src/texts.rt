@@ -3,7 +3,7 @@ ghost use Rattle.std.specs.Prelude.{◌≡◌, ◌++◌, OnOk, decimal, string_b
 
 use crate::place::{Place, Undrafted};
 use fints_script_fields::Alphabet;
-use fints_syntax::ItemRef;
+use fints_syntax::{Bytes, ItemRef};
 use itoa::Buffer;
 use std::alloc::{AllocError, Global};
 
@@ -56,4 +56,18 @@ pub fn write_item(
     }
     text.push('"')?;
     Ok(())
+}
+
+/// Writes the texts of an account, as a row of a list; none of them has a character that no script has.
+pub fn write_account(text: &mut String, items: &[Bytes]) -> Result<(), AllocError> {
+    text.push_str("  [")?;
+    for (i, item) in items.iter().enumerate() {
+        if i > 0 {
+            text.push_str(", ")?;
+        }
+        text.push('"')?;
+        write_characters(text, item.as_slice())?;
+        text.push('"')?;
+    }
+    text.push_str("],\n")
 }

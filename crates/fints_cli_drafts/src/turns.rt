@@ -1,7 +1,7 @@
 //! The ways of a draft: which step an answer of the bank has sent next.
 use crate::recorded::Recorded;
-use crate::renewed::{goes_on, has_process};
 use crate::texts::write_number;
+use fints_cli_drafts_alike::{goes_on, has_process};
 use fints_params::Code;
 use fints_rules_dialogues::Exchange;
 use fints_script_cases::digits_of;
@@ -28,7 +28,7 @@ impl Turn {
         Turn {
             kind: recorded.kind(),
             submits: body.iter().any(|own| has_process(own, b"4")),
-            releases: body.iter().any(goes_on),
+            releases: body.iter().any(|own| goes_on(own)),
             ends: body.iter().any(|own| own.head.id.is(b"HKEND")),
         }
     }

@@ -1,3 +1,4 @@
 pub mod Accounts
+pub mod Offers
 pub mod Recorded
 pub mod Walks

@@ -3,8 +3,11 @@
 #![tactic(auto)]
 
 mod filling;
+mod keys;
 mod listing;
 mod naming;
+mod offers;
 mod recorded;
 
 pub use listing::{AccountList, accounts_for};
+pub use offers::{Offer, Offers, are_offered, offers_of};

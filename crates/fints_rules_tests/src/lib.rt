@@ -4,6 +4,8 @@
 #[cfg(test)]
 mod accounts;
 #[cfg(test)]
+mod alike;
+#[cfg(test)]
 mod captures;
 #[cfg(test)]
 mod dialogues;
@@ -13,6 +15,8 @@ mod feeding;
 mod hashing;
 #[cfg(test)]
 mod logs;
+#[cfg(test)]
+mod offers;
 #[cfg(test)]
 mod parts;
 #[cfg(test)]

@@ -246,7 +246,9 @@ returns-in-Draft-clause-note c =
     (let file = of_request.dialogue c.args.request.now holds _ _ loaded commands.Draft c.in-Draft.is refl in (
       h.secret,
       (h.log, of_file (λ d. IsLog d h.log) _ _ file h.log_is, h.note_is),
-      of_file (λ d. HasDraft drafts.Script c.args.request.now.number d h.secret) _ _ file (it.reply.text.items, h.draft),
+      of_request.of_own_dialogue c.args.request.now holds _ _ loaded commands.Draft c.in-Draft.is
+          (λ table d. HasDraft drafts.Script c.args.request.now.number table d h.secret) refl refl
+          (it.reply.text.items, h.draft),
     )))
     c.answer_draft.ensures.drafted
 
@@ -254,12 +256,13 @@ pub returns-in-Draft-clause-answers : goal.returns-in-Draft-clause-answers
 returns-in-Draft-clause-answers c =
     from_both c.answer_draft.result (λ it. it.reply.status ≡ 0)
     (λ it. IsDraftWithNote c.args.request.now.hints drafts.Script c.args.request.now.number
-    c.args.contents.now.dialogue.items it.reply.text.items (string_bytes it.note))
-    _ (λ it zero h holds loaded. rw c.in-Draft.is
-    (let file = of_request.dialogue c.args.request.now holds _ _ loaded commands.Draft c.in-Draft.is refl in (
+    c.args.contents.now.orders.items c.args.contents.now.dialogue.items it.reply.text.items (string_bytes it.note))
+    _ (λ it zero h holds loaded. rw c.in-Draft.is (
       zero,
-      of_file (λ d. IsDrafted drafts.Script c.args.request.now.number d it.reply.text.items) _ _ file (h.secret, h.draft),
-    )))
+      of_request.of_own_dialogue c.args.request.now holds _ _ loaded commands.Draft c.in-Draft.is
+          (λ table d. IsDrafted drafts.Script c.args.request.now.number table d it.reply.text.items) refl refl
+          (h.secret, h.draft),
+    ))
     c.answer_draft.ensures.status c.answer_draft.ensures.drafted
 
 pub returns-in-DraftCase-clause-note : goal.returns-in-DraftCase-clause-note
@@ -268,7 +271,9 @@ returns-in-DraftCase-clause-note c =
     (let file = of_request.dialogue c.args.request.now holds _ _ loaded commands.DraftCase c.in-DraftCase.is refl in (
       h.secret,
       (h.log, of_file (λ d. IsLog d h.log) _ _ file h.log_is, h.note_is),
-      of_file (λ d. HasDraft drafts.Case c.args.request.now.number d h.secret) _ _ file (it.reply.text.items, h.draft),
+      of_request.of_own_dialogue c.args.request.now holds _ _ loaded commands.DraftCase c.in-DraftCase.is
+          (λ table d. HasDraft drafts.Case c.args.request.now.number table d h.secret) refl refl
+          (it.reply.text.items, h.draft),
     )))
     c.answer_draft-in-DraftCase.ensures.drafted
 
@@ -276,10 +281,11 @@ pub returns-in-DraftCase-clause-answers : goal.returns-in-DraftCase-clause-answe
 returns-in-DraftCase-clause-answers c =
     from_both c.answer_draft-in-DraftCase.result (λ it. it.reply.status ≡ 0)
     (λ it. IsDraftWithNote c.args.request.now.hints drafts.Case c.args.request.now.number
-    c.args.contents.now.dialogue.items it.reply.text.items (string_bytes it.note))
-    _ (λ it zero h holds loaded. rw c.in-DraftCase.is
-    (let file = of_request.dialogue c.args.request.now holds _ _ loaded commands.DraftCase c.in-DraftCase.is refl in (
+    c.args.contents.now.orders.items c.args.contents.now.dialogue.items it.reply.text.items (string_bytes it.note))
+    _ (λ it zero h holds loaded. rw c.in-DraftCase.is (
       zero,
-      of_file (λ d. IsDrafted drafts.Case c.args.request.now.number d it.reply.text.items) _ _ file (h.secret, h.draft),
-    )))
+      of_request.of_own_dialogue c.args.request.now holds _ _ loaded commands.DraftCase c.in-DraftCase.is
+          (λ table d. IsDrafted drafts.Case c.args.request.now.number table d it.reply.text.items) refl refl
+          (h.secret, h.draft),
+    ))
     c.answer_draft-in-DraftCase.ensures.status c.answer_draft-in-DraftCase.ensures.drafted

@@ -70,7 +70,9 @@ returns-clause-draft g c =
     let log = c.in_ok-log.log.now in
     IfOk-weaker c.draft_part.result _ _
     (λ it h dialogue read. (
+      c.in_ok-orders.orders,
       c.in_ok-exchanges.exchanges.items,
+      c.in_ok-orders.ensures.table,
       (log, log_read dialogue c.args.log.now log c.in_ok-log.ensures.log read, c.in_ok-exchanges.ensures.dialogue),
       rw c.as_slice.ensures.value at h,
     ))

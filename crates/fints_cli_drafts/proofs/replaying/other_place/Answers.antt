@@ -1,8 +1,8 @@
 use Rattle.std.proofs.Common.{◌<◌, length, get_or, arith, subst, IfNone}
 use Rattle.fints_rules_dialogues.specs.declared.reading.Exchange.{Exchange}
 use Rattle.fints_wire.specs.declared.dialogue.Sent.{Sent}
-use Rattle.fints_cli_drafts.specs.Drafts.{IsSentAgain}
-use Rattle.fints_cli_drafts.proofs.Alike.{one_place}
+use Rattle.fints_cli_drafts_alike.specs.Alike.{IsSentAgain}
+use Rattle.fints_cli_drafts_alike.proofs.Places.{one_place}
 use Rattle.fints_cli_drafts.proofs.replaying.other_place.Goals as goal
 
 pub loop-i-preserved : goal.loop-i-preserved

@@ -5,9 +5,9 @@ use Rattle.fints_syntax_segments.specs.Values.{item_at, items_in}
 use Rattle.fints_syntax_segments.specs.declared.item.OwnedItem.{OwnedItem}
 use Rattle.fints_syntax_segments.specs.declared.item.OwnedItem.TheVariants.{Text}
 use Rattle.fints_syntax_segments.specs.declared.item.OwnedSegment.{OwnedSegment}
-use Rattle.fints_cli_drafts.specs.Drafts.{is_renewed, AreAlikeItems}
-use Rattle.fints_cli_drafts.proofs.Alike.{one_below}
-use Rattle.fints_cli_drafts.proofs.comparing.is_element_alike.Goals as goal
+use Rattle.fints_cli_drafts_alike.specs.Alike.{is_renewed, AreAlikeItems}
+use Rattle.fints_cli_drafts_alike.proofs.Places.{one_below}
+use Rattle.fints_cli_drafts_alike.proofs.comparing.is_element_alike.Goals as goal
 
 -- an item that is read is the one at its place
 read_at : (s : OwnedSegment) (element item : ℕ) (items : List OwnedItem) (x : OwnedItem) → items ≡ items_in s element

@@ -1,7 +1,7 @@
 use Rattle.std.proofs.Common.{◌≤◌, ◌<◌, ◌+◌, ℕ}
 use Rattle.fints_syntax_segments.specs.Values.{item_at}
-use Rattle.fints_cli_drafts.specs.Drafts.{is_renewed, AreAlikeItems}
-use Rattle.fints_cli_drafts.proofs.comparing.is_element_alike.Given as goal
+use Rattle.fints_cli_drafts_alike.specs.Alike.{is_renewed, AreAlikeItems}
+use Rattle.fints_cli_drafts_alike.proofs.comparing.is_element_alike.Given as goal
 
 abbrev pub invariant-loop-i : goal.invariant-loop-i
 invariant-loop-i l =

@@ -1,7 +1,7 @@
 use Rattle.std.proofs.Common.{◌<◌, length, arith}
-use Rattle.fints_cli_drafts.specs.Drafts.{IsSegmentAlike}
-use Rattle.fints_cli_drafts.proofs.Alike.{one_place_of}
-use Rattle.fints_cli_drafts.proofs.comparing.other_segment.Goals as goal
+use Rattle.fints_cli_drafts_alike.specs.Alike.{IsSegmentAlike}
+use Rattle.fints_cli_drafts_alike.proofs.Places.{one_place_of}
+use Rattle.fints_cli_drafts_alike.proofs.comparing.other_segment.Goals as goal
 
 pub loop-i-preserved : goal.loop-i-preserved
 loop-i-preserved c =

@@ -1,6 +1,6 @@
 //! What a client makes new for each message.
 ghost use Rattle.std.specs.Prelude.{◌≡◌};
-ghost use Rattle.fints_cli_drafts.specs.Drafts.{goes_on, has_process, is_renewable, is_renewed, refers};
+ghost use Rattle.fints_cli_drafts_alike.specs.Alike.{goes_on, has_process, is_renewable, is_renewed, refers};
 
 use fints_syntax::OwnedSegment;
 

@@ -1,6 +1,6 @@
-use Rattle.fints_cli_drafts.specs.Drafts.{IsElementAlike}
-use Rattle.fints_cli_drafts.proofs.Alike.{one_below}
-use Rattle.fints_cli_drafts.proofs.comparing.is_renewal.Goals as goal
+use Rattle.fints_cli_drafts_alike.specs.Alike.{IsElementAlike}
+use Rattle.fints_cli_drafts_alike.proofs.Places.{one_below}
+use Rattle.fints_cli_drafts_alike.proofs.comparing.is_renewal.Goals as goal
 
 pub loop-i-preserved : goal.loop-i-preserved
 loop-i-preserved c element =

@@ -7,7 +7,7 @@ ghost use Rattle.fints_syntax_segments.specs.Segment.{item_value};
 ghost use Rattle.fints_syntax.specs.Capture.{IsCapture};
 ghost use Rattle.fints_syntax.specs.Owned.{segment_of};
 ghost use Rattle.fints_rules_messages.specs.Messages.{IsSealHead};
-ghost use Rattle.fints_cli_drafts.specs.Drafts.{AreAlikeItems, AreSegmentsAlike, IsElementAlike, IsEnvelopeOf, IsOuterAlike, IsRenewal, IsSegmentAlike, IsSentAgain};
+ghost use Rattle.fints_cli_drafts_alike.specs.Alike.{AreAlikeItems, AreSegmentsAlike, IsElementAlike, IsEnvelopeOf, IsOuterAlike, IsRenewal, IsSegmentAlike, IsSentAgain};
 
 use crate::renewed::{is_renewable, is_renewed};
 use fints_syntax::{
