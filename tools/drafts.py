@@ -4,7 +4,7 @@ program, of a recording with several dialogues from each of them, runs them, and
 was recorded, segment by segment: byte for byte but for what a client makes new for each message. No string of the
 script may be the value of a secret, and each comment is a fixed one, or an XML text that the segment after it has.
 Each is drafted without an order table and with that of all orders. With it each account that a field lists is one of
-the user's, and no run of a permitted recording's draft breaks P8 or P9 by the bank's own answer.
+the user's, and no run of the draft of a permitted dialogue breaks P8 or P9 by the bank's own answer.
 
 Usage: tools/drafts.py
 """
@@ -215,16 +215,16 @@ def are_accounts_known(script, messages):
 
 
 def is_permitted_again(path, room, script):
-    """Whether no run of the draft of a permitted recording breaks P8 or P9, by an answer that tells all parameters."""
+    """Whether no run of the draft of a permitted recording breaks P8 or P9, where one answer tells all parameters."""
+    kinds = [{it[0][0][1] for it in inner_segments(message)} for message in recorded(path.read_bytes())]
+    telling = [i for i, it in enumerate(kinds) if it & {b"HIBPA", b"HIUPA", b"HIUPD"}]
+    if len(telling) != 1 or not {b"HIBPA", b"HIPINS", b"HIUPA"} <= kinds[telling[0]]:
+        return True
     if call("audit", "--orders", ALL_ORDERS, "--dialogue", path)[0] != 0:
         return True
-    for message in recorded(path.read_bytes()):
-        kinds = {it[0][0][1] for it in inner_segments(message)}
-        if {b"HIBPA", b"HIPINS", b"HIUPA"} <= kinds:
-            (room / "capture").write_bytes(message)
-            status, text = call("check", "--params", room / "capture", "--orders", ALL_ORDERS, "--script", script)
-            return status <= 1 and not re.search(rb"\bP[89]\b", text)
-    return True
+    (room / "capture").write_bytes(recorded(path.read_bytes())[telling[0]])
+    status, text = call("check", "--params", room / "capture", "--orders", ALL_ORDERS, "--script", script)
+    return status <= 1 and not re.search(rb"\bP[89]\b", text)
 
 
 def is_replayed(path, room, words, own):
@@ -242,8 +242,9 @@ def is_replayed(path, room, words, own):
     again = sent(text)
     alike = len(own) == len(again) and all(map(are_alike, own, again))
     hidden = all(b'"%s"' % value not in script for value in secrets(case))
-    known = are_accounts_known(script, recorded(path.read_bytes())) and is_permitted_again(path, room, room / "script")
-    return status == 0 and alike and hidden and known and are_comments_known(script.decode())
+    permitted = "--part" in words or is_permitted_again(path, room, room / "script")
+    known = are_accounts_known(script, recorded(path.read_bytes())) and are_comments_known(script.decode())
+    return status == 0 and alike and hidden and known and permitted
 
 
 def main():
