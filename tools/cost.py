@@ -11,6 +11,7 @@ texts of TOML need.
 Usage: tools/cost.py [--program PATH] [--runs N] [WORD..]     only the lines with one of these words
 """
 import argparse
+import base64
 import os
 import random
 import re
@@ -176,13 +177,24 @@ TOLD = message([RECEIVED, ("HIBPA", "3+12+280:1+Bank+1+1+300+0"), ("HIPINS", "1+
 
 
 def recorded(sent):
-    """Such a message again and again, each with an answer."""
+    """Such a message again and again, each with an answer; each opens a dialogue."""
     return lambda size: (sent + ANSWER) * (size // len(sent + ANSWER))
 
 
 def told_last(sent):
     """The same, and the last answer tells parameters."""
     return lambda size: recorded(sent)(size - len(sent + TOLD)) + sent + TOLD
+
+
+def in_lines(make):
+    """What is made, each message on a line in base64, as a proxy writes it."""
+    line = lambda text: base64.b64encode(text.encode("latin-1")).decode() + "\n"
+    return lambda size: "".join(line(f"HNHBK:1:3+{it}") for it in make(size * 3 // 4).split("HNHBK:1:3+")[1:])
+
+
+def in_utf8(make):
+    """What is made, with characters beyond ASCII in UTF-8."""
+    return lambda size: make(size).encode("utf-8").decode("latin-1")
 
 
 def numbered(segments):
@@ -363,6 +375,7 @@ def measured(room):
 
     audit = lambda make: lambda n: ["audit", "--params", C1, "--orders", ORDERS, "--dialogue", room.file(make(n))]
     audit_own = lambda make: lambda n: ["audit", "--orders", ORDERS, "--dialogue", room.file(make(n))]
+    record = lambda make: lambda n: ["record", "--dialogue", room.file(make(n))]
     one, all_in_one = recorded(orders(1)), recorded(orders(996))
     draft = lambda make: lambda n: ["draft", "--dialogue", room.file(make(n))]
 
@@ -398,6 +411,11 @@ def measured(room):
         ("audit, messages of 1 order", "bytes", half, audit(one)),
         ("audit, messages of 996 orders", "bytes", half, audit(all_in_one)),
         ("audit, messages of 1 order, the last answer tells parameters", "bytes", half, audit_own(told_last(orders(1)))),
+        ("audit, messages of 1 order in base64", "bytes", half, audit(in_lines(one))),
+        ("audit, messages of 1 order in UTF-8", "bytes", half, audit(in_utf8(recorded(message([("HKSAL", "5+\xe4+N")]))))),
+        ("record, messages of 1 order", "bytes", half, record(one)),
+        ("record, messages of 1 order in base64", "bytes", half, record(in_lines(one))),
+        ("record, letters of base64", "bytes", half, record(lambda n: "SE5I" * (n // 4))),
         ("audit --hints, messages of 1 order", "bytes", half, hinted(audit(one))),
         ("audit --hints, messages of 996 orders", "bytes", half, hinted(audit(all_in_one))),
         ("draft, messages of 1 order", "messages", 500, draft(numbered([("HKSAL", "5+9999999+N")]))),
