@@ -189,12 +189,12 @@ def told_last(sent):
 def in_lines(make):
     """What is made, each message on a line in base64, as a proxy writes it."""
     line = lambda text: base64.b64encode(text.encode("latin-1")).decode() + "\n"
-    return lambda size: "".join(line(f"HNHBK:1:3+{it}") for it in make(size * 3 // 4).split("HNHBK:1:3+")[1:])
+    return lambda size: "".join(line(f"HNHBK:1:3+{it}") for it in make(size * 7 // 10).split("HNHBK:1:3+")[1:])
 
 
 def in_utf8(make):
     """What is made, with characters beyond ASCII in UTF-8."""
-    return lambda size: make(size).encode("utf-8").decode("latin-1")
+    return lambda size: make(size * 98 // 100).encode("utf-8").decode("latin-1")
 
 
 def numbered(segments):
