@@ -234,7 +234,7 @@ PASSED = re.compile(r"passed over: .*[1-9]")
 
 
 def own_part(file, at, mark):
-    """The file from a place up to the next mark behind its first byte."""
+    """The file from a place up to the next mark after its first byte."""
     end = file.find(mark, at + 1)
     return file[at:] if end < 0 else file[at:end]
 
@@ -256,7 +256,7 @@ def latin(text, count):
 
 
 def letters(text, count):
-    """The bytes, so many, of the first letters of base64, and how many bytes of the text these take."""
+    """This number of bytes, of the first letters of base64, and how many bytes of the text these take."""
     found, at = bytearray(), 0
     while len(found) < (4 * count + 2) // 3:
         unit = UNIT.match(text, at)
@@ -301,7 +301,7 @@ def standing(file, at):
 
 
 def head_of(data):
-    """HNHBK behind its size, of the first 128 bytes up to the first apostrophe."""
+    """HNHBK after its size, of the first 128 bytes up to the first apostrophe."""
     return data[23:128].split(b"'")[0]
 
 
