@@ -251,6 +251,7 @@ def main():
     if not PROGRAM.exists():
         sys.exit(f"drafts: {PROGRAM} isn't built")
     paths = sorted(TOP.glob("rows/audit/*/dialogue")) + sorted(TOP.glob("rows/draft/*/dialogue"))
+    paths += sorted(TOP.glob("rows/inputs/*.rec"))
     paths += [TOP / "examples" / "recorded.fints", TOP / "examples" / "dialogue" / "recorded.fints"]
     counts = {True: 0, False: 0, None: 0}
     with tempfile.TemporaryDirectory() as room:

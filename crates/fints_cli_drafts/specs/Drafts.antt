@@ -35,6 +35,8 @@ use Rattle.fints_cli_texts.specs.declared.fault.Fault.TheVariants.{Memory, Order
 use Rattle.fints_cli_drafts_accounts.specs.Offers.{IsOffer}
 use Rattle.fints_cli_drafts_accounts.specs.declared.listing.AccountList.{AccountList}
 use Rattle.fints_cli_drafts_alike.specs.Alike.{IsSentAgain}
+use Rattle.fints_cli_drafts_texts.specs.DraftText.{draft_text}
+use Rattle.fints_cli_drafts_texts.specs.declared.notes.Notes.{Notes}
 use Rattle.fints_cli_drafts.specs.declared.drafting.Drafted.{Drafted}
 use Rattle.fints_cli_drafts.specs.declared.drafting.Drafted.TheVariants.{Script, Case}
 
@@ -144,14 +146,17 @@ has_secret script = list_any is_secret_field script.fields
 
 -- ---- drafts
 
--- the texts of a script and of a case that replay the exchanges of a recording; the script has no secret, and lists
--- accounts by the order table and the parameters that the recording tells; and whether the case has a secret
+-- the texts of a script and of a case that replay the exchanges of a recording. The script has no secret, and lists
+-- accounts by the order table and the parameters that the recording tells; its text is printed of it, with the numbers
+-- in its comments; and whether the case has a secret
 pub record IsDraft (orders : List OrderRow) (recording exchanges : List Exchange)
     (script_text case_text : List ℕ) (secret : Bool)
     : Type 0 where
   pub script : ScriptValue
+  pub notes : Notes
   pub values : List NamedValue
   pub denotes : Denotes script_text script
+  pub printed : script_text ≡ draft_text script notes
   pub case : IsCaseOf case_text values (answers_of exchanges)
   pub replays : Replays exchanges script values
   pub secrets : KeepsSecrets (AreAccounts orders recording) script

@@ -1,7 +1,6 @@
 //! Drafts of recorded dialogues, each tried before it is handed out.
-ghost use Rattle.std.specs.Prelude.{◌≡◌, ℕ, All, List, Option, IfErr, IfOk, IsOk, IsTrue, string_bytes};
+ghost use Rattle.std.specs.Prelude.{◌≡◌, ℕ, All, List, Option, IfErr, IfOk, IsOk, IsTrue};
 ghost use Rattle.fints_cli_texts.specs.Audit.{IsLogReadOf};
-ghost use Rattle.fints_script.specs.Scripts.{Denotes};
 ghost use Rattle.fints_script_cases.specs.Cases.{IsCaseOf};
 ghost use Rattle.fints_rules_permissions.specs.declared.orders.OrderRow.{OrderRow as OrderRowValue};
 ghost use Rattle.fints_rules_dialogues.specs.declared.reading.Exchange.{Exchange as ExchangeValue};
@@ -10,6 +9,7 @@ ghost use Rattle.fints_cli_drafts.specs.Drafts.{answers_of, drafted_text, IsDraf
 
 use crate::blank::{has_secret, keeps_secrets};
 use crate::place::{Place, Undrafted};
+use crate::printing::{PrintedScript, printed};
 use crate::replaying::{answers_of, replay};
 use crate::sketching::{Sketch, sketch_of};
 use crate::steps::Orders;
@@ -19,7 +19,7 @@ use fints_cli_texts::{Fault, good_log};
 use fints_rules::OrderTable;
 use fints_rules_dialogues::{DialogueFault, Exchange, Log, Part, part_of, read_dialogue_with};
 use fints_rules_messages::UnreadObserver;
-use fints_script::{Answer, Case, CaseFault, FaultKind, Script, Values};
+use fints_script::{Answer, Case, CaseFault, Values};
 use std::alloc::Global;
 
 /// Which text of a draft is wanted.
@@ -42,19 +42,6 @@ struct Draft {
     script: Vec<u8>,
     case: Vec<u8>,
     has_secret: bool,
-}
-
-// The script of a sketch, read back.
-fn script_of(alloc: Global, sketch: &Sketch) -> Result<Script, Undrafted>
-    ensures { IfOk result (λ script. Denotes (string_bytes sketch.now.script) script) }
-{
-    match Script::read(alloc, sketch.script.as_bytes()) {
-        Ok(script) => Ok(script),
-        Err(fault) => match fault.kind {
-            FaultKind::Memory => Err(Undrafted::Memory),
-            _ => Err(sketch.source(fault.place).refused()),
-        },
-    }
 }
 
 // The case that a text denotes, read back.
@@ -108,7 +95,7 @@ fn case_text(
     Ok((text, read))
 }
 
-// The draft of a sketch, once it was tried: its script is read back and sends what was recorded.
+// The draft of a sketch, once it was tried: its script is printed and read back, and sends what was recorded.
 fn tried(
     alloc: Global,
     orders: &Orders<'_>,
@@ -119,19 +106,14 @@ fn tried(
         → All (IsOffer table recording) orders.now.offers.now.lists.items
         → IsDraft table recording exchanges.now draft.script.items draft.case.items draft.has_secret) }
 {
-    let script = script_of(alloc, &sketch)?;
+    let PrintedScript { script, text } = printed(alloc, &sketch)?;
     if !keeps_secrets(orders.offers.lists.as_slice(), &script) {
         return Err(Place::whole(0).refused());
     }
-    let Sketch {
-        script: text,
-        values,
-        ..
-    } = sketch;
-    let (case, read) = case_text(alloc, values, exchanges)?;
+    let (case, read) = case_text(alloc, sketch.values, exchanges)?;
     replay(alloc, orders.table, exchanges, &script, &read)?;
     Ok(Draft {
-        script: text.into_bytes(),
+        script: text,
         case,
         has_secret: has_secret(&script),
     })

@@ -8,6 +8,7 @@ mod elements;
 mod fields;
 mod notes;
 mod place;
+mod printing;
 mod recorded;
 mod replaying;
 mod signers;

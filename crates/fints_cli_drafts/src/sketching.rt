@@ -1,13 +1,14 @@
 //! The sketch of a draft: the text of its script, and the values of its case, before they are tried.
 use crate::elements::{Written, write_elements};
 use crate::fields::DraftFields;
-use crate::notes::{OPENING, write_seal_note};
+use crate::notes::seal_note;
 use crate::place::{Place, Undrafted};
 use crate::recorded::Recorded;
 use crate::signers::Signers;
 use crate::steps::{Common, Orders, write_step};
 use crate::turns::{Turn, ways_of};
 use fints_cli_drafts_accounts::Offers;
+use fints_cli_drafts_texts::Notes;
 use fints_rules_dialogues::{Exchange, Part};
 use fints_script::limits::MAX_STEPS;
 use fints_script::{Name, Values};
@@ -20,8 +21,6 @@ struct Seal {
     // The message that has it, and its number, which counts from 1.
     first: Option<(Recorded, usize)>,
     row: String,
-    // What differs in other messages.
-    notes: String,
 }
 
 impl Seal {
@@ -39,7 +38,9 @@ impl Seal {
         if let Some((first, _)) = &self.first {
             if let Some(seal) = first.seal() {
                 let number = common.number_of(message);
-                write_seal_note(&mut self.notes, seal, segment, number)?;
+                if let Some(note) = seal_note(seal, segment, number) {
+                    common.notes.seals.push(note)?;
+                }
             }
             return Ok(());
         }
@@ -52,10 +53,12 @@ impl Seal {
     }
 }
 
-/// A draft before it is tried: its script, and the values of its case.
+/// A draft before it is tried: the text of its script without comments, what the comments say, and the values of
+/// its case.
 #[derive(Drop)]
 pub struct Sketch {
     pub script: String,
+    pub notes: Notes,
     pub values: Values,
     signers: Signers,
     seal_met: Place,
@@ -138,9 +141,7 @@ fn joined(
     steps: &str,
 ) -> Result<String, AllocError> {
     let mut text = String::new(alloc);
-    text.push_str(OPENING)?;
     text.push_str(seal.row.as_str())?;
-    text.push_str(seal.notes.as_str())?;
     common.fields.write_rows(&mut text, offers)?;
     common.signers.write_rows(&mut text)?;
     text.push_str(steps)?;
@@ -162,12 +163,15 @@ pub fn sketch_of(
     let mut common = Common {
         fields: DraftFields::new(alloc),
         signers: Signers::new(alloc),
+        notes: Notes {
+            seals: Vec::new(alloc),
+            orders: Vec::new(alloc),
+        },
         before: part.before,
     };
     let mut seal = Seal {
         first: None,
         row: String::new(alloc),
-        notes: String::new(alloc),
     };
     let mut steps = String::new(alloc);
     write_steps(alloc, &mut steps, &mut common, &mut seal, orders, exchanges)?;
@@ -180,9 +184,10 @@ pub fn sketch_of(
             segment: usize::from(HNVSK_NUMBER),
         },
     };
-    let Common { signers, .. } = common;
+    let Common { signers, notes, .. } = common;
     Ok(Sketch {
         script,
+        notes,
         values,
         signers,
         seal_met,

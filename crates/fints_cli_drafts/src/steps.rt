@@ -1,13 +1,14 @@
 //! The steps of a draft: one for each message of the client.
 use crate::elements::{Written, write_elements};
 use crate::fields::DraftFields;
-use crate::notes::write_segment_note;
+use crate::notes::order_note;
 use crate::place::Undrafted;
 use crate::recorded::Recorded;
 use crate::signers::Signers;
 use crate::texts::write_number;
 use crate::turns::{Ways, write_name, write_ways};
 use fints_cli_drafts_accounts::Offers;
+use fints_cli_drafts_texts::{Notes, OrderNote};
 use fints_rules::OrderTable;
 use fints_syntax::OwnedSegment;
 use std::alloc::Global;
@@ -19,17 +20,14 @@ pub struct Orders<'o> {
     pub offers: &'o Offers,
 }
 
-// Writes a segment of the body, with its comment.
+// Writes a segment of the body.
 fn write_segment(
     alloc: Global,
     text: &mut String,
     fields: &mut DraftFields,
-    orders: &Orders<'_>,
     written: &Written<'_>,
 ) -> Result<(), Undrafted> {
     let OwnedSegment { head, elements } = written.segment;
-    let offer = written.account.map(|(offer, _)| offer);
-    write_segment_note(text, orders.table, written.segment, offer)?;
     text.push_str("  {kind = \"")?;
     for b in head.id.as_bytes() {
         text.push(char::from(*b))?;
@@ -44,7 +42,7 @@ fn write_segment(
     Ok(())
 }
 
-// Writes the segments of the body.
+// Writes the segments of the body, and returns what is said of each.
 fn write_body(
     alloc: Global,
     text: &mut String,
@@ -52,17 +50,20 @@ fn write_body(
     orders: &Orders<'_>,
     recorded: &Recorded,
     message: usize,
-) -> Result<(), Undrafted> {
+) -> Result<Vec<OrderNote>, Undrafted> {
+    let mut notes = Vec::new(alloc);
     text.push_str("segments = [\n")?;
     for (i, segment) in recorded.body.iter().enumerate() {
         let written = Written {
             account: orders.offers.account_of(message, i),
             ..Written::new(recorded, message, segment)
         };
-        write_segment(alloc, text, fields, orders, &written)?;
+        let offer = written.account.map(|(offer, _)| offer);
+        notes.push(order_note(orders.table, segment, offer))?;
+        write_segment(alloc, text, fields, &written)?;
     }
     text.push_str("]\n")?;
-    Ok(())
+    Ok(notes)
 }
 
 /// What the steps of a draft have in common.
@@ -70,6 +71,8 @@ fn write_body(
 pub struct Common {
     pub fields: DraftFields,
     pub signers: Signers,
+    /// What is said in comments.
+    pub notes: Notes,
     /// How many messages of the client come before the dialogue in the recording.
     pub before: usize,
 }
@@ -95,6 +98,7 @@ pub fn write_step(
     let Common {
         fields,
         signers,
+        notes,
         before,
     } = common;
     text.push_str("\n[[step]]\nname = ")?;
@@ -108,7 +112,8 @@ pub fn write_step(
         signers.write_names(alloc, text, fields, recorded, message)?;
         text.push_str("]\n")?;
     }
-    write_body(alloc, text, fields, orders, recorded, message)?;
+    let said = write_body(alloc, text, fields, orders, recorded, message)?;
+    notes.orders.push(said)?;
     write_ways(text, ways, *before)?;
     Ok(())
 }
