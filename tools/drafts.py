@@ -4,7 +4,8 @@ program, of a recording with several dialogues from each of them, runs them, and
 was recorded, segment by segment: byte for byte but for what a client makes new for each message. No string of the
 script may be the value of a secret, and each comment is a fixed one, or an XML text that the segment after it has.
 Each is drafted without an order table and with that of all orders. With it each account that a field lists is one of
-the user's, and no run of the draft of a permitted dialogue breaks P8 or P9 by the bank's own answer.
+the user's, and no run of the draft of a permitted dialogue breaks P8 or P9 by the bank's own answer. Each raw recording
+is drafted once more with other secrets of the same kinds and sizes: the script is the same.
 
 Usage: tools/drafts.py
 """
@@ -14,6 +15,8 @@ import subprocess
 import sys
 import tempfile
 import tomllib
+
+from rows import lay_out, read_rows
 
 TOP = pathlib.Path(__file__).resolve().parent.parent
 PROGRAM = TOP / "crates" / "fints" / "out" / "fints"
@@ -186,6 +189,38 @@ def secrets(case):
     return [bytes.fromhex(value.decode()) for value in values]
 
 
+# Letters and digits, each with the one that replaces it in a secret.
+OTHERS = bytes.maketrans(
+    b"abcdefghijklmnopqrstuvwxyzABCDEFGHIJKLMNOPQRSTUVWXYZ0123456789",
+    b"bcdefghijklmnopqrstuvwxyzaBCDEFGHIJKLMNOPQRSTUVWXYZA1234567890",
+)
+
+
+def with_other_secrets(dialogue):
+    """A raw recording with other letters and digits in PIN, TAN and new PIN; equal secrets stay equal."""
+    data = bytearray(dialogue)
+    for head in re.finditer(rb"(HNSHA|HKPAE):\d+:\d+", dialogue):
+        at, element, first = head.end(), 1, 4 if head[1] == b"HNSHA" else 2
+        while at < len(data) and data[at] != ord("'"):
+            size = re.match(rb"@(\d+)@", dialogue[at:])
+            if size and data[at - 1] in b"+:":
+                begin, at = at + size.end(), at + size.end() + int(size[1])
+            elif data[at] == ord("?"):
+                begin, at = at, at + 2
+            else:
+                element += data[at] == ord("+")
+                begin, at = at, at + 1
+            if element >= first:
+                data[begin:at] = data[begin:at].translate(OTHERS)
+    return bytes(data)
+
+
+def is_independent_of_secrets(path, room, words):
+    """Whether the script is the same where other secrets were recorded."""
+    (room / "other").write_bytes(with_other_secrets(path.read_bytes()))
+    return call("draft", "--dialogue", path, *words) == call("draft", "--dialogue", room / "other", *words)
+
+
 def inner_segments(message):
     """The segments of a message, and those that an HNVSD in it holds, as elements of items."""
     for segment in map(elements_of, segments_of(message)):
@@ -231,7 +266,7 @@ def is_replayed(path, room, words, own):
     """Whether the draft of a dialogue sends the client's messages; None where there is no draft."""
     status, script = call("draft", "--dialogue", path, *words)
     case_status, case = call("draft", "--dialogue", path, *words, "--case")
-    if status != case_status:
+    if status != case_status or not is_independent_of_secrets(path, room, words):
         return False
     if status != 0:
         return None
@@ -250,12 +285,11 @@ def is_replayed(path, room, words, own):
 def main():
     if not PROGRAM.exists():
         sys.exit(f"drafts: {PROGRAM} isn't built")
-    paths = sorted(TOP.glob("rows/audit/*/dialogue")) + sorted(TOP.glob("rows/draft/*/dialogue"))
-    paths += sorted(TOP.glob("rows/inputs/*.rec"))
-    paths += [TOP / "examples" / "recorded.fints", TOP / "examples" / "dialogue" / "recorded.fints"]
     counts = {True: 0, False: 0, None: 0}
     with tempfile.TemporaryDirectory() as room:
-        for path in paths:
+        lay_out(pathlib.Path(room), read_rows())
+        names = ["rows/audit/*/dialogue", "rows/draft/*/dialogue", "rows/inputs/*.rec", "examples/**/recorded.fints"]
+        for path in (it for name in names for it in sorted(pathlib.Path(room).glob(name))):
             parts = parts_of(path.read_bytes())
             asked = [([], parts[0] if len(parts) == 1 else [])]
             if len(parts) > 1:

@@ -41,10 +41,11 @@ class Ran(NamedTuple):
 
 
 class Row(NamedTuple):
-    """A row: its words, and what must come of them."""
+    """A row: its words, what must come of them, and the inputs that are written beside it, by their names."""
 
     words: list
     want: Ran
+    inputs: dict
 
 
 class Job(NamedTuple):
@@ -60,7 +61,9 @@ NO_FEED = "⟨no line feed⟩"
 STATUS = re.compile(r"\[(\d+)\]")
 CONFUSING = re.compile(r"! |!$|```|\[\d+\]$")
 WORD = re.compile(r" (?:\$'((?:[^'\\]|\\x[0-9a-f]{2})*)'|'([^']*)'|([\w@%+=:,./-]+))", re.ASCII)
-ROW = re.compile(r"## (\S+)\n\n```\n\$ fints(.*)\n((?:(?!```).*\n)*)```\n(?:\n|\Z)")
+HEADING = re.compile(r"## (\S+)\n\n")
+INPUT = re.compile(r"```([\w.-]+)\n((?:(?!```).*\n)*)```\n\n")
+RUN = re.compile(r"```\n\$ fints(.*)\n((?:(?!```).*\n)*)```\n(?:\n|\Z)")
 
 
 def words_of(line):
@@ -127,24 +130,36 @@ def differing(want, got):
 # ---- The rows.
 
 
+def read_row(text, at):
+    """The row that begins at a place of a text: its name, the row, and where it ends."""
+    if not (heading := HEADING.match(text, at)):
+        raise ValueError("this is not the heading of a row")
+    at, inputs = heading.end(), {}
+    while found := INPUT.match(text, at):
+        if found[1] in inputs:
+            raise ValueError(f"two inputs are named {found[1]}")
+        inputs[found[1]] = stream_of(found[2].split("\n")[:-1])
+        at = found.end()
+    if not (found := RUN.match(text, at)):
+        raise ValueError(f"{heading[1]}: this is not a run")
+    return heading[1], Row(words_of(found[1]), ran_of(found[2]), inputs), found.end()
+
+
 def read_group(path):
     """The rows of a file, by their names GROUP/ROW."""
     text, rows = path.read_bytes().decode(), {}
     head = re.search(r"^## ", text, re.M)
     at = head.start() if head else len(text)
     while at < len(text):
-        found = ROW.match(text, at)
-        name = found and f"{path.stem}/{found[1]}"
-        if not found or name in rows:
-            line = text.count("\n", 0, at) + 1
-            sys.exit(f"rows: {path}, line {line}: {'the row stands twice' if found else 'this is no row'}")
         try:
-            rows[name] = Row(words_of(found[2]), ran_of(found[3]))
+            name, row, end = read_row(text, at)
+            if f"{path.stem}/{name}" in rows:
+                raise ValueError(f"there are two rows {name}")
         except ValueError as fault:
-            sys.exit(f"rows: {path}, {found[1]}: {fault}")
-        at = found.end()
+            sys.exit(f"rows: {path}, line {text.count(chr(10), 0, at) + 1}: {fault}")
+        rows[f"{path.stem}/{name}"], at = row, end
     if not rows:
-        sys.exit(f"rows: {path} holds no row")
+        sys.exit(f"rows: {path} has no row")
     return rows
 
 
@@ -166,8 +181,13 @@ def lay_out(room, rows):
     """Copies the inputs into a room, where each row has a folder rows/GROUP/ROW to run in."""
     for name in ("rows", "examples"):
         shutil.copytree(TOP / name, room / name)
-    for name in rows:
-        (room / "rows" / name).mkdir(parents=True, exist_ok=True)
+    for name, row in rows.items():
+        folder = room / "rows" / name
+        folder.mkdir(parents=True, exist_ok=True)
+        for file, data in row.inputs.items():
+            if (folder / file).exists():
+                sys.exit(f"rows: {name} has {file} in its folder, too")
+            (folder / file).write_bytes(data)
 
 
 def run(command, folder):

@@ -1,6 +1,4 @@
 //! The elements of a recorded segment, as they are written in a script.
-ghost use Rattle.std.specs.Prelude.{◌≤◌};
-
 use crate::fields::{DraftFields, Purpose};
 use crate::place::{Place, Undrafted};
 use crate::recorded::Recorded;
@@ -141,61 +139,55 @@ fn write_string(
     written: &Written<'_>,
     element: usize,
     item: usize,
-) -> Result<(), Undrafted>
-    requires element { 2 ≤ element }
-    requires item { 1 ≤ item }
-{
-    let Some(found) = written.segment.items(element).get(item) else {
-        return Ok(());
-    };
-    if write_field(alloc, text, fields, written, element, item, &found)? {
+    found: &ItemRef<'_>,
+) -> Result<(), Undrafted> {
+    if write_field(alloc, text, fields, written, element, item, found)? {
         return Ok(());
     }
     if written.is_dialogue_id(element, item) {
         text.push_str("\"$dialog\"")?;
         return Ok(());
     }
-    write_item(alloc, text, &found, written.place())
+    write_item(alloc, text, found, written.place())
 }
 
-// Writes the strings of an element, with commas between.
+// Writes the strings of the items of an element, with commas between.
 fn write_strings(
     alloc: Global,
     text: &mut String,
     fields: &mut DraftFields,
     written: &Written<'_>,
     element: usize,
-) -> Result<(), Undrafted>
-    requires { 2 ≤ element }
-{
-    let count = written.segment.items(element).len();
-    for item in 0..count {
-        if item > 0 {
+    items: &ElementRef<'_>,
+) -> Result<(), Undrafted> {
+    for i in 0..items.len() {
+        if i > 0 {
             text.push_str(", ")?;
         }
-        write_string(alloc, text, fields, written, element, item + 1)?;
+        if let Some(found) = items.get(i + 1) {
+            write_string(alloc, text, fields, written, element, i + 1, &found)?;
+        }
     }
     Ok(())
 }
 
-// Writes an element: a string, or an array of strings.
+// Writes an element with these items: a string, or an array of strings.
 fn write_element(
     alloc: Global,
     text: &mut String,
     fields: &mut DraftFields,
     written: &Written<'_>,
     element: usize,
-) -> Result<(), Undrafted>
-    requires { 2 ≤ element }
-{
+    items: &ElementRef<'_>,
+) -> Result<(), Undrafted> {
     if let (2, Some((offer, account))) = (element, written.account) {
         return fields.write_account(alloc, text, offer, account, written.place());
     }
-    if written.segment.items(element).len() == 1 {
-        return write_strings(alloc, text, fields, written, element);
+    if items.len() == 1 {
+        return write_strings(alloc, text, fields, written, element, items);
     }
     text.push('[')?;
-    write_strings(alloc, text, fields, written, element)?;
+    write_strings(alloc, text, fields, written, element, items)?;
     text.push(']')?;
     Ok(())
 }
@@ -211,11 +203,12 @@ pub fn write_elements(
         return Err(written.place().refused());
     }
     text.push('[')?;
-    for i in 0..written.segment.elements.len() {
+    let elements = &written.segment.elements;
+    for i in 0..elements.len() {
         if i > 0 {
             text.push_str(", ")?;
         }
-        write_element(alloc, text, fields, written, i + 2)?;
+        write_element(alloc, text, fields, written, i + 2, &elements.items(i))?;
     }
     text.push(']')?;
     Ok(())

@@ -1,11 +1,9 @@
 //! What the comments of a draft say: of the accounts of orders, and of an HNVSK that isn't like the first one.
-ghost use Rattle.std.specs.Prelude.{◌≤◌};
-
 use fints_cli_drafts_accounts::Offer;
 use fints_cli_drafts_alike::is_same_item;
 use fints_cli_drafts_texts::{OrderNote, SealNote};
 use fints_rules::{AccountForm, OrderTable};
-use fints_syntax::{ElementRef, OwnedSegment};
+use fints_syntax::{ElementRef, ItemRef, OwnedSegment};
 
 // What is said of an order that isn't offered a list: whether it names an account.
 fn account_note(orders: &OrderTable, segment: &OwnedSegment) -> OrderNote {
@@ -31,12 +29,10 @@ pub fn order_note(
     }
 }
 
-// Whether an item, which counts from 1, is the same in both elements, or in none.
-fn has_same_at(one: &ElementRef<'_>, other: &ElementRef<'_>, item: usize) -> bool
-    requires { 1 ≤ item }
-{
-    match (one.get(item), other.get(item)) {
-        (Some(a), Some(b)) => is_same_item(&a, &b),
+// Whether both items are there and equal, or none is there.
+fn is_same(one: Option<ItemRef<'_>>, other: Option<ItemRef<'_>>) -> bool {
+    match (one, other) {
+        (Some(one), Some(other)) => is_same_item(&one, &other),
         (None, None) => true,
         _ => false,
     }
@@ -44,7 +40,7 @@ fn has_same_at(one: &ElementRef<'_>, other: &ElementRef<'_>, item: usize) -> boo
 
 fn is_same_element(one: &ElementRef<'_>, other: &ElementRef<'_>) -> bool {
     for i in 0..one.len() {
-        if !has_same_at(one, other, i + 1) {
+        if !is_same(one.get(i + 1), other.get(i + 1)) {
             return false;
         }
     }

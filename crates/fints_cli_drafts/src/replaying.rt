@@ -101,8 +101,8 @@ pub fn replay(
     script: &Script,
     case: &Case,
 ) -> Result<(), Undrafted>
-    requires { case.now.answers.items ≡ answers_of exchanges.now }
-    ensures { OnOk result (Replays exchanges.now script.now case.now.values) }
+    ensures { OnOk result (case.now.answers.items ≡ answers_of exchanges.now
+        → Replays exchanges.now script.now case.now.values) }
 {
     let plan = plan_of(script, orders)?;
     if !plan.admits(&case.values) {

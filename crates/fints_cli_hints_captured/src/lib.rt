@@ -12,5 +12,6 @@ mod procedures;
 mod signed;
 
 pub use captured::{Captured, Said, said_in};
+pub use lists::{Further, MOST_SHOWN, Numbers};
 pub use notes::Noted;
 pub use noting::{Basis, add_captured_notes};

@@ -1,6 +1,4 @@
 //! The account that an order names, among those of a capture.
-ghost use Rattle.std.specs.Prelude.{◌≤◌};
-
 use crate::bank::{Accounts, Bank};
 use crate::elements::Items;
 use crate::lines::{Called, name_of};
@@ -185,9 +183,7 @@ fn other_place(bank: &Bank<'_>, seen: &Seen<'_>) -> Option<usize> {
 }
 
 // An account that stands in this element.
-fn elsewhere_in<'a>(bank: &Bank<'_>, seen: &Seen<'a>, element: usize) -> Locked<'a>
-    requires { 2 ≤ element }
-{
+fn elsewhere_in<'a>(bank: &Bank<'_>, seen: &Seen<'a>, element: usize) -> Locked<'a> {
     let elements = seen.elements;
     let named = if are_empty(&elements.items(2)) {
         None
@@ -221,7 +217,7 @@ fn unknown<'a>(bank: &Bank<'_>, seen: &Seen<'a>) -> Locked<'a> {
         other_place(bank, seen),
     ) {
         (Some(advice), _) => advice,
-        (None, Some(element)) => return elsewhere_in(bank, seen, element.max(3)),
+        (None, Some(element)) => return elsewhere_in(bank, seen, element),
         (None, None) => "name one that show lists",
     };
     if are_empty(&items) {

@@ -1,6 +1,4 @@
 //! What stands in a segment: in a template under values of the fields, or in a message.
-ghost use Rattle.std.specs.Prelude.{◌≤◌};
-
 use fints_script::{AccountValue, Name, NamedField, TemplateItem, Values};
 use fints_syntax::{Bytes, OwnedSegment};
 
@@ -117,11 +115,10 @@ impl<'a> Elements<'a> {
         count.saturating_add(1)
     }
 
-    /// The first items of an element, by its number from 2 on.
-    pub fn items(&self, element: usize) -> Items<'a>
-        requires { 2 ≤ element }
-    {
+    /// The first items of an element, by its number from 2 on; the head has none here.
+    pub fn items(&self, element: usize) -> Items<'a> {
         match self {
+            _ if element < 2 => [b""; 6],
             Elements::Filled(filled) => filled_items(filled, element),
             Elements::Sent(segment) => [
                 segment.value(element, 1),

@@ -3,6 +3,7 @@ use crate::accounts::{account_named, least_need, locked_by};
 use crate::bank::Bank;
 use crate::elements::Elements;
 use crate::tans::NoTan;
+use fints_cli_hints_captured::{Further, MOST_SHOWN};
 use fints_rules::kinds::own_version;
 use fints_rules::{Cause, Permissions, Rule, SegmentFacts, segment_cause};
 use fints_syntax::Kind;
@@ -66,24 +67,18 @@ fn params_of(order: Kind) -> Option<Kind> {
     }
 }
 
-// The most versions that are listed.
-const MOST_VERSIONS: usize = 20;
-
 // Versions of an order, with a comma between.
 #[derive(Clone, Copy)]
 struct Versions<'a>(&'a [(Kind, u16)]);
 
 impl Display for Versions<'_> {
     fn fmt<W: Write>(&self, f: &mut Formatter<W>) -> fmt::Result {
-        let listed = self.0.get(..MOST_VERSIONS).unwrap_or(self.0);
-        for (i, (_, version)) in listed.iter().enumerate() {
+        for (i, (_, version)) in self.0.iter().take(MOST_SHOWN).enumerate() {
             let comma = if i == 0 { "" } else { ", " };
             write!(f, "{comma}{version}")?;
         }
-        if self.0.len() > MOST_VERSIONS {
-            f.write_str(", ..")?;
-        }
-        Ok(())
+        let further = Further(self.0.len());
+        write!(f, "{further}")
     }
 }
 

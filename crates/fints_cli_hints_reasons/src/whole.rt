@@ -1,6 +1,7 @@
 //! Why a whole message breaks a rule, in words.
 use crate::branches::BranchOf;
 use crate::lines::Called;
+use fints_cli_hints_captured::Numbers;
 use fints_params::BankRow;
 use fints_rules::{LAST_NUMBER, Rule};
 use fints_script::Name;
@@ -58,13 +59,8 @@ impl Display for Speaks<'_> {
         if self.0.is_empty() {
             return f.write_str("HIBPA names no version (element 7)");
         }
-        f.write_str("the bank speaks ")?;
-        let mut comma = "";
-        for number in self.0 {
-            write!(f, "{comma}{number}")?;
-            comma = ", ";
-        }
-        f.write_str(" (HIBPA, element 7)")
+        let versions = Numbers(self.0);
+        write!(f, "the bank speaks {versions} (HIBPA, element 7)")
     }
 }
 

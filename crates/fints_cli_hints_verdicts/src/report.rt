@@ -1,6 +1,4 @@
 //! Why the runs of a script break the rules that a report names.
-ghost use Rattle.std.specs.Prelude.{◌<◌, length};
-
 use crate::notes::add_notes;
 use crate::steps::{figures_of, step_at};
 use fints_check::{Finding, Report};
@@ -141,13 +139,13 @@ fn add_release(
 }
 
 // The values of a finding's case, where its reason tells one of them: the account that an order names.
-fn values_of(alloc: Global, report: &Report<'_>, i: usize) -> Result<Values, Memory>
-    requires { i < length report.now.findings }
-{
-    match report.findings()[i].rule {
-        Rule::Signatures | Rule::Account => report.values(alloc, i),
-        _ => Ok(Values::new(alloc)),
+fn values_of(alloc: Global, report: &Report<'_>, i: usize) -> Result<Values, Memory> {
+    if i < report.findings().len()
+        && matches!(report.findings()[i].rule, Rule::Signatures | Rule::Account)
+    {
+        return report.values(alloc, i);
     }
+    Ok(Values::new(alloc))
 }
 
 // The segment of a step that a finding is of.
@@ -183,9 +181,10 @@ fn add_finding(
     report: &Report<'_>,
     kinds: &Kinds,
     i: usize,
-) -> Result<(), Memory>
-    requires { i < length report.now.findings }
-{
+) -> Result<(), Memory> {
+    if i >= report.findings().len() {
+        return Ok(());
+    }
     let finding = report.findings()[i];
     let n = usize::from(finding.step);
     let Some(reached) = figures_of(report, n) else {

@@ -1,6 +1,4 @@
 //! What a report says of a step, and what fires its branches.
-ghost use Rattle.std.specs.Prelude.{◌≤◌, ◌+◌, length};
-
 use fints_check::{Reached, Report};
 use fints_script::{Plan, Step};
 
@@ -20,10 +18,7 @@ pub fn figures_of(report: &Report<'_>, n: usize) -> Option<Reached> {
     report.reached(n)
 }
 
-/// Whether some answer fires the branch; branches count from 1, and the default comes last.
-pub fn is_open(step: &Step, branch: usize) -> bool
-    requires from { 1 ≤ branch }
-    requires to { branch ≤ length step.now.branches + 1 }
-{
-    step.opener(branch).is_some()
+/// Whether the step has the branch, and some answer fires it; branches count from 1, and the default comes last.
+pub fn is_open(step: &Step, branch: usize) -> bool {
+    branch > 0 && branch - 1 <= step.branches().len() && step.opener(branch).is_some()
 }
