@@ -239,16 +239,28 @@ def hinted(ran):
     return [WANT, ran._replace(err=ran.err.split(b"\n")[0] + b"\n"), ran]
 
 
+MISSING = b"note: memory ran out, so reasons and notes are missing\n"
+
+
+def reasoned(ran):
+    """What may come of an answer with reasons and notes: memory may lack before the answer, or for these."""
+    others = [it for it in ran.err.splitlines(keepends=True) if not it.startswith((b"why: ", b"note: "))]
+    return [WANT, ran, ran._replace(err=b"".join(others) + MISSING)]
+
+
 def memory(lab):
     runs = in_all_commands(lab)
     refusals = "capture-cut orders-key-misspelt script-branch-step-misspelt case-tan-with-a-letter cert-step-twice"
     runs |= {f"hints: {it}": row(f"hints/{it}") for it in refusals.split()}
+    answers = "audit/reasons judge/notes-after-the-reasons draw/second-signature-hints explain/reasons-of-all-beside-one-case"
+    runs |= {f"reasons: {it}": row(it) for it in answers.split()}
     runs = {label: run for label, run in runs.items() if lab.only in label}
     counts = dict(zip(runs, lab.lanes.map(lambda it: growths(lab, *it), runs.items())))
 
     def jobs():
         for label, run in runs.items():
-            wanted = hinted(run.want) if label.startswith("hints:") else [WANT, run.want]
+            kind = label.partition(":")[0]
+            wanted = {"hints": hinted, "reasons": reasoned}.get(kind, lambda ran: [WANT, ran])(run.want)
             for n in refused_places(counts[label]):
                 for rest in (0, 1):
                     answers = WANT if n == 1 else wanted

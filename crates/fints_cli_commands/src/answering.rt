@@ -18,6 +18,7 @@ ghost use Rattle.fints_cli_texts.specs.ShowMessage.{IsShownMessage};
 
 use crate::failing::Refused;
 use crate::loading::Contents;
+use crate::reasons::Reasons;
 use fints_cli_drafts::{DraftText, Drafted, draft_read};
 use fints_cli_drawings::{draw_read, draw_script};
 use fints_cli_hints_dialogues::{AuditReasons, Source};
@@ -40,7 +41,7 @@ use std::alloc::{AllocError, Global};
 pub struct Answered {
     pub reply: Reply,
     pub note: String,
-    pub reasons: Option<String>,
+    pub reasons: Option<Reasons>,
 }
 
 // An answer with status 0 and with nothing beside it.
@@ -104,7 +105,7 @@ pub fn answer_show(alloc: Global, contents: &Contents, hints: bool) -> Result<An
 {
     let text = show_read(alloc, &contents.shown.told)?;
     let reasons = if hints {
-        skipped_notes(alloc, contents.shown.bytes.as_slice()).unwrap_or(None)
+        Reasons::of(skipped_notes(alloc, contents.shown.bytes.as_slice()))
     } else {
         None
     };
@@ -146,7 +147,7 @@ pub fn answer_judge(
         Ok(reply) => Ok(Answered {
             reply,
             note: String::new(alloc),
-            reasons: reasons.into_text(),
+            reasons: Reasons::of(reasons.into_text()),
         }),
         Err(fault) => Err(Refused {
             fault,
@@ -184,7 +185,7 @@ pub fn answer_judge_after(
         Ok(reply) => Ok(Answered {
             reply,
             note: String::new(alloc),
-            reasons: reasons.into_text(),
+            reasons: Reasons::of(reasons.into_text()),
         }),
         Err(fault) => Err(Refused {
             fault,
@@ -221,7 +222,7 @@ pub fn answer_audit(
         Ok(reply) => Ok(Answered {
             reply,
             note: note_of(alloc, &log, hints)?,
-            reasons: reasons.into_text(),
+            reasons: Reasons::of(reasons.into_text()),
         }),
         Err(fault) => Err(Refused {
             fault,
@@ -249,7 +250,7 @@ pub fn answer_audit_own(
         Ok(reply) => Ok(Answered {
             reply,
             note: note_of(alloc, &log, hints)?,
-            reasons: reasons.into_text(),
+            reasons: Reasons::of(reasons.into_text()),
         }),
         Err(fault) => Err(Refused {
             fault,
@@ -287,7 +288,7 @@ pub fn answer_check(
     Ok(Answered {
         reply,
         note: String::new(alloc),
-        reasons: reasons.into_text(),
+        reasons: Reasons::of(reasons.into_text()),
     })
 }
 
@@ -318,7 +319,7 @@ pub fn answer_draw(
     Ok(Answered {
         reply,
         note: String::new(alloc),
-        reasons: reasons.into_text(),
+        reasons: Reasons::of(reasons.into_text()),
     })
 }
 
@@ -350,7 +351,7 @@ pub fn answer_verify(
     Ok(Answered {
         reply,
         note: String::new(alloc),
-        reasons: reason.into_text(),
+        reasons: Reasons::of(reason.into_text()),
     })
 }
 
@@ -422,16 +423,10 @@ pub fn answer_draft(
     ensures refused { IfErr result (λ r.
         IsDraftRefusal contents.now.orders.items number contents.now.dialogue.items r.fault) }
 {
+    let table = contents.orders.as_slice();
     let log = log_of(alloc, contents);
     let mut hint = UnreadHint::new(alloc, hints);
-    match draft_read(
-        alloc,
-        contents.orders.as_slice(),
-        &log,
-        number,
-        drafted,
-        &mut hint,
-    ) {
+    match draft_read(alloc, table, &log, number, drafted, &mut hint) {
         Ok(DraftText { text, has_secret }) => Ok(Answered {
             reply: Reply { status: 0, text },
             note: draft_note(alloc, &log, hints, drafted, has_secret)?,

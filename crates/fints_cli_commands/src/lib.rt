@@ -6,7 +6,9 @@ pub mod built_in;
 mod commands;
 mod failing;
 mod loading;
+mod reasons;
 
 pub use answering::Answered;
 pub use commands::perform;
 pub use failing::{Failure, Refusal};
+pub use reasons::Reasons;

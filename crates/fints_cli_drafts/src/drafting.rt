@@ -9,7 +9,7 @@ ghost use Rattle.fints_cli_drafts.specs.Drafts.{answers_of, drafted_text, IsDraf
 
 use crate::blank::{has_secret, keeps_secrets};
 use crate::place::{Place, Undrafted};
-use crate::printing::{PrintedScript, printed};
+use crate::printing::printed;
 use crate::replaying::{answers_of, replay};
 use crate::sketching::{Sketch, sketch_of};
 use crate::steps::Orders;
@@ -106,16 +106,16 @@ fn tried(
         → All (IsOffer table recording) orders.now.offers.now.lists.items
         → IsDraft table recording exchanges.now draft.script.items draft.case.items draft.has_secret) }
 {
-    let PrintedScript { script, text } = printed(alloc, &sketch)?;
-    if !keeps_secrets(orders.offers.lists.as_slice(), &script) {
+    let draft = printed(alloc, &sketch)?;
+    if !keeps_secrets(orders.offers.lists.as_slice(), &draft.script) {
         return Err(Place::whole(0).refused());
     }
     let (case, read) = case_text(alloc, sketch.values, exchanges)?;
-    replay(alloc, orders.table, exchanges, &script, &read)?;
+    replay(alloc, orders.table, exchanges, &draft.script, &read)?;
     Ok(Draft {
-        script: text,
+        has_secret: has_secret(&draft.script),
+        script: draft.text,
         case,
-        has_secret: has_secret(&script),
     })
 }
 

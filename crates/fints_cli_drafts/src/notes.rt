@@ -14,17 +14,15 @@ fn account_note(orders: &OrderTable, segment: &OwnedSegment) -> OrderNote {
 }
 
 /// What is said of a segment of the body.
-pub fn order_note(
-    orders: &OrderTable,
-    segment: &OwnedSegment,
-    offer: Option<Offer>,
-) -> OrderNote {
+pub fn order_note(orders: &OrderTable, segment: &OwnedSegment, offer: Option<Offer>) -> OrderNote {
     match offer {
-        Some(Offer {
-            left_out,
-            further,
-            ..
-        }) => OrderNote::Listed { left_out, further },
+        Some(
+            Offer {
+                left_out,
+                further,
+                ..
+            },
+        ) => OrderNote::Listed { left_out, further },
         None => account_note(orders, segment),
     }
 }

@@ -3,7 +3,7 @@ use crate::captured::CapturedNotes;
 use crate::notes::Notes;
 use crate::sources::{Indexes, Source, capture_of};
 use fints_cli_hints_segments::UnreadHint;
-use fints_cli_hints_words::places::written;
+use fints_cli_hints_words::places::{Told, written};
 use fints_rules::{AccountForm, Broken, Message, Permissions};
 use fints_rules_dialogues::{Exchange, Observer, ToldIn};
 use fints_rules_messages::{Unread, UnreadObserver};
@@ -55,18 +55,19 @@ impl<'c> AuditReasons<'c> {
         }
     }
 
-    /// The lines. None where memory ran out.
-    pub fn into_text(self) -> Option<String> {
+    /// The lines. An error where memory ran out while they were made.
+    pub fn into_text(self) -> Told {
         let AuditReasons {
             reasons: mut text,
             notes,
             failed,
             ..
         } = self;
-        if failed || text.push_str(notes.text()).is_err() {
-            return None;
+        if failed {
+            return Err(Memory);
         }
-        Some(text)
+        text.push_str(notes.text())?;
+        Ok(Some(text))
     }
 
     /// Why a message of the client is none; none where they all are.

@@ -9,11 +9,13 @@ use crate::tans::NoTan;
 use crate::whole::{Before, Whole, WholeWhy, is_of_whole};
 use fints_cli_hints_captured::{Basis, Captured, Noted, add_captured_notes};
 use fints_cli_hints_segments::UnreadHint;
+use fints_cli_hints_words::places::Told;
 use fints_cli_texts::JudgeObserver;
 use fints_rules::{Broken, Message, Permissions};
 use fints_rules_messages::{Unread, UnreadObserver};
 use fints_syntax::{Kind, Memory, SegmentView};
 use std::alloc::Global;
+use std::mem;
 
 fn kinds_in(
     alloc: Global,
@@ -221,13 +223,13 @@ fn with_notes(
 /// The reasons of what a message breaks, in the order in which `judge` names it: a line for each rule, why
 /// it is broken and what to change; or one line where the message is a bank's answer, with no segment of a
 /// client. After them are the notes: by what the capture says, and on a message after another one. None
-/// where they aren't wanted, and where memory ran out. And the hint of bytes that are no message.
+/// where they aren't wanted. And the hint of bytes that are no message.
 #[derive(Drop)]
 pub struct JudgeReasons<'c> {
     alloc: Global,
     wanted: bool,
     capture: &'c [u8],
-    text: Option<String>,
+    text: Told,
     hint: UnreadHint,
 }
 
@@ -238,13 +240,37 @@ impl<'c> JudgeReasons<'c> {
             alloc,
             wanted,
             capture,
-            text: None,
+            text: Ok(None),
             hint: UnreadHint::new(alloc, wanted),
         }
     }
 
-    pub fn into_text(self) -> Option<String> {
-        self.text.filter(|text| !text.is_empty())
+    /// The reasons and the notes, if there is one. An error where memory ran out while they were made.
+    pub fn into_text(self) -> Told {
+        let text = self.text?;
+        Ok(text.filter(|text| !text.is_empty()))
+    }
+
+    // The reasons of a message that was judged, and the notes by what the capture says.
+    fn reasons_of(
+        &self,
+        permissions: &Permissions<'_>,
+        message: &Message<'_>,
+        broken: &[Broken],
+    ) -> Told {
+        let reasons = lines_of(self.alloc, self.capture, permissions, message, broken)?;
+        with_captured_notes(self.alloc, reasons, self.capture, permissions, message)
+    }
+
+    // The reasons so far, and after them the notes on a message after another one.
+    fn with_notes_after(
+        &mut self,
+        before: &Message<'_>,
+        answer: &[u8],
+        message: &Message<'_>,
+    ) -> Told {
+        let reasons = mem::replace(&mut self.text, Ok(None))?;
+        with_notes(self.alloc, reasons, before, answer, message)
     }
 
     /// Why bytes are no message; none where they were one.
@@ -262,24 +288,13 @@ impl UnreadObserver for JudgeReasons<'_> {
 impl JudgeObserver for JudgeReasons<'_> {
     fn judged(&mut self, permissions: &Permissions<'_>, message: &Message<'_>, broken: &[Broken]) {
         if self.wanted {
-            let lines = lines_of(self.alloc, self.capture, permissions, message, broken);
-            let reasons = lines.unwrap_or(None);
-            let noted = with_captured_notes(
-                self.alloc,
-                reasons,
-                self.capture,
-                permissions,
-                message,
-            );
-            self.text = noted.unwrap_or(None);
+            self.text = self.reasons_of(permissions, message, broken);
         }
     }
 
     fn judged_after(&mut self, before: &Message<'_>, answer: &[u8], message: &Message<'_>) {
         if self.wanted {
-            let reasons = self.text.take();
-            let noted = with_notes(self.alloc, reasons, before, answer, message);
-            self.text = noted.unwrap_or(None);
+            self.text = self.with_notes_after(before, answer, message);
         }
     }
 }

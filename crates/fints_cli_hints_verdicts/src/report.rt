@@ -11,6 +11,7 @@ use fints_cli_hints_reasons::lines::{Where, add_why, name_of};
 use fints_cli_hints_reasons::segment::{Seen, SegmentWhy};
 use fints_cli_hints_reasons::tans::no_tan;
 use fints_cli_hints_reasons::whole::{Before, Whole, WholeWhy, is_of_whole};
+use fints_cli_hints_words::places::Told;
 use fints_cli_scripts::ReportObserver;
 use fints_params::Code;
 use fints_rules::{Figures, Permissions, RELEASE, Rule};
@@ -250,13 +251,13 @@ fn lines_of(alloc: Global, capture: &[u8], report: &Report<'_>) -> Result<String
 }
 
 /// The reasons of a report: a line for each finding, in its order: why some run breaks the rule, and what
-/// to change; and then the notes on the script. None where they aren't wanted, and where memory ran out.
+/// to change; and then the notes on the script. None where they aren't wanted.
 #[derive(Drop)]
 pub struct ReportReasons<'c> {
     alloc: Global,
     wanted: bool,
     capture: &'c [u8],
-    text: Option<String>,
+    text: Told,
 }
 
 impl<'c> ReportReasons<'c> {
@@ -266,11 +267,12 @@ impl<'c> ReportReasons<'c> {
             alloc,
             wanted,
             capture,
-            text: None,
+            text: Ok(None),
         }
     }
 
-    pub fn into_text(self) -> Option<String> {
+    /// The lines. An error where memory ran out while they were made.
+    pub fn into_text(self) -> Told {
         self.text
     }
 }
@@ -279,8 +281,8 @@ impl ReportObserver for ReportReasons<'_> {
     fn reported(&mut self, report: &Report<'_>) {
         if self.wanted {
             self.text = match lines_of(self.alloc, self.capture, report) {
-                Ok(text) => Some(text),
-                Err(_) => None,
+                Ok(text) => Ok(Some(text)),
+                Err(memory) => Err(memory),
             };
         }
     }

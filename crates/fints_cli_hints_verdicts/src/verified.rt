@@ -217,13 +217,13 @@ fn why_text<'p>(alloc: Global, plan: &'p Plan<'p>, lines: &[Line], open: Open) -
     told(alloc, format_args!("why: {why}\n"))
 }
 
-/// A line that says what is open of a certificate first. None where it is closed, where the line isn't
-/// wanted, and where memory ran out.
+/// A line that says what is open of a certificate first. None where it is closed, and where the line isn't
+/// wanted.
 #[derive(Drop)]
 pub struct VerifyReason {
     alloc: Global,
     wanted: bool,
-    text: Option<String>,
+    text: Told,
 }
 
 impl VerifyReason {
@@ -231,11 +231,12 @@ impl VerifyReason {
         VerifyReason {
             alloc,
             wanted,
-            text: None,
+            text: Ok(None),
         }
     }
 
-    pub fn into_text(self) -> Option<String> {
+    /// The line. An error where memory ran out while it was made.
+    pub fn into_text(self) -> Told {
         self.text
     }
 }
@@ -243,8 +244,7 @@ impl VerifyReason {
 impl VerifyObserver for VerifyReason {
     fn verified(&mut self, plan: &Plan<'_>, certificate: &Certificate, open: Option<Open>) {
         if let (true, Some(open)) = (self.wanted, open) {
-            let line = why_text(self.alloc, plan, certificate.lines(), open);
-            self.text = line.unwrap_or(None);
+            self.text = why_text(self.alloc, plan, certificate.lines(), open);
         }
     }
 }

@@ -1,5 +1,4 @@
-use Rattle.std.proofs.Common.{subst, sym}
-use Rattle.fints_script.specs.Scripts.{Denotes}
+use Rattle.std.proofs.Common.{subst}
 use Rattle.fints_script_cases.specs.Cases.{IsCaseOf}
 use Rattle.fints_cli_drafts_accounts.specs.Offers.{AreOffered}
 use Rattle.fints_cli_drafts.specs.Drafts.{KeepsSecrets}
@@ -8,16 +7,18 @@ use Rattle.fints_cli_drafts.proofs.drafting.tried.Goals as goal
 
 pub returns : goal.returns
 returns c =
+    let script = c.in_ok-draft.draft.script in
     λ table recording all. record {
-      script = c.in_ok-script.script;
+      script = script;
+      notes = c.args.sketch.notes;
       values = c.in_ok-case.read.values;
-      denotes = subst (λ text. Denotes text.items c.in_ok-script.script) (sym c.into_bytes.ensures.value)
-          c.in_ok-script.ensures;
+      denotes = c.in_ok-draft.ensures.denotes;
+      printed = c.in_ok-draft.ensures.text;
       case = subst (IsCaseOf c.in_ok-case.case.items c.in_ok-case.read.values) c.in_ok-case.ensures.answers
           c.in_ok-case.ensures.text;
-      replays = c.in_ok-replay.ensures;
-      secrets = keeps_offered table recording c.args.orders.now.offers.now.lists.items all c.in_ok-script.script
-          (subst (λ lists. KeepsSecrets (AreOffered lists) c.in_ok-script.script) c.as_slice.ensures.value
+      replays = c.in_ok-replay.ensures c.in_ok-case.ensures.answers;
+      secrets = keeps_offered table recording c.args.orders.now.offers.now.lists.items all script
+          (subst (λ lists. KeepsSecrets (AreOffered lists) script) c.as_slice.ensures.value
           (c.keeps_secrets.ensures c.if-not-keeps_secrets.false));
       secret_is = c.has_secret.ensures;
     }
