@@ -97,6 +97,7 @@ def print_lines(word, texts):
 
 
 def main():
+    """Prints the rates, or with --lines the places of a word."""
     words = argparse.ArgumentParser(description=__doc__, formatter_class=argparse.RawDescriptionHelpFormatter)
     words.add_argument("--check", action="store_true", help="fail where the pages pass a limit")
     words.add_argument("--lines", choices=WORDS, metavar="WORD", help=f"each place of one of: {', '.join(WORDS)}")
