@@ -74,23 +74,25 @@ fn tell_refusal<E: Out>(refusal: &Refusal, err: &mut E) -> u8
     status
 }
 
-// Writes the text to the output, and to the errors where that fails.
-fn deliver<O: Out, E: Out>(text: &[u8], out: &mut O, err: &mut E) -> Result<(), WriteFault>
-    ensures written { OnOk result (Gets (O.told out.old) (O.told out.new) text.now) }
-    ensures fine { OnOk result (O.failed_calls out.new ≡ O.failed_calls out.old) }
-    ensures cut { OnErr result (GetsPrefix (O.told out.old) (O.told out.new) text.now) }
-    ensures failed { OnErr result (O.failed_calls out.new ≡ one_more (O.failed_calls out.old)) }
-    ensures quiet { OnOk result
-        (IsUntold (E.told err.old) (E.told err.new) (E.failed_calls err.old) (E.failed_calls err.new)) }
-    ensures line { OnErr result
-        (Tells (E.told err.old) (E.told err.new) (E.failed_calls err.old)
-        (E.failed_calls err.new) write_line) }
+// Writes the text to the output.
+fn deliver<O: Out, E: Out>(text: &[u8], status: u8, out: &mut O, err: &mut E) -> u8
+    requires { status ≤ 1 }
+    ensures statuses { (result ≡ status) ⊎ (result ≡ 5) }
+    ensures written { result ≡ status → Gets (O.told out.old) (O.told out.new) text.now }
+    ensures fine { result ≡ status → O.failed_calls out.new ≡ O.failed_calls out.old }
+    ensures cut { result ≡ 5 → GetsPrefix (O.told out.old) (O.told out.new) text.now }
+    ensures failed { result ≡ 5 → O.failed_calls out.new ≡ one_more (O.failed_calls out.old) }
+    ensures quiet { result ≡ status
+        → IsUntold (E.told err.old) (E.told err.new) (E.failed_calls err.old) (E.failed_calls err.new) }
+    ensures line { result ≡ 5
+        → Tells (E.told err.old) (E.told err.new) (E.failed_calls err.old)
+        (E.failed_calls err.new) write_line }
 {
-    let written = emit(text, out);
-    if written.is_err() {
+    if emit(text, out).is_err() {
         tell(b"error: write\n", err);
+        return 5;
     }
-    written
+    status
 }
 
 // Writes the note beside an answer, and then reasons and notes.
@@ -159,11 +161,11 @@ fn respond_with<O: Out, E: Out>(answered: &Answered, out: &mut O, err: &mut E) -
         (E.failed_calls err.new) write_line }
 {
     let reply = &answered.reply;
-    if deliver(reply.text.as_slice(), out, err).is_err() {
-        return 5;
+    let status = deliver(reply.text.as_slice(), reply.status, out, err);
+    if status != 5 {
+        tell_beside(answered.note.as_bytes(), reasons_of(answered), err);
     }
-    tell_beside(answered.note.as_bytes(), reasons_of(answered), err);
-    reply.status
+    status
 }
 
 /// Does what is asked, and gives the status as `execute` does.
@@ -197,10 +199,7 @@ pub fn respond<F: Files, O: Out, E: Out>(
         (E.told err.old) (E.told err.new) (E.failed_calls err.old) (E.failed_calls err.new) }
 {
     match asked {
-        Asked::Help(text) => match deliver(text.as_bytes(), out, err) {
-            Ok(()) => 0,
-            Err(_) => 5,
-        },
+        Asked::Help(text) => deliver(text.as_bytes(), 0, out, err),
         Asked::Usage(text) => {
             tell(text.as_bytes(), err);
             2
