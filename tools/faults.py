@@ -244,7 +244,7 @@ MISSING = b"note: memory ran out, so reasons and notes are missing\n"
 
 def reasoned(ran):
     """What may come of an answer with reasons and notes: memory may lack before the answer, or for these."""
-    others = [it for it in ran.err.splitlines(keepends=True) if not it.startswith((b"why: ", b"note: "))]
+    others = [it for it in ran.err.splitlines(keepends=True) if re.match(rb"note: \d+ messages \(", it)]
     return [WANT, ran, ran._replace(err=b"".join(others) + MISSING)]
 
 
