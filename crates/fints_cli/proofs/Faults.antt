@@ -21,7 +21,7 @@ module _ (old new : Option (List ℕ)) (lost lost_after : ℕ) where
       → SaysFirst B text old new lost lost_after
   first_under A B text h s = record { more = s.more; nothing_more = λ b. s.nothing_more (h b); said = s.said }
 
-  -- the line of these words was told, and they are those of the failure
+  -- the line of these words was printed, and they are those of the failure
   pub told_first : (A : Type 0) (f : Failure) (why more : List ℕ) → why ≡ failure_text f → (A → more ≡ [])
       → Tells old new lost lost_after (told_line (codes "error: ") why ++ more)
       → SaysFirst A (fault_line f) old new lost lost_after

@@ -1,4 +1,4 @@
--- A report is refused by its inputs alone.
+-- A report is refused by its inputs only.
 use Rattle.std.proofs.Common.{◌≡◌, ℕ, List}
 use Rattle.fints_params.specs.Parameters.{Rows}
 use Rattle.fints_cli_texts.specs.declared.fault.Fault.{Fault}

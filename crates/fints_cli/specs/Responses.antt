@@ -50,7 +50,7 @@ IsFailureOf _ holds status f = ⊥
 abbrev pub FailsWith : ℕ → Asked → (List ℕ → Option (List ℕ)) → Type 0
 FailsWith status asked holds = (f : Failure) × IsFailureOf asked holds status f
 
--- none of the files that are named is longer than its limit, where their bytes are told
+-- none of the files that are named is longer than its limit, where their bytes are known
 abbrev pub FilesAreWithin : Asked → (List ℕ → Option (List ℕ)) → Type 0
 FilesAreWithin (Help help) holds = Unit {0}
 FilesAreWithin (Usage fault) holds = Unit {0}
@@ -117,7 +117,7 @@ AsksNoHint (Usage fault) = Unit {0}
 AsksNoHint NoMemory = Unit {0}
 AsksNoHint (Run request) = request.hints ≡ false
 
--- the usage of bad words is told
+-- the usage of bad words is printed
 abbrev pub TellsUsage : Asked → (old new : Option (List ℕ)) (lost lost_after : ℕ) → Type 0
 TellsUsage (Help help) old new lost lost_after = Unit {0}
 TellsUsage (Usage fault) old new lost lost_after = Tells old new lost lost_after (string_bytes fault)

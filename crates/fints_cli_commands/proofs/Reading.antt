@@ -32,7 +32,7 @@ pub of_file : (P : List ℕ → Type 0) (held : Option (List ℕ)) (x : List ℕ
 of_file P None x h p = tt
 of_file P (Some a) x h p = subst P h p
 
--- what is told of a capture that holds the bytes of a file is told of the file
+-- what is said of a capture that holds the bytes of a file is said of the file
 pub read_at : {T : Type 0} (Answers : List ℕ → T → Type 0) (held : Option (List ℕ)) (capture : FedReader) (told : T)
     → ((bytes : List ℕ) → HoldsCapture bytes capture → Answers bytes told)
     → IsReadFrom HoldsCapture held capture → IsReadFrom Answers held told
@@ -55,7 +55,7 @@ both_read {files} {more} {holds} first then = record {
   keeps = then.keeps ∙ first.keeps;
 }
 
--- ---- files of which one wasn't loaded, and more of them
+-- ---- files, one of them not loaded, and more of them
 
 module _ (more : List NamedFile) (holds : Held) (a b : ReadCounts) where
   unreadable_first : (files : List NamedFile) (option : List ℕ)
@@ -74,7 +74,7 @@ module _ (more : List NamedFile) (holds : Held) (a b : ReadCounts) where
   follows_first files (Unread input) h = unreadable_first files (option_of input) h
   follows_first files (Input fault) h = h
 
--- what is unreadable since later reads is so since earlier ones, of which none failed
+-- what is unreadable since later reads is so since earlier ones, none of which failed
 module _ (holds : Held) (a b c : ReadCounts) (fine : NoneFailed a b)
     (counted : min a.calls (2 ^ 64 - 1) ≤ b.calls) where
   one_since : (held : Option (List ℕ)) (limit : ℕ) → IsUnreadable held limit b c → IsUnreadable held limit a c

@@ -1,4 +1,4 @@
--- Which failures of loading refuse a request: want of memory refuses each, and a file that couldn't be read one that
+-- Which failures of loading refuse a request: out of memory refuses each, and a file that couldn't be read one that
 -- reads files.
 use Rattle.std.proofs.Common.{ℕ, ◌≡◌, List, Option, None, Some, IfSome, refl, subst, sym}
 use Rattle.fints_cli_files.specs.Streams.{ReadCounts}

@@ -46,11 +46,11 @@ failure_status (Unread input) = 5
 abbrev pub HintsIfAsked : Bool → Refusal → Type 0
 HintsIfAsked asked refusal = asked ≡ false → refusal.hint ≡ None
 
--- this holds of the bytes of two inputs, where they are told
+-- this holds of the bytes of two inputs, where they are known
 abbrev pub IfBoth : (a b : Option (List ℕ)) → (List ℕ → List ℕ → Type 0) → Type 0
 IfBoth a b P = IfSome a (λ p. IfSome b (λ q. P p q))
 
--- this holds of the bytes of three inputs, where they are told
+-- this holds of the bytes of three inputs, where they are known
 abbrev pub IfAll : (a b c : Option (List ℕ)) → (List ℕ → List ℕ → List ℕ → Type 0) → Type 0
 IfAll a b c P = IfSome a (λ p. IfSome b (λ q. IfSome c (λ r. P p q r)))
 
@@ -87,7 +87,7 @@ abbrev pub cases_wanted : Option ℕ → Wanted
 cases_wanted None = Cases
 cases_wanted (Some number) = OneCase number
 
--- the status and the text are the answer of a command by these files, where their bytes are told
+-- the status and the text are the answer of a command by these files, where their bytes are known
 abbrev pub AnswersBy : Command → Paths → Option ℕ → Held → ℕ → List ℕ → Type 0
 AnswersBy BuiltIn paths number holds status text =
     IsToldOf Report built_in.capture built_in.orders built_in.script status text
@@ -130,11 +130,11 @@ AnswersBy Draw paths number holds status text =
 AnswersBy DrawFound paths number holds status text =
     OfScript holds paths (λ capture table script. IsDrawnOf capture table script status text)
 
--- the status and the text are the request's answer, where the bytes of its files are told
+-- the status and the text are the request's answer, where the bytes of its files are known
 abbrev pub AnswersTo : Request → Held → ℕ → List ℕ → Type 0
 AnswersTo request holds status text = AnswersBy request.command request.paths request.number holds status text
 
--- the fault refuses a command with these files, where their bytes are told
+-- the fault refuses a command with these files, where their bytes are known
 abbrev pub RefusesBy : Command → Paths → Option ℕ → Held → Fault → Type 0
 RefusesBy BuiltIn paths number holds fault =
     IsTellRefusal Report built_in.capture built_in.orders built_in.script fault
@@ -175,7 +175,7 @@ RefusesBy Draw paths number holds fault =
 RefusesBy DrawFound paths number holds fault =
     OfScript holds paths (λ capture table script. IsRefused capture table script fault)
 
--- the fault refuses the request, where the bytes of its files are told
+-- the fault refuses the request, where the bytes of its files are known
 abbrev pub RefusesRequest : Request → Held → Fault → Type 0
 RefusesRequest request holds fault = RefusesBy request.command request.paths request.number holds fault
 
@@ -189,7 +189,7 @@ abbrev pub FailsFor : Request → Held → Failure → Type 0
 FailsFor request holds (Input fault) = RefusesRequest request holds fault
 FailsFor request holds (Unread input) = HasFiles request.command
 
--- this note is of the log in the recording, where its bytes are told
+-- this note is of the log in the recording, where its bytes are known
 abbrev pub OfLog : Held → Paths → (LogValue → List ℕ) → List ℕ → Type 0
 OfLog holds paths note_on note =
     (log : LogValue) × OfRecording holds paths (λ dialogue. IsLog dialogue log)

@@ -1,4 +1,4 @@
--- What was loaded, and what loading says of the files: words of private contracts and proofs alone.
+-- What was loaded, and what loading says of the files: words of private contracts and proofs only.
 use Rattle.std.specs.Prelude.{◌≡◌, ◌≤◌, ◌+◌, ◌-◌, ◌*◌, ◌^◌, min, ℕ, List, length, Option, IfSome, Result}
 use Rattle.std.specs.Borrow.{Bor}
 use Rattle.fints_params.specs.Captures.{IsReadOf, IsBothReadOf}

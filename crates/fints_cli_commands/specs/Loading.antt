@@ -11,11 +11,11 @@ use Rattle.fints_cli_words.specs.declared.requests.Input.TheVariants as inputs
 use Rattle.fints_cli_words.specs.declared.requests.Paths.{Paths}
 use Rattle.fints_cli_words.specs.declared.requests.Request.{Request}
 
--- what files hold, by path, where it is told
+-- what files hold, by path, where it is known
 abbrev pub Held : Type 0
 Held = List ℕ → Option (List ℕ)
 
--- the bytes of an input's file, where they are told; an input that isn't named has none
+-- the bytes of an input's file, where they are known; an input that isn't named has none
 abbrev pub bytes_at : Held → Option (Bor (List ℕ)) → Option (List ℕ)
 bytes_at holds None = Some []
 bytes_at holds (Some path) = holds path.now
@@ -59,7 +59,7 @@ files_at paths =
 abbrev pub files_of : Request → List NamedFile
 files_of request = files_at (paths_of request)
 
--- the file isn't longer than its limit, where its bytes are told
+-- the file isn't longer than its limit, where its bytes are known
 abbrev pub IsWithin : NamedFile → Held → Type 0
 IsWithin file holds = IfSome (holds file.path) (λ bytes. length bytes ≤ file.limit)
 
@@ -68,7 +68,7 @@ abbrev pub AreWithin : List NamedFile → Held → Type 0
 AreWithin [] holds = Unit {0}
 AreWithin (file ∷ files) holds = IsWithin file holds × AreWithin files holds
 
--- what lets a file be answered as unread: a read failed; it is longer than its limit, or doesn't tell its bytes;
+-- what lets a file be answered as unread: a read failed; it is longer than its limit, or doesn't say its bytes;
 -- or as many reads were asked for as one file may take
 abbrev pub IsUnreadable : Option (List ℕ) → ℕ → ReadCounts → ReadCounts → Type 0
 IsUnreadable held limit before after = HasFailed before after ⊎ (IsLonger held limit ⊎ AreUsedUp before after)

@@ -101,7 +101,7 @@ fn answer(
     }
 }
 
-/// Answers a request over the files, all of which are read before any fault in them is answered. Where
+/// Answers a request over the files, which are all read before any fault in them is answered. Where
 /// hints are wanted, a refusal has a hint, and what is broken has reasons.
 pub fn perform<F: Files>(
     alloc: Global,

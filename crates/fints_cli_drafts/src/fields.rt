@@ -1,4 +1,4 @@
-//! The fields of a draft: what a client makes new for each message, and its secrets, neither of which is a text
+//! The fields of a draft: what a client makes new for each message, and its secrets. Neither is a text
 //! of the script (FinTS 3.0, Formals, HNSHK and HNSHA; Security PIN/TAN, HNSHA, HKPAE and HKTAN); and the accounts
 //! of orders.
 use crate::place::{Place, Undrafted};

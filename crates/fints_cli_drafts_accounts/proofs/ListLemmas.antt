@@ -14,7 +14,7 @@ use Rattle.fints_cli_drafts_accounts.specs.declared.listing.AccountList.{Account
 use Rattle.fints_cli_drafts_accounts.proofs.FillLemmas.{length-filled}
 
 module _ {X : Type 0} where
-  -- where there is room, one more is listed
+  -- where a list isn't full, one more is listed
   take_room : (m : ℕ) (xs : List X) (x : X) → length (take m xs) < m → take m (xs ++ x ∷ []) ≡ take m xs ++ x ∷ []
   take_room m xs x room =
       let few : length xs < m = omega (arith, length-take m xs) in

@@ -128,7 +128,7 @@ pub contains_text : (xs : List (List (List ℕ))) (items : List (List ℕ)) → 
     → HasText xs (account_text items)
 contains_text xs items c = (c.0, items, c.1, c.2, refl)
 
--- the text tells an account among those of so many items
+-- the text identifies an account among those with this many items
 pub text_contains : (n : ℕ) (xs : List (List (List ℕ))) (items : List (List ℕ)) → All (λ x. length x ≡ n) xs
     → length items ≡ n → HasText xs (account_text items) → Contains xs items
 text_contains n xs items counts count a =

@@ -29,7 +29,7 @@ pub record IsOfferBy (exchanges : List Exchange) (granted : List Granted) (list 
   pub is_permitted : slice_get granted place ≡ Some permitted
   pub list_in : IsListIn permitted exchange.message list
 
--- they are those of some order of the recording, by the parameters that it tells
+-- they are those of some order of the recording, by the parameters in it
 abbrev pub IsOffer : List OrderRow → List Exchange → AccountList → Type 0
 IsOffer orders exchanges list =
     (granted : List Granted) × GrantsEach orders exchanges granted × IsOfferBy exchanges granted list

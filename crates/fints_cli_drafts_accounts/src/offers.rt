@@ -13,7 +13,7 @@ use fints_syntax::{Memory, OwnedSegment, owned_segments};
 use std::alloc::Global;
 use std::collections::BTreeMap;
 
-// The most lists of a draft, so that there is room for its other fields.
+// The most lists of a draft, so that it can have other fields.
 const MAX_LISTS: usize = 50;
 
 // The most different orders that are asked for.
@@ -220,7 +220,7 @@ fn none(alloc: Global) -> Offers
     }
 }
 
-// What the orders may name by what the answers tell.
+// What the orders may name by what the answers say.
 fn offers_told(
     alloc: Global,
     orders: &OrderTable,
@@ -241,7 +241,7 @@ fn offers_told(
 
 /// What the orders in the messages of a part of a recording may name, each by the parameters by which `audit`
 /// judges its message. There are no lists where an answer is refused as a capture, or the bank of some
-/// message tells no parameters. A draft has at most 50 lists: orders that need further ones have none, and so
+/// message sends no parameters. A draft has at most 50 lists: orders that need further ones have none, and so
 /// has what comes after 1,000 different orders.
 ///
 /// The time grows with the size of the recording times its logarithm.

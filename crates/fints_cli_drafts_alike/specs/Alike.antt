@@ -78,7 +78,7 @@ IsSegmentAlike recorded sent =
     ⊎ (IsSealHead (segment_of recorded) × IsSealHead (segment_of sent))
     ⊎ IsRenewal (segment_of recorded) (segment_of sent)
 
--- the bytes are segments, each of which is sent so
+-- the bytes are segments, and each is sent so
 abbrev pub AreSegmentsAlike : List ℕ → List ℕ → Type 0
 AreSegmentsAlike recorded sent =
     (own other : List (List (List Spelled))) × IsCapture recorded own × IsCapture sent other

@@ -17,7 +17,7 @@ each_more f n (y ∷ ys) (suc i) k x h is e =
     ap (λ (l : List ℕ). f n y ++ l) (each_more f (n + 1) ys i k x less is next)
     ∙ sym (append_assoc (f n y) (each_from f (n + 1) (take i ys)) (f k x))
 
--- one more is written behind those before it
+-- one more is written after those before it
 pub each_written : {X : Type 0} (f : ℕ → X → List ℕ) (n : ℕ) (xs : List X) (i k : ℕ) (x : X)
     (old mid new : List ℕ) → i < length xs → x ≡ get_or xs i x → k ≡ n + i
     → mid ≡ old ++ each_from f n (take i xs) → new ≡ mid ++ f k x

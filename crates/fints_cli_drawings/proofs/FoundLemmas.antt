@@ -1,4 +1,4 @@
--- What was found of a step stands together among findings in their order.
+-- What was found of a step is together among findings in their order.
 use Rattle.std.proofs.Common.{◌≡◌, ◌∙◌, ◌<◌, ◌≤◌, ◌+◌, ◌-◌, ℕ, zero, suc, Bool, true, false, cond, List, [], ◌∷◌, length, take, drop, refl, ap, sym, subst, inl, inr, arith}
 use Rattle.std.specs.Prelude.{AllPairs}
 use Rattle.std.specs.List.{AllWithin, slice_index_or, slice_range}
@@ -41,7 +41,7 @@ up_to_from n findings i h = (
   λ k d low high. leb-false (slice_index_or findings k d).step n (h.1 k d low high),
 )
 
--- the findings up to `from` are of steps before n, and those from `to` on of steps behind it
+-- the findings up to `from` are of steps before n, and those from `to` on of steps after it
 pub record AreAround (n : ℕ) (findings : List Finding) (from to : ℕ) : Type 0 where
   pub below : AllWithin (λ (f : Finding). f.step < n) findings 0 from
   pub from_on : AllWithin (λ (f : Finding). n ≤ f.step) findings from (length findings)

@@ -32,7 +32,7 @@ steps_more all n (s ∷ ss) (f ∷ fs) findings (suc i) step cell at has =
     ∙ sym (append_assoc (step_drawn all s f (found_at n findings)) (steps_text all (n + 1) (take i ss) fs findings)
     (step_drawn all step cell (found_at (n + suc i) findings)))
 
--- a step more is written behind those before it
+-- a step more is written after those before it
 pub written_more : (all : List StepValue) (figures : List (Option Reached)) (findings : List Finding) (i : ℕ)
     (step : StepValue) (cell : Option Reached) (old mid new : List ℕ) → slice_get all i ≡ Some step
     → slice_get figures i ≡ Some cell → mid ≡ old ++ steps_text all 1 (take i all) figures findings
@@ -54,7 +54,7 @@ written_more all figures findings i step cell old mid new at has before now =
     ∙ append_assoc old (steps_text all 1 (take i all) figures findings) part
     ∙ ap (λ (l : List ℕ). old ++ l) (sym more)
 
--- the line of a step and those of its branches are written one behind the other
+-- the line of a step and those of its branches are written one after the other
 pub step_written : (steps : List StepValue) (n : ℕ) (own step : StepValue) (reached : Option Reached)
     (found findings : List Finding) (old mid new : List ℕ) → numbered steps n ≡ Some own
     → numbered steps n ≡ Some step → found ≡ found_at n findings → mid ≡ old ++ node_line own reached found

@@ -1,4 +1,4 @@
--- What `draw` tells of a script, alone or with what its runs break.
+-- What `draw` prints of a script, by itself or with what its runs break.
 use Rattle.std.specs.Prelude.{◌≡◌, ℕ, List, [], Option}
 use Rattle.fints_params.specs.Captures.{IsParamsOf}
 use Rattle.fints_params.specs.Parameters.{Rows}
@@ -12,7 +12,7 @@ use Rattle.fints_cli_scripts.specs.Plans.{ArePlan}
 use Rattle.fints_cli_scripts.specs.ReportText.{report_status}
 use Rattle.fints_cli_drawings.specs.Picture.{picture_text}
 
--- ---- a script alone
+-- ---- a script by itself
 
 -- the text of an order table without orders
 abbrev pub no_orders : List ℕ
@@ -32,7 +32,7 @@ pub record IsPictureOf (script text : List ℕ) : Type 0 where
 
 -- ---- a script with what its runs break
 
--- the text and the status tell the greatest figures of the steps, and what the runs break under these
+-- the text and the status say the greatest figures of the steps, and what the runs break under these
 -- permissions; where the status is 0, each message of each run is permitted
 pub record IsDrawnBy (granted : Granted) (script : ScriptValue) (status : ℕ) (text : List ℕ) : Type 0 where
   pub figures : List (Option Reached)
@@ -43,13 +43,13 @@ pub record IsDrawnBy (granted : Granted) (script : ScriptValue) (status : ℕ) (
   pub status_is : status ≡ report_status findings
   pub permitted : status ≡ 0 → EachIsPermitted granted script
 
--- they tell it by these rows of parameters and the texts of an order table and of a script
+-- they say it by these rows of parameters and the texts of an order table and of a script
 pub record IsDrawnOn (rows : Rows) (orders script : List ℕ) (status : ℕ) (text : List ℕ) : Type 0 where
   pub value : ScriptValue
   pub plan : ArePlan orders script value
   pub drawn : IsDrawnBy (record { rows = rows; orders = plan.table }) value status text
 
--- they tell it by a capture and these texts
+-- they say it by a capture and these texts
 pub record IsDrawnOf (params orders script : List ℕ) (status : ℕ) (text : List ℕ) : Type 0 where
   pub rows : Rows
   pub rows_are : IsParamsOf params rows

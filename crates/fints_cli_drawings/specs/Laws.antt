@@ -1,4 +1,4 @@
--- The law of the codes that a picture tells of branches. It is the contract of a public function.
+-- The law of the codes that a picture shows of branches. It is the contract of a public function.
 use Rattle.std.specs.Prelude.{◌≡◌, ◌↔◌, ℕ, List, IfSome, None}
 use Rattle.fints_script_cases.specs.Answers.{IsLeastOpener, IsOpen}
 use Rattle.fints_script_cases.specs.declared.answers.Branch.{Branch}

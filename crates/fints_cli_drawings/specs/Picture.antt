@@ -1,6 +1,6 @@
--- The picture of a script's ways in Graphviz's DOT: a line for each step, and behind it one for each of its
--- branches, its default among them. Names, kinds and patterns hold neither `"` nor `\`, so they stand between
--- quotes as they are; `\n` there begins a line of a label. Words of private contracts and proofs alone stand
+-- The picture of a script's ways in Graphviz's DOT: a line for each step, and after it one for each of its
+-- branches, its default among them. Names, kinds and patterns hold neither `"` nor `\`, so they are between
+-- quotes as they are; `\n` there begins a line of a label. Words of private contracts and proofs only come
 -- last, under a heading.
 use Rattle.std.specs.Prelude.{◌≡◌, ◌==◌, ℕ, ◌+◌, ◌-◌, Bool, List, [], ◌∷◌, ◌++◌, length, codes, Option, Some, None, slice_get}
 use Rattle.std.specs.List.{filter, flat_map, range_with_len}
@@ -130,16 +130,16 @@ steps_text steps n (step ∷ later) (reached ∷ figures) findings =
     step_drawn steps step reached (found_at n findings) ++ steps_text steps (n + 1) later figures findings
 steps_text steps n _ _ findings = []
 
--- what stands before the steps: the end of the runs is a node too
+-- what is before the steps: the end of the runs is a node too
 unfoldable pub opening : List ℕ
 opening = codes "digraph fints {\n  node [shape=box];\n  \"stop\" [shape=doublecircle];\n"
 
 abbrev pub picture_text : List StepValue → List (Option Reached) → List Finding → List ℕ
 picture_text steps figures findings = opening ++ (steps_text steps 1 steps figures findings ++ codes "}\n")
 
--- ---- of private contracts and proofs alone
+-- ---- of private contracts and proofs only
 
--- behind the old text stand the line of step n and those of its branches
+-- after the old text are the line of step n and those of its branches
 abbrev pub IsStepWritten : List StepValue → ℕ → Option Reached → List Finding → List ℕ → List ℕ → Type 0
 IsStepWritten steps n reached findings old new =
     (step : StepValue) → numbered steps n ≡ Some step

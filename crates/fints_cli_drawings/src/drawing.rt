@@ -1,4 +1,4 @@
-//! The picture of a script alone, and with what its runs break.
+//! The picture of a script by itself, and with what its runs break.
 ghost use Rattle.std.specs.Prelude.{◌≡◌, ◌≤◌, ◌++◌, ℕ, List, length, AllPairs, OnOk, IfOk, IfErr, Err};
 ghost use Rattle.fints_params.specs.Captures.{IsReadOf};
 ghost use Rattle.fints_params.specs.declared.fault.ParamFault.{ParamFault as ParamFaultValue};
@@ -21,7 +21,7 @@ use fints_script::Plan;
 use fints_syntax::Memory;
 use std::alloc::Global;
 
-// What stands before the steps: the end of the runs is a node too.
+// What is before the steps: the end of the runs is a node too.
 const OPENING: &[u8] = b"digraph fints {
   node [shape=box];
   \"stop\" [shape=doublecircle];
@@ -65,7 +65,7 @@ fn write_steps(
     Ok(())
 }
 
-// The picture of a plan of which this was found, with these figures of its steps.
+// The picture of a plan with what was found of it, with these figures of its steps.
 #[tactic(auto, unfolding(crate::specs::Picture::opening))]
 fn picture(
     alloc: Global,
@@ -85,7 +85,7 @@ fn picture(
     Ok(text)
 }
 
-/// The picture of a script alone, as of a plan with an order table without orders. Of the refusals
+/// The picture of a script by itself, as of a plan with an order table without orders. Of the refusals
 /// that of the script comes first, and then what it leaves open with that table.
 pub fn draw_script(alloc: Global, script: &[u8]) -> Result<Vec<u8>, Fault>
     ensures drawn { IfOk result (λ text. IsPictureOf script.now text.items) }

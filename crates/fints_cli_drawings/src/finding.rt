@@ -27,7 +27,7 @@ fn count_up_to(findings: &[Finding], n: usize) -> usize
     findings.partition_point(|finding| finding.step as usize <= n)
 }
 
-/// Those of step n, which stand together.
+/// Those of step n, which are together.
 pub fn found_at(findings: &[Finding], n: usize) -> &[Finding]
     requires { AllPairs IsBefore findings.now }
     ensures { result.now ≡ found_at n findings.now }

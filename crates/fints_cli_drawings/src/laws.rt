@@ -1,4 +1,4 @@
-//! The law of the codes that a picture tells of branches: the function's contract is it.
+//! The law of the codes that a picture shows of branches: the function's contract is it.
 ghost use Rattle.std.specs.Prelude.{ℕ, ◌+◌, ◌≤◌, List, length};
 ghost use Rattle.fints_script_cases.specs.declared.answers.Branch.{Branch};
 ghost use Rattle.fints_cli_drawings.specs.Laws.{OpenersAreLeast};

@@ -106,7 +106,7 @@ fn write_label(
     write_found(text, found)
 }
 
-/// Writes the line of a step, of which this was found.
+/// Writes the line of a step, with what was found of it.
 #[tactic(auto, unfolding(crate::specs::Picture::node_line))]
 pub fn write_node(
     text: &mut Vec<u8>,

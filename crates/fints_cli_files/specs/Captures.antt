@@ -1,4 +1,4 @@
--- What a capture that is read while it comes holds. Words of private contracts and proofs alone stand last, under a heading.
+-- What a capture that is read while it comes holds. Words of private contracts and proofs only come last, under a heading.
 use Rattle.std.specs.Prelude.{◌≡◌, ℕ, Bool, true, false, List, [], ◌++◌, Option, None, Some}
 use Rattle.fints_params.specs.Pieces.{Received, IsPieceFault}
 use Rattle.fints_params.specs.declared.fault.ParamFault.{ParamFault}
@@ -24,7 +24,7 @@ AreKept false bytes kept = kept ≡ []
 abbrev pub HoldsCapture : List ℕ → FedReader → Type 0
 HoldsCapture bytes fed = HasTaken bytes fed.reader fed.fault × AreKept fed.keeps bytes fed.kept
 
--- ---- of private contracts and proofs alone
+-- ---- of private contracts and proofs only
 
 -- what is kept when a piece more has come
 abbrev pub kept_after : Bool → List ℕ → List ℕ → List ℕ

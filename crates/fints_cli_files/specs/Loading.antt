@@ -5,7 +5,7 @@ use Rattle.fints_cli_files.specs.declared.reading.TheConstants.{MAX_CALLS}
 use Rattle.fints_cli_files.specs.declared.reading.LoadFault.TheVariants.{Unreadable, TooLong, TooManyCalls, Memory}
 use Rattle.fints_cli_files.specs.Streams.{ReadCounts, one_more, IsFile}
 
--- a file is read with at most so many calls
+-- a file is read with at most this many calls
 abbrev pub MAX_READS : ℕ
 MAX_READS = MAX_CALLS
 
@@ -17,11 +17,11 @@ NoneFailed before after = after.failed ≡ before.failed
 abbrev pub HasFailed : ReadCounts → ReadCounts → Type 0
 HasFailed before after = after.failed ≡ one_more before.failed
 
--- a file whose bytes are told is longer than its limit
+-- a file whose bytes are known is longer than its limit
 abbrev pub IsLonger : Option (List ℕ) → ℕ → Type 0
 IsLonger held limit = IfSome held (λ bytes. limit < length bytes)
 
--- a sink took the bytes of a file, at most so many
+-- a sink took the bytes of a file, at most this many
 abbrev pub IsTakenFrom : {S : Type 0} → (List ℕ → S → Type 0) → Option (List ℕ) → ℕ → S → Type 0
 IsTakenFrom Holds held limit sink =
     (bytes : List ℕ) × IsFile held bytes × (length bytes ≤ limit) × Holds bytes sink
@@ -30,7 +30,7 @@ IsTakenFrom Holds held limit sink =
 abbrev pub AreUsedUp : ReadCounts → ReadCounts → Type 0
 AreUsedUp before after = min (before.calls + MAX_READS) (2 ^ 64 - 1) ≤ after.calls
 
--- why a file wasn't loaded; only the first is told where a read failed
+-- why a file wasn't loaded; only the first is said where a read failed
 abbrev pub IsLoadFault : LoadFault → Option (List ℕ) → ℕ → ReadCounts → ReadCounts → Type 0
 IsLoadFault (Unreadable cause) held limit before after = HasFailed before after
 IsLoadFault TooLong held limit before after = IsLonger held limit × NoneFailed before after

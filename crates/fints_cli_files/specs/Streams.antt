@@ -1,4 +1,4 @@
--- What the calls of a stream do to the bytes that it tells.
+-- What the calls of a stream do to the bytes that are known of it.
 use Rattle.std.specs.Prelude.{min, ◌+◌, ◌-◌, ◌^◌, ◌≡◌, ℕ, ◌||◌, ◌&&◌, ◌==◌, nat_lt, Bool, true, List, [], ◌++◌, take, drop, length, ◌≤◌, ◌<◌, IfSome, ⊤, Option, None, Some, Result, Ok, Err, MatchResult}
 use Rattle.fints_cli_files.specs.declared.streams.WriteFault.{WriteFault}
 use Rattle.fints_cli_files.specs.declared.streams.ReadFault.{ReadFault}
@@ -17,22 +17,22 @@ pub record ReadCounts : Type 0 where
   pub calls : ℕ
   pub failed : ℕ
 
--- a read failed: a fault, or more bytes than there was room for
+-- a read failed: a fault, or more bytes than the buffer has
 abbrev pub is_failed_read : ℕ → Result ℕ ReadFault → Bool
 is_failed_read size (Ok count) = nat_lt size count
 is_failed_read size (Err fault) = true
 
--- a stream that tells its bytes got these after the earlier ones
+-- a stream whose bytes are known got these after the earlier ones
 abbrev pub Gets : Option (List ℕ) → Option (List ℕ) → List ℕ → Type 0
 Gets None new bytes = ⊤
 Gets (Some before) None bytes = ⊥
 Gets (Some before) (Some after) bytes = after ≡ before ++ bytes
 
--- a stream that tells its bytes got nothing
+-- a stream whose bytes are known got nothing
 abbrev pub GetsNothing : Option (List ℕ) → Option (List ℕ) → Type 0
 GetsNothing old new = Gets old new []
 
--- a stream that tells its bytes got a prefix of these after the earlier ones
+-- a stream whose bytes are known got a prefix of these after the earlier ones
 abbrev pub GetsPrefix : Option (List ℕ) → Option (List ℕ) → List ℕ → Type 0
 GetsPrefix None new bytes = ⊤
 GetsPrefix (Some before) None bytes = ⊥
@@ -43,7 +43,7 @@ abbrev pub TakesPiece : Option (List ℕ) → Option (List ℕ) → List ℕ →
 TakesPiece old new piece result =
     MatchResult result (λ count. Gets old new (take count piece)) (λ _. GetsPrefix old new piece)
 
--- A read of a file whose bytes are told gave those at the place, and none only at the end. A claim past the buffer says nothing.
+-- A read of a file whose bytes are known gave those at the place, and none only at the end. A claim past the buffer says nothing.
 abbrev pub ReadsFrom : Option (List ℕ) → ℕ → List ℕ → Result ℕ ReadFault → Type 0
 ReadsFrom held at buffer result =
     IfSome held (λ bytes. MatchResult result
@@ -52,6 +52,6 @@ ReadsFrom held at buffer result =
     × (count ≡ 0 → 0 < length buffer → length bytes ≤ at))
     (λ _. ⊤))
 
--- what was loaded is what the file holds, where that is told
+-- what was loaded is what the file holds, where that is known
 abbrev pub IsFile : Option (List ℕ) → List ℕ → Type 0
 IsFile held loaded = IfSome held (λ bytes. loaded ≡ bytes)

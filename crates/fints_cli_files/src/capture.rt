@@ -39,7 +39,7 @@ pub trait ToldAtEnd {
     /// What is answered of these bytes.
     ghost answers: { List ℕ → Result Self ParamFault → Type 0 };
 
-    /// What the reader tells of what it took.
+    /// What the reader says of what it took.
     fn told(reader: ParamReader) -> Result<Self, ParamFault>
         ensures { (bytes : List ℕ) → HasTaken bytes reader None → answers bytes result };
 
@@ -87,7 +87,7 @@ impl Capture {
         }
     }
 
-    /// What is told of the capture, which ends here, or its first refusal.
+    /// What is said of the capture, which ends here, or its first refusal.
     pub fn end<T: ToldAtEnd + Drop>(self) -> ReadCapture<T>
         ensures read { (bytes : List ℕ) → HoldsCapture bytes self → T.answers bytes result.told }
         ensures kept { (bytes : List ℕ) → HoldsCapture bytes self

@@ -54,7 +54,7 @@ impl PieceTaker for Vec<u8> {
 }
 
 /// Hands the whole file, which has at most `limit` bytes, to the taker. A reader that fails, that
-/// claims more bytes than it was lent room for, that goes past the limit, or that does not come to
+/// claims more bytes than it was lent, that goes past the limit, or that does not come to
 /// the end within the calls, is a fault.
 #[tactic(auto, using(crate::proofs::StreamLemmas::one_more_le))]
 pub fn load_into<F: Files, S: PieceTaker + Drop>(

@@ -25,10 +25,10 @@ pub struct WriteFault;
 /// Files by their paths.
 pub trait Files {
     // How many reads were asked for, and how many of them failed: those that answered a fault, or
-    // more bytes than there was room for.
+    // more bytes than the buffer has.
     ghost reads: { Self → ReadCounts };
 
-    // The bytes of the file at a path, where the files tell them.
+    // The bytes of the file at a path, where the files say them.
     ghost holds: { Self → List ℕ → Option (List ℕ) };
 
     /// Reads bytes of the file from `at` on into the front of `buffer`, and answers how many. No
@@ -43,7 +43,7 @@ pub trait Files {
 
 /// A stream that takes bytes.
 pub trait Out {
-    // The bytes that the stream got, where it tells them.
+    // The bytes that the stream got, where it says them.
     ghost told: { Self → Option (List ℕ) };
 
     // How many of its calls failed: those that answered a fault, no byte of a piece that is not

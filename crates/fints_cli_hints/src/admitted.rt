@@ -1,4 +1,4 @@
-//! Which value of a case a script doesn't admit. The value itself may be a secret: it is never told.
+//! Which value of a case a script doesn't admit. The value itself may be a secret: it is never shown.
 use crate::labels::{alphabet_name, label_of, name_text};
 use fints_cli_hints_words::places::{Told, told, told_at};
 use fints_script::Script;
@@ -139,7 +139,7 @@ fn excess_text(alloc: Global, last: &NamedField, line: usize) -> Told {
     )
 }
 
-// The field that is missing, or told and none of the script's.
+// The field that is missing, or is named and none of the script's.
 fn count_text(alloc: Global, fields: &[NamedField], pairs: &[NamedValue]) -> Told {
     match (fields.get(pairs.len()), fields.last()) {
         (Some(field), _) => missing_text(alloc, field, line_of(pairs.len())),

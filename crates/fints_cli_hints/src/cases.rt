@@ -1,5 +1,5 @@
 //! Which line of a case is bad, and what it should look like. The value of a field may be a secret: it
-//! is never told, nor is a line that has no other form.
+//! is never shown, nor is a line that has no other form.
 use crate::labels::label_of;
 use crate::lines::{Line, Opening, has_line, line_of, line_with_name, told_line};
 use fints_cli_hints_words::places::{Told, told};
@@ -37,7 +37,7 @@ fn hex_slip(value: &[u8]) -> Option<&'static str> {
     None
 }
 
-// Why the line of a field with a good value may not stand there.
+// Why the line of a field with a good value may not be there.
 fn order_text(alloc: Global, fields: &[NamedField], line: &Line<'_>, name: Name) -> Told {
     let shown = label_of(alloc, fields, &name)?;
     let number = line.number;
@@ -88,7 +88,7 @@ fn field_text(alloc: Global, fields: &[NamedField], line: &Line<'_>, rest: &[u8]
     }
 }
 
-// Where the codes of an answer cease to be codes, each behind a space: the first is 1.
+// Where the codes of an answer cease to be codes, each after a space: the first is 1.
 fn bad_code(codes: &[u8]) -> usize {
     let mut rest = codes;
     let mut count: usize = 1;

@@ -1,5 +1,5 @@
-//! Fields of a case by their names. What stands where a name must may be a value, which may be a secret:
-//! only a name that the script has, or one near to it, is told.
+//! Fields of a case by their names. What is in the place of a name may be a value, which may be a secret:
+//! only a name that the script has, or one near to it, is shown.
 use fints_cli_hints_words::guessing::near;
 use fints_script_fields::{Alphabet, Name};
 use fints_script_rows::NamedField;
@@ -30,7 +30,7 @@ fn names_of(alloc: Global, fields: &[NamedField]) -> Result<Vec<&str>, Memory> {
     Ok(names)
 }
 
-/// A field of a case, by its name where that may be told.
+/// A field of a case, by its name where that may be shown.
 #[derive(Clone, Copy)]
 pub struct Label<'a> {
     name: Option<&'a str>,

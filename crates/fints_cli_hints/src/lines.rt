@@ -1,9 +1,9 @@
-//! Lines of a text of lines: where one stands, how it ends, and which earlier ones there are.
+//! Lines of a text of lines: where one is, how it ends, and which earlier ones there are.
 use fints_cli_hints_words::places::{Told, told};
 use fints_syntax_texts::{after, split_once};
 use std::alloc::Global;
 
-/// What is told where one of the first two lines of a text is missing.
+/// What is said where one of the first two lines of a text is missing.
 #[derive(Clone, Copy)]
 pub struct Opening {
     pub first: &'static str,
@@ -31,7 +31,7 @@ fn start_of(text: &[u8], number: u32) -> usize {
     at
 }
 
-// Why no line ends there by a line feed alone.
+// Why no line ends there by only a line feed.
 fn bad_end(opening: &Opening, number: u32, rest: &[u8]) -> &'static str {
     match number {
         0..=1 => opening.first,
@@ -41,7 +41,7 @@ fn bad_end(opening: &Opening, number: u32, rest: &[u8]) -> &'static str {
     }
 }
 
-/// The line of a number, from 1, or why there is none that ends by a line feed alone.
+/// The line of a number, from 1, or why there is none that ends by only a line feed.
 pub fn line_of<'a>(
     opening: &Opening,
     text: &'a [u8],
@@ -73,7 +73,7 @@ fn names(line: &[u8], word: &[u8], name: &[u8]) -> bool {
     }
 }
 
-/// The number, from 1, of the first of these lines that has this name behind the word.
+/// The number, from 1, of the first of these lines that has this name after the word.
 pub fn line_with_name(lines: &[u8], word: &[u8], name: &[u8]) -> Option<usize> {
     let place = lines
         .split(|b| *b == b'\n')

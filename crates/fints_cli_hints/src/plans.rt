@@ -67,7 +67,7 @@ impl Display for Open<'_> {
     }
 }
 
-// The segment by its kind and version, and where it stands.
+// The segment by its kind and version, and where it is.
 fn place_text(
     alloc: Global,
     step: &Step,

@@ -31,7 +31,7 @@ impl Display for End {
 }
 
 /// The last message of a run: its number, its step by the place from 0, and how many messages of the
-/// step stand in a row up to it.
+/// step are in a row up to it.
 #[derive(Clone, Copy)]
 struct Last {
     number: usize,

@@ -30,7 +30,7 @@ fn unread_hint(alloc: Global, unread: Option<&str>) -> Told {
 }
 
 /// What to look at, for a refusal of these inputs: a line without LF. None where there is no more to
-/// say, as for want of memory.
+/// say, as when memory ran out.
 pub fn hint(alloc: Global, fault: &Fault, inputs: &Inputs<'_>) -> Result<Option<String>, Memory> {
     match fault {
         Fault::Memory => Ok(None),

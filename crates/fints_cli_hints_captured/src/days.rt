@@ -1,4 +1,4 @@
-//! Dates as days, to tell how far two of them are apart.
+//! Dates as days, to say how far two of them are apart.
 
 // The days before each month of a year that begins with March.
 const BEFORE: [u32; 12] = [0, 31, 61, 92, 122, 153, 184, 214, 245, 275, 306, 337];

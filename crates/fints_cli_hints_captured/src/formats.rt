@@ -1,4 +1,4 @@
-//! The formats of SEPA orders: `pain.001.001.03`, as it stands in a longer name.
+//! The formats of SEPA orders: `pain.001.001.03`, as it is in a longer name.
 use fints_syntax::OwnedSegment;
 
 /// How many bytes a format has.

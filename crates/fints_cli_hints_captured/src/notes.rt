@@ -2,7 +2,7 @@
 use fints_syntax::Memory;
 use std::alloc::Global;
 
-/// Which note it is. Each is told once, in a dialogue or of a message.
+/// Which note it is. Each is written once, in a dialogue or of a message.
 #[derive(Clone, Copy)]
 pub enum Which {
     Unlisted,
@@ -36,7 +36,7 @@ impl Which {
     }
 }
 
-/// Which notes were told.
+/// Which notes were written.
 #[derive(Clone, Copy)]
 pub struct Noted([bool; 11]);
 
@@ -45,7 +45,7 @@ impl Noted {
         Noted([false; 11])
     }
 
-    // Whether a note is told for the first time.
+    // Whether a note is written for the first time.
     fn is_first(&mut self, which: Which) -> bool {
         match self.0.get_mut(which.place()) {
             Some(told) if !*told => {
@@ -67,7 +67,7 @@ pub struct Notes<'n> {
 }
 
 impl<'n> Notes<'n> {
-    /// None yet, after those that were told before.
+    /// None yet, after those that were written before.
     pub fn new(alloc: Global, called: &'n str, noted: Noted) -> Notes<'n> {
         Notes {
             alloc,
@@ -77,7 +77,7 @@ impl<'n> Notes<'n> {
         }
     }
 
-    /// Adds the line of a note, where it wasn't told before.
+    /// Adds the line of a note, where it wasn't written before.
     pub fn add(&mut self, which: Which, what: &str) -> Result<(), Memory> {
         if !self.noted.is_first(which) {
             return Ok(());
@@ -89,7 +89,7 @@ impl<'n> Notes<'n> {
         Ok(())
     }
 
-    /// The lines, and which notes are told now.
+    /// The lines, and which notes are written now.
     pub fn into_parts(self) -> (String, Noted) {
         let Notes { text, noted, .. } = self;
         (text, noted)

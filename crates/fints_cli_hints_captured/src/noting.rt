@@ -417,7 +417,7 @@ fn add_all(notes: &mut Notes<'_>, basis: &Basis<'_>, message: &Message<'_>) -> R
     Ok(())
 }
 
-/// Adds the notes on a message that is signed by PIN and TAN, where they weren't told before. `called` is
+/// Adds the notes on a message that is signed by PIN and TAN, where they weren't written before. `called` is
 /// what the message is called, with a colon and a blank after it, or nothing.
 pub fn add_captured_notes(
     text: &mut String,

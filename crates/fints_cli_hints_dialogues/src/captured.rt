@@ -14,7 +14,7 @@ pub struct CapturedNotes {
     // What each capture says, by its place in the recording.
     captured: BTreeMap<usize, Captured>,
     noted: Noted,
-    // Whether the note on an order reference was told.
+    // Whether the note on an order reference was written.
     referred: bool,
     // The functions that the last feedback 3920 allows the user.
     allowed: Vec<u32>,

@@ -81,7 +81,7 @@ fn add_note(text: &mut String, alloc: Global, place: usize, note: Note<'_>) -> R
 
 // ---- what is there, and what is due
 
-// What is due of the message at a place, from 1, by what stands before it.
+// What is due of the message at a place, from 1, by what is before it.
 #[derive(Clone, Copy)]
 struct Due<'a> {
     place: usize,

@@ -31,7 +31,7 @@ pub struct AuditReasons<'c> {
     reasons: String,
     notes: Notes,
     captured: CapturedNotes,
-    // Whether it was noted of the dialogue that no answer tells the user's accounts.
+    // Whether it was noted of the dialogue that no answer has the user's accounts.
     unknown: bool,
     // Whether memory ran out.
     failed: bool,
@@ -100,7 +100,7 @@ impl<'c> AuditReasons<'c> {
         )
     }
 
-    // Adds the note that no answer tells the user's accounts, at the first order of a dialogue that names one.
+    // Adds the note that no answer has the user's accounts, at the first order of a dialogue that names one.
     fn add_unknown(
         &mut self,
         permissions: &Permissions<'_>,

@@ -1,4 +1,4 @@
-//! Where the parameters are told by which messages are judged, and what was found in them.
+//! Where the parameters are by which messages are judged, and what was found in them.
 use fints_cli_hints_reasons::bank::{AccountIndex, Bank, BankIndex};
 use fints_cli_hints_reasons::{Judged, add_reasons};
 use fints_rules::{Broken, Message, Permissions};
@@ -7,7 +7,7 @@ use fints_syntax::Memory;
 use std::alloc::Global;
 use std::collections::BTreeMap;
 
-/// A capture, and its place in the recording in which it was told.
+/// A capture, and its place in the recording.
 #[derive(Clone, Copy)]
 pub struct Capture<'c> {
     pub place: usize,
@@ -27,7 +27,7 @@ pub enum Source<'c> {
 }
 
 impl Source<'_> {
-    /// Whether the recording itself tells them.
+    /// Whether they are in the recording itself.
     pub fn is_own(&self) -> bool {
         match self {
             Source::Capture(_) => false,

@@ -113,7 +113,7 @@ pub fn part_hint(alloc: Global, file: &[u8]) -> Told {
 }
 
 /// What the refusal of a draft is about. The client's messages count from 1, and a segment has the number in
-/// its head; 0 stands for the dialogue, or for the message as a whole.
+/// its head; 0 is the dialogue, or the message as a whole.
 pub fn draft_hint(alloc: Global, message: usize, segment: usize, file: &[u8]) -> Told {
     match (message, segment) {
         (0, _) => told(alloc, WHOLE_DIALOGUE),

@@ -1,4 +1,4 @@
-//! Why a recording tells no parameters for one of its messages.
+//! Why a recording has no parameters for one of its messages.
 use fints_cli_hints_words::places::{Told, told};
 use fints_cli_hints_words::quoting::Sample;
 use fints_rules_dialogues::{Heard, OwnParams, Party, read_dialogue, read_log};
@@ -10,7 +10,7 @@ use std::fmt::{Display, Formatter, Write};
 const ADVICE: &str =
     "has both HIBPA version 3 and HIPINS version 1, the bank's parameters: record the dialogue from its initialisation on, or hand over a capture by --params";
 
-// The bank of the message of a number tells no parameters, and another bank does.
+// The bank of the message of a number sends no parameters, and another bank does.
 #[derive(Clone, Copy)]
 struct OtherBank<'a> {
     number: usize,
@@ -35,7 +35,7 @@ fn bank_of<'h>(heard: &'h Heard<'_>) -> (&'h [u8], &'h [u8]) {
     (party.country.as_slice(), party.code.as_slice())
 }
 
-// The banks that tell their parameters, in order.
+// The banks that send their parameters, in order.
 fn banks_told<'h>(
     alloc: Global,
     heard: &'h [Heard<'_>],
@@ -50,7 +50,7 @@ fn banks_told<'h>(
     Ok(banks)
 }
 
-// The first message whose bank tells no parameters, where another one does.
+// The first message whose bank sends no parameters, where another one does.
 fn first_untold<'h>(
     alloc: Global,
     heard: &'h [Heard<'_>],

@@ -116,7 +116,7 @@ fn is_iban_with_blanks(accounts: &Accounts<'_>, written: &[u8]) -> bool {
     len > 0 && len < written.len() && accounts.has_iban(joined.get(..len).unwrap_or(&[]))
 }
 
-// What to write in place of the first item of element 2, by what can be told of it.
+// What to write in place of the first item of element 2, by what can be said of it.
 fn advice(
     accounts: &Accounts<'_>,
     form: Option<AccountForm>,
@@ -144,7 +144,7 @@ pub enum Locked<'a> {
         kind: Kind,
     },
     NoAccounts,
-    /// An account of the capture stands in another element, and in element 2 none of so many, or nothing;
+    /// An account of the capture is in another element, and in element 2 none of them, or nothing;
     /// what is said of element 2.
     Elsewhere {
         named: Option<Account<'a>>,
@@ -162,7 +162,7 @@ pub enum Locked<'a> {
     Empty {
         kind: Kind,
     },
-    /// The account is none of so many.
+    /// The account is none of the capture's.
     Unknown {
         account: Account<'a>,
         count: usize,
@@ -170,7 +170,7 @@ pub enum Locked<'a> {
     },
 }
 
-// The first element behind element 2 in which an account of the capture stands.
+// The first element after element 2 that has an account of the capture.
 fn other_place(bank: &Bank<'_>, seen: &Seen<'_>) -> Option<usize> {
     let form = form_of(bank, seen);
     for element in 3..seen.elements.last().saturating_add(1) {
@@ -182,7 +182,7 @@ fn other_place(bank: &Bank<'_>, seen: &Seen<'_>) -> Option<usize> {
     None
 }
 
-// An account that stands in this element.
+// An account that is in this element.
 fn elsewhere_in<'a>(bank: &Bank<'_>, seen: &Seen<'a>, element: usize) -> Locked<'a> {
     let elements = seen.elements;
     let named = if are_empty(&elements.items(2)) {
@@ -243,7 +243,7 @@ pub fn locked_by<'a>(bank: &Bank<'_>, seen: &Seen<'a>) -> Locked<'a> {
     unknown(bank, seen)
 }
 
-// That an account is none of so many.
+// That an account is none of the capture's.
 fn write_none_of<W: Write>(f: &mut Formatter<W>, count: usize) -> fmt::Result {
     if count == 1 {
         f.write_str("isn't the one account of the capture")
@@ -252,7 +252,7 @@ fn write_none_of<W: Write>(f: &mut Formatter<W>, count: usize) -> fmt::Result {
     }
 }
 
-// What is said of an account that isn't one of the capture, or stands elsewhere.
+// What is said of an account that isn't one of the capture, or is elsewhere.
 fn write_unknown<W: Write>(f: &mut Formatter<W>, locked: &Locked<'_>) -> fmt::Result {
     match locked {
         Locked::Elsewhere {

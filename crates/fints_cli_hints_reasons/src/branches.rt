@@ -3,7 +3,7 @@ use fints_script::Step;
 use std::fmt;
 use std::fmt::{Display, Formatter, Write};
 
-/// A branch of a step by its number, from 1, among so many: the default comes last.
+/// A branch of a step by its number, from 1, among this many: the default comes last.
 #[derive(Clone, Copy)]
 pub struct BranchOf {
     pub number: usize,

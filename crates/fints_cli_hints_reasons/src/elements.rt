@@ -1,4 +1,4 @@
-//! What stands in a segment: in a template under values of the fields, or in a message.
+//! What is in a segment: in a template under values of the fields, or in a message.
 use fints_script::{AccountValue, Name, NamedField, TemplateItem, Values};
 use fints_syntax::{Bytes, OwnedSegment};
 
@@ -78,7 +78,7 @@ fn filled_items<'a>(filled: &Filled<'a>, element: usize) -> Items<'a> {
     }
 }
 
-// The field whose name stands as a text in element 2.
+// The field whose name is in element 2 as a text.
 fn field_meant<'a>(filled: &Filled<'a>) -> Option<&'a Name> {
     let [first, ..] = filled.elements else {
         return None;
@@ -87,7 +87,7 @@ fn field_meant<'a>(filled: &Filled<'a>) -> Option<&'a Name> {
         return None;
     };
     let text = item.value();
-    // the built-in field stands first
+    // the built-in field is first
     let mut fields = filled.fields.iter().skip(1);
     let field = fields.find(|it| it.name.as_bytes() == text)?;
     Some(&field.name)
@@ -131,7 +131,7 @@ impl<'a> Elements<'a> {
         }
     }
 
-    /// The field of the script whose name stands as a text in element 2, where its `$` was forgotten.
+    /// The field of the script whose name is in element 2 as a text, where its `$` was forgotten.
     pub fn field_meant(&self) -> Option<&'a Name> {
         match self {
             Elements::Filled(filled) => field_meant(filled),

@@ -29,7 +29,7 @@ fn kinds_in(
     Ok(Kinds::of(kinds, permissions))
 }
 
-/// A message that is judged by what a bank permits, and what it is called: nothing where it is judged alone.
+/// A message that is judged by what a bank permits, and what it is called: nothing where it is judged by itself.
 #[derive(Clone, Copy)]
 pub struct Judged<'a> {
     pub bank: &'a Bank<'a>,
@@ -136,7 +136,7 @@ fn is_of_bank(segment: &SegmentView<'_>) -> bool {
     name.starts_with(b"HI") || name.starts_with(b"DI")
 }
 
-// Whether the message has segments, all of which a bank sends.
+// Whether the message has segments, and a bank sends all of them.
 fn is_answer(message: &Message<'_>) -> bool {
     let body = message.body();
     !body.is_empty() && body.iter().all(is_of_bank)

@@ -1,5 +1,5 @@
 //! Reasons: why a message breaks a rule, and what to change. Which cause a reason speaks of is decided by
-//! `segment_cause`, whose contract says that it is the one that breaks; its words are words, of which
+//! `segment_cause`, whose contract says that it is the one that breaks; its words are words, and
 //! the contracts here say no more than that each call returns safely.
 #![tactic(auto)]
 

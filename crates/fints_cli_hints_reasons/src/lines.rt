@@ -23,7 +23,7 @@ impl Display for Called<'_> {
 }
 
 /// Where a reason holds, as a report says it: a step by its name, a message of a dialogue by its number, or
-/// nothing for a message alone; and a segment by its number, or 0 for the whole message.
+/// nothing for a single message; and a segment by its number, or 0 for the whole message.
 #[derive(Clone, Copy)]
 pub struct Where<'a> {
     pub sent: &'a str,

@@ -26,7 +26,7 @@ pub struct Seen<'a> {
 }
 
 impl Seen<'_> {
-    /// Why it breaks the rule; none where no message with so many signatures has it do so.
+    /// Why it breaks the rule; none where no message with this many signatures has it do so.
     pub fn cause(&self, permissions: &Permissions<'_>, rule: Rule) -> Option<Cause> {
         let items = self.elements.items(2);
         let facts = SegmentFacts::new(self.kind, self.version, items, self.count);

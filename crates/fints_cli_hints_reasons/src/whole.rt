@@ -8,7 +8,7 @@ use fints_script::Name;
 use std::fmt;
 use std::fmt::{Display, Formatter, Write};
 
-/// What stands before a message that leaves an order unreleased.
+/// What is before a message that leaves an order unreleased.
 #[derive(Clone, Copy)]
 pub enum Before<'a> {
     /// A message that was handed over, and the answer to it.

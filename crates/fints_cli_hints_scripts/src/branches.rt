@@ -81,7 +81,7 @@ fn name_slip(
     }
 }
 
-/// The fault of this kind in a target of the step in this row, counted from 0, which stands at a key.
+/// The fault of this kind in a target of the step in this row, counted from 0, which is at a key.
 pub fn target_slip(
     alloc: Global,
     kind: FaultKind,
@@ -138,7 +138,7 @@ fn branch_slip(
     }
 }
 
-/// The first branch, of the step in this row, counted from 0, in which a fault of this kind stands.
+/// The first branch, of the step in this row, counted from 0, that has a fault of this kind.
 pub fn branches_slip(
     alloc: Global,
     kind: FaultKind,

@@ -86,7 +86,7 @@ fn row_slip(alloc: Global, kind: FaultKind, fields: &NamedRows<'_>, row: &Value)
     }
 }
 
-/// The first segment of a step in which a fault of this kind stands.
+/// The first segment of a step that has a fault of this kind.
 pub fn segments_slip(
     alloc: Global,
     kind: FaultKind,

@@ -42,7 +42,7 @@ fn many(alloc: Global, value: Option<&Value>) -> Told {
     )
 }
 
-// What is wrong with the elements at a place where no account field may stand.
+// What is wrong with the elements at a place where no account field may be.
 fn list_slip(
     alloc: Global,
     kind: FaultKind,

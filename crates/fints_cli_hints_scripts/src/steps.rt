@@ -27,7 +27,7 @@ pub struct Around<'a, 'r> {
     pub steps: &'a NamedRows<'r>,
 }
 
-// The number of the step in whose table a `seal` stands, which belongs before all tables.
+// The number of the step with a `seal` in its table, which belongs before all tables.
 fn step_with_seal(steps: &[Value]) -> Option<usize> {
     for (i, step) in steps.iter().enumerate() {
         if let Value::Table(table) = step

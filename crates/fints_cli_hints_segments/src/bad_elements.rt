@@ -9,7 +9,7 @@ use std::alloc::Global;
 use std::fmt;
 use std::fmt::{Display, Formatter, Write};
 
-/// A segment of a capture, with its offset; whether it stands in the data of an HNVSD.
+/// A segment of a capture, with its offset; whether it is in the data of an HNVSD.
 #[derive(Drop)]
 pub struct Found {
     pub offset: usize,
@@ -83,7 +83,7 @@ pub fn flat(alloc: Global, capture: &[u8]) -> Result<Vec<Found>, Memory> {
     Ok(all)
 }
 
-/// What must stand in an element or an item.
+/// What must be in an element or an item.
 #[derive(Clone, Copy)]
 enum Wanted<'a> {
     /// What the words say.
@@ -104,7 +104,7 @@ impl Display for Wanted<'_> {
     }
 }
 
-/// An element that can't be read, or an item of it: its value, and what must stand there.
+/// An element that can't be read, or an item of it: its value, and what must be there.
 #[derive(Clone, Copy)]
 pub struct BadElement<'a> {
     element: usize,
@@ -232,7 +232,7 @@ fn bad_pin<'a>(items: &ElementRef<'a>) -> Option<BadElement<'a>> {
     None
 }
 
-// The first element that can't be read of a segment that tells parameters.
+// The first element that can't be read of a segment with parameters.
 fn bad_params(found: &Found) -> Option<BadElement<'_>> {
     let segment = &found.segment;
     if segment.is_named(b"HIBPA", 3) {

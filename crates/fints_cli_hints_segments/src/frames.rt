@@ -1,4 +1,4 @@
-//! Segments that can't stand at their place in a message.
+//! Segments that can't be at their place in a message.
 use crate::syntax::{Rest, begin_of, named, trouble};
 use fints_cli_hints_words::places::{Told, told, written};
 use fints_cli_hints_words::quoting::Sample;
@@ -45,7 +45,7 @@ fn version_text(alloc: Global, view: &SegmentView<'_>, wanted: u16) -> Result<St
     )
 }
 
-// Why a segment of the frame can't stand there.
+// Why a segment of the frame can't be there.
 fn frame_text(alloc: Global, view: &SegmentView<'_>) -> Result<String, Memory> {
     match frame_version(view.id()) {
         Some(wanted) if wanted != view.version() => version_text(alloc, view, wanted),
@@ -123,7 +123,7 @@ fn last_slip(
     }
 }
 
-/// Why no segment can be read where this one must stand.
+/// Why no segment can be read where this one must be.
 pub fn unread_text(alloc: Global, rest: Rest<'_>, what: &str) -> Result<String, Memory> {
     if rest.bytes.is_empty() {
         return written(

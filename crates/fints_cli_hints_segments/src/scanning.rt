@@ -2,15 +2,15 @@
 use fints_syntax::parse_number;
 use fints_syntax_segments::MAX_ITEMS;
 
-/// The element and the item, from 1 on, in which bytes cease to be a segment, or behind which it ends.
+/// The element and the item, from 1 on, in which bytes cease to be a segment, or after which it ends.
 #[derive(Clone, Copy)]
 pub struct Stop<'a> {
     pub element: usize,
     pub item: usize,
-    /// What stands from the item on, and behind how many bytes.
+    /// What is from the item on, and after how many bytes.
     pub rest: &'a [u8],
     pub at: usize,
-    /// Whether as many items stand before it as a segment may have.
+    /// Whether as many items are before it as a segment may have.
     pub is_full: bool,
 }
 
@@ -18,7 +18,7 @@ fn is_separator(byte: u8) -> bool {
     matches!(byte, b'+' | b':' | b'\'')
 }
 
-/// How many bytes the binary item has that bytes begin with, and what stands behind its second `@`.
+/// How many bytes the binary item has that bytes begin with, and what is after its second `@`.
 pub fn binary_of(bytes: &[u8]) -> Option<(usize, &[u8])> {
     let tail = bytes.strip_prefix(b"@")?;
     let end = tail.iter().position(|b| *b == b'@')?;
@@ -26,7 +26,7 @@ pub fn binary_of(bytes: &[u8]) -> Option<(usize, &[u8])> {
     Some((len as usize, tail.get(end.saturating_add(1)..)?))
 }
 
-// How many bytes stand before the separator behind a text.
+// How many bytes are before the separator after a text.
 fn text_len(bytes: &[u8]) -> usize {
     let mut escaped = false;
     for (i, byte) in bytes.iter().enumerate() {
@@ -38,7 +38,7 @@ fn text_len(bytes: &[u8]) -> usize {
     bytes.len()
 }
 
-// The length of the item that bytes begin with, and the separator behind it.
+// The length of the item that bytes begin with, and the separator after it.
 fn item_of(bytes: &[u8]) -> Option<(usize, u8)> {
     let len = match bytes {
         [b'@', ..] => {

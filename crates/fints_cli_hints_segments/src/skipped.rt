@@ -27,7 +27,7 @@ fn tells_more(segment: &OwnedSegment) -> bool {
         || segment.is_named(b"HIUPD", 6)
 }
 
-// Whether the segment tells what a bank allows of a kind of orders: HISALS, DIKAZS and so on.
+// Whether the segment says what a bank allows of a kind of orders: HISALS, DIKAZS and so on.
 fn tells_order(segment: &OwnedSegment) -> bool {
     match segment.head.id.as_bytes() {
         [b'H', b'I', .., b'S'] | [b'D', b'I', .., b'S'] => {
@@ -94,8 +94,8 @@ fn add_note(
     Ok(())
 }
 
-// Adds a note for each entry of an account that is skipped: they begin with element 11, and behind them an
-// extension may stand.
+// Adds a note for each entry of an account that is skipped: they begin with element 11, and after them an
+// extension may come.
 fn add_entries(
     text: &mut String,
     alloc: Global,
@@ -190,7 +190,7 @@ pub fn skipped_segments(alloc: Global, capture: &[u8]) -> Result<Vec<Skipped>, M
 }
 
 /// A line for each parameter segment, and each entry of an account, that is skipped: which element can't
-/// be read; and one for each segment that is read and in the midst of which a line ends. None where there
+/// be read; and one for each segment that is read and has a line end in it. None where there
 /// is no such.
 pub fn skipped_notes(alloc: Global, capture: &[u8]) -> Told {
     let all = flat(alloc, capture)?;

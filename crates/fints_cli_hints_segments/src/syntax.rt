@@ -10,7 +10,7 @@ use std::alloc::Global;
 use std::fmt;
 use std::fmt::{Display, Formatter, Write};
 
-/// Bytes of an input: where they begin in it, and in what they stand.
+/// Bytes of an input: where they begin in it, and what they are in.
 #[derive(Clone, Copy)]
 pub struct Region<'a> {
     pub input: &'a [u8],
@@ -30,7 +30,7 @@ pub fn whole(input: &[u8]) -> Region<'_> {
     }
 }
 
-// What is said of a segment in the midst of which a line ends.
+// What is said of a segment that has a line end in it.
 const WRAPPED: &str =
     "; a line break stands inside this segment: the log was wrapped; join its lines";
 
@@ -60,7 +60,7 @@ fn wrapped_data(bytes: &[u8]) -> &'static str {
 /// The remark on segments in the data of an HNVSD.
 pub const IN_DATA: &str = " (in the data of HNVSD)";
 
-// How many line breaks stand at the front.
+// How many line breaks are at the front.
 fn breaks_len(bytes: &[u8]) -> usize {
     match bytes.iter().position(|b| !is_break(*b)) {
         Some(len) => len,
@@ -68,7 +68,7 @@ fn breaks_len(bytes: &[u8]) -> usize {
     }
 }
 
-// Where the next segment starts, at the place or behind line breaks.
+// Where the next segment starts, at the place or after line breaks.
 fn skip_breaks(bytes: &[u8], at: usize) -> usize {
     at.saturating_add(breaks_len(bytes.get(at..).unwrap_or(&[])))
 }
@@ -92,7 +92,7 @@ fn is_mark(byte: u8) -> bool {
     matches!(byte, b':' | b'+' | b'\'')
 }
 
-// The bytes to the first mark, and those behind it.
+// The bytes to the first mark, and those after it.
 fn first_word(bytes: &[u8]) -> (&[u8], &[u8]) {
     match bytes.iter().position(|b| is_mark(*b)) {
         Some(end) => (
@@ -134,7 +134,7 @@ fn head_bytes(bytes: &[u8]) -> &[u8] {
     }
 }
 
-// The bytes of the longest head, and of an apostrophe behind it.
+// The bytes of the longest head, and of an apostrophe after it.
 const LONGEST_HEAD: usize = 19;
 
 // The segment of a head, where it is one as soon as the lines that end in it are joined.
@@ -155,7 +155,7 @@ fn joined_name(head: &[u8]) -> Option<Numbered> {
     }
 }
 
-// The segment that bytes begin with, where its head stands there whole and can be read.
+// The segment that bytes begin with, where its head is there whole and can be read.
 fn name_of(bytes: &[u8]) -> Option<Numbered> {
     let head = head_bytes(bytes);
     if head.len() == bytes.len() || head.iter().any(|b| is_break(*b)) {
@@ -237,8 +237,8 @@ impl Display for Begin<'_> {
     }
 }
 
-// The length of a binary item that bytes begin with, and what stands behind its second @, where that may be
-// told of the segment: a PIN or a TAN may begin so.
+// The length of a binary item that bytes begin with, and what is after its second @, where that may be
+// said of the segment: a PIN or a TAN may begin so.
 fn data_told<'a>(segment: &[u8], bytes: &'a [u8]) -> Option<(usize, &'a [u8])> {
     match name_of(segment) {
         Some(name) if !name.id.is(b"HNSHA") && !name.id.is(b"HKPAE") => binary_of(bytes),
@@ -246,7 +246,7 @@ fn data_told<'a>(segment: &[u8], bytes: &'a [u8]) -> Option<(usize, &'a [u8])> {
     }
 }
 
-// What stands in an item where the bytes of a segment end.
+// What is in an item where the bytes of a segment end.
 fn cut_text(alloc: Global, bytes: &[u8], stop: &Stop<'_>) -> Result<String, Memory> {
     let (element, item) = (stop.element, stop.item);
     match data_told(bytes, stop.rest) {
@@ -267,7 +267,7 @@ fn cut_text(alloc: Global, bytes: &[u8], stop: &Stop<'_>) -> Result<String, Memo
 }
 
 // A line break up to where an item was looked at: the bytes that a binary item says that it has, and its
-// length, or the first ones behind an @.
+// length, or the first ones after an @.
 fn wrapped_before_stop(bytes: &[u8], stop: &Stop<'_>) -> &'static str {
     let len = binary_of(stop.rest).map_or(0, |(len, _)| len);
     let seen = stop.at.saturating_add(len).saturating_add(12);
@@ -347,7 +347,7 @@ fn head_text(alloc: Global, bytes: &[u8]) -> Result<String, Memory> {
     written(alloc, format_args!(" has a bad head: {cause}{wrapped}"))
 }
 
-/// Why no segment can be read at the front of the bytes, behind what names it.
+/// Why no segment can be read at the front of the bytes, after what names it.
 pub fn trouble(alloc: Global, bytes: &[u8]) -> Result<String, Memory> {
     let window = bytes.get(..MAX_BYTES).unwrap_or(bytes);
     let stop = stop_of(window);

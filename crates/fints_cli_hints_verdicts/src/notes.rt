@@ -225,7 +225,7 @@ fn leads_to_end(step: &Step, ends: &[bool]) -> bool {
         || is_ending(ends, step.otherwise())
 }
 
-// For each step whether it, or some step behind it, ends the dialogue.
+// For each step whether it, or some step after it, ends the dialogue.
 fn endings(alloc: Global, steps: &[Step]) -> Result<Vec<bool>, Memory> {
     let mut ends: Vec<bool> = Vec::new(alloc);
     for step in steps {
@@ -242,7 +242,7 @@ fn endings(alloc: Global, steps: &[Step]) -> Result<Vec<bool>, Memory> {
     Ok(ends)
 }
 
-// The place of the first step that some run sends and behind which nothing ends the dialogue.
+// The place of the first step that some run sends and after which nothing ends the dialogue.
 fn first_endless(report: &Report<'_>, ends: &[bool]) -> Option<usize> {
     for (i, end) in ends.iter().enumerate() {
         if !*end && figures_of(report, i.saturating_add(1)).is_some() {
@@ -276,7 +276,7 @@ fn add_fields(
     fields: &[NamedField],
 ) -> Result<(), Memory> {
     for (place, field) in fields.iter().enumerate() {
-        // the built-in field stands first
+        // the built-in field is first
         if place != 0 && !is_used(plan, steps, place) {
             add_note(text, alloc, Note::Unused(field.name))?;
         }

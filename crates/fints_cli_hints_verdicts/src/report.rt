@@ -29,7 +29,7 @@ fn branch_behind(step: &Step, t: usize, n: usize) -> Option<BranchOf> {
 
 // ---- a finding
 
-// A step of which something is found.
+// A step with a finding.
 #[derive(Clone, Copy)]
 struct Found<'a> {
     bank: &'a Bank<'a>,
@@ -139,7 +139,7 @@ fn add_release(
     add_whole(text, alloc, found, figures, before)
 }
 
-// The values of a finding's case, where its reason tells one of them: the account that an order names.
+// The values of a finding's case, where its reason names one of them: the account that an order names.
 fn values_of(alloc: Global, report: &Report<'_>, i: usize) -> Result<Values, Memory> {
     if i < report.findings().len()
         && matches!(report.findings()[i].rule, Rule::Signatures | Rule::Account)

@@ -34,7 +34,7 @@ fn unknown_text(alloc: Global, fields: &NamedRows<'_>, name: &str) -> Told {
     not_named(alloc, "", &named, name)
 }
 
-// Why what stands behind `%` is no hex.
+// Why what is after `%` is no hex.
 fn digits_text(alloc: Global, digits: &str) -> Told {
     let count = digits.len();
     match bad_digit(digits) {
@@ -83,7 +83,7 @@ fn account_text(alloc: Global, name: &str) -> Told {
     )
 }
 
-// What is wrong with the name of a field, behind `$`.
+// What is wrong with the name of a field, after `$`.
 fn reference_slip(
     alloc: Global,
     kind: FaultKind,
@@ -172,8 +172,8 @@ fn element_slip(
     }
 }
 
-/// The first element, from 2 on, of a list that stands at a key, in which a fault of this kind stands;
-/// account fields may stand in it (`free`) or not.
+/// The first element, from 2 on, of a list at a key, that has a fault of this kind;
+/// account fields may be in it (`free`) or not.
 pub fn elements_slip(
     alloc: Global,
     kind: FaultKind,

@@ -112,7 +112,7 @@ impl Display for Known<'_> {
     }
 }
 
-/// What has names: the word for such a thing, the names that there are, and what else is told where
+/// What has names: the word for such a thing, the names that there are, and what else is said where
 /// none is near.
 #[derive(Clone, Copy)]
 pub struct Named<'a> {
@@ -121,7 +121,7 @@ pub struct Named<'a> {
     pub remark: &'a str,
 }
 
-/// That nothing has the name that stands at a place: with the name that was meant, or else with those
+/// That nothing has the name that is at a place: with the name that was meant, or else with those
 /// that there are.
 pub fn not_named<T: Display + Drop>(
     alloc: Global,

@@ -1,4 +1,4 @@
-//! Keys of tables: those that don't stand there, those that are missing, and what stands at one where
+//! Keys of tables: those that don't belong there, those that are missing, and what is at one where
 //! something else must.
 use crate::guessing::{Joined, guess_of};
 use crate::places::{Told, told};
@@ -63,7 +63,7 @@ pub fn missing_key(alloc: Global, table: &Table, keys: &[&str], whose: &str) -> 
     )
 }
 
-/// That a value stands at a place, and what must stand there.
+/// That a value is at a place, and what must be there.
 pub fn must_be<T: Display + Drop>(alloc: Global, place: T, value: &Value, what: &str) -> Told {
     let shown = Shown(value);
     told(
@@ -77,7 +77,7 @@ pub fn no_table(alloc: Global, row: &Value) -> Told {
     must_be(alloc, "", row, "a table")
 }
 
-/// The form of the values that may stand at a key.
+/// The form of the values that may be at a key.
 #[derive(Clone, Copy)]
 pub enum Form {
     Name,
@@ -91,7 +91,7 @@ pub enum Form {
     Within(u16, u16),
 }
 
-/// A key, the form of what may stand there, and the words for it.
+/// A key, the form of what may be there, and the words for it.
 #[derive(Clone, Copy)]
 pub struct Wanted {
     pub key: &'static str,
@@ -150,7 +150,7 @@ fn wrong(alloc: Global, wanted: &Wanted, value: &Value) -> Told {
     }
 }
 
-/// The first key of these at which another value stands than may.
+/// The first of these keys that has another value than it may.
 pub fn wrong_value(alloc: Global, table: &Table, all: &[Wanted]) -> Told {
     for wanted in all {
         let value = member(table, wanted.key);

@@ -1,5 +1,5 @@
 //! The words of hints: texts of users in quotes, names that were meant, places, and what is wrong with
-//! keys, elements and listed values, whatever row they stand in.
+//! keys, elements and listed values, whatever row they are in.
 #![tactic(auto)]
 
 pub mod elements;

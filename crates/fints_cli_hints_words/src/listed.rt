@@ -82,7 +82,7 @@ fn first_slip(alloc: Global, kind: FaultKind, accounts: bool, values: &[Value]) 
 }
 
 // What a listed value is, as one text: those of an account one after the other. No text has a line
-// feed, since a character that is none of ISO 8859-1 is told first.
+// feed, since a character that is none of ISO 8859-1 is named first.
 fn key_of(alloc: Global, value: &Value) -> Result<String, Memory> {
     let mut key = String::new(alloc);
     match value {
@@ -124,7 +124,7 @@ fn limit_text(alloc: Global, accounts: bool, values: &[Value]) -> Told {
     first_slip(alloc, FaultKind::Limit, accounts, values)
 }
 
-/// The first listed value in which a fault of this kind stands; of class account (`accounts`) or not.
+/// The first listed value that has a fault of this kind; of class account (`accounts`) or not.
 pub fn values_slip(alloc: Global, kind: FaultKind, accounts: bool, value: Option<&Value>) -> Told {
     let Some(Value::Array(values)) = value else {
         return Ok(None);

@@ -1,4 +1,4 @@
-//! Where something stands in a text, and rows by their number and name.
+//! Where something is in a text, and rows by their number and name.
 use crate::quoting::Bare;
 use fints_syntax::Memory;
 use fints_syntax_texts::entries::text_at;
@@ -7,7 +7,7 @@ use std::fmt;
 use std::fmt::{Display, Formatter, Write};
 use toml::Value;
 
-/// What is told of an input, if anything; where it is a part of a hint, it begins with the sign that
+/// What is said of an input, if anything; where it is a part of a hint, it begins with the sign that
 /// follows its place.
 pub type Told = Result<Option<String>, Memory>;
 
@@ -16,12 +16,12 @@ pub fn written<T: Display + Drop>(alloc: Global, text: T) -> Result<String, Memo
     Ok(text.to_string(alloc)?)
 }
 
-/// That there is something to tell: this text.
+/// That there is something to say: this text.
 pub fn told<T: Display + Drop>(alloc: Global, text: T) -> Told {
     Ok(Some(text.to_string(alloc)?))
 }
 
-/// What is told, behind its place.
+/// What is said, after its place.
 pub fn told_at<T: Display + Drop>(alloc: Global, place: T, found: Option<String>) -> Told {
     match found {
         Some(text) => told(alloc, format_args!("{place}{text}")),
@@ -29,7 +29,7 @@ pub fn told_at<T: Display + Drop>(alloc: Global, place: T, found: Option<String>
     }
 }
 
-/// The line, from 1, in which the byte at an offset stands.
+/// The line, from 1, in which the byte at an offset is.
 pub fn line_at(text: &[u8], offset: usize) -> usize {
     text.iter()
         .take(offset)
@@ -56,7 +56,7 @@ pub fn row_at(rows: &[Value], number: u16) -> Option<&Value> {
     rows.get(usize::from(number).checked_sub(1)?)
 }
 
-/// A row of a document by what it is, its number, and what it is called, if that can be told.
+/// A row of a document by what it is, its number, and what it is called, if that can be said.
 #[derive(Clone, Copy)]
 pub struct Row<'a> {
     pub what: &'a str,
@@ -103,7 +103,7 @@ impl Display for Row<'_> {
     }
 }
 
-/// The names in rows, in order, and these words behind them.
+/// The names in rows, in order, and these words after them.
 pub fn names_of<'a>(
     alloc: Global,
     rows: &'a [Value],

@@ -24,13 +24,13 @@ fn not_utf8(alloc: Global, text: &[u8], offset: usize) -> Told {
     )
 }
 
-// What stands at an offset, to the end of its line.
+// What is at an offset, to the end of its line.
 fn rest_of_line(text: &str, offset: usize) -> &str {
     let rest = text.get(offset..).unwrap_or("");
     rest.lines().next().unwrap_or("")
 }
 
-// What stands before an offset, from the start of its line.
+// What is before an offset, from the start of its line.
 fn before(text: &str, offset: usize) -> &str {
     let front = text.get(..offset).unwrap_or("");
     front.rsplit('\n').next().unwrap_or("")
@@ -42,12 +42,12 @@ fn line_of(text: &str, offset: usize) -> &str {
     rest_of_line(text, start)
 }
 
-// Whether a PIN or a TAN may stand in a text: a message of FinTS begins with HN, and these segments hold them.
+// Whether a PIN or a TAN may be in a text: a message of FinTS begins with HN, and these segments hold them.
 fn may_hold_secret(text: &str) -> bool {
     text.starts_with("HN") || text.contains("HNSHA") || text.contains("HKPAE")
 }
 
-/// What stands at an offset: words, and a text behind them, if any.
+/// What is at an offset: words, and a text after them, if any.
 #[derive(Clone, Copy)]
 struct There<'a> {
     words: &'static str,

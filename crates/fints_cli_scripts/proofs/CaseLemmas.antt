@@ -52,7 +52,7 @@ text_more granted script steps n (g ∷ fs) (d ∷ cs) f c are =
     ∙ (sym (append_assoc (shown_case steps n g d) (cases_text steps (n + 1) fs cs) (shown_case steps (n + 1 + length fs) f c))
     ∙ ap (λ k. cases_text steps n (g ∷ fs) (d ∷ cs) ++ shown_case steps k f c) same)
 
--- one finding's case more behind those before it
+-- one finding's case more after those before it
 pub written_more : (granted : Granted) (script : ScriptValue) (figures : List (Option Reached))
     (findings : List Finding) (i : ℕ) (f : Finding) (old mid new : List ℕ) → slice_get findings i ≡ Some f
     → AreCasesWritten granted script figures (take i findings) old mid

@@ -1,4 +1,4 @@
--- What `certify` and `verify` tell.
+-- What `certify` and `verify` print.
 use Rattle.std.proofs.Common.{Result, Ok, Err, IfOk, ◌≡◌, ◌↔◌, ℕ, Bool, IsTrue, List, [], subst, inl}
 use Rattle.fints_check.specs.Certificates.{line_figures, IsClosedCertificate, KeepsPromise}
 use Rattle.fints_check.specs.CertTexts.{cert_text, IsCertificateOf}
@@ -32,7 +32,7 @@ certified granted script lines findings status text none are figures closed prom
       },
     )
 
--- what `verify` tells, by permissions that have these rows and this order table
+-- what `verify` prints, by permissions that have these rows and this order table
 pub verified_by : (p : Granted) (rows : Rows) (orders : List OrderRow) (script : ScriptValue)
     (lines : List Line) (certificate : List ℕ) (valid : Bool) (status : ℕ) (text : List ℕ) → p.rows ≡ rows
     → p.orders ≡ orders

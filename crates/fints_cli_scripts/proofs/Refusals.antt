@@ -76,13 +76,13 @@ params_refused capture table script params.NoBankParameters (inr p) = p
 params_refused capture table script params.NoPinParameters (inl e) = absurd (cc)
 params_refused capture table script params.NoPinParameters (inr p) = p
 
--- no rows, nothing told
+-- no rows, nothing said
 pub params_told : (wanted : Wanted) (capture table script : List ℕ) (f : ParamFault)
     → IsMemoryOr (IsParamFault capture) f → IsTellRefusal wanted capture table script (fault_of f)
 params_told wanted capture table script params.Memory h = tt
 params_told wanted capture table script f h = params_refused capture table script f h
 
--- no plan, nothing told
+-- no plan, nothing said
 pub unplanned_told : (wanted : Wanted) (rows : Rows) (table script : List ℕ) (f : Fault)
     → IsPlanRefusal table script f → IsTellRefusalOn wanted rows table script f
 unplanned_told wanted rows table script (NoFinding number) p = absurd p

@@ -1,4 +1,4 @@
--- The lines of the steps, one more; and what a report tells.
+-- The lines of the steps, one more; and what a report says.
 use Rattle.std.proofs.Common.{◌≡◌, ◌∙◌, ℕ, zero, suc, List, [], ◌∷◌, ◌++◌, take, ap, sym, subst, Option, Some, append_assoc}
 use Rattle.std.specs.Prelude.{slice_get}
 use Rattle.std.proofs.lemmas.List.{append-nil}

@@ -1,4 +1,4 @@
--- What `certify` tells of a script: its certificate, or else the report.
+-- What `certify` prints of a script: its certificate, or else the report.
 use Rattle.std.specs.Prelude.{◌≡◌, ◌⊎◌, ℕ, List, []}
 use Rattle.fints_check.specs.Certificates.{line_figures, IsClosedCertificate, KeepsPromise}
 use Rattle.fints_check.specs.CertTexts.{cert_text}

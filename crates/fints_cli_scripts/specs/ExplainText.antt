@@ -1,4 +1,4 @@
--- The text of `explain`: the report, and then for each finding, or for one alone, a line that counts it from 1,
+-- The text of `explain`: the report, and then for each finding, or for only one, a line that counts it from 1,
 -- and the text of its case.
 use Rattle.std.specs.Prelude.{◌≡◌, ℕ, ◌+◌, List, [], ◌∷◌, ◌++◌, codes, Option, None, Some}
 use Rattle.std.specs.List.{AllZip}
@@ -32,7 +32,7 @@ cases_text steps i (f ∷ fs) (c ∷ cs) = shown_case steps i f c ++ cases_text 
 cases_text steps i _ _ = []
 
 -- which case of a finding it is: its answers lead to the greatest number of the finding's step, or for P11
--- behind a message of the first step whose order it leaves unreleased, by the first branch that carries 0030;
+-- after a message of the first step whose order it leaves unreleased, by the first branch that carries 0030;
 -- and its values are those that are chosen for the finding
 pub record IsChosenCase (granted : Granted) (script : ScriptValue) (figures : List (Option Reached))
     (f : Finding) (c : CaseValue) : Type 0 where
@@ -44,7 +44,7 @@ abbrev pub AreCasesChosen : Granted → ScriptValue → List (Option Reached) �
 AreCasesChosen granted script figures findings cases =
     AllZip (IsChosenCase granted script figures) findings cases
 
--- the text and the status tell the greatest figures of the steps, what the runs break, and a case of each finding
+-- the text and the status say the greatest figures of the steps, what the runs break, and a case of each finding
 pub record IsExplainedBy (granted : Granted) (script : ScriptValue) (status : ℕ) (text : List ℕ)
     : Type 0 where
   pub figures : List (Option Reached)
@@ -56,8 +56,8 @@ pub record IsExplainedBy (granted : Granted) (script : ScriptValue) (status : �
   pub text_is : text ≡ report_text script.steps figures findings ++ cases_text script.steps 1 findings cases
   pub status_is : status ≡ report_status findings
 
--- they tell the greatest figures of the steps, what the runs break, and a case of the finding of this number
--- alone, counted from 1
+-- they say the greatest figures of the steps, what the runs break, and only the case of the finding of this
+-- number, counted from 1
 pub record IsExplainedAt (granted : Granted) (script : ScriptValue) (number status : ℕ) (text : List ℕ)
     : Type 0 where
   pub figures : List (Option Reached)

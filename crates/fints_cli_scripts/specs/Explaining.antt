@@ -1,4 +1,4 @@
--- How far cases are written, and when none is. Private contracts alone cite these words.
+-- How far cases are written, and when none is. Only private contracts cite these words.
 use Rattle.std.specs.Prelude.{◌≡◌, ℕ, List, ◌++◌, Option, Some, None}
 use Rattle.fints_check_findings.specs.Findings.{Shows}
 use Rattle.fints_check_findings.specs.declared.finding.Finding.{Finding}
@@ -17,7 +17,7 @@ abbrev pub IsWayTo : List StepValue → List (Option Reached) → Option ℕ →
 IsWayTo steps figures None answers = Unit {0}
 IsWayTo steps figures (Some n) answers = LeadsToGreatest steps figures n answers
 
--- behind the old text stands a case that shows this finding, which counts from 1
+-- after the old text is a case that shows this finding, which counts from 1
 pub record IsCaseWritten (granted : Granted) (script : ScriptValue) (figures : List (Option Reached))
     (number : ℕ) (f : Finding) (old new : List ℕ) : Type 0 where
   pub case : CaseValue
@@ -25,7 +25,7 @@ pub record IsCaseWritten (granted : Granted) (script : ScriptValue) (figures : L
   pub chosen : IsChosenCase granted script figures f case
   pub text_is : new ≡ old ++ shown_case script.steps number f case
 
--- behind the old text stands a case of each finding
+-- after the old text is a case of each finding
 pub record AreCasesWritten (granted : Granted) (script : ScriptValue) (figures : List (Option Reached))
     (findings : List Finding) (old new : List ℕ) : Type 0 where
   pub cases : List CaseValue
@@ -33,7 +33,7 @@ pub record AreCasesWritten (granted : Granted) (script : ScriptValue) (figures :
   pub chosen : AreCasesChosen granted script figures findings cases
   pub text_is : new ≡ old ++ cases_text script.steps 1 findings cases
 
--- want of memory, or that there is no finding of the number
+-- out of memory, or that there is no finding of the number
 abbrev pub IsUnfound : Granted → ScriptValue → ℕ → Fault → Type 0
 IsUnfound granted script number Memory = Unit {0}
 IsUnfound granted script number (NoFinding n) = (n ≡ number) × HasNoFinding granted script number

@@ -12,7 +12,7 @@ pub record CaseValue : Type 0 where
   pub values : List NamedValue
   pub answers : List (List ℕ)
 
--- beside each finding stands a case: its values are admitted, and with them the run of its answers ends with
+-- each finding has a case: its values are admitted, and with them the run of its answers ends with
 -- a message of the finding's step that, as bytes, breaks the finding's rule at its segment
 abbrev pub AreCases : Granted → ScriptValue → List Finding → List CaseValue → Type 0
 AreCases granted script findings cases =

@@ -24,7 +24,7 @@ pub record IsLeftOpen (orders script : List ℕ) (f : PlanFault) : Type 0 where
   pub script_is : Denotes script value
   pub fault : IsPlanFault value table f
 
--- want of memory, or the first refusal: of the order table, of the script, of what it leaves open
+-- out of memory, or the first refusal: of the order table, of the script, of what it leaves open
 abbrev pub IsPlanRefusal : List ℕ → List ℕ → Fault → Type 0
 IsPlanRefusal orders script Memory = Unit {0}
 IsPlanRefusal orders script (Orders f) = IsTableRefusal orders f

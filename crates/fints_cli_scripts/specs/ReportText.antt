@@ -54,13 +54,13 @@ abbrev pub report_status : List Finding → ℕ
 report_status [] = 0
 report_status (f ∷ fs) = 1
 
--- ---- what it tells
+-- ---- what it says
 
 -- it ends with `clean` and LF
 abbrev pub EndsClean : List ℕ → Type 0
 EndsClean text = (before : List ℕ) × (text ≡ before ++ codes "clean\n")
 
--- the text and the status tell the greatest figures of the steps, and what the runs break under these
+-- the text and the status say the greatest figures of the steps, and what the runs break under these
 -- permissions; where the text ends with `clean`, each message of each run is permitted
 pub record IsReportBy (granted : Granted) (script : ScriptValue) (status : ℕ) (text : List ℕ) : Type 0 where
   pub figures : List (Option Reached)

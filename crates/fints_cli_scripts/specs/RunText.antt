@@ -1,5 +1,5 @@
--- The text of `run`: the messages that a client sends under a case, each behind a line that tells it, with LF
--- at the ends. Words of private contracts and proofs alone stand last, under a heading.
+-- The text of `run`: the messages that a client sends under a case, each after a line about it, with LF
+-- at the ends. Words of private contracts and proofs only come last, under a heading.
 use Rattle.std.specs.Prelude.{◌≡◌, ℕ, List, ◌++◌, length, codes, Contains, Option, None, Some}
 use Rattle.std.specs.List.{flat_map, All}
 use Rattle.std.specs.Fmt.{decimal}
@@ -39,21 +39,21 @@ pub record IsMessageIn (sent : List Sent) (number : ℕ) (bytes : List ℕ) : Ty
   pub number_is : message.number ≡ number
   pub bytes_are : bytes ≡ message.bytes
 
--- the text holds all that was sent, or the message of one number alone
+-- the text holds all that was sent, or only the message of one number
 abbrev pub IsTextOf : List StepValue → List Sent → Option ℕ → List ℕ → Type 0
 IsTextOf steps sent None text = text ≡ run_text steps sent
 IsTextOf steps sent (Some number) text = IsMessageIn sent number text
 
--- ---- what it tells
+-- ---- what it says
 
--- the text tells the run of these values and answers, or one message of it
+-- the text has the run of these values and answers, or one message of it
 pub record TellsRun (script : ScriptValue) (values : List NamedValue) (answers : List (List ℕ))
     (only : Option ℕ) (text : List ℕ) : Type 0 where
   pub sent : List Sent
   pub run : Run script values answers sent
   pub text_is : IsTextOf script.steps sent only text
 
--- the text of a case has values that the script admits, and the text tells its run
+-- the text of a case has values that the script admits, and the text has its run
 pub record TellsCase (script : ScriptValue) (case : List ℕ) (only : Option ℕ) (text : List ℕ) : Type 0 where
   pub values : List NamedValue
   pub answers : List (List ℕ)
@@ -61,7 +61,7 @@ pub record TellsCase (script : ScriptValue) (case : List ℕ) (only : Option ℕ
   pub admitted : Admits script.fields values
   pub tells : TellsRun script values answers only text
 
--- the text tells the run of a case by the texts of an order table and of a script
+-- the text has the run of a case by the texts of an order table and of a script
 pub record IsRunOf (orders script case : List ℕ) (only : Option ℕ) (text : List ℕ) : Type 0 where
   pub value : ScriptValue
   pub plan : ArePlan orders script value
@@ -100,7 +100,7 @@ pub record IsCaseWithout (script : ScriptValue) (case : List ℕ) (number : ℕ)
   pub admitted : Admits script.fields values
   pub not_reached : IsNotReached script values answers number
 
--- want of memory, or the first refusal: of the order table, of the script, of what it leaves open, of the case, or else of the number
+-- out of memory, or the first refusal: of the order table, of the script, of what it leaves open, of the case, or else of the number
 abbrev pub IsRunRefusal : List ℕ → List ℕ → List ℕ → Option ℕ → Fault → Type 0
 IsRunRefusal orders script case only (Case f) =
     ((value : ScriptValue) × ArePlan orders script value) × IsBadCase case f
@@ -111,16 +111,16 @@ IsRunRefusal orders script case only (NoMessage number) =
     × ((value : ScriptValue) × ArePlan orders script value × IsCaseWithout value case number)
 IsRunRefusal orders script case only f = IsPlanRefusal orders script f
 
--- ---- of private contracts and proofs alone
+-- ---- of private contracts and proofs only
 
--- want of memory, or a number that was asked for and isn't reached
+-- out of memory, or a number that was asked for and isn't reached
 abbrev pub IsAdmittedRefusal : ScriptValue → List NamedValue → List (List ℕ) → Option ℕ → Fault → Type 0
 IsAdmittedRefusal script values answers only Memory = Unit {0}
 IsAdmittedRefusal script values answers only (NoMessage number) =
     (only ≡ Some number) × IsNotReached script values answers number
 IsAdmittedRefusal script values answers only _ = ⊥
 
--- want of memory, the refusal of the case, or that of the number
+-- out of memory, the refusal of the case, or that of the number
 abbrev pub IsCaseRefusal : ScriptValue → List ℕ → Option ℕ → Fault → Type 0
 IsCaseRefusal script case only Memory = Unit {0}
 IsCaseRefusal script case only (Case f) = IsBadCase case f

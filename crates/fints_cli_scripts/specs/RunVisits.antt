@@ -35,7 +35,7 @@ abbrev pub FindsVisit : List Visit → ℕ → Option Visit → Type 0
 FindsVisit visits number None = IsUnvisited visits number
 FindsVisit visits number (Some v) = Contains visits v × (v.number ≡ number)
 
--- want of memory, or that none has the number
+-- out of memory, or that none has the number
 abbrev pub IsUnvisitedRefusal : List Visit → ℕ → Fault → Type 0
 IsUnvisitedRefusal visits number Memory = Unit {0}
 IsUnvisitedRefusal visits number (NoMessage n) = (n ≡ number) × IsUnvisited visits number

@@ -1,4 +1,4 @@
--- The names of a script's steps; steps count from 1. Words of private contracts and proofs alone stand last, under a heading.
+-- The names of a script's steps; steps count from 1. Words of private contracts and proofs only come last, under a heading.
 use Rattle.std.specs.Prelude.{◌≤◌, ℕ, List, [], length}
 use Rattle.std.specs.Option.{option_map_or}
 use Rattle.fints_script.specs.Numbered.{numbered}
@@ -10,7 +10,7 @@ use Rattle.fints_wire.specs.declared.dialogue.Sent.{Sent}
 abbrev pub step_name : List StepValue → ℕ → List ℕ
 step_name steps n = option_map_or (λ step. step.name) (numbered steps n) []
 
--- ---- of private contracts and proofs alone
+-- ---- of private contracts and proofs only
 
 -- there is a step of this number
 abbrev pub HasStep : List StepValue → ℕ → Type 0

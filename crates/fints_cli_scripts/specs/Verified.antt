@@ -1,4 +1,4 @@
--- What `verify` tells of a certificate, and why nothing is. Words of private contracts and proofs alone stand last, under a heading.
+-- What `verify` prints of a certificate, and why nothing is. Words of private contracts and proofs only come last, under a heading.
 use Rattle.std.specs.Prelude.{◌≡◌, ◌↔◌, ℕ, Bool, true, false, IsTrue, List, codes}
 use Rattle.fints_check.specs.Certificates.{IsClosedCertificate, KeepsPromise}
 use Rattle.fints_check_findings.specs.Findings.{EachIsPermitted}
@@ -13,14 +13,14 @@ use Rattle.fints_script.specs.Scripts.{ScriptValue}
 use Rattle.fints_cli_texts.specs.declared.fault.Fault.{Fault}
 use Rattle.fints_cli_texts.specs.declared.fault.Fault.TheVariants.{Certificate, Memory}
 
--- ---- what is told of a certificate
+-- ---- what is said of a certificate
 
 -- whether it is so, in a word and a status
 abbrev pub TellsWhether : Bool → ℕ → List ℕ → Type 0
 TellsWhether true status text = (status ≡ 0) × (text ≡ codes "valid\n")
 TellsWhether false status text = (status ≡ 1) × (text ≡ codes "invalid\n")
 
--- the text of a certificate is good, and the status and the text tell whether it is closed; where they say
+-- the text of a certificate is good, and the status and the text say whether it is closed; where they say
 -- `valid` it keeps its promise, and each message of each run is permitted
 pub record IsVerifiedBy (granted : Granted) (script : ScriptValue) (certificate : List ℕ) (status : ℕ)
     (text : List ℕ) : Type 0 where
@@ -32,14 +32,14 @@ pub record IsVerifiedBy (granted : Granted) (script : ScriptValue) (certificate 
   pub promise : IsTrue valid → KeepsPromise script lines
   pub permitted : IsTrue valid → EachIsPermitted granted script
 
--- they tell it by these rows of parameters and the texts of an order table and of a script
+-- they say it by these rows of parameters and the texts of an order table and of a script
 pub record IsVerifiedOn (rows : Rows) (orders script certificate : List ℕ) (status : ℕ) (text : List ℕ)
     : Type 0 where
   pub value : ScriptValue
   pub plan : ArePlan orders script value
   pub told : IsVerifiedBy (record { rows = rows; orders = plan.table }) value certificate status text
 
--- they tell it by a capture and these texts
+-- they say it by a capture and these texts
 pub record IsVerifiedOf (params orders script certificate : List ℕ) (status : ℕ) (text : List ℕ)
     : Type 0 where
   pub rows : Rows
@@ -48,21 +48,21 @@ pub record IsVerifiedOf (params orders script certificate : List ℕ) (status : 
 
 -- ---- why nothing is
 
--- want of memory, or the first refusal: of the order table, of the script, of what it leaves open, or else of the certificate
+-- out of memory, or the first refusal: of the order table, of the script, of what it leaves open, or else of the certificate
 abbrev pub IsVerifyRefusal : List ℕ → List ℕ → List ℕ → Fault → Type 0
 IsVerifyRefusal orders script certificate (Certificate line) =
     ((value : ScriptValue) × ArePlan orders script value) × IsFirstBadCertLine certificate line
 IsVerifyRefusal orders script certificate f = IsPlanRefusal orders script f
 
--- want of memory, or the first refusal: of the capture, or else of the others
+-- out of memory, or the first refusal: of the capture, or else of the others
 abbrev pub IsUnverified : List ℕ → List ℕ → List ℕ → List ℕ → Fault → Type 0
 IsUnverified params orders script certificate (Certificate line) =
     ((rows : Rows) × IsParamsOf params rows) × IsVerifyRefusal orders script certificate (Certificate line)
 IsUnverified params orders script certificate f = IsRefused params orders script f
 
--- ---- of private contracts and proofs alone
+-- ---- of private contracts and proofs only
 
--- want of memory, or the first line that is no line of a certificate there
+-- out of memory, or the first line that is no line of a certificate there
 abbrev pub IsCertificateRefusal : List ℕ → Fault → Type 0
 IsCertificateRefusal certificate Memory = Unit {0}
 IsCertificateRefusal certificate (Certificate line) = IsFirstBadCertLine certificate line

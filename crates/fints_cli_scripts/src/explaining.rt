@@ -155,7 +155,7 @@ fn finding_of(findings: &[Finding], number: u32) -> Option<Finding>
     findings.get(number as usize - 1).copied()
 }
 
-/// The report and the case of the finding of this number alone, with its status; findings count
+/// The report and only the case of the finding of this number, with its status; findings count
 /// from 1.
 pub fn explain_one(alloc: Global, report: &Report<'_>, number: u32) -> Result<Reply, Fault>
     ensures told { IfOk result (λ reply.

@@ -9,7 +9,7 @@ use fints_rules::OrderTable;
 use fints_script::Script;
 use std::alloc::Global;
 
-/// An order table and a script, of which a plan is made.
+/// An order table and a script, for a plan.
 #[derive(Drop)]
 pub struct Inputs {
     pub orders: OrderTable,

@@ -45,7 +45,7 @@ fn write_message(text: &mut Vec<u8>, plan: &Plan, sent: &Sent) -> Result<(), Mem
     Ok(())
 }
 
-// The messages of visits, each behind its line, written as they are made.
+// The messages of visits, each after its line, written as they are made.
 fn all_messages(
     alloc: Global,
     plan: &Plan,
@@ -126,8 +126,8 @@ fn run_planned(alloc: Global, plan: &Plan, case: &[u8], only: Option<u32>) -> Re
     run_admitted(alloc, plan, &case, only)
 }
 
-/// The messages that a client sends under a case, each behind a line that tells it; or, where a
-/// number is given, the bytes of the message of that number alone; numbers count from 1. Of the
+/// The messages that a client sends under a case, each after a line about it; or, where a
+/// number is given, only the bytes of the message of that number; numbers count from 1. Of the
 /// refusals that of the order table comes first, then that of the script, then what the script
 /// leaves open with the order table, then that of the case, and then that of a number that the run
 /// doesn't reach.

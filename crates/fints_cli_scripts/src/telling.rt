@@ -1,4 +1,4 @@
-//! What is told of a script, from the texts of its inputs.
+//! What is said of a script, from the texts of its inputs.
 ghost use Rattle.std.specs.Prelude.{◌≤◌, ℕ, List, IfOk, IfErr, ◌≡◌};
 ghost use Rattle.fints_params.specs.declared.fault.ParamFault.{ParamFault as ParamFaultValue};
 ghost use Rattle.fints_cli_texts.specs.Fault.{fault_of};
@@ -16,14 +16,14 @@ use fints_rules::Permissions;
 use fints_script::Plan;
 use std::alloc::Global;
 
-/// What is to be told of a script.
+/// What is to be said of a script.
 #[derive(Clone, Copy, Debug, PartialEq, Eq)]
 pub enum Wanted {
     /// The report.
     Report,
     /// The report, and then a case of each finding.
     Cases,
-    /// The report, and then the case of the finding of this number alone; numbers count from 1.
+    /// The report, and then only the case of the finding of this number; numbers count from 1.
     OneCase(u32),
     /// The certificate where nothing is found, else the report.
     Certificate,
@@ -39,7 +39,7 @@ impl ReportObserver for Unobserved {
     fn reported(&mut self, _report: &Report<'_>) {}
 }
 
-// What is told of a report.
+// What is said of a report.
 fn tell_report(alloc: Global, report: &Report<'_>, wanted: Wanted) -> Result<Reply, Fault>
     ensures told { IfOk result (λ reply.
         IsToldBy wanted report.now.granted report.now.plan.script reply.status reply.text.items) }
@@ -54,7 +54,7 @@ fn tell_report(alloc: Global, report: &Report<'_>, wanted: Wanted) -> Result<Rep
     }
 }
 
-// What is told of a plan, by good parameters.
+// What is said of a plan, by good parameters.
 fn tell_plan<O: ReportObserver>(
     alloc: Global,
     params: &Params,
@@ -74,7 +74,7 @@ fn tell_plan<O: ReportObserver>(
     tell_report(alloc, &report, wanted)
 }
 
-/// What is told of a script by good parameters. The status is 0 where nothing is found, else 1. Of
+/// What is said of a script by good parameters. The status is 0 where nothing is found, else 1. Of
 /// the refusals that of the order table comes first, then that of the script, then what the script
 /// leaves open with the order table, and then that of the number of a finding that isn't there.
 pub fn tell<O: ReportObserver>(
@@ -95,7 +95,7 @@ pub fn tell<O: ReportObserver>(
     Ok(reply)
 }
 
-/// What is told of a script by what was read of a capture, with the same statuses. The refusal of the
+/// What is said of a script by what was read of a capture, with the same statuses. The refusal of the
 /// capture comes before the others.
 pub fn tell_read<O: ReportObserver>(
     alloc: Global,
@@ -121,7 +121,7 @@ pub fn tell_read<O: ReportObserver>(
     Ok(reply)
 }
 
-/// What is told of a script by a capture, with the same statuses and refusals.
+/// What is said of a script by a capture, with the same statuses and refusals.
 pub fn tell_script(
     alloc: Global,
     params: &[u8],

@@ -15,7 +15,7 @@ use fints_script::Plan;
 use fints_syntax::Memory;
 use std::alloc::Global;
 
-// The certificate that the text stands for.
+// The certificate that the text denotes.
 fn read_certificate(alloc: Global, text: &[u8]) -> Result<Certificate, Fault>
     ensures certificate { IfOk result (λ certificate. IsCertificateOf text.now certificate) }
     ensures refused { IfErr result (λ f. IsCertificateRefusal text.now f) }
@@ -53,7 +53,7 @@ impl VerifyObserver for Unobserved {
     fn verified(&mut self, _plan: &Plan<'_>, _certificate: &Certificate, _open: Option<Open>) {}
 }
 
-// What is told of a certificate by good parameters and a plan.
+// What is said of a certificate by good parameters and a plan.
 fn verify_plan<O: VerifyObserver>(
     alloc: Global,
     params: &Params,

@@ -192,7 +192,7 @@ rest_written blanks old a b c d last inner openers body ends together ea eb ec e
     (ap (λ xs. o ++ xs) (sym (flat_map-append line body ends)) ∙ sym (flat_map-append line openers (body ++ ends))
     ∙ ap (flat_map line) (sym together))
 
--- what refuses a message for want of memory is that
+-- what refuses a message because memory ran out is that
 pub memory_told : {T : Type 0} (r : Result T Fault) (e : JudgeFault)
     → IsErrAnd r (λ f. f ≡ message_fault_of e)
     → e ≡ refusals.Memory → IfErr r (λ f. f ≡ Memory)

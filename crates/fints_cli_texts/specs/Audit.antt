@@ -91,7 +91,7 @@ pub record IsOwnAuditOf (orders dialogue : List ℕ) (status : ℕ) (text : List
   pub granted_are : GrantsEach table exchanges granted
   pub audit : IsAuditBy granted exchanges status text
 
--- want of memory, or the refusal of the dialogue
+-- out of memory, or the refusal of the dialogue
 abbrev pub IsDialogueRefusal : List ℕ → Fault → Type 0
 IsDialogueRefusal dialogue Memory = Unit {0}
 IsDialogueRefusal dialogue (Dialogue f) = IsDialogueFault dialogue f
@@ -101,13 +101,13 @@ IsDialogueRefusal dialogue _ = ⊥
 abbrev pub IsAuditRefusal : List ℕ → List ℕ → List ℕ → Fault → Type 0
 IsAuditRefusal params orders dialogue = IsFirstRefusal params orders (IsDialogueRefusal dialogue)
 
--- the dialogue is refused, or it is one and an answer is refused as a capture, or the bank of a message tells no parameters
+-- the dialogue is refused, or it is one and an answer is refused as a capture, or the bank of a message sends no parameters
 abbrev pub IsOwnFault : List ℕ → DialogueFault → Type 0
 IsOwnFault dialogue f =
     IsDialogueFault dialogue f
     ⊎ ((exchanges : List Exchange) × IsDialogue dialogue exchanges × IsOwnParamsFault exchanges f)
 
--- why it isn't audited by its own parameters: want of memory, or the first refusal, of the order table or of the dialogue
+-- why it isn't audited by its own parameters: out of memory, or the first refusal, of the order table or of the dialogue
 abbrev pub IsOwnAuditRefusal : List ℕ → List ℕ → Fault → Type 0
 IsOwnAuditRefusal orders dialogue Memory = Unit {0}
 IsOwnAuditRefusal orders dialogue (Orders f) = IsTableRefusal orders f
@@ -135,7 +135,7 @@ IsOwnLogAudit table log status text =
     (exchanges : List Exchange) × (granted : List Granted) × IsDialogueOf log exchanges
     × GrantsEach table exchanges granted × IsAuditBy granted exchanges status text
 
--- the messages of a log are refused, or an answer as a capture, or the bank of a message tells no parameters
+-- the messages of a log are refused, or an answer as a capture, or the bank of a message sends no parameters
 abbrev pub IsOwnLogFault : LogValue → DialogueFault → Type 0
 IsOwnLogFault log f =
     IsTurnFaultOf log f

@@ -15,7 +15,7 @@ use Rattle.fints_rules_dialogues.specs.declared.fault.DialogueFault.{DialogueFau
 use Rattle.fints_rules_dialogues.specs.declared.fault.DialogueFault.TheVariants as dialogues
 use Rattle.fints_cli_texts.specs.declared.fault.Fault.TheVariants.{Memory, Params, Orders, Script, Case, Before, Answer, Message, Dialogue}
 
--- want of memory is one fault, wherever it is met
+-- that memory ran out is one fault, wherever it happens
 abbrev pub fault_of : ParamFault → Fault
 fault_of params.Memory = Memory
 fault_of (params.Syntax f) = Params (params.Syntax f)

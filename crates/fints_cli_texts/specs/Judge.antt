@@ -36,7 +36,7 @@ verdict_status (b ∷ bs) = 1
 abbrev pub EndsPermitted : List ℕ → Type 0
 EndsPermitted text = (before : List ℕ) × (text ≡ before ++ codes "permitted\n")
 
--- the status and the text tell the rules that the message breaks, by these rows and this order table; where
+-- the status and the text name the rules that the message breaks, by these rows and this order table; where
 -- the text ends with `permitted`, the message is permitted
 pub record IsVerdictBy (rows : Rows) (table : List OrderRow) (message : List ℕ) (status : ℕ) (text : List ℕ)
     : Type 0 where
@@ -46,7 +46,7 @@ pub record IsVerdictBy (rows : Rows) (table : List OrderRow) (message : List ℕ
   pub status_is : status ≡ verdict_status broken
   pub permitted : EndsPermitted text → Permitted (record { rows = rows; orders = table }) message
 
--- they tell them by the capture and the text of an order table
+-- they name them by the capture and the text of an order table
 pub record IsVerdictOf (params orders message : List ℕ) (status : ℕ) (text : List ℕ) : Type 0 where
   pub rows : Rows
   pub table : List OrderRow
@@ -61,18 +61,18 @@ pub record AreGood (params orders : List ℕ) : Type 0 where
   pub rows_are : IsParamsOf params rows
   pub table_is : DenotesTable orders table
 
--- why an order table is refused, which is never want of memory
+-- why an order table is refused, which is never that memory ran out
 abbrev pub IsTableRefusal : List ℕ → TableFault → Type 0
 IsTableRefusal orders table_faults.Memory = ⊥
 IsTableRefusal orders f = IsTableFault orders f
 
--- why bytes are no message, which is never want of memory
+-- why bytes are no message, which is never that memory ran out
 abbrev pub IsStop : List ℕ → JudgeFault → Type 0
 IsStop message message_faults.Memory = ⊥
 IsStop message (message_faults.NotAMessage offset) = CeasesAt message offset
 IsStop message (message_faults.NotAMessageBefore offset) = ⊥
 
--- want of memory, or the first refusal: of the capture, of the order table, and of what is read after them
+-- out of memory, or the first refusal: of the capture, of the order table, and of what is read after them
 abbrev pub IsFirstRefusal : List ℕ → List ℕ → (Fault → Type 0) → Fault → Type 0
 IsFirstRefusal params orders IsLater Memory = Unit {0}
 IsFirstRefusal params orders IsLater (Params f) = IsParamFault params f
@@ -80,7 +80,7 @@ IsFirstRefusal params orders IsLater (Orders f) =
     ((rows : Rows) × IsParamsOf params rows) × IsTableRefusal orders f
 IsFirstRefusal params orders IsLater f = AreGood params orders × IsLater f
 
--- want of memory, or the refusal of the message
+-- out of memory, or the refusal of the message
 abbrev pub IsMessageRefusal : List ℕ → Fault → Type 0
 IsMessageRefusal message Memory = Unit {0}
 IsMessageRefusal message (Message f) = IsStop message f

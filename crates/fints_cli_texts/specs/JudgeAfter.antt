@@ -13,7 +13,7 @@ use Rattle.fints_cli_texts.specs.Judge.{EndsPermitted, IsFirstRefusal, IsStop, v
 use Rattle.fints_cli_texts.specs.declared.fault.Fault.{Fault}
 use Rattle.fints_cli_texts.specs.declared.fault.Fault.TheVariants.{Memory, Before, BeforeAnswer, Answer, NoCode, Message}
 
--- the status and the text tell the rules that the message breaks after the client's message before and the bank's
+-- the status and the text name the rules that the message breaks after the client's message before and the bank's
 -- answer to that, by these rows and this order table; where the text ends with `permitted`, it is permitted then
 pub record IsVerdictAfterBy (rows : Rows) (table : List OrderRow) (before answer message : List ℕ)
     (status : ℕ) (text : List ℕ) : Type 0 where
@@ -27,7 +27,7 @@ pub record IsVerdictAfterBy (rows : Rows) (table : List OrderRow) (before answer
   pub permitted : EndsPermitted text
       → PermittedAfter (record { rows = rows; orders = table }) before numbers message
 
--- they tell them by the capture and the text of an order table
+-- they name them by the capture and the text of an order table
 pub record IsVerdictAfter (params orders before answer message : List ℕ) (status : ℕ) (text : List ℕ)
     : Type 0 where
   pub rows : Rows
@@ -56,7 +56,7 @@ abbrev pub IsJudgeAfterRefusal : List ℕ → List ℕ → List ℕ → List ℕ
 IsJudgeAfterRefusal params orders before answer message =
     IsFirstRefusal params orders (IsRefusalOfThree before answer message)
 
--- ---- of private contracts and proofs alone
+-- ---- of private contracts and proofs only
 
 -- memory ran out, or the refusal of the message before
 abbrev pub IsBeforeRefusal : List ℕ → Fault → Type 0

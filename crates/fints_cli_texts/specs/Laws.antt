@@ -29,7 +29,7 @@ is_absent (b ∷ bs) = false
 abbrev pub absences : List OwnedItem → List Bool
 absences items = map is_absent (map item_value items)
 
--- t is s with other elements from its secrets on, of which the same items are empty
+-- t is s with other elements from its secrets on, with the same items empty
 pub record HasOtherSecrets (s t : OwnedSegment) : Type 0 where
   pub from : ℕ
   pub secrets : List (List OwnedItem)

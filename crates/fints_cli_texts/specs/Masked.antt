@@ -1,4 +1,4 @@
--- Segments without their secrets: PIN, TAN and new PIN are masked, with all that stands in their segments after them, and
+-- Segments without their secrets: PIN, TAN and new PIN are masked, with all that is in their segments after them, and
 -- sealed data, which hold them too, are left out.
 use Rattle.std.specs.Prelude.{ℕ, ◌-◌, Bool, ◌&&◌, nat_le, if◌then◌else◌, List, [], ◌∷◌, ◌++◌, length, map, set, take, drop, codes}
 use Rattle.std.specs.Char.{is_ascii_alphanumeric}
@@ -10,7 +10,7 @@ use Rattle.fints_syntax_segments.specs.declared.item.OwnedSegment.{OwnedSegment}
 use Rattle.fints_syntax_segments.specs.Segment.{item_value}
 use Rattle.fints_syntax_segments.specs.Values.{items_in, value_at}
 
--- of a secret nothing is told but whether there is one
+-- of a secret nothing is shown but whether there is one
 abbrev pub mask : List ℕ → OwnedItem
 mask [] = Text []
 mask (b ∷ bs) = Text (codes "***")

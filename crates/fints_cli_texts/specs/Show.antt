@@ -62,7 +62,7 @@ unfoldable pub tan_line : TanRow → List ℕ
 tan_line row =
     figure (codes "tan ") row.version ++ flag_text row.one_step ++ flag_text row.several ++ codes "\n"
 
--- as HIUPA tells it
+-- as HIUPA says it
 unfoldable pub usage_line : Usage → List ℕ
 usage_line Locked = codes "usage 0\n"
 usage_line Unsaid = codes "usage 1\n"
@@ -108,7 +108,7 @@ pub record IsShowOf (capture text : List ℕ) : Type 0 where
   pub feedback_is : IsCodesOf capture feedback
   pub text_is : text ≡ rows_text rows ++ flat_map code_line feedback
 
--- want of memory, or a refusal of the capture
+-- out of memory, or a refusal of the capture
 abbrev pub IsMemoryOrShowFault : List ℕ → Fault → Type 0
 IsMemoryOrShowFault capture Memory = Unit {0}
 IsMemoryOrShowFault capture (Params f) = IsEitherFault capture f

@@ -12,11 +12,11 @@ use Rattle.fints_cli_texts.specs.Masked.{masked}
 abbrev pub is_control : ℕ → Bool
 is_control b = nat_lt b 32 || (nat_le 127 b && nat_le b 159)
 
--- such a byte is told in hex, behind a `?`, which in a written text comes before the syntax characters alone
+-- such a byte is written in hex, after a `?`, which in a written text comes before the syntax characters only
 abbrev pub shown_byte : ℕ → List ℕ
 shown_byte b = if is_control b then codes "?<" ++ encode_lower (b ∷ []) ++ codes ">" else b ∷ []
 
--- the line of a segment, behind some blanks: its written text without its secrets
+-- the line of a segment, after some blanks: its written text without its secrets
 abbrev pub segment_line : List ℕ → OwnedSegment → List ℕ
 segment_line blanks s = blanks ++ flat_map shown_byte (written_segment (masked s)) ++ codes "\n"
 

@@ -166,7 +166,7 @@ fn audit_log<O: Observer>(
     audit_recording(alloc, params, orders, &recording, observer)
 }
 
-// The same by the parameters that the recording's own answers tell. A refusal of its messages comes first.
+// The same by the parameters in the recording's own answers. A refusal of its messages comes first.
 fn audit_log_own<O: Observer>(
     alloc: Global,
     orders: &OrderTable,
@@ -225,7 +225,7 @@ pub fn audit_read<O: Observer>(
     Ok(reply)
 }
 
-/// The same, by the parameters that the dialogue's own answers tell. Of the refusals that of the order
+/// The same, by the parameters in the dialogue's own answers. Of the refusals that of the order
 /// table comes first, then that of the dialogue, then that of its parameters.
 pub fn audit_own<O: Observer>(
     alloc: Global,

@@ -56,7 +56,7 @@ fn option<'a>(alloc: Global, choice: &Choice) -> Result<Arg<'a>, AllocError> {
     }
 }
 
-// The options, exactly one of which is given.
+// The options: exactly one of them is given.
 fn either_group<'a>(alloc: Global, options: &[Choice]) -> Result<ArgGroup<'a>, AllocError> {
     let mut group = ArgGroup::new(alloc, "either").required(true);
     for choice in options {
