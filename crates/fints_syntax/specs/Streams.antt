@@ -62,7 +62,7 @@ pub record IsReadTo (bytes : List ℕ) (placed : List Placed) (r : ReadTo) : Typ
   pub ready : IsReady (drop r.whole bytes) r.rest
   pub unended : IsBegun (drop r.rest.gap (drop r.whole bytes))
 
--- The fault of bytes, at most `limit` of which are read: an unfinished segment is none, since more bytes may
+-- The fault of bytes where at most `limit` are read: an unfinished segment is none, since more bytes may
 -- end it; and where more bytes follow, and those that are read have no fault, there are too many.
 abbrev pub PieceFaultAt : ℕ → SyntaxKind → ℕ → List ℕ → Type 0
 PieceFaultAt limit CaptureTooLong o bytes =
