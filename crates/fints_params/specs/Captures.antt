@@ -1,4 +1,4 @@
--- What a capture says: the rows or the codes of its segments, opened, each of which can be read. Then why it says nothing.
+-- What a capture says: the rows or the codes of its segments, opened, where each can be read. Then why it says nothing.
 use Rattle.std.specs.Prelude.{◌≡◌, ◌⊎◌, ℕ, List, [], Some, None, Option, Result, Ok, Err}
 use Rattle.std.specs.List.{AllByRecursion, filter}
 use Rattle.fints_syntax_segments.specs.declared.item.OwnedSegment.{OwnedSegment}
