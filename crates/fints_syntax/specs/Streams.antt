@@ -79,7 +79,7 @@ abbrev pub IsStreamFault : ℕ → List ℕ → SyntaxFault → Type 0
 IsStreamFault at bytes f =
     IsMemory f ⊎ ((o : ℕ) × (f.offset ≡ at + o) × PieceFaultAt (MAX_CAPTURE - at) f.kind o bytes)
 
--- ---- used only by private contracts and proofs
+-- ---- of private contracts and proofs only
 
 -- out of memory, or a fault of the bytes that no further byte fixes
 abbrev pub IsPieceStop : ℕ → List ℕ → SyntaxFault → Type 0
