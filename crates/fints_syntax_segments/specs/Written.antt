@@ -36,7 +36,7 @@ written_segment s = segment_bytes (written_tree s)
 abbrev pub KeepsFront : List ℕ → List ℕ → Type 0
 KeepsFront old new = take (length old) new ≡ old
 
--- ---- used only by private contracts and proofs
+-- ---- of private contracts and proofs only
 
 -- what a segment has, within the limits
 pub record IsWritable (s : OwnedSegment) : Type 0 where
