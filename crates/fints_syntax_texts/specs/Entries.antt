@@ -17,7 +17,7 @@ abbrev pub is_called : List ℕ → Data → Bool
 is_called name (table ms) = holds_text name (get_member (codes "name") ms)
 is_called name _ = false
 
--- ---- used only by private contracts and proofs
+-- ---- of private contracts and proofs only
 
 -- the name of a row, where it is a table that has one
 abbrev pub name_in : Data → Option (List ℕ)

@@ -60,7 +60,7 @@ pub record IsHeaded (Good : List (List ℕ) → Type 0) (front : List ℕ) (line
   pub lines_are : lines ≡ line ∷ []
   pub first : (all : List (List ℕ)) → Good all → (later : List (List ℕ)) × (all ≡ line ∷ later)
 
--- ---- used only by private contracts and proofs
+-- ---- of private contracts and proofs only
 
 -- what is found is a good value with this text, and nothing is found only where the text is that of no good value
 abbrev pub IsReadAs : {X : Type 0} → (X → Type 0) → (X → List ℕ) → List ℕ → Option X → Type 0
