@@ -54,7 +54,7 @@ abbrev pub TellsNothing : (List ℕ → ParamFault → Type 0) → Option ℕ �
 TellsNothing Refuses (Some offset) received f = f ≡ answer_after offset
 TellsNothing Refuses None received f = IsMemoryOr (Refuses received.bytes) f
 
--- ---- used only by private contracts and proofs
+-- ---- of private contracts and proofs only
 
 -- a reader takes these pieces, one after the other
 abbrev pub AreReceived : Received → List (List ℕ) → Received → Type 0

@@ -1,4 +1,4 @@
--- Why a capture is refused: it is no list of segments; or after segments that are accepted one is refused,
+-- Why a capture is refused: it is no list of segments; or one is refused after segments that are accepted,
 -- or an HNVSD doesn't open. A rule says why a segment is refused after those before it.
 use Rattle.std.specs.Prelude.{◌≡◌, ◌≢◌, ◌⊎◌, ℕ, ◌+◌, ◌≤◌, true, List, ◌∷◌, ◌++◌, length, map, Option, Some, None}
 use Rattle.fints_syntax.specs.Capture.{IsPlacedCapture, IsCaptureFault}

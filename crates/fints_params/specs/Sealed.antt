@@ -19,7 +19,7 @@ binary_bytes (Text bytes) = None
 abbrev pub data_of : OwnedSegment → Option (List ℕ)
 data_of s = option_and_then binary_bytes (slice_get (items_in s 2) 0)
 
--- ---- used only by private contracts and proofs
+-- ---- of private contracts and proofs only
 
 -- how many bytes the data have
 abbrev pub data_len : OwnedSegment → ℕ
