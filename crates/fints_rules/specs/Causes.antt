@@ -51,7 +51,7 @@ IsCauseOf granted rule s signatures cause =
     (f : MessageFacts) → f.signatures ≡ signatures → SegmentBreaks granted f rule s
     → IsBrokenBecause granted f s cause
 
--- ---- used only by private contracts and proofs
+-- ---- of private contracts and proofs only
 
 -- a message with this many signatures, with a TAN or without one: it submits no order, and two demand a TAN
 abbrev pub barest : ℕ → Bool → MessageFacts
