@@ -23,7 +23,7 @@ use std::alloc::Global;
 use std::collections::BTreeMap;
 use std::marker::Model;
 
-/// What an answer says something of.
+/// The side that an answer says something of.
 #[derive(Clone, Copy)]
 pub enum Side {
     Bank,
@@ -38,8 +38,8 @@ pub struct Granting<'a> {
     user: Option<Box<UserPermissions<'a>>>,
 }
 
-/// What is the same of all exchanges that share what is said: the bank's country and code, and where it is said
-/// of the user the customer's id.
+/// What all exchanges that share parameters have in common: the bank's country and code, and where these are
+/// the user's parameters, the customer's id.
 #[derive(Clone, Copy, PartialEq, Eq, PartialOrd, Ord)]
 pub struct Key<'a> {
     country: &'a [u8],
@@ -250,7 +250,7 @@ impl<'a> Model for OwnPermissions<'a> {
 }
 
 impl<'a> OwnPermissions<'a> {
-    /// What the answers permit that say this.
+    /// What the answers with these parameters permit.
     pub fn of(
         alloc: Global,
         own: &'a OwnParams<'a>,
