@@ -46,7 +46,7 @@ CanFollow Body openers body ends = ends ≡ 0
 CanFollow Ender openers body ends = ends < openers
 CanFollow Other openers body ends = ⊥
 
--- the bytes begin with segments that can be between HNHBK and HNHBS, and the next, if there is one, can't
+-- the bytes begin with segments that can come between HNHBK and HNHBS, and the next, if there is one, can't
 pub record IsFront (bytes : List ℕ) (at : ℕ) (openers body ends : List (List (List Spelled))) : Type 0 where
   pub trees : List (List (List Spelled))
   pub each : AllByRecursion IsSegment trees
