@@ -28,7 +28,7 @@ struct Place {
     entry: usize,
 }
 
-/// What an entry is looked for by: its account, only by its IBAN or by its four national items,
+/// What an entry is looked for by: its account, by just its IBAN or by its four national items,
 /// with the number in the place of the IBAN; and its kind.
 #[derive(Clone, Copy)]
 pub struct NeedKey<'a> {
