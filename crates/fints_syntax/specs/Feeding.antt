@@ -39,7 +39,7 @@ pub record IsGiven (old : Fed) (piece : List ℕ) (segments : List OwnedSegment)
 abbrev pub stopped : Fed → ℕ → Fed
 stopped fed offset = record { rest = []; at = fed.at; failed = Some offset; places = [] }
 
--- a sound feeder refuses a piece when memory runs out, and is as before, or for the stream's fault; then it keeps only the fault's offset
+-- a sound feeder refuses a piece when memory runs out, and is as before, or for the stream's fault, then keeping only its offset
 abbrev pub IsStopped : Fed → List ℕ → SyntaxFault → Fed → Type 0
 IsStopped old piece f new =
     (IsMemory f × (new ≡ old))

@@ -80,7 +80,7 @@ abbrev pub NoSegmentAtFault : Type 0
 NoSegmentAtFault =
     (input : List ℕ) (f : SyntaxFault) → IsFault input f → BeginsWithSegment (window_of input) → ⊥
 
--- how far bytes without a whole segment are looked at stays true where more bytes follow and at most `limit` are read
+-- how far bytes without a whole segment are looked at stays true where more follow and at most `limit` are read
 abbrev pub BegunGoesOn : Type 0
 BegunGoesOn =
     (rest more : List ℕ) (limit : ℕ) (b : Begun) → IsReady rest b → length rest ≤ limit
