@@ -1,4 +1,4 @@
--- What a capture says: the rows or the codes of its segments, opened, where each can be read. Then why it says nothing.
+-- What a capture says: the rows or the codes of its segments, opened, all readable. Then why it says nothing.
 use Rattle.std.specs.Prelude.{◌≡◌, ◌⊎◌, ℕ, List, [], Some, None, Option, Result, Ok, Err}
 use Rattle.std.specs.List.{AllByRecursion, filter}
 use Rattle.fints_syntax_segments.specs.declared.item.OwnedSegment.{OwnedSegment}
@@ -60,7 +60,7 @@ IsReadOf capture (Err f) = IsMemoryOr (IsParamFault capture) f
 abbrev pub IsCodeFault : List ℕ → ParamFault → Type 0
 IsCodeFault message f = IsRefusedOf feedback_fault message f
 
--- the first refusal of a capture that is read for both: by its parameters, or where it has parameters by its codes
+-- the first refusal of a capture read for both: by its parameters, or where it has parameters by its codes
 abbrev pub IsEitherFault : List ℕ → ParamFault → Type 0
 IsEitherFault capture f =
     IsParamFault capture f ⊎ ((rows : Rows) × IsParamsOf capture rows × IsCodeFault capture f)
