@@ -1,4 +1,4 @@
--- The parameters that a recording has itself: each message of the client is judged by those that the bank sent
+-- The parameters in a recording itself: each message of the client is judged by those that the bank sent
 -- last before it (FinTS 3.0, Formals, bank and user parameter data).
 use Rattle.std.specs.Prelude.{◌≡◌, ◌⊎◌, ◌&&◌, Bool, List, [], ◌∷◌, ◌++◌, map, Option, Some, None}
 use Rattle.std.specs.List.{AllByRecursion, AllZip}
