@@ -22,7 +22,7 @@ pub enum SyntaxKind {
     BadHead,
     /// A capture passes 4,194,304 bytes, which is the offset. `parse_segment` never answers it.
     CaptureTooLong,
-    /// What reads a stream met a fault before, at the offset. Only a feeder and a reader of parameters return it.
+    /// What reads a stream met a fault before, at the offset. Only a feeder and a parameter reader return it.
     Failed,
 }
 
